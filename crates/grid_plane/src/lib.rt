@@ -1,0 +1,10 @@
+// Exact whole-number geometry of the grid: places, rectangles and the names of things.
+#![tactic(auto)]
+
+mod name;
+mod point;
+mod rect;
+
+pub use name::Name;
+pub use point::{GridPoint, REACH};
+pub use rect::Rect;

@@ -1,0 +1,56 @@
+ghost use Rattle.std.specs.Prelude.{◌≡◌, MatchOption};
+ghost use Rattle.plane_terms.specs.Point.{InReach, IsInReach};
+
+use std::marker::Model;
+
+/// The greatest coordinate, in grid units; the least is its negative.
+pub const REACH: i64 = 4_194_304;
+
+/// A place of the grid within the reach, in grid units.
+#[derive(Clone, Copy)]
+pub struct GridPoint {
+    x: i32,
+    y: i32,
+}
+
+impl Model for GridPoint {
+    ghost use Rattle.plane_terms.specs.Point.{Place, InReach};
+
+    ghost Value = { Place };
+
+    ghost view = { λ g. record { x = g.x; y = g.y } };
+
+    ghost invariant = { λ g. InReach g.x × InReach g.y };
+
+    ghost inverse = { λ p. record { x = p.x; y = p.y } };
+}
+
+impl GridPoint {
+    /// The place with these coordinates; `None` exactly where one is beyond the reach.
+    pub fn at(x: i64, y: i64) -> Option<GridPoint>
+        ensures { MatchOption result (¬ (IsInReach (record { x = x; y = y }))) (λ p. IsInReach p × (p.x ≡ x) × (p.y ≡ y)) }
+    {
+        if -REACH <= x && x <= REACH && -REACH <= y && y <= REACH {
+            Some(GridPoint {
+                x: x as i32,
+                y: y as i32,
+            })
+        } else {
+            None
+        }
+    }
+
+    pub fn x(&self) -> i32
+        ensures value { result ≡ self.now.x }
+        ensures bound { InReach result }
+    {
+        self.x
+    }
+
+    pub fn y(&self) -> i32
+        ensures value { result ≡ self.now.y }
+        ensures bound { InReach result }
+    {
+        self.y
+    }
+}

@@ -1,0 +1,10 @@
+pub mod Lists
+pub mod Point
+pub mod Rectangle
+pub mod HalfPlane
+pub mod Segment
+pub mod Cell
+pub mod Decide
+pub mod Carve
+pub mod Dirt
+pub mod Shape

@@ -1,0 +1,28 @@
+-- Why a line is refused, and the words of each refusal.
+--
+-- Refusal            one constructor a code
+-- refusal_text r     the code
+-- when b r           the refusal r where b is true; first_of the first that there is
+--
+-- Source: own.
+use Rattle.std.specs.Prelude.{ℕ, Bool, List, [], ◌∷◌, Option, Some, None, codes, if◌then◌else◌}
+
+pub data Refusal : Type 0 where
+  NotALine : Refusal
+  NoClass : Refusal
+  NoSession : Refusal
+  HandlesSpent : Refusal
+
+abbrev pub refusal_text : Refusal → List ℕ
+refusal_text NotALine = codes "E01"
+refusal_text NoClass = codes "E05"
+refusal_text NoSession = codes "E12"
+refusal_text HandlesSpent = codes "E21"
+
+abbrev pub when : Bool → Refusal → Option Refusal
+when b r = if b then Some r else None
+
+abbrev pub first_of : List (Option Refusal) → Option Refusal
+first_of [] = None
+first_of (None ∷ rs) = first_of rs
+first_of (Some r ∷ rs) = Some r

@@ -1,0 +1,11 @@
+pub mod Planes
+pub mod Dirts
+pub mod Edits
+pub mod RuleChanges
+pub mod Validations
+pub mod Marks
+pub mod Disjoint
+pub mod States
+pub mod Settling
+pub mod Lists
+pub mod Pieces

@@ -1,0 +1,70 @@
+-- Features and their classes.
+--
+-- Class              its name and the kind of its shapes; classes are numbered from 1
+-- Feature            its handle, its class, its shape
+-- Side               what a rule speaks of on one side: a class; class 0, of which no feature is, where the rule has no such side
+-- feature_at F h     the feature of handle h; F is a list ascending by handle
+-- IsOnSide A f, is_on_side A f     f is of the side's class; the test of it
+-- IsOf F A h f       f is the live feature h, and of the side
+-- NoneOf F A P       P holds of no live feature of the side
+-- place f, env f   the place of a point, the envelope
+-- Agree P F G        F and G have the same features among those of which P holds in either
+-- IsSetAt h after F G     G is F with the feature of h set, or taken away
+-- IsAscending F      each handle is above those before
+--
+-- Source: feature classes of a geodatabase (Esri); feature_at and the lists own.
+use Rattle.std.specs.Prelude.{Bool, ◌≡◌, ◌≢◌, ℕ, ◌==◌, ◌<◌, List, [], ◌∷◌, Option, Some, None, if◌then◌else◌}
+use Rattle.plane_terms.specs.Lists.{Every}
+use Rattle.plane_terms.specs.Point.{Place}
+use Rattle.plane_terms.specs.Rectangle.{Rectangle}
+use Rattle.plane_terms.specs.Shape.{Shape, place_of, envelope_of}
+use Rattle.plane_terms.specs.declared.kind.Kind.{Kind}
+
+pub record Class : Type 0 where
+  pub name : List ℕ
+  pub kind : Kind
+
+pub record Feature : Type 0 where
+  pub handle : ℕ
+  pub class : ℕ
+  pub shape : Shape
+
+pub record Side : Type 0 where
+  pub class : ℕ
+
+unfoldable pub feature_at : List Feature → ℕ → Option Feature
+feature_at [] h = None
+feature_at (f ∷ fs) h = if f.handle == h then Some f else feature_at fs h
+
+pub record IsOnSide (A : Side) (f : Feature) : Type 0 where
+  pub class : f.class ≡ A.class
+
+-- the test of it
+abbrev pub is_on_side : Side → Feature → Bool
+is_on_side A f = f.class == A.class
+
+pub record IsOf (F : List Feature) (A : Side) (h : ℕ) (f : Feature) : Type 0 where
+  pub live : feature_at F h ≡ Some f
+  pub on_side : IsOnSide A f
+
+abbrev pub NoneOf : List Feature → Side → (Feature → Type 0) → Type 0
+NoneOf F A P = (h : ℕ) (f : Feature) → IsOf F A h f → ¬ (P f)
+
+abbrev pub place : Feature → Place
+place f = place_of f.shape
+
+abbrev pub env : Feature → Rectangle
+env f = envelope_of f.shape
+
+pub record Agree (P : Feature → Type 0) (F G : List Feature) : Type 0 where
+  pub forth : (h : ℕ) (f : Feature) → feature_at F h ≡ Some f → P f → feature_at G h ≡ Some f
+  pub back : (h : ℕ) (f : Feature) → feature_at G h ≡ Some f → P f → feature_at F h ≡ Some f
+
+pub record IsSetAt (h : ℕ) (after : Option Feature) (F G : List Feature) : Type 0 where
+  pub here : feature_at G h ≡ after
+  pub others : (k : ℕ) → k ≢ h → feature_at G k ≡ feature_at F k
+
+-- each handle is above those before
+abbrev pub IsAscending : List Feature → Type 0
+IsAscending [] = Unit {0}
+IsAscending (f ∷ fs) = Every (λ g. f.handle < g.handle) fs × IsAscending fs
