@@ -1,7 +1,8 @@
-ghost use Rattle.std.specs.Prelude.{◌≡◌, OnOk, OnErr};
+ghost use Rattle.std.specs.Prelude.{◌≡◌, filter, OnOk, OnErr};
 ghost use Rattle.std.specs.List.{list_any};
 ghost use Rattle.plane_terms.specs.Rectangle.{is_within, rects_meet};
 ghost use Rattle.plane_terms.specs.Dirt.{add_dirt};
+ghost use Rattle.topo_core.specs.Parts.{stays};
 
 use crate::NoMemory;
 use grid_plane::Rect;
@@ -20,7 +21,14 @@ pub fn meets_any(dirt: &[Rect], r: &Rect) -> bool
     dirt.iter().any(|s| s.meets(r))
 }
 
-// Makes one more rectangle dirty. It comes last, and those that it holds go; it alone both holds itself and is held.
+// Keeps the rectangles that this one does not hold, and those that hold it.
+fn keep_loose(dirt: &mut Vec<Rect>, r: Rect)
+    ensures { dirt.new.items ≡ filter (stays r) dirt.old.items }
+{
+    dirt.retain(|s| !r.holds_rect(s) || s.holds_rect(&r));
+}
+
+// Makes one more rectangle dirty: it comes last, and those that it holds go.
 pub fn make_dirty(dirt: &mut Vec<Rect>, r: Rect) -> Result<(), NoMemory>
     ensures ok { OnOk result (dirt.new.items ≡ add_dirt dirt.old.items r) }
     ensures err { OnErr result (dirt.new.items ≡ dirt.old.items) }
@@ -29,6 +37,6 @@ pub fn make_dirty(dirt: &mut Vec<Rect>, r: Rect) -> Result<(), NoMemory>
         return Ok(());
     }
     dirt.push(r)?;
-    dirt.retain(|s| !r.holds_rect(s) || s.holds_rect(&r));
+    keep_loose(dirt, r);
     Ok(())
 }
