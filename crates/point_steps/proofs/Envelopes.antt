@@ -1,14 +1,14 @@
 -- The rectangle of a point is the rectangle of its place.
-use Rattle.std.proofs.Common.{◌≡◌, true, refl, sym, ◌∙◌, ap, List, [], ◌∷◌}
+use Rattle.std.proofs.Common.{◌≡◌, true, refl, List, [], ◌∷◌}
 use Rattle.std.proofs.lemmas.Int.{ints}
 use Rattle.std.proofs.lemmas.Bool.{and_parts}
 use Rattle.std.proofs.Common.{arith}
 use Rattle.plane_terms.specs.Point.{Place, IsInReach}
-use Rattle.plane_terms.specs.Rectangle.{rect_at, is_within, whole_grid, IsRectangle}
-use Rattle.plane_terms.specs.Shape.{Shape, point_shape, place_of, envelope_of, box_of_places, first_place}
+use Rattle.plane_terms.specs.Rectangle.{rect_at, IsRectangle}
+use Rattle.plane_terms.specs.Shape.{Shape, point_shape, place_of, envelope_of}
 use Rattle.plane_terms.specs.declared.kind.Kind.{Kind}
 use Rattle.plane_terms.specs.declared.kind.Kind.TheVariants as kinds
-use Rattle.topology_terms.specs.Feature.{Feature, place, env}
+use Rattle.topology_terms.specs.Feature.{Feature}
 use Rattle.point_steps.specs.Points.{is_in_reach, are_point_parts, is_point_kind, is_point}
 
 pub envelope_of_point : (q : Place) → envelope_of (point_shape q) ≡ rect_at q
