@@ -9,3 +9,8 @@ pub mod States
 pub mod Settling
 pub mod Lists
 pub mod Pieces
+pub mod Those
+pub mod Places
+pub mod Meetings
+pub mod FeatureLists
+pub mod Nears
