@@ -19,10 +19,10 @@ pub past_handle : (f : Feature) (F : List Feature) (h : ℕ) → (f.handle == h)
 unfolding feature_at
 past_handle f F h t = rw t
 
-same_handle : (m n : ℕ) → (m == n) ≡ true → m ≡ n
+pub same_handle : (m n : ℕ) → (m == n) ≡ true → m ≡ n
 same_handle m n t = grind (arith, nat_tests)
 
-own_handle : (m : ℕ) → (m == m) ≡ true
+pub own_handle : (m : ℕ) → (m == m) ≡ true
 own_handle m = grind (arith, nat_tests)
 
 other_handle : (m n : ℕ) → m < n → (n == m) ≡ false
@@ -110,7 +110,7 @@ here_pick : (b : Bool) (f : Feature) (F : List Feature) (h : ℕ) → (f.handle 
 here_pick true f F h t n = at_handle f F h t
 here_pick false f F h t n = n
 
-past_pick : (b : Bool) (f : Feature) (F : List Feature) (h : ℕ) → (f.handle == h) ≡ false → feature_at (cond b (f ∷ F) F) h ≡ feature_at F h
+pub past_pick : (b : Bool) (f : Feature) (F : List Feature) (h : ℕ) → (f.handle == h) ≡ false → feature_at (cond b (f ∷ F) F) h ≡ feature_at F h
 past_pick true f F h t = past_handle f F h t
 past_pick false f F h t = refl
 

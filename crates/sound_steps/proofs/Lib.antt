@@ -14,3 +14,5 @@ pub mod Places
 pub mod Meetings
 pub mod FeatureLists
 pub mod Nears
+pub mod Findings
+pub mod Posters

@@ -1,5 +1,5 @@
 -- The test of meeting, and envelopes: their corners are in order.
-use Rattle.std.proofs.Common.{◌≡◌, ℤ, ◌≤ℤ◌, true, arith, lit<, List, [], ◌∷◌}
+use Rattle.std.proofs.Common.{◌≡◌, ◌≤ℤ◌, true, arith, lit<, List, [], ◌∷◌}
 use Rattle.std.specs.Int.{int_max}
 use Rattle.std.proofs.lemmas.Int.{ints, clamps}
 use Rattle.plane_terms.specs.Point.{Place, Point}
@@ -26,7 +26,7 @@ envelope_proper s = places_proper (vertices_of s)
 
 -- what the test of meeting says
 pub meets_test : (r s : Rectangle) → RectsMeet r s → rects_meet r s ≡ true
-meets_test r s m = 
+meets_test r s m =
     let p = m.0 in
     let h = m.1 in
     let k = m.2 in

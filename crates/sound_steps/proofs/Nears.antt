@@ -7,7 +7,7 @@ use Rattle.plane_terms.specs.Rectangle.{RectsMeet, rects_meet}
 use Rattle.topology_terms.specs.Feature.{Feature, Side, IsOnSide, is_on_side, feature_at, env, Agree, IsAscending}
 use Rattle.topology_terms.specs.Cutting.{near, near_after}
 use Rattle.sound_steps.proofs.Dirts.{bool_cases}
-use Rattle.sound_steps.proofs.FeatureLists.{passing, feature_at-filter, ascending_filter, same_features, at_handle, past_handle}
+use Rattle.sound_steps.proofs.FeatureLists.{passing, feature_at-filter, ascending_filter, same_features, at_handle, past_handle, past_pick}
 use Rattle.sound_steps.proofs.Meetings.{meets_from_test, envelope_proper}
 
 -- the test by which a feature is near, and that by which it comes after
@@ -64,10 +64,6 @@ near_after_same A f F G u v agree =
 kept_pick : (b : Bool) (f : Feature) (F : List Feature) (h : ℕ) → b ≡ true → (f.handle == h) ≡ true → feature_at (cond b (f ∷ F) F) h ≡ Some f
 kept_pick true f F h t k = at_handle f F h k
 kept_pick false f F h t k = cc
-
-past_pick : (b : Bool) (f : Feature) (F : List Feature) (h : ℕ) → (f.handle == h) ≡ false → feature_at (cond b (f ∷ F) F) h ≡ feature_at F h
-past_pick true f F h t = past_handle f F h t
-past_pick false f F h t = refl
 
 -- a filter keeps what passes, whatever the order
 pub kept_at : (test : Feature → Bool) (F : List Feature) (h : ℕ) (g : Feature) → feature_at F h ≡ Some g → test g ≡ true → feature_at (filter test F) h ≡ Some g

@@ -46,4 +46,3 @@ place_one q r p h k =
     let a : q.x ≡ r.x = same_from_scaled q.x r.x p.w p.positive (sym h.x ∙ k.x) in
     let b : q.y ≡ r.y = same_from_scaled q.y r.y p.w p.positive (sym h.y ∙ k.y) in
     λ i. record { x = a i; y = b i }
-

@@ -1,6 +1,6 @@
 -- There is one list of the elements of which a fact holds, and it depends on the fact alone.
-use Rattle.std.proofs.Common.{◌≡◌, ◌↔◌, ◌⊎◌, inl, inr, List, [], ◌∷◌, refl, sym, ◌∙◌, ap}
-use Rattle.plane_terms.specs.Lists.{SomeOf, IsThose}
+use Rattle.std.proofs.Common.{◌≡◌, ◌↔◌, inl, inr, List, [], ◌∷◌, sym, ◌∙◌, ap}
+use Rattle.plane_terms.specs.Lists.{IsThose}
 
 pub those_one : {A : Type 0} (P : A → Type 0) (xs ys zs : List A) → IsThose P xs ys → IsThose P xs zs → ys ≡ zs
 those_one P [] ys zs h k = h ∙ sym k
