@@ -16,3 +16,4 @@ pub mod FeatureLists
 pub mod Nears
 pub mod Findings
 pub mod Posters
+pub mod Keeps
