@@ -1,5 +1,7 @@
 pub mod ListTests
 pub mod Envelopes
-pub mod Plains
+pub mod PlainFacts
 pub mod Orders
+pub mod Judgings
+pub mod Plains
 pub mod ListChanges
