@@ -5,3 +5,5 @@ pub mod Orders
 pub mod Judgings
 pub mod Plains
 pub mod ListChanges
+pub mod GridCuts
+pub mod Lookups
