@@ -1,8 +1,4 @@
 -- A kept project says the headline.
-use Rattle.std.proofs.Common.{◌≡◌, refl}
-use Rattle.plane_terms.specs.Point.{Place}
-use Rattle.plane_terms.specs.Rectangle.{rect_at}
-use Rattle.plane_terms.specs.Shape.{envelope_of, point_shape}
 use Rattle.topology_terms.specs.Project.{Project, IsOrdered}
 use Rattle.topology_terms.specs.Sound.{IsKept}
 use Rattle.script_terms.specs.Headline.{Headline}
@@ -17,7 +13,3 @@ headline_of p k o = record {
       (framed.some, framed.points);
   by_key = o.entries;
 }
-
-pub envelope_of_point : (q : Place) → envelope_of (point_shape q) ≡ rect_at q
-unfolding envelope_of
-envelope_of_point q = refl
