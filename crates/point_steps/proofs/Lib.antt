@@ -1,5 +1,11 @@
 pub mod ListTests
 pub mod Envelopes
-pub mod Plains
+pub mod PlainFacts
 pub mod Orders
+pub mod Judgings
+pub mod Plains
 pub mod ListChanges
+pub mod GridCuts
+pub mod Lookups
+pub mod Headlines
+pub mod Steps

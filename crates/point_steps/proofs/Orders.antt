@@ -7,7 +7,7 @@ use Rattle.topology_terms.specs.Feature.{Feature, feature_at, IsAscending}
 use Rattle.topology_terms.specs.Project.{Project, InForce, AreAscending, IsOrdered}
 use Rattle.point_steps.specs.Points.{are_plain_rules, is_plain}
 use Rattle.point_steps.proofs.ListTests.{Has}
-use Rattle.point_steps.proofs.Plains.{plain_facts}
+use Rattle.point_steps.proofs.PlainFacts.{plain_facts}
 
 one_rule_ascends : (rs : List InForce) → are_plain_rules rs ≡ true → AreAscending rs
 one_rule_ascends [] h = tt
