@@ -7,3 +7,5 @@ pub mod Plains
 pub mod ListChanges
 pub mod GridCuts
 pub mod Lookups
+pub mod Those
+pub mod Pairs
