@@ -9,3 +9,4 @@ pub mod GridCuts
 pub mod Lookups
 pub mod Those
 pub mod Pairs
+pub mod Selections

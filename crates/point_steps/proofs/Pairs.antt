@@ -73,7 +73,7 @@ on_y v x y w h = omega (arith, ints, neg_scaled v w)
 in_cell_at : (q : Place) (p : Point) → InCell (at_place q) p → IsAt q p
 in_cell_at q p h = record { x = on_x q.x p.x p.y p.w h.0; y = on_y q.y p.x p.y p.w h.1.0 }
 
-held_at : (q : Place) (p : Point) → IsAt q p → RectHolds (rect_at q) p
+pub held_at : (q : Place) (p : Point) → IsAt q p → RectHolds (rect_at q) p
 held_at q p h = record { left = omega (arith, ints, h.x); right = omega (arith, ints, h.x); below = omega (arith, ints, h.y); above = omega (arith, ints, h.y) }
 
 own_cell : (q : Place) → InCell (at_place q) (point_at q)
