@@ -9,3 +9,6 @@ pub mod GridCuts
 pub mod Lookups
 pub mod Headlines
 pub mod Steps
+pub mod Those
+pub mod Pairs
+pub mod Selections
