@@ -1,2 +1,4 @@
 pub mod Dirts
 pub mod Projects
+pub mod Ranges
+pub mod PlaceOrders

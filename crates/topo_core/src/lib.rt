@@ -4,6 +4,7 @@
 mod dirt;
 mod judge;
 mod parts;
+mod places;
 mod topology;
 
 pub use parts::{AddFault, NoMemory, Pair, Summary};
