@@ -10,3 +10,4 @@ pub mod Lookups
 pub mod Those
 pub mod Pairs
 pub mod Selections
+pub mod Validations

@@ -1,17 +1,17 @@
 -- The pairs of a point are those that its rule's sentence tells, and the entries of them are those of the cutting.
-use Rattle.std.proofs.Common.{◌≡◌, ◌⊎◌, inl, inr, ℕ, ◌<◌, ℤ, pos, negsuc, neg_ℤ, zero, suc, ◌*◌, ◌+ℤ◌, ◌*ℤ◌, ◌≤ℤ◌, Bool, true, false, not, ◌&&◌, refl, sym, ap, ◌∙◌, arith, List, [], ◌∷◌, map, Option, Some, None, eq-eqb, eqb-true, lit<}
-use Rattle.std.specs.Prelude.{◌==◌, nat_lt, cond, if◌then◌else◌, Decides}
-use Rattle.std.specs.List.{filter, flat_map}
+use Rattle.std.proofs.Common.{◌≡◌, inl, inr, ℕ, ◌<◌, ℤ, pos, negsuc, neg_ℤ, zero, suc, ◌*◌, ◌+ℤ◌, ◌*ℤ◌, Bool, true, false, not, ◌&&◌, refl, sym, ap, ◌∙◌, arith, List, [], ◌∷◌, map, Option, Some, eq-eqb, eqb-true}
+use Rattle.std.specs.Prelude.{◌==◌, nat_lt, if◌then◌else◌}
+use Rattle.std.specs.List.{filter}
 use Rattle.std.specs.Ordering.{int_eq}
 use Rattle.std.proofs.lemmas.Int.{ints}
 use Rattle.std.proofs.Math.Nat.{zero-mul}
 use Rattle.std.proofs.Math.IntN.{negsuc-*ℤ-pos, neg_ℤ-neg_ℤ}
 use Rattle.std.proofs.lemmas.Bool.{and_parts, and_from, ltb-true, lt-ltb, not_from_false}
-use Rattle.std.proofs.lemmas.Bool.Decides.{nat_tests, Decides-int_eq, eqb_tells}
+use Rattle.std.proofs.lemmas.Bool.Decides.{nat_tests, Decides-int_eq}
 use Rattle.plane_terms.specs.Lists.{Every, IsThose}
 use Rattle.plane_terms.specs.Point.{Place, Point, IsAt, same_place}
 use Rattle.plane_terms.specs.Rectangle.{Rectangle, RectHolds, IsWithin, rect_at, rects_meet}
-use Rattle.plane_terms.specs.Cell.{Cell, InCell, InCells, IsLeastFrame, at_place}
+use Rattle.plane_terms.specs.Cell.{InCell, IsLeastFrame, at_place}
 use Rattle.plane_terms.proofs.Points.{point_at}
 use Rattle.topology_terms.specs.Feature.{Feature, Side, is_on_side, feature_at, place, env}
 use Rattle.topology_terms.specs.Feature as feature_list
@@ -20,13 +20,13 @@ use Rattle.topology_terms.specs.Rules.PointMustBeDisjoint as point_must_be_disjo
 use Rattle.topology_terms.specs.declared.rule_kind.RuleKind.{RuleKind}
 use Rattle.topology_terms.specs.declared.rule_kind.RuleKind.TheVariants as kind
 use Rattle.topology_terms.specs.Meaning.{Finding, finding_at}
-use Rattle.topology_terms.specs.Cutting.{near, near_after, pair_findings, place_cells, BreaksAt, AreBrokenPairs, cutting_by, IsCutting}
+use Rattle.topology_terms.specs.Cutting.{near_after, pair_findings, place_cells, BreaksAt, AreBrokenPairs, cutting_by, IsCutting}
 use Rattle.topology_terms.specs.Poster.{poster}
 use Rattle.topology_terms.specs.Entry.{Entry, has_key, entry_at}
 use Rattle.topology_terms.specs.Settled.{IsEntryOf, AreAlike, AreOf, AreCut}
 use Rattle.sound_steps.proofs.Planes.{le_from_scaled}
 use Rattle.point_steps.specs.Points.{is_point, is_partner, pair_entry}
-use Rattle.point_steps.proofs.ListTests.{Has, every_mapped, every_has}
+use Rattle.point_steps.proofs.ListTests.{every_has}
 use Rattle.point_steps.proofs.Envelopes.{point_shape_of, envelope_at_place}
 use Rattle.point_steps.proofs.Orders.{found_at}
 use Rattle.point_steps.proofs.Those.{those_among, filter_twice}
@@ -115,8 +115,8 @@ partner_test : (class : ℕ) (f g : Feature) → ArePartners class f g → is_pa
 partner_test class f g h =
     let same = same_place (place f) (place g) in
     and_from (nat_lt f.handle g.handle) ((f.class == class) && ((g.class == class) && same)) (lt-ltb f.handle g.handle h.first)
-      (and_from (f.class == class) ((g.class == class) && same) (eq-eqb f.class class h.class_of)
-      (and_from (g.class == class) same (eq-eqb g.class class h.partner_class) (place_test (place f) (place g) h.same)))
+    (and_from (f.class == class) ((g.class == class) && same) (eq-eqb f.class class h.class_of)
+    (and_from (g.class == class) same (eq-eqb g.class class h.partner_class) (place_test (place f) (place g) h.same)))
 
 meets_itself : (q : Place) → rects_meet (rect_at q) (rect_at q) ≡ true
 meets_itself q = grind (arith, ints)
@@ -131,9 +131,9 @@ partner_near A f g u v h =
     let meet : rects_meet (env f) (env g) ≡ true = rw (u, v, h.same) (meets_itself (place g)) in
     let other : (g.handle == f.handle) ≡ false = (let l = h.first in grind (arith, nat_tests)) in
     and_from (is_on_side A g && (rects_meet (env f) (env g) && not (g.handle == f.handle))) (nat_lt f.handle g.handle)
-      (and_from (is_on_side A g) (rects_meet (env f) (env g) && not (g.handle == f.handle)) (eq-eqb g.class A.class h.partner_class)
-      (and_from (rects_meet (env f) (env g)) (not (g.handle == f.handle)) meet (not_from_false (g.handle == f.handle) other)))
-      (lt-ltb f.handle g.handle h.first)
+    (and_from (is_on_side A g) (rects_meet (env f) (env g) && not (g.handle == f.handle)) (eq-eqb g.class A.class h.partner_class)
+    (and_from (rects_meet (env f) (env g)) (not (g.handle == f.handle)) meet (not_from_false (g.handle == f.handle) other)))
+    (lt-ltb f.handle g.handle h.first)
 
 partner_breaks : (row : Row) (F : List Feature) (f g : Feature) → feature_at F f.handle ≡ Some f → feature_at F g.handle ≡ Some g → ArePartners row.origin.class f g → BreaksAt row F f.handle g.handle (place f)
 unfolding BrokenAt
@@ -174,12 +174,12 @@ unfolding near_test
 partners_told row F f u points point live =
     let envelope : (g : Feature) → is_point g ≡ true → env g ≡ rect_at (place g) = λ g e. envelope_at_place g.shape (point_shape_of g e) in
     rw (filter_twice (near_test row.origin f) (λ (g : Feature). nat_lt f.handle g.handle) F)
-      (those_among (λ (g : Feature). BreaksAt row F f.handle g.handle (place f)) (λ g. near_test row.origin f g && nat_lt f.handle g.handle) (is_partner row.origin.class f) F
-      (every_with F points (every_has F) (λ g e m.
-      let found = found_at F g u m in (
-        (λ t. let k = partner_facts row.origin.class f g t in (partner_near row.origin f g (envelope f point) (envelope g e) k, partner_breaks row F f g live found k)),
-        (λ k. partner_test row.origin.class f g (broken_partner row F f g live found k.1)),
-      ))))
+    (those_among (λ (g : Feature). BreaksAt row F f.handle g.handle (place f)) (λ g. near_test row.origin f g && nat_lt f.handle g.handle) (is_partner row.origin.class f) F
+    (every_with F points (every_has F) (λ g e m.
+    let found = found_at F g u m in (
+      (λ t. let k = partner_facts row.origin.class f g t in (partner_near row.origin f g (envelope f point) (envelope g e) k, partner_breaks row F f g live found k)),
+      (λ k. partner_test row.origin.class f g (broken_partner row F f g live found k.1)),
+    ))))
   where
     every_with : {P Q R : Feature → Type 0} (G : List Feature) → Every P G → Every Q G → ((g : Feature) → P g → Q g → R g) → Every R G
     every_with [] h k f = tt
@@ -213,8 +213,7 @@ pub pairs_cut : (row : Row) (F : List Feature) (f : Feature) (es : List Entry) (
 unfolding IsCutting
 pairs_cut row F f es r u points point live same =
     let partners = filter (is_partner row.origin.class f) F in
-    let findings = pair_findings (λ g. place_cells (place f ∷ [])) partners in
-    (
+    let findings = pair_findings (λ g. place_cells (place f ∷ [])) partners in (
       findings,
       (f, live, by_kind row.kind row F f findings (record { chosen = partners; those = partners_told row F f u points point live; findings = refl })),
       (λ b. rw (same b) (pairs_alike r f partners b)),

@@ -1,9 +1,8 @@
 -- A subject is selected exactly where it is a live point whose place meets the dirt.
-use Rattle.std.proofs.Common.{◌≡◌, ◌⊎◌, inl, inr, ℕ, ℤ, pos, ◌*ℤ◌, ◌≤ℤ◌, Bool, true, false, refl, sym, ap, ◌∙◌, arith, List, [], ◌∷◌, Option, Some, None}
+use Rattle.std.proofs.Common.{◌≡◌, inl, inr, ℕ, ◌≤ℤ◌, true, false, sym, ◌∙◌, arith, Some}
 use Rattle.std.specs.Prelude.{Decides}
 use Rattle.std.proofs.lemmas.Int.{ints}
-use Rattle.plane_terms.specs.Lists.{Every, SomeOf}
-use Rattle.plane_terms.specs.Point.{Place, Point, IsAt}
+use Rattle.plane_terms.specs.Point.{Place, Point}
 use Rattle.plane_terms.specs.Rectangle.{Rectangle, RectHolds, rect_at, rects_meet, whole_grid, IsRectangle}
 use Rattle.plane_terms.proofs.Points.{point_at}
 use Rattle.topology_terms.specs.Feature.{Feature, feature_at, place, env}
@@ -15,7 +14,7 @@ use Rattle.sound_steps.proofs.Planes.{le_from_scaled, within_Holds}
 use Rattle.sound_steps.proofs.Lists.{entry_key}
 use Rattle.point_steps.specs.Points.{is_selected, is_point}
 use Rattle.point_steps.proofs.ListTests.{Has, some_from_test, test_from_some, some_mapped, some_with_every, some_given, every_has}
-use Rattle.point_steps.proofs.Envelopes.{IsPointShape, point_shape_of, envelope_at_place, rect_in_reach}
+use Rattle.point_steps.proofs.Envelopes.{point_shape_of, envelope_at_place, rect_in_reach}
 use Rattle.point_steps.proofs.PlainFacts.{IsPlainEntry, IsPlain}
 use Rattle.point_steps.proofs.Orders.{every_at, found_at, found_is}
 use Rattle.point_steps.proofs.Lookups.{of_found, number_at}
@@ -94,8 +93,7 @@ selected_is p n a f live = (
       let q = point_at (place f) in
       let held = held_at (place f) q (at_itself (place f)) in
       let grid = on_grid f (point_live p n a f live) in
-      let meeting = some_from_test (λ r. rects_meet r (rect_at (place f))) (λ r. rects_meet r (rect_at (place f)) ≡ true) (λ r k. k) p.dirt e in
-      (
+      let meeting = some_from_test (λ r. rects_meet r (rect_at (place f))) (λ r. rects_meet r (rect_at (place f)) ≡ true) (λ r k. k) p.dirt e in (
         q,
         some_mapped (λ r. rects_meet r (rect_at (place f)) ≡ true) (λ r. RectHolds r q) (λ r k. holds_place r (place f) k) p.dirt meeting,
         within_Holds (rect_at (place f)) whole_grid grid.on_grid q held,
