@@ -11,7 +11,7 @@ use Rattle.std.specs.Io.KnownBytes.{Appends}
 use Rattle.topology_terms.specs.Sound.{IsKept}
 use Rattle.script_terms.specs.State.{State}
 use Rattle.script_terms.specs.Headline.{Headline}
-use Rattle.script_terms.specs.Run.{Outcome, Step, Run, text_of, any_refused, last_state, IsFront, EachHeadline, WritesRun, WritesFront}
+use Rattle.script_terms.specs.Run.{Outcome, Step, Run, text_of, any_refused, last_state, IsPrefix, EachHeadline, WritesRun, WritesPrefix}
 use Rattle.point_steps.proofs.Steps.{step_kept, step_headline}
 
 pub record SoFar (start : State) (all rest : List (List ℕ)) (now : State) (before written : Option (List ℕ)) (pending : List ℕ) (refused : Bool) : Type 0 where
@@ -117,14 +117,14 @@ ends {start} {now} {all} {before} {written} {refused} far = record {
     headline = far.headline
   }
 
-pub stops : {start now : State} {all rest : List (List ℕ)} {before written : Option (List ℕ)} {pending : List ℕ} {refused : Bool} → SoFar start all rest now before written pending refused → WritesFront start all before written
+pub stops : {start now : State} {all rest : List (List ℕ)} {before written : Option (List ℕ)} {pending : List ℕ} {refused : Bool} → SoFar start all rest now before written pending refused → WritesPrefix start all before written
 stops {start} {now} {all} {rest} {before} {written} {pending} {refused} far = record {
     first = far.done;
     is_first = (rest, far.split);
     outcomes = far.outcomes;
     run = far.run;
     text = far.front;
-    is_front = (pending, far.text);
+    is_prefix = (pending, far.text);
     written = far.appended;
     headline = far.headline
   }

@@ -3,19 +3,19 @@
 -- EndsAs s k status     of the source s and the sink k: a replay from the empty topology ends with this status
 --   Done, Refused       the source was read to its end; the whole text of a run over its lines was written, in which no line, or some line, was refused
 --   ReadFault, TooLong  the reading failed, or gave too much; the whole text of a run over the lines whose LF was kept was written
---   WriteFault          the sink's count of faults rose; a front of the text of a run over first lines was written
+--   WriteFault          the sink's count of faults rose; a prefix of the text of a run over first lines was written
 --   NoMemory            want of memory: the same, or nothing was read that is told of
 --   Usage               never
--- EndsAsUsage k usage status     the usage line was written, or a front of it
+-- EndsAsUsage k usage status     the usage line was written, or a prefix of it
 -- IsComplete s k status code     with no fault counted and a script within the limit the whole text is written and the status is 0 or 1, or it is 5
 --
--- In every state of a run that is spoken of the headline holds (`WritesRun`, `WritesFront`). Source: own.
+-- In every state of a run that is spoken of the headline holds (`WritesRun`, `WritesPrefix`). Source: own.
 use Rattle.std.specs.Prelude.{ℕ, ◌≡◌, ◌≤◌, ◌⊎◌, Bool, true, false, List, [], ◌∷◌, codes, map, length, Option, Some, String, string_bytes, if◌then◌else◌}
 use Rattle.std.specs.Io.KnownBytes.{Appends}
 use Rattle.std.specs.declared.alloc.Global.{Global}
 use Rattle.text_terms.specs.Lines.{lines_of}
 use Rattle.script_terms.specs.State.{empty_state}
-use Rattle.script_terms.specs.Run.{IsFront, WritesRun, WritesFront}
+use Rattle.script_terms.specs.Run.{IsPrefix, WritesRun, WritesPrefix}
 use Rattle.topo_outside.specs.Causes.{Rose}
 use Rattle.topo_run.specs.Reads.{Passage, Read, is_at_end, script_limit}
 use Rattle.topo_run.specs.declared.read.End.{End}
@@ -42,9 +42,9 @@ status_of TooLong refused = status.TooLong
 abbrev pub WritesAll : Passage → List (List ℕ) → Bool → Type 0
 WritesAll k lines refused = WritesRun empty_state lines k.old k.new refused
 
--- a front of it was written
+-- a prefix of it was written
 abbrev pub WritesSome : Passage → List (List ℕ) → Type 0
-WritesSome k lines = WritesFront empty_state lines k.old k.new
+WritesSome k lines = WritesPrefix empty_state lines k.old k.new
 
 abbrev pub EndsAs : Passage → Passage → Status → Type 0
 EndsAs s k status.Done = (kept : List ℕ) × Read s kept AtEnd × WritesAll k (lines_of true kept) false
@@ -61,8 +61,8 @@ IsReplay words = map (λ w. string_bytes w) words ≡ codes "replay" ∷ []
 
 abbrev pub EndsAsUsage : Passage → List ℕ → Status → Type 0
 EndsAsUsage k usage status.Usage = Appends k.old k.new usage
-EndsAsUsage k usage status.WriteFault = Rose k.before k.now × ((front : List ℕ) × IsFront front usage × Appends k.old k.new front)
-EndsAsUsage k usage status.NoMemory = (front : List ℕ) × IsFront front usage × Appends k.old k.new front
+EndsAsUsage k usage status.WriteFault = Rose k.before k.now × ((text : List ℕ) × IsPrefix text usage × Appends k.old k.new text)
+EndsAsUsage k usage status.NoMemory = (text : List ℕ) × IsPrefix text usage × Appends k.old k.new text
 EndsAsUsage k usage status.Done = ⊥
 EndsAsUsage k usage status.Refused = ⊥
 EndsAsUsage k usage status.ReadFault = ⊥

@@ -2,7 +2,7 @@ ghost use Rattle.std.specs.Prelude.{◌≡◌, ◌≤◌, ◌++◌, ◌||◌, �
 ghost use Rattle.std.specs.Io.KnownBytes.{Appends};
 ghost use Rattle.text_terms.specs.Lines.{lines_of};
 ghost use Rattle.script_terms.specs.State.{empty_state};
-ghost use Rattle.script_terms.specs.Run.{IsFront, WritesRun, WritesFront};
+ghost use Rattle.script_terms.specs.Run.{IsPrefix, WritesRun, WritesPrefix};
 ghost use Rattle.topo_outside.specs.Causes.{Rose};
 ghost use Rattle.topo_run.specs.Ends.{EndsAs};
 ghost use Rattle.topo_run.specs.Stops.{stop_of};
@@ -56,7 +56,7 @@ fn either(a: bool, b: bool) -> bool
 // Writes the replies that are gathered, where they are many; what is left of them is gathered still.
 fn write_if_many<K: Sink>(sink: &mut K, gathered: &mut String) -> Result<(), SinkFault>
     ensures ok { OnOk result ((front : List ℕ) × (string_bytes gathered.old ≡ front ++ string_bytes gathered.new) × Appends (K.written sink.old) (K.written sink.new) front) }
-    ensures err { OnErr result ((front : List ℕ) × IsFront front (string_bytes gathered.old) × Appends (K.written sink.old) (K.written sink.new) front) }
+    ensures err { OnErr result ((front : List ℕ) × IsPrefix front (string_bytes gathered.old) × Appends (K.written sink.old) (K.written sink.new) front) }
     ensures later { K.faults sink.old ≤ K.faults sink.new }
     ensures failed { IsErrOf result SinkFault.Failed → Rose (K.faults sink.old) (K.faults sink.new) }
 {
@@ -76,7 +76,7 @@ fn answer_all<K: Sink>(
     sink: &mut K,
 ) -> Result<bool, Stop>
     ensures ok { IfOk result (λ refused. WritesRun empty_state (lines_of whole text.now) (K.written sink.old) (K.written sink.new) refused) }
-    ensures err { OnErr result (WritesFront empty_state (lines_of whole text.now) (K.written sink.old) (K.written sink.new)) }
+    ensures err { OnErr result (WritesPrefix empty_state (lines_of whole text.now) (K.written sink.old) (K.written sink.new)) }
     ensures later { K.faults sink.old ≤ K.faults sink.new }
     ensures failed { IsErrOf result Stop.Write → Rose (K.faults sink.old) (K.faults sink.new) }
 {
