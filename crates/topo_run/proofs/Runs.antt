@@ -1,18 +1,18 @@
 -- A run goes on by one line, and ends.
 --
--- SoFar ..      a run over the lines that are done: its state, what of its text was written and what is pending, and that the headline
---               holds in each of its states
+-- SoFar ..      a run over the lines that are done: the state it comes to, what of its text was written and what is pending
 -- begins, goes_on, flushed, ends, stops, stops_inside     what the loop needs of it, turn by turn
 use Rattle.std.proofs.Common.{ℕ, ◌≡◌, Bool, true, false, ◌||◌, List, [], ◌∷◌, ◌++◌, Option, None, Some, refl, sym, ◌∙◌, ap, subst, append_assoc, append-nil, take, drop, arith, rules}
 use Rattle.std.proofs.lemmas.List.{take-append-drop}
 use Rattle.std.specs.Prelude.{flat_map, Result, Ok, Err, OnErr}
 use Rattle.std.specs.List.{list_any}
 use Rattle.std.specs.Io.KnownBytes.{Appends}
+use Rattle.std.proofs.KnownBytes.{Appends-nil, Appends-trans}
+use Rattle.topology_terms.specs.Project.{IsOrdered}
 use Rattle.topology_terms.specs.Sound.{IsKept}
 use Rattle.script_terms.specs.State.{State}
-use Rattle.script_terms.specs.Headline.{Headline}
-use Rattle.script_terms.specs.Run.{Outcome, Step, Run, text_of, any_refused, last_state, IsPrefix, EachHeadline, WritesRun, WritesPrefix}
-use Rattle.point_steps.proofs.Steps.{step_kept, step_headline}
+use Rattle.script_terms.specs.Run.{Outcome, Step, Run, text_of, any_refused, last_state, IsPrefix, WritesRun, WritesPrefix}
+use Rattle.point_steps.proofs.Steps.{run_headline}
 
 pub record SoFar (start : State) (all rest : List (List ℕ)) (now : State) (before written : Option (List ℕ)) (pending : List ℕ) (refused : Bool) : Type 0 where
   pub done : List (List ℕ)
@@ -24,8 +24,6 @@ pub record SoFar (start : State) (all rest : List (List ℕ)) (now : State) (bef
   pub text : text_of outcomes ≡ front ++ pending
   pub appended : Appends before written front
   pub any : any_refused outcomes ≡ refused
-  pub kept : IsKept now.project
-  pub headline : EachHeadline start outcomes
 
 run_snoc : (s : State) (lines : List (List ℕ)) (os : List Outcome) (line : List ℕ) (o : Outcome) → Run s lines os → Step (last_state s os) line o → Run s (lines ++ line ∷ []) (os ++ o ∷ [])
 run_snoc s [] [] line o run step = (step, tt)
@@ -45,34 +43,8 @@ any_snoc : (os : List Outcome) (o : Outcome) → any_refused (os ++ o ∷ []) �
 any_snoc [] o = search rules
 any_snoc (p ∷ os) o = grind (arith, any_snoc os o)
 
-headline_snoc : (s : State) (os : List Outcome) (o : Outcome) → EachHeadline s os → Headline o.after.project → EachHeadline s (os ++ o ∷ [])
-headline_snoc s [] o each last = (each, last)
-headline_snoc s (p ∷ os) o each last = (each.0, headline_snoc p.after os o each.1 last)
-
-pub appends_both : (a b c : Option (List ℕ)) (x y : List ℕ) → Appends a b x → Appends b c y → Appends a c (x ++ y)
-appends_both None b c x y first second = tt
-appends_both (Some xs) None c x y first second = absurd first
-appends_both (Some xs) (Some ys) None x y first second = absurd second
-appends_both (Some xs) (Some ys) (Some zs) x y first second = second ∙ (ap (λ t. t ++ y) first ∙ append_assoc xs x y)
-
-appends_none : (a : Option (List ℕ)) → Appends a a []
-appends_none None = tt
-appends_none (Some xs) = sym (append-nil xs)
-
-pub begins : (start : State) (all : List (List ℕ)) (before : Option (List ℕ)) → IsKept start.project → Headline start.project → SoFar start all all start before before [] false
-begins start all before kept headline = record {
-    done = [];
-    split = refl;
-    outcomes = [];
-    run = tt;
-    last = refl;
-    front = [];
-    text = refl;
-    appended = appends_none before;
-    any = refl;
-    kept = kept;
-    headline = headline
-  }
+pub begins : (start : State) (all : List (List ℕ)) (before : Option (List ℕ)) → SoFar start all all start before before [] false
+begins start all before = record { done = []; split = refl; outcomes = []; run = tt; last = refl; front = []; text = refl; appended = Appends-nil before; any = refl }
 
 -- a line was answered, and its reply is pending
 pub goes_on : {start now : State} {all : List (List ℕ)} {line : List ℕ} {rest : List (List ℕ)} {before written : Option (List ℕ)} {pending more : List ℕ} {refused : Bool} {o : Outcome} →
@@ -86,9 +58,7 @@ goes_on {start} {now} {all} {line} {rest} {before} {written} {pending} {more} {r
     front = far.front;
     text = text_snoc far.outcomes o ∙ (ap (λ t. t ++ o.text) far.text ∙ (append_assoc far.front pending o.text ∙ ap (λ t. far.front ++ t) (sym grown)));
     appended = far.appended;
-    any = rw (any_snoc far.outcomes o, far.any) refl;
-    kept = step_kept now line o step far.kept;
-    headline = headline_snoc start far.outcomes o far.headline (step_headline now line o step far.kept)
+    any = rw (any_snoc far.outcomes o, far.any) refl
   }
 
 -- the first of what was pending was written, and this is pending still
@@ -102,23 +72,23 @@ flushed {start} {now} {all} {rest} {before} {written} {mid} {pending} {part} {le
     last = far.last;
     front = far.front ++ part;
     text = far.text ∙ (ap (λ t. far.front ++ t) split ∙ sym (append_assoc far.front part left));
-    appended = appends_both before written mid far.front part far.appended more;
-    any = far.any;
-    kept = far.kept;
-    headline = far.headline
+    appended = Appends-trans before written mid far.front part far.appended more;
+    any = far.any
   }
 
-pub ends : {start now : State} {all : List (List ℕ)} {before written : Option (List ℕ)} {refused : Bool} → SoFar start all [] now before written [] refused → WritesRun start all before written refused
-ends {start} {now} {all} {before} {written} {refused} far = record {
+-- all lines were answered, and all is written
+pub ends : {start now : State} {all : List (List ℕ)} {before written : Option (List ℕ)} {refused : Bool} → IsKept start.project → IsOrdered start.project → SoFar start all [] now before written [] refused → WritesRun start all before written refused
+ends {start} {now} {all} {before} {written} {refused} kept ordered far = record {
     outcomes = far.outcomes;
     run = rw (far.split, append-nil far.done) far.run;
     written = subst (λ (t : List ℕ). Appends before written t) (sym (far.text ∙ append-nil far.front)) far.appended;
     any = far.any;
-    headline = far.headline
+    headline = run_headline start far.done far.outcomes far.run kept ordered
   }
 
-pub stops : {start now : State} {all rest : List (List ℕ)} {before written : Option (List ℕ)} {pending : List ℕ} {refused : Bool} → SoFar start all rest now before written pending refused → WritesPrefix start all before written
-stops {start} {now} {all} {rest} {before} {written} {pending} {refused} far = record {
+-- what was written so far is a prefix
+pub stops : {start now : State} {all rest : List (List ℕ)} {before written : Option (List ℕ)} {pending : List ℕ} {refused : Bool} → IsKept start.project → IsOrdered start.project → SoFar start all rest now before written pending refused → WritesPrefix start all before written
+stops {start} {now} {all} {rest} {before} {written} {pending} {refused} kept ordered far = record {
     first = far.done;
     is_first = (rest, far.split);
     outcomes = far.outcomes;
@@ -126,7 +96,7 @@ stops {start} {now} {all} {rest} {before} {written} {pending} {refused} far = re
     text = far.front;
     is_prefix = (pending, far.text);
     written = far.appended;
-    headline = far.headline
+    headline = run_headline start far.done far.outcomes far.run kept ordered
   }
 
 -- what holds anyway
