@@ -5,6 +5,8 @@ pub mod Orders
 pub mod Judgings
 pub mod Plains
 pub mod ListChanges
+pub mod Headlines
+pub mod Steps
 pub mod GridCuts
 pub mod Lookups
 pub mod Those
