@@ -14,6 +14,7 @@ use Rattle.topology_terms.specs.Project.{Project, InForce, rule_at}
 use Rattle.topology_terms.specs.Changes.{IsSelected, KeepsEntries, KeepsMark}
 use Rattle.topology_terms.specs.Settled.{AreCut, IsCutAnew, IsValidatedBy}
 use Rattle.script_terms.specs.Answer.{judged_by, IsValidation}
+use Rattle.sound_steps.proofs.FeatureLists.{handle_of}
 use Rattle.sound_steps.proofs.Lists.{same_key}
 use Rattle.point_steps.specs.Points.{is_selected, judged_entries, kept_entries, entries_after, validated, judged_count, is_plain}
 use Rattle.point_steps.proofs.ListTests.{Has, every_mapped, every_has}
@@ -22,20 +23,20 @@ use Rattle.point_steps.proofs.Plains.{plain_validated}
 use Rattle.point_steps.proofs.Orders.{found_at}
 use Rattle.point_steps.proofs.Judgings.{after_of, none_or_one}
 use Rattle.point_steps.proofs.GridCuts.{grid_cut}
-use Rattle.point_steps.proofs.Lookups.{entry_or_none, feature_or_none, in_filtered, in_own, lone_rule}
+use Rattle.point_steps.proofs.Lookups.{given_or_none, in_filtered, in_own, lone_rule}
 use Rattle.point_steps.proofs.Those.{those_by_test, how_many_kept}
 use Rattle.point_steps.proofs.Pairs.{pairs_cut}
-use Rattle.point_steps.proofs.Selections.{point_live, handle_live, subject_live, rule_live, unmarked_at, selected_live, selected_is}
+use Rattle.point_steps.proofs.Selections.{point_live, subject_live, rule_live, unmarked_at, selected_live, selected_is}
 
 -- ---- what no plain project has
 dead_none : (p : Project) → IsPlain p → (a : ℕ) → feature_at p.features a ≡ None → (r b : ℕ) → entry_at p.entries r a b ≡ None
-dead_none p n a d r b = elim (entry_or_none (entry_at p.entries r a b)) [
+dead_none p n a d r b = elim (given_or_none (entry_at p.entries r a b)) [
   | inl e ↦ let f = subject_live p n r a b e.0 e.1 in let k : None ≡ Some f.0 = sym d ∙ f.1 in absurd cc
   | inr k ↦ k
 ]
 
 idle_none : (p : Project) → IsPlain p → (r : ℕ) → rule_at p.rules r ≡ None → (a b : ℕ) → entry_at p.entries r a b ≡ None
-idle_none p n r d a b = elim (entry_or_none (entry_at p.entries r a b)) [
+idle_none p n r d a b = elim (given_or_none (entry_at p.entries r a b)) [
   | inl e ↦ let q = rule_live p n r a b e.0 e.1 in let k : None ≡ Some q.0 = sym d ∙ q.1 in absurd cc
   | inr k ↦ k
 ]
@@ -100,14 +101,10 @@ kept_here p rule f n e live t r b same =
     ∙ in_filtered (λ (x : Entry). (x.rule == rule.number) && (x.subject == f.handle)) p.entries r f.handle b (key_passes rule f r b same))
 
 kept : (p : Project) (f : Feature) → IsPlain p → IsPlain (validated p) → feature_at p.features f.handle ≡ Some f → is_selected p.dirt f ≡ false → KeepsEntries p (validated p) f.handle
-kept p f n m live t r b = elim (row_or_none (rule_at p.rules r)) [
+kept p f n m live t r b = elim (given_or_none (rule_at p.rules r)) [
   | inl q ↦ let y = only_rule p n r q.0 q.1 in kept_here p y.0 f n y.1 live t r b y.2
   | inr d ↦ idle_none (validated p) m r d f.handle b ∙ sym (idle_none p n r d f.handle b)
 ]
-  where
-    row_or_none : (o : Option Row) → ((row : Row) × (o ≡ Some row)) ⊎ (o ≡ None)
-    row_or_none None = inr refl
-    row_or_none (Some row) = inl (row, refl)
 
 -- ---- each subject
 abbrev IsAnewOrKept : Project → ℕ → Type 0
@@ -122,9 +119,9 @@ live_subject p f n m live =
     ]
 
 each_subject : (p : Project) → IsPlain p → IsPlain (validated p) → (a : ℕ) → IsAnewOrKept p a
-each_subject p n m a = elim (feature_or_none (feature_at p.features a)) [
+each_subject p n m a = elim (given_or_none (feature_at p.features a)) [
   | inl y ↦
-      let own = handle_live p a y.0 y.1 in
+      let own = handle_of p.features a y.0 y.1 in
       subst (λ h. IsAnewOrKept p h) own (live_subject p y.0 n m (subst (λ h. feature_at p.features h ≡ Some y.0) (sym own) y.1))
   | inr d ↦ inr (
     (λ s. let y = selected_live p n a s in let k : None ≡ Some y.0 = sym d ∙ y.1 in cc),
