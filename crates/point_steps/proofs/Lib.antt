@@ -13,3 +13,4 @@ pub mod Those
 pub mod Pairs
 pub mod Selections
 pub mod Validations
+mod Rows
