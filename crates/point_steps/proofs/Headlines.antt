@@ -11,5 +11,7 @@ headline_of p k o = record {
       let rule = k.project.ruled r a b x e in
       let framed = (k.sound.each r rule.0 rule.1 a).cells b x e w in
       (framed.some, framed.points);
+  whole = λ r a b x e w. (k.project.bare r a b x e w).0;
+  ruled = k.project.ruled;
   by_key = o.entries;
 }

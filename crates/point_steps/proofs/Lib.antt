@@ -5,10 +5,12 @@ pub mod Orders
 pub mod Judgings
 pub mod Plains
 pub mod ListChanges
-pub mod GridCuts
-pub mod Lookups
 pub mod Headlines
 pub mod Steps
+pub mod GridCuts
+pub mod Lookups
 pub mod Those
 pub mod Pairs
 pub mod Selections
+pub mod Validations
+mod Rows
