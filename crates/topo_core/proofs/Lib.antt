@@ -2,3 +2,4 @@ pub mod Dirts
 pub mod Projects
 pub mod Ranges
 pub mod PlaceOrders
+pub mod Judged

@@ -6,7 +6,7 @@ ghost use Rattle.topology_terms.specs.Sound.{IsKept};
 ghost use Rattle.script_terms.specs.State.{class_number, least_free};
 ghost use Rattle.script_terms.specs.Answer.{is_nonempty, IsValidation};
 ghost use Rattle.plane_terms.specs.Rectangle.{whole_grid};
-ghost use Rattle.point_steps.specs.Points.{with_class, with_rule, with_point, validated, judged_count, disjoint_row, point_feature};
+ghost use Rattle.point_steps.specs.Points.{with_class, with_rule, with_point, validated, disjoint_row, point_feature};
 ghost use Rattle.topo_core.specs.Parts.{entry_of_pair};
 
 use crate::dirt::make_dirty;
@@ -134,7 +134,8 @@ impl Topology {
 
     /// Judges every point that meets the dirt, and leaves no dirt.
     pub fn validate_all(&mut self) -> Result<Summary, NoMemory>
-        ensures exact { IfOk result (λ s. (self.new ≡ validated self.old) × (s.judged ≡ judged_count self.old) × (s.errors ≡ length self.new.entries) × (s.dirty ≡ 0)) }
+        ensures ok { IfOk result (λ s. IsValidation whole_grid self.old self.new s.judged s.errors s.dirty) }
+        ensures exact { OnOk result (self.new ≡ validated self.old) }
         ensures kept { IsKept self.old → IsKept self.new }
         ensures ordered { IsOrdered self.new }
         ensures err { OnErr result (self.new ≡ self.old) }
