@@ -157,3 +157,6 @@ pub fn judge_rule(
         None => Ok((0, Vec::new(alloc))),
     }
 }
+
+#[cfg(test)]
+mod tests;

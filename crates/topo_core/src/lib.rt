@@ -5,6 +5,8 @@ mod dirt;
 mod judge;
 mod parts;
 mod places;
+#[cfg(test)]
+mod plainly;
 mod topology;
 
 pub use parts::{AddFault, NoMemory, Pair, Summary};
