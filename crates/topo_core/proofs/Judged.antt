@@ -1,16 +1,21 @@
 -- The pairs of a point, and the errors that they stand for.
-use Rattle.std.proofs.Common.{◌≡◌, ℕ, zero, suc, ◌<◌, ◌≤◌, Bool, true, false, not, ◌&&◌, ◌||◌, List, [], ◌∷◌, ◌++◌, cond, eqb, ltb, filter, map, length, get_or, refl, ap, sym, ◌∙◌, ◌==◌, arith}
+use Rattle.std.proofs.Common.{◌≡◌, ℕ, zero, suc, ◌<◌, ◌≤◌, Bool, true, false, ◌&&◌, List, [], ◌∷◌, ◌++◌, cond, filter, map, length, get_or, refl, ap, sym, ◌∙◌, ◌==◌, zero-add, arith}
+use Rattle.std.proofs.lemmas.Bool.{and_parts}
 use Rattle.std.proofs.lemmas.Bool.Decides.{nat_tests}
 use Rattle.std.proofs.lemmas.Cmp.{int_eq_equiv}
-use Rattle.std.proofs.lemmas.List.{map-append}
+use Rattle.std.proofs.lemmas.List.{map-append, append-nil, length-map}
+use Rattle.std.proofs.lemmas.List.Sums.{length-filter}
 use Rattle.std.proofs.lemmas.List.Elements.{filter_agree}
-use Rattle.std.specs.List.{list_all}
+use Rattle.std.specs.List.{list_all, count_by, flat_map, sum_by}
 use Rattle.std.specs.List.Sorted.{IsNonDecreasingBy}
 use Rattle.plane_terms.specs.Point.{Place, same_place}
+use Rattle.plane_terms.specs.Rectangle.{Rectangle}
 use Rattle.topology_terms.specs.Feature.{Feature}
 use Rattle.topology_terms.specs.Entry.{Entry}
-use Rattle.point_steps.specs.Points.{disjoint_rule, is_partner, pair_entry, judged_entries, kept_entries, keys_ascend, is_key_below}
+use Rattle.topology_terms.specs.Project.{Project, InForce}
+use Rattle.point_steps.specs.Points.{disjoint_rule, is_partner, pair_entry, judged_entries, kept_entries, keys_ascend, is_key_below, is_selected, entries_after, judged_count, validated}
 use Rattle.topo_core.specs.Parts.{feature_of, entry_of_pair}
+use Rattle.topo_core.specs.Dirty.{is_dirty_at, IsIndexOf}
 use Rattle.topo_core.specs.Places.{is_at, is_of, is_above, pair_of, IsByPlace}
 use Rattle.topo_core.proofs.PlaceOrders.{is_at-same_place, filter-filter}
 use Rattle.topo_core.specs.declared.parts.Pair.{Pair}
@@ -29,19 +34,17 @@ filter-none : {X : Type 0} (p : X → Bool) (xs : List X) → ((x : X) → p x �
 filter-none p [] none = refl
 filter-none p (x ∷ xs) none = rw (none x) (filter-none p xs none)
 
+count_by-map : {X Y : Type 0} (p : Y → Bool) (f : X → Y) (xs : List X) → count_by p (map f xs) ≡ count_by (λ x. p (f x)) xs
+count_by-map p f xs = sym (length-filter p (map f xs)) ∙ ap length (sym (map-filter f p xs)) ∙ length-map (filter (λ x. p (f x)) xs) f ∙ length-filter (λ x. p (f x)) xs
+
 -- ---- the pairs that stand
 subject_upto : (e f : Pair) → is_key_below (entry_of_pair e) (entry_of_pair f) ≡ true → e.subject ≤ f.subject
 subject_upto e f below = grind (arith, nat_tests)
 
-both : (a b : Bool) → (a && b) ≡ true → (a ≡ true) × (b ≡ true)
-both true true e = (refl, refl)
-both true false e = cc
-both false b e = cc
-
 upto_all : (e : Pair) (es : List Pair) → list_all (is_key_below (entry_of_pair e)) (map entry_of_pair es) ≡ true → (j : ℕ) (d : Pair) → j < length es → e.subject ≤ (get_or es j d).subject
 upto_all e [] all j d short = absurd (omega arith)
-upto_all e (f ∷ es) all zero d short = subject_upto e f (both (is_key_below (entry_of_pair e) (entry_of_pair f)) (list_all (is_key_below (entry_of_pair e)) (map entry_of_pair es)) all).0
-upto_all e (f ∷ es) all (suc j) d short = upto_all e es (both (is_key_below (entry_of_pair e) (entry_of_pair f)) (list_all (is_key_below (entry_of_pair e)) (map entry_of_pair es)) all).1 j d (omega arith)
+upto_all e (f ∷ es) all zero d short = subject_upto e f (and_parts (is_key_below (entry_of_pair e) (entry_of_pair f)) (list_all (is_key_below (entry_of_pair e)) (map entry_of_pair es)) all).0
+upto_all e (f ∷ es) all (suc j) d short = upto_all e es (and_parts (is_key_below (entry_of_pair e) (entry_of_pair f)) (list_all (is_key_below (entry_of_pair e)) (map entry_of_pair es)) all).1 j d (omega arith)
 
 rises : (e : Pair) (es : List Pair) → ((j : ℕ) (d : Pair) → j < length es → e.subject ≤ (get_or es j d).subject) → IsNonDecreasingBy (λ (e : Pair). e.subject) es → (i j : ℕ) (d : Pair) → i ≤ j → j < length (e ∷ es) → (get_or (e ∷ es) i d).subject ≤ (get_or (e ∷ es) j d).subject
 rises e es first rest zero zero d upto short = omega arith
@@ -52,7 +55,7 @@ rises e es first rest (suc i) (suc j) d upto short = rest i j d (omega arith) (o
 pub rising_subjects : (es : List Pair) → keys_ascend (map entry_of_pair es) ≡ true → IsNonDecreasingBy (λ (e : Pair). e.subject) es
 rising_subjects [] ascend = λ i j d upto short. absurd (omega arith)
 rising_subjects (e ∷ es) ascend =
-    let parts = both (list_all (is_key_below (entry_of_pair e)) (map entry_of_pair es)) (keys_ascend (map entry_of_pair es)) ascend in
+    let parts = and_parts (list_all (is_key_below (entry_of_pair e)) (map entry_of_pair es)) (keys_ascend (map entry_of_pair es)) ascend in
     rises e es (upto_all e es parts.0) (rising_subjects es parts.1)
 
 pub kept-pairs : (es : List Pair) (class : ℕ) (a : PointFeature) → map entry_of_pair (filter (λ (e : Pair). e.subject == a.handle) es) ≡ kept_entries (map entry_of_pair es) (disjoint_rule class) (feature_of a)
@@ -79,7 +82,7 @@ pub judged-pairs : (class : ℕ) (a : PointFeature) (F points : List PointFeatur
 judged-pairs class a F points h own =
     let partner : PointFeature → Bool = λ b. is_partner class (feature_of a) (feature_of b) in
     let found : filter (is_above a) (filter (is_at a.place) points) ≡ filter partner F =
-        ap (filter (is_above a)) (h.each a.place) ∙ filter-filter (λ b. is_of class b && is_at a.place b) (is_above a) F ∙ filter_agree (λ b. (is_of class b && is_at a.place b) && is_above a b) partner (λ b. partner_tests class a b own) F in
+    ap (filter (is_above a)) (h.each a.place) ∙ filter-filter (λ b. is_of class b && is_at a.place b) (is_above a) F ∙ filter_agree (λ b. (is_of class b && is_at a.place b) && is_above a b) partner (λ b. partner_tests class a b own) F in
     ap (λ bs. map entry_of_pair (map (pair_of a) bs)) found ∙ pairs-entries a (filter partner F) ∙ ap (map (pair_entry 1 (feature_of a))) (map-filter feature_of (is_partner class (feature_of a)) F)
 
 -- pairs come after those that are there, from the points at the place of a
@@ -92,3 +95,14 @@ no_partner class a b other = grind arith
 
 pub judged-none : (class : ℕ) (a : PointFeature) (F : List PointFeature) → (a.class == class) ≡ false → judged_entries (map feature_of F) (disjoint_rule class) (feature_of a) ≡ []
 judged-none class a F other = ap (map (pair_entry 1 (feature_of a))) (filter-none (is_partner class (feature_of a)) (map feature_of F) (λ b. no_partner class (feature_of a) b other))
+
+-- ---- one rule
+pub rule_judged : (p : Project) (class : ℕ) (F : List PointFeature) (wide single : List Rectangle) (judged : ℕ) (found : List Pair) → p.rules ≡ disjoint_rule class ∷ [] → p.features ≡ map feature_of F → IsIndexOf p.dirt wide single → judged ≡ count_by (λ (a : PointFeature). is_dirty_at wide single a.place && (a.class == class)) F → map entry_of_pair found ≡ flat_map (entries_after p (disjoint_rule class)) (map feature_of F) → (judged ≡ judged_count p) × (map entry_of_pair found ≡ (validated p).entries)
+rule_judged p class F wide single judged found rules features index count pairs =
+    let counted : judged ≡ count_by (λ (a : PointFeature). is_selected p.dirt (feature_of a) && (a.class == class)) F = count ∙ ap (λ f. count_by f F) (λ i a. sym (index.each a.place) i && (a.class == class)) in
+    let each : InForce → ℕ = λ (rule : InForce). count_by (λ a. is_selected p.dirt a && (a.class == rule.row.origin.class)) p.features in
+    let test : Feature → Bool = λ a. is_selected p.dirt a && (a.class == class) in
+    let entries : InForce → List Entry = λ rule. flat_map (entries_after p rule) p.features in (
+      counted ∙ sym (count_by-map test feature_of F) ∙ ap (count_by test) (sym features) ∙ sym (zero-add (count_by test p.features)) ∙ ap (sum_by each) (sym rules),
+      pairs ∙ ap (flat_map (entries_after p (disjoint_rule class))) (sym features) ∙ sym (append-nil (entries (disjoint_rule class))) ∙ ap (flat_map entries) (sym rules),
+    )

@@ -3,3 +3,4 @@ pub mod Projects
 pub mod Ranges
 pub mod PlaceOrders
 pub mod Judged
+pub mod DirtPlaces

@@ -1,13 +1,14 @@
 ghost use Rattle.std.specs.Prelude.{◌≡◌, ◌==◌, ◌&&◌, ◌++◌, ℕ, List, true, map, filter, flat_map, count_by, OnOk, IfOk};
+ghost use Rattle.plane_terms.specs.Rectangle.{Rectangle};
 ghost use Rattle.topology_terms.specs.Project.{Project};
 ghost use Rattle.point_steps.specs.Points.{is_selected, disjoint_rule, judged_entries, kept_entries, entries_after, judged_count, validated, keys_ascend};
 ghost use Rattle.topo_core.specs.Parts.{feature_of, entry_of_pair, rule_list};
+ghost use Rattle.topo_core.specs.Dirty.{is_dirty_at, IsIndexOf};
 ghost use Rattle.topo_core.specs.Places.{IsByPlace, is_above, pair_of};
-
 ghost use Rattle.topo_core.specs.declared.parts.Pair.{Pair};
 ghost use Rattle.topo_core.specs.declared.parts.PointFeature.{PointFeature};
 
-use crate::dirt::meets_any;
+use crate::dirt_index::DirtIndex;
 use crate::parts::PointFeature;
 use crate::places::{by_place, points_at};
 use crate::{NoMemory, Pair};
@@ -15,10 +16,10 @@ use grid_plane::Rect;
 use std::alloc::Global;
 
 // Whether the point meets the dirt.
-pub fn is_selected(dirt: &[Rect], a: &PointFeature) -> bool
-    ensures { result ≡ is_selected dirt.now (feature_of a.now) }
+fn is_selected(dirt: &DirtIndex, a: &PointFeature) -> bool
+    ensures { (d : List Rectangle) → IsIndexOf d dirt.now.wide.items dirt.now.single.items → result ≡ is_selected d (feature_of a.now) }
 {
-    meets_any(dirt, &Rect::round(a.place))
+    dirt.is_dirty(a.place)
 }
 
 // The pairs of the point with the points above it.
@@ -84,12 +85,12 @@ fn push_entries(
     class: u16,
     a: &PointFeature,
     points: &[PointFeature],
-    dirt: &[Rect],
+    dirt: &DirtIndex,
     entries: &[Pair],
 ) -> Result<(), NoMemory>
     requires by_place { (F : List PointFeature) × IsByPlace class F points.now }
     requires ascending { keys_ascend (map entry_of_pair entries.now) ≡ true }
-    ensures { (p : Project) (F : List PointFeature) → IsByPlace class F points.now → p.features ≡ map feature_of F → p.dirt ≡ dirt.now → p.entries ≡ map entry_of_pair entries.now →
+    ensures { (p : Project) (F : List PointFeature) → IsByPlace class F points.now → p.features ≡ map feature_of F → IsIndexOf p.dirt dirt.now.wide.items dirt.now.single.items → p.entries ≡ map entry_of_pair entries.now →
         OnOk result (map entry_of_pair out.new.items ≡ map entry_of_pair out.old.items ++ entries_after p (disjoint_rule class) (feature_of a.now)) }
 {
     if is_selected(dirt, a) {
@@ -104,11 +105,11 @@ pub fn judge_all(
     alloc: Global,
     class: u16,
     features: &[PointFeature],
-    dirt: &[Rect],
+    dirt: &DirtIndex,
     entries: &[Pair],
 ) -> Result<Vec<Pair>, NoMemory>
     requires { keys_ascend (map entry_of_pair entries.now) ≡ true }
-    ensures { (p : Project) → p.features ≡ map feature_of features.now → p.dirt ≡ dirt.now → p.entries ≡ map entry_of_pair entries.now →
+    ensures { (p : Project) → p.features ≡ map feature_of features.now → IsIndexOf p.dirt dirt.now.wide.items dirt.now.single.items → p.entries ≡ map entry_of_pair entries.now →
         IfOk result (λ v. map entry_of_pair v.items ≡ flat_map (entries_after p (disjoint_rule class)) (map feature_of features.now)) }
 {
     let points = by_place(alloc, class, features)?;
@@ -120,15 +121,15 @@ pub fn judge_all(
 }
 
 // Whether a validation judges the point under the rule for this class.
-fn is_judged(class: u16, dirt: &[Rect], a: &PointFeature) -> bool
-    ensures { result ≡ (is_selected dirt.now (feature_of a.now) && (a.now.class == class)) }
+fn is_judged(class: u16, dirt: &DirtIndex, a: &PointFeature) -> bool
+    ensures { result ≡ (is_dirty_at dirt.now.wide.items dirt.now.single.items a.now.place && (a.now.class == class)) }
 {
-    is_selected(dirt, a) && a.class == class
+    dirt.is_dirty(a.place) && a.class == class
 }
 
 // How many points of the class meet the dirt.
-fn count_judged(class: u16, features: &[PointFeature], dirt: &[Rect]) -> usize
-    ensures { result ≡ count_by (λ (a : PointFeature). is_selected dirt.now (feature_of a) && (a.class == class)) features.now }
+fn count_judged(class: u16, features: &[PointFeature], dirt: &DirtIndex) -> usize
+    ensures { result ≡ count_by (λ (a : PointFeature). is_dirty_at dirt.now.wide.items dirt.now.single.items a.place && (a.class == class)) features.now }
 {
     features
         .iter()
@@ -150,8 +151,9 @@ pub fn judge_rule(
 {
     match rule {
         Some(class) => {
-            let judged = count_judged(class, features, dirt);
-            let found = judge_all(alloc, class, features, dirt, entries)?;
+            let index = DirtIndex::of(alloc, dirt)?;
+            let judged = count_judged(class, features, &index);
+            let found = judge_all(alloc, class, features, &index, entries)?;
             Ok((judged, found))
         }
         None => Ok((0, Vec::new(alloc))),

@@ -2,6 +2,7 @@
 #![tactic(auto)]
 
 mod dirt;
+mod dirt_index;
 mod judge;
 mod parts;
 mod places;

@@ -1,10 +1,10 @@
 // Judging as the definitions say it, point by point against all points: what the tests compare with.
 ghost use Rattle.std.specs.Prelude.{◌≡◌, ◌++◌, ℕ, map, flat_map, OnOk, IfOk};
 ghost use Rattle.topology_terms.specs.Project.{Project};
-ghost use Rattle.point_steps.specs.Points.{is_partner, disjoint_rule, judged_entries, kept_entries, entries_after};
+ghost use Rattle.point_steps.specs.Points.{is_partner, is_selected, disjoint_rule, judged_entries, kept_entries, entries_after};
 ghost use Rattle.topo_core.specs.Parts.{feature_of, entry_of_pair};
 
-use crate::judge::is_selected;
+use crate::dirt::meets_any;
 use crate::parts::PointFeature;
 use crate::{NoMemory, Pair};
 use grid_plane::Rect;
@@ -52,6 +52,13 @@ fn push_kept(out: &mut Vec<Pair>, a: &PointFeature, entries: &[Pair]) -> Result<
         }
     }
     Ok(())
+}
+
+// Whether the point meets the dirt.
+fn is_selected(dirt: &[Rect], a: &PointFeature) -> bool
+    ensures { result ≡ is_selected dirt.now (feature_of a.now) }
+{
+    meets_any(dirt, &Rect::round(a.place))
 }
 
 // The entries of the point after a validation.
