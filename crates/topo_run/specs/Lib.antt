@@ -1,0 +1,5 @@
+pub mod Commands
+pub mod Ends
+pub mod Reads
+pub mod Stops
+pub mod Worlds

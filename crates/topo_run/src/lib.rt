@@ -1,0 +1,16 @@
+// The program: words, source, sink and shelf in, status out.
+#![tactic(auto)]
+
+mod answer;
+mod lines;
+mod parse;
+mod read;
+mod replay;
+mod reply;
+mod run;
+mod say;
+mod status;
+mod world;
+mod write;
+
+pub use run::{USAGE, run};
