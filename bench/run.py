@@ -92,11 +92,16 @@ def is_same(own, other):
     return (own.status, own.digest) == (other.status, other.digest)
 
 
+def ratios(own, other):
+    if min(own.status, other.status) < 0:
+        return ['', '']
+    return ['%.2f' % (own.seconds / max(other.seconds, 0.001)), '%.2f' % (own.kilobytes / other.kilobytes)]
+
+
 def row(name, own, other):
     cells = [name] + own.cells()
     if other:
-        cells += other.cells() + ['%.2f' % (own.seconds / max(other.seconds, 0.001)),
-                                  '%.2f' % (own.kilobytes / other.kilobytes), 'yes' if is_same(own, other) else 'NO']
+        cells += other.cells() + ratios(own, other) + ['yes' if is_same(own, other) else 'NO']
     return '| ' + ' | '.join(cells) + ' |'
 
 
