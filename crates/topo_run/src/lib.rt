@@ -2,8 +2,11 @@
 #![tactic(auto)]
 
 mod answer;
+mod fields;
 mod lines;
+mod number;
 mod parse;
+mod point;
 mod read;
 mod replay;
 mod reply;
