@@ -7,7 +7,7 @@ use Rattle.topology_terms.specs.Feature.{Feature, feature_at, IsAscending}
 use Rattle.topology_terms.specs.Project.{Project, InForce, AreAscending, IsOrdered}
 use Rattle.point_steps.specs.Points.{are_plain_rules, is_plain}
 use Rattle.point_steps.proofs.ListTests.{Has}
-use Rattle.point_steps.proofs.Plains.{plain_facts}
+use Rattle.point_steps.proofs.PlainFacts.{plain_facts}
 
 one_rule_ascends : (rs : List InForce) → are_plain_rules rs ≡ true → AreAscending rs
 one_rule_ascends [] h = tt
@@ -36,7 +36,7 @@ none_at (f ∷ fs) a h = rw (past_head f fs a (omega (arith, h.0))) (none_at fs 
 pub next_free : (p : Project) → is_plain p ≡ true → feature_at p.features p.next ≡ None
 next_free p h = none_at p.features p.next (plain_facts p h).below
 
-every_at : (P : Feature → Type 0) (F : List Feature) (f : Feature) → Every P F → Has F f → P f
+pub every_at : (P : Feature → Type 0) (F : List Feature) (f : Feature) → Every P F → Has F f → P f
 every_at P [] f h k = absurd k
 every_at P (g ∷ gs) f h k = elim k [ inl e ↦ rw e h.0 | inr m ↦ every_at P gs f h.1 m ]
 

@@ -1,1 +1,2 @@
 pub mod Dirts
+pub mod Projects

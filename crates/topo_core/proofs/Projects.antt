@@ -1,0 +1,38 @@
+-- The project that the fields stand for, after each change.
+use Rattle.std.proofs.Common.{◌≡◌, ℕ, ◌+◌, true, List, [], ◌∷◌, ◌++◌, Some, sym, refl, subst}
+use Rattle.std.proofs.lemmas.List.{map_push}
+use Rattle.plane_terms.specs.Point.{Place, IsInReach}
+use Rattle.plane_terms.specs.Rectangle.{Rectangle, rect_at, whole_grid}
+use Rattle.plane_terms.specs.Dirt.{add_dirt}
+use Rattle.topology_terms.specs.Project.{Project}
+use Rattle.topology_terms.specs.Changes.{IsEdit, IsRuleAdded}
+use Rattle.point_steps.specs.Points.{is_plain, with_rule, with_point, disjoint_row, point_feature}
+use Rattle.point_steps.proofs.Plains.{plain_rule, plain_point}
+use Rattle.point_steps.proofs.ListChanges.{rule_added, point_added}
+use Rattle.topo_core.specs.Parts.{feature_of, rule_list}
+use Rattle.topo_core.specs.ProjectOf.{project_by, project_of}
+use Rattle.topo_core.specs.declared.parts.PointFeature.{PointFeature}
+use Rattle.topo_core.specs.declared.topology.Topology.TheInside.{Inside}
+
+along : (P : Project → Type 0) (p q : Project) → q ≡ p → P p → P q
+along P p q same h = subst P (sym same) h
+
+-- a rule more
+pub project-rule : (t : Inside) (class : ℕ) (d : List Rectangle) → rule_list t.rule ≡ [] → d ≡ add_dirt t.dirt.items whole_grid → project_by t.class (Some class) t.features.items t.next d t.entries.items ≡ with_rule (project_of t) class
+project-rule t class d none dirt = rw (dirt, none) refl
+
+pub rule_plain : (t : Inside) (class : ℕ) (d : List Rectangle) → rule_list t.rule ≡ [] → d ≡ add_dirt t.dirt.items whole_grid → is_plain (project_of t) ≡ true → is_plain (project_by t.class (Some class) t.features.items t.next d t.entries.items) ≡ true
+rule_plain t class d none dirt plain = along (λ p. is_plain p ≡ true) (with_rule (project_of t) class) _ (project-rule t class d none dirt) (plain_rule (project_of t) class none plain)
+
+pub rule_change : (t : Inside) (class : ℕ) (d : List Rectangle) → rule_list t.rule ≡ [] → d ≡ add_dirt t.dirt.items whole_grid → IsRuleAdded 1 (disjoint_row class) (project_of t) (project_by t.class (Some class) t.features.items t.next d t.entries.items)
+rule_change t class d none dirt = along (IsRuleAdded 1 (disjoint_row class) (project_of t)) (with_rule (project_of t) class) _ (project-rule t class d none dirt) (rule_added (project_of t) class none)
+
+-- a point more
+pub project-point : (t : Inside) (class : ℕ) (q : Place) (points : List PointFeature) (d : List Rectangle) → points ≡ t.features.items ++ record { handle = t.next; class = class; place = q } ∷ [] → d ≡ add_dirt t.dirt.items (rect_at q) → project_by t.class t.rule points (t.next + 1) d t.entries.items ≡ with_point (project_of t) class q
+project-point t class q points d more dirt = rw (more, dirt, map_push) refl
+
+pub point_plain : (t : Inside) (class : ℕ) (q : Place) (points : List PointFeature) (d : List Rectangle) → points ≡ t.features.items ++ record { handle = t.next; class = class; place = q } ∷ [] → d ≡ add_dirt t.dirt.items (rect_at q) → IsInReach q → is_plain (project_of t) ≡ true → is_plain (project_by t.class t.rule points (t.next + 1) d t.entries.items) ≡ true
+point_plain t class q points d more dirt reach plain = along (λ p. is_plain p ≡ true) (with_point (project_of t) class q) _ (project-point t class q points d more dirt) (plain_point (project_of t) class q reach plain)
+
+pub point_change : (t : Inside) (class : ℕ) (q : Place) (points : List PointFeature) (d : List Rectangle) → points ≡ t.features.items ++ record { handle = t.next; class = class; place = q } ∷ [] → d ≡ add_dirt t.dirt.items (rect_at q) → is_plain (project_of t) ≡ true → IsEdit t.next (Some (point_feature t.next class q)) (project_of t) (project_by t.class t.rule points (t.next + 1) d t.entries.items)
+point_change t class q points d more dirt plain = along (IsEdit t.next (Some (point_feature t.next class q)) (project_of t)) (with_point (project_of t) class q) _ (project-point t class q points d more dirt) (point_added (project_of t) class q plain)
