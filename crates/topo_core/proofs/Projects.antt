@@ -1,16 +1,21 @@
 -- The project that the fields stand for, after each change.
-use Rattle.std.proofs.Common.{◌≡◌, ℕ, ◌+◌, true, List, [], ◌∷◌, ◌++◌, Some, sym, refl, subst}
+use Rattle.std.proofs.Common.{◌≡◌, ℕ, ◌+◌, true, List, [], ◌∷◌, ◌++◌, map, Some, sym, refl, subst}
 use Rattle.std.proofs.lemmas.List.{map_push}
 use Rattle.plane_terms.specs.Point.{Place, IsInReach}
-use Rattle.plane_terms.specs.Rectangle.{Rectangle, rect_at, whole_grid}
+use Rattle.plane_terms.specs.Rectangle.{Rectangle, IsRectangle, rect_at, whole_grid}
 use Rattle.plane_terms.specs.Dirt.{add_dirt}
+use Rattle.topology_terms.specs.Feature.{env}
 use Rattle.topology_terms.specs.Project.{Project}
 use Rattle.topology_terms.specs.Changes.{IsEdit, IsRuleAdded}
-use Rattle.point_steps.specs.Points.{is_plain, with_rule, with_point, disjoint_row, point_feature}
-use Rattle.point_steps.proofs.Plains.{plain_rule, plain_point}
+use Rattle.topology_terms.specs.Sound.{IsKept}
+use Rattle.sound_steps.proofs.Keeps.{rule_kept, point_kept}
+use Rattle.point_steps.specs.Points.{is_plain, with_rule, with_point, validated, disjoint_row, point_feature}
+use Rattle.point_steps.proofs.Envelopes.{envelope_of_point, rect_in_reach, reach_test}
+use Rattle.point_steps.proofs.Plains.{plain_rule, plain_point, plain_validated}
 use Rattle.point_steps.proofs.ListChanges.{rule_added, point_added}
-use Rattle.topo_core.specs.Parts.{feature_of, rule_list}
+use Rattle.topo_core.specs.Parts.{entry_of_pair, rule_list}
 use Rattle.topo_core.specs.ProjectOf.{project_by, project_of}
+use Rattle.topo_core.specs.declared.parts.Pair.{Pair}
 use Rattle.topo_core.specs.declared.parts.PointFeature.{PointFeature}
 use Rattle.topo_core.specs.declared.topology.Topology.TheInside.{Inside}
 
@@ -27,6 +32,9 @@ rule_plain t class d none dirt plain = along (λ p. is_plain p ≡ true) (with_r
 pub rule_change : (t : Inside) (class : ℕ) (d : List Rectangle) → rule_list t.rule ≡ [] → d ≡ add_dirt t.dirt.items whole_grid → IsRuleAdded 1 (disjoint_row class) (project_of t) (project_by t.class (Some class) t.features.items t.next d t.entries.items)
 rule_change t class d none dirt = along (IsRuleAdded 1 (disjoint_row class) (project_of t)) (with_rule (project_of t) class) _ (project-rule t class d none dirt) (rule_added (project_of t) class none)
 
+pub rule_keeps : (t : Inside) (class : ℕ) (d : List Rectangle) → rule_list t.rule ≡ [] → d ≡ add_dirt t.dirt.items whole_grid → IsKept (project_of t) → IsKept (project_by t.class (Some class) t.features.items t.next d t.entries.items)
+rule_keeps t class d none dirt kept = rule_kept 1 (disjoint_row class) (project_of t) _ (rule_change t class d none dirt) kept
+
 -- a point more
 pub project-point : (t : Inside) (class : ℕ) (q : Place) (points : List PointFeature) (d : List Rectangle) → points ≡ t.features.items ++ record { handle = t.next; class = class; place = q } ∷ [] → d ≡ add_dirt t.dirt.items (rect_at q) → project_by t.class t.rule points (t.next + 1) d t.entries.items ≡ with_point (project_of t) class q
 project-point t class q points d more dirt = rw (more, dirt, map_push) refl
@@ -36,3 +44,16 @@ point_plain t class q points d more dirt reach plain = along (λ p. is_plain p �
 
 pub point_change : (t : Inside) (class : ℕ) (q : Place) (points : List PointFeature) (d : List Rectangle) → points ≡ t.features.items ++ record { handle = t.next; class = class; place = q } ∷ [] → d ≡ add_dirt t.dirt.items (rect_at q) → is_plain (project_of t) ≡ true → IsEdit t.next (Some (point_feature t.next class q)) (project_of t) (project_by t.class t.rule points (t.next + 1) d t.entries.items)
 point_change t class q points d more dirt plain = along (IsEdit t.next (Some (point_feature t.next class q)) (project_of t)) (with_point (project_of t) class q) _ (project-point t class q points d more dirt) (point_added (project_of t) class q plain)
+
+point_envelope : (h class : ℕ) (q : Place) → IsInReach q → IsRectangle (env (point_feature h class q))
+point_envelope h class q reach = let P : Rectangle → Type 0 = IsRectangle in subst P (sym (envelope_of_point q)) (rect_in_reach q (reach_test q reach))
+
+pub point_keeps : (t : Inside) (class : ℕ) (q : Place) (points : List PointFeature) (d : List Rectangle) → points ≡ t.features.items ++ record { handle = t.next; class = class; place = q } ∷ [] → d ≡ add_dirt t.dirt.items (rect_at q) → IsInReach q → is_plain (project_of t) ≡ true → IsKept (project_of t) → IsKept (project_by t.class t.rule points (t.next + 1) d t.entries.items)
+point_keeps t class q points d more dirt reach plain kept = point_kept t.next (point_feature t.next class q) (project_of t) _ (point_change t class q points d more dirt plain) refl (point_envelope t.next class q reach) kept
+
+-- the whole grid validated
+pub project-validated : (t : Inside) (d : List Rectangle) (pairs : List Pair) → d ≡ [] → map entry_of_pair pairs ≡ (validated (project_of t)).entries → project_by t.class t.rule t.features.items t.next d pairs ≡ validated (project_of t)
+project-validated t d pairs dirt entries = rw (dirt, entries) refl
+
+pub validated_plain : (t : Inside) (d : List Rectangle) (pairs : List Pair) → d ≡ [] → map entry_of_pair pairs ≡ (validated (project_of t)).entries → is_plain (project_of t) ≡ true → is_plain (project_by t.class t.rule t.features.items t.next d pairs) ≡ true
+validated_plain t d pairs dirt entries plain = along (λ p. is_plain p ≡ true) (validated (project_of t)) _ (project-validated t d pairs dirt entries) (plain_validated (project_of t) plain)

@@ -79,6 +79,7 @@ impl Topology {
     pub fn add_class(&mut self, name: Name) -> Result<u16, NoMemory>
         requires { self.old.classes ≡ [] }
         ensures ok { IfOk result (λ n. (n ≡ length self.old.classes + 1) × (self.new ≡ with_class self.old name)) }
+        ensures kept { IsKept self.old → IsKept self.new }
         ensures ordered { IsOrdered self.new }
         ensures err { OnErr result (self.new ≡ self.old) }
     {
@@ -97,6 +98,7 @@ impl Topology {
         requires { self.old.rules ≡ [] }
         ensures ok { IfOk result (λ n. (n ≡ least_free self.old.rules) × IsRuleAdded n (disjoint_row class) self.old self.new) }
         ensures exact { OnOk result (self.new ≡ with_rule self.old class) }
+        ensures kept { IsKept self.old → IsKept self.new }
         ensures ordered { IsOrdered self.new }
         ensures err { OnErr result (self.new ≡ self.old) }
     {
@@ -110,6 +112,7 @@ impl Topology {
         ensures ok { IfOk result (λ h. (h ≡ self.old.next) × (self.new.next ≡ self.old.next + 1) × IsEdit h (Some (point_feature h class place)) self.old self.new) }
         ensures exact { OnOk result (self.new ≡ with_point self.old class place) }
         ensures fresh { IfOk result (λ h. feature_at self.old.features h ≡ None) }
+        ensures kept { IsKept self.old → IsKept self.new }
         ensures ordered { IsOrdered self.new }
         ensures spent { IsErrOf result AddFault.HandlesSpent ↔ (self.old.next ≡ 4294967295) }
         ensures err { OnErr result (self.new ≡ self.old) }
@@ -132,6 +135,7 @@ impl Topology {
     /// Judges every point that meets the dirt, and leaves no dirt.
     pub fn validate_all(&mut self) -> Result<Summary, NoMemory>
         ensures exact { IfOk result (λ s. (self.new ≡ validated self.old) × (s.judged ≡ judged_count self.old) × (s.errors ≡ length self.new.entries) × (s.dirty ≡ 0)) }
+        ensures kept { IsKept self.old → IsKept self.new }
         ensures ordered { IsOrdered self.new }
         ensures err { OnErr result (self.new ≡ self.old) }
     {
