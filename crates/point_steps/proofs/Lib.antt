@@ -1,0 +1,5 @@
+pub mod ListTests
+pub mod Envelopes
+pub mod Plains
+pub mod Orders
+pub mod ListChanges

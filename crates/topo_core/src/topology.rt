@@ -1,0 +1,177 @@
+ghost use Rattle.std.specs.Prelude.{◌≡◌, ◌↔◌, not, ◌+◌, ◌<◌, [], length, slice_get, Some, None, IfOk, OnErr, IsErrOf};
+ghost use Rattle.topology_terms.specs.Feature.{feature_at};
+ghost use Rattle.topology_terms.specs.Project.{empty_project, IsOrdered};
+ghost use Rattle.topology_terms.specs.Changes.{IsEdit, IsRuleAdded};
+ghost use Rattle.topology_terms.specs.Sound.{IsKept};
+ghost use Rattle.script_terms.specs.State.{class_number, least_free};
+ghost use Rattle.script_terms.specs.Answer.{is_nonempty, IsValidation};
+ghost use Rattle.plane_terms.specs.Rectangle.{whole_grid};
+ghost use Rattle.point_steps.specs.Points.{with_class, with_rule, with_point, validated, judged_count, disjoint_row, point_feature};
+ghost use Rattle.topo_core.specs.Parts.{entry_of_pair};
+
+use crate::dirt::make_dirty;
+use crate::judge::judge_rule;
+use crate::parts::PointFeature;
+use crate::{AddFault, NoMemory, Pair, Summary};
+use grid_plane::{GridPoint, Name, Rect};
+use std::alloc::Global;
+use std::marker::Model;
+
+/// A topology of one class of points and one rule, Must Be Disjoint.
+#[derive(Drop)]
+pub struct Topology {
+    alloc: Global,
+    class: Option<Name>,
+    rule: Option<u16>,
+    features: Vec<PointFeature>,
+    next: u32,
+    dirt: Vec<Rect>,
+    entries: Vec<Pair>,
+}
+
+impl Model for Topology {
+    ghost use Rattle.topology_terms.specs.Project.{Project};
+
+    ghost Value = { Project };
+
+    ghost use Rattle.topo_core.specs.ProjectOf.{project_of, IsPlain};
+
+    ghost view = { project_of };
+
+    ghost invariant = { IsPlain };
+}
+
+impl Topology {
+    /// Nothing, and the next handle is 1.
+    pub fn new(alloc: Global) -> Topology
+        ensures { result ≡ empty_project }
+    {
+        Topology {
+            alloc,
+            class: None,
+            rule: None,
+            features: Vec::new(alloc),
+            next: 1,
+            dirt: Vec::new(alloc),
+            entries: Vec::new(alloc),
+        }
+    }
+
+    pub fn has_class(&self) -> bool
+        ensures { result ≡ is_nonempty self.now.classes }
+    {
+        self.class.is_some()
+    }
+
+    /// The number of the class of this name, from 1.
+    pub fn class_by_name(&self, name: &Name) -> Option<u16>
+        ensures { result ≡ class_number self.now name.now }
+    {
+        match &self.class {
+            Some(class) => (class.bytes() == name.bytes()).then_some(1),
+            None => None,
+        }
+    }
+
+    /// Adds the class of points, and answers its number.
+    pub fn add_class(&mut self, name: Name) -> Result<u16, NoMemory>
+        requires { self.old.classes ≡ [] }
+        ensures ok { IfOk result (λ n. (n ≡ length self.old.classes + 1) × (self.new ≡ with_class self.old name)) }
+        ensures err { OnErr result (self.new ≡ self.old) }
+    {
+        self.class = Some(name);
+        Ok(1)
+    }
+
+    pub fn has_rule(&self) -> bool
+        ensures { result ≡ is_nonempty self.now.rules }
+    {
+        self.rule.is_some()
+    }
+
+    /// Adds Must Be Disjoint for the class of this number, and answers the rule's number. The whole grid is dirty then.
+    pub fn add_rule(&mut self, class: u16) -> Result<u16, NoMemory>
+        requires { self.old.rules ≡ [] }
+        ensures exact { IfOk result (λ n. (n ≡ least_free self.old.rules) × (self.new ≡ with_rule self.old class)) }
+        ensures err { OnErr result (self.new ≡ self.old) }
+    {
+        make_dirty(&mut self.dirt, Rect::whole())?;
+        self.rule = Some(class);
+        Ok(1)
+    }
+
+    /// Adds a point of the class under the next handle, and answers the handle. Its place is dirty then.
+    pub fn add(&mut self, class: u16, place: GridPoint) -> Result<u32, AddFault>
+        ensures exact { IfOk result (λ h. (h ≡ self.old.next) × (self.new ≡ with_point self.old class place)) }
+        ensures spent { IsErrOf result AddFault.HandlesSpent ↔ (self.old.next ≡ 4294967295) }
+        ensures err { OnErr result (self.new ≡ self.old) }
+    {
+        let handle = self.next;
+        if handle == u32::MAX {
+            return Err(AddFault::HandlesSpent);
+        }
+        self.features.reserve(1)?;
+        make_dirty(&mut self.dirt, Rect::round(place))?;
+        self.features.push(PointFeature {
+            handle,
+            class,
+            place,
+        })?;
+        self.next = handle + 1;
+        Ok(handle)
+    }
+
+    /// Judges every point that meets the dirt, and leaves no dirt.
+    pub fn validate_all(&mut self) -> Result<Summary, NoMemory>
+        ensures exact { IfOk result (λ s. (self.new ≡ validated self.old) × (s.judged ≡ judged_count self.old) × (s.errors ≡ length self.new.entries) × (s.dirty ≡ length self.new.dirt)) }
+        ensures err { OnErr result (self.new ≡ self.old) }
+    {
+        let (judged, entries) = judge_rule(
+            self.alloc,
+            self.rule,
+            &self.features,
+            &self.dirt,
+            &self.entries,
+        )?;
+        let errors = entries.len();
+        self.entries = entries;
+        self.dirt.clear();
+        Ok(Summary {
+            judged: judged as u64,
+            errors: errors as u64,
+            dirty: 0,
+        })
+    }
+
+    /// How many dirty rectangles there are.
+    pub fn dirt_len(&self) -> usize
+        ensures { result ≡ length self.now.dirt }
+    {
+        self.dirt.len()
+    }
+
+    pub fn dirt_rect(&self, i: usize) -> Rect
+        requires { i < length self.now.dirt }
+        ensures { slice_get self.now.dirt i ≡ Some result }
+    {
+        self.dirt[i]
+    }
+
+    /// How many errors there are.
+    pub fn entry_len(&self) -> usize
+        ensures { result ≡ length self.now.entries }
+    {
+        self.entries.len()
+    }
+
+    /// The error at this place of the list, which ascends by subject and partner.
+    pub fn entry(&self, i: usize) -> Pair
+        requires { i < length self.now.entries }
+        ensures { slice_get self.now.entries i ≡ Some (entry_of_pair result) }
+    {
+        self.entries[i]
+    }
+}
+
+#[cfg(test)]
+mod tests;
