@@ -15,7 +15,7 @@
 --
 -- Which rings stand in which part is for writing alone: orientation and nesting are free, since the inside is counted.
 -- Source: Point, LineString, MultiLineString, Polygon, MultiPolygon of OGC 06-103r4; that rings may touch and are not told apart is own.
-use Rattle.std.specs.Prelude.{◌≡◌, pos, ◌≤◌, false, List, [], ◌∷◌, ◌++◌, length, flat_map, map, reverse, if◌then◌else◌}
+use Rattle.std.specs.Prelude.{◌≡◌, ℕ, pos, ◌≤◌, false, List, [], ◌∷◌, ◌++◌, length, flat_map, map, reverse, if◌then◌else◌}
 use Rattle.plane_terms.specs.Lists.{Every, EveryPair}
 use Rattle.plane_terms.specs.Point.{Place, IsInReach, same_place}
 use Rattle.plane_terms.specs.Rectangle.{Rectangle, rect_of, rect_at, join_of}
@@ -144,8 +144,14 @@ IsSimple kind.Point segments = Unit {0}
 IsSimple kind.Line segments = Unit {0}
 IsSimple kind.Polygon segments = EveryPair AreSimple segments
 
+-- a point has one part, the others at least one
+abbrev pub HasParts : Kind → ℕ → Type 0
+HasParts kind.Point n = n ≡ 1
+HasParts kind.Line n = 1 ≤ n
+HasParts kind.Polygon n = 1 ≤ n
+
 pub record IsShape (s : Shape) : Type 0 where
-  pub some : 1 ≤ length s.parts
+  pub some : HasParts s.kind (length s.parts)
   pub parts : Every (IsPart s.kind) s.parts
   pub rings : Every (IsRing s.kind) (rings_of s)
   pub vertices : length (vertices_of s) ≤ 2000

@@ -3,3 +3,5 @@ pub mod Envelopes
 pub mod Plains
 pub mod Orders
 pub mod ListChanges
+pub mod Headlines
+pub mod Steps

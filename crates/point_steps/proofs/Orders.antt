@@ -17,7 +17,7 @@ one_rule_ascends (r ∷ q ∷ rs) h = cc
 pub ordered_of : (p : Project) → is_plain p ≡ true → IsOrdered p
 ordered_of p h =
     let k = plain_facts p h in
-    record { rules = one_rule_ascends p.rules k.rules; features = k.ascending; entries = k.keys }
+    record { rules = one_rule_ascends p.rules k.rules; features = k.ascending; next = k.below; entries = k.keys }
 
 -- ---- the feature of a handle
 pub at_head : (f : Feature) (fs : List Feature) (a : ℕ) → f.handle ≡ a → feature_at (f ∷ fs) a ≡ Some f

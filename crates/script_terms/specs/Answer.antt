@@ -100,6 +100,7 @@ pub record IsValidation (w : Rectangle) (old new : Project) (judged errors dirty
 
 pub record IsAdded (editor class : List ℕ) (shape : Shape) (h : ℕ) (old new : State) : Type 0 where
   pub number : h ≡ old.project.next
+  pub absent : feature_at old.project.features h ≡ None
   pub next : new.project.next ≡ old.project.next + 1
   pub edited : IsEdited editor h (Some (record { handle = h; class = number_or_0 (class_number old.project class); shape = shape })) old new
 

@@ -1,13 +1,14 @@
 -- Runs over lines.
 --
 -- Reading             what a line is: skipped, a command's, or at fault
--- ReadsAs line r      the line is so; a line at fault is no command's
--- Outcome             what comes of a line: the text that is written, the state after it, and whether it was refused
+-- ReadsAs line r      the line is so; a line at fault is no command's, and has its fault (`IsLineFault`)
+-- Outcome, ComesOf    what comes of a line: the text that is written, the state after it, and whether it was refused
 -- Step s line o       one step: the line is read, answered, and this comes of it
 -- Run s lines os      a run: from the state s the lines come to these outcomes, in order; it may be empty
 -- text_of os, any_refused os, last_state s os     the texts one after another; some line was refused; the state at the end
 -- EachHeadline s os   the headline holds in every state of the run
--- WritesRun, WritesFront     the whole text of a run was written; a front of the text of a run over first lines was
+-- IsPrefix xs ys      the list xs is a prefix of ys
+-- WritesRun, WritesPrefix     the whole text of a run was written; a prefix of the text of a run over first lines was
 --
 -- No lemma on runs opens `Step`. Source: own.
 use Rattle.std.specs.Prelude.{◌≡◌, ℕ, Bool, true, false, List, [], ◌∷◌, ◌++◌, flat_map, Option}
@@ -76,9 +77,9 @@ abbrev pub last_state : State → List Outcome → State
 last_state s [] = s
 last_state s (o ∷ os) = last_state o.after os
 
--- the first list is a front of the second
-abbrev pub IsFront : {A : Type 0} → List A → List A → Type 0
-IsFront {A} front xs = (rest : List A) × (xs ≡ front ++ rest)
+-- the first list is a prefix of the second
+abbrev pub IsPrefix : {A : Type 0} → List A → List A → Type 0
+IsPrefix {A} prefix xs = (rest : List A) × (xs ≡ prefix ++ rest)
 
 -- the headline holds of the state that the run begins in and of each that it comes to
 abbrev pub EachHeadline : State → List Outcome → Type 0
@@ -92,12 +93,12 @@ pub record WritesRun (start : State) (lines : List (List ℕ)) (before now : Opt
   pub any : any_refused outcomes ≡ refused
   pub headline : EachHeadline start outcomes
 
-pub record WritesFront (start : State) (lines : List (List ℕ)) (before now : Option (List ℕ)) : Type 0 where
+pub record WritesPrefix (start : State) (lines : List (List ℕ)) (before now : Option (List ℕ)) : Type 0 where
   pub first : List (List ℕ)
-  pub is_first : IsFront first lines
+  pub is_first : IsPrefix first lines
   pub outcomes : List Outcome
   pub run : Run start first outcomes
   pub text : List ℕ
-  pub is_front : IsFront text (text_of outcomes)
+  pub is_prefix : IsPrefix text (text_of outcomes)
   pub written : Appends before now text
   pub headline : EachHeadline start outcomes

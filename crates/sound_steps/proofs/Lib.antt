@@ -9,3 +9,11 @@ pub mod States
 pub mod Settling
 pub mod Lists
 pub mod Pieces
+pub mod Those
+pub mod Places
+pub mod Meetings
+pub mod FeatureLists
+pub mod Nears
+pub mod Findings
+pub mod Posters
+pub mod Keeps

@@ -2,8 +2,7 @@
 --
 -- xs ⧺ ys             xs and then ys, grouped from the right, as `write!` builds a text
 -- listed ts           the texts with `, ` between them
--- place_text q        the two coordinates, plain decimals with `-` before a negative one, and a blank between
--- point_text q        POINT (X Y), the one written form of a point
+-- point_text q        POINT (X Y), the one written form of a point; X and Y are plain decimals, `-` before a negative one
 -- IsWrittenPoint t s  the text is the written form of a point within the reach, and s is its shape
 --
 -- Source: POINT in the well-known text of OGC 06-103r4; that only one spelling is written is own.
@@ -20,9 +19,6 @@ abbrev pub listed : List (List ℕ) → List ℕ
 listed [] = []
 listed (t ∷ []) = t
 listed (t ∷ u ∷ ts) = t ⧺ codes ", " ⧺ listed (u ∷ ts)
-
-abbrev pub place_text : Place → List ℕ
-place_text q = signed_decimal q.x ⧺ 32 ∷ signed_decimal q.y
 
 abbrev pub point_text : Place → List ℕ
 point_text q = codes "POINT (" ⧺ signed_decimal q.x ⧺ 32 ∷ signed_decimal q.y ⧺ 41 ∷ []

@@ -1,4 +1,7 @@
+pub mod Endings
 pub mod Forms
 pub mod Numbers
 pub mod Points
+pub mod Runs
 pub mod Texts
+pub mod Words

@@ -1,8 +1,19 @@
-// The program: words, source and sink in, status out.
+// The program: words, source, sink and shelf in, status out.
 #![tactic(auto)]
 
+mod answer;
 mod fields;
 mod lines;
 mod number;
 mod parse;
 mod point;
+mod read;
+mod replay;
+mod reply;
+mod run;
+mod say;
+mod status;
+mod world;
+mod write;
+
+pub use run::{USAGE, run};

@@ -1,7 +1,7 @@
 -- How the points where a rule is broken are cut into cells, rule by rule.
 --
 -- IsCutting row F a xs     xs are the findings for the subject a, in their one order and their one list of cells
--- near A f F       the features of the side whose envelope meets the subject's, but the subject itself, ascending
+-- near A f F       the features of the side whose envelope meets the subject's, but the subject itself, in the order of F, which ascends
 -- near_after A f F     of those, the ones whose handle is above the subject's
 -- AreBrokenPairs   of some partners those with which the rule is broken at the subject's place, a finding each
 --

@@ -1,0 +1,98 @@
+-- The features near a subject: the list depends on those alone whose envelope meets the subject's.
+use Rattle.std.proofs.Common.{◌≡◌, inl, inr, ℕ, ◌<◌, Bool, true, false, arith, refl, sym, ◌∙◌, ap, List, [], ◌∷◌, Option, Some, None}
+use Rattle.std.specs.Prelude.{cond, nat_lt, ◌==◌, ◌&&◌, not}
+use Rattle.std.specs.List.{filter}
+use Rattle.std.proofs.lemmas.Bool.Decides.{nat_tests}
+use Rattle.plane_terms.specs.Rectangle.{RectsMeet, rects_meet}
+use Rattle.topology_terms.specs.Feature.{Feature, Side, IsOnSide, is_on_side, feature_at, env, Agree, IsAscending}
+use Rattle.topology_terms.specs.Cutting.{near, near_after}
+use Rattle.sound_steps.proofs.Dirts.{bool_cases}
+use Rattle.sound_steps.proofs.FeatureLists.{passing, feature_at-filter, ascending_filter, same_features, at_handle, past_handle, past_pick}
+use Rattle.sound_steps.proofs.Meetings.{meets_from_test, envelope_proper}
+
+-- the test by which a feature is near, and that by which it comes after
+abbrev is_near : Side → Feature → Feature → Bool
+is_near A f g = is_on_side A g && (rects_meet (env f) (env g) && not (g.handle == f.handle))
+
+abbrev is_after : Feature → Feature → Bool
+is_after f g = nat_lt f.handle g.handle
+
+passed : (test : Feature → Bool) (f : Feature) → test f ≡ true → passing test (Some f) ≡ Some f
+passed test f t = rw t
+
+stopped : (test : Feature → Bool) (f : Feature) → test f ≡ false → passing test (Some f) ≡ None
+stopped test f t = rw t
+
+none_passes : (test : Feature → Bool) (o : Option Feature) → ((f : Feature) → o ≡ Some f → test f ≡ true → ⊥) → passing test o ≡ None
+none_passes test None n = refl
+none_passes test (Some f) n = elim (bool_cases (test f)) [
+  | inl t ↦ absurd (n f refl t)
+  | inr t ↦ stopped test f t
+]
+
+-- what passes on one side is on the other
+passing_same : (test : Feature → Bool) (o q : Option Feature) → ((f : Feature) → o ≡ Some f → test f ≡ true → q ≡ Some f) → ((f : Feature) → q ≡ Some f → test f ≡ true → o ≡ Some f) → passing test o ≡ passing test q
+passing_same test None q m n = sym (none_passes test q (λ f e t. let k = n f e t in cc))
+passing_same test (Some f) q m n = elim (bool_cases (test f)) [
+  | inl t ↦ ap (passing test) (sym (m f refl t))
+  | inr t ↦ stopped test f t ∙ sym (none_passes test q (λ g e u.
+      let k : Some f ≡ Some g = n g e u in
+      let same : f ≡ g = cc in
+      let w : test f ≡ true = rw same u in
+      cc))
+]
+
+near_meets : (A : Side) (f g : Feature) → is_near A f g ≡ true → RectsMeet (env f) (env g)
+near_meets A f g t =
+    let m : rects_meet (env f) (env g) ≡ true = both_second (is_on_side A g) (rects_meet (env f) (env g)) (not (g.handle == f.handle)) t in
+    meets_from_test (env f) (env g) (envelope_proper f.shape) (envelope_proper g.shape) m
+  where
+    both_second : (a b c : Bool) → (a && (b && c)) ≡ true → b ≡ true
+    both_second a b c e = grind arith
+
+-- features that agree on what meets the subject's envelope have the same near it
+pub near_after_same : (A : Side) (f : Feature) (F G : List Feature) → IsAscending F → IsAscending G → Agree (λ g. RectsMeet (env f) (env g)) F G → near_after A f F ≡ near_after A f G
+near_after_same A f F G u v agree =
+    let near_u = ascending_filter (is_near A f) F u in
+    let near_v = ascending_filter (is_near A f) G v in
+    same_features (near_after A f F) (near_after A f G) (ascending_filter (is_after f) (near A f F) near_u) (ascending_filter (is_after f) (near A f G) near_v) (λ h.
+    let same = passing_same (is_near A f) (feature_at F h) (feature_at G h) (λ g e t. agree.forth h g e (near_meets A f g t)) (λ g e t. agree.back h g e (near_meets A f g t)) in
+    let left = feature_at-filter (is_after f) (near A f F) h near_u ∙ ap (passing (is_after f)) (feature_at-filter (is_near A f) F h u) in
+    let right = feature_at-filter (is_after f) (near A f G) h near_v ∙ ap (passing (is_after f)) (feature_at-filter (is_near A f) G h v) in
+    left ∙ (ap (passing (is_after f)) same ∙ sym right))
+
+kept_pick : (b : Bool) (f : Feature) (F : List Feature) (h : ℕ) → b ≡ true → (f.handle == h) ≡ true → feature_at (cond b (f ∷ F) F) h ≡ Some f
+kept_pick true f F h t k = at_handle f F h k
+kept_pick false f F h t k = cc
+
+-- a filter keeps what passes, whatever the order
+pub kept_at : (test : Feature → Bool) (F : List Feature) (h : ℕ) (g : Feature) → feature_at F h ≡ Some g → test g ≡ true → feature_at (filter test F) h ≡ Some g
+unfolding feature_at
+kept_at test [] h g e t = cc
+kept_at test (f ∷ F) h g e t = elim (bool_cases (f.handle == h)) [
+  | inl k ↦
+      let l : Some f ≡ Some g = sym (at_handle f F h k) ∙ e in
+      let same : f ≡ g = cc in
+      kept_pick (test f) f (filter test F) h (rw same t) k ∙ l
+  | inr k ↦ past_pick (test f) f (filter test F) h k ∙ kept_at test F h g (sym (past_handle f F h k) ∙ e) t
+]
+
+-- a partner above the subject whose envelope meets the subject's is near it
+pub near_after_has : (A : Side) (f : Feature) (F : List Feature) (b : ℕ) (g : Feature) → feature_at F b ≡ Some g → IsOnSide A g → rects_meet (env f) (env g) ≡ true → f.handle < g.handle → feature_at (near_after A f F) b ≡ Some g
+near_after_has A f F b g e s m l =
+    let side : is_on_side A g ≡ true = on_side_test g.class A.class s.class in
+    let other : not (g.handle == f.handle) ≡ true = apart f.handle g.handle l in
+    let near_is : is_near A f g ≡ true = all_three (is_on_side A g) (rects_meet (env f) (env g)) (not (g.handle == f.handle)) side m other in
+    kept_at (is_after f) (near A f F) b g (kept_at (is_near A f) F b g e near_is) (after_test f.handle g.handle l)
+  where
+    on_side_test : (m n : ℕ) → m ≡ n → (m == n) ≡ true
+    on_side_test m n e = grind (arith, nat_tests)
+
+    apart : (m n : ℕ) → m < n → not (n == m) ≡ true
+    apart m n l = grind (arith, nat_tests)
+
+    after_test : (m n : ℕ) → m < n → nat_lt m n ≡ true
+    after_test m n l = grind (arith, nat_tests)
+
+    all_three : (a b c : Bool) → a ≡ true → b ≡ true → c ≡ true → (a && (b && c)) ≡ true
+    all_three a b c i j k = grind arith

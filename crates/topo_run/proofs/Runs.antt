@@ -1,0 +1,109 @@
+-- A run goes on by one line, and ends.
+--
+-- SoFar ..      a run over the lines that are done: the state it comes to, what of its text was written and what is pending
+-- begins, goes_on, flushed, ends, stops, stops_inside     what the loop needs of it, turn by turn
+use Rattle.std.proofs.Common.{ℕ, ◌≡◌, Bool, true, false, ◌||◌, List, [], ◌∷◌, ◌++◌, Option, None, Some, refl, sym, ◌∙◌, ap, subst, append_assoc, append-nil, take, drop, arith, rules}
+use Rattle.std.proofs.lemmas.List.{take-append-drop}
+use Rattle.std.specs.Prelude.{flat_map, Result, Ok, Err, OnErr}
+use Rattle.std.specs.List.{list_any}
+use Rattle.std.specs.Io.KnownBytes.{Appends}
+use Rattle.std.proofs.KnownBytes.{Appends-nil, Appends-trans}
+use Rattle.topology_terms.specs.Project.{IsOrdered}
+use Rattle.topology_terms.specs.Sound.{IsKept}
+use Rattle.script_terms.specs.State.{State}
+use Rattle.script_terms.specs.Run.{Outcome, Step, Run, text_of, any_refused, last_state, IsPrefix, WritesRun, WritesPrefix}
+use Rattle.point_steps.proofs.Steps.{run_headline}
+
+pub record SoFar (start : State) (all rest : List (List ℕ)) (now : State) (before written : Option (List ℕ)) (pending : List ℕ) (refused : Bool) : Type 0 where
+  pub done : List (List ℕ)
+  pub split : all ≡ done ++ rest
+  pub outcomes : List Outcome
+  pub run : Run start done outcomes
+  pub last : last_state start outcomes ≡ now
+  pub front : List ℕ
+  pub text : text_of outcomes ≡ front ++ pending
+  pub appended : Appends before written front
+  pub any : any_refused outcomes ≡ refused
+
+run_snoc : (s : State) (lines : List (List ℕ)) (os : List Outcome) (line : List ℕ) (o : Outcome) → Run s lines os → Step (last_state s os) line o → Run s (lines ++ line ∷ []) (os ++ o ∷ [])
+run_snoc s [] [] line o run step = (step, tt)
+run_snoc s [] (p ∷ os) line o run step = absurd run
+run_snoc s (l ∷ lines) [] line o run step = absurd run
+run_snoc s (l ∷ lines) (p ∷ os) line o run step = (run.0, run_snoc p.after lines os line o run.1 step)
+
+last_snoc : (s : State) (os : List Outcome) (o : Outcome) → last_state s (os ++ o ∷ []) ≡ o.after
+last_snoc s [] o = refl
+last_snoc s (p ∷ os) o = last_snoc p.after os o
+
+text_snoc : (os : List Outcome) (o : Outcome) → text_of (os ++ o ∷ []) ≡ text_of os ++ o.text
+text_snoc [] o = append-nil o.text
+text_snoc (p ∷ os) o = ap (λ t. p.text ++ t) (text_snoc os o) ∙ sym (append_assoc p.text (text_of os) o.text)
+
+any_snoc : (os : List Outcome) (o : Outcome) → any_refused (os ++ o ∷ []) ≡ (any_refused os || o.refused)
+any_snoc [] o = search rules
+any_snoc (p ∷ os) o = grind (arith, any_snoc os o)
+
+pub begins : (start : State) (all : List (List ℕ)) (before : Option (List ℕ)) → SoFar start all all start before before [] false
+begins start all before = record { done = []; split = refl; outcomes = []; run = tt; last = refl; front = []; text = refl; appended = Appends-nil before; any = refl }
+
+-- a line was answered, and its reply is pending
+pub goes_on : {start now : State} {all : List (List ℕ)} {line : List ℕ} {rest : List (List ℕ)} {before written : Option (List ℕ)} {pending more : List ℕ} {refused : Bool} {o : Outcome} →
+    SoFar start all (line ∷ rest) now before written pending refused → Step now line o → more ≡ pending ++ o.text → SoFar start all rest o.after before written more (refused || o.refused)
+goes_on {start} {now} {all} {line} {rest} {before} {written} {pending} {more} {refused} {o} far step grown = record {
+    done = far.done ++ line ∷ [];
+    split = far.split ∙ sym (append_assoc far.done (line ∷ []) rest);
+    outcomes = far.outcomes ++ o ∷ [];
+    run = run_snoc start far.done far.outcomes line o far.run (rw far.last step);
+    last = last_snoc start far.outcomes o;
+    front = far.front;
+    text = text_snoc far.outcomes o ∙ (ap (λ t. t ++ o.text) far.text ∙ (append_assoc far.front pending o.text ∙ ap (λ t. far.front ++ t) (sym grown)));
+    appended = far.appended;
+    any = rw (any_snoc far.outcomes o, far.any) refl
+  }
+
+-- the first of what was pending was written, and this is pending still
+pub flushed : {start now : State} {all rest : List (List ℕ)} {before written mid : Option (List ℕ)} {pending part left : List ℕ} {refused : Bool} →
+    SoFar start all rest now before written pending refused → pending ≡ part ++ left → Appends written mid part → SoFar start all rest now before mid left refused
+flushed {start} {now} {all} {rest} {before} {written} {mid} {pending} {part} {left} {refused} far split more = record {
+    done = far.done;
+    split = far.split;
+    outcomes = far.outcomes;
+    run = far.run;
+    last = far.last;
+    front = far.front ++ part;
+    text = far.text ∙ (ap (λ t. far.front ++ t) split ∙ sym (append_assoc far.front part left));
+    appended = Appends-trans before written mid far.front part far.appended more;
+    any = far.any
+  }
+
+-- all lines were answered, and all is written
+pub ends : {start now : State} {all : List (List ℕ)} {before written : Option (List ℕ)} {refused : Bool} → IsKept start.project → IsOrdered start.project → SoFar start all [] now before written [] refused → WritesRun start all before written refused
+ends {start} {now} {all} {before} {written} {refused} kept ordered far = record {
+    outcomes = far.outcomes;
+    run = rw (far.split, append-nil far.done) far.run;
+    written = subst (λ (t : List ℕ). Appends before written t) (sym (far.text ∙ append-nil far.front)) far.appended;
+    any = far.any;
+    headline = run_headline start far.done far.outcomes far.run kept ordered
+  }
+
+-- what was written so far is a prefix
+pub stops : {start now : State} {all rest : List (List ℕ)} {before written : Option (List ℕ)} {pending : List ℕ} {refused : Bool} → IsKept start.project → IsOrdered start.project → SoFar start all rest now before written pending refused → WritesPrefix start all before written
+stops {start} {now} {all} {rest} {before} {written} {pending} {refused} kept ordered far = record {
+    first = far.done;
+    is_first = (rest, far.split);
+    outcomes = far.outcomes;
+    run = far.run;
+    text = far.front;
+    is_prefix = (pending, far.text);
+    written = far.appended;
+    headline = run_headline start far.done far.outcomes far.run kept ordered
+  }
+
+-- what holds anyway
+pub at_err : {T E P : Type 0} (r : Result T E) → P → OnErr r P
+at_err (Ok x) p = tt
+at_err (Err e) p = p
+
+-- a part of what is left was taken
+pub split_more : (all front rest : List ℕ) (n : ℕ) → all ≡ front ++ rest → all ≡ (front ++ take n rest) ++ drop n rest
+split_more all front rest n split = split ∙ (ap (λ t. front ++ t) (sym (take-append-drop n rest)) ∙ sym (append_assoc front (take n rest) (drop n rest)))

@@ -1,0 +1,60 @@
+ghost use Rattle.std.specs.Prelude.{◌≤◌, IfOk};
+ghost use Rattle.topo_run.specs.Reads.{Read};
+
+use std::alloc::{AllocError, Global};
+use topo_outside::Source;
+
+/// How the reading of a script ended.
+#[derive(Clone, Copy)]
+pub enum End {
+    /// The source was read to its end.
+    AtEnd,
+    /// A read failed.
+    Failed,
+    /// The source gave more bytes than a script may have.
+    TooLong,
+}
+
+/// The bytes of a script, at most as many as it may have, and how its reading ended.
+#[derive(Drop)]
+pub struct Script {
+    pub bytes: Vec<u8>,
+    pub end: End,
+}
+
+/// The greatest number of bytes of a script.
+pub const SCRIPT_LIMIT: usize = 268_435_456;
+
+// The greatest number of bytes that one read asks for.
+const PIECE: usize = 65_536;
+
+/// Reads a source to its end, to a failure, or to a piece beyond the limit, of which no byte is kept.
+pub fn read_script<S: Source>(alloc: Global, source: &mut S) -> Result<Script, AllocError>
+    ensures later { S.faults source.old ≤ S.faults source.new }
+    ensures read { IfOk result (λ s. Read (record { old = S.left source.old; new = S.left source.new; before = S.faults source.old; now = S.faults source.new }) s.bytes.items s.end) }
+{
+    let mut bytes = Vec::new(alloc);
+    let mut piece = vec![in alloc; 0u8; PIECE]?;
+    while bytes.len() <= SCRIPT_LIMIT {
+        match source.read(&mut piece) {
+            Ok(0) => {
+                return Ok(Script {
+                    bytes,
+                    end: End::AtEnd,
+                });
+            }
+            Ok(count) => bytes.extend_from_slice(&piece[..count])?,
+            Err(_) => {
+                return Ok(Script {
+                    bytes,
+                    end: End::Failed,
+                });
+            }
+        }
+    }
+    bytes.truncate(SCRIPT_LIMIT);
+    Ok(Script {
+        bytes,
+        end: End::TooLong,
+    })
+}

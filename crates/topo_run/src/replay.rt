@@ -1,0 +1,113 @@
+ghost use Rattle.std.specs.Prelude.{◌≡◌, ◌≤◌, ◌++◌, ◌||◌, ◌×◌, ℕ, List, string_bytes, IfOk, OnOk, OnErr, IsErrOf};
+ghost use Rattle.std.specs.Io.KnownBytes.{Appends};
+ghost use Rattle.text_terms.specs.Lines.{lines_of};
+ghost use Rattle.script_terms.specs.State.{empty_state};
+ghost use Rattle.script_terms.specs.Run.{IsPrefix, WritesRun, WritesPrefix};
+ghost use Rattle.topo_outside.specs.Causes.{Rose};
+ghost use Rattle.topo_run.specs.Ends.{EndsAs};
+ghost use Rattle.topo_run.specs.Stops.{stop_of};
+ghost use Rattle.topo_run.specs.declared.replay.Stop.TheVariants as stop;
+
+use crate::answer::answer_line;
+use crate::lines::split_line;
+use crate::read::read_script;
+use crate::status::{Status, is_at_end, status_of};
+use crate::world::World;
+use crate::write::write_all;
+use std::alloc::Global;
+use topo_core::NoMemory;
+use topo_outside::{Sink, SinkFault, Source};
+
+// So many bytes of replies are gathered before they are written.
+const GATHERED: usize = 65_536;
+
+/// Why the answering ended early.
+#[derive(Clone, Copy)]
+pub enum Stop {
+    Write,
+    NoMemory,
+}
+
+impl From<SinkFault> for Stop {
+    ghost from_gives = { stop_of };
+
+    fn from(fault: SinkFault) -> Self {
+        match fault {
+            SinkFault::Failed => Stop::Write,
+            SinkFault::NoMemory => Stop::NoMemory,
+        }
+    }
+}
+
+impl From<NoMemory> for Stop {
+    ghost from_gives = { λ _ e. e ≡ stop.NoMemory };
+
+    fn from(_: NoMemory) -> Self {
+        Stop::NoMemory
+    }
+}
+
+fn either(a: bool, b: bool) -> bool
+    ensures { result ≡ (a || b) }
+{
+    a || b
+}
+
+// Writes the replies that are gathered, where they are many; what is left of them is gathered still.
+fn write_if_many<K: Sink>(sink: &mut K, gathered: &mut String) -> Result<(), SinkFault>
+    ensures ok { OnOk result ((front : List ℕ) × (string_bytes gathered.old ≡ front ++ string_bytes gathered.new) × Appends (K.written sink.old) (K.written sink.new) front) }
+    ensures err { OnErr result ((front : List ℕ) × IsPrefix front (string_bytes gathered.old) × Appends (K.written sink.old) (K.written sink.new) front) }
+    ensures later { K.faults sink.old ≤ K.faults sink.new }
+    ensures failed { IsErrOf result SinkFault.Failed → Rose (K.faults sink.old) (K.faults sink.new) }
+{
+    if gathered.len() < GATHERED {
+        return Ok(());
+    }
+    write_all(sink, gathered.as_bytes())?;
+    gathered.clear();
+    Ok(())
+}
+
+/// Answers the lines of a text from the empty state, and tells whether one was refused.
+fn answer_all<K: Sink>(
+    alloc: Global,
+    text: &[u8],
+    whole: bool,
+    sink: &mut K,
+) -> Result<bool, Stop>
+    ensures ok { IfOk result (λ refused. WritesRun empty_state (lines_of whole text.now) (K.written sink.old) (K.written sink.new) refused) }
+    ensures err { OnErr result (WritesPrefix empty_state (lines_of whole text.now) (K.written sink.old) (K.written sink.new)) }
+    ensures later { K.faults sink.old ≤ K.faults sink.new }
+    ensures failed { IsErrOf result Stop.Write → Rose (K.faults sink.old) (K.faults sink.new) }
+{
+    let mut world = World::new(alloc);
+    let mut gathered = String::new(alloc);
+    let mut refused = false;
+    let mut rest = text;
+    while let Some((line, after)) = split_line(rest, whole) {
+        let bad = answer_line(&mut world, line, &mut gathered)?;
+        write_if_many(sink, &mut gathered)?;
+        refused = either(refused, bad);
+        rest = after;
+    }
+    write_all(sink, gathered.as_bytes())?;
+    Ok(refused)
+}
+
+/// Replays the script of a source from the empty topology.
+pub fn replay<S: Source, K: Sink>(alloc: Global, source: &mut S, sink: &mut K) -> Status
+    ensures ends { EndsAs
+        (record { old = S.left source.old; new = S.left source.new; before = S.faults source.old; now = S.faults source.new })
+        (record { old = K.written sink.old; new = K.written sink.new; before = K.faults sink.old; now = K.faults sink.new })
+        result }
+    ensures counts { (S.faults source.old ≤ S.faults source.new) × (K.faults sink.old ≤ K.faults sink.new) }
+{
+    let Ok(script) = read_script(alloc, source) else {
+        return Status::NoMemory;
+    };
+    match answer_all(alloc, &script.bytes, is_at_end(script.end), sink) {
+        Ok(refused) => status_of(script.end, refused),
+        Err(Stop::Write) => Status::WriteFault,
+        Err(Stop::NoMemory) => Status::NoMemory,
+    }
+}
