@@ -12,3 +12,4 @@ pub mod Steps
 pub mod Those
 pub mod Pairs
 pub mod Selections
+pub mod Answering
