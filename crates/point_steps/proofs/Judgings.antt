@@ -12,8 +12,9 @@ use Rattle.topology_terms.specs.Feature as feature_list
 use Rattle.topology_terms.specs.Entry.{Entry, IsKeyBelow}
 use Rattle.topology_terms.specs.Entry as entry_list
 use Rattle.topology_terms.specs.Project.{Project, InForce}
+use Rattle.sound_steps.proofs.FeatureLists.{ascending_filter}
 use Rattle.point_steps.specs.Points.{is_selected, is_partner, pair_entry, judged_entries, kept_entries, entries_after, are_plain_rules}
-use Rattle.point_steps.proofs.ListTests.{Has, every_mapped, some_mapped, every_joined, every_filtered, every_flattened, every_has}
+use Rattle.point_steps.proofs.ListTests.{Has, every_mapped, some_mapped, every_joined, every_filtered, every_passing, every_flattened, every_has}
 use Rattle.point_steps.proofs.PlainFacts.{IsPlainEntry}
 
 abbrev pub OfSubject : ℕ → ℕ → Entry → Type 0
@@ -29,28 +30,15 @@ judged_of : (r : ℕ) (a : Feature) (gs : List Feature) → Every (OfSubject r a
 judged_of r a [] = tt
 judged_of r a (g ∷ gs) = ((refl, refl), judged_of r a gs)
 
-every_entry : (es : List Entry) → Every (λ (e : Entry). Unit {0}) es
-every_entry [] = tt
-every_entry (e ∷ es) = (tt, every_entry es)
-
 kept_of : (es : List Entry) (rule : InForce) (a : Feature) → Every (OfSubject rule.number a.handle) (kept_entries es rule a)
-kept_of es rule a = every_filtered (λ e. Unit {0}) (OfSubject rule.number a.handle) (λ (e : Entry). (e.rule == rule.number) && (e.subject == a.handle))
-    (λ e u k. let w = and_parts (e.rule == rule.number) (e.subject == a.handle) k in (eqb-true e.rule rule.number w.0, eqb-true e.subject a.handle w.1)) es (every_entry es)
+kept_of es rule a = every_passing (OfSubject rule.number a.handle) (λ (e : Entry). (e.rule == rule.number) && (e.subject == a.handle))
+    (λ e k. let w = and_parts (e.rule == rule.number) (e.subject == a.handle) k in (eqb-true e.rule rule.number w.0, eqb-true e.subject a.handle w.1)) es
 
 pub after_of : (p : Project) (rule : InForce) (a : Feature) → Every (OfSubject rule.number a.handle) (entries_after p rule a)
 after_of p rule a = chosen (Every (OfSubject rule.number a.handle)) (is_selected p.dirt a) (judged_entries p.features rule a) (kept_entries p.entries rule a)
     (judged_of rule.number a (filter (is_partner rule.row.origin.class a) p.features)) (kept_of p.entries rule a)
 
 -- ---- they ascend
-ascending_if : (b : Bool) (f : Feature) (fs : List Feature) → Every (λ (g : Feature). f.handle < g.handle) fs → feature_list.IsAscending fs → feature_list.IsAscending (cond b (f ∷ fs) fs)
-ascending_if true f fs h k = (h, k)
-ascending_if false f fs h k = k
-
-features_filtered : (test : Feature → Bool) (F : List Feature) → feature_list.IsAscending F → feature_list.IsAscending (filter test F)
-features_filtered test [] h = tt
-features_filtered test (f ∷ fs) h = ascending_if (test f) f (filter test fs)
-    (every_filtered (λ (g : Feature). f.handle < g.handle) (λ (g : Feature). f.handle < g.handle) test (λ g k t. k) fs h.0) (features_filtered test fs h.1)
-
 keys_if : (b : Bool) (e : Entry) (es : List Entry) → Every (IsKeyBelow e) es → entry_list.IsAscending es → entry_list.IsAscending (cond b (e ∷ es) es)
 keys_if true e es h k = (h, k)
 keys_if false e es h k = k
@@ -69,7 +57,7 @@ pairs_ascend r a (g ∷ gs) h = (pairs_above r a g gs h.0, pairs_ascend r a gs h
 
 after_ascend : (p : Project) (rule : InForce) (a : Feature) → feature_list.IsAscending p.features → entry_list.IsAscending p.entries → entry_list.IsAscending (entries_after p rule a)
 after_ascend p rule a h k = chosen entry_list.IsAscending (is_selected p.dirt a) (judged_entries p.features rule a) (kept_entries p.entries rule a)
-    (pairs_ascend rule.number a (filter (is_partner rule.row.origin.class a) p.features) (features_filtered (is_partner rule.row.origin.class a) p.features h))
+    (pairs_ascend rule.number a (filter (is_partner rule.row.origin.class a) p.features) (ascending_filter (is_partner rule.row.origin.class a) p.features h))
     (entries_filtered (λ (e : Entry). (e.rule == rule.number) && (e.subject == a.handle)) p.entries k)
 
 keys_joined : (es fs : List Entry) → entry_list.IsAscending es → entry_list.IsAscending fs → Every (λ e. Every (IsKeyBelow e) fs) es → entry_list.IsAscending (es ++ fs)

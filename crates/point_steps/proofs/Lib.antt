@@ -12,4 +12,6 @@ pub mod Steps
 pub mod Those
 pub mod Pairs
 pub mod Selections
+pub mod Validations
 pub mod Answering
+mod Rows

@@ -1,5 +1,5 @@
 -- The entry of a key in lists that are made of others.
-use Rattle.std.proofs.Common.{◌≡◌, ◌⊎◌, inl, inr, ℕ, ◌<◌, Bool, true, false, refl, sym, ap, ◌∙◌, arith, List, [], ◌∷◌, ◌++◌, Option, Some, None}
+use Rattle.std.proofs.Common.{◌≡◌, ◌⊎◌, inl, inr, ℕ, ◌<◌, Bool, true, false, refl, sym, ◌∙◌, arith, List, [], ◌∷◌, ◌++◌, Option, Some, None}
 use Rattle.std.specs.Prelude.{cond}
 use Rattle.std.specs.List.{filter, flat_map}
 use Rattle.std.proofs.lemmas.Bool.{cases_Bool}
@@ -10,9 +10,9 @@ use Rattle.topology_terms.specs.Feature as feature_list
 use Rattle.topology_terms.specs.Broken.{Row}
 use Rattle.topology_terms.specs.Entry.{Entry, has_key, entry_at}
 use Rattle.topology_terms.specs.Project.{InForce, rule_at}
+use Rattle.sound_steps.proofs.FeatureLists.{at_handle, past_handle}
 use Rattle.sound_steps.proofs.Lists.{at_key, past_key, same_key}
 use Rattle.point_steps.proofs.ListTests.{every_mapped, every_flattened}
-use Rattle.point_steps.proofs.Orders.{at_head, past_head}
 use Rattle.point_steps.proofs.Judgings.{OfSubject}
 
 -- what is said of each entry is said of one that is found
@@ -24,17 +24,10 @@ of_found P (x ∷ xs) r a b e h k = elim (cases_Bool (has_key x r a b)) [
   | inr t ↦ of_found P xs r a b e h.1 (sym (past_key x xs r a b t) ∙ k)
 ]
 
-pub entry_or_none : (o : Option Entry) → ((e : Entry) × (o ≡ Some e)) ⊎ (o ≡ None)
-entry_or_none None = inr refl
-entry_or_none (Some e) = inl (e, refl)
-
-pub feature_or_none : (o : Option Feature) → ((f : Feature) × (o ≡ Some f)) ⊎ (o ≡ None)
-feature_or_none None = inr refl
-feature_or_none (Some f) = inl (f, refl)
-
-pub nothing_at : (r a b : ℕ) → entry_at [] r a b ≡ None
-unfolding entry_at
-nothing_at r a b = refl
+-- something or nothing
+pub given_or_none : {A : Type 0} (o : Option A) → ((x : A) × (o ≡ Some x)) ⊎ (o ≡ None)
+given_or_none None = inr refl
+given_or_none (Some x) = inl (x, refl)
 
 -- none of the rule and subject
 pub none_of : (es : List Entry) (r a b : ℕ) → Every (λ (e : Entry). OfSubject r a e → ⊥) es → entry_at es r a b ≡ None
@@ -91,9 +84,9 @@ module _ (n : ℕ) (g : Feature → List Entry) (of : (f : Feature) → Every (O
   in_own [] f a u k r b = cc
   in_own (x ∷ xs) f a u k r b = elim (eqb_tells x.handle a) [
     | inl t ↦
-        let same : x ≡ f = (let l : Some x ≡ Some f = sym (at_head x xs a t.1) ∙ k in cc) in
+        let same : x ≡ f = (let l : Some x ≡ Some f = sym (at_handle x xs a t.0) ∙ k in cc) in
         rw (← same) (in_first (g x) (flat_map g xs) r a b (above_none xs r a b (rw t.1 at u.0)))
-    | inr t ↦ in_second (g x) (flat_map g xs) r a b (others_none x r a b t.1) ∙ in_own xs f a u.1 (sym (past_head x xs a t.1) ∙ k) r b
+    | inr t ↦ in_second (g x) (flat_map g xs) r a b (others_none x r a b t.1) ∙ in_own xs f a u.1 (sym (past_handle x xs a t.0) ∙ k) r b
   ]
 
 -- ---- rules

@@ -1,17 +1,15 @@
 -- The pairs of a point are those that its rule's sentence tells, and the entries of them are those of the cutting.
-use Rattle.std.proofs.Common.{◌≡◌, ◌⊎◌, inl, inr, ℕ, ◌<◌, ℤ, pos, negsuc, neg_ℤ, zero, suc, ◌*◌, ◌+ℤ◌, ◌*ℤ◌, ◌≤ℤ◌, Bool, true, false, not, ◌&&◌, refl, sym, ap, ◌∙◌, arith, List, [], ◌∷◌, map, Option, Some, None, eq-eqb, eqb-true, lit<}
-use Rattle.std.specs.Prelude.{◌==◌, nat_lt, cond, if◌then◌else◌, Decides}
-use Rattle.std.specs.List.{filter, flat_map}
+use Rattle.std.proofs.Common.{◌≡◌, inl, inr, ℕ, ◌<◌, Bool, true, false, not, ◌&&◌, refl, sym, ap, ◌∙◌, arith, List, [], ◌∷◌, map, Option, Some, eq-eqb, eqb-true}
+use Rattle.std.specs.Prelude.{Decides, ◌==◌, nat_lt, if◌then◌else◌}
+use Rattle.std.specs.List.{filter}
 use Rattle.std.specs.Ordering.{int_eq}
 use Rattle.std.proofs.lemmas.Int.{ints}
-use Rattle.std.proofs.Math.Nat.{zero-mul}
-use Rattle.std.proofs.Math.IntN.{negsuc-*ℤ-pos, neg_ℤ-neg_ℤ}
 use Rattle.std.proofs.lemmas.Bool.{and_parts, and_from, ltb-true, lt-ltb, not_from_false}
-use Rattle.std.proofs.lemmas.Bool.Decides.{nat_tests, Decides-int_eq, eqb_tells}
+use Rattle.std.proofs.lemmas.Bool.Decides.{nat_tests, Decides-int_eq}
 use Rattle.plane_terms.specs.Lists.{Every, IsThose}
 use Rattle.plane_terms.specs.Point.{Place, Point, IsAt, same_place}
 use Rattle.plane_terms.specs.Rectangle.{Rectangle, RectHolds, IsWithin, rect_at, rects_meet}
-use Rattle.plane_terms.specs.Cell.{Cell, InCell, InCells, IsLeastFrame, at_place}
+use Rattle.plane_terms.specs.Cell.{IsLeastFrame, at_place}
 use Rattle.plane_terms.proofs.Points.{point_at}
 use Rattle.topology_terms.specs.Feature.{Feature, Side, is_on_side, feature_at, place, env}
 use Rattle.topology_terms.specs.Feature as feature_list
@@ -20,31 +18,20 @@ use Rattle.topology_terms.specs.Rules.PointMustBeDisjoint as point_must_be_disjo
 use Rattle.topology_terms.specs.declared.rule_kind.RuleKind.{RuleKind}
 use Rattle.topology_terms.specs.declared.rule_kind.RuleKind.TheVariants as kind
 use Rattle.topology_terms.specs.Meaning.{Finding, finding_at}
-use Rattle.topology_terms.specs.Cutting.{near, near_after, pair_findings, place_cells, BreaksAt, AreBrokenPairs, cutting_by, IsCutting}
+use Rattle.topology_terms.specs.Cutting.{near_after, pair_findings, place_cells, BreaksAt, AreBrokenPairs, cutting_by, IsCutting}
 use Rattle.topology_terms.specs.Poster.{poster}
 use Rattle.topology_terms.specs.Entry.{Entry, has_key, entry_at}
 use Rattle.topology_terms.specs.Settled.{IsEntryOf, AreAlike, AreOf, AreCut}
-use Rattle.sound_steps.proofs.Planes.{le_from_scaled}
+use Rattle.sound_steps.proofs.Places.{at_place_points, place_one}
+use Rattle.sound_steps.proofs.Disjoint.{at_held}
+use Rattle.sound_steps.proofs.Nears.{is_near}
 use Rattle.point_steps.specs.Points.{is_point, is_partner, pair_entry}
-use Rattle.point_steps.proofs.ListTests.{Has, every_mapped, every_has}
+use Rattle.point_steps.proofs.ListTests.{Has, every_both, every_has}
 use Rattle.point_steps.proofs.Envelopes.{point_shape_of, envelope_at_place}
 use Rattle.point_steps.proofs.Orders.{found_at}
 use Rattle.point_steps.proofs.Those.{those_among, filter_twice}
 
 -- ---- places
-pub same_coordinate : (a b x : ℤ) (w : ℕ) → 0 < w → x ≡ a *ℤ pos w → x ≡ b *ℤ pos w → a ≡ b
-same_coordinate a b x w h k m =
-    let u = le_from_scaled a b w h (omega (arith, ints, k, m)) in
-    let v = le_from_scaled b a w h (omega (arith, ints, k, m)) in
-    omega (arith, ints, u, v)
-
--- one point is at one place
-pub one_place : (a b : Place) (p : Point) → IsAt a p → IsAt b p → a ≡ b
-one_place a b p h k =
-    let x = same_coordinate a.x b.x p.x p.w p.positive h.x k.x in
-    let y = same_coordinate a.y b.y p.y p.w p.positive h.y k.y in
-    λ i. record { x = x i; y = y i }
-
 pub place_same : (a b : Place) → same_place a b ≡ true → a ≡ b
 place_same a b h =
     let k = and_parts (int_eq a.x b.x) (int_eq a.y b.y) h in
@@ -59,33 +46,13 @@ pub at_itself : (q : Place) → IsAt q (point_at q)
 at_itself q = record { x = omega (arith, ints); y = omega (arith, ints) }
 
 -- ---- the cell of a place
-neg_scaled : (v : ℤ) (w : ℕ) → neg_ℤ v *ℤ pos w ≡ neg_ℤ (v *ℤ pos w)
-neg_scaled (pos zero) w = rw (zero-mul w) refl
-neg_scaled (pos (suc n)) w = negsuc-*ℤ-pos n w
-neg_scaled (negsuc n) w = rw (negsuc-*ℤ-pos n w, neg_ℤ-neg_ℤ (pos (suc n * w))) refl
-
-on_x : (v x y : ℤ) (w : ℕ) → pos 1 *ℤ x +ℤ pos 0 *ℤ y +ℤ neg_ℤ v *ℤ pos w ≡ pos 0 → x ≡ v *ℤ pos w
-on_x v x y w h = omega (arith, ints, neg_scaled v w)
-
-on_y : (v x y : ℤ) (w : ℕ) → pos 0 *ℤ x +ℤ pos 1 *ℤ y +ℤ neg_ℤ v *ℤ pos w ≡ pos 0 → y ≡ v *ℤ pos w
-on_y v x y w h = omega (arith, ints, neg_scaled v w)
-
-in_cell_at : (q : Place) (p : Point) → InCell (at_place q) p → IsAt q p
-in_cell_at q p h = record { x = on_x q.x p.x p.y p.w h.0; y = on_y q.y p.x p.y p.w h.1.0 }
-
-pub held_at : (q : Place) (p : Point) → IsAt q p → RectHolds (rect_at q) p
-held_at q p h = record { left = omega (arith, ints, h.x); right = omega (arith, ints, h.x); below = omega (arith, ints, h.y); above = omega (arith, ints, h.y) }
-
-own_cell : (q : Place) → InCell (at_place q) (point_at q)
-own_cell q = (omega (arith, ints), (omega (arith, ints), tt))
-
 around_point : (q : Place) (s : Rectangle) → RectHolds s (point_at q) → IsWithin (rect_at q) s
 around_point q s h = record { left = omega (arith, ints, h.left); right = omega (arith, ints, h.right); below = omega (arith, ints, h.below); above = omega (arith, ints, h.above) }
 
 pub least_frame : (q : Place) → IsLeastFrame (rect_at q) (at_place q ∷ [])
 least_frame q = record {
-  holds = λ p c. elim c [ inl k ↦ held_at q p (in_cell_at q p k) | inr k ↦ absurd k ];
-  least = λ s h. around_point q s (h (point_at q) (inl (own_cell q)));
+  holds = λ p c. elim c [ inl k ↦ at_held q p ((at_place_points q p).0 k) | inr k ↦ absurd k ];
+  least = λ s h. around_point q s (h (point_at q) (inl ((at_place_points q (point_at q)).1 (at_itself q))));
 }
 
 -- ---- partners
@@ -115,25 +82,20 @@ partner_test : (class : ℕ) (f g : Feature) → ArePartners class f g → is_pa
 partner_test class f g h =
     let same = same_place (place f) (place g) in
     and_from (nat_lt f.handle g.handle) ((f.class == class) && ((g.class == class) && same)) (lt-ltb f.handle g.handle h.first)
-      (and_from (f.class == class) ((g.class == class) && same) (eq-eqb f.class class h.class_of)
-      (and_from (g.class == class) same (eq-eqb g.class class h.partner_class) (place_test (place f) (place g) h.same)))
+    (and_from (f.class == class) ((g.class == class) && same) (eq-eqb f.class class h.class_of)
+    (and_from (g.class == class) same (eq-eqb g.class class h.partner_class) (place_test (place f) (place g) h.same)))
 
 meets_itself : (q : Place) → rects_meet (rect_at q) (rect_at q) ≡ true
 meets_itself q = grind (arith, ints)
 
--- the tests of near_after
-near_test : Side → Feature → Feature → Bool
-near_test A f g = is_on_side A g && (rects_meet (env f) (env g) && not (g.handle == f.handle))
-
-partner_near : (A : Side) (f g : Feature) → env f ≡ rect_at (place f) → env g ≡ rect_at (place g) → ArePartners A.class f g → (near_test A f g && nat_lt f.handle g.handle) ≡ true
-unfolding near_test
+partner_near : (A : Side) (f g : Feature) → env f ≡ rect_at (place f) → env g ≡ rect_at (place g) → ArePartners A.class f g → (is_near A f g && nat_lt f.handle g.handle) ≡ true
 partner_near A f g u v h =
     let meet : rects_meet (env f) (env g) ≡ true = rw (u, v, h.same) (meets_itself (place g)) in
     let other : (g.handle == f.handle) ≡ false = (let l = h.first in grind (arith, nat_tests)) in
     and_from (is_on_side A g && (rects_meet (env f) (env g) && not (g.handle == f.handle))) (nat_lt f.handle g.handle)
-      (and_from (is_on_side A g) (rects_meet (env f) (env g) && not (g.handle == f.handle)) (eq-eqb g.class A.class h.partner_class)
-      (and_from (rects_meet (env f) (env g)) (not (g.handle == f.handle)) meet (not_from_false (g.handle == f.handle) other)))
-      (lt-ltb f.handle g.handle h.first)
+    (and_from (is_on_side A g) (rects_meet (env f) (env g) && not (g.handle == f.handle)) (eq-eqb g.class A.class h.partner_class)
+    (and_from (rects_meet (env f) (env g)) (not (g.handle == f.handle)) meet (not_from_false (g.handle == f.handle) other)))
+    (lt-ltb f.handle g.handle h.first)
 
 partner_breaks : (row : Row) (F : List Feature) (f g : Feature) → feature_at F f.handle ≡ Some f → feature_at F g.handle ≡ Some g → ArePartners row.origin.class f g → BreaksAt row F f.handle g.handle (place f)
 unfolding BrokenAt
@@ -164,26 +126,31 @@ broken_partner row F f g u v h =
       first = s.first;
       class_of = rw df at s.subject.on_side.class;
       partner_class = rw dg at s.partner.on_side.class;
-      same = rw (df, dg) at (one_place (place s.f) (place s.g) h.0 s.a_at s.b_at);
+      same = rw (df, dg) at (place_one (place s.f) (place s.g) h.0 s.a_at s.b_at);
     }
+
+pub point_envelope : (f : Feature) → is_point f ≡ true → env f ≡ rect_at (place f)
+point_envelope f e = envelope_at_place f.shape (point_shape_of f e)
+
+-- the test decides whether a live point is near and after, and the sentence tells the pair
+abbrev IsToldNear : Row → List Feature → Feature → Feature → Type 0
+IsToldNear row F f g = ((is_near row.origin f g && nat_lt f.handle g.handle) ≡ true) × BreaksAt row F f.handle g.handle (place f)
+
+partner_decided : (row : Row) (F : List Feature) (f g : Feature) → is_point f ≡ true → is_point g ≡ true → feature_at F f.handle ≡ Some f → feature_at F g.handle ≡ Some g
+    → Decides (is_partner row.origin.class f g) (IsToldNear row F f g)
+partner_decided row F f g u v live found = (
+  (λ t. let k = partner_facts row.origin.class f g t in (partner_near row.origin f g (point_envelope f u) (point_envelope g v) k, partner_breaks row F f g live found k)),
+  (λ k. partner_test row.origin.class f g (broken_partner row F f g live found k.1)),
+)
 
 -- the partners by the test are those of the sentence
 pub partners_told : (row : Row) (F : List Feature) (f : Feature) → feature_list.IsAscending F → Every (λ g. is_point g ≡ true) F → is_point f ≡ true → feature_at F f.handle ≡ Some f
     → IsThose (λ (g : Feature). BreaksAt row F f.handle g.handle (place f)) (near_after row.origin f F) (filter (is_partner row.origin.class f) F)
-unfolding near_test
 partners_told row F f u points point live =
-    let envelope : (g : Feature) → is_point g ≡ true → env g ≡ rect_at (place g) = λ g e. envelope_at_place g.shape (point_shape_of g e) in
-    rw (filter_twice (near_test row.origin f) (λ (g : Feature). nat_lt f.handle g.handle) F)
-      (those_among (λ (g : Feature). BreaksAt row F f.handle g.handle (place f)) (λ g. near_test row.origin f g && nat_lt f.handle g.handle) (is_partner row.origin.class f) F
-      (every_with F points (every_has F) (λ g e m.
-      let found = found_at F g u m in (
-        (λ t. let k = partner_facts row.origin.class f g t in (partner_near row.origin f g (envelope f point) (envelope g e) k, partner_breaks row F f g live found k)),
-        (λ k. partner_test row.origin.class f g (broken_partner row F f g live found k.1)),
-      ))))
-  where
-    every_with : {P Q R : Feature → Type 0} (G : List Feature) → Every P G → Every Q G → ((g : Feature) → P g → Q g → R g) → Every R G
-    every_with [] h k f = tt
-    every_with (g ∷ gs) h k f = (f g h.0 k.0, every_with gs h.1 k.1 f)
+    let decided = every_both (λ g. is_point g ≡ true) (Has F) (λ g. Decides (is_partner row.origin.class f g) (IsToldNear row F f g))
+    (λ g e m. partner_decided row F f g point e live (found_at F g u m)) F points (every_has F) in
+    rw (filter_twice (is_near row.origin f) (λ (g : Feature). nat_lt f.handle g.handle) F)
+    (those_among (λ (g : Feature). BreaksAt row F f.handle g.handle (place f)) (λ g. is_near row.origin f g && nat_lt f.handle g.handle) (is_partner row.origin.class f) F decided)
 
 -- ---- findings and entries
 finding_alike : (f : Feature) (x : Finding) (e : Entry) (c : Bool) (o : Option Finding) (q : Option Entry) → IsEntryOf f x e → AreAlike f o q → AreAlike f (if c then Some x else o) (if c then Some e else q)
@@ -213,8 +180,7 @@ pub pairs_cut : (row : Row) (F : List Feature) (f : Feature) (es : List Entry) (
 unfolding IsCutting
 pairs_cut row F f es r u points point live same =
     let partners = filter (is_partner row.origin.class f) F in
-    let findings = pair_findings (λ g. place_cells (place f ∷ [])) partners in
-    (
+    let findings = pair_findings (λ g. place_cells (place f ∷ [])) partners in (
       findings,
       (f, live, by_kind row.kind row F f findings (record { chosen = partners; those = partners_told row F f u points point live; findings = refl })),
       (λ b. rw (same b) (pairs_alike r f partners b)),

@@ -1,9 +1,9 @@
 -- What each change keeps of a project of one class of points.
-use Rattle.std.proofs.Common.{◌≡◌, inl, inr, ℕ, ◌+◌, ◌<◌, Bool, true, false, not, refl, arith, List, [], ◌∷◌, ◌++◌}
+use Rattle.std.proofs.Common.{◌≡◌, ℕ, ◌+◌, ◌<◌, Bool, true, false, not, refl, arith, List, [], ◌∷◌, ◌++◌}
 use Rattle.std.specs.Prelude.{if◌then◌else◌}
 use Rattle.std.specs.List.{list_any, filter}
 use Rattle.std.proofs.lemmas.Int.{ints}
-use Rattle.plane_terms.specs.Lists.{Every, SomeOf}
+use Rattle.plane_terms.specs.Lists.{Every}
 use Rattle.plane_terms.specs.Point.{Place, IsInReach}
 use Rattle.plane_terms.specs.Rectangle.{Rectangle, rect_at, is_within, whole_grid, IsRectangle}
 use Rattle.plane_terms.specs.Dirt.{add_dirt}
@@ -11,6 +11,7 @@ use Rattle.topology_terms.specs.Feature.{Feature, place}
 use Rattle.topology_terms.specs.Feature as feature_list
 use Rattle.topology_terms.specs.Entry.{Entry}
 use Rattle.topology_terms.specs.Project.{Project, InForce, empty_project}
+use Rattle.plane_terms.proofs.ListLemmas.{SomeOf-append_left}
 use Rattle.point_steps.specs.Points.{with_class, disjoint_rule, with_rule, point_feature, with_point, validated, is_point, is_plain}
 use Rattle.point_steps.proofs.ListTests.{every_mapped, every_joined, every_filtered}
 use Rattle.point_steps.proofs.Envelopes.{rect_in_reach, reach_test}
@@ -59,12 +60,8 @@ ascending_end : (F : List Feature) (g : Feature) → feature_list.IsAscending F 
 ascending_end [] g h k = (tt, tt)
 ascending_end (f ∷ fs) g h k = (every_joined (λ (x : Feature). f.handle < x.handle) fs (g ∷ []) h.0 (k.0, tt), ascending_end fs g h.1 k.1)
 
-some_left : (P : Feature → Type 0) (F G : List Feature) → SomeOf P F → SomeOf P (F ++ G)
-some_left P [] G h = absurd h
-some_left P (f ∷ fs) G h = elim h [ inl k ↦ inl k | inr k ↦ inr (some_left P fs G k) ]
-
 entry_still : (rules : List InForce) (F : List Feature) (g : Feature) (e : Entry) → IsPlainEntry rules F e → IsPlainEntry rules (F ++ g ∷ []) e
-entry_still rules F g e h = record { ruled = h.ruled; in_part = h.in_part; unmarked = h.unmarked; subject = some_left (λ (f : Feature). (f.handle ≡ e.subject) × (e.frame ≡ rect_at (place f))) F (g ∷ []) h.subject }
+entry_still rules F g e h = record { ruled = h.ruled; in_part = h.in_part; unmarked = h.unmarked; subject = SomeOf-append_left (λ (f : Feature). (f.handle ≡ e.subject) × (e.frame ≡ rect_at (place f))) F (g ∷ []) h.subject }
 
 pub plain_point : (p : Project) (class : ℕ) (q : Place) → IsInReach q → is_plain p ≡ true → is_plain (with_point p class q) ≡ true
 plain_point p class q i h =

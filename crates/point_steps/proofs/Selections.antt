@@ -1,9 +1,8 @@
 -- A subject is selected exactly where it is a live point whose place meets the dirt.
-use Rattle.std.proofs.Common.{◌≡◌, ◌⊎◌, inl, inr, ℕ, ℤ, pos, ◌*ℤ◌, ◌≤ℤ◌, Bool, true, false, refl, sym, ap, ◌∙◌, arith, List, [], ◌∷◌, Option, Some, None}
+use Rattle.std.proofs.Common.{◌≡◌, inl, inr, ℕ, true, false, sym, ◌∙◌, arith, Some}
 use Rattle.std.specs.Prelude.{Decides}
 use Rattle.std.proofs.lemmas.Int.{ints}
-use Rattle.plane_terms.specs.Lists.{Every, SomeOf}
-use Rattle.plane_terms.specs.Point.{Place, Point, IsAt}
+use Rattle.plane_terms.specs.Point.{Place, Point}
 use Rattle.plane_terms.specs.Rectangle.{Rectangle, RectHolds, rect_at, rects_meet, whole_grid, IsRectangle}
 use Rattle.plane_terms.proofs.Points.{point_at}
 use Rattle.topology_terms.specs.Feature.{Feature, feature_at, place, env}
@@ -11,45 +10,30 @@ use Rattle.topology_terms.specs.Broken.{Row}
 use Rattle.topology_terms.specs.Entry.{Entry, entry_at}
 use Rattle.topology_terms.specs.Project.{Project, rule_at}
 use Rattle.topology_terms.specs.Changes.{TouchesSubject, IsSelected}
-use Rattle.sound_steps.proofs.Planes.{le_from_scaled, within_Holds}
+use Rattle.sound_steps.proofs.Planes.{within_Holds}
+use Rattle.sound_steps.proofs.Pieces.{meeting}
+use Rattle.sound_steps.proofs.Meetings.{meets_test}
+use Rattle.sound_steps.proofs.Disjoint.{at_held}
 use Rattle.sound_steps.proofs.Lists.{entry_key}
 use Rattle.point_steps.specs.Points.{is_selected, is_point}
 use Rattle.point_steps.proofs.ListTests.{Has, some_from_test, test_from_some, some_mapped, some_with_every, some_given, every_has}
-use Rattle.point_steps.proofs.Envelopes.{IsPointShape, point_shape_of, envelope_at_place, rect_in_reach}
+use Rattle.point_steps.proofs.Envelopes.{point_shape_of, rect_in_reach}
 use Rattle.point_steps.proofs.PlainFacts.{IsPlainEntry, IsPlain}
-use Rattle.point_steps.proofs.Orders.{every_at, found_at, found_is}
+use Rattle.point_steps.proofs.Orders.{every_at, found_at, found_has}
 use Rattle.point_steps.proofs.Lookups.{of_found, number_at}
-use Rattle.point_steps.proofs.Pairs.{at_itself, held_at}
+use Rattle.point_steps.proofs.Pairs.{at_itself, point_envelope}
 
 -- ---- a rectangle and a place
--- what holds a point of the place meets the place
-meets_by_point : (r : Rectangle) (q : Place) (p : Point) → RectHolds r p → RectHolds (rect_at q) p → rects_meet r (rect_at q) ≡ true
-meets_by_point r q p h k =
-    let left : r.x0 ≤ℤ q.x = le_from_scaled r.x0 q.x p.w p.positive (omega (arith, ints, h.left, k.right)) in
-    let right : q.x ≤ℤ r.x1 = le_from_scaled q.x r.x1 p.w p.positive (omega (arith, ints, h.right, k.left)) in
-    let below : r.y0 ≤ℤ q.y = le_from_scaled r.y0 q.y p.w p.positive (omega (arith, ints, h.below, k.above)) in
-    let above : q.y ≤ℤ r.y1 = le_from_scaled q.y r.y1 p.w p.positive (omega (arith, ints, h.above, k.below)) in
-    sides_meet r q left right below above
-  where
-    sides_meet : (r : Rectangle) (q : Place) → r.x0 ≤ℤ q.x → q.x ≤ℤ r.x1 → r.y0 ≤ℤ q.y → q.y ≤ℤ r.y1 → rects_meet r (rect_at q) ≡ true
-    sides_meet r q a b c d = grind (arith, ints)
-
-meeting_sides : (r : Rectangle) (q : Place) → rects_meet r (rect_at q) ≡ true → ((r.x0 ≤ℤ q.x) × (q.x ≤ℤ r.x1) × (r.y0 ≤ℤ q.y) × (q.y ≤ℤ r.y1))
-meeting_sides r q h = grind (arith, ints)
-
 -- what meets the place holds its point
 holds_place : (r : Rectangle) (q : Place) → rects_meet r (rect_at q) ≡ true → RectHolds r (point_at q)
-holds_place r q h = let k = meeting_sides r q h in record { left = omega (arith, ints, k.0); right = omega (arith, ints, k.1); below = omega (arith, ints, k.2); above = omega (arith, ints, k.3) }
+holds_place r q h = let k = meeting r (rect_at q) h in record { left = omega (arith, ints, k.0); right = omega (arith, ints, k.1); below = omega (arith, ints, k.2); above = omega (arith, ints, k.3) }
 
 -- ---- what a plain project says of a live feature and of an entry
 pub point_live : (p : Project) → IsPlain p → (a : ℕ) (f : Feature) → feature_at p.features a ≡ Some f → is_point f ≡ true
-point_live p n a f e = every_at (λ g. is_point g ≡ true) p.features f n.points (found_is p.features a f e).0
-
-pub handle_live : (p : Project) (a : ℕ) (f : Feature) → feature_at p.features a ≡ Some f → f.handle ≡ a
-handle_live p a f e = (found_is p.features a f e).1
+point_live p n a f e = every_at (λ g. is_point g ≡ true) p.features f n.points (found_has p.features a f e)
 
 pub envelope_live : (p : Project) → IsPlain p → (a : ℕ) (f : Feature) → feature_at p.features a ≡ Some f → env f ≡ rect_at (place f)
-envelope_live p n a f e = envelope_at_place f.shape (point_shape_of f (point_live p n a f e))
+envelope_live p n a f e = point_envelope f (point_live p n a f e)
 
 on_grid : (f : Feature) → is_point f ≡ true → IsRectangle (rect_at (place f))
 on_grid f e = let s = point_shape_of f e in rw s.shape (rect_in_reach s.at s.in_reach)
@@ -92,10 +76,9 @@ pub selected_is : (p : Project) → IsPlain p → (a : ℕ) (f : Feature) → fe
 selected_is p n a f live = (
   (λ e.
       let q = point_at (place f) in
-      let held = held_at (place f) q (at_itself (place f)) in
+      let held = at_held (place f) q (at_itself (place f)) in
       let grid = on_grid f (point_live p n a f live) in
-      let meeting = some_from_test (λ r. rects_meet r (rect_at (place f))) (λ r. rects_meet r (rect_at (place f)) ≡ true) (λ r k. k) p.dirt e in
-      (
+      let meeting = some_from_test (λ r. rects_meet r (rect_at (place f))) (λ r. rects_meet r (rect_at (place f)) ≡ true) (λ r k. k) p.dirt e in (
         q,
         some_mapped (λ r. rects_meet r (rect_at (place f)) ≡ true) (λ r. RectHolds r q) (λ r k. holds_place r (place f) k) p.dirt meeting,
         within_Holds (rect_at (place f)) whole_grid grid.on_grid q held,
@@ -104,5 +87,5 @@ selected_is p n a f live = (
   (λ s.
       let t = touched p n a s.0 s.3 in
       let held : RectHolds (rect_at (place f)) s.0 = rw (same_live p a f t.0 live t.1) at t.2 in
-      test_from_some (λ r. rects_meet r (rect_at (place f))) (λ r. RectHolds r s.0) (λ r k. meets_by_point r (place f) s.0 k held) p.dirt s.1),
+      test_from_some (λ r. rects_meet r (rect_at (place f))) (λ r. RectHolds r s.0) (λ r k. meets_test r (rect_at (place f)) (s.0, k, held)) p.dirt s.1),
 )

@@ -1,5 +1,5 @@
 -- The elements that a test lets pass are those of which its fact holds.
-use Rattle.std.proofs.Common.{◌≡◌, inl, inr, ℕ, ◌+◌, Bool, true, false, ◌&&◌, refl, ap, sym, ◌∙◌, arith, List, [], ◌∷◌}
+use Rattle.std.proofs.Common.{◌≡◌, inl, inr, ◌+◌, Bool, true, false, ◌&&◌, refl, ap, arith, List, [], ◌∷◌}
 use Rattle.std.specs.Prelude.{cond, Decides}
 use Rattle.std.specs.List.{filter, count_by}
 use Rattle.std.proofs.lemmas.List.Recursion.{is_count_by}
