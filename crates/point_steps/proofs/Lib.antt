@@ -9,3 +9,4 @@ pub mod GridCuts
 pub mod Lookups
 pub mod Headlines
 pub mod Steps
+pub mod ListKeeps
