@@ -9,6 +9,7 @@ pub mod GridCuts
 pub mod Lookups
 pub mod Headlines
 pub mod Steps
+pub mod ListKeeps
 pub mod Those
 pub mod Pairs
 pub mod Selections

@@ -10,11 +10,11 @@ use Rattle.text_terms.specs.Wkt.{IsWrittenPoint}
 use Rattle.script_terms.specs.Command.{Command, IsCommandLine, Class as AClass, Rule, Begin, Add, Validate, Dirty, Cells}
 use Rattle.script_terms.specs.Refusal.{Refusal}
 use Rattle.script_terms.specs.Reply.{Reply}
-use Rattle.script_terms.specs.State.{State, class_number}
+use Rattle.script_terms.specs.State.{State, empty_state, class_number}
 use Rattle.script_terms.specs.Answer.{IsDone, answers_by, refusal_of, row_of, number_or_0}
 use Rattle.script_terms.specs.Headline.{Headline}
 use Rattle.script_terms.specs.Run.{Reading, Skipped, Reads, Faulty, ReadsAs, Outcome, ComesOf, Step, Run, EachHeadline}
-use Rattle.sound_steps.proofs.Keeps.{class_kept, rule_kept, point_kept, validated_kept}
+use Rattle.sound_steps.proofs.Keeps.{empty_kept, class_kept, rule_kept, point_kept, validated_kept}
 use Rattle.point_steps.proofs.Envelopes.{envelope_of_point, rect_in_reach, reach_test}
 use Rattle.point_steps.proofs.Headlines.{headline_of}
 
@@ -61,3 +61,6 @@ run_headline s [] [] r k o = headline_of s.project k o
 run_headline s [] (x ∷ os) r k o = absurd r
 run_headline s (line ∷ lines) [] r k o = absurd r
 run_headline s (line ∷ lines) (x ∷ os) r k o = (headline_of s.project k o, run_headline x.after lines os r.1 (step_kept s line x r.0 k) r.0.ordered)
+
+pub empty_headline : (lines : List (List ℕ)) (os : List Outcome) → Run empty_state lines os → EachHeadline empty_state os
+empty_headline lines os r = run_headline empty_state lines os r empty_kept (record { rules = tt; features = tt; entries = tt })
