@@ -63,4 +63,4 @@ run_headline s (line ∷ lines) [] r k o = absurd r
 run_headline s (line ∷ lines) (x ∷ os) r k o = (headline_of s.project k o, run_headline x.after lines os r.1 (step_kept s line x r.0 k) r.0.ordered)
 
 pub empty_headline : (lines : List (List ℕ)) (os : List Outcome) → Run empty_state lines os → EachHeadline empty_state os
-empty_headline lines os r = run_headline empty_state lines os r empty_kept (record { rules = tt; features = tt; entries = tt })
+empty_headline lines os r = run_headline empty_state lines os r empty_kept (record { rules = tt; features = tt; next = tt; entries = tt })

@@ -59,6 +59,13 @@ impl Topology {
         }
     }
 
+    /// The law that rules, points and entries stand in the order of their keys, below the next handle.
+    pub fn order_law(&self)
+        ensures { IsOrdered self.now }
+    {
+        let _ = &self.next;
+    }
+
     pub fn has_class(&self) -> bool
         ensures { result ≡ is_nonempty self.now.classes }
     {
@@ -134,7 +141,8 @@ impl Topology {
 
     /// Judges every point that meets the dirt, and leaves no dirt.
     pub fn validate_all(&mut self) -> Result<Summary, NoMemory>
-        ensures exact { IfOk result (λ s. (self.new ≡ validated self.old) × (s.judged ≡ judged_count self.old) × (s.errors ≡ length self.new.entries) × (s.dirty ≡ 0)) }
+        ensures ok { IfOk result (λ s. IsValidation whole_grid self.old self.new s.judged s.errors s.dirty) }
+        ensures exact { OnOk result (self.new ≡ validated self.old) }
         ensures kept { IsKept self.old → IsKept self.new }
         ensures ordered { IsOrdered self.new }
         ensures err { OnErr result (self.new ≡ self.old) }

@@ -7,13 +7,14 @@ mod lines;
 mod number;
 mod parse;
 mod point;
+mod program;
 mod read;
 mod replay;
 mod reply;
-mod run;
+
 mod say;
 mod status;
 mod world;
 mod write;
 
-pub use run::{USAGE, run};
+pub use program::{USAGE, run};
