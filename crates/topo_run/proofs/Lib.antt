@@ -1,5 +1,6 @@
 pub mod Endings
 pub mod Forms
+pub mod Listings
 pub mod Numbers
 pub mod Points
 pub mod Runs

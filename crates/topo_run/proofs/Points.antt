@@ -9,7 +9,7 @@ use Rattle.std.specs.List.{list_all}
 use Rattle.std.specs.Prelude.{codes}
 use Rattle.plane_terms.specs.Point.{Place, InReach, IsInReach}
 use Rattle.text_terms.specs.Fields.{is_blank, is_digit, front_field, behind_field}
-use Rattle.text_terms.specs.Wkt.{place_text, point_text}
+use Rattle.text_terms.specs.Wkt.{point_text}
 use Rattle.topo_run.specs.Numbers.{NoPoint, AreCoordinates}
 use Rattle.topo_run.proofs.Numbers.{own}
 
@@ -34,6 +34,10 @@ number_field (negsuc n) rest h =
     let wide : suc n < 2 ^ 64 = omega (arith, ints, h.low) in
     let f = digits_field (decimal (suc n)) rest (digits_decimal own (suc n) wide) in
     (ap (λ t. 45 ∷ t) f.0, f.1)
+
+-- the two coordinates, with a space between
+abbrev place_text : Place → List ℕ
+place_text q = signed_decimal q.x ++ 32 ∷ signed_decimal q.y
 
 -- between the word and the bracket stand the coordinates
 pub inner_is : (text rest inner : List ℕ) (q : Place) → text ≡ codes "POINT (" ++ rest → rest ≡ inner ++ 41 ∷ [] → text ≡ point_text q → inner ≡ place_text q

@@ -46,11 +46,11 @@ pub fn answer_line(world: &mut World, line: &[u8], out: &mut String) -> Result<b
         Line::Skipped => Ok(false),
         Line::Reads(command) => {
             let reply = answer(world, command)?;
-            push_reply(out, world, reply)?;
+            push_reply(out, &world.topology, reply)?;
             Ok(is_refusal(reply))
         }
         Line::Faulty => {
-            push_reply(out, world, Reply::Refused(Refusal::NotALine))?;
+            push_reply(out, &world.topology, Reply::Refused(Refusal::NotALine))?;
             Ok(true)
         }
     }

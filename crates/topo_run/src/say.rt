@@ -7,10 +7,9 @@ ghost use Rattle.plane_terms.specs.Cell.{at_place};
 ghost use Rattle.script_terms.specs.Refusal.{refusal_text};
 ghost use Rattle.script_terms.specs.Reply.{Judged, Refused, reply_text, rect_text, half_text, cell_line, dirty_line, entry_line, entry_lines, total_line};
 ghost use Rattle.topo_core.specs.Parts.{entry_of_pair};
-ghost use Rattle.topo_run.specs.Worlds.{reply_of, refusal_of};
+ghost use Rattle.topo_run.specs.Replies.{said_of, refusal_of};
 
 use crate::reply::{Refusal, Reply};
-use crate::world::World;
 use grid_plane::{GridPoint, Rect};
 use std::alloc::AllocError;
 use topo_core::{Pair, Summary, Topology};
@@ -122,19 +121,19 @@ fn push_total(out: &mut String, total: usize) -> Result<(), AllocError>
     writeln!(out, "total {total}")
 }
 
-fn push_dirty_list(out: &mut String, world: &World) -> Result<(), AllocError>
-    ensures { OnOk result (string_bytes out.new ≡ string_bytes out.old ++ reply_text (reply_of world.now Reply.DirtyList)) }
+fn push_dirty_list(out: &mut String, topology: &Topology) -> Result<(), AllocError>
+    ensures { OnOk result (string_bytes out.new ≡ string_bytes out.old ++ reply_text (said_of topology.now Reply.DirtyList)) }
 {
-    push_dirty_lines(out, &world.topology)?;
-    push_total(out, world.topology.dirt_len())?;
+    push_dirty_lines(out, topology)?;
+    push_total(out, topology.dirt_len())?;
     Ok(())
 }
 
-fn push_cell_list(out: &mut String, world: &World) -> Result<(), AllocError>
-    ensures { OnOk result (string_bytes out.new ≡ string_bytes out.old ++ reply_text (reply_of world.now Reply.CellList)) }
+fn push_cell_list(out: &mut String, topology: &Topology) -> Result<(), AllocError>
+    ensures { OnOk result (string_bytes out.new ≡ string_bytes out.old ++ reply_text (said_of topology.now Reply.CellList)) }
 {
-    push_entries(out, &world.topology)?;
-    push_total(out, world.topology.entry_len())?;
+    push_entries(out, topology)?;
+    push_total(out, topology.entry_len())?;
     Ok(())
 }
 
@@ -165,16 +164,17 @@ fn push_judged(out: &mut String, summary: Summary) -> Result<(), AllocError>
     writeln!(out, "ok judged {judged} errors {errors} dirty {dirty}")
 }
 
-/// Appends the text of a reply.
-pub fn push_reply(out: &mut String, world: &World, reply: Reply) -> Result<(), AllocError>
-    ensures { OnOk result (string_bytes out.new ≡ string_bytes out.old ++ reply_text (reply_of world.now reply)) }
+/// Appends the text of a reply, each line with one LF. A listing lists this topology. After an `Err`, want of memory,
+/// `out` is not specified.
+pub fn push_reply(out: &mut String, topology: &Topology, reply: Reply) -> Result<(), AllocError>
+    ensures { OnOk result (string_bytes out.new ≡ string_bytes out.old ++ reply_text (said_of topology.now reply)) }
 {
     match reply {
         Reply::Done => writeln!(out, "ok"),
         Reply::Number(n) => writeln!(out, "ok {n}"),
         Reply::Judged(summary) => push_judged(out, summary),
-        Reply::DirtyList => push_dirty_list(out, world),
-        Reply::CellList => push_cell_list(out, world),
+        Reply::DirtyList => push_dirty_list(out, topology),
+        Reply::CellList => push_cell_list(out, topology),
         Reply::Refused(refusal) => push_refused(out, refusal),
     }
 }
