@@ -4,5 +4,6 @@ pub mod Listings
 pub mod Numbers
 pub mod Points
 pub mod Runs
+pub mod Stepping
 pub mod Texts
 pub mod Words

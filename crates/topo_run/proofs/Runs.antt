@@ -2,8 +2,8 @@
 --
 -- SoFar ..      a run over the lines that are done: the state it comes to, what of its text was written and what is pending
 -- begins, goes_on, flushed, ends, stops, stops_inside     what the loop needs of it, turn by turn
-use Rattle.std.proofs.Common.{ℕ, ◌≡◌, Bool, true, false, ◌||◌, List, [], ◌∷◌, ◌++◌, Option, None, Some, refl, sym, ◌∙◌, ap, subst, append_assoc, append-nil, take, drop, arith, rules}
-use Rattle.std.proofs.lemmas.List.{take-append-drop}
+use Rattle.std.proofs.Common.{ℕ, ◌≡◌, Bool, true, false, ◌||◌, List, [], ◌∷◌, ◌++◌, Option, None, Some, refl, sym, ◌∙◌, ap, subst, append_assoc, append-nil, length, take, drop, ◌-◌, arith, rules}
+use Rattle.std.proofs.lemmas.List.{take-append-drop, take_all, length-drop}
 use Rattle.std.specs.Prelude.{flat_map, Result, Ok, Err, OnErr}
 use Rattle.std.specs.List.{list_any}
 use Rattle.std.specs.Io.KnownBytes.{Appends}
@@ -62,9 +62,9 @@ goes_on {start} {now} {all} {line} {rest} {before} {written} {pending} {more} {r
   }
 
 -- the first of what was pending was written, and this is pending still
-pub flushed : {start now : State} {all rest : List (List ℕ)} {before written mid : Option (List ℕ)} {pending part left : List ℕ} {refused : Bool} →
+pub flushed : {start now : State} {all rest : List (List ℕ)} {before written mid : Option (List ℕ)} {pending left : List ℕ} {refused : Bool} (part : List ℕ) →
     SoFar start all rest now before written pending refused → pending ≡ part ++ left → Appends written mid part → SoFar start all rest now before mid left refused
-flushed {start} {now} {all} {rest} {before} {written} {mid} {pending} {part} {left} {refused} far split more = record {
+flushed {start} {now} {all} {rest} {before} {written} {mid} {pending} {left} {refused} part far split more = record {
     done = far.done;
     split = far.split;
     outcomes = far.outcomes;
@@ -107,3 +107,7 @@ at_err (Err e) p = p
 -- a part of what is left was taken
 pub split_more : (all front rest : List ℕ) (n : ℕ) → all ≡ front ++ rest → all ≡ (front ++ take n rest) ++ drop n rest
 split_more all front rest n split = split ∙ (ap (λ t. front ++ t) (sym (take-append-drop n rest)) ∙ sym (append_assoc front (take n rest) (drop n rest)))
+
+-- what a slice from an index on is
+pub rest_from : (xs : List ℕ) (n : ℕ) → take (length xs - n) (drop n xs) ≡ drop n xs
+rest_from xs n = take_all (length xs - n) (drop n xs) (omega (arith, length-drop n xs))

@@ -3,6 +3,7 @@
 -- command_of c     the command that the code's value is; an added feature is a point
 -- reading_of l     what the line is
 use Rattle.std.specs.Prelude.{None}
+use Rattle.plane_terms.specs.Rectangle.{whole_grid}
 use Rattle.plane_terms.specs.Shape.{point_shape}
 use Rattle.plane_terms.specs.declared.kind.Kind.TheVariants as kind
 use Rattle.script_terms.specs.Command as script
@@ -18,7 +19,7 @@ command_of (command.Class name) = script.Class name kind.Point
 command_of (command.Rule k origin) = script.Rule k origin None
 command_of (command.Begin editor) = script.Begin editor
 command_of (command.Add editor class place) = script.Add editor class (point_shape place)
-command_of (command.Validate window) = script.Validate window
+command_of command.ValidateAll = script.Validate whole_grid
 command_of command.Dirty = script.Dirty
 command_of command.Cells = script.Cells
 

@@ -24,7 +24,7 @@ fn answer(world: &mut World, command: Command) -> Result<Reply, NoMemory>
             class,
             place,
         } => world.answer_add(&editor, &class, place),
-        Command::Validate(_) => world.answer_validate(),
+        Command::ValidateAll => world.answer_validate(),
         Command::Dirty => Ok(Reply::DirtyList),
         Command::Cells => Ok(Reply::CellList),
     }
@@ -42,10 +42,12 @@ pub fn answer_line(world: &mut World, line: &[u8], out: &mut String) -> Result<b
     ensures { IfOk result (λ refused. (text : List ℕ) × (string_bytes out.new ≡ string_bytes out.old ++ text)
         × Step (state_of world.old) line.now (record { text = text; after = state_of world.new; refused = refused })) }
 {
+    world.topology.order_law();
     match read_line(line) {
         Line::Skipped => Ok(false),
         Line::Reads(command) => {
             let reply = answer(world, command)?;
+            world.topology.order_law();
             push_reply(out, &world.topology, reply)?;
             Ok(is_refusal(reply))
         }

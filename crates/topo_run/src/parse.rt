@@ -13,7 +13,7 @@ use crate::fields::{
     behind_word, is_only, is_over, is_pair, is_skipped, next_field, skip_blanks, skip_end_blanks,
 };
 use crate::point::read_point;
-use grid_plane::{GridPoint, Name, Rect};
+use grid_plane::{GridPoint, Name};
 use topology_terms::RuleKind;
 
 /// The commands that a line may be.
@@ -27,7 +27,7 @@ pub enum Command {
         class: Name,
         place: GridPoint,
     },
-    Validate(Rect),
+    ValidateAll,
     Dirty,
     Cells,
 }
@@ -104,7 +104,7 @@ fn read_word(line: &[u8]) -> Option<Command>
     ensures { MatchOption result ((c : script.Command) → IsWordText line.now c → ⊥) (λ c. IsCommandLine line.now (command_of c)) }
 {
     if is_pair(line, b"validate", b"all") {
-        return Some(Command::Validate(Rect::whole()));
+        return Some(Command::ValidateAll);
     }
     if is_only(line, b"dirty") {
         return Some(Command::Dirty);
