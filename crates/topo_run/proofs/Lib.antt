@@ -3,6 +3,7 @@ pub mod Forms
 pub mod Listings
 pub mod Numbers
 pub mod Points
+pub mod Readings
 pub mod Runs
 pub mod Stepping
 pub mod Texts

@@ -4,7 +4,7 @@ ghost use Rattle.text_terms.specs.Fields.{is_digit};
 ghost use Rattle.topo_run.specs.Numbers.{value_of, is_padded, is_plain, ReadsDecimal, ReadsCoordinate, ReadsPositive};
 
 // The greatest coordinate, in grid units.
-const REACH: u32 = 4_194_304;
+const REACH: u32 = grid_plane::REACH as u32;
 
 fn is_digit(b: u8) -> bool
     ensures { result ≡ is_digit b }

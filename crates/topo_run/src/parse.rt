@@ -161,3 +161,6 @@ pub fn read_line(line: &[u8]) -> Line
         None => Line::Faulty,
     }
 }
+
+#[cfg(test)]
+mod tests;

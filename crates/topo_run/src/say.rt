@@ -178,3 +178,6 @@ pub fn push_reply(out: &mut String, topology: &Topology, reply: Reply) -> Result
         Reply::Refused(refusal) => push_refused(out, refusal),
     }
 }
+
+#[cfg(test)]
+mod tests;
