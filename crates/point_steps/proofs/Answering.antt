@@ -2,7 +2,7 @@
 --
 -- Each lemma takes what the calls of the code tell and gives `Answers` of the command.
 use Rattle.std.proofs.Common.{◌≡◌, ◌≢◌, ℕ, ◌+◌, Bool, true, false, List, [], ◌∷◌, ◌++◌, Option, Some, None, length, map, bytes_eq, eqb-true, refl, sym, ◌∙◌, ap, subst, rules}
-use Rattle.std.specs.Prelude.{◌==◌}
+use Rattle.std.specs.Prelude.{◌==◌, is_some, cond}
 use Rattle.std.proofs.lemmas.Bool.{false_from_ne_true}
 use Rattle.std.proofs.lemmas.Slice.Eq.{bytes_eq-Decides}
 use Rattle.plane_terms.specs.Point.{Place}
@@ -96,3 +96,18 @@ add_answered name p q editor class place n h same there unspent is number absent
         sessions = rw (same_name name, absent, there) (ap (λ (ts : List EditStep). let sessions : List Session = record { name = name; done = ts; undone = [] } ∷ [] in sessions) steps);
       };
     })
+
+-- an open session is that of the editor
+pub added_answered : (e : Option (List ℕ)) (p q : Project) (editor class : List ℕ) (place : Place) (n h : ℕ) → is_open (state_with e p) editor ≡ true → class_number p class ≡ Some n → p.next ≢ 4294967295
+    → q ≡ with_point p n place → h ≡ p.next → feature_at p.features h ≡ None → IsEdit h (Some (point_feature h n place)) p q
+    → Answers (state_with e p) (Add editor class (point_shape place)) (Number h) (state_with e q)
+added_answered None p q editor class place n h opened there unspent is number absent edit = cc
+added_answered (Some name) p q editor class place n h opened there unspent is number absent edit =
+    add_answered name p q editor class place n h (same_from name editor opened) there unspent is number absent edit
+  where
+    found : (b : Bool) (s : Session) → is_some (cond b (Some s) None) ≡ true → b ≡ true
+    found true s e = refl
+    found false s e = cc
+
+    same_from : (name editor : List ℕ) → is_open (state_with (Some name) p) editor ≡ true → bytes_eq name editor ≡ true
+    same_from name editor e = found (bytes_eq name editor) (record { name = name; done = map {A = Feature} step_of p.features; undone = [] }) e

@@ -1,6 +1,6 @@
 -- The project that the fields stand for, after each change.
-use Rattle.std.proofs.Common.{◌≡◌, ℕ, ◌+◌, true, List, [], ◌∷◌, ◌++◌, map, length, Some, sym, refl, subst}
-use Rattle.std.proofs.lemmas.List.{map_push}
+use Rattle.std.proofs.Common.{◌≡◌, ℕ, ◌+◌, true, List, [], ◌∷◌, ◌++◌, map, Some, length, sym, refl, ap, ◌∙◌, subst}
+use Rattle.std.proofs.lemmas.List.{map_push, length-map}
 use Rattle.plane_terms.specs.Point.{Place, IsInReach}
 use Rattle.plane_terms.specs.Rectangle.{Rectangle, IsRectangle, rect_at, whole_grid}
 use Rattle.plane_terms.specs.Dirt.{add_dirt}
@@ -13,8 +13,8 @@ use Rattle.sound_steps.proofs.Keeps.{rule_kept, point_kept, validated_kept}
 use Rattle.point_steps.specs.Points.{is_plain, with_rule, with_point, validated, judged_count, disjoint_row, point_feature}
 use Rattle.point_steps.proofs.Envelopes.{envelope_of_point, rect_in_reach, reach_test}
 use Rattle.point_steps.proofs.Plains.{plain_rule, plain_point, plain_validated}
-use Rattle.point_steps.proofs.ListChanges.{rule_added, point_added}
 use Rattle.point_steps.proofs.Validations.{validation_of}
+use Rattle.point_steps.proofs.ListChanges.{rule_added, point_added}
 use Rattle.topo_core.specs.Parts.{entry_of_pair, rule_list}
 use Rattle.topo_core.specs.ProjectOf.{project_by, project_of}
 use Rattle.topo_core.specs.declared.parts.Pair.{Pair}
@@ -60,10 +60,12 @@ project-validated t d pairs dirt entries = rw (dirt, entries) refl
 pub validated_plain : (t : Inside) (d : List Rectangle) (pairs : List Pair) → d ≡ [] → map entry_of_pair pairs ≡ (validated (project_of t)).entries → is_plain (project_of t) ≡ true → is_plain (project_by t.class t.rule t.features.items t.next d pairs) ≡ true
 validated_plain t d pairs dirt entries plain = along (λ p. is_plain p ≡ true) (validated (project_of t)) _ (project-validated t d pairs dirt entries) (plain_validated (project_of t) plain)
 
-pub validated_is : (t : Inside) (d : List Rectangle) (pairs : List Pair) (judged errors : ℕ) → d ≡ [] → map entry_of_pair pairs ≡ (validated (project_of t)).entries → judged ≡ judged_count (project_of t) → errors ≡ length (map entry_of_pair pairs) → is_plain (project_of t) ≡ true → IsValidation whole_grid (project_of t) (project_by t.class t.rule t.features.items t.next d pairs) judged errors 0
-validated_is t d pairs judged errors dirt entries count length_is plain =
-    along (λ p. IsValidation whole_grid (project_of t) p judged errors 0) (validated (project_of t)) _ (project-validated t d pairs dirt entries)
-    (rw (count, length_is, entries) (validation_of (project_of t) plain))
+pub validation_given : (t : Inside) (d : List Rectangle) (pairs : List Pair) (judged errors : ℕ) → d ≡ [] → map entry_of_pair pairs ≡ (validated (project_of t)).entries → judged ≡ judged_count (project_of t) → errors ≡ length pairs → is_plain (project_of t) ≡ true → IsValidation whole_grid (project_of t) (project_by t.class t.rule t.features.items t.next d pairs) judged errors 0
+validation_given t d pairs judged errors dirt entries count length_is plain =
+    let p = project_of t in
+    let many : errors ≡ length (validated p).entries = length_is ∙ sym (length-map pairs entry_of_pair) ∙ ap length entries in
+    along (λ q. IsValidation whole_grid p q judged errors 0) (validated p) _ (project-validated t d pairs dirt entries)
+    (rw (count, many) (validation_of p plain))
 
-pub validated_keeps : (t : Inside) (d : List Rectangle) (pairs : List Pair) → d ≡ [] → map entry_of_pair pairs ≡ (validated (project_of t)).entries → is_plain (project_of t) ≡ true → IsKept (project_of t) → IsKept (project_by t.class t.rule t.features.items t.next d pairs)
-validated_keeps t d pairs dirt entries plain kept = along IsKept (validated (project_of t)) _ (project-validated t d pairs dirt entries) (validated_kept whole_grid (project_of t) (validated (project_of t)) (validation_of (project_of t) plain).validated kept)
+pub validated_keeps : (old new : Project) (judged errors dirty : ℕ) → IsValidation whole_grid old new judged errors dirty → IsKept old → IsKept new
+validated_keeps old new judged errors dirty v kept = validated_kept whole_grid old new v.validated kept

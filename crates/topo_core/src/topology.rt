@@ -6,7 +6,7 @@ ghost use Rattle.topology_terms.specs.Sound.{IsKept};
 ghost use Rattle.script_terms.specs.State.{class_number, least_free};
 ghost use Rattle.script_terms.specs.Answer.{is_nonempty, IsValidation};
 ghost use Rattle.plane_terms.specs.Rectangle.{whole_grid};
-ghost use Rattle.point_steps.specs.Points.{with_class, with_rule, with_point, validated, judged_count, disjoint_row, point_feature};
+ghost use Rattle.point_steps.specs.Points.{with_class, with_rule, with_point, validated, disjoint_row, point_feature};
 ghost use Rattle.topo_core.specs.Parts.{entry_of_pair};
 
 use crate::dirt::make_dirty;
