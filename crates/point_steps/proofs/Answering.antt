@@ -20,7 +20,7 @@ use Rattle.script_terms.specs.Refusal.{NotALine, NoClass, NoSession, HandlesSpen
 use Rattle.script_terms.specs.Reply.{Reply, Done, Number, Judged, Refused}
 use Rattle.script_terms.specs.State.{State, class_number, least_free, is_open}
 use Rattle.script_terms.specs.Answer.{Answers, refusal_of, row_of, IsDone, IsValidation, is_nonempty, number_or_0}
-use Rattle.point_steps.specs.Points.{with_class, with_rule, with_point, disjoint_row, point_feature, validated}
+use Rattle.point_steps.specs.Points.{with_class, with_point, disjoint_row, point_feature}
 use Rattle.point_steps.specs.Sessions.{step_of, sessions_of, state_with}
 
 answered : (s : State) (c : Command) (reply : Reply) (t : State) → refusal_of s c ≡ None → IsDone s c reply t → Answers s c reply t
@@ -84,18 +84,21 @@ add_answered name p q editor class place n h same there unspent is number absent
     let steps : map {A = Feature} step_of q.features ≡ map {A = Feature} step_of p.features ++ step_of (point_feature h n place) ∷ [] =
     ap (λ (x : Project). map {A = Feature} step_of x.features) is ∙ (map_last p.features (point_feature p.next n place) ∙ ap (λ (k : ℕ). map {A = Feature} step_of p.features ++ step_of (point_feature k n place) ∷ []) (sym number)) in
     let named : point_feature h n place ≡ record { handle = h; class = number_or_0 (class_number p class); shape = point_shape place } = rw there refl in
-    answered (state_with (Some name) p) (Add editor class (point_shape place)) (Number h) (state_with (Some name) q) (unrefused name p editor class place n same there unspent)
-    (h, refl, record {
-      number = number;
-      absent = absent;
-      next = ap (λ (x : Project). x.next) is;
-      edited = record {
-        session = session;
-        open_is = rw same refl;
-        edit = subst (λ (f : Feature). IsEdit h (Some f) p q) named edit;
-        sessions = rw (same_name name, absent, there) (ap (λ (ts : List EditStep). let sessions : List Session = record { name = name; done = ts; undone = [] } ∷ [] in sessions) steps);
-      };
-    })
+    answered (state_with (Some name) p) (Add editor class (point_shape place)) (Number h) (state_with (Some name) q) (unrefused name p editor class place n same there unspent) (
+      h,
+      refl,
+      record {
+        number = number;
+        absent = absent;
+        next = ap (λ (x : Project). x.next) is;
+        edited = record {
+          session = session;
+          open_is = rw same refl;
+          edit = subst (λ (f : Feature). IsEdit h (Some f) p q) named edit;
+          sessions = rw (same_name name, absent, there) (ap (λ (ts : List EditStep). let sessions : List Session = record { name = name; done = ts; undone = [] } ∷ [] in sessions) steps);
+        };
+      },
+    )
 
 -- an open session is that of the editor
 pub added_answered : (e : Option (List ℕ)) (p q : Project) (editor class : List ℕ) (place : Place) (n h : ℕ) → is_open (state_with e p) editor ≡ true → class_number p class ≡ Some n → p.next ≢ 4294967295

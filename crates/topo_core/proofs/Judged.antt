@@ -1,5 +1,5 @@
 -- The pairs of a point, and the errors that they stand for.
-use Rattle.std.proofs.Common.{◌≡◌, ℕ, zero, suc, ◌<◌, ◌≤◌, Bool, true, false, not, ◌&&◌, ◌||◌, List, [], ◌∷◌, ◌++◌, cond, eqb, ltb, filter, map, length, get_or, refl, ap, sym, ◌∙◌, ◌==◌, arith}
+use Rattle.std.proofs.Common.{◌≡◌, ℕ, zero, suc, ◌<◌, ◌≤◌, Bool, true, false, ◌&&◌, List, [], ◌∷◌, ◌++◌, cond, filter, map, length, get_or, refl, ap, ◌∙◌, ◌==◌, arith}
 use Rattle.std.proofs.lemmas.Bool.Decides.{nat_tests}
 use Rattle.std.proofs.lemmas.Cmp.{int_eq_equiv}
 use Rattle.std.proofs.lemmas.List.{map-append}
@@ -79,7 +79,7 @@ pub judged-pairs : (class : ℕ) (a : PointFeature) (F points : List PointFeatur
 judged-pairs class a F points h own =
     let partner : PointFeature → Bool = λ b. is_partner class (feature_of a) (feature_of b) in
     let found : filter (is_above a) (filter (is_at a.place) points) ≡ filter partner F =
-        ap (filter (is_above a)) (h.each a.place) ∙ filter-filter (λ b. is_of class b && is_at a.place b) (is_above a) F ∙ filter_agree (λ b. (is_of class b && is_at a.place b) && is_above a b) partner (λ b. partner_tests class a b own) F in
+    ap (filter (is_above a)) (h.each a.place) ∙ filter-filter (λ b. is_of class b && is_at a.place b) (is_above a) F ∙ filter_agree (λ b. (is_of class b && is_at a.place b) && is_above a b) partner (λ b. partner_tests class a b own) F in
     ap (λ bs. map entry_of_pair (map (pair_of a) bs)) found ∙ pairs-entries a (filter partner F) ∙ ap (map (pair_entry 1 (feature_of a))) (map-filter feature_of (is_partner class (feature_of a)) F)
 
 -- pairs come after those that are there, from the points at the place of a

@@ -1,12 +1,12 @@
 -- The points by place.
-use Rattle.std.proofs.Common.{◌≡◌, ℕ, ◌==◌, Bool, true, false, not, ◌&&◌, List, [], ◌∷◌, cond, eqb, ltb, leb, filter, refl, sym, ◌∙◌, ap, arith}
-use Rattle.std.proofs.lemmas.Cmp.{then_total, on_total, int_cmp_total, is_lt_index, is_eq_index}
+use Rattle.std.proofs.Common.{◌≡◌, ℕ, ◌==◌, Bool, true, false, not, ◌&&◌, List, [], ◌∷◌, cond, ltb, leb, filter, refl, sym, ◌∙◌, ap}
+use Rattle.std.proofs.lemmas.Cmp.{then_total, on_total, int_cmp_total, is_eq_index}
 use Rattle.std.proofs.lemmas.List.Sorted.{ranks_by, searchable_from_sorted}
 use Rattle.std.proofs.lemmas.List.Elements.{filter_agree}
 use Rattle.std.specs.Cmp.{IsTotalOrder, IsStrictWeakOrder, tied_then}
 use Rattle.std.specs.declared.cmp.Ordering.{Ordering}
 use Rattle.std.specs.declared.cmp.Ordering.TheVariants.{Less, Equal, Greater}
-use Rattle.std.specs.Ordering.{is_lt, is_le, is_eq, int_cmp, ordering_index, ordering_then, ordering_reverse}
+use Rattle.std.specs.Ordering.{is_lt, is_le, int_cmp, ordering_index, ordering_reverse}
 use Rattle.std.specs.List.Sorted.{IsSortedBy, IsStableBy, IsNonDecreasingBy, ties}
 use Rattle.plane_terms.specs.Point.{Place, same_place}
 use Rattle.topo_core.specs.Places.{place_order, place_rank, is_at, is_of, IsByPlace}

@@ -3,7 +3,6 @@ ghost use Rattle.topology_terms.specs.Project.{Project};
 ghost use Rattle.point_steps.specs.Points.{is_selected, disjoint_rule, judged_entries, kept_entries, entries_after, judged_count, validated, keys_ascend};
 ghost use Rattle.topo_core.specs.Parts.{feature_of, entry_of_pair, rule_list};
 ghost use Rattle.topo_core.specs.Places.{IsByPlace, is_above, pair_of};
-
 ghost use Rattle.topo_core.specs.declared.parts.Pair.{Pair};
 ghost use Rattle.topo_core.specs.declared.parts.PointFeature.{PointFeature};
 

@@ -2,7 +2,7 @@
 use Rattle.std.proofs.Common.{◌≡◌, ℕ, Bool, true, false, List, [], ◌++◌, refl, sym, append-nil}
 use Rattle.text_terms.specs.Fields.{is_skipped}
 use Rattle.topology_terms.specs.Project.{IsOrdered}
-use Rattle.script_terms.specs.Command.{Command, IsCommandLine}
+use Rattle.script_terms.specs.Command.{Command}
 use Rattle.script_terms.specs.Refusal.{NotALine}
 use Rattle.script_terms.specs.Reply.{Reply, Refused, reply_text}
 use Rattle.script_terms.specs.State.{State}

@@ -11,7 +11,6 @@ mod program;
 mod read;
 mod replay;
 mod reply;
-
 mod say;
 mod status;
 mod world;
