@@ -1,5 +1,5 @@
 ghost use Rattle.std.specs.Prelude.{◌≡◌, ◌↔◌, ◌≤ℤ◌, IsTrue};
-ghost use Rattle.plane_terms.specs.Point.{InReach};
+ghost use Rattle.plane_terms.specs.Point.{InReach, IsInReach};
 ghost use Rattle.plane_terms.specs.Rectangle.{whole_grid, rect_at, is_within, rects_meet};
 
 use crate::GridPoint;
@@ -44,7 +44,8 @@ impl Rect {
 
     /// The rectangle that holds one place.
     pub fn round(p: GridPoint) -> Rect
-        ensures { result ≡ rect_at p }
+        ensures value { result ≡ rect_at p }
+        ensures in_reach { IsInReach p }
     {
         let x = p.x();
         let y = p.y();

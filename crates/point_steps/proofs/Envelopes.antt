@@ -21,14 +21,14 @@ pub record IsPointShape (s : Shape) : Type 0 where
   pub shape : s ≡ point_shape at
   pub in_reach : is_in_reach at ≡ true
 
-one_place : (parts : List (List (List Place))) → are_point_parts parts ≡ true → (q : Place) × (parts ≡ ((q ∷ []) ∷ []) ∷ []) × (is_in_reach q ≡ true)
-one_place [] h = cc
-one_place ([] ∷ ps) h = cc
-one_place (([] ∷ rs) ∷ ps) h = cc
-one_place (((q ∷ []) ∷ []) ∷ []) h = (q, refl, h)
-one_place (((q ∷ []) ∷ []) ∷ p ∷ ps) h = cc
-one_place (((q ∷ []) ∷ r ∷ rs) ∷ ps) h = cc
-one_place (((q ∷ v ∷ vs) ∷ rs) ∷ ps) h = cc
+lone_place : (parts : List (List (List Place))) → are_point_parts parts ≡ true → (q : Place) × (parts ≡ ((q ∷ []) ∷ []) ∷ []) × (is_in_reach q ≡ true)
+lone_place [] h = cc
+lone_place ([] ∷ ps) h = cc
+lone_place (([] ∷ rs) ∷ ps) h = cc
+lone_place (((q ∷ []) ∷ []) ∷ []) h = (q, refl, h)
+lone_place (((q ∷ []) ∷ []) ∷ p ∷ ps) h = cc
+lone_place (((q ∷ []) ∷ r ∷ rs) ∷ ps) h = cc
+lone_place (((q ∷ v ∷ vs) ∷ rs) ∷ ps) h = cc
 
 point_kind : (k : Kind) → is_point_kind k ≡ true → k ≡ kinds.Point
 point_kind kinds.Point h = refl
@@ -38,7 +38,7 @@ point_kind kinds.Polygon h = cc
 pub point_shape_of : (f : Feature) → is_point f ≡ true → IsPointShape f.shape
 point_shape_of f h =
     let k = and_parts (is_point_kind f.shape.kind) (are_point_parts f.shape.parts) h in
-    let o = one_place f.shape.parts k.1 in
+    let o = lone_place f.shape.parts k.1 in
     let d = point_kind f.shape.kind k.0 in
     record { at = o.0; shape = λ i. record { kind = d i; parts = o.1 i }; in_reach = o.2 }
 

@@ -49,6 +49,11 @@ pub every_joined : {A : Type 0} (P : A → Type 0) (xs ys : List A) → Every P 
 every_joined P [] ys h k = k
 every_joined P (x ∷ xs) ys h k = (h.0, every_joined P xs ys h.1 k)
 
+-- of two facts of each a third
+pub every_both : {A : Type 0} (P Q R : A → Type 0) → ((x : A) → P x → Q x → R x) → (xs : List A) → Every P xs → Every Q xs → Every R xs
+every_both P Q R f [] h k = tt
+every_both P Q R f (x ∷ xs) h k = (f x h.0 k.0, every_both P Q R f xs h.1 k.1)
+
 every_kept_if : {A : Type 0} (P : A → Type 0) (b : Bool) (x : A) (xs : List A) → (b ≡ true → P x) → Every P xs → Every P (cond b (x ∷ xs) xs)
 every_kept_if P true x xs h k = (h refl, k)
 every_kept_if P false x xs h k = k
@@ -58,11 +63,17 @@ pub every_filtered : {A : Type 0} (P Q : A → Type 0) (test : A → Bool) → (
 every_filtered P Q test f [] h = tt
 every_filtered P Q test f (x ∷ xs) h = every_kept_if Q (test x) x (filter test xs) (f x h.0) (every_filtered P Q test f xs h.1)
 
+-- and what passes, of any
+pub every_passing : {A : Type 0} (Q : A → Type 0) (test : A → Bool) → ((x : A) → test x ≡ true → Q x) → (xs : List A) → Every Q (filter test xs)
+every_passing Q test f [] = tt
+every_passing Q test f (x ∷ xs) = every_kept_if Q (test x) x (filter test xs) (f x) (every_passing Q test f xs)
+
 pub every_flattened : {A B : Type 0} (P : A → Type 0) (Q : B → Type 0) (g : A → List B) → ((x : A) → P x → Every Q (g x)) → (xs : List A) → Every P xs → Every Q (flat_map g xs)
 every_flattened P Q g f [] h = tt
 every_flattened P Q g f (x ∷ xs) h = every_joined Q (g x) (flat_map g xs) (f x h.0) (every_flattened P Q g f xs h.1)
 
 -- ---- elements
+-- x is one of them
 abbrev pub Has : {A : Type 0} → List A → A → Type 0
 Has {A} xs x = SomeOf (λ (y : A). x ≡ y) xs
 

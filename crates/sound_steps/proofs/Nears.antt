@@ -11,10 +11,10 @@ use Rattle.sound_steps.proofs.FeatureLists.{passing, feature_at-filter, ascendin
 use Rattle.sound_steps.proofs.Meetings.{meets_from_test, envelope_proper}
 
 -- the test by which a feature is near, and that by which it comes after
-abbrev is_near : Side → Feature → Feature → Bool
+abbrev pub is_near : Side → Feature → Feature → Bool
 is_near A f g = is_on_side A g && (rects_meet (env f) (env g) && not (g.handle == f.handle))
 
-abbrev is_after : Feature → Feature → Bool
+abbrev pub is_after : Feature → Feature → Bool
 is_after f g = nat_lt f.handle g.handle
 
 passed : (test : Feature → Bool) (f : Feature) → test f ≡ true → passing test (Some f) ≡ Some f

@@ -1,1 +1,5 @@
 pub mod Dirts
+pub mod Projects
+pub mod Ranges
+pub mod PlaceOrders
+pub mod Judged

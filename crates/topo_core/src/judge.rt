@@ -1,40 +1,35 @@
-ghost use Rattle.std.specs.Prelude.{◌≡◌, ◌==◌, ◌&&◌, ◌++◌, ℕ, map, flat_map, count_by, OnOk, IfOk};
-ghost use Rattle.std.specs.List.{list_any};
-ghost use Rattle.plane_terms.specs.Rectangle.{rects_meet, rect_at};
+ghost use Rattle.std.specs.Prelude.{◌≡◌, ◌==◌, ◌&&◌, ◌++◌, ℕ, List, true, map, filter, flat_map, count_by, OnOk, IfOk};
 ghost use Rattle.topology_terms.specs.Project.{Project};
-ghost use Rattle.point_steps.specs.Points.{is_partner, is_selected, disjoint_rule, judged_entries, kept_entries, entries_after, judged_count, validated};
+ghost use Rattle.point_steps.specs.Points.{is_selected, disjoint_rule, judged_entries, kept_entries, entries_after, judged_count, validated, keys_ascend};
 ghost use Rattle.topo_core.specs.Parts.{feature_of, entry_of_pair, rule_list};
-
+ghost use Rattle.topo_core.specs.Places.{IsByPlace, is_above, pair_of};
+ghost use Rattle.topo_core.specs.declared.parts.Pair.{Pair};
 ghost use Rattle.topo_core.specs.declared.parts.PointFeature.{PointFeature};
 
 use crate::dirt::meets_any;
 use crate::parts::PointFeature;
+use crate::places::{by_place, points_at};
 use crate::{NoMemory, Pair};
 use grid_plane::Rect;
 use std::alloc::Global;
 
-// Whether the second point is a partner of the first.
-fn is_partner(class: u16, a: &PointFeature, b: &PointFeature) -> bool
-    ensures { result ≡ is_partner class (feature_of a.now) (feature_of b.now) }
+// Whether the point meets the dirt.
+pub fn is_selected(dirt: &[Rect], a: &PointFeature) -> bool
+    ensures { result ≡ is_selected dirt.now (feature_of a.now) }
 {
-    a.handle < b.handle
-        && a.class == class
-        && b.class == class
-        && a.place.x() == b.place.x()
-        && a.place.y() == b.place.y()
+    meets_any(dirt, &Rect::round(a.place))
 }
 
-// The pairs of a point with its partners.
-fn push_partners(
+// The pairs of the point with the points above it.
+fn push_pairs(
     out: &mut Vec<Pair>,
-    class: u16,
     a: &PointFeature,
-    features: &[PointFeature],
+    others: &[PointFeature],
 ) -> Result<(), NoMemory>
-    ensures { OnOk result (map entry_of_pair out.new.items ≡ map entry_of_pair out.old.items ++ judged_entries (map feature_of features.now) (disjoint_rule class) (feature_of a.now)) }
+    ensures { OnOk result (out.new.items ≡ out.old.items ++ map (pair_of a.now) (filter (is_above a.now) others.now)) }
 {
-    for b in features {
-        if is_partner(class, a, b) {
+    for b in others {
+        if a.handle < b.handle {
             out.push(Pair {
                 subject: a.handle,
                 other: b.handle,
@@ -45,58 +40,80 @@ fn push_partners(
     Ok(())
 }
 
-// The pairs of a point, as they stand.
+// The pairs of the point with its partners, which are found among the points of the class by place.
+fn push_partners(
+    out: &mut Vec<Pair>,
+    class: u16,
+    a: &PointFeature,
+    points: &[PointFeature],
+) -> Result<(), NoMemory>
+    requires { (F : List PointFeature) × IsByPlace class F points.now }
+    ensures { (F : List PointFeature) → IsByPlace class F points.now →
+        OnOk result (map entry_of_pair out.new.items ≡ map entry_of_pair out.old.items ++ judged_entries (map feature_of F) (disjoint_rule class) (feature_of a.now)) }
+{
+    if a.class != class {
+        return Ok(());
+    }
+    push_pairs(out, a, points_at(points, a.place))
+}
+
+// The pairs of the subject of this handle.
+fn pairs_of(entries: &[Pair], handle: u32) -> &[Pair]
+    requires { keys_ascend (map entry_of_pair entries.now) ≡ true }
+    ensures { result.now ≡ filter (λ (e : Pair). e.subject == handle) entries.now }
+{
+    let start = entries.partition_point(|e| e.subject < handle);
+    let rest = &entries[start..];
+    let end = rest.partition_point(|e| e.subject <= handle);
+    &rest[..end]
+}
+
+// The pairs of the point, as they stand.
 fn push_kept(out: &mut Vec<Pair>, a: &PointFeature, entries: &[Pair]) -> Result<(), NoMemory>
+    requires { keys_ascend (map entry_of_pair entries.now) ≡ true }
     ensures { (class : ℕ) → OnOk result (map entry_of_pair out.new.items ≡ map entry_of_pair out.old.items ++ kept_entries (map entry_of_pair entries.now) (disjoint_rule class) (feature_of a.now)) }
 {
-    for e in entries {
-        if e.subject == a.handle {
-            out.push(*e)?;
-        }
-    }
+    out.extend_from_slice(pairs_of(entries, a.handle))?;
     Ok(())
 }
 
-// Whether the point meets the dirt.
-fn is_selected(dirt: &[Rect], a: &PointFeature) -> bool
-    ensures { result ≡ is_selected dirt.now (feature_of a.now) }
-{
-    meets_any(dirt, &Rect::round(a.place))
-}
-
-// The entries of a point after a validation.
+// The entries of the point after a validation.
 fn push_entries(
     out: &mut Vec<Pair>,
     class: u16,
     a: &PointFeature,
-    features: &[PointFeature],
+    points: &[PointFeature],
     dirt: &[Rect],
     entries: &[Pair],
 ) -> Result<(), NoMemory>
-    ensures { (p : Project) → p.features ≡ map feature_of features.now → p.dirt ≡ dirt.now → p.entries ≡ map entry_of_pair entries.now →
+    requires by_place { (F : List PointFeature) × IsByPlace class F points.now }
+    requires ascending { keys_ascend (map entry_of_pair entries.now) ≡ true }
+    ensures { (p : Project) (F : List PointFeature) → IsByPlace class F points.now → p.features ≡ map feature_of F → p.dirt ≡ dirt.now → p.entries ≡ map entry_of_pair entries.now →
         OnOk result (map entry_of_pair out.new.items ≡ map entry_of_pair out.old.items ++ entries_after p (disjoint_rule class) (feature_of a.now)) }
 {
     if is_selected(dirt, a) {
-        push_partners(out, class, a, features)
+        push_partners(out, class, a, points)
     } else {
         push_kept(out, a, entries)
     }
 }
 
 // The entries after a validation of the whole grid.
-pub fn judge_plainly(
+pub fn judge_all(
     alloc: Global,
     class: u16,
     features: &[PointFeature],
     dirt: &[Rect],
     entries: &[Pair],
 ) -> Result<Vec<Pair>, NoMemory>
+    requires { keys_ascend (map entry_of_pair entries.now) ≡ true }
     ensures { (p : Project) → p.features ≡ map feature_of features.now → p.dirt ≡ dirt.now → p.entries ≡ map entry_of_pair entries.now →
         IfOk result (λ v. map entry_of_pair v.items ≡ flat_map (entries_after p (disjoint_rule class)) (map feature_of features.now)) }
 {
+    let points = by_place(alloc, class, features)?;
     let mut out = Vec::new(alloc);
     for a in features {
-        push_entries(&mut out, class, a, features, dirt, entries)?;
+        push_entries(&mut out, class, a, &points, dirt, entries)?;
     }
     Ok(out)
 }
@@ -126,15 +143,19 @@ pub fn judge_rule(
     dirt: &[Rect],
     entries: &[Pair],
 ) -> Result<(usize, Vec<Pair>), NoMemory>
+    requires { keys_ascend (map entry_of_pair entries.now) ≡ true }
     ensures { (p : Project) → p.rules ≡ rule_list rule → p.features ≡ map feature_of features.now → p.dirt ≡ dirt.now → p.entries ≡ map entry_of_pair entries.now →
         IfOk result (λ v. (v.0 ≡ judged_count p) × (map entry_of_pair v.1.items ≡ (validated p).entries)) }
 {
     match rule {
         Some(class) => {
             let judged = count_judged(class, features, dirt);
-            let found = judge_plainly(alloc, class, features, dirt, entries)?;
+            let found = judge_all(alloc, class, features, dirt, entries)?;
             Ok((judged, found))
         }
         None => Ok((0, Vec::new(alloc))),
     }
 }
+
+#[cfg(test)]
+mod tests;

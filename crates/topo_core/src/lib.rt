@@ -4,6 +4,9 @@
 mod dirt;
 mod judge;
 mod parts;
+mod places;
+#[cfg(test)]
+mod plainly;
 mod topology;
 
 pub use parts::{AddFault, NoMemory, Pair, Summary};

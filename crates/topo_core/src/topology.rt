@@ -1,4 +1,4 @@
-ghost use Rattle.std.specs.Prelude.{◌≡◌, ◌↔◌, not, ◌+◌, ◌<◌, [], length, slice_get, Some, None, IfOk, OnErr, IsErrOf};
+ghost use Rattle.std.specs.Prelude.{◌≡◌, ◌↔◌, not, ◌+◌, ◌<◌, [], length, slice_get, Some, None, IfOk, OnOk, OnErr, IsErrOf};
 ghost use Rattle.topology_terms.specs.Feature.{feature_at};
 ghost use Rattle.topology_terms.specs.Project.{empty_project, IsOrdered};
 ghost use Rattle.topology_terms.specs.Changes.{IsEdit, IsRuleAdded};
@@ -6,7 +6,7 @@ ghost use Rattle.topology_terms.specs.Sound.{IsKept};
 ghost use Rattle.script_terms.specs.State.{class_number, least_free};
 ghost use Rattle.script_terms.specs.Answer.{is_nonempty, IsValidation};
 ghost use Rattle.plane_terms.specs.Rectangle.{whole_grid};
-ghost use Rattle.point_steps.specs.Points.{with_class, with_rule, with_point, validated, judged_count, disjoint_row, point_feature};
+ghost use Rattle.point_steps.specs.Points.{with_class, with_rule, with_point, validated, disjoint_row, point_feature};
 ghost use Rattle.topo_core.specs.Parts.{entry_of_pair};
 
 use crate::dirt::make_dirty;
@@ -34,11 +34,13 @@ impl Model for Topology {
 
     ghost Value = { Project };
 
-    ghost use Rattle.topo_core.specs.ProjectOf.{project_of, IsPlain};
+    ghost use Rattle.std.specs.Prelude.{◌≡◌, true};
+    ghost use Rattle.point_steps.specs.Points.{is_plain};
+    ghost use Rattle.topo_core.specs.ProjectOf.{project_of};
 
     ghost view = { project_of };
 
-    ghost invariant = { IsPlain };
+    ghost invariant = { λ t. is_plain (project_of t) ≡ true };
 }
 
 impl Topology {
@@ -55,6 +57,13 @@ impl Topology {
             dirt: Vec::new(alloc),
             entries: Vec::new(alloc),
         }
+    }
+
+    /// The law that rules, points and entries stand in the order of their keys, below the next handle.
+    pub fn order_law(&self)
+        ensures { IsOrdered self.now }
+    {
+        let _ = &self.next;
     }
 
     pub fn has_class(&self) -> bool
@@ -77,6 +86,8 @@ impl Topology {
     pub fn add_class(&mut self, name: Name) -> Result<u16, NoMemory>
         requires { self.old.classes ≡ [] }
         ensures ok { IfOk result (λ n. (n ≡ length self.old.classes + 1) × (self.new ≡ with_class self.old name)) }
+        ensures kept { IsKept self.old → IsKept self.new }
+        ensures ordered { IsOrdered self.new }
         ensures err { OnErr result (self.new ≡ self.old) }
     {
         self.class = Some(name);
@@ -92,7 +103,10 @@ impl Topology {
     /// Adds Must Be Disjoint for the class of this number, and answers the rule's number. The whole grid is dirty then.
     pub fn add_rule(&mut self, class: u16) -> Result<u16, NoMemory>
         requires { self.old.rules ≡ [] }
-        ensures exact { IfOk result (λ n. (n ≡ least_free self.old.rules) × (self.new ≡ with_rule self.old class)) }
+        ensures ok { IfOk result (λ n. (n ≡ least_free self.old.rules) × IsRuleAdded n (disjoint_row class) self.old self.new) }
+        ensures exact { OnOk result (self.new ≡ with_rule self.old class) }
+        ensures kept { IsKept self.old → IsKept self.new }
+        ensures ordered { IsOrdered self.new }
         ensures err { OnErr result (self.new ≡ self.old) }
     {
         make_dirty(&mut self.dirt, Rect::whole())?;
@@ -102,7 +116,11 @@ impl Topology {
 
     /// Adds a point of the class under the next handle, and answers the handle. Its place is dirty then.
     pub fn add(&mut self, class: u16, place: GridPoint) -> Result<u32, AddFault>
-        ensures exact { IfOk result (λ h. (h ≡ self.old.next) × (self.new ≡ with_point self.old class place)) }
+        ensures ok { IfOk result (λ h. (h ≡ self.old.next) × (self.new.next ≡ self.old.next + 1) × IsEdit h (Some (point_feature h class place)) self.old self.new) }
+        ensures exact { OnOk result (self.new ≡ with_point self.old class place) }
+        ensures fresh { IfOk result (λ h. feature_at self.old.features h ≡ None) }
+        ensures kept { IsKept self.old → IsKept self.new }
+        ensures ordered { IsOrdered self.new }
         ensures spent { IsErrOf result AddFault.HandlesSpent ↔ (self.old.next ≡ 4294967295) }
         ensures err { OnErr result (self.new ≡ self.old) }
     {
@@ -123,7 +141,10 @@ impl Topology {
 
     /// Judges every point that meets the dirt, and leaves no dirt.
     pub fn validate_all(&mut self) -> Result<Summary, NoMemory>
-        ensures exact { IfOk result (λ s. (self.new ≡ validated self.old) × (s.judged ≡ judged_count self.old) × (s.errors ≡ length self.new.entries) × (s.dirty ≡ length self.new.dirt)) }
+        ensures ok { IfOk result (λ s. IsValidation whole_grid self.old self.new s.judged s.errors s.dirty) }
+        ensures exact { OnOk result (self.new ≡ validated self.old) }
+        ensures kept { IsKept self.old → IsKept self.new }
+        ensures ordered { IsOrdered self.new }
         ensures err { OnErr result (self.new ≡ self.old) }
     {
         let (judged, entries) = judge_rule(

@@ -29,8 +29,14 @@ fn handles(rt: &impl Abort, topology: &Topology, i: usize) -> (u32, u32) {
 fn two_points_at_one_place(rt: HostRuntime) -> Result<(), Fail> {
     let mut topology = wells(&rt, rt.alloc())?;
     let place = GridPoint::at(3, 4).ok_or("in reach")?;
-    assert_eq!(rt; topology.class_by_name(&Name::of(b"wells").ok_or("a name")?), Some(1));
-    assert_eq!(rt; topology.class_by_name(&Name::of(b"roads").ok_or("a name")?), None);
+    assert_eq!(rt;
+        topology.class_by_name(&Name::of(b"wells").ok_or("a name")?),
+        Some(1)
+    );
+    assert_eq!(rt;
+        topology.class_by_name(&Name::of(b"roads").ok_or("a name")?),
+        None
+    );
     assert_eq!(rt; topology.add(1, place)?, 1);
     assert_eq!(rt; topology.add(1, place)?, 2);
     assert_eq!(rt; topology.entry_len(), 0);

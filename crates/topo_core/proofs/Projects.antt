@@ -1,0 +1,71 @@
+-- The project that the fields stand for, after each change.
+use Rattle.std.proofs.Common.{◌≡◌, ℕ, ◌+◌, true, List, [], ◌∷◌, ◌++◌, map, Some, length, sym, refl, ap, ◌∙◌, subst}
+use Rattle.std.proofs.lemmas.List.{map_push, length-map}
+use Rattle.plane_terms.specs.Point.{Place, IsInReach}
+use Rattle.plane_terms.specs.Rectangle.{Rectangle, IsRectangle, rect_at, whole_grid}
+use Rattle.plane_terms.specs.Dirt.{add_dirt}
+use Rattle.topology_terms.specs.Feature.{env}
+use Rattle.topology_terms.specs.Project.{Project}
+use Rattle.topology_terms.specs.Changes.{IsEdit, IsRuleAdded}
+use Rattle.topology_terms.specs.Sound.{IsKept}
+use Rattle.script_terms.specs.Answer.{IsValidation}
+use Rattle.sound_steps.proofs.Keeps.{rule_kept, point_kept, validated_kept}
+use Rattle.point_steps.specs.Points.{is_plain, with_rule, with_point, validated, judged_count, disjoint_row, point_feature}
+use Rattle.point_steps.proofs.Envelopes.{envelope_of_point, rect_in_reach, reach_test}
+use Rattle.point_steps.proofs.Plains.{plain_rule, plain_point, plain_validated}
+use Rattle.point_steps.proofs.Validations.{validation_of}
+use Rattle.point_steps.proofs.ListChanges.{rule_added, point_added}
+use Rattle.topo_core.specs.Parts.{entry_of_pair, rule_list}
+use Rattle.topo_core.specs.ProjectOf.{project_by, project_of}
+use Rattle.topo_core.specs.declared.parts.Pair.{Pair}
+use Rattle.topo_core.specs.declared.parts.PointFeature.{PointFeature}
+use Rattle.topo_core.specs.declared.topology.Topology.TheInside.{Inside}
+
+along : (P : Project → Type 0) (p q : Project) → q ≡ p → P p → P q
+along P p q same h = subst P (sym same) h
+
+-- a rule more
+pub project-rule : (t : Inside) (class : ℕ) (d : List Rectangle) → rule_list t.rule ≡ [] → d ≡ add_dirt t.dirt.items whole_grid → project_by t.class (Some class) t.features.items t.next d t.entries.items ≡ with_rule (project_of t) class
+project-rule t class d none dirt = rw (dirt, none) refl
+
+pub rule_plain : (t : Inside) (class : ℕ) (d : List Rectangle) → rule_list t.rule ≡ [] → d ≡ add_dirt t.dirt.items whole_grid → is_plain (project_of t) ≡ true → is_plain (project_by t.class (Some class) t.features.items t.next d t.entries.items) ≡ true
+rule_plain t class d none dirt plain = along (λ p. is_plain p ≡ true) (with_rule (project_of t) class) _ (project-rule t class d none dirt) (plain_rule (project_of t) class none plain)
+
+pub rule_change : (t : Inside) (class : ℕ) (d : List Rectangle) → rule_list t.rule ≡ [] → d ≡ add_dirt t.dirt.items whole_grid → IsRuleAdded 1 (disjoint_row class) (project_of t) (project_by t.class (Some class) t.features.items t.next d t.entries.items)
+rule_change t class d none dirt = along (IsRuleAdded 1 (disjoint_row class) (project_of t)) (with_rule (project_of t) class) _ (project-rule t class d none dirt) (rule_added (project_of t) class none)
+
+pub rule_keeps : (t : Inside) (class : ℕ) (d : List Rectangle) → rule_list t.rule ≡ [] → d ≡ add_dirt t.dirt.items whole_grid → IsKept (project_of t) → IsKept (project_by t.class (Some class) t.features.items t.next d t.entries.items)
+rule_keeps t class d none dirt kept = rule_kept 1 (disjoint_row class) (project_of t) _ (rule_change t class d none dirt) kept
+
+-- a point more
+pub project-point : (t : Inside) (class : ℕ) (q : Place) (points : List PointFeature) (d : List Rectangle) → points ≡ t.features.items ++ record { handle = t.next; class = class; place = q } ∷ [] → d ≡ add_dirt t.dirt.items (rect_at q) → project_by t.class t.rule points (t.next + 1) d t.entries.items ≡ with_point (project_of t) class q
+project-point t class q points d more dirt = rw (more, dirt, map_push) refl
+
+pub point_plain : (t : Inside) (class : ℕ) (q : Place) (points : List PointFeature) (d : List Rectangle) → points ≡ t.features.items ++ record { handle = t.next; class = class; place = q } ∷ [] → d ≡ add_dirt t.dirt.items (rect_at q) → IsInReach q → is_plain (project_of t) ≡ true → is_plain (project_by t.class t.rule points (t.next + 1) d t.entries.items) ≡ true
+point_plain t class q points d more dirt reach plain = along (λ p. is_plain p ≡ true) (with_point (project_of t) class q) _ (project-point t class q points d more dirt) (plain_point (project_of t) class q reach plain)
+
+pub point_change : (t : Inside) (class : ℕ) (q : Place) (points : List PointFeature) (d : List Rectangle) → points ≡ t.features.items ++ record { handle = t.next; class = class; place = q } ∷ [] → d ≡ add_dirt t.dirt.items (rect_at q) → is_plain (project_of t) ≡ true → IsEdit t.next (Some (point_feature t.next class q)) (project_of t) (project_by t.class t.rule points (t.next + 1) d t.entries.items)
+point_change t class q points d more dirt plain = along (IsEdit t.next (Some (point_feature t.next class q)) (project_of t)) (with_point (project_of t) class q) _ (project-point t class q points d more dirt) (point_added (project_of t) class q plain)
+
+point_envelope : (h class : ℕ) (q : Place) → IsInReach q → IsRectangle (env (point_feature h class q))
+point_envelope h class q reach = let P : Rectangle → Type 0 = IsRectangle in subst P (sym (envelope_of_point q)) (rect_in_reach q (reach_test q reach))
+
+pub point_keeps : (t : Inside) (class : ℕ) (q : Place) (points : List PointFeature) (d : List Rectangle) → points ≡ t.features.items ++ record { handle = t.next; class = class; place = q } ∷ [] → d ≡ add_dirt t.dirt.items (rect_at q) → IsInReach q → is_plain (project_of t) ≡ true → IsKept (project_of t) → IsKept (project_by t.class t.rule points (t.next + 1) d t.entries.items)
+point_keeps t class q points d more dirt reach plain kept = point_kept t.next (point_feature t.next class q) (project_of t) _ (point_change t class q points d more dirt plain) refl (point_envelope t.next class q reach) kept
+
+-- the whole grid validated
+pub project-validated : (t : Inside) (d : List Rectangle) (pairs : List Pair) → d ≡ [] → map entry_of_pair pairs ≡ (validated (project_of t)).entries → project_by t.class t.rule t.features.items t.next d pairs ≡ validated (project_of t)
+project-validated t d pairs dirt entries = rw (dirt, entries) refl
+
+pub validated_plain : (t : Inside) (d : List Rectangle) (pairs : List Pair) → d ≡ [] → map entry_of_pair pairs ≡ (validated (project_of t)).entries → is_plain (project_of t) ≡ true → is_plain (project_by t.class t.rule t.features.items t.next d pairs) ≡ true
+validated_plain t d pairs dirt entries plain = along (λ p. is_plain p ≡ true) (validated (project_of t)) _ (project-validated t d pairs dirt entries) (plain_validated (project_of t) plain)
+
+pub validation_given : (t : Inside) (d : List Rectangle) (pairs : List Pair) (judged errors : ℕ) → d ≡ [] → map entry_of_pair pairs ≡ (validated (project_of t)).entries → judged ≡ judged_count (project_of t) → errors ≡ length pairs → is_plain (project_of t) ≡ true → IsValidation whole_grid (project_of t) (project_by t.class t.rule t.features.items t.next d pairs) judged errors 0
+validation_given t d pairs judged errors dirt entries count length_is plain =
+    let p = project_of t in
+    let many : errors ≡ length (validated p).entries = length_is ∙ sym (length-map pairs entry_of_pair) ∙ ap length entries in
+    along (λ q. IsValidation whole_grid p q judged errors 0) (validated p) _ (project-validated t d pairs dirt entries)
+    (rw (count, many) (validation_of p plain))
+
+pub validated_keeps : (old new : Project) (judged errors dirty : ℕ) → IsValidation whole_grid old new judged errors dirty → IsKept old → IsKept new
+validated_keeps old new judged errors dirty v kept = validated_kept whole_grid old new v.validated kept
