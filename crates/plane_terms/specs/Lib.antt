@@ -8,3 +8,7 @@ pub mod Decide
 pub mod Carve
 pub mod Dirt
 pub mod Shape
+pub mod Polygon
+pub mod Line
+pub mod Columns
+pub mod Laws

@@ -5,12 +5,14 @@ pub mod Orders
 pub mod Judgings
 pub mod Plains
 pub mod ListChanges
-pub mod Headlines
-pub mod Steps
 pub mod GridCuts
 pub mod Lookups
+pub mod Headlines
+pub mod Steps
+pub mod ListKeeps
 pub mod Those
 pub mod Pairs
 pub mod Selections
 pub mod Validations
+pub mod Answering
 mod Rows

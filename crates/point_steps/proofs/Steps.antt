@@ -1,8 +1,6 @@
 -- Each step of a run keeps the project, and says the headline.
-use Rattle.std.proofs.Common.{◌≡◌, ℕ, arith, refl, ap, List, [], ◌∷◌, ◌++◌, Option, Some, None}
-use Rattle.std.proofs.lemmas.Int.{ints}
-use Rattle.plane_terms.specs.Point.{Place, IsInReach}
-use Rattle.plane_terms.specs.Rectangle.{IsRectangle, rect_at}
+use Rattle.std.proofs.Common.{◌≡◌, ℕ, refl, ap, List, [], ◌∷◌, ◌++◌, Option, Some, None}
+use Rattle.plane_terms.specs.Rectangle.{IsRectangle}
 use Rattle.plane_terms.specs.Shape.{Shape, envelope_of}
 use Rattle.plane_terms.specs.declared.kind.Kind.TheVariants as shapes
 use Rattle.topology_terms.specs.Project.{Project, IsOrdered}
@@ -12,27 +10,20 @@ use Rattle.text_terms.specs.Wkt.{IsWrittenPoint}
 use Rattle.script_terms.specs.Command.{Command, IsCommandLine, Class as AClass, Rule, Begin, Add, Validate, Dirty, Cells}
 use Rattle.script_terms.specs.Refusal.{Refusal}
 use Rattle.script_terms.specs.Reply.{Reply}
-use Rattle.script_terms.specs.State.{State, class_number}
+use Rattle.script_terms.specs.State.{State, empty_state, class_number}
 use Rattle.script_terms.specs.Answer.{IsDone, answers_by, refusal_of, row_of, number_or_0}
 use Rattle.script_terms.specs.Headline.{Headline}
 use Rattle.script_terms.specs.Run.{Reading, Skipped, Reads, Faulty, ReadsAs, Outcome, ComesOf, Step, Run, EachHeadline}
-use Rattle.sound_steps.proofs.Keeps.{class_kept, rule_kept, point_kept, validated_kept}
-use Rattle.point_steps.proofs.Envelopes.{envelope_of_point}
+use Rattle.sound_steps.proofs.Keeps.{empty_kept, class_kept, rule_kept, point_kept, validated_kept}
+use Rattle.point_steps.proofs.Envelopes.{envelope_of_point, rect_in_reach, reach_test}
 use Rattle.point_steps.proofs.Headlines.{headline_of}
 
 kept_at : (p q : Project) → q ≡ p → IsKept p → IsKept q
 kept_at p q e k = rw e k
 
--- the rectangle of a place within the reach is on the grid
-pub place_rectangle : (q : Place) → IsInReach q → IsRectangle (rect_at q)
-place_rectangle q r = record {
-  proper = record { wide = omega (arith, ints); high = omega (arith, ints) };
-  on_grid = record { left = r.x.low; right = r.x.high; below = r.y.low; above = r.y.high };
-}
-
 -- the envelope of a written point is on the grid
 written_rectangle : (text : List ℕ) (s : Shape) → IsWrittenPoint text s → IsRectangle (envelope_of s)
-written_rectangle text s w = rw (w.shape, envelope_of_point w.place) (place_rectangle w.place w.in_reach)
+written_rectangle text s w = rw (w.shape, envelope_of_point w.place) (rect_in_reach w.place (reach_test w.place w.in_reach))
 
 written_kind : (text : List ℕ) (s : Shape) → IsWrittenPoint text s → s.kind ≡ shapes.Point
 written_kind text s w = ap (λ (t : Shape). t.kind) w.shape
@@ -70,3 +61,6 @@ run_headline s [] [] r k o = headline_of s.project k o
 run_headline s [] (x ∷ os) r k o = absurd r
 run_headline s (line ∷ lines) [] r k o = absurd r
 run_headline s (line ∷ lines) (x ∷ os) r k o = (headline_of s.project k o, run_headline x.after lines os r.1 (step_kept s line x r.0 k) r.0.ordered)
+
+pub empty_headline : (lines : List (List ℕ)) (os : List Outcome) → Run empty_state lines os → EachHeadline empty_state os
+empty_headline lines os r = run_headline empty_state lines os r empty_kept (record { rules = tt; features = tt; next = tt; entries = tt })

@@ -59,6 +59,13 @@ impl Topology {
         }
     }
 
+    /// The law that rules, points and entries stand in the order of their keys, below the next handle.
+    pub fn order_law(&self)
+        ensures { IsOrdered self.now }
+    {
+        let _ = &self.next;
+    }
+
     pub fn has_class(&self) -> bool
         ensures { result ≡ is_nonempty self.now.classes }
     {

@@ -1,8 +1,7 @@
 -- How a replay ends: all lines were answered, and what completeness says of each status.
-use Rattle.std.proofs.Common.{ℕ, ◌≡◌, ◌≤◌, ◌<◌, Bool, true, false, List, [], ◌∷◌, ◌++◌, Option, None, Some, length, take, inl, inr, ◌⊎◌, refl, sym, ◌∙◌, ap, subst, arith, append-nil, length-append}
+use Rattle.std.proofs.Common.{ℕ, ◌≡◌, ◌≤◌, ◌<◌, Bool, true, false, List, ◌++◌, Option, None, Some, length, inl, inr, refl, sym, ◌∙◌, ap, subst, arith, append-nil, length-append}
 use Rattle.std.specs.Io.KnownBytes.{Consumes, IsAtEnd}
 use Rattle.text_terms.specs.Lines.{lines_of}
-use Rattle.topo_outside.specs.Causes.{Rose}
 use Rattle.topo_run.specs.Reads.{Passage, Read, is_at_end, script_limit}
 use Rattle.topo_run.specs.Ends.{WritesAll, EndsAs, IsComplete, WritesWhole, code_of, status_of}
 use Rattle.topo_run.specs.declared.read.End.{End}
@@ -35,7 +34,7 @@ whole s k script kept refused told read written =
     let same : kept ≡ script = kept_whole s script kept told read in
     record {
       read = subst (λ (t : List ℕ). Read s t AtEnd) same read;
-      written = subst (λ (t : List ℕ). WritesAll k (lines_of true t) refused) same written
+      written = subst (λ (t : List ℕ). WritesAll k (lines_of true t) refused) same written;
     }
 
 pub completes : (s k : Passage) (status : Status) → EndsAs s k status → IsComplete s k (code_of status)

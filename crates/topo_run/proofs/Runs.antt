@@ -1,18 +1,16 @@
 -- A run goes on by one line, and ends.
 --
 -- SoFar ..      a run over the lines that are done: the state it comes to, what of its text was written and what is pending
--- begins, goes_on, flushed, ends, stops, stops_inside     what the loop needs of it, turn by turn
-use Rattle.std.proofs.Common.{ℕ, ◌≡◌, Bool, true, false, ◌||◌, List, [], ◌∷◌, ◌++◌, Option, None, Some, refl, sym, ◌∙◌, ap, subst, append_assoc, append-nil, take, drop, arith, rules}
-use Rattle.std.proofs.lemmas.List.{take-append-drop}
-use Rattle.std.specs.Prelude.{flat_map, Result, Ok, Err, OnErr}
-use Rattle.std.specs.List.{list_any}
+-- begins, takes, flushed, ends, stops     what the loop needs of it, turn by turn
+use Rattle.std.proofs.Common.{ℕ, ◌≡◌, Bool, false, ◌||◌, List, [], ◌∷◌, ◌++◌, Option, refl, sym, ◌∙◌, ap, subst, append_assoc, append-nil, length, take, drop, ◌-◌, arith, rules}
+use Rattle.std.proofs.lemmas.List.{take-append-drop, take_all, length-drop}
+use Rattle.std.specs.Prelude.{Result, Ok, Err, OnErr}
 use Rattle.std.specs.Io.KnownBytes.{Appends}
 use Rattle.std.proofs.KnownBytes.{Appends-nil, Appends-trans}
-use Rattle.topology_terms.specs.Project.{IsOrdered}
-use Rattle.topology_terms.specs.Sound.{IsKept}
-use Rattle.script_terms.specs.State.{State}
-use Rattle.script_terms.specs.Run.{Outcome, Step, Run, text_of, any_refused, last_state, IsPrefix, WritesRun, WritesPrefix}
-use Rattle.point_steps.proofs.Steps.{run_headline}
+use Rattle.script_terms.specs.State.{State, empty_state}
+use Rattle.script_terms.specs.Run.{Outcome, Step, Run, text_of, any_refused, last_state, WritesRun, WritesPrefix}
+use Rattle.point_steps.proofs.Steps.{empty_headline}
+use Rattle.topo_run.proofs.Stepping.{Takes}
 
 pub record SoFar (start : State) (all rest : List (List ℕ)) (now : State) (before written : Option (List ℕ)) (pending : List ℕ) (refused : Bool) : Type 0 where
   pub done : List (List ℕ)
@@ -50,54 +48,61 @@ begins start all before = record { done = []; split = refl; outcomes = []; run =
 pub goes_on : {start now : State} {all : List (List ℕ)} {line : List ℕ} {rest : List (List ℕ)} {before written : Option (List ℕ)} {pending more : List ℕ} {refused : Bool} {o : Outcome} →
     SoFar start all (line ∷ rest) now before written pending refused → Step now line o → more ≡ pending ++ o.text → SoFar start all rest o.after before written more (refused || o.refused)
 goes_on {start} {now} {all} {line} {rest} {before} {written} {pending} {more} {refused} {o} far step grown = record {
-    done = far.done ++ line ∷ [];
-    split = far.split ∙ sym (append_assoc far.done (line ∷ []) rest);
-    outcomes = far.outcomes ++ o ∷ [];
-    run = run_snoc start far.done far.outcomes line o far.run (rw far.last step);
-    last = last_snoc start far.outcomes o;
-    front = far.front;
-    text = text_snoc far.outcomes o ∙ (ap (λ t. t ++ o.text) far.text ∙ (append_assoc far.front pending o.text ∙ ap (λ t. far.front ++ t) (sym grown)));
-    appended = far.appended;
-    any = rw (any_snoc far.outcomes o, far.any) refl
-  }
+  done = far.done ++ line ∷ [];
+  split = far.split ∙ sym (append_assoc far.done (line ∷ []) rest);
+  outcomes = far.outcomes ++ o ∷ [];
+  run = run_snoc start far.done far.outcomes line o far.run (rw far.last step);
+  last = last_snoc start far.outcomes o;
+  front = far.front;
+  text = text_snoc far.outcomes o ∙ (ap (λ t. t ++ o.text) far.text ∙ (append_assoc far.front pending o.text ∙ ap (λ t. far.front ++ t) (sym grown)));
+  appended = far.appended;
+  any = rw (any_snoc far.outcomes o, far.any) refl;
+}
 
 -- the first of what was pending was written, and this is pending still
-pub flushed : {start now : State} {all rest : List (List ℕ)} {before written mid : Option (List ℕ)} {pending part left : List ℕ} {refused : Bool} →
+pub flushed : {start now : State} {all rest : List (List ℕ)} {before written mid : Option (List ℕ)} {pending left : List ℕ} {refused : Bool} (part : List ℕ) →
     SoFar start all rest now before written pending refused → pending ≡ part ++ left → Appends written mid part → SoFar start all rest now before mid left refused
-flushed {start} {now} {all} {rest} {before} {written} {mid} {pending} {part} {left} {refused} far split more = record {
-    done = far.done;
-    split = far.split;
-    outcomes = far.outcomes;
-    run = far.run;
-    last = far.last;
-    front = far.front ++ part;
-    text = far.text ∙ (ap (λ t. far.front ++ t) split ∙ sym (append_assoc far.front part left));
-    appended = Appends-trans before written mid far.front part far.appended more;
-    any = far.any
-  }
+flushed {start} {now} {all} {rest} {before} {written} {mid} {pending} {left} {refused} part far split more = record {
+  done = far.done;
+  split = far.split;
+  outcomes = far.outcomes;
+  run = far.run;
+  last = far.last;
+  front = far.front ++ part;
+  text = far.text ∙ (ap (λ t. far.front ++ t) split ∙ sym (append_assoc far.front part left));
+  appended = Appends-trans before written mid far.front part far.appended more;
+  any = far.any;
+}
 
--- all lines were answered, and all is written
-pub ends : {start now : State} {all : List (List ℕ)} {before written : Option (List ℕ)} {refused : Bool} → IsKept start.project → IsOrdered start.project → SoFar start all [] now before written [] refused → WritesRun start all before written refused
-ends {start} {now} {all} {before} {written} {refused} kept ordered far = record {
-    outcomes = far.outcomes;
-    run = rw (far.split, append-nil far.done) far.run;
-    written = subst (λ (t : List ℕ). Appends before written t) (sym (far.text ∙ append-nil far.front)) far.appended;
-    any = far.any;
-    headline = run_headline start far.done far.outcomes far.run kept ordered
-  }
+-- the same for a line and a reply as the calls tell them
+pub takes : {start now next : State} {all lines : List (List ℕ)} {line : List ℕ} {rest : List (List ℕ)} {before written : Option (List ℕ)} {pending more : List ℕ} {refused bad : Bool} →
+    SoFar start all lines now before written pending refused → lines ≡ line ∷ rest → Takes now line pending more bad next → SoFar start all rest next before written more (refused || bad)
+takes {start} {now} {next} {all} {lines} {line} {rest} {before} {written} {pending} {more} {refused} {bad} far is taken =
+    goes_on {o = record { text = taken.0; after = next; refused = bad }} (subst (λ (ls : List (List ℕ)). SoFar start all ls now before written pending refused) is far) taken.2 taken.1
+
+-- all lines were answered, and what was pending is written
+pub ends : {now : State} {all lines : List (List ℕ)} {before written after : Option (List ℕ)} {pending bytes : List ℕ} {refused : Bool} →
+    SoFar empty_state all lines now before written pending refused → lines ≡ [] → bytes ≡ pending → Appends written after bytes → WritesRun empty_state all before after refused
+ends {now} {all} {lines} {before} {written} {after} {pending} {bytes} {refused} far none same more = record {
+  outcomes = far.outcomes;
+  run = rw (far.split, none, append-nil far.done) far.run;
+  written = rw far.text (Appends-trans before written after far.front pending far.appended (subst (λ (t : List ℕ). Appends written after t) same more));
+  any = far.any;
+  headline = empty_headline far.done far.outcomes far.run;
+}
 
 -- what was written so far is a prefix
-pub stops : {start now : State} {all rest : List (List ℕ)} {before written : Option (List ℕ)} {pending : List ℕ} {refused : Bool} → IsKept start.project → IsOrdered start.project → SoFar start all rest now before written pending refused → WritesPrefix start all before written
-stops {start} {now} {all} {rest} {before} {written} {pending} {refused} kept ordered far = record {
-    first = far.done;
-    is_first = (rest, far.split);
-    outcomes = far.outcomes;
-    run = far.run;
-    text = far.front;
-    is_prefix = (pending, far.text);
-    written = far.appended;
-    headline = run_headline start far.done far.outcomes far.run kept ordered
-  }
+pub stops : {now : State} {all rest : List (List ℕ)} {before written : Option (List ℕ)} {pending : List ℕ} {refused : Bool} → SoFar empty_state all rest now before written pending refused → WritesPrefix empty_state all before written
+stops {now} {all} {rest} {before} {written} {pending} {refused} far = record {
+  first = far.done;
+  is_first = (rest, far.split);
+  outcomes = far.outcomes;
+  run = far.run;
+  text = far.front;
+  is_prefix = (pending, far.text);
+  written = far.appended;
+  headline = empty_headline far.done far.outcomes far.run;
+}
 
 -- what holds anyway
 pub at_err : {T E P : Type 0} (r : Result T E) → P → OnErr r P
@@ -107,3 +112,7 @@ at_err (Err e) p = p
 -- a part of what is left was taken
 pub split_more : (all front rest : List ℕ) (n : ℕ) → all ≡ front ++ rest → all ≡ (front ++ take n rest) ++ drop n rest
 split_more all front rest n split = split ∙ (ap (λ t. front ++ t) (sym (take-append-drop n rest)) ∙ sym (append_assoc front (take n rest) (drop n rest)))
+
+-- what a slice from an index on is
+pub rest_from : (xs : List ℕ) (n : ℕ) → take (length xs - n) (drop n xs) ≡ drop n xs
+rest_from xs n = take_all (length xs - n) (drop n xs) (omega (arith, length-drop n xs))

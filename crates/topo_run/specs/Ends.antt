@@ -10,7 +10,7 @@
 -- IsComplete s k status code     with no fault counted and a script within the limit the whole text is written and the status is 0 or 1, or it is 5
 --
 -- In every state of a run that is spoken of the headline holds (`WritesRun`, `WritesPrefix`). Source: own.
-use Rattle.std.specs.Prelude.{ℕ, ◌≡◌, ◌≤◌, ◌⊎◌, Bool, true, false, List, [], ◌∷◌, codes, map, length, Option, Some, String, string_bytes, if◌then◌else◌}
+use Rattle.std.specs.Prelude.{ℕ, ◌≡◌, ◌≤◌, ◌⊎◌, Bool, true, false, List, [], ◌∷◌, codes, map, length, Some, String, string_bytes, if◌then◌else◌}
 use Rattle.std.specs.Io.KnownBytes.{Appends}
 use Rattle.std.specs.declared.alloc.Global.{Global}
 use Rattle.text_terms.specs.Lines.{lines_of}

@@ -1,42 +1,16 @@
 -- What the values of the program stand for.
 --
--- step_of f         the step that added the feature
--- sessions_of       the one open session, whose steps are the points: it added each of them; none where there is none
 -- state_of w        the state that the world stands for
--- refusal_of r      the refusal
 -- reply_of w r      the reply; a listing lists the world that it is given in
-use Rattle.std.specs.Prelude.{ℕ, List, [], ◌∷◌, map, Option, Some, None}
-use Rattle.topology_terms.specs.Feature.{Feature}
-use Rattle.topology_terms.specs.Session.{EditStep, Session}
+use Rattle.point_steps.specs.Sessions.{state_with}
 use Rattle.script_terms.specs.State.{State}
-use Rattle.script_terms.specs.Refusal as refusals
 use Rattle.script_terms.specs.Reply as replies
 use Rattle.topo_run.specs.declared.world.World.{World}
 use Rattle.topo_run.specs.declared.reply.Reply.{Reply}
-use Rattle.topo_run.specs.declared.reply.Reply.TheVariants as reply
-use Rattle.topo_run.specs.declared.reply.Refusal.{Refusal}
-use Rattle.topo_run.specs.declared.reply.Refusal.TheVariants as refusal
-
-abbrev pub step_of : Feature → EditStep
-step_of f = record { handle = f.handle; before = None; after = Some f }
-
-abbrev pub sessions_of : Option (List ℕ) → List Feature → List Session
-sessions_of None fs = []
-sessions_of (Some editor) fs = record { name = editor; done = map {A = Feature} step_of fs; undone = [] } ∷ []
+use Rattle.topo_run.specs.Replies.{said_of}
 
 abbrev pub state_of : World → State
-state_of w = record { project = w.topology; sessions = sessions_of w.editor w.topology.features }
-
-abbrev pub refusal_of : Refusal → refusals.Refusal
-refusal_of refusal.NotALine = refusals.NotALine
-refusal_of refusal.NoClass = refusals.NoClass
-refusal_of refusal.NoSession = refusals.NoSession
-refusal_of refusal.HandlesSpent = refusals.HandlesSpent
+state_of w = state_with w.editor w.topology
 
 abbrev pub reply_of : World → Reply → replies.Reply
-reply_of w reply.Done = replies.Done
-reply_of w (reply.Number n) = replies.Number n
-reply_of w (reply.Judged s) = replies.Judged s.judged s.errors s.dirty
-reply_of w reply.DirtyList = replies.DirtyList w.topology
-reply_of w reply.CellList = replies.CellList w.topology
-reply_of w (reply.Refused r) = replies.Refused (refusal_of r)
+reply_of w r = said_of w.topology r

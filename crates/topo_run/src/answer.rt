@@ -1,4 +1,4 @@
-ghost use Rattle.std.specs.Prelude.{◌≡◌, ◌++◌, ◌×◌, List, ℕ, string_bytes, IfOk};
+ghost use Rattle.std.specs.Prelude.{◌≡◌, ◌++◌, List, ℕ, string_bytes, IfOk};
 ghost use Rattle.script_terms.specs.Answer.{Answers};
 ghost use Rattle.script_terms.specs.Run.{Step};
 ghost use Rattle.script_terms.specs.Run as run;
@@ -24,7 +24,7 @@ fn answer(world: &mut World, command: Command) -> Result<Reply, NoMemory>
             class,
             place,
         } => world.answer_add(&editor, &class, place),
-        Command::Validate(_) => world.answer_validate(),
+        Command::ValidateAll => world.answer_validate(),
         Command::Dirty => Ok(Reply::DirtyList),
         Command::Cells => Ok(Reply::CellList),
     }
@@ -42,15 +42,17 @@ pub fn answer_line(world: &mut World, line: &[u8], out: &mut String) -> Result<b
     ensures { IfOk result (λ refused. (text : List ℕ) × (string_bytes out.new ≡ string_bytes out.old ++ text)
         × Step (state_of world.old) line.now (record { text = text; after = state_of world.new; refused = refused })) }
 {
+    world.topology.order_law();
     match read_line(line) {
         Line::Skipped => Ok(false),
         Line::Reads(command) => {
             let reply = answer(world, command)?;
-            push_reply(out, world, reply)?;
+            world.topology.order_law();
+            push_reply(out, &world.topology, reply)?;
             Ok(is_refusal(reply))
         }
         Line::Faulty => {
-            push_reply(out, world, Reply::Refused(Refusal::NotALine))?;
+            push_reply(out, &world.topology, Reply::Refused(Refusal::NotALine))?;
             Ok(true)
         }
     }

@@ -2,15 +2,18 @@
 #![tactic(auto)]
 
 mod answer;
+mod fields;
 mod lines;
+mod number;
 mod parse;
+mod point;
+mod program;
 mod read;
 mod replay;
 mod reply;
-mod run;
 mod say;
 mod status;
 mod world;
 mod write;
 
-pub use run::{USAGE, run};
+pub use program::{USAGE, run};

@@ -1,4 +1,4 @@
-ghost use Rattle.std.specs.Prelude.{◌≡◌, ◌≤◌, ◌++◌, ◌||◌, ◌×◌, ℕ, List, string_bytes, IfOk, OnOk, OnErr, IsErrOf};
+ghost use Rattle.std.specs.Prelude.{◌≡◌, ◌≤◌, ◌++◌, ◌||◌, ℕ, List, string_bytes, IfOk, OnOk, OnErr, IsErrOf};
 ghost use Rattle.std.specs.Io.KnownBytes.{Appends};
 ghost use Rattle.text_terms.specs.Lines.{lines_of};
 ghost use Rattle.script_terms.specs.State.{empty_state};
@@ -69,12 +69,7 @@ fn write_if_many<K: Sink>(sink: &mut K, gathered: &mut String) -> Result<(), Sin
 }
 
 /// Answers the lines of a text from the empty state, and tells whether one was refused.
-fn answer_all<K: Sink>(
-    alloc: Global,
-    text: &[u8],
-    whole: bool,
-    sink: &mut K,
-) -> Result<bool, Stop>
+fn answer_all<K: Sink>(alloc: Global, text: &[u8], whole: bool, sink: &mut K) -> Result<bool, Stop>
     ensures ok { IfOk result (λ refused. WritesRun empty_state (lines_of whole text.now) (K.written sink.old) (K.written sink.new) refused) }
     ensures err { OnErr result (WritesPrefix empty_state (lines_of whole text.now) (K.written sink.old) (K.written sink.new)) }
     ensures later { K.faults sink.old ≤ K.faults sink.new }

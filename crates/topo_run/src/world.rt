@@ -1,4 +1,4 @@
-ghost use Rattle.std.specs.Prelude.{◌≡◌, IfOk};
+ghost use Rattle.std.specs.Prelude.{◌≡◌, [], None, IfOk};
 ghost use Rattle.plane_terms.specs.Rectangle.{whole_grid};
 ghost use Rattle.plane_terms.specs.Shape.{point_shape};
 ghost use Rattle.plane_terms.specs.declared.kind.Kind.TheVariants as kinds;
@@ -6,7 +6,6 @@ ghost use Rattle.topology_terms.specs.declared.rule_kind.RuleKind.TheVariants as
 ghost use Rattle.script_terms.specs.Command.{Class, Rule, Begin, Add, Validate};
 ghost use Rattle.script_terms.specs.State.{empty_state, is_open};
 ghost use Rattle.script_terms.specs.Answer.{Answers};
-ghost use Rattle.topo_run.specs.Worlds.{state_of, reply_of};
 
 use crate::reply::{Refusal, Reply};
 use grid_plane::{GridPoint, Name};
@@ -22,6 +21,8 @@ pub struct World {
 }
 
 impl World {
+    ghost use Rattle.topo_run.specs.Worlds.{state_of, reply_of};
+
     /// Nothing, and no session.
     pub fn new(alloc: Global) -> World
         ensures { state_of result ≡ empty_state }

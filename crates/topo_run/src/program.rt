@@ -1,4 +1,4 @@
-ghost use Rattle.std.specs.Prelude.{◌≡◌, ◌≤◌, ◌↔◌, ◌×◌, IsTrue, string_bytes};
+ghost use Rattle.std.specs.Prelude.{◌≡◌, ◌≤◌, ◌↔◌, IsTrue, string_bytes};
 ghost use Rattle.topo_run.specs.Ends.{EndsAs, EndsAsUsage, IsComplete, IsReplay, code_of};
 ghost use Rattle.topo_run.specs.declared.status.Status.{Status};
 
