@@ -1,0 +1,3 @@
+pub mod PlaceFacts
+pub mod PointFacts
+pub mod EntryFacts
