@@ -1,0 +1,8 @@
+pub mod Bounds
+pub mod Lines
+pub mod LineLists
+pub mod Elimination
+pub mod PairCuts
+pub mod Empty
+pub mod Ranges
+pub mod Decision
