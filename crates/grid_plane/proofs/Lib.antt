@@ -4,3 +4,7 @@ pub mod Numbers
 pub mod Weights
 pub mod Meeting
 pub mod OnLine
+pub mod Decides
+pub mod Envelope
+pub mod HalfPlanes
+pub mod Found

@@ -49,7 +49,7 @@ sum_under n m a b h k l f g =
 weight_over : {s : Segment} {p : Point} (w : Weights s p) → pos 0 <ℤ (w.n +ℤ w.m)
 weight_over {s} {p} w = rw (← w.w_is) (product_over w.k (pos p.w) w.k_over (omega (arith, ints, p.positive)))
 
-times_zero : (k z : ℤ) → z ≡ pos 0 → k *ℤ z ≡ pos 0
+pub times_zero : (k z : ℤ) → z ≡ pos 0 → k *ℤ z ≡ pos 0
 times_zero k z h = rw h (omega (arith, ints))
 
 not_over : (u v : ℤ) → u ≡ pos 0 → u ≡ v → pos 0 <ℤ v → ⊥
@@ -113,7 +113,7 @@ same_place a1 b1 c1 a2 b2 c2 px py pw qx qy qw d e f g h =
     equal u v h = omega (arith, ints)
 
 -- the cross product as a form of x, y and w, and of y, x and w
-form_xy : (lx ly hx hy x y w : ℤ) → neg_ℤ (hy -ℤ ly) *ℤ x +ℤ (hx -ℤ lx) *ℤ y +ℤ ((hy -ℤ ly) *ℤ lx -ℤ (hx -ℤ lx) *ℤ ly) *ℤ w ≡ (hx -ℤ lx) *ℤ (y -ℤ ly *ℤ w) -ℤ (hy -ℤ ly) *ℤ (x -ℤ lx *ℤ w)
+pub form_xy : (lx ly hx hy x y w : ℤ) → neg_ℤ (hy -ℤ ly) *ℤ x +ℤ (hx -ℤ lx) *ℤ y +ℤ ((hy -ℤ ly) *ℤ lx -ℤ (hx -ℤ lx) *ℤ ly) *ℤ w ≡ (hx -ℤ lx) *ℤ (y -ℤ ly *ℤ w) -ℤ (hy -ℤ ly) *ℤ (x -ℤ lx *ℤ w)
 form_xy lx ly hx hy x y w =
     let dx = num hx ⊖ num lx in
     let dy = num hy ⊖ num ly in
@@ -220,7 +220,7 @@ meeting s t h =
     other a b c d w e f = omega (arith, ints)
 
 -- ---- an end of one on the other
-at_turn : (lx ly hx hy x y w : ℤ) → (hx -ℤ lx) *ℤ (y *ℤ w -ℤ ly *ℤ w) -ℤ (hy -ℤ ly) *ℤ (x *ℤ w -ℤ lx *ℤ w) ≡ w *ℤ ((hx -ℤ lx) *ℤ (y -ℤ ly) -ℤ (hy -ℤ ly) *ℤ (x -ℤ lx))
+pub at_turn : (lx ly hx hy x y w : ℤ) → (hx -ℤ lx) *ℤ (y *ℤ w -ℤ ly *ℤ w) -ℤ (hy -ℤ ly) *ℤ (x *ℤ w -ℤ lx *ℤ w) ≡ w *ℤ ((hx -ℤ lx) *ℤ (y -ℤ ly) -ℤ (hy -ℤ ly) *ℤ (x -ℤ lx))
 at_turn lx ly hx hy x y w =
     let dx = num hx ⊖ num lx in
     let dy = num hy ⊖ num ly in

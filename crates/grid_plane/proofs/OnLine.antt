@@ -31,7 +31,7 @@ cases_before x y u v = elim (cases_order_ℤ x u) [
   ]
 ]
 
-not_before : (x y u v : ℤ) → Before x y u v → Upto u v x y → ⊥
+pub not_before : (x y u v : ℤ) → Before x y u v → Upto u v x y → ⊥
 not_before x y u v (inl h) (inl k) = omega (arith, ints)
 not_before x y u v (inl h) (inr k) = omega (arith, ints, k.0)
 not_before x y u v (inr h) (inl k) = omega (arith, ints, h.0)

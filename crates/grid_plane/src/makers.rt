@@ -1,8 +1,50 @@
-ghost use Rattle.std.specs.Prelude.{◌≡◌, ◌≤◌, unsigned_abs};
-ghost use Rattle.plane_terms.specs.HalfPlane.{x_over, x_under, y_over, y_under, x_is, y_is};
+ghost use Rattle.std.specs.Prelude.{◌≡◌, ◌≤◌, ◌<ℤ◌, ◌↔◌, pos, unsigned_abs};
+ghost use Rattle.plane_terms.specs.Point.{Point};
+ghost use Rattle.plane_terms.specs.HalfPlane.{Holds, x_over, x_under, y_over, y_under, x_is, y_is};
+ghost use Rattle.plane_terms.specs.Segment.{cross, left_of, right_of, on_line};
 
 use crate::half::Half;
+use crate::seg::Seg;
 use plane_terms::Op;
+
+/// Left of the line through the segment, seen from its lower end.
+pub fn left_of(s: &Seg) -> Half
+    ensures value { result ≡ left_of s.now }
+    ensures meaning { (p : Point) → Holds result p ↔ (pos 0 <ℤ cross s.now p) }
+{
+    Half {
+        a: -s.rise(),
+        b: s.across(),
+        c: s.constant(),
+        op: Op::Over,
+    }
+}
+
+/// Right of the line through the segment, seen from its lower end.
+pub fn right_of(s: &Seg) -> Half
+    ensures value { result ≡ right_of s.now }
+    ensures meaning { (p : Point) → Holds result p ↔ (cross s.now p <ℤ pos 0) }
+{
+    Half {
+        a: s.rise(),
+        b: -s.across(),
+        c: -s.constant(),
+        op: Op::Over,
+    }
+}
+
+/// The line through the segment.
+pub fn on_line(s: &Seg) -> Half
+    ensures value { result ≡ on_line s.now }
+    ensures meaning { (p : Point) → Holds result p ↔ (cross s.now p ≡ pos 0) }
+{
+    Half {
+        a: -s.rise(),
+        b: s.across(),
+        c: s.constant(),
+        op: Op::Zero,
+    }
+}
 
 /// Right of the coordinate.
 pub fn x_over(v: i32) -> Half
