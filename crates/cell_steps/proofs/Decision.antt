@@ -15,7 +15,7 @@ use Rattle.plane_terms.specs.declared.op.Op.{Op}
 use Rattle.plane_terms.specs.declared.op.Op.TheVariants.{Over, AtLeast, Zero}
 use Rattle.plane_terms.specs.Decide.{Edge, Bound, Parts, with_bound, parts_of, flat_by, pair_by, shadow_of, is_above, pair_allows, parts_allow, has_point, low_of, high_of}
 use Rattle.plane_terms.specs.Cell.{HasPoint}
-use Rattle.cell_steps.proofs.Bounds.{Above, Allows, either, Compatible, FlatHolds, PairsHold}
+use Rattle.cell_steps.specs.Bounds.{Above, Allows, either, Compatible, FlatHolds, PairsHold}
 use Rattle.number_steps.proofs.Ring.{num, neg, ◌⊕◌, ◌⊗◌, same_by}
 use Rattle.cell_steps.proofs.PairCuts.{pair_value}
 use Rattle.cell_steps.proofs.Elimination.{PairHolds, eliminated, over}

@@ -8,7 +8,7 @@ use Rattle.plane_terms.specs.HalfPlane.{HalfPlane, Holds, Says}
 use Rattle.plane_terms.specs.declared.op.Op.{Op}
 use Rattle.plane_terms.specs.declared.op.Op.TheVariants.{Over, AtLeast, Zero}
 use Rattle.plane_terms.specs.Decide.{Edge, Bound, low_of, high_of}
-use Rattle.cell_steps.proofs.Bounds.{Above, level, Compatible, FlatHolds}
+use Rattle.cell_steps.specs.Bounds.{Above, level, Compatible, FlatHolds}
 use Rattle.number_steps.proofs.Ring.{num, neg, ◌⊕◌, ◌⊗◌, same_by}
 use Rattle.number_steps.proofs.Order.{product_at_least, product_over}
 use Rattle.cell_steps.proofs.LineLists.{IsRising, AllowedBy, Goes, GoesWithAll, helly}

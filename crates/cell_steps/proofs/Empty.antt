@@ -6,7 +6,7 @@ use Rattle.plane_terms.specs.Point.{Point}
 use Rattle.plane_terms.specs.HalfPlane.{HalfPlane, Holds}
 use Rattle.plane_terms.specs.Decide.{low_of, high_of}
 use Rattle.plane_terms.specs.Cell.{InCell}
-use Rattle.cell_steps.proofs.Bounds.{level, Compatible, FlatHolds, PairsHold}
+use Rattle.cell_steps.specs.Bounds.{level, Compatible, FlatHolds, PairsHold}
 use Rattle.cell_steps.proofs.Lines.{compatible_at}
 use Rattle.cell_steps.proofs.LineLists.{AllowedBy}
 use Rattle.cell_steps.proofs.Elimination.{line_of, edges_at, low_rising, high_rising, some_both, PairHolds}

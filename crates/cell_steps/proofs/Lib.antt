@@ -1,4 +1,3 @@
-pub mod Bounds
 pub mod Lines
 pub mod LineLists
 pub mod Elimination

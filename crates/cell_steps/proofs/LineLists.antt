@@ -5,7 +5,7 @@ use Rattle.std.proofs.lemmas.Int.{ints}
 use lib.Signed.{lt_z}
 use lib.IntN.{neg_ℤ-neg_ℤ}
 use Rattle.plane_terms.specs.Decide.{Bound}
-use Rattle.cell_steps.proofs.Bounds.{Above, Allows, either}
+use Rattle.cell_steps.specs.Bounds.{Above, Allows, either}
 use Rattle.number_steps.proofs.Ring.{num, ◌⊕◌, ◌⊖◌, ◌⊗◌, lt_by}
 use Rattle.cell_steps.proofs.Lines.{compatible_point, tighter_less, tighter_same, Above-any}
 

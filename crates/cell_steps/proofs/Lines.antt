@@ -2,7 +2,7 @@
 use Rattle.std.proofs.Common.{◌≡◌, ℕ, ◌*◌, ◌<◌, Bool, true, false, ℤ, pos, ◌+ℤ◌, ◌-ℤ◌, ◌*ℤ◌, neg_ℤ, ◌≤ℤ◌, ◌<ℤ◌, negsuc, arith, refl, sym, subst, ap, suc, zero}
 use Rattle.std.proofs.lemmas.Int.{ints}
 use Rattle.std.proofs.Math.Nat.{mul-pos}
-use Rattle.cell_steps.proofs.Bounds.{Above, Allows, either}
+use Rattle.cell_steps.specs.Bounds.{Above, Allows, either}
 use Rattle.number_steps.proofs.Ring.{num, neg, ◌⊕◌, ◌⊖◌, ◌⊗◌, same_by, same_read}
 use Rattle.number_steps.proofs.Order.{product_at_least, product_over}
 

@@ -1,6 +1,6 @@
 use Rattle.std.proofs.Common.{◌≡◌, ℕ, ℤ, pos, ◌+ℤ◌, ◌*ℤ◌, arith}
 use Rattle.plane_terms.specs.Decide.{Edge}
-use Rattle.cell_steps.proofs.Bounds.{level}
+use Rattle.cell_steps.specs.Bounds.{level}
 use Rattle.number_steps.proofs.Ring.{num, ◌⊕◌, ◌⊗◌, same_by}
 
 -- the numbers of a pair

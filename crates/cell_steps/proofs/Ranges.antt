@@ -1,6 +1,6 @@
 use Rattle.std.proofs.Common.{◌≡◌, ◌↔◌, ℕ, ◌<◌, Bool, ℤ, pos, ◌+ℤ◌, ◌*ℤ◌, neg_ℤ, arith, sym, subst}
 use Rattle.std.proofs.lemmas.Int.{ints}
-use Rattle.cell_steps.proofs.Bounds.{Above, Allows}
+use Rattle.cell_steps.specs.Bounds.{Above, Allows}
 use Rattle.number_steps.proofs.Ring.{num, neg, ◌⊕◌, ◌⊗◌, same_by}
 use Rattle.cell_steps.proofs.Lines.{Above-scaled, Above-unscaled}
 

@@ -1,0 +1,7 @@
+// Convex cells: lists of half-planes, exactly empty or not.
+#![tactic(auto)]
+
+mod direction;
+mod edge;
+mod pairs;
+mod range;
