@@ -21,6 +21,7 @@ use Rattle.cell_steps.proofs.PairCuts.{pair_value}
 use Rattle.cell_steps.proofs.Elimination.{PairHolds, eliminated, over}
 use Rattle.cell_steps.proofs.Empty.{all_pairs, by_recursion}
 use Rattle.cell_steps.proofs.Lines.{compatible_at}
+use Rattle.cell_steps.proofs.Lists.{all_append}
 use Rattle.cell_steps.proofs.Ranges.{flipped, level_allows}
 use Rattle.number_steps.proofs.Ring.{int_tests}
 use Rattle.cell_steps.proofs.LineLists.{IsRising, AllowedBy, AreCompatible, Goes, GoesWithAll, helly}
@@ -101,12 +102,6 @@ number_iff ls =
     )
 
 -- ---- the constraints on x that a cell makes
-
-all_append : {A : Type 0} (P : A → Type 0) (xs ys : List A) → AllByRecursion P (xs ++ ys) ↔ (AllByRecursion P xs × AllByRecursion P ys)
-all_append P [] ys = (λ h. (tt, h), λ h. h.1)
-all_append P (x ∷ xs) ys =
-    let e = all_append P xs ys in
-    (λ h. let a = e.0 h.1 in ((h.0, a.0), a.1), λ h. (h.0.0, e.1 (h.0.1, h.1)))
 
 all_gathered : {A B : Type 0} (f : A → List B) (P : B → Type 0) (Q : A → Type 0) → ((a : A) → AllByRecursion P (f a) ↔ Q a) → (xs : List A) → AllByRecursion P (flat_map f xs) ↔ AllByRecursion Q xs
 all_gathered f P Q e [] = (λ h. tt, λ h. tt)

@@ -3,5 +3,9 @@ pub mod LineLists
 pub mod Elimination
 pub mod PairCuts
 pub mod Empty
+pub mod Lists
 pub mod Ranges
 pub mod Decision
+pub mod Meets
+pub mod GridLines
+pub mod Outside
