@@ -1,7 +1,11 @@
 // Convex cells: lists of half-planes, exactly empty or not.
 #![tactic(auto)]
 
+mod cell;
 mod direction;
 mod edge;
+mod opposed;
 mod pairs;
 mod range;
+
+pub use cell::Cell;
