@@ -19,7 +19,7 @@ use std::marker::Model;
 /// A convex cell: the points at which each of its half-planes holds. The cell of none is the whole plane.
 #[derive(Drop)]
 pub struct Cell {
-    halves: Vec<Half>,
+    pub(crate) halves: Vec<Half>,
 }
 
 impl Model for Cell {
@@ -40,7 +40,7 @@ fn op_number(op: Op) -> u8
     }
 }
 
-fn is_same(half: &Half, other: &Half) -> bool
+pub(crate) fn is_same(half: &Half, other: &Half) -> bool
     ensures { result ≡ same_half half.now other.now }
 {
     if half.a() != other.a() {

@@ -2,6 +2,7 @@
 #![tactic(auto)]
 
 mod cell;
+mod cells;
 mod direction;
 mod edge;
 mod opposed;
@@ -9,3 +10,4 @@ mod pairs;
 mod range;
 
 pub use cell::Cell;
+pub use cells::Cells;

@@ -152,7 +152,7 @@ pub on_hi : (s : Segment) → OnSegment s (point_at s.hi)
 on_hi s = on_mixed s (point_at s.hi) (pos 0) (pos 1) (record { n_least = omega (arith, ints); m_least = omega (arith, ints); w_is = refl; x_is = only_high s.lo.x s.hi.x; y_is = only_high s.lo.y s.hi.y })
 
 -- on the line, and from lo to hi
-along_up : (lx ly hx hy x y : ℤ) → lx <ℤ hx → ly ≤ℤ hy → (hx -ℤ lx) *ℤ (y -ℤ ly) -ℤ (hy -ℤ ly) *ℤ (x -ℤ lx) ≡ pos 0 → lx ≤ℤ x → x ≤ℤ hx → (ly ≤ℤ y) × (y ≤ℤ hy)
+pub along_up : (lx ly hx hy x y : ℤ) → lx <ℤ hx → ly ≤ℤ hy → (hx -ℤ lx) *ℤ (y -ℤ ly) -ℤ (hy -ℤ ly) *ℤ (x -ℤ lx) ≡ pos 0 → lx ≤ℤ x → x ≤ℤ hx → (ly ≤ℤ y) × (y ≤ℤ hy)
 along_up lx ly hx hy x y d u e l r =
     let dx = num hx ⊖ num lx in
     let dy = num hy ⊖ num ly in
@@ -164,7 +164,7 @@ along_up lx ly hx hy x y d u e l r =
     (omega (arith, ints, low), omega (arith, ints, high))
 
 -- the mirror image of a falling segment rises
-mirrored : (lx ly hx hy x y : ℤ) → (hx -ℤ lx) *ℤ (neg_ℤ y -ℤ neg_ℤ ly) -ℤ (neg_ℤ hy -ℤ neg_ℤ ly) *ℤ (x -ℤ lx) ≡ neg_ℤ ((hx -ℤ lx) *ℤ (y -ℤ ly) -ℤ (hy -ℤ ly) *ℤ (x -ℤ lx))
+pub mirrored : (lx ly hx hy x y : ℤ) → (hx -ℤ lx) *ℤ (neg_ℤ y -ℤ neg_ℤ ly) -ℤ (neg_ℤ hy -ℤ neg_ℤ ly) *ℤ (x -ℤ lx) ≡ neg_ℤ ((hx -ℤ lx) *ℤ (y -ℤ ly) -ℤ (hy -ℤ ly) *ℤ (x -ℤ lx))
 mirrored lx ly hx hy x y =
     let dx = num hx ⊖ num lx in
     same_by (dx ⊗ (neg (num y) ⊖ neg (num ly)) ⊖ (neg (num hy) ⊖ neg (num ly)) ⊗ (num x ⊖ num lx)) (neg (dx ⊗ (num y ⊖ num ly) ⊖ (num hy ⊖ num ly) ⊗ (num x ⊖ num lx))) (omega arith)
