@@ -1,5 +1,5 @@
 -- The whole numbers round a range.
-use Rattle.std.proofs.Common.{◌≡◌, ◌↔◌, ℕ, ◌+◌, ◌*◌, ◌/◌, ◌^◌, ◌∙◌, ◌<◌, List, [], ◌∷◌, ℤ, pos, negsuc, ◌+ℤ◌, ◌-ℤ◌, ◌*ℤ◌, neg_ℤ, ◌≤ℤ◌, ◌<ℤ◌, ◌≤◌, Bool, true, false, unsigned_abs, arith, sym, subst, Option, Some, None, IfSome}
+use Rattle.std.proofs.Common.{◌≡◌, ◌↔◌, ℕ, ◌*◌, ◌/◌, ◌^◌, ◌∙◌, ◌<◌, List, [], ◌∷◌, ℤ, pos, negsuc, ◌+ℤ◌, ◌-ℤ◌, ◌*ℤ◌, neg_ℤ, ◌≤ℤ◌, ◌<ℤ◌, ◌≤◌, Bool, true, false, unsigned_abs, arith, sym, subst, Option, Some, None, IfSome}
 use Rattle.std.specs.Int.{int_div_euclid, w128}
 use Rattle.std.specs.Prelude.{FitsSigned}
 use mir.Val.{to_z, of_z}
@@ -111,19 +111,20 @@ at_some P o l e h = subst (λ (x : Option Limit). IfSome x P) (sym e) h
 pub greatest_from : (hs : List HalfPlane) (r : Range) → ((t : ℤ) → (w : ℕ) → 0 < w → (InRange r t w ↔ All (λ h. FlatHolds h t w × PairsHold hs h t w) hs)) → IsRange r → HasPoint hs → (low : Limit) → r.low ≡ Some low → (q : ℤ) → neg_ℤ low.k <ℤ ((q +ℤ pos 1) *ℤ low.m) → (g : ℤ) → ((p : Point) → InCell hs p → (g *ℤ pos p.w) ≤ℤ p.x) → g ≤ℤ q
 greatest_from hs r both v some low e q above g all =
     by_lt_z q g (λ less.
-      let z = some.0 in
-      let i = (both z.x z.w z.positive).1 (all_pairs hs z some.1) in
-      let l = low_at IsLimit r.low low e v.low in
-      let c = meets_high r.high low z.x z.w z.positive l v.high (low_at (AllowsLimit z.x z.w) r.low low e i.low) i.high in
-      let n = number_under low r.high g l v.high c (raised low.k low.m q g l.rising less above) in
-      let o = over_number hs r both n.0 n.1 n.2 (record { some = i.some; low = at_some (AllowsLimit n.0 n.1) r.low low e n.3; high = n.4 }) in
-      let a = all (over n.0 n.1 n.2 o.y o.d o.positive) (o.within) in
-      absurd (clash_ℤ (scaled_under n.0 g n.1 o.d o.positive n.5) a)) (λ le. le)
+    let z = some.0 in
+    let i = (both z.x z.w z.positive).1 (all_pairs hs z some.1) in
+    let l = low_at IsLimit r.low low e v.low in
+    let c = meets_high r.high low z.x z.w z.positive l v.high (low_at (AllowsLimit z.x z.w) r.low low e i.low) i.high in
+    let n = number_under low r.high g l v.high c (raised low.k low.m q g l.rising less above) in
+    let o = over_number hs r both n.0 n.1 n.2 (record { some = i.some; low = at_some (AllowsLimit n.0 n.1) r.low low e n.3; high = n.4 }) in
+    let a = all (over n.0 n.1 n.2 o.y o.d o.positive) (o.within) in
+    absurd (clash_ℤ (scaled_under n.0 g n.1 o.d o.positive n.5) a)) (λ le. le)
   where
     raised : (k m q g : ℤ) → pos 0 <ℤ m → q <ℤ g → neg_ℤ k <ℤ ((q +ℤ pos 1) *ℤ m) → neg_ℤ k <ℤ (g *ℤ m)
     raised k m q g p less h =
         let d = product_at_least (g -ℤ (q +ℤ pos 1)) m (omega (arith, ints)) (omega (arith, ints)) in
         lt_by (neg (num k)) (num g ⊗ num m) (omega (arith, lt_read (neg (num k)) ((num q ⊕ num (pos 1)) ⊗ num m) h, le_read (num (pos 0)) ((num g ⊖ (num q ⊕ num (pos 1))) ⊗ num m) d))
+
     scaled_under : (t g : ℤ) (w d : ℕ) → 0 < d → t <ℤ (g *ℤ pos w) → (t *ℤ pos d) <ℤ (g *ℤ pos (w * d))
     scaled_under t g w d p h =
         let s = product_over (g *ℤ pos w -ℤ t) (pos d) (omega (arith, ints)) (omega (arith, ints)) in
