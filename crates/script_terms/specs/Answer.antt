@@ -19,9 +19,9 @@ use Rattle.topology_terms.specs.Changes.{IsEdit, IsRuleAdded, IsSelected}
 use Rattle.topology_terms.specs.Settled.{IsValidatedBy}
 use Rattle.topology_terms.specs.Session.{Session, session_of, with_step}
 use Rattle.topology_terms.specs.declared.rule_kind.RuleKind.{RuleKind}
-use Rattle.script_terms.specs.Command.{Command, Class as AClass, Rule, Begin, Add, Validate, Dirty, Cells}
+use Rattle.script_terms.specs.Command.{Command, Class as AClass, Rule, Begin, Add, Validate, Dirty, Errors, Cells}
 use Rattle.script_terms.specs.Refusal.{Refusal, when, first_of, NotALine, NoClass, NoSession, HandlesSpent}
-use Rattle.script_terms.specs.Reply.{Reply, Done, Number, Judged, Refused, DirtyList, CellList}
+use Rattle.script_terms.specs.Reply.{Reply, Done, Number, Judged, Refused, DirtyList, ErrorList, CellList}
 use Rattle.script_terms.specs.State.{State, class_number, least_free, is_open}
 
 -- ---- refusals
@@ -53,6 +53,7 @@ refusal_of s (Begin editor) = when (is_nonempty s.sessions) NotALine
 refusal_of s (Add editor class shape) = first_of (when (not (is_open s editor)) NoSession ∷ when (is_none (class_number s.project class)) NoClass ∷ when (s.project.next == 4294967295) HandlesSpent ∷ [])
 refusal_of s (Validate w) = None
 refusal_of s Dirty = None
+refusal_of s Errors = None
 refusal_of s Cells = None
 
 -- ---- what is done
@@ -116,6 +117,7 @@ IsDone old (Begin editor) reply new = (reply ≡ Done) × (new ≡ record old { 
 IsDone old (Add editor class shape) reply new = (h : ℕ) × (reply ≡ Number h) × IsAdded editor class shape h old new
 IsDone old (Validate w) reply new = (j e d : ℕ) × (reply ≡ Judged j e d) × IsValidation w old.project new.project j e d × (new.sessions ≡ old.sessions)
 IsDone old Dirty reply new = (reply ≡ DirtyList old.project) × IsSame old new
+IsDone old Errors reply new = (reply ≡ ErrorList old.project) × IsSame old new
 IsDone old Cells reply new = (reply ≡ CellList old.project) × IsSame old new
 
 -- refused, with the state as it was, or done

@@ -24,6 +24,7 @@ pub data Reply : Type 0 where
   Judged : ℕ → ℕ → ℕ → Reply
   Refused : Refusal → Reply
   DirtyList : Project → Reply
+  ErrorList : Project → Reply
   CellList : Project → Reply
 
 abbrev pub rect_text : Rectangle → List ℕ
@@ -64,4 +65,5 @@ reply_text (Number n) = codes "ok " ⧺ decimal n ⧺ 10 ∷ []
 reply_text (Judged j e d) = codes "ok judged " ⧺ decimal j ⧺ codes " errors " ⧺ decimal e ⧺ codes " dirty " ⧺ decimal d ⧺ 10 ∷ []
 reply_text (Refused r) = codes "refused " ⧺ refusal_text r ⧺ 10 ∷ []
 reply_text (DirtyList p) = flat_map dirty_line p.dirt ⧺ total_line (length p.dirt)
+reply_text (ErrorList p) = flat_map entry_line p.entries ⧺ total_line (length p.entries)
 reply_text (CellList p) = flat_map entry_lines p.entries ⧺ total_line (length p.entries)

@@ -1,7 +1,11 @@
 -- Runs over lines.
 --
 -- Reading             what a line is: skipped, a command's, or at fault
--- ReadsAs line r      the line is so; a line at fault is no command's, and has its fault (`IsLineFault`)
+-- numbers_of w        the four numbers of a window, in the order in which a line has them
+-- IsFirstOut k zs     the k-th number, from 0, is beyond the reach, and those before it are within it
+-- IsLineFault line r  the fault of a line that is no command's: a window's number is beyond the reach, and the first such is named;
+--                     or the window's corners are not in order; or the line has not even the form of a window's, and is no line
+-- ReadsAs line r      the line is so; a line at fault is no command's, and has its fault
 -- Outcome, ComesOf    what comes of a line: the text that is written, the state after it, and whether it was refused
 -- Step s line o       one step: the line is read, answered, and this comes of it
 -- Run s lines os      a run: from the state s the lines come to these outcomes, in order; it may be empty
@@ -11,12 +15,15 @@
 -- WritesRun, WritesPrefix     the whole text of a run was written; a prefix of the text of a run over first lines was
 --
 -- No lemma on runs opens `Step`. Source: own.
-use Rattle.std.specs.Prelude.{◌≡◌, ℕ, Bool, true, false, List, [], ◌∷◌, ◌++◌, flat_map, Option}
+use Rattle.std.specs.Prelude.{◌≡◌, ℕ, ℤ, zero, suc, Bool, true, false, List, [], ◌∷◌, ◌++◌, flat_map, Option}
 use Rattle.std.specs.List.{list_any}
 use Rattle.std.specs.Io.KnownBytes.{Appends}
+use Rattle.plane_terms.specs.Lists.{Every}
+use Rattle.plane_terms.specs.Point.{InReach}
+use Rattle.plane_terms.specs.Rectangle.{Rectangle, IsProper}
 use Rattle.text_terms.specs.Fields.{is_skipped}
-use Rattle.script_terms.specs.Command.{Command, IsCommandLine}
-use Rattle.script_terms.specs.Refusal.{Refusal, NotALine}
+use Rattle.script_terms.specs.Command.{Command, IsWindowText, IsCommandLine}
+use Rattle.script_terms.specs.Refusal.{Refusal, NotALine, NoClass, NoSession, OutOfReach, HandlesSpent, Reversed}
 use Rattle.script_terms.specs.Reply.{Reply, Refused, reply_text}
 use Rattle.topology_terms.specs.Project.{IsOrdered}
 use Rattle.script_terms.specs.State.{State}
@@ -28,9 +35,22 @@ pub data Reading : Type 0 where
   Reads : Command → Reading
   Faulty : Refusal → Reading
 
--- the fault of a line that is no command's. Until the request of shapes and texts there is one: it is not a line
+abbrev pub numbers_of : Rectangle → List ℤ
+numbers_of w = w.x0 ∷ w.y0 ∷ w.x1 ∷ w.y1 ∷ []
+
+abbrev pub IsFirstOut : ℕ → List ℤ → Type 0
+IsFirstOut k [] = ⊥
+IsFirstOut zero (z ∷ zs) = ¬ (InReach z)
+IsFirstOut (suc k) (z ∷ zs) = InReach z × IsFirstOut k zs
+
+-- a line has one fault at most, and a line of the form of a window's has one where the window is no rectangle of the grid
 abbrev pub IsLineFault : List ℕ → Refusal → Type 0
-IsLineFault line r = r ≡ NotALine
+IsLineFault line NotALine = (w : Rectangle) → ¬ (IsWindowText line w)
+IsLineFault line (OutOfReach at) = (w : Rectangle) × IsWindowText line w × IsFirstOut at (numbers_of w)
+IsLineFault line Reversed = (w : Rectangle) × IsWindowText line w × Every InReach (numbers_of w) × ¬ (IsProper w)
+IsLineFault line NoClass = ⊥
+IsLineFault line NoSession = ⊥
+IsLineFault line HandlesSpent = ⊥
 
 abbrev pub ReadsAs : List ℕ → Reading → Type 0
 ReadsAs line Skipped = is_skipped line ≡ true
