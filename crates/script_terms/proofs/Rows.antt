@@ -92,10 +92,10 @@ window_text = record {
   x1 = codes "5";
   y1 = codes "5";
   fields = (refl, (refl, (refl, (refl, (refl, refl)))));
-  x0_is = inl (0, numeral (codes "0") 0 cc refl refl, refl);
-  y0_is = inr (codes "07", 7, refl, numeral (codes "07") 7 cc refl refl, refl);
-  x1_is = inl (5, numeral (codes "5") 5 cc refl refl, refl);
-  y1_is = inl (5, numeral (codes "5") 5 cc refl refl, refl);
+  x0_is = inl (0, numeral (codes "0") 0 (λ e. cc) refl refl, refl);
+  y0_is = inr (codes "07", 7, refl, numeral (codes "07") 7 (λ e. cc) refl refl, refl);
+  x1_is = inl (5, numeral (codes "5") 5 (λ e. cc) refl refl, refl);
+  y1_is = inl (5, numeral (codes "5") 5 (λ e. cc) refl refl, refl);
 }
 
 window_line : IsCommandLine (codes "validate  0 -07 5 5") (Validate (rect_of (pos 0) (negsuc 6) (pos 5) (pos 5)))
@@ -109,11 +109,11 @@ beyond = (rect_of (pos 0) (pos 0) (pos 0) (pos 4194305), record {
   x1 = codes "0";
   y1 = codes "4194305";
   fields = (refl, (refl, (refl, (refl, (refl, refl)))));
-  x0_is = inl (0, numeral (codes "0") 0 cc refl refl, refl);
-  y0_is = inl (0, numeral (codes "0") 0 cc refl refl, refl);
-  x1_is = inl (0, numeral (codes "0") 0 cc refl refl, refl);
-  y1_is = inl (4194305, numeral (codes "4194305") 4194305 cc refl refl, refl);
-}, (grind (arith, ints), grind (arith, ints), grind (arith, ints), λ h. omega (arith, ints, h.high)))
+  x0_is = inl (0, numeral (codes "0") 0 (λ e. cc) refl refl, refl);
+  y0_is = inl (0, numeral (codes "0") 0 (λ e. cc) refl refl, refl);
+  x1_is = inl (0, numeral (codes "0") 0 (λ e. cc) refl refl, refl);
+  y1_is = inl (4194305, numeral (codes "4194305") 4194305 (λ e. cc) refl refl, refl);
+}, (grind (arith, ints), (grind (arith, ints), (grind (arith, ints), (λ h. omega (arith, ints, h.high))))))
 
 beyond_text : reply_text (Refused (OutOfReach 3)) ≡ codes "refused E15 3" ++ 10 ∷ []
 unfolding digits
@@ -126,11 +126,11 @@ turned = (rect_of (pos 5) (pos 0) (pos 4) (pos 0), record {
   x1 = codes "4";
   y1 = codes "0";
   fields = (refl, (refl, (refl, (refl, (refl, refl)))));
-  x0_is = inl (5, numeral (codes "5") 5 cc refl refl, refl);
-  y0_is = inl (0, numeral (codes "0") 0 cc refl refl, refl);
-  x1_is = inl (4, numeral (codes "4") 4 cc refl refl, refl);
-  y1_is = inl (0, numeral (codes "0") 0 cc refl refl, refl);
-}, (grind (arith, ints), grind (arith, ints), grind (arith, ints), grind (arith, ints), tt), λ h. omega (arith, ints, h.wide))
+  x0_is = inl (5, numeral (codes "5") 5 (λ e. cc) refl refl, refl);
+  y0_is = inl (0, numeral (codes "0") 0 (λ e. cc) refl refl, refl);
+  x1_is = inl (4, numeral (codes "4") 4 (λ e. cc) refl refl, refl);
+  y1_is = inl (0, numeral (codes "0") 0 (λ e. cc) refl refl, refl);
+}, (grind (arith, ints), (grind (arith, ints), (grind (arith, ints), (grind (arith, ints), tt)))), λ h. omega (arith, ints, h.wide))
 
 -- ---- a window in the middle of the grid: the four pieces round it stay dirty
 four_left : reply_text (DirtyList (record wells { dirt = cut_dirt (whole_grid ∷ []) (rect_of (pos 0) (pos 0) (pos 5) (pos 5)) })) ≡
