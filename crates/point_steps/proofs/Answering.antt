@@ -6,7 +6,7 @@ use Rattle.std.specs.Prelude.{◌==◌, is_some, cond}
 use Rattle.std.proofs.lemmas.Bool.{false_from_ne_true}
 use Rattle.std.proofs.lemmas.Slice.Eq.{bytes_eq-Decides}
 use Rattle.plane_terms.specs.Point.{Place}
-use Rattle.plane_terms.specs.Rectangle.{whole_grid}
+use Rattle.plane_terms.specs.Rectangle.{Rectangle}
 use Rattle.plane_terms.specs.Shape.{point_shape}
 use Rattle.plane_terms.specs.declared.kind.Kind.TheVariants as kinds
 use Rattle.topology_terms.specs.Feature.{Feature, feature_at}
@@ -60,8 +60,8 @@ add_unknown e p editor class q opened absent = rw (opened, absent) (refl, record
 pub add_spent : (e : Option (List ℕ)) (p : Project) (editor class : List ℕ) (q : Place) (n : ℕ) → is_open (state_with e p) editor ≡ true → class_number p class ≡ Some n → p.next ≡ 4294967295 → Answers (state_with e p) (Add editor class (point_shape q)) (Refused HandlesSpent) (state_with e p)
 add_spent e p editor class q n opened there spent = rw (opened, there, spent) (refl, record { same = refl })
 
-pub validate_answered : (e : Option (List ℕ)) (p q : Project) (judged errors dirty : ℕ) → IsValidation whole_grid p q judged errors dirty → Answers (state_with e p) (Validate whole_grid) (Judged judged errors dirty) (state_with e q)
-validate_answered e p q judged errors dirty v = (judged, errors, dirty, refl, v, ap (sessions_of e) v.validated.features)
+pub validate_answered : (e : Option (List ℕ)) (w : Rectangle) (p q : Project) (judged errors dirty : ℕ) → IsValidation w p q judged errors dirty → Answers (state_with e p) (Validate w) (Judged judged errors dirty) (state_with e q)
+validate_answered e w p q judged errors dirty v = (judged, errors, dirty, refl, v, ap (sessions_of e) v.validated.features)
 
 -- a name is the same as itself
 same_name : (name : List ℕ) → bytes_eq name name ≡ true

@@ -6,7 +6,7 @@ use Rattle.std.specs.Prelude.{◌==◌, cond, if◌then◌else◌}
 use Rattle.std.specs.List.{filter, flat_map}
 use Rattle.std.proofs.lemmas.Bool.{and_parts}
 use Rattle.plane_terms.specs.Lists.{Every}
-use Rattle.plane_terms.specs.Rectangle.{rect_at}
+use Rattle.plane_terms.specs.Rectangle.{Rectangle, rect_at}
 use Rattle.topology_terms.specs.Feature.{Feature, place}
 use Rattle.topology_terms.specs.Feature as feature_list
 use Rattle.topology_terms.specs.Entry.{Entry, IsKeyBelow}
@@ -34,8 +34,8 @@ kept_of : (es : List Entry) (rule : InForce) (a : Feature) → Every (OfSubject 
 kept_of es rule a = every_passing (OfSubject rule.number a.handle) (λ (e : Entry). (e.rule == rule.number) && (e.subject == a.handle))
     (λ e k. let w = and_parts (e.rule == rule.number) (e.subject == a.handle) k in (eqb-true e.rule rule.number w.0, eqb-true e.subject a.handle w.1)) es
 
-pub after_of : (p : Project) (rule : InForce) (a : Feature) → Every (OfSubject rule.number a.handle) (entries_after p rule a)
-after_of p rule a = chosen (Every (OfSubject rule.number a.handle)) (is_selected p.dirt a) (judged_entries p.features rule a) (kept_entries p.entries rule a)
+pub after_of : (w : Rectangle) (p : Project) (rule : InForce) (a : Feature) → Every (OfSubject rule.number a.handle) (entries_after w p rule a)
+after_of w p rule a = chosen (Every (OfSubject rule.number a.handle)) (is_selected w p.dirt a) (judged_entries p.features rule a) (kept_entries p.entries rule a)
     (judged_of rule.number a (filter (is_partner rule.row.origin.class a) p.features)) (kept_of p.entries rule a)
 
 -- ---- they ascend
@@ -55,8 +55,8 @@ pairs_ascend : (r : ℕ) (a : Feature) (gs : List Feature) → feature_list.IsAs
 pairs_ascend r a [] h = tt
 pairs_ascend r a (g ∷ gs) h = (pairs_above r a g gs h.0, pairs_ascend r a gs h.1)
 
-after_ascend : (p : Project) (rule : InForce) (a : Feature) → feature_list.IsAscending p.features → entry_list.IsAscending p.entries → entry_list.IsAscending (entries_after p rule a)
-after_ascend p rule a h k = chosen entry_list.IsAscending (is_selected p.dirt a) (judged_entries p.features rule a) (kept_entries p.entries rule a)
+after_ascend : (w : Rectangle) (p : Project) (rule : InForce) (a : Feature) → feature_list.IsAscending p.features → entry_list.IsAscending p.entries → entry_list.IsAscending (entries_after w p rule a)
+after_ascend w p rule a h k = chosen entry_list.IsAscending (is_selected w p.dirt a) (judged_entries p.features rule a) (kept_entries p.entries rule a)
     (pairs_ascend rule.number a (filter (is_partner rule.row.origin.class a) p.features) (ascending_filter (is_partner rule.row.origin.class a) p.features h))
     (entries_filtered (λ (e : Entry). (e.rule == rule.number) && (e.subject == a.handle)) p.entries k)
 
@@ -82,11 +82,11 @@ none_or_one [] h = inl refl
 none_or_one (r ∷ []) h = inr (r, refl, eqb-true r.number 1 h)
 none_or_one (r ∷ q ∷ rs) h = cc
 
-pub keys_after : (p : Project) → are_plain_rules p.rules ≡ true → feature_list.IsAscending p.features → entry_list.IsAscending p.entries
-    → entry_list.IsAscending (flat_map (λ rule. flat_map (entries_after p rule) p.features) p.rules)
-keys_after p h u v = elim (none_or_one p.rules h) [
+pub keys_after : (w : Rectangle) (p : Project) → are_plain_rules p.rules ≡ true → feature_list.IsAscending p.features → entry_list.IsAscending p.entries
+    → entry_list.IsAscending (flat_map (λ rule. flat_map (entries_after w p rule) p.features) p.rules)
+keys_after w p h u v = elim (none_or_one p.rules h) [
   | inl e ↦ rw e tt
-  | inr y ↦ rw (y.1) (rw append-nil (subjects_joined y.0.number (entries_after p y.0) p.features (after_of p y.0) (λ f. after_ascend p y.0 f u v) u))
+  | inr y ↦ rw (y.1) (rw append-nil (subjects_joined y.0.number (entries_after w p y.0) p.features (after_of w p y.0) (λ f. after_ascend w p y.0 f u v) u))
 ]
 
 -- ---- they are plain
@@ -103,10 +103,10 @@ judged_plain rules F rule a (g ∷ gs) h k = (
   judged_plain rules F rule a gs h k,
 )
 
-pub plain_after : (p : Project) → Every (IsPlainEntry p.rules p.features) p.entries → Every (IsPlainEntry p.rules p.features) (flat_map (λ rule. flat_map (entries_after p rule) p.features) p.rules)
-plain_after p h = every_flattened (Has p.rules) (IsPlainEntry p.rules p.features) (λ rule. flat_map (entries_after p rule) p.features) (λ rule m.
-    every_flattened (Has p.features) (IsPlainEntry p.rules p.features) (entries_after p rule) (λ a n.
-    chosen (Every (IsPlainEntry p.rules p.features)) (is_selected p.dirt a) (judged_entries p.features rule a) (kept_entries p.entries rule a)
+pub plain_after : (w : Rectangle) (p : Project) → Every (IsPlainEntry p.rules p.features) p.entries → Every (IsPlainEntry p.rules p.features) (flat_map (λ rule. flat_map (entries_after w p rule) p.features) p.rules)
+plain_after w p h = every_flattened (Has p.rules) (IsPlainEntry p.rules p.features) (λ rule. flat_map (entries_after w p rule) p.features) (λ rule m.
+    every_flattened (Has p.features) (IsPlainEntry p.rules p.features) (entries_after w p rule) (λ a n.
+    chosen (Every (IsPlainEntry p.rules p.features)) (is_selected w p.dirt a) (judged_entries p.features rule a) (kept_entries p.entries rule a)
     (judged_plain p.rules p.features rule a (filter (is_partner rule.row.origin.class a) p.features) m n)
     (every_filtered (IsPlainEntry p.rules p.features) (IsPlainEntry p.rules p.features) (λ (e : Entry). (e.rule == rule.number) && (e.subject == a.handle)) (λ e k t. k) p.entries h))
     p.features (every_has p.features)) p.rules (every_has p.rules)

@@ -5,7 +5,6 @@ pub mod Orders
 pub mod Judgings
 pub mod Plains
 pub mod ListChanges
-pub mod GridCuts
 pub mod Lookups
 pub mod Headlines
 pub mod Steps

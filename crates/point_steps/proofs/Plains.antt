@@ -1,19 +1,18 @@
 -- What each change keeps of a project of one class of points.
-use Rattle.std.proofs.Common.{◌≡◌, ℕ, ◌+◌, ◌<◌, Bool, true, false, not, refl, arith, List, [], ◌∷◌, ◌++◌}
-use Rattle.std.specs.Prelude.{if◌then◌else◌}
-use Rattle.std.specs.List.{list_any, filter}
+use Rattle.std.proofs.Common.{◌≡◌, ℕ, ◌+◌, ◌<◌, true, refl, arith, List, [], ◌∷◌, ◌++◌}
 use Rattle.std.proofs.lemmas.Int.{ints}
 use Rattle.plane_terms.specs.Lists.{Every}
 use Rattle.plane_terms.specs.Point.{Place, IsInReach}
-use Rattle.plane_terms.specs.Rectangle.{Rectangle, rect_at, is_within, whole_grid, IsRectangle}
-use Rattle.plane_terms.specs.Dirt.{add_dirt}
+use Rattle.plane_terms.specs.Rectangle.{Rectangle, rect_at, whole_grid, IsRectangle}
 use Rattle.topology_terms.specs.Feature.{Feature, place}
 use Rattle.topology_terms.specs.Feature as feature_list
 use Rattle.topology_terms.specs.Entry.{Entry}
 use Rattle.topology_terms.specs.Project.{Project, InForce, empty_project}
 use Rattle.plane_terms.proofs.ListLemmas.{SomeOf-append_left}
-use Rattle.point_steps.specs.Points.{with_class, disjoint_rule, with_rule, point_feature, with_point, validated, is_point, is_plain}
-use Rattle.point_steps.proofs.ListTests.{every_mapped, every_joined, every_filtered}
+use Rattle.sound_steps.proofs.Pieces.{every_added}
+use Rattle.sound_steps.proofs.Cuts.{cut_rectangles}
+use Rattle.point_steps.specs.Points.{with_class, disjoint_rule, with_rule, point_feature, with_point, validated_in, is_point, is_plain}
+use Rattle.point_steps.proofs.ListTests.{every_mapped, every_joined}
 use Rattle.point_steps.proofs.Envelopes.{rect_in_reach, reach_test}
 use Rattle.point_steps.proofs.PlainFacts.{IsPlainEntry, plain_facts, plain_test}
 use Rattle.point_steps.proofs.Judgings.{keys_after, plain_after}
@@ -23,16 +22,6 @@ plain_empty = refl
 
 pub plain_class : (p : Project) (name : List ℕ) → is_plain p ≡ true → is_plain (with_class p name) ≡ true
 plain_class p name h = h
-
--- one rectangle of the grid more
-dirt_added : (d : List Rectangle) (r : Rectangle) → IsRectangle r → Every IsRectangle d → Every IsRectangle (add_dirt d r)
-unfolding add_dirt
-dirt_added d r h k = choose (list_any (λ s. is_within r s) d) d (filter (λ s. not (is_within s r)) d ++ r ∷ []) k
-    (every_joined IsRectangle (filter (λ s. not (is_within s r)) d) (r ∷ []) (every_filtered IsRectangle IsRectangle (λ s. not (is_within s r)) (λ s m n. m) d k) (h, tt))
-  where
-    choose : (b : Bool) (d e : List Rectangle) → Every IsRectangle d → Every IsRectangle e → Every IsRectangle (if b then d else e)
-    choose true d e h k = h
-    choose false d e h k = k
 
 -- with no rule there is no entry
 entry_kept : (q : InForce) (F : List Feature) (e : Entry) → IsPlainEntry [] F e → IsPlainEntry (q ∷ []) F e
@@ -50,7 +39,7 @@ plain_rule p class e h =
       ascending = k.ascending;
       below = k.below;
       points = k.points;
-      dirt = dirt_added p.dirt whole_grid grid_is_rectangle k.dirt;
+      dirt = every_added IsRectangle p.dirt whole_grid k.dirt grid_is_rectangle;
       entries = rw rules (every_mapped (IsPlainEntry [] p.features) (IsPlainEntry (disjoint_rule class ∷ []) p.features) (entry_kept (disjoint_rule class) p.features) p.entries (rw e at k.entries));
       keys = k.keys;
     })
@@ -74,20 +63,20 @@ plain_point p class q i h =
       below = every_joined (λ (f : Feature). f.handle < p.next + 1) p.features (g ∷ [])
           (every_mapped (λ (f : Feature). f.handle < p.next) (λ (f : Feature). f.handle < p.next + 1) (λ f m. omega (arith, m)) p.features k.below) (omega arith, tt);
       points = every_joined (λ f. is_point f ≡ true) p.features (g ∷ []) k.points (t, tt);
-      dirt = dirt_added p.dirt (rect_at q) (rect_in_reach q t) k.dirt;
+      dirt = every_added IsRectangle p.dirt (rect_at q) k.dirt (rect_in_reach q t);
       entries = every_mapped (IsPlainEntry p.rules p.features) (IsPlainEntry p.rules (p.features ++ g ∷ [])) (entry_still p.rules p.features g) p.entries k.entries;
       keys = k.keys;
     })
 
-pub plain_validated : (p : Project) → is_plain p ≡ true → is_plain (validated p) ≡ true
-plain_validated p h =
+pub plain_validated : (w : Rectangle) (p : Project) → IsRectangle w → is_plain p ≡ true → is_plain (validated_in w p) ≡ true
+plain_validated w p i h =
     let k = plain_facts p h in
-    plain_test (validated p) (record {
+    plain_test (validated_in w p) (record {
       rules = k.rules;
       ascending = k.ascending;
       below = k.below;
       points = k.points;
-      dirt = tt;
-      entries = plain_after p k.entries;
-      keys = keys_after p k.rules k.ascending k.keys;
+      dirt = cut_rectangles p.dirt w k.dirt i;
+      entries = plain_after w p k.entries;
+      keys = keys_after w p k.rules k.ascending k.keys;
     })

@@ -1,23 +1,23 @@
--- A subject is selected exactly where it is a live point whose place meets the dirt.
+-- A subject is selected exactly where it is a live point in the window whose place is dirty.
 use Rattle.std.proofs.Common.{◌≡◌, inl, inr, ℕ, true, false, sym, ◌∙◌, arith, Some}
 use Rattle.std.specs.Prelude.{Decides}
+use Rattle.std.specs.List.{list_any}
+use Rattle.std.proofs.lemmas.Bool.{and_parts, and_from}
 use Rattle.std.proofs.lemmas.Int.{ints}
 use Rattle.plane_terms.specs.Point.{Place, Point}
-use Rattle.plane_terms.specs.Rectangle.{Rectangle, RectHolds, rect_at, rects_meet, whole_grid, IsRectangle}
+use Rattle.plane_terms.specs.Rectangle.{Rectangle, RectHolds, rect_at, rects_meet}
 use Rattle.plane_terms.proofs.Points.{point_at}
 use Rattle.topology_terms.specs.Feature.{Feature, feature_at, place, env}
 use Rattle.topology_terms.specs.Broken.{Row}
 use Rattle.topology_terms.specs.Entry.{Entry, entry_at}
 use Rattle.topology_terms.specs.Project.{Project, rule_at}
 use Rattle.topology_terms.specs.Changes.{TouchesSubject, IsSelected}
-use Rattle.sound_steps.proofs.Planes.{within_Holds}
 use Rattle.sound_steps.proofs.Pieces.{meeting}
 use Rattle.sound_steps.proofs.Meetings.{meets_test}
 use Rattle.sound_steps.proofs.Disjoint.{at_held}
 use Rattle.sound_steps.proofs.Lists.{entry_key}
 use Rattle.point_steps.specs.Points.{is_selected, is_point}
 use Rattle.point_steps.proofs.ListTests.{Has, some_from_test, test_from_some, some_mapped, some_with_every, some_given, every_has}
-use Rattle.point_steps.proofs.Envelopes.{point_shape_of, rect_in_reach}
 use Rattle.point_steps.proofs.PlainFacts.{IsPlainEntry, IsPlain}
 use Rattle.point_steps.proofs.Orders.{every_at, found_at, found_has}
 use Rattle.point_steps.proofs.Lookups.{of_found, number_at}
@@ -34,9 +34,6 @@ point_live p n a f e = every_at (λ g. is_point g ≡ true) p.features f n.point
 
 pub envelope_live : (p : Project) → IsPlain p → (a : ℕ) (f : Feature) → feature_at p.features a ≡ Some f → env f ≡ rect_at (place f)
 envelope_live p n a f e = point_envelope f (point_live p n a f e)
-
-on_grid : (f : Feature) → is_point f ≡ true → IsRectangle (rect_at (place f))
-on_grid f e = let s = point_shape_of f e in rw s.shape (rect_in_reach s.at s.in_reach)
 
 -- an entry is of a live subject, with the frame of its place
 pub subject_live : (p : Project) → IsPlain p → (r a b : ℕ) (e : Entry) → entry_at p.entries r a b ≡ Some e → (f : Feature) × (feature_at p.features a ≡ Some f) × (e.frame ≡ rect_at (place f))
@@ -69,23 +66,26 @@ touched p n a q t = elim t [
 ]
 
 -- no dead number is selected
-pub selected_live : (p : Project) → IsPlain p → (a : ℕ) → IsSelected p whole_grid a → (f : Feature) × (feature_at p.features a ≡ Some f)
-selected_live p n a s = let t = touched p n a s.0 s.3 in (t.0, t.1)
+pub selected_live : (w : Rectangle) (p : Project) → IsPlain p → (a : ℕ) → IsSelected p w a → (f : Feature) × (feature_at p.features a ≡ Some f)
+selected_live w p n a s = let t = touched p n a s.0 s.3 in (t.0, t.1)
 
-pub selected_is : (p : Project) → IsPlain p → (a : ℕ) (f : Feature) → feature_at p.features a ≡ Some f → Decides (is_selected p.dirt f) (IsSelected p whole_grid a)
-selected_is p n a f live = (
-  (λ e.
-      let q = point_at (place f) in
-      let held = at_held (place f) q (at_itself (place f)) in
-      let grid = on_grid f (point_live p n a f live) in
-      let meeting = some_from_test (λ r. rects_meet r (rect_at (place f))) (λ r. rects_meet r (rect_at (place f)) ≡ true) (λ r k. k) p.dirt e in (
-        q,
-        some_mapped (λ r. rects_meet r (rect_at (place f)) ≡ true) (λ r. RectHolds r q) (λ r k. holds_place r (place f) k) p.dirt meeting,
-        within_Holds (rect_at (place f)) whole_grid grid.on_grid q held,
-        inl (f, live, rw (envelope_live p n a f live) held),
-      )),
-  (λ s.
-      let t = touched p n a s.0 s.3 in
-      let held : RectHolds (rect_at (place f)) s.0 = rw (same_live p a f t.0 live t.1) at t.2 in
-      test_from_some (λ r. rects_meet r (rect_at (place f))) (λ r. RectHolds r s.0) (λ r k. meets_test r (rect_at (place f)) (s.0, k, held)) p.dirt s.1),
-)
+pub selected_is : (w : Rectangle) (p : Project) → IsPlain p → (a : ℕ) (f : Feature) → feature_at p.features a ≡ Some f → Decides (is_selected w p.dirt f) (IsSelected p w a)
+selected_is w p n a f live =
+    let in_window = rects_meet w (rect_at (place f)) in
+    let is_dirty = list_any (λ r. rects_meet r (rect_at (place f))) p.dirt in (
+      (λ e.
+          let q = point_at (place f) in
+          let held = at_held (place f) q (at_itself (place f)) in
+          let both = and_parts in_window is_dirty e in
+          let meeting = some_from_test (λ r. rects_meet r (rect_at (place f))) (λ r. rects_meet r (rect_at (place f)) ≡ true) (λ r k. k) p.dirt both.1 in (
+            q,
+            some_mapped (λ r. rects_meet r (rect_at (place f)) ≡ true) (λ r. RectHolds r q) (λ r k. holds_place r (place f) k) p.dirt meeting,
+            holds_place w (place f) both.0,
+            inl (f, live, rw (envelope_live p n a f live) held),
+          )),
+      (λ s.
+          let t = touched p n a s.0 s.3 in
+          let held : RectHolds (rect_at (place f)) s.0 = rw (same_live p a f t.0 live t.1) at t.2 in
+          and_from in_window is_dirty (meets_test w (rect_at (place f)) (s.0, s.2, held))
+          (test_from_some (λ r. rects_meet r (rect_at (place f))) (λ r. RectHolds r s.0) (λ r k. meets_test r (rect_at (place f)) (s.0, k, held)) p.dirt s.1)),
+    )

@@ -7,7 +7,7 @@ use Rattle.topology_terms.specs.Project.{Project, IsOrdered}
 use Rattle.topology_terms.specs.Sound.{IsKept}
 use Rattle.text_terms.specs.Fields.{skip_end_blanks}
 use Rattle.text_terms.specs.Wkt.{IsWrittenPoint}
-use Rattle.script_terms.specs.Command.{Command, IsCommandLine, Class as AClass, Rule, Begin, Add, Validate, Dirty, Cells}
+use Rattle.script_terms.specs.Command.{Command, IsCommandLine, Class as AClass, Rule, Begin, Add, Validate, Dirty, Errors, Cells}
 use Rattle.script_terms.specs.Refusal.{Refusal}
 use Rattle.script_terms.specs.Reply.{Reply}
 use Rattle.script_terms.specs.State.{State, empty_state, class_number}
@@ -38,6 +38,7 @@ done_kept old line (Add editor class shape) reply new l d k =
     point_kept d.0 (record { handle = d.0; class = number_or_0 (class_number old.project class); shape = shape }) old.project new.project d.2.edited.edit (written_kind text shape l.1.point) (written_rectangle text shape l.1.point) k
 done_kept old line (Validate w) reply new l d k = validated_kept w old.project new.project d.4.validated k
 done_kept old line Dirty reply new l d k = kept_at old.project new.project (ap (λ (s : State). s.project) d.1.same) k
+done_kept old line Errors reply new l d k = kept_at old.project new.project (ap (λ (s : State). s.project) d.1.same) k
 done_kept old line Cells reply new l d k = kept_at old.project new.project (ap (λ (s : State). s.project) d.1.same) k
 
 answer_kept : (r : Option Refusal) (old : State) (line : List ℕ) (c : Command) (reply : Reply) (new : State) → IsCommandLine line c → answers_by r old c reply new → IsKept old.project → IsKept new.project

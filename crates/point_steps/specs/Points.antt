@@ -3,8 +3,9 @@
 -- with_class p name          the project with one more class of points
 -- with_rule p class          with the rule Must Be Disjoint for the class of this number, as rule 1; the whole grid is dirty
 -- with_point p class place   with one more point, under the next handle; its place is dirty
--- validated p                the whole grid is validated: each point that meets the dirt is judged afresh, the others keep their entries
--- judged_count p             how many points are judged by it
+-- validated_in w p           the window w is validated: each point in it whose place is dirty is judged afresh, the others keep
+--                            their entries, and the window is cut out of the dirt
+-- judged_count w p           how many points are judged by it
 -- is_plain p                 what each of these keeps, as a test
 --
 -- These are lists, so that code is compared with them by equations; that they are the changes of topology_terms is proved in proofs/.
@@ -14,7 +15,7 @@ use Rattle.std.specs.Ordering.{int_eq}
 use Rattle.plane_terms.specs.Point.{Place, same_place}
 use Rattle.plane_terms.specs.Rectangle.{Rectangle, rect_at, rects_meet, is_within, whole_grid}
 use Rattle.plane_terms.specs.Cell.{at_place}
-use Rattle.plane_terms.specs.Dirt.{add_dirt}
+use Rattle.plane_terms.specs.Dirt.{add_dirt, cut_dirt}
 use Rattle.plane_terms.specs.Shape.{point_shape}
 use Rattle.plane_terms.specs.declared.kind.Kind.{Kind}
 use Rattle.plane_terms.specs.declared.kind.Kind.TheVariants as kinds
@@ -43,9 +44,9 @@ point_feature handle class q = record { handle = handle; class = class; shape = 
 abbrev pub with_point : Project → ℕ → Place → Project
 with_point p class q = record p { features = p.features ++ point_feature p.next class q ∷ []; next = p.next + 1; dirt = add_dirt p.dirt (rect_at q) }
 
--- ---- a validation of the whole grid
-abbrev pub is_selected : List Rectangle → Feature → Bool
-is_selected d f = list_any (λ r. rects_meet r (rect_at (place f))) d
+-- ---- a validation of a window
+abbrev pub is_selected : Rectangle → List Rectangle → Feature → Bool
+is_selected w d f = rects_meet w (rect_at (place f)) && list_any (λ r. rects_meet r (rect_at (place f))) d
 
 -- b is a partner of a under the rule for this class
 abbrev pub is_partner : ℕ → Feature → Feature → Bool
@@ -60,14 +61,14 @@ judged_entries F rule a = map (pair_entry rule.number a) (filter (is_partner rul
 abbrev pub kept_entries : List Entry → InForce → Feature → List Entry
 kept_entries es rule a = filter (λ (e : Entry). (e.rule == rule.number) && (e.subject == a.handle)) es
 
-abbrev pub entries_after : Project → InForce → Feature → List Entry
-entries_after p rule a = if is_selected p.dirt a then judged_entries p.features rule a else kept_entries p.entries rule a
+abbrev pub entries_after : Rectangle → Project → InForce → Feature → List Entry
+entries_after w p rule a = if is_selected w p.dirt a then judged_entries p.features rule a else kept_entries p.entries rule a
 
-abbrev pub validated : Project → Project
-validated p = record p { dirt = []; entries = flat_map (λ rule. flat_map (entries_after p rule) p.features) p.rules }
+abbrev pub validated_in : Rectangle → Project → Project
+validated_in w p = record p { dirt = cut_dirt p.dirt w; entries = flat_map (λ rule. flat_map (entries_after w p rule) p.features) p.rules }
 
-abbrev pub judged_count : Project → ℕ
-judged_count p = sum_by (λ (rule : InForce). count_by (λ a. is_selected p.dirt a && (a.class == rule.row.origin.class)) p.features) p.rules
+abbrev pub judged_count : Rectangle → Project → ℕ
+judged_count w p = sum_by (λ (rule : InForce). count_by (λ a. is_selected w p.dirt a && (a.class == rule.row.origin.class)) p.features) p.rules
 
 -- ---- what is kept
 abbrev pub is_in_reach : Place → Bool

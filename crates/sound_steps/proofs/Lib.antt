@@ -9,6 +9,7 @@ pub mod States
 pub mod Settling
 pub mod Lists
 pub mod Pieces
+pub mod Cuts
 pub mod Those
 pub mod Places
 pub mod Meetings
