@@ -64,6 +64,21 @@ impl Rect {
         })
     }
 
+    /// The rectangle of four sides of which the caller knows that they are one: least corner first, in grid units.
+    pub fn of_sides(x0: i32, y0: i32, x1: i32, y1: i32) -> Rect
+        requires { IsRectangle (rect_of x0 y0 x1 y1) }
+        ensures { result ≡ rect_of x0 y0 x1 y1 }
+    {
+        Rect { x0, y0, x1, y1 }
+    }
+
+    /// The law that the corners are in order and on the grid.
+    pub fn corner_law(&self)
+        ensures { IsRectangle self.now }
+    {
+        let _ = &self.x0;
+    }
+
     /// The whole grid.
     pub fn whole() -> Rect
         ensures { result ≡ whole_grid }

@@ -1,0 +1,141 @@
+-- What the calls cite: one rectangle more, and a window less, step by step.
+use Rattle.std.proofs.Common.{◌≡◌, ℕ, ◌+◌, ◌<◌, ◌≤ℤ◌, arith, Bool, true, false, not, refl, sym, ap, ◌∙◌, inl, inr, List, [], ◌∷◌, ◌++◌, length, take, get_or}
+use Rattle.std.specs.Prelude.{◌↔◌, IsTrue, int_lt, Result, Ok, Err, OnOk, OnErr}
+use Rattle.std.specs.Int.{int_max, int_min}
+use Rattle.std.proofs.lemmas.Bool.{or_cases, or_left, or_right}
+use Rattle.std.proofs.lemmas.Int.{ints, clamps}
+use Rattle.std.specs.List.{list_any, filter}
+use Rattle.std.proofs.lemmas.List.{take_more}
+use Rattle.plane_terms.specs.Lists.{Every}
+use Rattle.plane_terms.specs.Point.{Point}
+use Rattle.plane_terms.specs.Rectangle.{Rectangle, RectHolds, RectsMeet, IsRectangle, is_within, rects_meet, rect_of, part_of}
+use Rattle.plane_terms.specs.Dirt.{Covers, MeetsDirt, add_dirt, add_all, cut_from, cut_dirt, pieces, piece_if}
+use Rattle.sound_steps.proofs.Pieces.{meeting, every_added, add_loose, cut_loose}
+use Rattle.sound_steps.proofs.Cuts.{cut_rectangles}
+use Rattle.sound_steps.proofs.Meetings.{meets_test, meets_from_test}
+use Rattle.grid_plane.specs.declared.memory.NoMemory.{NoMemory}
+use Rattle.dirty_area.specs.Parts.{IsDirt, IsCommon, MeetsPart}
+
+-- ---- one rectangle more
+pub add_dirt-held : (d : List Rectangle) (r : Rectangle) → list_any (λ s. is_within r s) d ≡ true → add_dirt d r ≡ d
+unfolding add_dirt
+add_dirt-held d r e = rw e
+
+pub add_dirt-loose : (d : List Rectangle) (r : Rectangle) → list_any (λ s. is_within r s) d ≡ false → add_dirt d r ≡ filter (λ s. not (is_within s r)) d ++ r ∷ []
+unfolding add_dirt
+add_dirt-loose d r e = rw e
+
+pub add_all-none : (d : List Rectangle) → add_all d [] ≡ d
+unfolding add_all
+add_all-none d = refl
+
+pub add_all-one : (d : List Rectangle) (r : Rectangle) → add_all d (r ∷ []) ≡ add_dirt d r
+unfolding add_all
+add_all-one d r = refl
+
+add_all-append : (d xs ys : List Rectangle) → add_all d (xs ++ ys) ≡ add_all (add_all d xs) ys
+unfolding add_all
+add_all-append d [] ys = refl
+add_all-append d (x ∷ xs) ys = add_all-append (add_dirt d x) xs ys
+
+-- ---- the pieces of one
+pub pieces-apart : (r w : Rectangle) → rects_meet r w ≡ false → pieces r w ≡ r ∷ []
+unfolding pieces
+pieces-apart r w e = rw e
+
+pieces_round : (r w m : Rectangle) → rects_meet r w ≡ true → m ≡ part_of r w → pieces r w ≡
+    piece_if (int_lt r.x0 w.x0) (rect_of r.x0 r.y0 w.x0 r.y1)
+    ++ (piece_if (int_lt w.x1 r.x1) (rect_of w.x1 r.y0 r.x1 r.y1)
+    ++ (piece_if (int_lt r.y0 w.y0) (rect_of m.x0 r.y0 m.x1 w.y0)
+    ++ piece_if (int_lt w.y1 r.y1) (rect_of m.x0 w.y1 m.x1 r.y1)))
+unfolding pieces
+pieces_round r w m e f = rw (e, f)
+
+add_all-four : (d a b c e : List Rectangle) → add_all d (a ++ (b ++ (c ++ e))) ≡ add_all (add_all (add_all (add_all d a) b) c) e
+add_all-four d a b c e = rw (add_all-append, add_all-append, add_all-append)
+
+-- four calls add the pieces
+pub pieces_added : (d d1 d2 d3 d4 : List Rectangle) (r w m : Rectangle) (a b c e : List Rectangle) → IsCommon m r w
+    → a ≡ piece_if (int_lt r.x0 w.x0) (rect_of r.x0 r.y0 w.x0 r.y1) → b ≡ piece_if (int_lt w.x1 r.x1) (rect_of w.x1 r.y0 r.x1 r.y1)
+    → c ≡ piece_if (int_lt r.y0 w.y0) (rect_of m.x0 r.y0 m.x1 w.y0) → e ≡ piece_if (int_lt w.y1 r.y1) (rect_of m.x0 w.y1 m.x1 r.y1)
+    → d1 ≡ add_all d a → d2 ≡ add_all d1 b → d3 ≡ add_all d2 c → d4 ≡ add_all d3 e → d4 ≡ add_all d (pieces r w)
+pieces_added d d1 d2 d3 d4 r w m a b c e h ha hb hc he h1 h2 h3 h4 =
+    let f = pieces_round r w m (meets_test r w h.meet) h.part in
+    let g = add_all-four d a b c e in
+    cc
+
+-- a piece that is there, and one that is not
+pub piece_there : (b : Bool) (r s : Rectangle) → b ≡ true → r ≡ s → r ∷ [] ≡ piece_if b s
+piece_there b r s e same = rw (e, same) refl
+
+-- ---- one rectangle of the list more is cut
+cut_from-append : (d xs ys : List Rectangle) (w : Rectangle) → cut_from d (xs ++ ys) w ≡ cut_from (cut_from d xs w) ys w
+unfolding cut_from
+cut_from-append d [] ys w = refl
+cut_from-append d (x ∷ xs) ys w = cut_from-append (add_all d (pieces x w)) xs ys w
+
+pub cut_from-none : (d : List Rectangle) (w : Rectangle) → cut_from d [] w ≡ d
+unfolding cut_from
+cut_from-none d w = refl
+
+cut_from-one : (d : List Rectangle) (x w : Rectangle) → cut_from d (x ∷ []) w ≡ add_all d (pieces x w)
+unfolding cut_from
+cut_from-one d x w = refl
+
+pub cut_more : (xs old new : List Rectangle) (w x : Rectangle) (i : ℕ) → old ≡ cut_from [] (take i xs) w → i < length xs → x ≡ get_or xs i x → new ≡ add_all old (pieces x w) → new ≡ cut_from [] (take (i + 1) xs) w
+cut_more xs old new w x i h l e n =
+    let t = take_more xs i x l in
+    let k = cut_from-append [] (take i xs) (x ∷ []) w in
+    let o = cut_from-one (cut_from [] (take i xs) w) x w in
+    let s : take (i + 1) xs ≡ take i xs ++ x ∷ [] = cc in
+    rw s (cc)
+
+-- ---- what is common
+-- the sides of what two rectangles that meet have in common
+pub common_sides : (m r w : Rectangle) → IsCommon m r w → IsRectangle r → IsRectangle w
+    → ((r.x0 ≤ℤ m.x0) × (m.x0 ≤ℤ m.x1) × (m.x1 ≤ℤ r.x1) × (w.y0 ≤ℤ r.y1) × (r.y0 ≤ℤ w.y1))
+common_sides m r w h i j =
+    let k = meeting r w (meets_test r w h.meet) in
+    let low : m.x0 ≡ int_max r.x0 w.x0 = ap (λ (s : Rectangle). s.x0) h.part in
+    let high : m.x1 ≡ int_min r.x1 w.x1 = ap (λ (s : Rectangle). s.x1) h.part in
+    omega (arith, ints, clamps)
+
+pub apart_test : (r w : Rectangle) → IsRectangle r → IsRectangle w → (RectsMeet r w → ⊥) → rects_meet r w ≡ false
+apart_test r w i j n = at (rects_meet r w) refl
+  where
+    at : (b : Bool) → rects_meet r w ≡ b → b ≡ false
+    at true e = absurd (n (meets_from_test r w i.proper j.proper e))
+    at false e = refl
+
+-- a rectangle of the list meets r exactly where some point of r is dirty
+some_meets : (d : List Rectangle) (r : Rectangle) → Every IsRectangle d → IsRectangle r → list_any (λ s. rects_meet s r) d ≡ true → MeetsDirt d r
+some_meets [] r h i e = absurd cc
+some_meets (s ∷ d) r h i e = elim (or_cases (rects_meet s r) (list_any (λ t. rects_meet t r) d) e) [
+  | inl t ↦ let m = meets_from_test s r h.0.proper i.proper t in (m.0, inl m.1, m.2)
+  | inr t ↦ let m = some_meets d r h.1 i t in (m.0, inr m.1, m.2)
+]
+
+met : (d : List Rectangle) (r : Rectangle) (p : Point) → Covers d p → RectHolds r p → list_any (λ s. rects_meet s r) d ≡ true
+met [] r p h k = absurd h
+met (s ∷ d) r p h k = elim h [
+  | inl t ↦ or_left (rects_meet s r) (list_any (λ t. rects_meet t r) d) (meets_test s r (p, t, k))
+  | inr t ↦ or_right (rects_meet s r) (list_any (λ t. rects_meet t r) d) (met d r p t k)
+]
+
+pub meets_dirt : (d : List Rectangle) (r : Rectangle) (t : Bool) → Every IsRectangle d → IsRectangle r → t ≡ list_any (λ s. rects_meet s r) d → IsTrue t ↔ MeetsDirt d r
+meets_dirt d r t h i e = ((λ k. some_meets d r h i (sym e ∙ k)), (λ k. e ∙ met d r k.0 k.1 k.2))
+
+-- a point of both rectangles that some of the dirt holds
+pub meets_part_by : (d : List Rectangle) (w r m : Rectangle) (t : Bool) → ((p : Point) → RectHolds m p ↔ (RectHolds w p × RectHolds r p)) → (IsTrue t ↔ MeetsDirt d m) → IsTrue t ↔ MeetsPart d w r
+meets_part_by d w r m t same meets = (
+  (λ e. let k = meets.0 e in let b = (same k.0).0 k.2 in (k.0, k.1, b.0, b.1)),
+  (λ k. meets.1 (k.0, k.1, (same k.0).1 (k.2, k.3))),
+)
+
+-- ---- the invariant
+pub dirt_added : (d e : List Rectangle) (r : Rectangle) (o : Result (Unit {0}) NoMemory) → OnOk o (e ≡ add_dirt d r) → OnErr o (e ≡ d) → IsDirt d → IsRectangle r → IsDirt e
+dirt_added d e r (Ok u) h k i j = rw h (record { loose = add_loose d r i.loose; on_grid = every_added IsRectangle d r i.on_grid j })
+dirt_added d e r (Err u) h k i j = rw k i
+
+pub dirt_cut : (d e : List Rectangle) (w : Rectangle) → e ≡ cut_dirt d w → IsDirt d → IsRectangle w → IsDirt e
+dirt_cut d e w h i j = rw h (record { loose = cut_loose d w; on_grid = cut_rectangles d w i.on_grid j })

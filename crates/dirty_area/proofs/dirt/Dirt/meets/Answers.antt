@@ -1,0 +1,10 @@
+use Rattle.std.proofs.Common.{◌≡◌}
+use Rattle.std.specs.List.{list_any}
+use Rattle.plane_terms.specs.Rectangle.{rects_meet}
+use Rattle.dirty_area.proofs.Calls.{meets_dirt}
+use Rattle.dirty_area.proofs.dirt.Dirt.meets.Goals as goal
+
+pub returns-clause-meaning : goal.returns-clause-meaning
+returns-clause-meaning c =
+    let e : c.meets_any.result ≡ list_any (λ s. rects_meet s c.args.r.now) c.self.inside.rects.items = rw c.deref.ensures.value at c.meets_any.ensures in
+    rw (← c.self.view_is) (meets_dirt c.self.inside.rects.items c.args.r.now c.meets_any.result c.self.invariant.on_grid c.corner_law.ensures e)

@@ -1,0 +1,7 @@
+use Rattle.std.proofs.Common.{not, rules}
+use Rattle.std.proofs.lemmas.Fn.{filter_same}
+use Rattle.plane_terms.specs.Rectangle.{is_within}
+use Rattle.dirty_area.proofs.list.drop_held.Goals as goal
+
+pub returns-clause-held : goal.returns-clause-held
+returns-clause-held c = filter_same _ (λ s. not (is_within s c.args.r.now)) _ (λ x b q h. search rules) _ _ c.retain.ensures.filtered

@@ -1,0 +1,120 @@
+ghost use Rattle.std.specs.Prelude.{◌≡◌, ◌↔◌, ◌<◌, [], length, slice_get, Some, IsTrue, IfOk, OnOk, OnErr};
+ghost use Rattle.std.specs.List.{list_any};
+ghost use Rattle.plane_terms.specs.Point.{Point};
+ghost use Rattle.plane_terms.specs.Rectangle.{RectHolds, rects_meet};
+ghost use Rattle.plane_terms.specs.Dirt.{Covers, MeetsDirt, add_dirt, cut_dirt};
+ghost use Rattle.dirty_area.specs.Parts.{IsDirt, MeetsPart};
+
+use crate::cut::{copy_of, cut_of};
+use crate::list::{add_to, meets_any};
+use grid_plane::{NoMemory, Rect};
+use std::alloc::Global;
+use std::marker::Model;
+
+/// Dirty areas: closed rectangles in grid units, in the order in which they became dirty, of which none lies in another.
+/// Dirty areas in the white paper Working With Geodatabase Topology (Esri); the list is this project's own.
+#[derive(Drop)]
+pub struct Dirt {
+    rects: Vec<Rect>,
+}
+
+impl Model for Dirt {
+    ghost use Rattle.std.specs.Prelude.{List};
+    ghost use Rattle.plane_terms.specs.Rectangle.{Rectangle};
+    ghost use Rattle.dirty_area.specs.Parts.{IsDirt};
+
+    ghost Value = { List Rectangle };
+
+    ghost view = { λ d. d.rects.items };
+
+    ghost invariant = { λ d. IsDirt d.rects.items };
+}
+
+impl Dirt {
+    /// Nothing is dirty.
+    pub fn new(alloc: Global) -> Dirt
+        ensures { result ≡ [] }
+    {
+        Dirt {
+            rects: Vec::new(alloc),
+        }
+    }
+
+    /// How many rectangles there are.
+    pub fn len(&self) -> usize
+        ensures { result ≡ length self.now }
+    {
+        self.rects.len()
+    }
+
+    /// The rectangle at this place of the list, from 0.
+    pub fn rect(&self, i: usize) -> Rect
+        requires { i < length self.now }
+        ensures { slice_get self.now i ≡ Some result }
+    {
+        self.rects[i]
+    }
+
+    /// The rectangles in their order.
+    pub fn rects(&self) -> &[Rect]
+        ensures value { result.now ≡ self.now }
+        ensures loose { IsDirt self.now }
+    {
+        &self.rects
+    }
+
+    /// Whether some point of the rectangle is dirty; touching is meeting.
+    pub fn meets(&self, r: &Rect) -> bool
+        ensures value { result ≡ list_any (λ s. rects_meet s r.now) self.now }
+        ensures meaning { IsTrue result ↔ MeetsDirt self.now r.now }
+    {
+        r.corner_law();
+        meets_any(&self.rects, r)
+    }
+
+    /// Whether some dirty rectangle, the window and this rectangle have a common point.
+    pub fn meets_part(&self, window: &Rect, r: &Rect) -> bool
+        ensures { IsTrue result ↔ MeetsPart self.now window.now r.now }
+    {
+        match window.part(r) {
+            Some(part) => self.meets(&part),
+            None => false,
+        }
+    }
+
+    /// Makes the rectangle dirty: nothing changes where one of the list holds it already; else those that it holds are
+    /// taken out, and it is put last. After an `Err`, want of memory, nothing has changed. Takes steps for each rectangle once.
+    pub fn add(&mut self, r: Rect) -> Result<(), NoMemory>
+        ensures ok { OnOk result (self.new ≡ add_dirt self.old r) }
+        ensures err { OnErr result (self.new ≡ self.old) }
+    {
+        r.corner_law();
+        add_to(&mut self.rects, r)
+    }
+
+    /// Takes the window out: of each rectangle, in order, the pieces that lie outside the window are added to what is left
+    /// so far. They are closed, so the window's border stays dirty where the dirt goes on beyond it. After an `Err`, want of
+    /// memory, nothing has changed.
+    pub fn cut(&mut self, alloc: Global, window: &Rect) -> Result<(), NoMemory>
+        ensures ok { OnOk result (self.new ≡ cut_dirt self.old window.now) }
+        ensures stays { OnOk result ((p : Point) → Covers self.old p → ¬ (RectHolds window.now p) → Covers self.new p) }
+        ensures only { OnOk result ((p : Point) → Covers self.new p → Covers self.old p) }
+        ensures err { OnErr result (self.new ≡ self.old) }
+    {
+        window.corner_law();
+        self.rects = cut_of(alloc, &self.rects, window)?;
+        Ok(())
+    }
+
+    /// An equal value.
+    pub fn try_copy(&self, alloc: Global) -> Result<Dirt, NoMemory>
+        ensures { IfOk result (λ d. d ≡ self.now) }
+    {
+        Ok(Dirt {
+            rects: copy_of(alloc, &self.rects)?,
+        })
+    }
+}
+
+#[cfg(test)]
+mod tests;

@@ -1,0 +1,10 @@
+// Dirty areas: a list of rectangles of which none lies in another, and what a window leaves of it.
+#![tactic(auto)]
+
+mod cut;
+mod dirt;
+mod list;
+mod pieces;
+
+pub use dirt::Dirt;
+pub use pieces::pieces_law;
