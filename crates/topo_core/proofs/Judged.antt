@@ -9,13 +9,13 @@ use Rattle.std.proofs.lemmas.List.Elements.{filter_agree}
 use Rattle.std.specs.List.{list_all, count_by, flat_map, sum_by}
 use Rattle.std.specs.List.Sorted.{IsNonDecreasingBy}
 use Rattle.plane_terms.specs.Point.{Place, same_place}
-use Rattle.plane_terms.specs.Rectangle.{Rectangle}
+use Rattle.plane_terms.specs.Rectangle.{Rectangle, rect_at, rects_meet}
 use Rattle.topology_terms.specs.Feature.{Feature}
 use Rattle.topology_terms.specs.Entry.{Entry}
 use Rattle.topology_terms.specs.Project.{Project, InForce}
-use Rattle.point_steps.specs.Points.{disjoint_rule, is_partner, pair_entry, judged_entries, kept_entries, keys_ascend, is_key_below, is_selected, entries_after, judged_count, validated}
+use Rattle.point_steps.specs.Points.{disjoint_rule, is_partner, pair_entry, judged_entries, kept_entries, keys_ascend, is_key_below, is_selected, entries_after, judged_count, validated_in}
 use Rattle.topo_core.specs.Parts.{feature_of, entry_of_pair}
-use Rattle.topo_core.specs.Dirty.{is_dirty_at, IsIndexOf}
+use Rattle.topo_core.specs.Dirty.{is_judged_at, IsIndexOf}
 use Rattle.topo_core.specs.Places.{is_at, is_of, is_above, pair_of, IsByPlace}
 use Rattle.topo_core.proofs.PlaceOrders.{is_at-same_place, filter-filter}
 use Rattle.topo_core.specs.declared.parts.Pair.{Pair}
@@ -78,17 +78,17 @@ partner_tests class a b own =
     let there : is_at a.place b ≡ same_place a.place b.place = is_at-same_place a.place b ∙ same_place-turned b.place a.place in
     ap (λ t. (is_of class b && t) && is_above a b) there ∙ tests_turned (is_above a b) (a.class == class) (b.class == class) (same_place a.place b.place) own
 
-pub judged-pairs : (class : ℕ) (a : PointFeature) (F points : List PointFeature) → IsByPlace class F points → (a.class == class) ≡ true → map entry_of_pair (map (pair_of a) (filter (is_above a) (filter (is_at a.place) points))) ≡ judged_entries (map feature_of F) (disjoint_rule class) (feature_of a)
-judged-pairs class a F points h own =
+pub judged-pairs : (class : ℕ) (w : Rectangle) (a : PointFeature) (F points : List PointFeature) → IsByPlace class w F points → rects_meet w (rect_at a.place) ≡ true → (a.class == class) ≡ true → map entry_of_pair (map (pair_of a) (filter (is_above a) (filter (is_at a.place) points))) ≡ judged_entries (map feature_of F) (disjoint_rule class) (feature_of a)
+judged-pairs class w a F points h inside own =
     let partner : PointFeature → Bool = λ b. is_partner class (feature_of a) (feature_of b) in
     let found : filter (is_above a) (filter (is_at a.place) points) ≡ filter partner F =
-    ap (filter (is_above a)) (h.each a.place) ∙ filter-filter (λ b. is_of class b && is_at a.place b) (is_above a) F ∙ filter_agree (λ b. (is_of class b && is_at a.place b) && is_above a b) partner (λ b. partner_tests class a b own) F in
+    ap (filter (is_above a)) (h.each a.place inside) ∙ filter-filter (λ b. is_of class b && is_at a.place b) (is_above a) F ∙ filter_agree (λ b. (is_of class b && is_at a.place b) && is_above a b) partner (λ b. partner_tests class a b own) F in
     ap (λ bs. map entry_of_pair (map (pair_of a) bs)) found ∙ pairs-entries a (filter partner F) ∙ ap (map (pair_entry 1 (feature_of a))) (map-filter feature_of (is_partner class (feature_of a)) F)
 
 -- pairs come after those that are there, from the points at the place of a
-pub judged_after : (class : ℕ) (a : PointFeature) (F points group : List PointFeature) (old new : List Pair) → IsByPlace class F points → (a.class == class) ≡ true → group ≡ filter (is_at a.place) points → new ≡ old ++ map (pair_of a) (filter (is_above a) group) → map entry_of_pair new ≡ map entry_of_pair old ++ judged_entries (map feature_of F) (disjoint_rule class) (feature_of a)
-judged_after class a F points group old new h own there pushed =
-    ap (map entry_of_pair) pushed ∙ map-append entry_of_pair old (map (pair_of a) (filter (is_above a) group)) ∙ ap (λ es. map entry_of_pair old ++ es) (ap (λ bs. map entry_of_pair (map (pair_of a) (filter (is_above a) bs))) there ∙ judged-pairs class a F points h own)
+pub judged_after : (class : ℕ) (w : Rectangle) (a : PointFeature) (F points group : List PointFeature) (old new : List Pair) → IsByPlace class w F points → rects_meet w (rect_at a.place) ≡ true → (a.class == class) ≡ true → group ≡ filter (is_at a.place) points → new ≡ old ++ map (pair_of a) (filter (is_above a) group) → map entry_of_pair new ≡ map entry_of_pair old ++ judged_entries (map feature_of F) (disjoint_rule class) (feature_of a)
+judged_after class w a F points group old new h inside own there pushed =
+    ap (map entry_of_pair) pushed ∙ map-append entry_of_pair old (map (pair_of a) (filter (is_above a) group)) ∙ ap (λ es. map entry_of_pair old ++ es) (ap (λ bs. map entry_of_pair (map (pair_of a) (filter (is_above a) bs))) there ∙ judged-pairs class w a F points h inside own)
 
 no_partner : (class : ℕ) (a b : Feature) → (a.class == class) ≡ false → is_partner class a b ≡ false
 no_partner class a b other = grind arith
@@ -97,12 +97,16 @@ pub judged-none : (class : ℕ) (a : PointFeature) (F : List PointFeature) → (
 judged-none class a F other = ap (map (pair_entry 1 (feature_of a))) (filter-none (is_partner class (feature_of a)) (map feature_of F) (λ b. no_partner class (feature_of a) b other))
 
 -- ---- one rule
-pub rule_judged : (p : Project) (class : ℕ) (F : List PointFeature) (wide single : List Rectangle) (judged : ℕ) (found : List Pair) → p.rules ≡ disjoint_rule class ∷ [] → p.features ≡ map feature_of F → IsIndexOf p.dirt wide single → judged ≡ count_by (λ (a : PointFeature). is_dirty_at wide single a.place && (a.class == class)) F → map entry_of_pair found ≡ flat_map (entries_after p (disjoint_rule class)) (map feature_of F) → (judged ≡ judged_count p) × (map entry_of_pair found ≡ (validated p).entries)
-rule_judged p class F wide single judged found rules features index count pairs =
-    let counted : judged ≡ count_by (λ (a : PointFeature). is_selected p.dirt (feature_of a) && (a.class == class)) F = count ∙ ap (λ f. count_by f F) (λ i a. sym (index.each a.place) i && (a.class == class)) in
-    let each : InForce → ℕ = λ (rule : InForce). count_by (λ a. is_selected p.dirt a && (a.class == rule.row.origin.class)) p.features in
-    let test : Feature → Bool = λ a. is_selected p.dirt a && (a.class == class) in
-    let entries : InForce → List Entry = λ rule. flat_map (entries_after p rule) p.features in (
+-- the test by the index is that of the lists
+judged_by_lists : (class : ℕ) (w : Rectangle) (d wide single : List Rectangle) → IsIndexOf d wide single → (a : PointFeature) → is_judged_at class w wide single a ≡ (is_selected w d (feature_of a) && (a.class == class))
+judged_by_lists class w d wide single index a = λ i. (rects_meet w (rect_at a.place) && sym (index.each a.place) i) && (a.class == class)
+
+pub rule_judged : (w : Rectangle) (p : Project) (class : ℕ) (F : List PointFeature) (wide single : List Rectangle) (judged : ℕ) (found : List Pair) → p.rules ≡ disjoint_rule class ∷ [] → p.features ≡ map feature_of F → IsIndexOf p.dirt wide single → judged ≡ count_by (is_judged_at class w wide single) F → map entry_of_pair found ≡ flat_map (entries_after w p (disjoint_rule class)) (map feature_of F) → (judged ≡ judged_count w p) × (map entry_of_pair found ≡ (validated_in w p).entries)
+rule_judged w p class F wide single judged found rules features index count pairs =
+    let counted : judged ≡ count_by (λ (a : PointFeature). is_selected w p.dirt (feature_of a) && (a.class == class)) F = count ∙ ap (λ f. count_by f F) (λ i a. judged_by_lists class w p.dirt wide single index a i) in
+    let each : InForce → ℕ = λ (rule : InForce). count_by (λ a. is_selected w p.dirt a && (a.class == rule.row.origin.class)) p.features in
+    let test : Feature → Bool = λ a. is_selected w p.dirt a && (a.class == class) in
+    let entries : InForce → List Entry = λ rule. flat_map (entries_after w p rule) p.features in (
       counted ∙ sym (count_by-map test feature_of F) ∙ ap (count_by test) (sym features) ∙ sym (zero-add (count_by test p.features)) ∙ ap (sum_by each) (sym rules),
-      pairs ∙ ap (flat_map (entries_after p (disjoint_rule class))) (sym features) ∙ sym (append-nil (entries (disjoint_rule class))) ∙ ap (flat_map entries) (sym rules),
+      pairs ∙ ap (flat_map (entries_after w p (disjoint_rule class))) (sym features) ∙ sym (append-nil (entries (disjoint_rule class))) ∙ ap (flat_map entries) (sym rules),
     )

@@ -1,4 +1,3 @@
-pub mod Dirts
 pub mod Projects
 pub mod Ranges
 pub mod PlaceOrders

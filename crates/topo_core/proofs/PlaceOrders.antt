@@ -1,15 +1,18 @@
 -- The points by place.
-use Rattle.std.proofs.Common.{◌≡◌, ℕ, ◌==◌, Bool, true, false, not, ◌&&◌, List, [], ◌∷◌, cond, ltb, leb, filter, refl, sym, ◌∙◌, ap}
+use Rattle.std.proofs.Common.{◌≡◌, ℕ, ◌==◌, Bool, true, false, not, ◌&&◌, List, [], ◌∷◌, cond, arith, ltb, leb, filter, refl, sym, ◌∙◌, ap}
 use Rattle.std.proofs.lemmas.Cmp.{then_total, on_total, int_cmp_total, is_eq_index}
 use Rattle.std.proofs.lemmas.List.Sorted.{ranks_by, searchable_from_sorted}
 use Rattle.std.proofs.lemmas.List.Elements.{filter_agree}
 use Rattle.std.specs.Cmp.{IsTotalOrder, IsStrictWeakOrder, tied_then}
 use Rattle.std.specs.declared.cmp.Ordering.{Ordering}
 use Rattle.std.specs.declared.cmp.Ordering.TheVariants.{Less, Equal, Greater}
-use Rattle.std.specs.Ordering.{is_lt, is_le, int_cmp, ordering_index, ordering_reverse}
+use Rattle.std.specs.Ordering.{is_lt, is_le, int_cmp, int_eq, ordering_index, ordering_reverse}
 use Rattle.std.specs.List.Sorted.{IsSortedBy, IsStableBy, IsNonDecreasingBy, ties}
+use Rattle.std.proofs.lemmas.Bool.{and_parts}
+use Rattle.std.proofs.lemmas.Bool.Decides.{Decides-int_eq}
 use Rattle.plane_terms.specs.Point.{Place, same_place}
-use Rattle.topo_core.specs.Places.{place_order, place_rank, is_at, is_of, IsByPlace}
+use Rattle.plane_terms.specs.Rectangle.{Rectangle, rect_at, rects_meet}
+use Rattle.topo_core.specs.Places.{place_order, place_rank, is_at, is_of, is_among, IsByPlace}
 use Rattle.topo_core.specs.declared.parts.PointFeature.{PointFeature}
 
 pub place_order_total : IsTotalOrder place_order
@@ -57,11 +60,35 @@ pub filter-filter : {X : Type 0} (f g : X → Bool) (xs : List X) → filter g (
 filter-filter f g [] = refl
 filter-filter f g (x ∷ xs) = filter-cond g (f x) x (filter f xs) ∙ ap (λ ys. cond (f x && g x) (x ∷ ys) ys) (filter-filter f g xs)
 
--- a stable sort by place of the points of the class
-pub by_place_from_sort : (class : ℕ) (F points : List PointFeature) → IsSortedBy comes_before points → IsStableBy comes_before (filter (is_of class) F) points → IsByPlace class F points
-by_place_from_sort class F points sorted stable = record {
+-- what is at the place is in the window where the place is
+placed : (q : Place) (b : PointFeature) → is_at q b ≡ true → b.place ≡ q
+placed q b there =
+    let k = and_parts (int_eq b.place.x q.x) (int_eq b.place.y q.y) (sym (is_at-same_place q b) ∙ there) in
+    let x = (Decides-int_eq b.place.x q.x).0 k.0 in
+    let y = (Decides-int_eq b.place.y q.y).0 k.1 in
+    λ i. record { x = x i; y = y i }
+
+among_there : (class : ℕ) (w : Rectangle) (q : Place) (b : PointFeature) → rects_meet w (rect_at q) ≡ true → (is_among class w b && is_at q b) ≡ (is_of class b && is_at q b)
+among_there class w q b inside = by (is_at q b) refl
+  where
+    alike : (own here there : Bool) → here ≡ true → ((own && here) && there) ≡ (own && there)
+    alike own here there e = grind arith
+
+    apart : (own here there : Bool) → there ≡ false → ((own && here) && there) ≡ (own && there)
+    apart own here there e = grind arith
+
+    by : (t : Bool) → is_at q b ≡ t → (is_among class w b && is_at q b) ≡ (is_of class b && is_at q b)
+    by true there =
+        let here : rects_meet w (rect_at b.place) ≡ true = ap (λ p. rects_meet w (rect_at p)) (placed q b there) ∙ inside in
+        alike (is_of class b) (rects_meet w (rect_at b.place)) (is_at q b) here
+    by false there = apart (is_of class b) (rects_meet w (rect_at b.place)) (is_at q b) there
+
+-- a stable sort by place of the points of the class in the window
+pub by_place_from_sort : (class : ℕ) (w : Rectangle) (F points : List PointFeature) → IsSortedBy comes_before points → IsStableBy comes_before (filter (is_among class w) F) points → IsByPlace class w F points
+by_place_from_sort class w F points sorted stable = record {
   rising = λ q. rising_from_sorted points q sorted;
-  each = λ q.
+  each = λ q inside.
       let a : PointFeature = record { handle = 0; class = 0; place = q } in
-      sym (filter_agree (ties comes_before a) (is_at q) (tie a) points) ∙ stable a ∙ filter_agree (ties comes_before a) (is_at q) (tie a) (filter (is_of class) F) ∙ filter-filter (is_of class) (is_at q) F;
+      sym (filter_agree (ties comes_before a) (is_at q) (tie a) points) ∙ stable a ∙ filter_agree (ties comes_before a) (is_at q) (tie a) (filter (is_among class w) F) ∙ filter-filter (is_among class w) (is_at q) F
+      ∙ filter_agree (λ b. is_among class w b && is_at q b) (λ b. is_of class b && is_at q b) (λ b. among_there class w q b inside) F;
 }

@@ -3,9 +3,8 @@
 -- feature_of f         the feature of a point
 -- entry_of_pair e      the error of a pair: the two points break rule 1 at the first one's place
 -- class_list, rule_list    the list of one, or of none
--- stays r s            r lets s stay beside it in the dirt: it does not hold s, or s holds it
-use Rattle.std.specs.Prelude.{ℕ, Bool, false, not, ◌||◌, List, [], ◌∷◌, Option, None, Some}
-use Rattle.plane_terms.specs.Rectangle.{Rectangle, rect_at, is_within}
+use Rattle.std.specs.Prelude.{ℕ, false, List, [], ◌∷◌, Option, None, Some}
+use Rattle.plane_terms.specs.Rectangle.{rect_at}
 use Rattle.plane_terms.specs.Cell.{at_place}
 use Rattle.plane_terms.specs.declared.kind.Kind.TheVariants as kinds
 use Rattle.topology_terms.specs.Feature.{Class, Feature}
@@ -28,6 +27,3 @@ class_list (Some name) = record { name = name; kind = kinds.Point } ∷ []
 abbrev pub rule_list : Option ℕ → List InForce
 rule_list None = []
 rule_list (Some class) = disjoint_rule class ∷ []
-
-abbrev pub stays : Rectangle → Rectangle → Bool
-stays r s = not (is_within s r) || is_within r s

@@ -14,4 +14,4 @@ abbrev pub project_by : Option (List ℕ) → Option ℕ → List PointFeature �
 project_by class rule points next dirt pairs = record { classes = class_list class; rules = rule_list rule; features = map feature_of points; next = next; dirt = dirt; entries = map entry_of_pair pairs }
 
 abbrev pub project_of : Inside → Project
-project_of t = project_by t.class t.rule t.features.items t.next t.dirt.items t.entries.items
+project_of t = project_by t.class t.rule t.features.items t.next t.dirt t.entries.items

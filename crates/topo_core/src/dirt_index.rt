@@ -1,11 +1,12 @@
 ghost use Rattle.std.specs.Prelude.{◌≡◌, not, filter, IfOk};
 ghost use Rattle.std.specs.List.Sorted.{IsNonDecreasingBy};
+ghost use Rattle.std.specs.List.{list_any};
 ghost use Rattle.plane_terms.specs.Point.{Place};
+ghost use Rattle.plane_terms.specs.Rectangle.{rects_meet};
 ghost use Rattle.topo_core.specs.Places.{place_order};
 ghost use Rattle.topo_core.specs.Dirty.{corner, is_single, corner_rank, is_corner, is_dirty_at, IsIndexOf};
 
 use crate::NoMemory;
-use crate::dirt::meets_any;
 use grid_plane::{GridPoint, Rect};
 use std::alloc::Global;
 use std::cmp::Ordering;
@@ -16,6 +17,13 @@ pub struct DirtIndex {
     pub wide: Vec<Rect>,
     pub single: Vec<Rect>,
     ghost rising: { (q : Place) → IsNonDecreasingBy (corner_rank q) single.items },
+}
+
+// Whether a rectangle of the list meets this one.
+pub fn meets_any(rects: &[Rect], r: &Rect) -> bool
+    ensures { result ≡ list_any (λ s. rects_meet s r.now) rects.now }
+{
+    rects.iter().any(|s| s.meets(r))
 }
 
 // Whether the rectangle is one place.

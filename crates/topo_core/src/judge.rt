@@ -1,9 +1,9 @@
 ghost use Rattle.std.specs.Prelude.{◌≡◌, ◌==◌, ◌&&◌, ◌++◌, ℕ, List, true, map, filter, flat_map, count_by, OnOk, IfOk};
-ghost use Rattle.plane_terms.specs.Rectangle.{Rectangle};
+ghost use Rattle.plane_terms.specs.Rectangle.{Rectangle, rect_at, rects_meet};
 ghost use Rattle.topology_terms.specs.Project.{Project};
-ghost use Rattle.point_steps.specs.Points.{is_selected, disjoint_rule, judged_entries, kept_entries, entries_after, judged_count, validated, keys_ascend};
+ghost use Rattle.point_steps.specs.Points.{disjoint_rule, judged_entries, kept_entries, entries_after, judged_count, validated_in, keys_ascend};
 ghost use Rattle.topo_core.specs.Parts.{feature_of, entry_of_pair, rule_list};
-ghost use Rattle.topo_core.specs.Dirty.{is_dirty_at, IsIndexOf};
+ghost use Rattle.topo_core.specs.Dirty.{is_dirty_at, is_judged_at, IsIndexOf};
 ghost use Rattle.topo_core.specs.Places.{IsByPlace, is_above, pair_of};
 ghost use Rattle.topo_core.specs.declared.parts.Pair.{Pair};
 ghost use Rattle.topo_core.specs.declared.parts.PointFeature.{PointFeature};
@@ -15,11 +15,11 @@ use crate::{NoMemory, Pair};
 use grid_plane::Rect;
 use std::alloc::Global;
 
-// Whether the point meets the dirt.
-fn is_selected(dirt: &DirtIndex, a: &PointFeature) -> bool
-    ensures { (d : List Rectangle) → IsIndexOf d dirt.now.wide.items dirt.now.single.items → result ≡ is_selected d (feature_of a.now) }
+// Whether the point is in the window, and its place is dirty.
+fn is_selected(window: &Rect, dirt: &DirtIndex, a: &PointFeature) -> bool
+    ensures { result ≡ (rects_meet window.now (rect_at a.now.place) && is_dirty_at dirt.now.wide.items dirt.now.single.items a.now.place) }
 {
-    dirt.is_dirty(a.place)
+    window.meets(&Rect::round(a.place)) && dirt.is_dirty(a.place)
 }
 
 // The pairs of the point with the points above it.
@@ -49,8 +49,8 @@ fn push_partners(
     a: &PointFeature,
     points: &[PointFeature],
 ) -> Result<(), NoMemory>
-    requires { (F : List PointFeature) × IsByPlace class F points.now }
-    ensures { (F : List PointFeature) → IsByPlace class F points.now →
+    requires { (w : Rectangle) × (F : List PointFeature) × IsByPlace class w F points.now }
+    ensures { (w : Rectangle) (F : List PointFeature) → IsByPlace class w F points.now → rects_meet w (rect_at a.now.place) ≡ true →
         OnOk result (map entry_of_pair out.new.items ≡ map entry_of_pair out.old.items ++ judged_entries (map feature_of F) (disjoint_rule class) (feature_of a.now)) }
 {
     if a.class != class {
@@ -79,81 +79,84 @@ fn push_kept(out: &mut Vec<Pair>, a: &PointFeature, entries: &[Pair]) -> Result<
     Ok(())
 }
 
-// The entries of the point after a validation.
+// The entries of the point after a validation of the window.
 fn push_entries(
     out: &mut Vec<Pair>,
     class: u16,
+    window: &Rect,
     a: &PointFeature,
     points: &[PointFeature],
     dirt: &DirtIndex,
     entries: &[Pair],
 ) -> Result<(), NoMemory>
-    requires by_place { (F : List PointFeature) × IsByPlace class F points.now }
+    requires by_place { (F : List PointFeature) × IsByPlace class window.now F points.now }
     requires ascending { keys_ascend (map entry_of_pair entries.now) ≡ true }
-    ensures { (p : Project) (F : List PointFeature) → IsByPlace class F points.now → p.features ≡ map feature_of F → IsIndexOf p.dirt dirt.now.wide.items dirt.now.single.items → p.entries ≡ map entry_of_pair entries.now →
-        OnOk result (map entry_of_pair out.new.items ≡ map entry_of_pair out.old.items ++ entries_after p (disjoint_rule class) (feature_of a.now)) }
+    ensures { (p : Project) (F : List PointFeature) → IsByPlace class window.now F points.now → p.features ≡ map feature_of F → IsIndexOf p.dirt dirt.now.wide.items dirt.now.single.items → p.entries ≡ map entry_of_pair entries.now →
+        OnOk result (map entry_of_pair out.new.items ≡ map entry_of_pair out.old.items ++ entries_after window.now p (disjoint_rule class) (feature_of a.now)) }
 {
-    if is_selected(dirt, a) {
+    if is_selected(window, dirt, a) {
         push_partners(out, class, a, points)
     } else {
         push_kept(out, a, entries)
     }
 }
 
-// The entries after a validation of the whole grid.
+// The entries after a validation of the window.
 pub fn judge_all(
     alloc: Global,
     class: u16,
+    window: &Rect,
     features: &[PointFeature],
     dirt: &DirtIndex,
     entries: &[Pair],
 ) -> Result<Vec<Pair>, NoMemory>
     requires { keys_ascend (map entry_of_pair entries.now) ≡ true }
     ensures { (p : Project) → p.features ≡ map feature_of features.now → IsIndexOf p.dirt dirt.now.wide.items dirt.now.single.items → p.entries ≡ map entry_of_pair entries.now →
-        IfOk result (λ v. map entry_of_pair v.items ≡ flat_map (entries_after p (disjoint_rule class)) (map feature_of features.now)) }
+        IfOk result (λ v. map entry_of_pair v.items ≡ flat_map (entries_after window.now p (disjoint_rule class)) (map feature_of features.now)) }
 {
-    let points = by_place(alloc, class, features)?;
+    let points = by_place(alloc, class, window, features)?;
     let mut out = Vec::new(alloc);
     for a in features {
-        push_entries(&mut out, class, a, &points, dirt, entries)?;
+        push_entries(&mut out, class, window, a, &points, dirt, entries)?;
     }
     Ok(out)
 }
 
 // Whether a validation judges the point under the rule for this class.
-fn is_judged(class: u16, dirt: &DirtIndex, a: &PointFeature) -> bool
-    ensures { result ≡ (is_dirty_at dirt.now.wide.items dirt.now.single.items a.now.place && (a.now.class == class)) }
+fn is_judged(class: u16, window: &Rect, dirt: &DirtIndex, a: &PointFeature) -> bool
+    ensures { result ≡ is_judged_at class window.now dirt.now.wide.items dirt.now.single.items a.now }
 {
-    dirt.is_dirty(a.place) && a.class == class
+    is_selected(window, dirt, a) && a.class == class
 }
 
-// How many points of the class meet the dirt.
-fn count_judged(class: u16, features: &[PointFeature], dirt: &DirtIndex) -> usize
-    ensures { result ≡ count_by (λ (a : PointFeature). is_dirty_at dirt.now.wide.items dirt.now.single.items a.place && (a.class == class)) features.now }
+// How many points of the class are in the window, and dirty.
+fn count_judged(class: u16, window: &Rect, features: &[PointFeature], dirt: &DirtIndex) -> usize
+    ensures { result ≡ count_by (is_judged_at class window.now dirt.now.wide.items dirt.now.single.items) features.now }
 {
     features
         .iter()
-        .filter(|a| is_judged(class, dirt, a))
+        .filter(|a| is_judged(class, window, dirt, a))
         .count()
 }
 
-// How many points a validation of the whole grid judges, and what it finds, if there is a rule.
+// How many points a validation of the window judges, and what it finds, if there is a rule.
 pub fn judge_rule(
     alloc: Global,
     rule: Option<u16>,
+    window: &Rect,
     features: &[PointFeature],
     dirt: &[Rect],
     entries: &[Pair],
 ) -> Result<(usize, Vec<Pair>), NoMemory>
     requires { keys_ascend (map entry_of_pair entries.now) ≡ true }
     ensures { (p : Project) → p.rules ≡ rule_list rule → p.features ≡ map feature_of features.now → p.dirt ≡ dirt.now → p.entries ≡ map entry_of_pair entries.now →
-        IfOk result (λ v. (v.0 ≡ judged_count p) × (map entry_of_pair v.1.items ≡ (validated p).entries)) }
+        IfOk result (λ v. (v.0 ≡ judged_count window.now p) × (map entry_of_pair v.1.items ≡ (validated_in window.now p).entries)) }
 {
     match rule {
         Some(class) => {
             let index = DirtIndex::of(alloc, dirt)?;
-            let judged = count_judged(class, features, &index);
-            let found = judge_all(alloc, class, features, &index, entries)?;
+            let judged = count_judged(class, window, features, &index);
+            let found = judge_all(alloc, class, window, features, &index, entries)?;
             Ok((judged, found))
         }
         None => Ok((0, Vec::new(alloc))),

@@ -1,7 +1,6 @@
 // A topology of one class of points: each change is the one that the definitions name, and keeps it sound.
 #![tactic(auto)]
 
-mod dirt;
 mod dirt_index;
 mod judge;
 mod parts;
@@ -10,5 +9,6 @@ mod places;
 mod plainly;
 mod topology;
 
-pub use parts::{AddFault, NoMemory, Pair, Summary};
+pub use grid_plane::NoMemory;
+pub use parts::{AddFault, Pair, Summary};
 pub use topology::Topology;

@@ -1,24 +1,8 @@
 ghost use Rattle.std.specs.Prelude.{◌≡◌};
 ghost use Rattle.topo_core.specs.declared.parts.AddFault.TheVariants as add_fault;
 
-use grid_plane::GridPoint;
+use grid_plane::{GridPoint, NoMemory};
 use std::alloc::{AllocError, AllocFailed};
-
-/// Want of memory.
-#[derive(Clone, Copy, Debug, PartialEq, Eq)]
-pub struct NoMemory;
-
-impl From<AllocError> for NoMemory {
-    fn from(_: AllocError) -> Self {
-        NoMemory
-    }
-}
-
-impl<T: Drop> From<AllocFailed<T>> for NoMemory {
-    fn from(_: AllocFailed<T>) -> Self {
-        NoMemory
-    }
-}
 
 /// Why a feature was not added.
 #[derive(Clone, Copy, Debug, PartialEq, Eq)]

@@ -1,10 +1,10 @@
 ghost use Rattle.std.specs.Prelude.{◌≡◌, filter, IfOk};
 ghost use Rattle.std.specs.List.Sorted.{IsNonDecreasingBy};
-ghost use Rattle.topo_core.specs.Places.{place_order, place_rank, is_at, is_of, IsByPlace};
+ghost use Rattle.topo_core.specs.Places.{place_order, place_rank, is_at, is_among, IsByPlace};
 
 use crate::NoMemory;
 use crate::parts::PointFeature;
-use grid_plane::GridPoint;
+use grid_plane::{GridPoint, Rect};
 use std::alloc::Global;
 use std::cmp::Ordering;
 
@@ -15,31 +15,40 @@ fn place_order(p: GridPoint, q: GridPoint) -> Ordering
     p.x().cmp(&q.x()).then(p.y().cmp(&q.y()))
 }
 
-// The points of the class.
-fn of_class(
+// Whether the point is of the class and in the window.
+fn is_among(class: u16, window: &Rect, a: &PointFeature) -> bool
+    ensures { result ≡ is_among class window.now a.now }
+{
+    a.class == class && window.meets(&Rect::round(a.place))
+}
+
+// The points of the class in the window.
+fn among(
     alloc: Global,
     class: u16,
+    window: &Rect,
     features: &[PointFeature],
 ) -> Result<Vec<PointFeature>, NoMemory>
-    ensures { IfOk result (λ v. v.items ≡ filter (is_of class) features.now) }
+    ensures { IfOk result (λ v. v.items ≡ filter (is_among class window.now) features.now) }
 {
     let points: Vec<PointFeature> = features
         .iter()
-        .filter(|a| a.class == class)
+        .filter(|a| is_among(class, window, a))
         .copied()
         .collect(alloc)?;
     Ok(points)
 }
 
-// The points of the class in order of places, those at one place as they stand.
+// The points of the class in the window, in order of places, those at one place as they stand.
 pub fn by_place(
     alloc: Global,
     class: u16,
+    window: &Rect,
     features: &[PointFeature],
 ) -> Result<Vec<PointFeature>, NoMemory>
-    ensures { IfOk result (λ v. IsByPlace class features.now v.items) }
+    ensures { IfOk result (λ v. IsByPlace class window.now features.now v.items) }
 {
-    let mut points = of_class(alloc, class, features)?;
+    let mut points = among(alloc, class, window, features)?;
     points.sort_by(|a, b| place_order(a.place, b.place))?;
     Ok(points)
 }

@@ -4,7 +4,7 @@ ghost use Rattle.topology_terms.specs.Project.{Project};
 ghost use Rattle.point_steps.specs.Points.{is_partner, is_selected, disjoint_rule, judged_entries, kept_entries, entries_after};
 ghost use Rattle.topo_core.specs.Parts.{feature_of, entry_of_pair};
 
-use crate::dirt::meets_any;
+use crate::dirt_index::meets_any;
 use crate::parts::PointFeature;
 use crate::{NoMemory, Pair};
 use grid_plane::Rect;
@@ -54,46 +54,49 @@ fn push_kept(out: &mut Vec<Pair>, a: &PointFeature, entries: &[Pair]) -> Result<
     Ok(())
 }
 
-// Whether the point meets the dirt.
-fn is_selected(dirt: &[Rect], a: &PointFeature) -> bool
-    ensures { result ≡ is_selected dirt.now (feature_of a.now) }
+// Whether the point is in the window, and its place is dirty.
+fn is_selected(window: &Rect, dirt: &[Rect], a: &PointFeature) -> bool
+    ensures { result ≡ is_selected window.now dirt.now (feature_of a.now) }
 {
-    meets_any(dirt, &Rect::round(a.place))
+    let place = Rect::round(a.place);
+    window.meets(&place) && meets_any(dirt, &place)
 }
 
-// The entries of the point after a validation.
+// The entries of the point after a validation of the window.
 fn push_entries(
     out: &mut Vec<Pair>,
     class: u16,
+    window: &Rect,
     a: &PointFeature,
     features: &[PointFeature],
     dirt: &[Rect],
     entries: &[Pair],
 ) -> Result<(), NoMemory>
     ensures { (p : Project) → p.features ≡ map feature_of features.now → p.dirt ≡ dirt.now → p.entries ≡ map entry_of_pair entries.now →
-        OnOk result (map entry_of_pair out.new.items ≡ map entry_of_pair out.old.items ++ entries_after p (disjoint_rule class) (feature_of a.now)) }
+        OnOk result (map entry_of_pair out.new.items ≡ map entry_of_pair out.old.items ++ entries_after window.now p (disjoint_rule class) (feature_of a.now)) }
 {
-    if is_selected(dirt, a) {
+    if is_selected(window, dirt, a) {
         push_partners(out, class, a, features)
     } else {
         push_kept(out, a, entries)
     }
 }
 
-// The entries after a validation of the whole grid.
+// The entries after a validation of the window.
 pub fn judge_plainly(
     alloc: Global,
     class: u16,
+    window: &Rect,
     features: &[PointFeature],
     dirt: &[Rect],
     entries: &[Pair],
 ) -> Result<Vec<Pair>, NoMemory>
     ensures { (p : Project) → p.features ≡ map feature_of features.now → p.dirt ≡ dirt.now → p.entries ≡ map entry_of_pair entries.now →
-        IfOk result (λ v. map entry_of_pair v.items ≡ flat_map (entries_after p (disjoint_rule class)) (map feature_of features.now)) }
+        IfOk result (λ v. map entry_of_pair v.items ≡ flat_map (entries_after window.now p (disjoint_rule class)) (map feature_of features.now)) }
 {
     let mut out = Vec::new(alloc);
     for a in features {
-        push_entries(&mut out, class, a, features, dirt, entries)?;
+        push_entries(&mut out, class, window, a, features, dirt, entries)?;
     }
     Ok(out)
 }

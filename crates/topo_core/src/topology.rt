@@ -5,14 +5,13 @@ ghost use Rattle.topology_terms.specs.Changes.{IsEdit, IsRuleAdded};
 ghost use Rattle.topology_terms.specs.Sound.{IsKept};
 ghost use Rattle.script_terms.specs.State.{class_number, least_free};
 ghost use Rattle.script_terms.specs.Answer.{is_nonempty, IsValidation};
-ghost use Rattle.plane_terms.specs.Rectangle.{whole_grid};
-ghost use Rattle.point_steps.specs.Points.{with_class, with_rule, with_point, validated, disjoint_row, point_feature};
+ghost use Rattle.point_steps.specs.Points.{with_class, with_rule, with_point, validated_in, disjoint_row, point_feature};
 ghost use Rattle.topo_core.specs.Parts.{entry_of_pair};
 
-use crate::dirt::make_dirty;
 use crate::judge::judge_rule;
 use crate::parts::PointFeature;
 use crate::{AddFault, NoMemory, Pair, Summary};
+use dirty_area::Dirt;
 use grid_plane::{GridPoint, Name, Rect};
 use std::alloc::Global;
 use std::marker::Model;
@@ -25,7 +24,7 @@ pub struct Topology {
     rule: Option<u16>,
     features: Vec<PointFeature>,
     next: u32,
-    dirt: Vec<Rect>,
+    dirt: Dirt,
     entries: Vec<Pair>,
 }
 
@@ -54,7 +53,7 @@ impl Topology {
             rule: None,
             features: Vec::new(alloc),
             next: 1,
-            dirt: Vec::new(alloc),
+            dirt: Dirt::new(alloc),
             entries: Vec::new(alloc),
         }
     }
@@ -109,7 +108,7 @@ impl Topology {
         ensures ordered { IsOrdered self.new }
         ensures err { OnErr result (self.new ≡ self.old) }
     {
-        make_dirty(&mut self.dirt, Rect::whole())?;
+        self.dirt.add(Rect::whole())?;
         self.rule = Some(class);
         Ok(1)
     }
@@ -129,7 +128,7 @@ impl Topology {
             return Err(AddFault::HandlesSpent);
         }
         self.features.reserve(1)?;
-        make_dirty(&mut self.dirt, Rect::round(place))?;
+        self.dirt.add(Rect::round(place))?;
         self.features.push(PointFeature {
             handle,
             class,
@@ -139,43 +138,39 @@ impl Topology {
         Ok(handle)
     }
 
-    /// Judges every point that meets the dirt, and leaves no dirt.
-    pub fn validate_all(&mut self) -> Result<Summary, NoMemory>
-        ensures ok { IfOk result (λ s. IsValidation whole_grid self.old self.new s.judged s.errors s.dirty) }
-        ensures exact { OnOk result (self.new ≡ validated self.old) }
+    /// Judges every point in the window whose place is dirty, and takes the window out of the dirt. The other points keep
+    /// their errors.
+    pub fn validate(&mut self, window: Rect) -> Result<Summary, NoMemory>
+        ensures ok { IfOk result (λ s. IsValidation window self.old self.new s.judged s.errors s.dirty) }
+        ensures exact { OnOk result (self.new ≡ validated_in window self.old) }
         ensures kept { IsKept self.old → IsKept self.new }
         ensures ordered { IsOrdered self.new }
         ensures err { OnErr result (self.new ≡ self.old) }
     {
+        window.corner_law();
         let (judged, entries) = judge_rule(
             self.alloc,
             self.rule,
+            &window,
             &self.features,
-            &self.dirt,
+            self.dirt.rects(),
             &self.entries,
         )?;
+        self.dirt.cut(self.alloc, &window)?;
         let errors = entries.len();
         self.entries = entries;
-        self.dirt.clear();
         Ok(Summary {
             judged: judged as u64,
             errors: errors as u64,
-            dirty: 0,
+            dirty: self.dirt.len() as u64,
         })
     }
 
-    /// How many dirty rectangles there are.
-    pub fn dirt_len(&self) -> usize
-        ensures { result ≡ length self.now.dirt }
+    /// The dirty areas.
+    pub fn dirt(&self) -> &Dirt
+        ensures { result.now ≡ self.now.dirt }
     {
-        self.dirt.len()
-    }
-
-    pub fn dirt_rect(&self, i: usize) -> Rect
-        requires { i < length self.now.dirt }
-        ensures { slice_get self.now.dirt i ≡ Some result }
-    {
-        self.dirt[i]
+        &self.dirt
     }
 
     /// How many errors there are.

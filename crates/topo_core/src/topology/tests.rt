@@ -14,7 +14,7 @@ fn wells(rt: &impl Abort, alloc: Global) -> Result<Topology, Fail> {
 
 // The judged points, the errors and the dirty rectangles of a validation.
 fn numbers(topology: &mut Topology) -> Result<(u64, u64, u64), Fail> {
-    let summary = topology.validate_all()?;
+    let summary = topology.validate(Rect::whole())?;
     Ok((summary.judged, summary.errors, summary.dirty))
 }
 
@@ -44,8 +44,8 @@ fn two_points_at_one_place(rt: HostRuntime) -> Result<(), Fail> {
     assert_eq!(rt; topology.add(1, place)?, 3);
     assert_eq!(rt; topology.entry_len(), 1);
     assert_eq!(rt; handles(&rt, &topology, 0), (1, 2));
-    assert_eq!(rt; topology.dirt_len(), 1);
-    assert_eq!(rt; topology.dirt_rect(0).x1(), 3);
+    assert_eq!(rt; topology.dirt().len(), 1);
+    assert_eq!(rt; topology.dirt().rect(0).x1(), 3);
     assert_eq!(rt; numbers(&mut topology)?, (3, 3, 0));
     for (i, pair) in [(1, 2), (1, 3), (2, 3)].iter().enumerate() {
         assert_eq!(rt; handles(&rt, &topology, i), *pair);

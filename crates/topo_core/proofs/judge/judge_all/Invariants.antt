@@ -8,4 +8,4 @@ use Rattle.topo_core.proofs.judge.judge_all.Given as goal
 
 abbrev pub invariant-loop-a : goal.invariant-loop-a
 invariant-loop-a l = (p : Project) → p.features ≡ map feature_of l.features → IsIndexOf p.dirt l.dirt.wide.items l.dirt.single.items → p.entries ≡ map entry_of_pair l.entries →
-    map entry_of_pair l.out.items ≡ flat_map (entries_after p (disjoint_rule l.class)) (map feature_of (take l.a-index l.features))
+    map entry_of_pair l.out.items ≡ flat_map (entries_after l.window p (disjoint_rule l.class)) (map feature_of (take l.a-index l.features))
