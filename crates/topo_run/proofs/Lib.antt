@@ -7,4 +7,5 @@ pub mod Readings
 pub mod Runs
 pub mod Stepping
 pub mod Texts
+pub mod Windows
 pub mod Words

@@ -1,5 +1,5 @@
 -- A line has one reading at most.
-use Rattle.std.proofs.Common.{ℕ, ℤ, pos, negsuc, ◌≡◌, ◌<◌, ◌^◌, true, false, List, [], ◌∷◌, ◌++◌, None, Some, refl, sym, ◌∙◌, ap, subst, arith}
+use Rattle.std.proofs.Common.{ℕ, ℤ, pos, negsuc, ◌≡◌, ◌<◌, ◌^◌, true, false, List, [], ◌∷◌, ◌++◌, None, Some, inl, inr, refl, sym, ◌∙◌, ap, subst, arith}
 use Rattle.std.proofs.lemmas.Fmt.{signed_decimal_injective}
 use Rattle.std.proofs.lemmas.Int.{ints}
 use Rattle.std.proofs.lemmas.List.{append_cancel_left, append_cancel_right}
@@ -8,12 +8,19 @@ use Rattle.std.specs.Prelude.{codes, bytes_eq}
 use Rattle.std.proofs.lemmas.Slice.Eq.{bytes_eq-Decides}
 use lib.Signed.{mag}
 use Rattle.plane_terms.specs.Point.{Place, InReach, IsInReach}
+use Rattle.plane_terms.specs.Rectangle.{Rectangle, IsRectangle}
 use Rattle.plane_terms.specs.Shape.{Shape, point_shape}
-use Rattle.text_terms.specs.Fields.{skip_blanks, front_field, behind_field, skip_end_blanks}
+use Rattle.text_terms.specs.Fields.{HasFields, skip_blanks, front_field, behind_field, skip_end_blanks}
+use Rattle.text_terms.specs.Numbers.{IsSigned}
 use Rattle.text_terms.specs.Wkt.{point_text, IsWrittenPoint}
 use Rattle.topology_terms.specs.declared.rule_kind.RuleKind.TheVariants as rule
-use Rattle.script_terms.specs.Command.{Command, Class, Rule, Begin, Add, Validate, Dirty, Cells, IsCommandLine}
-use Rattle.script_terms.specs.Run.{Reading, Skipped, Reads, Faulty, ReadsAs}
+use Rattle.script_terms.specs.Command.{Command, Class, Rule, Begin, Add, Validate, Dirty, Errors, Cells, IsWindowText, IsValidateLine, IsCommandLine}
+use Rattle.script_terms.specs.Refusal.{Refusal, NotALine, NoClass, NoSession, OutOfReach, HandlesSpent, Reversed}
+use Rattle.script_terms.specs.Run.{numbers_of, IsFirstOut, IsLineFault, Reading, Skipped, Reads, Faulty, ReadsAs}
+use Rattle.grid_plane.specs.declared.fault.RectFault.{RectFault}
+use Rattle.grid_plane.specs.declared.fault.RectFault.TheVariants as fault
+use Rattle.topo_run.specs.Windows.{fault_of}
+use Rattle.topo_run.proofs.Windows.{all_is_no_number, one_window, none_out, numbers_in_reach, one_first}
 use Rattle.topo_run.proofs.Points.{number_field}
 
 small : (z : ℤ) → InReach z → mag z < 2 ^ 63
@@ -49,6 +56,7 @@ first_word (Begin n) = codes "begin"
 first_word (Add n k s) = codes "by"
 first_word (Validate w) = codes "validate"
 first_word Dirty = codes "dirty"
+first_word Errors = codes "errors"
 first_word Cells = codes "cells"
 
 begins_with : (line : List ℕ) (c : Command) → IsCommandLine line c → front_field (skip_blanks line) ≡ first_word c
@@ -56,22 +64,85 @@ begins_with line (Class n k) p = p.2.0
 begins_with line (Rule k origin dest) p = p.2.0
 begins_with line (Begin n) p = p.1.0
 begins_with line (Add n k s) p = p.1.begins.0
-begins_with line (Validate w) p = p.0.0
+begins_with line (Validate w) p = elim p [ inl all ↦ all.0.0 | inr window ↦ window.0.fields.0 ]
 begins_with line Dirty p = p.0
+begins_with line Errors p = p.0
 begins_with line Cells p = p.0
 
-apart : (line : List ℕ) (c d : Command) → IsCommandLine line c → IsCommandLine line d → bytes_eq (first_word c) (first_word d) ≡ false → ⊥
-apart line c d p q other =
-    let same : bytes_eq (first_word c) (first_word d) ≡ true = (bytes_eq-Decides (first_word c) (first_word d)).1 (sym (begins_with line c p) ∙ begins_with line d q) in
+other_word : (line : List ℕ) (c : Command) (word : List ℕ) → IsCommandLine line c → front_field (skip_blanks line) ≡ word → bytes_eq (first_word c) word ≡ false → ⊥
+other_word line c word p q other =
+    let same : bytes_eq (first_word c) word ≡ true = (bytes_eq-Decides (first_word c) word).1 (sym (begins_with line c p) ∙ q) in
     cc
+
+apart : (line : List ℕ) (c d : Command) → IsCommandLine line c → IsCommandLine line d → bytes_eq (first_word c) (first_word d) ≡ false → ⊥
+apart line c d p q other = other_word line c (first_word d) p (begins_with line d q) other
+
+-- a line is not both of all and of a window by its numbers
+not_both : (line : List ℕ) (w : Rectangle) → HasFields line (codes "validate" ∷ codes "all" ∷ []) → IsWindowText line w → ⊥
+not_both line w all text =
+    let same : text.x0 ≡ codes "all" = sym text.fields.1.0 ∙ all.1.0 in
+    all_is_no_number w.x0 (subst (λ (t : List ℕ). IsSigned t w.x0) same text.x0_is)
+
+one_validation : (line : List ℕ) (v w : Rectangle) → IsValidateLine line v → IsValidateLine line w → v ≡ w
+one_validation line v w p q = elim p [
+  | inl all ↦ elim q [
+    | inl other ↦ all.1 ∙ sym other.1
+    | inr window ↦ absurd (not_both line w all.0 window.0)
+  ]
+  | inr window ↦ elim q [
+    | inl all ↦ absurd (not_both line v all.0 window.0)
+    | inr other ↦ one_window line v w window.0 other.0
+  ]
+]
+
+-- a line of the form of a window's that is no window's is no command's
+window_alone : (line : List ℕ) (w : Rectangle) → IsWindowText line w → (IsRectangle w → ⊥) → (c : Command) → IsCommandLine line c → ⊥
+window_alone line w text none (Class n k) p = other_word line (Class n k) (codes "validate") p text.fields.0 refl
+window_alone line w text none (Rule k origin dest) p = other_word line (Rule k origin dest) (codes "validate") p text.fields.0 refl
+window_alone line w text none (Begin n) p = other_word line (Begin n) (codes "validate") p text.fields.0 refl
+window_alone line w text none (Add n k s) p = other_word line (Add n k s) (codes "validate") p text.fields.0 refl
+window_alone line w text none (Validate v) p = elim p [
+  | inl all ↦ not_both line w all.0 text
+  | inr window ↦ none (subst IsRectangle (one_window line v w window.0 text) window.1)
+]
+window_alone line w text none Dirty p = other_word line Dirty (codes "validate") p text.fields.0 refl
+window_alone line w text none Errors p = other_word line Errors (codes "validate") p text.fields.0 refl
+window_alone line w text none Cells p = other_word line Cells (codes "validate") p text.fields.0 refl
+
+pub fault_alone : (line : List ℕ) (e : RectFault) → IsLineFault line (fault_of e) → (c : Command) → IsCommandLine line c → ⊥
+fault_alone line (fault.OutOfReach at) h = window_alone line h.0 h.1 (λ r. none_out at (numbers_of h.0) (numbers_in_reach h.0 r) h.2)
+fault_alone line fault.Reversed h = window_alone line h.0 h.1 (λ r. h.3 r.proper)
+
+-- a line has one fault at most
+one_fault : (line : List ℕ) (r s : Refusal) → IsLineFault line r → IsLineFault line s → r ≡ s
+one_fault line NotALine NotALine p q = refl
+one_fault line NotALine (OutOfReach l) p q = absurd (p q.0 q.1)
+one_fault line NotALine Reversed p q = absurd (p q.0 q.1)
+one_fault line (OutOfReach k) NotALine p q = absurd (q p.0 p.1)
+one_fault line (OutOfReach k) (OutOfReach l) p q =
+    let same = one_window line p.0 q.0 p.1 q.1 in
+    ap OutOfReach (one_first k l (numbers_of q.0) (subst (λ w. IsFirstOut k (numbers_of w)) same p.2) q.2)
+one_fault line (OutOfReach k) Reversed p q =
+    let same = one_window line p.0 q.0 p.1 q.1 in
+    absurd (none_out k (numbers_of q.0) q.2 (subst (λ w. IsFirstOut k (numbers_of w)) same p.2))
+one_fault line Reversed NotALine p q = absurd (q p.0 p.1)
+one_fault line Reversed (OutOfReach l) p q =
+    let same = one_window line q.0 p.0 q.1 p.1 in
+    absurd (none_out l (numbers_of p.0) p.2 (subst (λ w. IsFirstOut l (numbers_of w)) same q.2))
+one_fault line Reversed Reversed p q = refl
+one_fault line NoClass s p q = absurd p
+one_fault line NoSession s p q = absurd p
+one_fault line HandlesSpent s p q = absurd p
+one_fault line r s p q = absurd q
 
 -- no line is of two forms, and each form has its values from the line
 pub one_command : (line : List ℕ) (c d : Command) → IsCommandLine line c → IsCommandLine line d → c ≡ d
 one_command line (Class n k) (Class m l) c d = cc
 one_command line (Begin n) (Begin m) c d = cc
 one_command line Dirty Dirty c d = refl
+one_command line Errors Errors c d = refl
 one_command line Cells Cells c d = refl
-one_command line (Validate v) (Validate w) c d = cc
+one_command line (Validate v) (Validate w) c d = ap Validate (one_validation line v w c d)
 one_command line (Rule rule.PointMustBeDisjoint n None) (Rule rule.PointMustBeDisjoint m None) c d = cc
 one_command line (Rule rule.PointMustBeDisjoint n (Some x)) (Rule rule.PointMustBeDisjoint m dest) c d = cc
 one_command line (Rule rule.PointMustBeDisjoint n None) (Rule rule.PointMustBeDisjoint m (Some y)) c d = cc
@@ -86,5 +157,5 @@ one_reading line Skipped Skipped p q = refl
 one_reading line (Reads c) (Reads d) p q = ap Reads (one_command line c d p.1 q.1)
 one_reading line (Reads c) (Faulty r) p q = absurd (q.1 c p.1)
 one_reading line (Faulty r) (Reads c) p q = absurd (p.1 c q.1)
-one_reading line (Faulty r) (Faulty s) p q = cc
+one_reading line (Faulty r) (Faulty s) p q = ap Faulty (one_fault line r s p.2 q.2)
 one_reading line r s p q = cc

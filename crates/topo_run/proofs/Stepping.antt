@@ -3,7 +3,7 @@ use Rattle.std.proofs.Common.{◌≡◌, ℕ, Bool, true, false, List, [], ◌++
 use Rattle.text_terms.specs.Fields.{is_skipped}
 use Rattle.topology_terms.specs.Project.{IsOrdered}
 use Rattle.script_terms.specs.Command.{Command}
-use Rattle.script_terms.specs.Refusal.{NotALine}
+use Rattle.script_terms.specs.Refusal.{Refusal}
 use Rattle.script_terms.specs.Reply.{Reply, Refused, reply_text}
 use Rattle.script_terms.specs.State.{State}
 use Rattle.script_terms.specs.Answer.{Answers}
@@ -20,6 +20,6 @@ pub answers : (s t : State) (line old new : List ℕ) (c : Command) (reply : Rep
 answers s t line old new c reply refused reads answer ordered grown is =
     (reply_text reply, grown, record { reading = Reads c; reads = reads; comes = (reply, answer, record { text = refl; refused = is }); ordered = ordered })
 
-pub refuses : (s : State) (line old new : List ℕ) → IsOrdered s.project → ReadsAs line (Faulty NotALine) → new ≡ old ++ reply_text (Refused NotALine) → Takes s line old new true s
-refuses s line old new ordered reads grown =
-    (reply_text (Refused NotALine), grown, record { reading = Faulty NotALine; reads = reads; comes = (refl, record { text = refl; refused = refl }); ordered = ordered })
+pub refuses : (s : State) (line old new : List ℕ) (r : Refusal) → IsOrdered s.project → ReadsAs line (Faulty r) → new ≡ old ++ reply_text (Refused r) → Takes s line old new true s
+refuses s line old new r ordered reads grown =
+    (reply_text (Refused r), grown, record { reading = Faulty r; reads = reads; comes = (refl, record { text = refl; refused = refl }); ordered = ordered })

@@ -5,4 +5,5 @@ pub mod Numbers
 pub mod Reads
 pub mod Replies
 pub mod Stops
+pub mod Windows
 pub mod Worlds

@@ -14,12 +14,15 @@ abbrev pub refusal_of : Refusal → refusals.Refusal
 refusal_of refusal.NotALine = refusals.NotALine
 refusal_of refusal.NoClass = refusals.NoClass
 refusal_of refusal.NoSession = refusals.NoSession
+refusal_of (refusal.OutOfReach at) = refusals.OutOfReach at
 refusal_of refusal.HandlesSpent = refusals.HandlesSpent
+refusal_of refusal.Reversed = refusals.Reversed
 
 abbrev pub said_of : Project → Reply → replies.Reply
 said_of p reply.Done = replies.Done
 said_of p (reply.Number n) = replies.Number n
 said_of p (reply.Judged s) = replies.Judged s.judged s.errors s.dirty
 said_of p reply.DirtyList = replies.DirtyList p
+said_of p reply.ErrorList = replies.ErrorList p
 said_of p reply.CellList = replies.CellList p
 said_of p (reply.Refused r) = replies.Refused (refusal_of r)

@@ -7,7 +7,7 @@ ghost use Rattle.topo_run.specs.Worlds.{state_of, reply_of};
 ghost use Rattle.topo_run.specs.declared.world.World.{World};
 
 use crate::parse::{Command, Line, read_line};
-use crate::reply::{Refusal, Reply};
+use crate::reply::Reply;
 use crate::say::push_reply;
 use crate::world::World;
 use topo_core::NoMemory;
@@ -24,8 +24,9 @@ fn answer(world: &mut World, command: Command) -> Result<Reply, NoMemory>
             class,
             place,
         } => world.answer_add(&editor, &class, place),
-        Command::ValidateAll => world.answer_validate(),
+        Command::Validate(window) => world.answer_validate(window),
         Command::Dirty => Ok(Reply::DirtyList),
+        Command::Errors => Ok(Reply::ErrorList),
         Command::Cells => Ok(Reply::CellList),
     }
 }
@@ -51,8 +52,8 @@ pub fn answer_line(world: &mut World, line: &[u8], out: &mut String) -> Result<b
             push_reply(out, &world.topology, reply)?;
             Ok(is_refusal(reply))
         }
-        Line::Faulty => {
-            push_reply(out, &world.topology, Reply::Refused(Refusal::NotALine))?;
+        Line::Faulty(refusal) => {
+            push_reply(out, &world.topology, Reply::Refused(refusal))?;
             Ok(true)
         }
     }

@@ -12,7 +12,9 @@ mod read;
 mod replay;
 mod reply;
 mod say;
+mod signed;
 mod status;
+mod window;
 mod world;
 mod write;
 

@@ -3,8 +3,8 @@ ghost use Rattle.std.specs.List.{list_all};
 ghost use Rattle.text_terms.specs.Fields.{is_digit};
 ghost use Rattle.topo_run.specs.Numbers.{value_of, is_padded, is_plain, ReadsDecimal, ReadsCoordinate, ReadsPositive};
 
-// The greatest coordinate, in grid units.
-const REACH: u32 = grid_plane::REACH as u32;
+/// The greatest coordinate, in grid units.
+pub const REACH: u32 = grid_plane::REACH as u32;
 
 fn is_digit(b: u8) -> bool
     ensures { result ≡ is_digit b }
@@ -12,7 +12,8 @@ fn is_digit(b: u8) -> bool
     b >= b'0' && b <= b'9'
 }
 
-fn are_digits(text: &[u8]) -> bool
+/// Whether all bytes are digits.
+pub fn are_digits(text: &[u8]) -> bool
     ensures { result ≡ list_all is_digit text.now }
 {
     text.iter().all(|b| is_digit(*b))
@@ -34,9 +35,9 @@ fn is_plain(text: &[u8]) -> bool
     !text.is_empty() && !is_padded(text) && are_digits(text)
 }
 
-// The number that digits write, if it is within the reach.
+/// The number that digits write, if it is within the reach.
 #[tactic(auto, using(crate::proofs::Numbers::value_grows, crate::proofs::Numbers::value_goes_on))]
-fn value_in_reach(digits: &[u8]) -> Option<u32>
+pub fn value_in_reach(digits: &[u8]) -> Option<u32>
     requires { IsTrue (list_all is_digit digits.now) }
     ensures { result ≡ (if nat_le (value_of digits.now) 4194304 then Some (value_of digits.now) else None) }
 {

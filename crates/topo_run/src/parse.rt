@@ -1,19 +1,22 @@
-ghost use Rattle.std.specs.Prelude.{◌≡◌, ℕ, List, [], ◌∷◌, IsTrue, MatchOption, None};
+ghost use Rattle.std.specs.Prelude.{◌≡◌, ℕ, List, [], ◌∷◌, IsTrue, MatchOption, None, false};
 ghost use Rattle.plane_terms.specs.Shape.{Shape, point_shape};
 ghost use Rattle.plane_terms.specs.declared.kind.Kind.TheVariants as kind;
-ghost use Rattle.text_terms.specs.Fields.{is_name, Begins};
+ghost use Rattle.plane_terms.specs.Rectangle.{Rectangle};
+ghost use Rattle.text_terms.specs.Fields.{is_name, is_skipped, Begins};
 ghost use Rattle.topology_terms.specs.declared.rule_kind.RuleKind.TheVariants as rule;
-ghost use Rattle.script_terms.specs.Command.{IsCommandLine};
+ghost use Rattle.script_terms.specs.Command.{IsWindowText, IsCommandLine};
 ghost use Rattle.script_terms.specs.Command as script;
 ghost use Rattle.script_terms.specs.Run.{ReadsAs};
 ghost use Rattle.topo_run.specs.Commands.{reading_of, command_of};
-ghost use Rattle.topo_run.specs.Grammar.{NoName, AdderText, IsWordText, IsNamedText};
+ghost use Rattle.topo_run.specs.Grammar.{NoName, AdderText, IsWordText, IsNamedText, IsOtherText};
 
 use crate::fields::{
     behind_word, is_only, is_over, is_pair, is_skipped, next_field, skip_blanks, skip_end_blanks,
 };
 use crate::point::read_point;
-use grid_plane::{GridPoint, Name};
+use crate::reply::Refusal;
+use crate::window::{read_window, refusal_of};
+use grid_plane::{GridPoint, Name, Rect};
 use topology_terms::RuleKind;
 
 /// The commands that a line may be.
@@ -27,8 +30,9 @@ pub enum Command {
         class: Name,
         place: GridPoint,
     },
-    ValidateAll,
+    Validate(Rect),
     Dirty,
+    Errors,
     Cells,
 }
 
@@ -37,7 +41,7 @@ pub enum Command {
 pub enum Line {
     Skipped,
     Reads(Command),
-    Faulty,
+    Faulty(Refusal),
 }
 
 // The one name that a text has as its fields.
@@ -104,10 +108,13 @@ fn read_word(line: &[u8]) -> Option<Command>
     ensures { MatchOption result ((c : script.Command) → IsWordText line.now c → ⊥) (λ c. IsCommandLine line.now (command_of c)) }
 {
     if is_pair(line, b"validate", b"all") {
-        return Some(Command::ValidateAll);
+        return Some(Command::Validate(Rect::whole()));
     }
     if is_only(line, b"dirty") {
         return Some(Command::Dirty);
+    }
+    if is_only(line, b"errors") {
+        return Some(Command::Errors);
     }
     if is_only(line, b"cells") {
         return Some(Command::Cells);
@@ -131,9 +138,9 @@ fn read_named(line: &[u8]) -> Option<Command>
     None
 }
 
-#[tactic(auto, using(crate::proofs::Forms::no_command))]
+#[tactic(auto, using(crate::proofs::Forms::no_other))]
 fn read_command(line: &[u8]) -> Option<Command>
-    ensures { MatchOption result ((c : script.Command) → IsCommandLine line.now c → ⊥) (λ c. IsCommandLine line.now (command_of c)) }
+    ensures { MatchOption result ((c : script.Command) → IsOtherText line.now c → ⊥) (λ c. IsCommandLine line.now (command_of c)) }
 {
     if let Some(command) = read_word(line) {
         return Some(command);
@@ -149,6 +156,18 @@ fn read_command(line: &[u8]) -> Option<Command>
     })
 }
 
+// What a line is that is not skipped, and has not the form of a window's.
+fn read_other(line: &[u8]) -> Line
+    requires plain { is_skipped line.now ≡ false }
+    requires windowless { (w : Rectangle) → IsWindowText line.now w → ⊥ }
+    ensures { ReadsAs line.now (reading_of result) }
+{
+    match read_command(line) {
+        Some(command) => Line::Reads(command),
+        None => Line::Faulty(Refusal::NotALine),
+    }
+}
+
 /// Reads a line.
 pub fn read_line(line: &[u8]) -> Line
     ensures { ReadsAs line.now (reading_of result) }
@@ -156,9 +175,10 @@ pub fn read_line(line: &[u8]) -> Line
     if is_skipped(line) {
         return Line::Skipped;
     }
-    match read_command(line) {
-        Some(command) => Line::Reads(command),
-        None => Line::Faulty,
+    match read_window(line) {
+        Some(Ok(window)) => Line::Reads(Command::Validate(window)),
+        Some(Err(fault)) => Line::Faulty(refusal_of(fault)),
+        None => read_other(line),
     }
 }
 

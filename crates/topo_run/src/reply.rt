@@ -9,8 +9,12 @@ pub enum Refusal {
     NoClass,
     /// It names an editor that has not begun.
     NoSession,
+    /// A number of a window is beyond the reach, and the one at this place, from 0, is the first.
+    OutOfReach { at: u8 },
     /// Every handle was given.
     HandlesSpent,
+    /// A window's greatest coordinate is below its least one.
+    Reversed,
 }
 
 /// What a line is answered. A listing lists the world that it is said in.
@@ -20,6 +24,7 @@ pub enum Reply {
     Number(u32),
     Judged(Summary),
     DirtyList,
+    ErrorList,
     CellList,
     Refused(Refusal),
 }

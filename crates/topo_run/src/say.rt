@@ -10,6 +10,7 @@ ghost use Rattle.topo_core.specs.Parts.{entry_of_pair};
 ghost use Rattle.topo_run.specs.Replies.{said_of, refusal_of};
 
 use crate::reply::{Refusal, Reply};
+use dirty_area::Dirt;
 use grid_plane::{GridPoint, Rect};
 use std::alloc::AllocError;
 use topo_core::{Pair, Summary, Topology};
@@ -97,15 +98,26 @@ fn push_entry_lines(out: &mut String, e: &Pair) -> Result<(), AllocError>
     Ok(())
 }
 
-fn push_dirty_lines(out: &mut String, topology: &Topology) -> Result<(), AllocError>
-    ensures { OnOk result (string_bytes out.new ≡ string_bytes out.old ++ flat_map dirty_line topology.now.dirt) }
+fn push_dirty_lines(out: &mut String, dirt: &Dirt) -> Result<(), AllocError>
+    ensures { OnOk result (string_bytes out.new ≡ string_bytes out.old ++ flat_map dirty_line dirt.now) }
 {
-    for i in 0..topology.dirt_len() {
-        push_dirty_line(out, &topology.dirt_rect(i))?;
+    for i in 0..dirt.len() {
+        push_dirty_line(out, &dirt.rect(i))?;
     }
     Ok(())
 }
 
+// The line of each error.
+fn push_entry_list(out: &mut String, topology: &Topology) -> Result<(), AllocError>
+    ensures { OnOk result (string_bytes out.new ≡ string_bytes out.old ++ flat_map entry_line topology.now.entries) }
+{
+    for i in 0..topology.entry_len() {
+        push_entry_line(out, &topology.entry(i))?;
+    }
+    Ok(())
+}
+
+// The lines of each error and of its cells.
 fn push_entries(out: &mut String, topology: &Topology) -> Result<(), AllocError>
     ensures { OnOk result (string_bytes out.new ≡ string_bytes out.old ++ flat_map entry_lines topology.now.entries) }
 {
@@ -124,8 +136,16 @@ fn push_total(out: &mut String, total: usize) -> Result<(), AllocError>
 fn push_dirty_list(out: &mut String, topology: &Topology) -> Result<(), AllocError>
     ensures { OnOk result (string_bytes out.new ≡ string_bytes out.old ++ reply_text (said_of topology.now Reply.DirtyList)) }
 {
-    push_dirty_lines(out, topology)?;
-    push_total(out, topology.dirt_len())?;
+    push_dirty_lines(out, topology.dirt())?;
+    push_total(out, topology.dirt().len())?;
+    Ok(())
+}
+
+fn push_error_list(out: &mut String, topology: &Topology) -> Result<(), AllocError>
+    ensures { OnOk result (string_bytes out.new ≡ string_bytes out.old ++ reply_text (said_of topology.now Reply.ErrorList)) }
+{
+    push_entry_list(out, topology)?;
+    push_total(out, topology.entry_len())?;
     Ok(())
 }
 
@@ -137,22 +157,27 @@ fn push_cell_list(out: &mut String, topology: &Topology) -> Result<(), AllocErro
     Ok(())
 }
 
-fn refusal_text(refusal: Refusal) -> &'static str
-    ensures { result.now ≡ refusal_text (refusal_of refusal) }
+// The code of a refusal, and the place of a number beyond the reach.
+fn push_cause(out: &mut String, refusal: Refusal) -> Result<(), AllocError>
+    ensures { OnOk result (string_bytes out.new ≡ string_bytes out.old ++ refusal_text (refusal_of refusal)) }
 {
     match refusal {
-        Refusal::NotALine => "E01",
-        Refusal::NoClass => "E05",
-        Refusal::NoSession => "E12",
-        Refusal::HandlesSpent => "E21",
+        Refusal::NotALine => write!(out, "E01"),
+        Refusal::NoClass => write!(out, "E05"),
+        Refusal::NoSession => write!(out, "E12"),
+        Refusal::OutOfReach { at } => write!(out, "E15 {at}"),
+        Refusal::HandlesSpent => write!(out, "E21"),
+        Refusal::Reversed => write!(out, "E24"),
     }
 }
 
 fn push_refused(out: &mut String, refusal: Refusal) -> Result<(), AllocError>
     ensures { OnOk result (string_bytes out.new ≡ string_bytes out.old ++ reply_text (Refused (refusal_of refusal))) }
 {
-    let code = refusal_text(refusal);
-    writeln!(out, "refused {code}")
+    write!(out, "refused ")?;
+    push_cause(out, refusal)?;
+    writeln!(out)?;
+    Ok(())
 }
 
 fn push_judged(out: &mut String, summary: Summary) -> Result<(), AllocError>
@@ -174,6 +199,7 @@ pub fn push_reply(out: &mut String, topology: &Topology, reply: Reply) -> Result
         Reply::Number(n) => writeln!(out, "ok {n}"),
         Reply::Judged(summary) => push_judged(out, summary),
         Reply::DirtyList => push_dirty_list(out, topology),
+        Reply::ErrorList => push_error_list(out, topology),
         Reply::CellList => push_cell_list(out, topology),
         Reply::Refused(refusal) => push_refused(out, refusal),
     }

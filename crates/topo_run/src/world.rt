@@ -1,5 +1,4 @@
 ghost use Rattle.std.specs.Prelude.{◌≡◌, [], None, IfOk};
-ghost use Rattle.plane_terms.specs.Rectangle.{whole_grid};
 ghost use Rattle.plane_terms.specs.Shape.{point_shape};
 ghost use Rattle.plane_terms.specs.declared.kind.Kind.TheVariants as kinds;
 ghost use Rattle.topology_terms.specs.declared.rule_kind.RuleKind.TheVariants as rules;
@@ -8,7 +7,7 @@ ghost use Rattle.script_terms.specs.State.{empty_state, is_open};
 ghost use Rattle.script_terms.specs.Answer.{Answers};
 
 use crate::reply::{Refusal, Reply};
-use grid_plane::{GridPoint, Name};
+use grid_plane::{GridPoint, Name, Rect};
 use std::alloc::Global;
 use topo_core::{AddFault, NoMemory, Topology};
 
@@ -98,10 +97,10 @@ impl World {
         }
     }
 
-    /// `validate all`.
-    pub fn answer_validate(&mut self) -> Result<Reply, NoMemory>
-        ensures { IfOk result (λ r. Answers (state_of self.old) (Validate whole_grid) (reply_of self.new r) (state_of self.new)) }
+    /// `validate all`, and `validate X0 Y0 X1 Y1`.
+    pub fn answer_validate(&mut self, window: Rect) -> Result<Reply, NoMemory>
+        ensures { IfOk result (λ r. Answers (state_of self.old) (Validate window) (reply_of self.new r) (state_of self.new)) }
     {
-        Ok(Reply::Judged(self.topology.validate_all()?))
+        Ok(Reply::Judged(self.topology.validate(window)?))
     }
 }

@@ -1,5 +1,6 @@
 use Rattle.std.proofs.Common.{string_bytes}
 use Rattle.topo_run.specs.Commands.{command_of}
+use Rattle.topo_run.specs.Replies.{refusal_of}
 use Rattle.topo_run.specs.Worlds.{state_of, reply_of}
 use Rattle.topo_run.proofs.Stepping.{skips, answers, refuses}
 use Rattle.topo_run.proofs.answer.answer_line.Goals as goal
@@ -14,4 +15,4 @@ returns-in_ok-push_reply-in-Reads c =
 
 pub returns-in_ok-push_reply-in-Faulty : goal.returns-in_ok-push_reply-in-Faulty
 returns-in_ok-push_reply-in-Faulty c =
-    refuses (state_of c.args.world.now) c.args.line.now (string_bytes c.args.out.now) (string_bytes c.push_reply-in-Faulty.new.out) c.order_law.ensures c.in-Faulty.ensures c.in_ok-push_reply-in-Faulty.ensures
+    refuses (state_of c.args.world.now) c.args.line.now (string_bytes c.args.out.now) (string_bytes c.push_reply-in-Faulty.new.out) (refusal_of c.in-Faulty.refusal) c.order_law.ensures c.in-Faulty.ensures c.in_ok-push_reply-in-Faulty.ensures
