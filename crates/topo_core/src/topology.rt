@@ -18,6 +18,8 @@ use std::alloc::Global;
 use std::marker::Model;
 
 /// A topology of one class of points and one rule, Must Be Disjoint.
+///
+/// A call that answers an error leaves everything as it was. `NoMemory` may come of any call that may answer it.
 #[derive(Drop)]
 pub struct Topology {
     alloc: Global,
@@ -66,6 +68,7 @@ impl Topology {
         let _ = &self.next;
     }
 
+    /// Whether the class was added.
     pub fn has_class(&self) -> bool
         ensures { result ≡ is_nonempty self.now.classes }
     {
@@ -94,6 +97,7 @@ impl Topology {
         Ok(1)
     }
 
+    /// Whether the rule was added.
     pub fn has_rule(&self) -> bool
         ensures { result ≡ is_nonempty self.now.rules }
     {
@@ -171,6 +175,7 @@ impl Topology {
         self.dirt.len()
     }
 
+    /// The dirty rectangle at this place of the list; the last was made dirty last.
     pub fn dirt_rect(&self, i: usize) -> Rect
         requires { i < length self.now.dirt }
         ensures { slice_get self.now.dirt i ≡ Some result }
