@@ -1,3 +1,0 @@
-pub mod PlaceFacts
-pub mod PointFacts
-pub mod EntryFacts
