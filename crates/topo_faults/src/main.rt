@@ -5,6 +5,7 @@
 mod reads;
 mod replays;
 mod script;
+mod statuses;
 mod streams;
 mod tally;
 mod usage;

@@ -2,21 +2,13 @@ ghost use Rattle.std.specs.Prelude.{◌≤◌};
 
 use crate::replays::{AT_ONCE, calls_for, failing_sink, failing_source, repeated, replay};
 use crate::script::{LEN, first_lines, replies_to_whole_lines};
+use crate::statuses::{READ_FAULT, TOO_LONG, WRITE_FAULT};
 use crate::streams::EndlessSource;
 use crate::tally::Tally;
 use std::alloc::{AllocError, Global};
-use topo_outside::{MemSink, SureSink};
+use topo_outside::SureSink;
 
-/// The status of a replay whose source fails.
-const READ_FAULT: u8 = 3;
-
-/// The status of a replay whose sink fails.
-const WRITE_FAULT: u8 = 4;
-
-/// The status of a replay of more than a script may have.
-const TOO_LONG: u8 = 10;
-
-/// The greatest number of bytes of a script.
+// The greatest number of bytes of a script.
 const SCRIPT_LIMIT: u64 = 268_435_456;
 
 // The script in pieces; each read fails in turn, also the one that would find the end.

@@ -1,3 +1,4 @@
+use crate::statuses::{DONE, REFUSED};
 use std::alloc::{AllocError, Global};
 
 // A script of ten lines, each with the text that it is to be answered; by hand, from the documents.
@@ -22,7 +23,7 @@ pub const LEN: usize = 10;
 
 /// The status of a run over its first lines: the fifth is refused.
 pub fn status_of(count: usize) -> u8 {
-    if count < 5 { 0 } else { 1 }
+    if count < 5 { DONE } else { REFUSED }
 }
 
 /// The first lines of the script, without the LF of the last.

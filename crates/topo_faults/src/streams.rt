@@ -1,4 +1,4 @@
-ghost use Rattle.std.specs.Prelude.{◌≡◌, ◌≤◌, length, None, Some};
+ghost use Rattle.std.specs.Prelude.{◌≤◌, length, None, Some};
 
 use std::alloc::Global;
 use topo_outside::{Failed, Sink, SinkFault, Source};

@@ -1,16 +1,11 @@
 use crate::replays::{calls_for, failing_sink, status_with};
+use crate::statuses::{USAGE, WRITE_FAULT};
 use crate::streams::EndlessSource;
 use crate::tally::Tally;
 use std::alloc::{AllocError, Global};
 use topo_outside::SureSink;
 
-/// The status of a run with words that the program does not know.
-const USAGE: u8 = 2;
-
-/// The status of a run whose sink fails.
-const WRITE_FAULT: u8 = 4;
-
-// What is written then.
+// What is written where the words are none that the program knows.
 const TEXT: &str =
     "usage: topo replay [PROJECT [TARGET]] | check PROJECT | report PROJECT | town SEED N\n";
 

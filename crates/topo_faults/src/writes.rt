@@ -2,16 +2,11 @@ ghost use Rattle.std.specs.Prelude.{◌≤◌};
 
 use crate::replays::{AT_ONCE, calls_for, failing_sink, repeated, replay};
 use crate::script::{LEN, first_lines, first_replies};
+use crate::statuses::{REFUSED, WRITE_FAULT};
 use crate::streams::StingySink;
 use crate::tally::Tally;
 use std::alloc::{AllocError, Global};
 use topo_outside::SureSource;
-
-/// The status of a replay whose sink fails.
-const WRITE_FAULT: u8 = 4;
-
-/// The status of a replay with a refused line.
-const REFUSED: u8 = 1;
 
 // The replies in pieces; each write fails in turn.
 fn fail_each_write(alloc: Global, piece: usize, tally: &mut Tally) -> Result<(), AllocError>
