@@ -1,0 +1,63 @@
+-- What holds of a place of the grid, and of each point that is at it.
+use Rattle.std.specs.List.{HoldsAt, AllWithin}
+use Rattle.std.proofs.lemmas.Bool.{false≢true}
+use Rattle.std.proofs.Common.{IsTrue, MatchBool, Bool, true, false, refl, ◌↔◌, inl, inr, ℕ, ◌≤ℤ◌, List, [], ◌∷◌, length, get_or, zero, suc, arith, ◌<◌}
+use Rattle.std.proofs.lemmas.Int.{ints}
+use Rattle.plane_terms.specs.Lists.{SomeOf}
+use Rattle.plane_terms.specs.Point.{Place, Point, IsAt}
+use Rattle.plane_terms.specs.Rectangle.{Rectangle, RectHolds}
+use Rattle.plane_terms.specs.Cell.{InCells, at_place}
+use Rattle.sound_steps.proofs.Places.{at_place_points}
+use Rattle.sound_steps.proofs.Planes.{le_from_scaled, scaled_le}
+
+-- by the place's own coordinates
+pub record IsHeld (r : Rectangle) (q : Place) : Type 0 where
+  pub left : r.x0 ≤ℤ q.x
+  pub right : q.x ≤ℤ r.x1
+  pub below : r.y0 ≤ℤ q.y
+  pub above : q.y ≤ℤ r.y1
+
+held_at : (r : Rectangle) (q : Place) (p : Point) → IsAt q p → RectHolds r p → IsHeld r q
+held_at r q p i h = record {
+  left = le_from_scaled r.x0 q.x p.w p.positive (omega (arith, ints, h.left, i.x));
+  right = le_from_scaled q.x r.x1 p.w p.positive (omega (arith, ints, h.right, i.x));
+  below = le_from_scaled r.y0 q.y p.w p.positive (omega (arith, ints, h.below, i.y));
+  above = le_from_scaled q.y r.y1 p.w p.positive (omega (arith, ints, h.above, i.y));
+}
+
+holds_at : (r : Rectangle) (q : Place) (p : Point) → IsAt q p → IsHeld r q → RectHolds r p
+holds_at r q p i h = record {
+  left = omega (arith, ints, i.x, scaled_le r.x0 q.x p.w h.left);
+  right = omega (arith, ints, i.x, scaled_le q.x r.x1 p.w h.right);
+  below = omega (arith, ints, i.y, scaled_le r.y0 q.y p.w h.below);
+  above = omega (arith, ints, i.y, scaled_le q.y r.y1 p.w h.above);
+}
+
+pub held_points : (r : Rectangle) (q : Place) (p : Point) → IsAt q p → IsHeld r q ↔ RectHolds r p
+held_points r q p i = (holds_at r q p i, held_at r q p i)
+
+-- the one cell of a place holds the points that are at it
+pub cells_points : (q : Place) (p : Point) → InCells (at_place q ∷ []) p ↔ IsAt q p
+cells_points q p = (
+  (λ h. elim h [ inl c ↦ (at_place_points q p).0 c | inr n ↦ absurd n ]),
+  (λ i. inl ((at_place_points q p).1 i)),
+)
+
+-- what an element has, some element has
+pub some_at : {A : Type 0} (P : A → Type 0) (xs : List A) (k : ℕ) → k < length xs → HoldsAt P xs k → SomeOf P xs
+some_at P [] k l h = absurd (omega arith)
+some_at P (x ∷ xs) zero l h = inl (h x)
+some_at P (x ∷ xs) (suc k) l h = inr (some_at P xs k (omega arith) h)
+
+-- where no element has it, none does
+pub none_of : {A : Type 0} (P : A → Type 0) (xs : List A) → ((k : ℕ) (d : A) → k < length xs → ¬ (P (get_or xs k d))) → ¬ (SomeOf P xs)
+none_of P [] n h = h
+none_of P (x ∷ xs) n h = elim h [
+  | inl a ↦ n 0 x (omega arith) a
+  | inr a ↦ none_of P xs (λ k d l. n (suc k) d (omega arith)) a
+]
+
+-- what `any` answered, over the elements
+pub some_is : {A : Type 0} (P : A → Type 0) (r : Bool) (xs : List A) → MatchBool r ((k : ℕ) × (k < length xs) × HoldsAt P xs k) (AllWithin (λ x. ¬ (P x)) xs 0 (length xs)) → IsTrue r ↔ SomeOf P xs
+some_is P true xs h = ((λ _. some_at P xs h.0 h.1 h.2), (λ _. refl))
+some_is P false xs h = ((λ t. absurd (false≢true t)), (λ s. absurd (none_of P xs (λ k d l. h k d (omega arith) l) s)))
