@@ -9,7 +9,7 @@ use Rattle.plane_terms.specs.HalfPlane.{HalfPlane, Holds, Says, value_at, weak, 
 use Rattle.plane_terms.specs.declared.op.Op.{Op}
 use Rattle.plane_terms.specs.declared.op.Op.TheVariants.{Over, AtLeast, Zero}
 use Rattle.plane_terms.specs.Cell.{Cell, InCell, HasPoint, weak_of}
-use Rattle.number_steps.proofs.Ring.{num, neg, ◌⊕◌, ◌⊖◌, ◌⊗◌, same_by, le_by, lt_by, le_read, lt_read, same_read}
+use Rattle.number_steps.proofs.Ring.{num, neg, ◌⊕◌, ◌⊖◌, ◌⊗◌, same_by, le_by, le_read, lt_read, same_read}
 use Rattle.number_steps.proofs.Order.{product_at_least}
 
 -- ---- a point moved a little toward another one
