@@ -7,7 +7,10 @@
 -- SaysAt d es row F a b p          what the headline says of one point: off the dirt d it lies in the error of a and b exactly
 --                                  if a breaks the rule there with b; the rule is number 1
 -- Shows p class ps d es            of the project p the one rule, number 1, is Must Be Disjoint for the class, and these are its features, dirt and errors
--- IsPairBelow x y, AreAscending xs the pair x comes before y, by its first number, then by its second; each pair before all later ones
+-- Breaks row F a b                 at some point of the plane a breaks the rule with b
+-- AreRising xs                     each number is below all later ones
+-- IsPairBelow x y                  the pair x comes before y, by its first number, then by its second
+-- AreAscending xs                  each pair comes before all later ones
 use Rattle.std.specs.Prelude.{◌≡◌, ◌↔◌, ◌⊎◌, ℕ, ◌<◌, false, List, [], ◌∷◌, map}
 use Rattle.plane_terms.specs.Lists.{EveryPair}
 use Rattle.plane_terms.specs.Point.{Point, IsAt}
@@ -51,6 +54,12 @@ pub record Shows (p : Project) (class : ℕ) (ps : List PlainPoint) (d : List Re
   pub features : p.features ≡ features_of ps
   pub dirt : p.dirt ≡ d
   pub entries : p.entries ≡ entries_of es
+
+abbrev pub Breaks : Row → List Feature → ℕ → ℕ → Type 0
+Breaks row F a b = (p : Point) × BrokenAt row F a b p
+
+abbrev pub AreRising : List ℕ → Type 0
+AreRising xs = EveryPair (λ m n. m < n) xs
 
 abbrev pub IsPairBelow : ℕ × ℕ → ℕ × ℕ → Type 0
 IsPairBelow x y = (x.0 < y.0) ⊎ ((x.0 ≡ y.0) × (x.1 < y.1))
