@@ -17,7 +17,8 @@ fn partners_at(
     a: u32,
     place: GridPoint,
 ) -> Result<Vec<u32>, AllocError>
-    ensures exact { IfOk result (λ v. (p : Point) → IsAt place p → (b : ℕ) → Contains v.items b ↔ BrokenAt (row_of class) (features_of points.now) a b p) }
+    ensures exact { IfOk result (λ v. (p : Point) → IsAt place p → (b : ℕ) →
+        Contains v.items b ↔ BrokenAt (row_of class) (features_of points.now) a b p) }
     ensures ordered { IfOk result (λ v. IsAscending (features_of points.now) → AreRising v.items) }
 {
     let mut partners = Vec::new(alloc);
@@ -37,7 +38,8 @@ pub fn partners_of(
     class: u16,
     a: u32,
 ) -> Result<Vec<u32>, AllocError>
-    ensures exact { IfOk result (λ v. (b : ℕ) → Contains v.items b ↔ Breaks (row_of class) (features_of points.now) a b) }
+    ensures exact { IfOk result (λ v. (b : ℕ) →
+        Contains v.items b ↔ Breaks (row_of class) (features_of points.now) a b) }
     ensures ordered { IfOk result (λ v. IsAscending (features_of points.now) → AreRising v.items) }
 {
     match point_of(points, a) {
@@ -63,7 +65,8 @@ pub fn broken_pairs(
     points: &[PlainPoint],
     class: u16,
 ) -> Result<Vec<(u32, u32)>, AllocError>
-    ensures exact { IfOk result (λ v. (a b : ℕ) → Contains v.items (a, b) ↔ Breaks (row_of class) (features_of points.now) a b) }
+    ensures exact { IfOk result (λ v. (a b : ℕ) →
+        Contains v.items (a, b) ↔ Breaks (row_of class) (features_of points.now) a b) }
     ensures ordered { IfOk result (λ v. IsAscending (features_of points.now) → AreAscending v.items) }
 {
     let mut pairs = Vec::new(alloc);
