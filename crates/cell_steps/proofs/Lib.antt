@@ -9,3 +9,4 @@ pub mod Decision
 pub mod Meets
 pub mod GridLines
 pub mod Outside
+pub mod Closure

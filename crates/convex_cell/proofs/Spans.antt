@@ -107,6 +107,12 @@ low_at P o l e h = subst (λ (x : Option Limit). IfSome x P) e h
 at_some : (P : Limit → Type 0) (o : Option Limit) (l : Limit) → o ≡ Some l → P l → IfSome o P
 at_some P o l e h = subst (λ (x : Option Limit). IfSome x P) (sym e) h
 
+-- a number below g, over a point of the cell
+scaled_under : (t g : ℤ) (w d : ℕ) → 0 < d → t <ℤ (g *ℤ pos w) → (t *ℤ pos d) <ℤ (g *ℤ pos (w * d))
+scaled_under t g w d p h =
+    let s = product_over (g *ℤ pos w -ℤ t) (pos d) (omega (arith, ints)) (omega (arith, ints)) in
+    lt_by (num t ⊗ num (pos d)) (num g ⊗ num (pos (w * d))) (omega (arith, lt_read (num (pos 0)) ((num g ⊗ num (pos w) ⊖ num t) ⊗ num (pos d)) s))
+
 -- no whole number above the rounded bound is below all points of the cell
 pub greatest_from : (hs : List HalfPlane) (r : Range) → ((t : ℤ) → (w : ℕ) → 0 < w → (InRange r t w ↔ All (λ h. FlatHolds h t w × PairsHold hs h t w) hs)) → IsRange r → HasPoint hs → (low : Limit) → r.low ≡ Some low → (q : ℤ) → neg_ℤ low.k <ℤ ((q +ℤ pos 1) *ℤ low.m) → (g : ℤ) → ((p : Point) → InCell hs p → (g *ℤ pos p.w) ≤ℤ p.x) → g ≤ℤ q
 greatest_from hs r both v some low e q above g all =
@@ -117,18 +123,13 @@ greatest_from hs r both v some low e q above g all =
     let c = meets_high r.high low z.x z.w z.positive l v.high (low_at (AllowsLimit z.x z.w) r.low low e i.low) i.high in
     let n = number_under low r.high g l v.high c (raised low.k low.m q g l.rising less above) in
     let o = over_number hs r both n.0 n.1 n.2 (record { some = i.some; low = at_some (AllowsLimit n.0 n.1) r.low low e n.3; high = n.4 }) in
-    let a = all (over n.0 n.1 n.2 o.y o.d o.positive) (o.within) in
-    absurd (clash_ℤ (scaled_under n.0 g n.1 o.d o.positive n.5) a)) (λ le. le)
+    let a = all (over n.0 n.1 n.2 o.y o.d o.positive) o.within in
+    absurd (clash_ℤ {a = n.0 *ℤ pos o.d} {b = g *ℤ pos (n.1 * o.d)} (scaled_under n.0 g n.1 o.d o.positive n.5) a)) (λ le. le)
   where
     raised : (k m q g : ℤ) → pos 0 <ℤ m → q <ℤ g → neg_ℤ k <ℤ ((q +ℤ pos 1) *ℤ m) → neg_ℤ k <ℤ (g *ℤ m)
     raised k m q g p less h =
         let d = product_at_least (g -ℤ (q +ℤ pos 1)) m (omega (arith, ints)) (omega (arith, ints)) in
         lt_by (neg (num k)) (num g ⊗ num m) (omega (arith, lt_read (neg (num k)) ((num q ⊕ num (pos 1)) ⊗ num m) h, le_read (num (pos 0)) ((num g ⊖ (num q ⊕ num (pos 1))) ⊗ num m) d))
-
-    scaled_under : (t g : ℤ) (w d : ℕ) → 0 < d → t <ℤ (g *ℤ pos w) → (t *ℤ pos d) <ℤ (g *ℤ pos (w * d))
-    scaled_under t g w d p h =
-        let s = product_over (g *ℤ pos w -ℤ t) (pos d) (omega (arith, ints)) (omega (arith, ints)) in
-        lt_by (num t ⊗ num (pos d)) (num g ⊗ num (pos (w * d))) (omega (arith, lt_read (num (pos 0)) ((num g ⊗ num (pos w) ⊖ num t) ⊗ num (pos d)) s))
 
 -- ---- a cell that is bounded from below has a low limit
 number_below : (high : Option Limit) (g : ℤ) → IfSome high IsLimit → (t : ℤ) × (w : ℕ) × (0 < w) × IfSome high (AllowsLimit (neg_ℤ t) w) × (t <ℤ (g *ℤ pos w))
@@ -147,15 +148,10 @@ low_known hs r both v some g all e =
     let n = number_below r.high g v.high in
     let o = over_number hs r both n.0 n.1 n.2 (record { some = i.some; low = at_none (AllowsLimit n.0 n.1) r.low e; high = n.3 }) in
     let a = all (over n.0 n.1 n.2 o.y o.d o.positive) o.within in
-    clash_ℤ (scaled_below n.0 g n.1 o.d o.positive n.4) a
+    clash_ℤ {a = n.0 *ℤ pos o.d} {b = g *ℤ pos (n.1 * o.d)} (scaled_under n.0 g n.1 o.d o.positive n.4) a
   where
     at_none : (P : Limit → Type 0) (o : Option Limit) → o ≡ None → IfSome o P
     at_none P o e = subst (λ (x : Option Limit). IfSome x P) (sym e) tt
-
-    scaled_below : (t g : ℤ) (w d : ℕ) → 0 < d → t <ℤ (g *ℤ pos w) → (t *ℤ pos d) <ℤ (g *ℤ pos (w * d))
-    scaled_below t g w d p h =
-        let s = product_over (g *ℤ pos w -ℤ t) (pos d) (omega (arith, ints)) (omega (arith, ints)) in
-        lt_by (num t ⊗ num (pos d)) (num g ⊗ num (pos (w * d))) (omega (arith, lt_read (num (pos 0)) ((num g ⊗ num (pos w) ⊖ num t) ⊗ num (pos d)) s))
 
 -- ---- as the code has them
 pub whole_back : (q : ℤ) → mag q < 2 ^ 127 → to_z w128 (of_z w128 q) ≡ q

@@ -1,7 +1,7 @@
-ghost use Rattle.std.specs.Prelude.{◌≡◌, ◌↔◌, ◌<◌, ◌≤◌, ◌+ℤ◌, ◌-ℤ◌, pos, not, length, slice_get, Some, IfOk, unsigned_abs};
+ghost use Rattle.std.specs.Prelude.{ℕ, ◌≡◌, ◌↔◌, ◌<◌, ◌≤◌, ◌+ℤ◌, ◌-ℤ◌, pos, not, length, slice_get, Some, IfOk, unsigned_abs};
 ghost use Rattle.std.specs.Bool.{OnTrue, OnFalse};
 ghost use Rattle.std.specs.List.{list_any};
-ghost use Rattle.plane_terms.specs.Point.{Point, InReach, IsAt};
+ghost use Rattle.plane_terms.specs.Point.{Point, InReach, IsAt, IsNear};
 ghost use Rattle.plane_terms.specs.HalfPlane.{weak, x_over, x_under, y_over, y_under};
 ghost use Rattle.plane_terms.specs.Segment.{OnSegment, IsGridSegment};
 ghost use Rattle.plane_terms.specs.Cell.{InCell, HasPoint, op_number, same_half, meet_of, weak_of, on_segment, at_place, box_round};
@@ -132,11 +132,13 @@ impl Cell {
         is_empty(&self.halves)
     }
 
-    /// Each half-plane becomes closed. It takes no memory.
+    /// Each half-plane becomes closed. It takes no memory. Of a cell that has a point this makes the closure:
+    /// the points with points of the cell round them at every distance.
     pub fn weaken(&mut self)
-        ensures { self.new ≡ weak_of self.old }
+        ensures value { self.new ≡ weak_of self.old }
+        ensures closure { HasPoint self.old → (p : Point) → InCell self.new p ↔ ((k : ℕ) → 1 ≤ k → (q : Point) × InCell self.old q × IsNear k p q) }
     {
-        weaken(&mut self.halves);
+        weaken_cell(self);
     }
 
     /// The points of the segment.
@@ -175,6 +177,12 @@ fn is_empty(halves: &[Half]) -> bool
         return true;
     }
     range_of(halves, Direction::East).is_none()
+}
+
+fn weaken_cell(cell: &mut Cell)
+    ensures { cell.new ≡ weak_of cell.old }
+{
+    weaken(&mut cell.halves);
 }
 
 fn weaken(halves: &mut [Half])

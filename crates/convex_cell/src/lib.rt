@@ -9,6 +9,8 @@ mod frame;
 mod opposed;
 mod pairs;
 mod range;
+#[cfg(test)]
+mod tests;
 
 pub use cell::Cell;
 pub use cells::Cells;

@@ -3,7 +3,7 @@ use Rattle.std.specs.List.{HoldsAt, AllWithin}
 use Rattle.std.proofs.lemmas.Bool.{false≢true}
 use Rattle.std.proofs.lemmas.List.Elements.{recursion_from_All, All-map, All-from_all_within}
 use Rattle.plane_terms.specs.Lists.{Every}
-use Rattle.std.proofs.Common.{zero, suc, arith, MatchBool, length, ◌<◌, get_or, ◌≡◌, ◌↔◌, IsTrue, ℕ, Bool, List, [], ◌∷◌, Option, Some, None, true, false, refl, sym, subst}
+use Rattle.std.proofs.Common.{zero, suc, arith, MatchBool, length, ◌<◌, ◌≡◌, ◌↔◌, IsTrue, ℕ, Bool, List, [], ◌∷◌, Option, Some, None, true, false, refl, sym, subst}
 use Rattle.std.specs.Prelude.{cond, ◌==◌, ◌&&◌}
 use Rattle.std.specs.List.{find}
 use Rattle.std.specs.Option.{option_map}

@@ -1,3 +1,5 @@
 pub mod PlaceFacts
 pub mod PointFacts
 pub mod EntryFacts
+pub mod HeadlineFacts
+pub mod PairFacts

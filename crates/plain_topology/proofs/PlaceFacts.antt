@@ -1,7 +1,7 @@
 -- What holds of a place of the grid, and of each point that is at it.
 use Rattle.std.specs.List.{HoldsAt, AllWithin}
 use Rattle.std.proofs.lemmas.Bool.{false≢true}
-use Rattle.std.proofs.Common.{IsTrue, MatchBool, Bool, true, false, refl, ◌≤◌, ◌≡◌, ◌↔◌, ◌⊎◌, inl, inr, ℕ, ℤ, pos, ◌*ℤ◌, ◌≤ℤ◌, List, [], ◌∷◌, length, get_or, zero, suc, arith, ◌<◌, ◌+◌}
+use Rattle.std.proofs.Common.{IsTrue, MatchBool, Bool, true, false, refl, ◌↔◌, inl, inr, ℕ, ◌≤ℤ◌, List, [], ◌∷◌, length, get_or, zero, suc, arith, ◌<◌}
 use Rattle.std.proofs.lemmas.Int.{ints}
 use Rattle.plane_terms.specs.Lists.{SomeOf}
 use Rattle.plane_terms.specs.Point.{Place, Point, IsAt}

@@ -1,5 +1,6 @@
 -- Look-ups of points, and where two of them break the rule.
-use Rattle.std.proofs.Common.{◌≡◌, ◌↔◌, IsTrue, ℕ, ◌<◌, Bool, List, [], ◌∷◌, Option, Some, None, true, false, refl, sym, ap, ◌∙◌, subst}
+use Rattle.std.proofs.lemmas.Bool.Decides.{nat_tests}
+use Rattle.std.proofs.Common.{◌≤◌, ltb, arith, ◌≡◌, ◌↔◌, IsTrue, ℕ, ◌<◌, Bool, List, [], ◌∷◌, Option, Some, None, true, false, refl, sym, ap, ◌∙◌, subst}
 use Rattle.std.specs.Prelude.{cond, ◌==◌}
 use Rattle.std.specs.List.{find}
 use Rattle.std.specs.Option.{option_map}
@@ -44,6 +45,9 @@ other_class F class h p f e n w =
     let l = w.live.live in
     let same : w.f ≡ feature_of f = cc in
     n (sym (ap (λ (z : Feature). z.class) same) ∙ w.live.on_side.class)
+
+pub not_below : (a b : ℕ) → b ≤ a → ltb a b ≡ true → ⊥
+not_below a b l e = grind (arith, nat_tests)
 
 -- the rule is broken where both are, the first one first
 pub broken_there : (class : ℕ) (F : List Feature) (a b : ℕ) (p : Point) → a < b → IsThere F class a p → IsThere F class b p → BrokenAt (row_of class) F a b p

@@ -6,11 +6,15 @@
 -- IsThere F class h p              the live feature of the handle h is of the class, and at p
 -- SaysAt d es row F a b p          what the headline says of one point: off the dirt d it lies in the error of a and b exactly
 --                                  if a breaks the rule there with b; the rule is number 1
+-- SaysThere class ps d es a b q    it says so of each point that is at the place q, for Must Be Disjoint and these lists
 -- Shows p class ps d es            of the project p the one rule, number 1, is Must Be Disjoint for the class, and these are its features, dirt and errors
--- IsPairBelow x y, AreAscending xs the pair x comes before y, by its first number, then by its second; each pair before all later ones
+-- Breaks row F a b                 at some point of the plane a breaks the rule with b
+-- AreRising xs                     each number is below all later ones
+-- IsPairBelow x y                  the pair x comes before y, by its first number, then by its second
+-- AreAscending xs                  each pair comes before all later ones
 use Rattle.std.specs.Prelude.{◌≡◌, ◌↔◌, ◌⊎◌, ℕ, ◌<◌, false, List, [], ◌∷◌, map}
 use Rattle.plane_terms.specs.Lists.{EveryPair}
-use Rattle.plane_terms.specs.Point.{Point, IsAt}
+use Rattle.plane_terms.specs.Point.{Place, Point, IsAt}
 use Rattle.plane_terms.specs.Rectangle.{Rectangle, rect_at}
 use Rattle.plane_terms.specs.Cell.{at_place}
 use Rattle.plane_terms.specs.Dirt.{Covers}
@@ -46,11 +50,20 @@ pub record IsThere (F : List Feature) (class h : ℕ) (p : Point) : Type 0 where
 abbrev pub SaysAt : List Rectangle → List Entry → Row → List Feature → ℕ → ℕ → Point → Type 0
 SaysAt d es row F a b p = ¬ (Covers d p) → HasCellsAt es 1 a b p ↔ BrokenAt row F a b p
 
+abbrev pub SaysThere : ℕ → List PlainPoint → List Rectangle → List PlainEntry → ℕ → ℕ → Place → Type 0
+SaysThere class ps d es a b q = (p : Point) → IsAt q p → SaysAt d (entries_of es) (row_of class) (features_of ps) a b p
+
 pub record Shows (p : Project) (class : ℕ) (ps : List PlainPoint) (d : List Rectangle) (es : List PlainEntry) : Type 0 where
   pub rules : p.rules ≡ record { number = 1; row = row_of class } ∷ []
   pub features : p.features ≡ features_of ps
   pub dirt : p.dirt ≡ d
   pub entries : p.entries ≡ entries_of es
+
+abbrev pub Breaks : Row → List Feature → ℕ → ℕ → Type 0
+Breaks row F a b = (p : Point) × BrokenAt row F a b p
+
+abbrev pub AreRising : List ℕ → Type 0
+AreRising xs = EveryPair (λ m n. m < n) xs
 
 abbrev pub IsPairBelow : ℕ × ℕ → ℕ × ℕ → Type 0
 IsPairBelow x y = (x.0 < y.0) ⊎ ((x.0 ≡ y.0) × (x.1 < y.1))

@@ -28,7 +28,8 @@ fn entry_of_key(entries: &[PlainEntry], subject: u32, other: u32) -> Option<Plai
 
 /// Whether the place is in a cell of the error of rule 1, of the subject `a` and the partner `b`.
 pub fn has_cells_at(entries: &[PlainEntry], a: u32, b: u32, place: GridPoint) -> bool
-    ensures { (p : Point) → IsAt place p → (IsTrue result ↔ HasCellsAt (entries_of entries.now) 1 a b p) }
+    ensures { (p : Point) → IsAt place p →
+        (IsTrue result ↔ HasCellsAt (entries_of entries.now) 1 a b p) }
 {
     match entry_of_key(entries, a, b) {
         Some(entry) => is_same_place(entry.place, place),
@@ -49,7 +50,7 @@ fn is_below_all(e: &PlainEntry, others: &[PlainEntry]) -> bool
     others.iter().all(|f| is_key_below(e, f))
 }
 
-// Whether each error stands before those of a greater key, and no key twice.
+// Whether each error has a lesser key than all later ones.
 pub(crate) fn do_ascend(entries: &[PlainEntry]) -> bool
     ensures { IsTrue result ↔ IsAscending (entries_of entries.now) }
 {

@@ -2,9 +2,9 @@ ghost use Rattle.std.specs.Prelude.{◌↔◌, IsTrue, All};
 ghost use Rattle.plane_terms.specs.Point.{Point, IsAt};
 ghost use Rattle.topology_terms.specs.Project.{Project};
 ghost use Rattle.script_terms.specs.Headline.{Headline};
-ghost use Rattle.plain_topology.specs.Plain.{features_of, entries_of, row_of, SaysAt, Shows};
-ghost use Rattle.plain_topology.specs.declared.entries.PlainEntry.{PlainEntry as AnEntry};
-ghost use Rattle.plain_topology.specs.declared.points.PlainPoint.{PlainPoint as APoint};
+ghost use Rattle.plain_topology.specs.Plain.{features_of, entries_of, row_of, SaysAt, SaysThere, Shows};
+ghost use Rattle.plain_topology.specs.declared.entries.PlainEntry.{PlainEntry};
+ghost use Rattle.plain_topology.specs.declared.points.PlainPoint.{PlainPoint};
 
 use crate::entries::do_ascend;
 use crate::{PlainEntry, PlainPoint, covers, has_cells_at, is_broken_at};
@@ -22,7 +22,8 @@ pub fn says_headline_at(
     place: GridPoint,
 ) -> bool
     ensures { (p : Point) → IsAt place p →
-        (IsTrue result ↔ SaysAt dirt.now (entries_of entries.now) (row_of class) (features_of points.now) a b p) }
+        (IsTrue result ↔
+        SaysAt dirt.now (entries_of entries.now) (row_of class) (features_of points.now) a b p) }
 {
     covers(dirt, place)
         || has_cells_at(entries, a, b, place) == is_broken_at(points, class, a, b, place)
@@ -30,8 +31,8 @@ pub fn says_headline_at(
 
 // Whether the sentence is true of each error, at its place.
 fn says_at_entries(points: &[PlainPoint], class: u16, dirt: &[Rect], entries: &[PlainEntry]) -> bool
-    ensures { IsTrue result ↔ All (λ (e : AnEntry). (p : Point) → IsAt e.place p →
-        SaysAt dirt.now (entries_of entries.now) (row_of class) (features_of points.now) e.subject e.other p) entries.now }
+    ensures { IsTrue result ↔ All (λ (e : PlainEntry).
+        SaysThere class points.now dirt.now entries.now e.subject e.other e.place) entries.now }
 {
     entries.iter().all(|e| says_headline_at(
         points, class, dirt, entries, e.subject, e.other, e.place,
@@ -46,8 +47,8 @@ fn says_at_partners(
     entries: &[PlainEntry],
     f: PlainPoint,
 ) -> bool
-    ensures { IsTrue result ↔ All (λ (g : APoint). (p : Point) → IsAt f.place p →
-        SaysAt dirt.now (entries_of entries.now) (row_of class) (features_of points.now) f.handle g.handle p) points.now }
+    ensures { IsTrue result ↔ All (λ (g : PlainPoint).
+        SaysThere class points.now dirt.now entries.now f.handle g.handle f.place) points.now }
 {
     points.iter().all(|g| says_headline_at(
         points, class, dirt, entries, f.handle, g.handle, f.place,
@@ -56,8 +57,8 @@ fn says_at_partners(
 
 // Whether it is true of each two points, at the place of the first.
 fn says_at_points(points: &[PlainPoint], class: u16, dirt: &[Rect], entries: &[PlainEntry]) -> bool
-    ensures { IsTrue result ↔ All (λ (f : APoint). All (λ (g : APoint). (p : Point) → IsAt f.place p →
-        SaysAt dirt.now (entries_of entries.now) (row_of class) (features_of points.now) f.handle g.handle p) points.now) points.now }
+    ensures { IsTrue result ↔ All (λ (f : PlainPoint). All (λ (g : PlainPoint).
+        SaysThere class points.now dirt.now entries.now f.handle g.handle f.place) points.now) points.now }
 {
     points
         .iter()

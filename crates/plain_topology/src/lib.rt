@@ -6,6 +6,8 @@ mod entries;
 mod headline;
 mod pairs;
 mod points;
+#[cfg(test)]
+mod tests;
 
 pub use dirt::{covers, holds_place};
 pub use entries::{PlainEntry, has_cells_at};

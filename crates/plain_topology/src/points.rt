@@ -30,7 +30,8 @@ pub(crate) fn is_same_place(a: GridPoint, b: GridPoint) -> bool
 
 // Whether the point of this handle is of the class, and at the place.
 fn is_there(points: &[PlainPoint], class: u16, handle: u32, place: GridPoint) -> bool
-    ensures { (p : Point) → IsAt place p → (IsTrue result ↔ IsThere (features_of points.now) class handle p) }
+    ensures { (p : Point) → IsAt place p →
+        (IsTrue result ↔ IsThere (features_of points.now) class handle p) }
 {
     match point_of(points, handle) {
         Some(point) => point.class == class && is_same_place(point.place, place),
@@ -41,7 +42,8 @@ fn is_there(points: &[PlainPoint], class: u16, handle: u32, place: GridPoint) ->
 /// Whether the point `a` breaks Must Be Disjoint for the class at this place, with the point `b`.
 /// A handle stands for the first point that has it.
 pub fn is_broken_at(points: &[PlainPoint], class: u16, a: u32, b: u32, place: GridPoint) -> bool
-    ensures { (p : Point) → IsAt place p → (IsTrue result ↔ BrokenAt (row_of class) (features_of points.now) a b p) }
+    ensures { (p : Point) → IsAt place p →
+        (IsTrue result ↔ BrokenAt (row_of class) (features_of points.now) a b p) }
 {
     a < b && is_there(points, class, a, place) && is_there(points, class, b, place)
 }

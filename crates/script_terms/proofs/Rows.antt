@@ -103,34 +103,43 @@ window_line = inr (window_text, grind (arith, ints))
 
 -- ---- one refusal each of a window
 beyond : IsLineFault (codes "validate 0 0 0 4194305") (OutOfReach 3)
-beyond = (rect_of (pos 0) (pos 0) (pos 0) (pos 4194305), record {
-  x0 = codes "0";
-  y0 = codes "0";
-  x1 = codes "0";
-  y1 = codes "4194305";
-  fields = (refl, (refl, (refl, (refl, (refl, refl)))));
-  x0_is = inl (0, numeral (codes "0") 0 (λ e. cc) refl refl, refl);
-  y0_is = inl (0, numeral (codes "0") 0 (λ e. cc) refl refl, refl);
-  x1_is = inl (0, numeral (codes "0") 0 (λ e. cc) refl refl, refl);
-  y1_is = inl (4194305, numeral (codes "4194305") 4194305 (λ e. cc) refl refl, refl);
-}, (grind (arith, ints), (grind (arith, ints), (grind (arith, ints), (λ h. omega (arith, ints, h.high))))))
+beyond = (
+  rect_of (pos 0) (pos 0) (pos 0) (pos 4194305),
+  record {
+    x0 = codes "0";
+    y0 = codes "0";
+    x1 = codes "0";
+    y1 = codes "4194305";
+    fields = (refl, (refl, (refl, (refl, (refl, refl)))));
+    x0_is = inl (0, numeral (codes "0") 0 (λ e. cc) refl refl, refl);
+    y0_is = inl (0, numeral (codes "0") 0 (λ e. cc) refl refl, refl);
+    x1_is = inl (0, numeral (codes "0") 0 (λ e. cc) refl refl, refl);
+    y1_is = inl (4194305, numeral (codes "4194305") 4194305 (λ e. cc) refl refl, refl);
+  },
+  (grind (arith, ints), (grind (arith, ints), (grind (arith, ints), (λ h. omega (arith, ints, h.high))))),
+)
 
 beyond_text : reply_text (Refused (OutOfReach 3)) ≡ codes "refused E15 3" ++ 10 ∷ []
 unfolding digits
 beyond_text = refl
 
 turned : IsLineFault (codes "validate 5 0 4 0") Reversed
-turned = (rect_of (pos 5) (pos 0) (pos 4) (pos 0), record {
-  x0 = codes "5";
-  y0 = codes "0";
-  x1 = codes "4";
-  y1 = codes "0";
-  fields = (refl, (refl, (refl, (refl, (refl, refl)))));
-  x0_is = inl (5, numeral (codes "5") 5 (λ e. cc) refl refl, refl);
-  y0_is = inl (0, numeral (codes "0") 0 (λ e. cc) refl refl, refl);
-  x1_is = inl (4, numeral (codes "4") 4 (λ e. cc) refl refl, refl);
-  y1_is = inl (0, numeral (codes "0") 0 (λ e. cc) refl refl, refl);
-}, (grind (arith, ints), (grind (arith, ints), (grind (arith, ints), (grind (arith, ints), tt)))), λ h. omega (arith, ints, h.wide))
+turned = (
+  rect_of (pos 5) (pos 0) (pos 4) (pos 0),
+  record {
+    x0 = codes "5";
+    y0 = codes "0";
+    x1 = codes "4";
+    y1 = codes "0";
+    fields = (refl, (refl, (refl, (refl, (refl, refl)))));
+    x0_is = inl (5, numeral (codes "5") 5 (λ e. cc) refl refl, refl);
+    y0_is = inl (0, numeral (codes "0") 0 (λ e. cc) refl refl, refl);
+    x1_is = inl (4, numeral (codes "4") 4 (λ e. cc) refl refl, refl);
+    y1_is = inl (0, numeral (codes "0") 0 (λ e. cc) refl refl, refl);
+  },
+  (grind (arith, ints), (grind (arith, ints), (grind (arith, ints), (grind (arith, ints), tt)))),
+  λ h. omega (arith, ints, h.wide),
+)
 
 -- ---- a window in the middle of the grid: the four pieces round it stay dirty
 four_left : reply_text (DirtyList (record wells { dirt = cut_dirt (whole_grid ∷ []) (rect_of (pos 0) (pos 0) (pos 5) (pos 5)) })) ≡

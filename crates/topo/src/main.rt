@@ -2,10 +2,14 @@
 #![tactic(auto)]
 
 use std::collections::BTreeMap;
+use std::io::ErrorKind;
 use std::process::ExitCode;
 use std::{env, io};
 use topo_outside::{StdSink, StdSource, SureShelf};
 use topo_run::run;
+
+// The status where not even the words can be held.
+const NO_MEMORY: u8 = 5;
 
 fn words(rt: &HostRuntime) -> io::Result<Vec<String>> {
     let mut words = Vec::new(rt.alloc());
@@ -18,6 +22,8 @@ fn words(rt: &HostRuntime) -> io::Result<Vec<String>> {
 fn main(rt: HostRuntime) -> ExitCode {
     let words = match words(&rt) {
         Ok(words) => words,
+        Err(error) if error.kind() == ErrorKind::OutOfMemory => return ExitCode::from(NO_MEMORY),
+        // A word that is no text is none that the program knows.
         Err(_) => Vec::new(rt.alloc()),
     };
     let mut source = StdSource::new(rt.stdin());

@@ -17,6 +17,8 @@ use std::alloc::Global;
 use std::marker::Model;
 
 /// A topology of one class of points and one rule, Must Be Disjoint.
+///
+/// A call that answers an error leaves everything as it was. `NoMemory` may come of any call that may answer it.
 #[derive(Drop)]
 pub struct Topology {
     alloc: Global,
@@ -65,6 +67,7 @@ impl Topology {
         let _ = &self.next;
     }
 
+    /// Whether the class was added.
     pub fn has_class(&self) -> bool
         ensures { result ≡ is_nonempty self.now.classes }
     {
@@ -93,6 +96,7 @@ impl Topology {
         Ok(1)
     }
 
+    /// Whether the rule was added.
     pub fn has_rule(&self) -> bool
         ensures { result ≡ is_nonempty self.now.rules }
     {

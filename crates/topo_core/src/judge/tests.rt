@@ -31,7 +31,14 @@ fn judges_as_plainly(rt: HostRuntime) -> Result<(), Fail> {
     let points = points(alloc, 200)?;
     let place = GridPoint::at(2, -1).ok_or("in reach")?;
     for dirt in [Rect::round(place), Rect::whole()] {
-        let found = judge_all(alloc, 1, &Rect::whole(), &points, &DirtIndex::of(alloc, &[dirt])?, &[])?;
+        let found = judge_all(
+            alloc,
+            1,
+            &Rect::whole(),
+            &points,
+            &DirtIndex::of(alloc, &[dirt])?,
+            &[],
+        )?;
         let plain = judge_plainly(alloc, 1, &Rect::whole(), &points, &[dirt], &[])?;
         assert!(rt; found.len() >= 15);
         assert_eq!(rt; handles(alloc, &found)?, handles(alloc, &plain)?);
@@ -49,7 +56,14 @@ fn keeps_pairs_as_plainly(rt: HostRuntime) -> Result<(), Fail> {
         other,
         place,
     });
-    let found = judge_all(alloc, 1, &Rect::whole(), &points, &DirtIndex::of(alloc, &[])?, &entries)?;
+    let found = judge_all(
+        alloc,
+        1,
+        &Rect::whole(),
+        &points,
+        &DirtIndex::of(alloc, &[])?,
+        &entries,
+    )?;
     let plain = judge_plainly(alloc, 1, &Rect::whole(), &points, &[], &entries)?;
     assert_eq!(rt; found.len(), 4);
     assert_eq!(rt; handles(alloc, &found)?, handles(alloc, &plain)?);

@@ -20,6 +20,13 @@ fn lines_at_fault(rt: HostRuntime) {
         "rule point_must_be_disjoint",
         "begin",
         "validate all now",
+        "validate 1 2 3",
+        "validate 1 2 3 4 5",
+        "validate 9999999 x 0 0",
+        "validate +1 0 2 2",
+        "validate - 0 2 2",
+        "validate 0 0 1.0 1",
+        "errors all",
         "by ann add wells POINT (03 4)",
         "by ann add wells POINT (-0 4)",
         "by ann add wells POINT (+3 4)",
@@ -33,7 +40,7 @@ fn lines_at_fault(rt: HostRuntime) {
     ];
     for line in lines {
         assert!(rt;
-            matches!(read_line(line.as_bytes()), Line::Faulty),
+            matches!(read_line(line.as_bytes()), Line::Faulty(Refusal::NotALine)),
             "at {line}"
         );
     }
@@ -57,4 +64,39 @@ fn blanks_and_the_ends_of_the_grid(rt: HostRuntime) {
     assert_eq!(rt; class.bytes(), b"wells".as_slice());
     assert_eq!(rt; place.x(), -4_194_304);
     assert_eq!(rt; place.y(), 4_194_304);
+}
+
+#[test]
+fn windows(rt: HostRuntime) {
+    let Line::Reads(Command::Validate(window)) = read_line(b"validate -0007\t-0  08 4194304 ")
+    else {
+        assert!(rt; false);
+        return;
+    };
+    assert_eq!(rt; window.x0(), -7);
+    assert_eq!(rt; window.y0(), 0);
+    assert_eq!(rt; window.x1(), 8);
+    assert_eq!(rt; window.y1(), 4_194_304);
+}
+
+#[test]
+fn windows_beyond_the_reach(rt: HostRuntime) {
+    let lines = [
+        ("validate 4194305 0 0 -4194305", 0),
+        ("validate 5 -99999999999999999999999999 4 0", 1),
+        ("validate 0 0 -4194305 1", 2),
+        ("validate 0 0 0 4194305", 3),
+    ];
+    for (line, place) in lines {
+        assert!(rt;
+            matches!(read_line(line.as_bytes()), Line::Faulty(Refusal::OutOfReach { at }) if at == place),
+            "at {line}"
+        );
+    }
+    for line in ["validate 5 0 4 0", "validate 0 5 0 4"] {
+        assert!(rt;
+            matches!(read_line(line.as_bytes()), Line::Faulty(Refusal::Reversed)),
+            "at {line}"
+        );
+    }
 }

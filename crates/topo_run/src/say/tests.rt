@@ -27,7 +27,11 @@ fn a_text_of_each_reply(rt: HostRuntime) -> Result<(), Fail> {
     push_reply(&mut out, &topology, Reply::ErrorList)?;
     push_reply(&mut out, &topology, Reply::CellList)?;
     push_reply(&mut out, &topology, Reply::Refused(Refusal::NoSession))?;
-    push_reply(&mut out, &topology, Reply::Refused(Refusal::OutOfReach { at: 3 }))?;
+    push_reply(
+        &mut out,
+        &topology,
+        Reply::Refused(Refusal::OutOfReach { at: 3 }),
+    )?;
     assert_eq!(rt;
         out.as_str(),
         "ok\nok 12\nok judged 2 errors 1 dirty 0\ndirty 0 7 0 7\ntotal 1\nerror 1 1 2 cells 3 -4 3 -4\ntotal 1\nerror 1 1 2 cells 3 -4 3 -4\ncell 1 0 -3 =, 0 1 4 =\ntotal 1\nrefused E12\nrefused E15 3\n"

@@ -1,7 +1,6 @@
 use Rattle.std.proofs.Common.{rules}
 use borrow.Author.Tests.{tests}
 use Rattle.std.proofs.lemmas.Iterator.{YieldsList-from_slice, cases_from_any}
-use Rattle.plane_terms.specs.Point.{Point, IsAt}
 use Rattle.plane_terms.specs.Rectangle.{Rectangle, RectHolds}
 use Rattle.plain_topology.proofs.PlaceFacts.{some_is}
 use Rattle.plain_topology.proofs.dirt.covers.Goals as goal

@@ -1,6 +1,5 @@
-use Rattle.std.proofs.Common.{◌≡◌, arith, ap, List, ℕ, string_bytes, bytes_eq, cond, option_map, rules, sym}
-use Rattle.std.proofs.lemmas.Grind.{common_steps}
-use Rattle.std.proofs.lemmas.Map.Text.{text_keys, btree_map_updates_text}
+use Rattle.std.proofs.Common.{◌≡◌, arith, ap, option_map}
+use Rattle.std.proofs.lemmas.Map.Text.{text_keys}
 use Rattle.std.specs.BTreeMap.{get_by_text}
 use Rattle.topo_outside.proofs.shelf.SureShelfShelf.put.Goals as goal
 

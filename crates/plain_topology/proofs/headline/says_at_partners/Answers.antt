@@ -1,0 +1,21 @@
+use Rattle.std.proofs.Common.{◌↔◌, IsTrue, true, false, rules}
+use borrow.Author.Tests.{tests}
+use Rattle.std.proofs.lemmas.Iterator.{YieldsList-from_slice, cases_from_all}
+use Rattle.plane_terms.specs.Point.{Point, IsAt}
+use Rattle.plain_topology.specs.Plain.{features_of, entries_of, row_of, SaysAt}
+use Rattle.plain_topology.specs.declared.points.PlainPoint.{PlainPoint}
+use Rattle.plain_topology.proofs.HeadlineFacts.{all_is, so_at, not_at}
+use Rattle.plain_topology.proofs.headline.says_at_partners.Goals as goal
+
+pub returns : goal.returns
+returns c =
+    let T : PlainPoint → Point → Type 0 = λ g p. SaysAt c.args.dirt.now (entries_of c.args.entries.now) (row_of c.args.class) (features_of c.args.points.now) c.args.f.handle g.handle p in
+    let P : PlainPoint → Type 0 = λ g. (p : Point) → IsAt c.args.f.place p → T g p in
+    all_is P c.all.result c.args.points.now
+    (cases_from_all _ _ _ P (λ g. ¬ (P g)) c.all.ensures.ran (YieldsList-from_slice c.args.points.now cc)
+    (λ x q k.
+    let says : (p : Point) → IsAt c.args.f.place p → IsTrue true ↔ T x.now p = search (rules, tests) in
+    (search (rules, tests), so_at c.args.f.place (T x.now) says))
+    (λ x q k.
+    let says : (p : Point) → IsAt c.args.f.place p → IsTrue false ↔ T x.now p = search (rules, tests) in
+    not_at c.args.f.place (T x.now) says))
