@@ -5,8 +5,9 @@ usage: bench/run.py [--baseline WORDS] [--sizes N,N,..] [--kinds KIND,..] [--tur
 
   --baseline WORDS   another program of the same words and texts, with its own first words if it wants some, as one word
   --sizes N,..       how many points: 1000,10000,100000 where it is left out
-  --kinds KIND,..    apart: no two points share a place; shared: each tenth point stands at the place of the one before.
-                     Both where it is left out
+  --kinds KIND,..    apart: no two points share a place; shared: each tenth point stands at the place of the one before;
+                     windows: as shared, but validated in 100 windows, one beside the other, in place of all at once.
+                     All of them where it is left out
   --turns N          how often each is run (3); the least time counts, and with it the least peak of memory
   --seconds N        a run is stopped after so much processor time (600), and its program is not run again on that input
   --program WORDS    what is measured in place of the program that ./topo builds
@@ -27,7 +28,7 @@ import tempfile
 
 HERE = os.path.dirname(os.path.abspath(__file__))
 ROOT = os.path.dirname(HERE)
-KINDS = ['apart', 'shared']
+KINDS = ['apart', 'shared', 'windows']
 
 
 def stride_of(count):
@@ -46,9 +47,24 @@ def place_of(number):
 def points(count, kind):
     stride = stride_of(count)
     for i in range(count):
-        if kind == 'shared' and i % 10 == 9:
+        if kind != 'apart' and i % 10 == 9:
             i -= 1
         yield place_of(i * stride % count)
+
+
+def windows(count):
+    """Ten rows of ten windows that cover the lattice of so many points; each shares its sides with those beside it."""
+    wide, high = 700, -(-7 * (count // 1000 + 1) // 10)
+    for row in range(10):
+        for column in range(10):
+            x, y = -3500 + column * wide, -350 + row * high
+            yield x, y, x + wide, y + high
+
+
+def validations(count, kind):
+    if kind != 'windows':
+        return ['validate all']
+    return ['validate %d %d %d %d' % window for window in windows(count)]
 
 
 def write_script(path, count, kind):
@@ -56,7 +72,7 @@ def write_script(path, count, kind):
         out.write('class wells point\nrule point_must_be_disjoint wells\nbegin ann\n')
         for x, y in points(count, kind):
             out.write('by ann add wells POINT (%d %d)\n' % (x, y))
-        out.write('validate all\ncells\ndirty\n')
+        out.write('\n'.join(validations(count, kind)) + '\ncells\ndirty\n')
 
 
 class Measure:
