@@ -7,7 +7,8 @@
 -- SaysAt d es row F a b p          what the headline says of one point: off the dirt d it lies in the error of a and b exactly
 --                                  if a breaks the rule there with b; the rule is number 1
 -- SaysThere class ps d es a b q    it says so of each point that is at the place q, for Must Be Disjoint and these lists
--- Shows p class ps d es            of the project p the one rule, number 1, is Must Be Disjoint for the class, and these are its features, dirt and errors
+-- Shows p class ps d es            the one rule of the project p, number 1, is Must Be Disjoint for the class, and these are its
+--                                  features, dirt and errors
 -- Breaks row F a b                 at some point of the plane a breaks the rule with b
 -- AreRising xs                     each number is below all later ones
 -- IsPairBelow x y                  the pair x comes before y, by its first number, then by its second

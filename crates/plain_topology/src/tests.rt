@@ -6,14 +6,10 @@ use grid_plane::{GridPoint, Rect};
 use std::alloc::Global;
 use std::test::Fail;
 
-// Points of these classes at these places, under the handles from 1 on.
+// Points of these classes at these places, under the handles from 1 to 999.
 fn points(alloc: Global, rows: &[(u16, i64, i64)]) -> Result<Vec<PlainPoint>, Fail> {
     let mut points = Vec::new(alloc);
-    let mut handle = 0;
-    for (class, x, y) in rows {
-        if handle < 1000 {
-            handle += 1;
-        }
+    for (handle, (class, x, y)) in (1..1000).zip(rows) {
         points.push(PlainPoint {
             handle,
             class: *class,
