@@ -30,9 +30,12 @@ fn half_of(a: &str, b: &str, c: &str, op: &str) -> Option<Half> {
 fn cell_of(alloc: Global, line: &str) -> io::Result<Option<Cell>> {
     let mut halves = Vec::new(alloc);
     let mut words = line.split_whitespace();
-    while let (Some(a), Some(b), Some(c), Some(op)) =
-        (words.next(), words.next(), words.next(), words.next())
-    {
+    while let (Some(a), Some(b), Some(c), Some(op)) = (
+        words.next(),
+        words.next(),
+        words.next(),
+        words.next(),
+    ) {
         let Some(half) = half_of(a, b, c, op) else {
             break;
         };
