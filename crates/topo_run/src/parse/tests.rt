@@ -66,17 +66,20 @@ fn blanks_and_the_ends_of_the_grid(rt: HostRuntime) {
     assert_eq!(rt; place.y(), 4_194_304);
 }
 
+// The four numbers of the window that a line validates.
+fn sides(line: &[u8]) -> Option<[i32; 4]> {
+    let Some(Ok(window)) = read_window(line) else {
+        return None;
+    };
+    Some([window.x0(), window.y0(), window.x1(), window.y1()])
+}
+
 #[test]
 fn windows(rt: HostRuntime) {
-    let Line::Reads(Command::Validate(window)) = read_line(b"validate -0007\t-0  08 4194304 ")
-    else {
-        assert!(rt; false);
-        return;
-    };
-    assert_eq!(rt; window.x0(), -7);
-    assert_eq!(rt; window.y0(), 0);
-    assert_eq!(rt; window.x1(), 8);
-    assert_eq!(rt; window.y1(), 4_194_304);
+    assert_eq!(rt;
+        sides(b"validate -0007\t-0  08 4194304 "),
+        Some([-7, 0, 8, 4_194_304])
+    );
 }
 
 #[test]

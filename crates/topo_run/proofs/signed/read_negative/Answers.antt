@@ -1,6 +1,6 @@
 use Rattle.std.proofs.Common.{arith}
 use Rattle.std.proofs.lemmas.Int.{ints}
-use Rattle.topo_run.proofs.Windows.{negative_read, no_negative}
+use Rattle.topo_run.proofs.Windows.{negative_read}
 use Rattle.topo_run.proofs.signed.read_negative.Goals as goal
 
 pub returns : goal.returns

@@ -1,4 +1,4 @@
-use Rattle.topo_run.proofs.Windows.{no_empty, signed_read, plain_read}
+use Rattle.topo_run.proofs.Windows.{signed_read}
 use Rattle.topo_run.proofs.signed.read_signed.Goals as goal
 
 pub returns-then-first-eq45 : goal.returns-then-first-eq45
