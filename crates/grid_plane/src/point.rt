@@ -1,4 +1,4 @@
-ghost use Rattle.std.specs.Prelude.{◌≡◌, MatchOption};
+ghost use Rattle.std.specs.Prelude.{◌≡◌, ◌↔◌, IsTrue, MatchOption};
 ghost use Rattle.plane_terms.specs.Point.{InReach, IsInReach};
 
 use std::marker::Model;
@@ -23,6 +23,15 @@ impl Model for GridPoint {
     ghost invariant = { λ g. InReach g.x × InReach g.y };
 
     ghost inverse = { λ p. record { x = p.x; y = p.y } };
+}
+
+pub(crate) fn is_in_reach(v: i64) -> bool
+    ensures { IsTrue result ↔ InReach v }
+{
+    if v < -REACH {
+        return false;
+    }
+    v <= REACH
 }
 
 impl GridPoint {

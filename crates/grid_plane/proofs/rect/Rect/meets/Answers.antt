@@ -1,16 +1,6 @@
-use Rattle.std.proofs.Common.{rules}
-use Rattle.plane_terms.specs.Rectangle.{Rectangle}
-use Rattle.grid_plane.proofs.Tests.{apart_below, apart_or_not}
+use Rattle.number_steps.proofs.Tests.{says}
+use Rattle.grid_plane.proofs.Rectangles.{Decides-rects_meet}
 use Rattle.grid_plane.proofs.rect.Rect.meets.Goals as goal
 
-pub returns-then-self-other-2 : goal.returns-then-self-other-2
-returns-then-self-other-2 c =
-    let r : Rectangle = record { x0 = c.self.inside.x0; y0 = c.self.inside.y0; x1 = c.self.inside.x1; y1 = c.self.inside.y1 } in
-    let s : Rectangle = record { x0 = c.other.inside.x0; y0 = c.other.inside.y0; x1 = c.other.inside.x1; y1 = c.other.inside.y1 } in
-    rw (← c.self.view_is, ← c.other.view_is) (apart_below r s (search rules))
-
-pub returns : goal.returns
-returns c =
-    let r : Rectangle = record { x0 = c.self.inside.x0; y0 = c.self.inside.y0; x1 = c.self.inside.x1; y1 = c.self.inside.y1 } in
-    let s : Rectangle = record { x0 = c.other.inside.x0; y0 = c.other.inside.y0; x1 = c.other.inside.x1; y1 = c.other.inside.y1 } in
-    rw (← c.self.view_is, ← c.other.view_is) (apart_or_not r s _ (search rules) (search rules) (search rules) (search rules))
+pub returns-clause-meaning : goal.returns-clause-meaning
+returns-clause-meaning c = says _ _ c.sides_meet.ensures.value (Decides-rects_meet _ _ c.sides_meet.ensures.proper.0 c.sides_meet.ensures.proper.1)

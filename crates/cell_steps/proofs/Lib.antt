@@ -1,0 +1,11 @@
+pub mod Lines
+pub mod LineLists
+pub mod Elimination
+pub mod PairCuts
+pub mod Empty
+pub mod Lists
+pub mod Ranges
+pub mod Decision
+pub mod Meets
+pub mod GridLines
+pub mod Outside

@@ -1,0 +1,113 @@
+ghost use Rattle.std.specs.Prelude.{◌≡◌, ℕ, ℤ, pos, ◌<◌, ◌↔◌, ◌≤◌, ◌^◌, ◌+ℤ◌, ◌*ℤ◌, unsigned_abs, IfSome, All};
+ghost use Rattle.plane_terms.specs.Decide.{high_of};
+ghost use Rattle.cell_steps.specs.Bounds.{either, Compatible, FlatHolds};
+ghost use Rattle.convex_cell.specs.Range.{IsRange, InRange};
+ghost use Rattle.convex_cell.specs.Seen.{seen, PairsSeen};
+
+use crate::direction::Direction;
+use crate::edge::{Edge, high_edge, low_edge};
+use crate::range::Range;
+use grid_plane::{Half, Op};
+
+fn either(s: bool, r: bool) -> bool
+    ensures { result ≡ either s r }
+{
+    s || r
+}
+
+fn sum_of_products(a: i64, b: i64, c: i64, d: i64) -> i128
+    requires b_fits { unsigned_abs b ≤ 2 ^ 23 }
+    requires d_fits { unsigned_abs d ≤ 2 ^ 23 }
+    ensures { result ≡ a *ℤ b +ℤ c *ℤ d }
+{
+    i128::from(a) * i128::from(b) + i128::from(c) * i128::from(d)
+}
+
+/// The half-plane in the coordinates in which the direction is the way to the right.
+fn seen(direction: Direction, half: &Half) -> Half
+    ensures { result ≡ seen direction half.now }
+{
+    match direction {
+        Direction::East => *half,
+        Direction::West => half.reversed(),
+        Direction::North => half.mirrored(),
+        Direction::South => half.mirrored().reversed(),
+    }
+}
+
+fn cut_by_flat(range: Range, half: &Half) -> Range
+    requires { IsRange range }
+    ensures fits { IsRange result }
+    ensures both { (t : ℤ) → (w : ℕ) → 0 < w → (InRange result t w ↔ (InRange range t w × FlatHolds half.now t w)) }
+{
+    if half.b() != 0 {
+        return range;
+    }
+    let a = i128::from(half.a());
+    let c = i128::from(half.c());
+    match half.op() {
+        Op::Over => range.cut(a, c, true),
+        Op::AtLeast => range.cut(a, c, false),
+        Op::Zero => range.cut(a, c, false).cut(-a, -c, false),
+    }
+}
+
+fn cut_by_pair(range: Range, low: Edge, high: Edge) -> Range
+    requires { IsRange range }
+    ensures fits { IsRange result }
+    ensures both { (t : ℤ) → (w : ℕ) → 0 < w → (InRange result t w ↔ (InRange range t w × Compatible low high t w)) }
+{
+    let m = sum_of_products(low.a, high.b, high.a, low.b);
+    let k = sum_of_products(low.c, high.b, high.c, low.b);
+    range.cut(m, k, either(low.strict, high.strict))
+}
+
+fn cut_by_high(range: Range, low: Edge, half: &Half) -> Range
+    requires { IsRange range }
+    ensures fits { IsRange result }
+    ensures both { (t : ℤ) → (w : ℕ) → 0 < w → (InRange result t w
+        ↔ (InRange range t w × IfSome (high_of half.now) (λ u. Compatible low u t w))) }
+{
+    match high_edge(half) {
+        Some(high) => cut_by_pair(range, low, high),
+        None => range,
+    }
+}
+
+fn cut_by_pairs(mut range: Range, low: Edge, halves: &[Half], direction: Direction) -> Range
+    requires { IsRange range }
+    ensures fits { IsRange result }
+    ensures both { (t : ℤ) → (w : ℕ) → 0 < w → (InRange result t w
+        ↔ (InRange range t w × All (λ g. IfSome (high_of (seen direction g)) (λ u. Compatible low u t w)) halves.now)) }
+{
+    for half in halves {
+        range = cut_by_high(range, low, &seen(direction, half));
+    }
+    range
+}
+
+fn cut_by_half(range: Range, half: &Half, halves: &[Half], direction: Direction) -> Range
+    requires { IsRange range }
+    ensures fits { IsRange result }
+    ensures both { (t : ℤ) → (w : ℕ) → 0 < w → (InRange result t w
+        ↔ (InRange range t w × (FlatHolds half.now t w × PairsSeen direction halves.now half.now t w))) }
+{
+    let range = cut_by_flat(range, half);
+    match low_edge(half) {
+        Some(low) => cut_by_pairs(range, low, halves, direction),
+        None => range,
+    }
+}
+
+/// What the half-planes leave of the first coordinate along the direction.
+pub fn range_of(halves: &[Half], direction: Direction) -> Range
+    ensures fits { IsRange result }
+    ensures both { (t : ℤ) → (w : ℕ) → 0 < w → (InRange result t w
+        ↔ All (λ h. FlatHolds (seen direction h) t w × PairsSeen direction halves.now (seen direction h) t w) halves.now) }
+{
+    let mut range = Range::all();
+    for half in halves {
+        range = cut_by_half(range, &seen(direction, half), halves, direction);
+    }
+    range
+}

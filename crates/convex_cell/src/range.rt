@@ -1,0 +1,140 @@
+ghost use Rattle.std.specs.Prelude.{◌≡◌, ℕ, ℤ, pos, neg_ℤ, ◌<◌, ◌≤◌, ◌^◌, ◌<ℤ◌, ◌+ℤ◌, ◌*ℤ◌, ◌↔◌, IsTrue, IfSome, unsigned_abs};
+ghost use Rattle.std.specs.Bool.{OnTrue, OnFalse};
+ghost use Rattle.cell_steps.specs.Bounds.{Above, Allows, either};
+ghost use Rattle.convex_cell.specs.Range.{AllowsLimit, IsLimit, IsRange, InRange};
+
+/// A bound on t: `m*t + k` is above 0, or at least 0.
+#[derive(Clone, Copy)]
+pub struct Limit {
+    pub m: i128,
+    pub k: i128,
+    pub strict: bool,
+}
+
+/// The bounds on t that are known, the upper one as a bound on -t.
+#[derive(Clone, Copy)]
+pub struct Range {
+    pub low: Option<Limit>,
+    pub high: Option<Limit>,
+    pub none: bool,
+}
+
+fn product(k: i128, m: i128) -> i128
+    requires k_fits { unsigned_abs k ≤ 2 ^ 70 }
+    requires m_fits { unsigned_abs m ≤ 2 ^ 47 }
+    ensures value { result ≡ k *ℤ m }
+    ensures fits { unsigned_abs result ≤ 2 ^ 117 }
+{
+    k * m
+}
+
+fn is_above(v: i128, strict: bool) -> bool
+    ensures { IsTrue result ↔ Above strict v }
+{
+    if strict { v > 0 } else { v >= 0 }
+}
+
+fn is_compatible(low: Limit, high: Limit) -> bool
+    requires low_fits { IsLimit low }
+    requires high_fits { IsLimit high }
+    ensures { IsTrue result ↔ Above (either low.strict high.strict) (low.k *ℤ high.m +ℤ high.k *ℤ low.m) }
+{
+    let room = product(low.k, high.m) + product(high.k, low.m);
+    if low.strict {
+        room > 0
+    } else {
+        is_above(room, high.strict)
+    }
+}
+
+pub fn tighter(old: Limit, new: Limit) -> Limit
+    requires old_fits { IsLimit old }
+    requires new_fits { IsLimit new }
+    ensures fits { IsLimit result }
+    ensures both { (t : ℤ) → (w : ℕ) → 0 < w → (AllowsLimit t w result ↔ (AllowsLimit t w old × AllowsLimit t w new)) }
+{
+    let first = product(old.k, new.m);
+    let second = product(new.k, old.m);
+    if first < second {
+        return old;
+    }
+    if second < first {
+        return new;
+    }
+    if old.strict { old } else { new }
+}
+
+fn tightened(old: Option<Limit>, new: Limit) -> Limit
+    requires old_fits { IfSome old IsLimit }
+    requires new_fits { IsLimit new }
+    ensures fits { IsLimit result }
+    ensures both { (t : ℤ) → (w : ℕ) → 0 < w → (AllowsLimit t w result ↔ (IfSome old (AllowsLimit t w) × AllowsLimit t w new)) }
+{
+    match old {
+        Some(old) => tighter(old, new),
+        None => new,
+    }
+}
+
+impl Range {
+    pub fn all() -> Range
+        ensures fits { IsRange result }
+        ensures all { (t : ℤ) → (w : ℕ) → InRange result t w }
+    {
+        Range {
+            low: None,
+            high: None,
+            none: false,
+        }
+    }
+
+    pub fn cut(self, m: i128, k: i128, strict: bool) -> Range
+        requires fits { IsRange self }
+        requires m_fits { unsigned_abs m ≤ 2 ^ 47 }
+        requires k_fits { unsigned_abs k ≤ 2 ^ 70 }
+        ensures fits { IsRange result }
+        ensures both { (t : ℤ) → (w : ℕ) → 0 < w → (InRange result t w ↔ (InRange self t w × Allows m k strict t w)) }
+    {
+        if m > 0 {
+            let low = tightened(self.low, Limit { m, k, strict });
+            return Range {
+                low: Some(low),
+                high: self.high,
+                none: self.none,
+            };
+        }
+        if m < 0 {
+            let high = tightened(self.high, Limit { m: -m, k, strict });
+            return Range {
+                low: self.low,
+                high: Some(high),
+                none: self.none,
+            };
+        }
+        if is_above(k, strict) {
+            return self;
+        }
+        Range {
+            low: self.low,
+            high: self.high,
+            none: true,
+        }
+    }
+
+    pub fn is_none(&self) -> bool
+        requires { IsRange self.now }
+        ensures none { OnTrue result ((t : ℤ) → (w : ℕ) → 0 < w → ¬ (InRange self.now t w)) }
+        ensures some { OnFalse result ((t : ℤ) × (w : ℕ) × (0 < w) × InRange self.now t w) }
+    {
+        if self.none {
+            return true;
+        }
+        let Some(low) = self.low else {
+            return false;
+        };
+        let Some(high) = self.high else {
+            return false;
+        };
+        !is_compatible(low, high)
+    }
+}

@@ -1,0 +1,107 @@
+-- Products of whole numbers: their signs and their order.
+use Rattle.std.proofs.Common.{◌≡◌, ℕ, suc, zero, ◌+◌, ◌*◌, ◌<◌, ◌≤◌, ℤ, pos, negsuc, ◌+ℤ◌, ◌-ℤ◌, ◌*ℤ◌, ◌≤ℤ◌, ◌<ℤ◌, arith, refl, ◌⊎◌, inl, inr}
+use Rattle.std.proofs.lemmas.Int.{ints}
+use Rattle.std.proofs.Math.Nat.{le_of_mul-le-mul_right, mul-le-mul_right, mul-pos, mul-lt-mul_of_pos_right}
+use borrow.Author.Differences.{up, down}
+use Rattle.number_steps.proofs.Ring.{num, ◌⊕◌, ◌⊖◌, ◌⊗◌, same_by}
+
+-- a common positive factor may be taken away
+pub le_from_scaled : (a b : ℤ) (w : ℕ) → 0 < w → (a *ℤ pos w) ≤ℤ (b *ℤ pos w) → a ≤ℤ b
+le_from_scaled a b w p h =
+    let k : (up a + down b) * w ≤ (up b + down a) * w = omega (arith, ints) in
+    let m : up a + down b ≤ up b + down a = le_of_mul-le-mul_right k p in
+    omega (arith, ints)
+
+pub scaled_le : (a b : ℤ) (w : ℕ) → a ≤ℤ b → (a *ℤ pos w) ≤ℤ (b *ℤ pos w)
+scaled_le a b w h =
+    let m : up a + down b ≤ up b + down a = omega (arith, ints) in
+    let k : (up a + down b) * w ≤ (up b + down a) * w = mul-le-mul_right w m in
+    omega (arith, ints)
+
+-- the product of two numbers that are not negative
+pub product_at_least : (a b : ℤ) → pos 0 ≤ℤ a → pos 0 ≤ℤ b → pos 0 ≤ℤ (a *ℤ b)
+product_at_least (pos a) (pos b) h k = omega (arith, ints)
+product_at_least a b h k = omega (arith, ints)
+
+pub product_over : (a b : ℤ) → pos 0 <ℤ a → pos 0 <ℤ b → pos 0 <ℤ (a *ℤ b)
+product_over (pos a) (pos b) h k =
+    let p : 0 < a = omega (arith, ints) in
+    let q : 0 < b = omega (arith, ints) in
+    omega (arith, ints, mul-pos p q)
+product_over a b h k = omega (arith, ints)
+
+pub distribute : (a b c : ℤ) → a *ℤ (b +ℤ c) ≡ a *ℤ b +ℤ a *ℤ c
+distribute a b c = same_by (num a ⊗ (num b ⊕ num c)) (num a ⊗ num b ⊕ num a ⊗ num c) (omega arith)
+
+pub associate : (a b c : ℤ) → a *ℤ b *ℤ c ≡ a *ℤ (b *ℤ c)
+associate a b c = same_by (num a ⊗ num b ⊗ num c) (num a ⊗ (num b ⊗ num c)) (omega arith)
+
+pub eliminate : (m1 k1 m2 k2 t w : ℤ) → m1 *ℤ (m2 *ℤ t +ℤ k2 *ℤ w) ≡ m2 *ℤ (m1 *ℤ t +ℤ k1 *ℤ w) +ℤ (k2 *ℤ m1 -ℤ k1 *ℤ m2) *ℤ w
+eliminate m1 k1 m2 k2 t w =
+    same_by (num m1 ⊗ (num m2 ⊗ num t ⊕ num k2 ⊗ num w)) (num m2 ⊗ (num m1 ⊗ num t ⊕ num k1 ⊗ num w) ⊕ (num k2 ⊗ num m1 ⊖ num k1 ⊗ num m2) ⊗ num w) (omega arith)
+
+-- a positive factor may be taken away
+pub over_unscaled : (a v : ℤ) → pos 0 <ℤ a → pos 0 <ℤ (a *ℤ v) → pos 0 <ℤ v
+over_unscaled (pos a) (pos zero) p h = absurd (omega (arith, ints))
+over_unscaled (pos a) (pos (suc v)) p h = omega (arith, ints)
+over_unscaled (pos a) (negsuc v) p h = absurd (omega (arith, ints))
+over_unscaled (negsuc a) v p h = absurd (omega (arith, ints))
+
+pub under_unscaled : (a v : ℤ) → pos 0 <ℤ a → (a *ℤ v) <ℤ pos 0 → v <ℤ pos 0
+under_unscaled (pos a) (pos v) p h = absurd (omega (arith, ints))
+under_unscaled (pos a) (negsuc v) p h = omega (arith, ints)
+under_unscaled (negsuc a) v p h = absurd (omega (arith, ints))
+
+pub zero_unscaled : (a v : ℤ) → pos 0 <ℤ a → a *ℤ v ≡ pos 0 → v ≡ pos 0
+zero_unscaled (pos zero) v p h = absurd (omega (arith, ints))
+zero_unscaled (pos (suc a)) (pos zero) p h = refl
+zero_unscaled (pos (suc a)) (pos (suc v)) p h = absurd (omega (arith, ints))
+zero_unscaled (pos (suc a)) (negsuc v) p h = absurd (omega (arith, ints))
+zero_unscaled (negsuc a) v p h = absurd (omega (arith, ints))
+
+pub under_scaled : (a v : ℤ) → pos 0 <ℤ a → v <ℤ pos 0 → (a *ℤ v) <ℤ pos 0
+under_scaled (pos a) (negsuc v) h k =
+    let p : 0 < a = omega (arith, ints) in
+    omega (arith, ints)
+under_scaled a v h k = omega (arith, ints)
+
+-- two numbers times w
+pub lt_scaled : (a b : ℤ) (w : ℕ) → 0 < w → a <ℤ b → (a *ℤ pos w) <ℤ (b *ℤ pos w)
+lt_scaled a b w p h =
+    let m : up a + down b < up b + down a = omega (arith, ints) in
+    let k : (up a + down b) * w < (up b + down a) * w = mul-lt-mul_of_pos_right m p in
+    omega (arith, ints)
+
+-- from the scaled ones, by cases on the order of a and b
+pub cases_order_ℤ : (a b : ℤ) → (a <ℤ b) ⊎ (b ≤ℤ a)
+cases_order_ℤ a b = grind (arith, ints)
+
+pub lt_unscaled : (a b : ℤ) (w : ℕ) → (a *ℤ pos w) <ℤ (b *ℤ pos w) → a <ℤ b
+lt_unscaled a b w h = elim (cases_order_ℤ a b) [ inl k ↦ k | inr k ↦ absurd (omega (arith, ints, scaled_le b a w k)) ]
+
+-- a positive number as a natural
+pub natural : (z : ℤ) → pos 0 <ℤ z → (n : ℕ) × (0 < n) × (z ≡ pos n)
+natural (pos n) h = (n, omega (arith, ints), refl)
+natural (negsuc n) h = absurd (omega (arith, ints))
+
+pub least_unscaled : (a v : ℤ) → pos 0 <ℤ a → pos 0 ≤ℤ (a *ℤ v) → pos 0 ≤ℤ v
+least_unscaled (pos a) (pos v) p h = omega (arith, ints)
+least_unscaled (pos a) (negsuc v) p h = absurd (omega (arith, ints))
+least_unscaled (negsuc a) v p h = absurd (omega (arith, ints))
+
+pub most_scaled : (a v : ℤ) → a ≤ℤ pos 0 → pos 0 ≤ℤ v → (a *ℤ v) ≤ℤ pos 0
+most_scaled (pos zero) v h k = omega (arith, ints)
+most_scaled (pos (suc a)) v h k = absurd (omega (arith, ints))
+most_scaled (negsuc a) (pos v) h k = omega (arith, ints)
+most_scaled (negsuc a) (negsuc v) h k = absurd (omega (arith, ints))
+
+pub least_under : (a v : ℤ) → a ≤ℤ pos 0 → v ≤ℤ pos 0 → pos 0 ≤ℤ (a *ℤ v)
+least_under (pos zero) v h k = omega (arith, ints)
+least_under (pos (suc a)) v h k = absurd (omega (arith, ints))
+least_under (negsuc a) (pos zero) h k = omega (arith, ints)
+least_under (negsuc a) (pos (suc v)) h k = absurd (omega (arith, ints))
+least_under (negsuc a) (negsuc v) h k = omega (arith, ints)
+
+pub square_least : (v : ℤ) → pos 0 ≤ℤ (v *ℤ v)
+square_least (pos v) = omega (arith, ints)
+square_least (negsuc v) = omega (arith, ints)

@@ -1,0 +1,2 @@
+// Products of whole numbers: identities, signs and order. Lemmas alone.
+#![tactic(auto)]
