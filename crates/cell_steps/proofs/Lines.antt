@@ -26,10 +26,6 @@ Above-sum true false u v h k = omega (arith, ints)
 Above-sum false true u v h k = omega (arith, ints)
 Above-sum false false u v h k = omega (arith, ints)
 
-pub Above-weaker : (s : Bool) (u v : ℤ) → u ≤ℤ v → Above s u → Above s v
-Above-weaker true u v e h = omega (arith, ints)
-Above-weaker false u v e h = omega (arith, ints)
-
 -- a strict fact is a weak one
 pub Above-weak : (s : Bool) (v : ℤ) → Above s v → pos 0 ≤ℤ v
 Above-weak true v h = omega (arith, ints)

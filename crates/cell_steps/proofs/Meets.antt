@@ -1,10 +1,9 @@
 -- The points of cells that are met, and of lists that are carved.
-use Rattle.std.proofs.Common.{◌≡◌, ◌↔◌, ℤ, Bool, true, false, List, [], ◌∷◌, ◌++◌, ◌⊎◌, inl, inr, ◌∙◌, refl, sym, subst, cond, ◌||◌, ◌&&◌, map}
-use Rattle.std.specs.Prelude.{flat_map, filter}
+use Rattle.std.proofs.Common.{◌≡◌, ◌↔◌, ℤ, Bool, true, false, List, [], ◌∷◌, ◌++◌, ◌⊎◌, inl, inr, ◌∙◌, refl, sym, subst, cond, ◌||◌, map}
+use Rattle.std.specs.Prelude.{flat_map}
 use Rattle.std.specs.List.{list_any}
 use Rattle.std.proofs.lemmas.Bool.{false≢true}
 use Rattle.std.proofs.lemmas.Bool.Decides.{Decides-and, Decides-int_eq, Decides-eqb}
-use Rattle.plane_terms.specs.Lists.{SomeOf}
 use Rattle.plane_terms.specs.Point.{Point}
 use Rattle.plane_terms.specs.HalfPlane.{HalfPlane, Holds}
 use Rattle.plane_terms.specs.declared.op.Op.{Op}
@@ -12,7 +11,7 @@ use Rattle.plane_terms.specs.declared.op.Op.TheVariants.{Over, AtLeast, Zero}
 use Rattle.plane_terms.specs.Cell.{Cell, InCell, InCells, op_number, same_half, meet_of}
 use Rattle.plane_terms.specs.Decide.{has_point}
 use Rattle.plane_terms.specs.Carve.{kept, carve_of}
-use Rattle.cell_steps.proofs.Lists.{all_append, some_append, some_map, some_same}
+use Rattle.cell_steps.proofs.Lists.{all_append, some_append}
 use Rattle.cell_steps.proofs.Decision.{has_point-true}
 
 -- ---- equal half-planes

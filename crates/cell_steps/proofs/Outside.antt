@@ -1,5 +1,5 @@
 -- The cells out of a cell, a place, a rectangle hold exactly the points elsewhere.
-use Rattle.std.proofs.Common.{◌≡◌, ◌↔◌, ℤ, pos, ◌+ℤ◌, ◌-ℤ◌, ◌*ℤ◌, ◌≤ℤ◌, ◌<ℤ◌, neg_ℤ, List, [], ◌∷◌, ◌++◌, ◌⊎◌, inl, inr, arith, subst, sym, map}
+use Rattle.std.proofs.Common.{◌≡◌, ◌↔◌, ℤ, pos, ◌*ℤ◌, ◌≤ℤ◌, ◌<ℤ◌, neg_ℤ, [], ◌∷◌, ◌++◌, ◌⊎◌, inl, inr, arith, subst, sym, map}
 use Rattle.std.proofs.lemmas.Int.{ints}
 use Rattle.plane_terms.specs.Lists.{SomeOf}
 use Rattle.plane_terms.specs.Point.{Place, Point, IsAt}
@@ -10,7 +10,7 @@ use Rattle.plane_terms.specs.declared.op.Op.TheVariants.{Over, AtLeast, Zero}
 use Rattle.plane_terms.specs.Cell.{Cell, InCell, InCells, out_from, out_of_cell, out_of_place, out_of_rect, at_place}
 use Rattle.number_steps.proofs.Ring.{num, neg, ◌⊕◌, ◌⊗◌, same_by}
 use Rattle.number_steps.proofs.Order.{cases_order_ℤ}
-use Rattle.cell_steps.proofs.Lists.{all_append, some_append, some_map}
+use Rattle.cell_steps.proofs.Lists.{all_append, some_append}
 use Rattle.cell_steps.proofs.GridLines.{x_over_holds, x_under_holds, y_over_holds, y_under_holds, x_is_holds, y_is_holds}
 
 -- ---- a half-plane, and those that hold where it does not
@@ -92,21 +92,24 @@ at_place_points q p =
     (λ h. record { x = e.0 h.0; y = f.0 h.1.0 }, λ a. (e.1 a.x, (f.1 a.y, tt)))
 
 pub out_of_place_points : (q : Place) (p : Point) → InCells (out_of_place q) p ↔ ¬ (IsAt q p)
-out_of_place_points q p = (λ h a. forward h a, λ n. elim (cases_order_ℤ p.x (q.x *ℤ pos p.w)) [
-  | inl h ↦ inl ((x_under_holds q.x p).1 h, tt)
-  | inr h ↦ elim (cases_order_ℤ (q.x *ℤ pos p.w) p.x) [
-    | inl k ↦ inr (inl ((x_over_holds q.x p).1 k, tt))
-    | inr k ↦
-        let e : p.x ≡ q.x *ℤ pos p.w = omega (arith, ints) in
-        elim (cases_order_ℤ p.y (q.y *ℤ pos p.w)) [
-          | inl l ↦ inr (inr (inl ((x_is_holds q.x p).1 e, ((y_under_holds q.y p).1 l, tt))))
-          | inr l ↦ elim (cases_order_ℤ (q.y *ℤ pos p.w) p.y) [
-            | inl m ↦ inr (inr (inr (inl ((x_is_holds q.x p).1 e, ((y_over_holds q.y p).1 m, tt)))))
-            | inr m ↦ absurd (n (record { x = e; y = omega (arith, ints) }))
+out_of_place_points q p = (
+  λ h a. forward h a,
+  λ n. elim (cases_order_ℤ p.x (q.x *ℤ pos p.w)) [
+    | inl h ↦ inl ((x_under_holds q.x p).1 h, tt)
+    | inr h ↦ elim (cases_order_ℤ (q.x *ℤ pos p.w) p.x) [
+      | inl k ↦ inr (inl ((x_over_holds q.x p).1 k, tt))
+      | inr k ↦
+          let e : p.x ≡ q.x *ℤ pos p.w = omega (arith, ints) in
+          elim (cases_order_ℤ p.y (q.y *ℤ pos p.w)) [
+            | inl l ↦ inr (inr (inl ((x_is_holds q.x p).1 e, ((y_under_holds q.y p).1 l, tt))))
+            | inr l ↦ elim (cases_order_ℤ (q.y *ℤ pos p.w) p.y) [
+              | inl m ↦ inr (inr (inr (inl ((x_is_holds q.x p).1 e, ((y_over_holds q.y p).1 m, tt)))))
+              | inr m ↦ absurd (n (record { x = e; y = omega (arith, ints) }))
+            ]
           ]
-        ]
-  ]
-])
+    ]
+  ],
+)
   where
     forward : InCells (out_of_place q) p → IsAt q p → ⊥
     forward (inl h) a = omega (arith, ints, (x_under_holds q.x p).0 h.0, a.x)
@@ -117,19 +120,22 @@ out_of_place_points q p = (λ h a. forward h a, λ n. elim (cases_order_ℤ p.x 
 
 -- ---- out of a rectangle
 pub out_of_rect_points : (r : Rectangle) (p : Point) → InCells (out_of_rect r) p ↔ ¬ (RectHolds r p)
-out_of_rect_points r p = (λ h a. forward h a, λ n. elim (cases_order_ℤ p.x (r.x0 *ℤ pos p.w)) [
-  | inl h ↦ inl ((x_under_holds r.x0 p).1 h, tt)
-  | inr h ↦ elim (cases_order_ℤ (r.x1 *ℤ pos p.w) p.x) [
-    | inl k ↦ inr (inl ((x_over_holds r.x1 p).1 k, tt))
-    | inr k ↦ elim (cases_order_ℤ p.y (r.y0 *ℤ pos p.w)) [
-      | inl l ↦ inr (inr (inl ((y_under_holds r.y0 p).1 l, tt)))
-      | inr l ↦ elim (cases_order_ℤ (r.y1 *ℤ pos p.w) p.y) [
-        | inl m ↦ inr (inr (inr (inl ((y_over_holds r.y1 p).1 m, tt))))
-        | inr m ↦ absurd (n (record { left = h; right = k; below = l; above = m }))
+out_of_rect_points r p = (
+  λ h a. forward h a,
+  λ n. elim (cases_order_ℤ p.x (r.x0 *ℤ pos p.w)) [
+    | inl h ↦ inl ((x_under_holds r.x0 p).1 h, tt)
+    | inr h ↦ elim (cases_order_ℤ (r.x1 *ℤ pos p.w) p.x) [
+      | inl k ↦ inr (inl ((x_over_holds r.x1 p).1 k, tt))
+      | inr k ↦ elim (cases_order_ℤ p.y (r.y0 *ℤ pos p.w)) [
+        | inl l ↦ inr (inr (inl ((y_under_holds r.y0 p).1 l, tt)))
+        | inr l ↦ elim (cases_order_ℤ (r.y1 *ℤ pos p.w) p.y) [
+          | inl m ↦ inr (inr (inr (inl ((y_over_holds r.y1 p).1 m, tt))))
+          | inr m ↦ absurd (n (record { left = h; right = k; below = l; above = m }))
+        ]
       ]
     ]
-  ]
-])
+  ],
+)
   where
     forward : InCells (out_of_rect r) p → RectHolds r p → ⊥
     forward (inl h) a = omega (arith, ints, (x_under_holds r.x0 p).0 h.0, a.left)

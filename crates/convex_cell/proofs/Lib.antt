@@ -7,3 +7,6 @@ pub mod Segments
 pub mod Results
 pub mod Same
 pub mod Codes
+pub mod Spans
+pub mod Views
+pub mod Frames

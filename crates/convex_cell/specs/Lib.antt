@@ -1,3 +1,4 @@
 pub mod Seen
 pub mod Edge
 pub mod Range
+pub mod Frame

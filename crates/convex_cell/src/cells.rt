@@ -282,7 +282,13 @@ fn cells_round_place(alloc: Global, p: GridPoint) -> Result<Cells, NoMemory>
     let upright = x_is(p.x());
     let below = y_under(p.y());
     let above = y_over(p.y());
-    four_cells(alloc, &[left], &[right], &[upright, below], &[upright, above])
+    four_cells(
+        alloc,
+        &[left],
+        &[right],
+        &[upright, below],
+        &[upright, above],
+    )
 }
 
 fn cells_round_rect(alloc: Global, r: &Rect) -> Result<Cells, NoMemory>

@@ -5,6 +5,7 @@ mod cell;
 mod cells;
 mod direction;
 mod edge;
+mod frame;
 mod opposed;
 mod pairs;
 mod range;

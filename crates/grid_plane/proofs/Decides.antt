@@ -12,7 +12,7 @@ use Rattle.number_steps.proofs.Ring.{num, ◌⊖◌, ◌⊗◌, same_by}
 use Rattle.number_steps.proofs.Order.{zero_unscaled, scaled_le, cases_order_ℤ}
 use Rattle.number_steps.proofs.Tests.{Decides-int_lt}
 use Rattle.grid_plane.specs.Rectangles.{HoldsAt}
-use Rattle.grid_plane.specs.Share.{AreSame, MeetOnce, CrossOnce, TouchOnce, turn, one_side, one_zero, share_on_line, is_beside, is_parallel, has_end_on, share_of}
+use Rattle.grid_plane.specs.Share.{AreSame, MeetOnce, CrossOnce, TouchOnce, turn, one_side, share_on_line, is_beside, is_parallel, has_end_on, share_of}
 use Rattle.grid_plane.specs.declared.share.Share.{Share}
 use Rattle.grid_plane.specs.declared.share.Share.TheVariants.{Nothing, Along, Cross, Touch}
 use Rattle.grid_plane.proofs.Meeting.{NoneShared, apart_over, apart_under, apart_sym, turns_differ, Straddle, NoEnds, SomeEnd, cross_once, touch_once, cross_sym, touch_sym, turn_zero, at_turn, times_zero}
@@ -292,11 +292,14 @@ between_scaled a b v x w e (inr h) = inr (omega (arith, ints, e, scaled_le b v w
 
 -- all points at a place are on the segment where one is
 pub on_at : (s : Segment) (q : Place) → OnSegment s (point_at q) ↔ HoldsAt q (OnSegment s)
-on_at s q = (λ o p a. record {
-  straight = rw (a.x, a.y) (at_turn s.lo.x s.lo.y s.hi.x s.hi.y q.x q.y (pos p.w) ∙ times_zero (pos p.w) (turn s q) (turn_on s q o));
-  across = between_scaled s.lo.x s.hi.x q.x p.x p.w a.x o.across;
-  along = between_scaled s.lo.y s.hi.y q.y p.y p.w a.y o.along;
-}, λ h. h (point_at q) (at_itself q))
+on_at s q = (
+  λ o p a. record {
+    straight = rw (a.x, a.y) (at_turn s.lo.x s.lo.y s.hi.x s.hi.y q.x q.y (pos p.w) ∙ times_zero (pos p.w) (turn s q) (turn_on s q o));
+    across = between_scaled s.lo.x s.hi.x q.x p.x p.w a.x o.across;
+    along = between_scaled s.lo.y s.hi.y q.y p.y p.w a.y o.along;
+  },
+  λ h. h (point_at q) (at_itself q),
+)
 
 pub on_within : (s : Segment) (q : Place) → IsSegment s → comes_before q s.lo ≡ false → comes_before s.hi q ≡ false → turn s q ≡ pos 0 → OnSegment s (point_at q)
 on_within s q g e f z = on_from_order s q g z (read_not_before q s.lo e) (read_not_before s.hi q f)

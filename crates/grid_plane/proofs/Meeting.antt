@@ -133,8 +133,7 @@ one_point s t p q d sp tp sq tq =
     let ty = t.hi.y -ℤ t.lo.y in
     let sc = sy *ℤ s.lo.x -ℤ sx *ℤ s.lo.y in
     let tc = ty *ℤ t.lo.x -ℤ tx *ℤ t.lo.y in
-    let e = slopes_differ s t in
-    (
+    let e = slopes_differ s t in (
       apart (p.x *ℤ pos q.w) (q.x *ℤ pos p.w) (same_place (neg_ℤ sy) sx sc (neg_ℤ ty) tx tc p.x p.y (pos p.w) q.x q.y (pos q.w) (first sx sy tx ty (turn t s.lo) (turn t s.hi) e d)
           (form_xy s.lo.x s.lo.y s.hi.x s.hi.y p.x p.y (pos p.w) ∙ sp.straight) (form_xy t.lo.x t.lo.y t.hi.x t.hi.y p.x p.y (pos p.w) ∙ tp.straight) (form_xy s.lo.x s.lo.y s.hi.x s.hi.y q.x q.y (pos q.w) ∙ sq.straight) (form_xy t.lo.x t.lo.y t.hi.x t.hi.y q.x q.y (pos q.w) ∙ tq.straight)),
       apart (p.y *ℤ pos q.w) (q.y *ℤ pos p.w) (same_place tx (neg_ℤ ty) tc sx (neg_ℤ sy) sc p.y p.x (pos p.w) q.y q.x (pos q.w) (second sx sy tx ty (turn t s.lo) (turn t s.hi) e d)

@@ -1,5 +1,5 @@
 -- Rectangles that meet, those that lie in another, and the least and the greatest of two.
-use Rattle.std.proofs.Common.{◌≡◌, ℕ, ◌<◌, ℤ, pos, ◌*ℤ◌, ◌≤ℤ◌, ◌↔◌, Bool, IsTrue, int_le, arith}
+use Rattle.std.proofs.Common.{◌≡◌, ℕ, ◌<◌, ℤ, pos, ◌*ℤ◌, ◌≤ℤ◌, ◌↔◌, arith}
 use Rattle.std.specs.Bool.{Decides}
 use Rattle.std.proofs.lemmas.Bool.Decides.{Decides-and, Decides-like}
 use Rattle.std.proofs.lemmas.Int.{ints, clamps}
@@ -8,7 +8,7 @@ use Rattle.plane_terms.specs.Point.{Place, Point, IsAt}
 use Rattle.plane_terms.specs.Rectangle.{Rectangle, RectHolds, RectsMeet, IsWithin, IsProper, is_within, rects_meet, rect_at, join_of, part_of}
 use Rattle.plane_terms.proofs.Points.{point, point_at}
 use Rattle.number_steps.proofs.Order.{le_from_scaled, scaled_le}
-use Rattle.number_steps.proofs.Tests.{Decides-int_le, says}
+use Rattle.number_steps.proofs.Tests.{Decides-int_le}
 use Rattle.grid_plane.specs.Rectangles.{HoldsAt, IsJoin, IsPart}
 
 -- ---- meeting

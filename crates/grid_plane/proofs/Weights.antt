@@ -114,9 +114,6 @@ mixed_most : (a b n m : ℤ) → pos 0 ≤ℤ n → a ≤ℤ b → (n *ℤ a +�
 mixed_most a b n m h k =
     le_by (num n ⊗ num a ⊕ num m ⊗ num b) (num b ⊗ (num n ⊕ num m)) (omega (arith, le_read (num (pos 0)) (num n ⊗ (num b ⊖ num a)) (product_at_least n (b -ℤ a) h (omega (arith, ints)))))
 
-mixed_turned : (a b n m : ℤ) → n *ℤ a +ℤ m *ℤ b ≡ m *ℤ b +ℤ n *ℤ a
-mixed_turned a b n m = omega (arith, ints)
-
 mixed_between : (a b n m : ℤ) → pos 0 ≤ℤ n → pos 0 ≤ℤ m → IsBetween (a *ℤ (n +ℤ m)) (b *ℤ (n +ℤ m)) (n *ℤ a +ℤ m *ℤ b)
 mixed_between a b n m h k = elim (cases_order_ℤ b a) [
   | inl o ↦ inr (low (omega (arith, ints)), high (omega (arith, ints)))

@@ -167,7 +167,12 @@ impl Seg {
         ensures fits { unsigned_abs result ≤ 2 ^ 46 }
     {
         let lo = self.lo();
-        minor(self.rise(), i64::from(lo.x()), self.across(), i64::from(lo.y()))
+        minor(
+            self.rise(),
+            i64::from(lo.x()),
+            self.across(),
+            i64::from(lo.y()),
+        )
     }
 
     fn turn(&self, p: &GridPoint) -> i64

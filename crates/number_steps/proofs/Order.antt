@@ -1,9 +1,8 @@
 -- Products of whole numbers: their signs and their order.
-use Rattle.std.proofs.Common.{◌≡◌, ℕ, suc, zero, ◌+◌, ◌*◌, ◌<◌, ◌≤◌, ℤ, pos, negsuc, ◌+ℤ◌, ◌-ℤ◌, ◌*ℤ◌, ◌≤ℤ◌, ◌<ℤ◌, arith, refl, ◌⊎◌, inl, inr}
+use Rattle.std.proofs.Common.{◌≡◌, ℕ, suc, zero, ◌+◌, ◌*◌, ◌<◌, ◌≤◌, ℤ, pos, negsuc, ◌*ℤ◌, ◌≤ℤ◌, ◌<ℤ◌, arith, refl, ◌⊎◌}
 use Rattle.std.proofs.lemmas.Int.{ints}
 use Rattle.std.proofs.Math.Nat.{le_of_mul-le-mul_right, mul-le-mul_right, mul-pos, mul-lt-mul_of_pos_right}
 use borrow.Author.Differences.{up, down}
-use Rattle.number_steps.proofs.Ring.{num, ◌⊕◌, ◌⊖◌, ◌⊗◌, same_by}
 
 -- a common positive factor may be taken away
 pub le_from_scaled : (a b : ℤ) (w : ℕ) → 0 < w → (a *ℤ pos w) ≤ℤ (b *ℤ pos w) → a ≤ℤ b
@@ -30,16 +29,6 @@ product_over (pos a) (pos b) h k =
     omega (arith, ints, mul-pos p q)
 product_over a b h k = omega (arith, ints)
 
-pub distribute : (a b c : ℤ) → a *ℤ (b +ℤ c) ≡ a *ℤ b +ℤ a *ℤ c
-distribute a b c = same_by (num a ⊗ (num b ⊕ num c)) (num a ⊗ num b ⊕ num a ⊗ num c) (omega arith)
-
-pub associate : (a b c : ℤ) → a *ℤ b *ℤ c ≡ a *ℤ (b *ℤ c)
-associate a b c = same_by (num a ⊗ num b ⊗ num c) (num a ⊗ (num b ⊗ num c)) (omega arith)
-
-pub eliminate : (m1 k1 m2 k2 t w : ℤ) → m1 *ℤ (m2 *ℤ t +ℤ k2 *ℤ w) ≡ m2 *ℤ (m1 *ℤ t +ℤ k1 *ℤ w) +ℤ (k2 *ℤ m1 -ℤ k1 *ℤ m2) *ℤ w
-eliminate m1 k1 m2 k2 t w =
-    same_by (num m1 ⊗ (num m2 ⊗ num t ⊕ num k2 ⊗ num w)) (num m2 ⊗ (num m1 ⊗ num t ⊕ num k1 ⊗ num w) ⊕ (num k2 ⊗ num m1 ⊖ num k1 ⊗ num m2) ⊗ num w) (omega arith)
-
 -- a positive factor may be taken away
 pub over_unscaled : (a v : ℤ) → pos 0 <ℤ a → pos 0 <ℤ (a *ℤ v) → pos 0 <ℤ v
 over_unscaled (pos a) (pos zero) p h = absurd (omega (arith, ints))
@@ -47,23 +36,12 @@ over_unscaled (pos a) (pos (suc v)) p h = omega (arith, ints)
 over_unscaled (pos a) (negsuc v) p h = absurd (omega (arith, ints))
 over_unscaled (negsuc a) v p h = absurd (omega (arith, ints))
 
-pub under_unscaled : (a v : ℤ) → pos 0 <ℤ a → (a *ℤ v) <ℤ pos 0 → v <ℤ pos 0
-under_unscaled (pos a) (pos v) p h = absurd (omega (arith, ints))
-under_unscaled (pos a) (negsuc v) p h = omega (arith, ints)
-under_unscaled (negsuc a) v p h = absurd (omega (arith, ints))
-
 pub zero_unscaled : (a v : ℤ) → pos 0 <ℤ a → a *ℤ v ≡ pos 0 → v ≡ pos 0
 zero_unscaled (pos zero) v p h = absurd (omega (arith, ints))
 zero_unscaled (pos (suc a)) (pos zero) p h = refl
 zero_unscaled (pos (suc a)) (pos (suc v)) p h = absurd (omega (arith, ints))
 zero_unscaled (pos (suc a)) (negsuc v) p h = absurd (omega (arith, ints))
 zero_unscaled (negsuc a) v p h = absurd (omega (arith, ints))
-
-pub under_scaled : (a v : ℤ) → pos 0 <ℤ a → v <ℤ pos 0 → (a *ℤ v) <ℤ pos 0
-under_scaled (pos a) (negsuc v) h k =
-    let p : 0 < a = omega (arith, ints) in
-    omega (arith, ints)
-under_scaled a v h k = omega (arith, ints)
 
 -- two numbers times w
 pub lt_scaled : (a b : ℤ) (w : ℕ) → 0 < w → a <ℤ b → (a *ℤ pos w) <ℤ (b *ℤ pos w)
@@ -76,9 +54,6 @@ lt_scaled a b w p h =
 pub cases_order_ℤ : (a b : ℤ) → (a <ℤ b) ⊎ (b ≤ℤ a)
 cases_order_ℤ a b = grind (arith, ints)
 
-pub lt_unscaled : (a b : ℤ) (w : ℕ) → (a *ℤ pos w) <ℤ (b *ℤ pos w) → a <ℤ b
-lt_unscaled a b w h = elim (cases_order_ℤ a b) [ inl k ↦ k | inr k ↦ absurd (omega (arith, ints, scaled_le b a w k)) ]
-
 -- a positive number as a natural
 pub natural : (z : ℤ) → pos 0 <ℤ z → (n : ℕ) × (0 < n) × (z ≡ pos n)
 natural (pos n) h = (n, omega (arith, ints), refl)
@@ -88,12 +63,6 @@ pub least_unscaled : (a v : ℤ) → pos 0 <ℤ a → pos 0 ≤ℤ (a *ℤ v) �
 least_unscaled (pos a) (pos v) p h = omega (arith, ints)
 least_unscaled (pos a) (negsuc v) p h = absurd (omega (arith, ints))
 least_unscaled (negsuc a) v p h = absurd (omega (arith, ints))
-
-pub most_scaled : (a v : ℤ) → a ≤ℤ pos 0 → pos 0 ≤ℤ v → (a *ℤ v) ≤ℤ pos 0
-most_scaled (pos zero) v h k = omega (arith, ints)
-most_scaled (pos (suc a)) v h k = absurd (omega (arith, ints))
-most_scaled (negsuc a) (pos v) h k = omega (arith, ints)
-most_scaled (negsuc a) (negsuc v) h k = absurd (omega (arith, ints))
 
 pub least_under : (a v : ℤ) → a ≤ℤ pos 0 → v ≤ℤ pos 0 → pos 0 ≤ℤ (a *ℤ v)
 least_under (pos zero) v h k = omega (arith, ints)

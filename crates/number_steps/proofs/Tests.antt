@@ -1,5 +1,5 @@
 -- What the tests of whole numbers decide.
-use Rattle.std.proofs.Common.{ℤ, ◌≡◌, ◌≤ℤ◌, ◌<ℤ◌, Bool, true, false, IsTrue, ◌↔◌, int_le, arith, sym, ◌∙◌}
+use Rattle.std.proofs.Common.{ℤ, ◌≡◌, ◌≤ℤ◌, ◌<ℤ◌, Bool, IsTrue, ◌↔◌, int_le, arith, sym, ◌∙◌}
 use Rattle.std.specs.Prelude.{int_lt}
 use Rattle.std.specs.Bool.{Decides}
 use Rattle.std.proofs.lemmas.Int.{ints}

@@ -1,6 +1,6 @@
-use Rattle.std.proofs.Common.{◌≡◌, ◌-ℤ◌, ◌*ℤ◌, ◌<ℤ◌, ◌∙◌, ◌↔◌, pos, subst, sym}
+use Rattle.std.proofs.Common.{◌≡◌, ◌∙◌, ◌↔◌, pos, subst, sym}
 use Rattle.plane_terms.specs.HalfPlane.{HalfPlane, Holds}
-use Rattle.plane_terms.specs.Segment.{cross, on_line}
+use Rattle.plane_terms.specs.Segment.{cross}
 use Rattle.plane_terms.specs.declared.op.Op.TheVariants.{Zero}
 use Rattle.grid_plane.proofs.Numbers.{read_back, neg_back, more_fits, same_half}
 use Rattle.grid_plane.proofs.HalfPlanes.{line_holds}
