@@ -10,10 +10,10 @@ use Rattle.plane_terms.specs.Cell.{Cell, InCell, InCells}
 use Rattle.plane_terms.specs.Columns.{ordinates, column, slots, is_covered, intervals, in_column, at_wall, on_wall, wall, cells_from, last}
 use Rattle.cell_steps.proofs.Lists.{some_append}
 use Rattle.cell_steps.proofs.GridLines.{x_over_holds, x_under_holds, x_is_holds}
+use Rattle.column_steps.specs.Rising.{IsRising}
 use Rattle.column_steps.specs.Slots.{IsJudged}
 use Rattle.column_steps.proofs.Every.{every_map}
 use Rattle.column_steps.proofs.Lines.{IsWithin}
-use Rattle.column_steps.proofs.Numbers.{IsRising}
 use Rattle.column_steps.proofs.Intervals.{StandsAt, StandsAt-next, from_first}
 use Rattle.column_steps.proofs.Slots.{IsIn-append, IsIn-left, IsIn-right}
 use Rattle.column_steps.proofs.Strip.{IsFree, strip_out, strip_in}

@@ -13,9 +13,10 @@ use Rattle.plane_terms.specs.Columns.{put, abscissas, cells_from, last, inside_b
 use Rattle.plane_terms.specs.Laws.{InsideIsExact, OutsideIsExact}
 use Rattle.cell_steps.proofs.GridLines.{x_over_holds, x_under_holds}
 use Rattle.cell_steps.proofs.Meets.{kept_points}
+use Rattle.column_steps.specs.Rising.{IsRising}
 use Rattle.column_steps.specs.Slots.{IsJudged, IsBeside, slot_cells}
 use Rattle.column_steps.proofs.Every.{every_map}
-use Rattle.column_steps.proofs.Numbers.{IsRising, IsRising-put, IsAmong, among-put, among-put_other}
+use Rattle.column_steps.proofs.Numbers.{IsRising-put, IsAmong, among-put, among-put_other}
 use Rattle.column_steps.proofs.Intervals.{StandsAt, StandsAt-next, from_first}
 use Rattle.column_steps.proofs.Strip.{clear_by_each}
 use Rattle.column_steps.proofs.Cells.{EndsAt, cells_out, cells_in, some_left, some_right, some_cases}

@@ -7,7 +7,8 @@ use Rattle.plane_terms.specs.HalfPlane.{y_over, y_under}
 use Rattle.plane_terms.specs.Cell.{InCells}
 use Rattle.plane_terms.specs.Columns.{intervals}
 use Rattle.plane_terms.specs.Lists.{Every}
-use Rattle.column_steps.proofs.Numbers.{every_among, IsRising, IsAmong}
+use Rattle.column_steps.specs.Rising.{IsRising}
+use Rattle.column_steps.proofs.Numbers.{every_among, IsAmong}
 use Rattle.number_steps.proofs.Order.{cases_order_ℤ, scaled_le}
 use Rattle.cell_steps.proofs.GridLines.{y_over_holds, y_under_holds}
 

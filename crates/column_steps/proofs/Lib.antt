@@ -1,3 +1,4 @@
+pub mod Signs
 pub mod Every
 pub mod Lines
 pub mod Segments

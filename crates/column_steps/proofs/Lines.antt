@@ -7,7 +7,8 @@ use Rattle.plane_terms.specs.HalfPlane.{HalfPlane, value_at}
 use Rattle.plane_terms.specs.Columns.{gap_at}
 use Rattle.column_steps.specs.Slots.{IsAcross}
 use Rattle.number_steps.proofs.Ring.{num, neg, ◌⊕◌, ◌⊖◌, ◌⊗◌, same_by, lt_by, le_read, lt_read}
-use Rattle.number_steps.proofs.Order.{over_unscaled, under_unscaled, zero_unscaled, product_over, product_at_least, under_scaled, natural, lt_scaled, cases_order_ℤ}
+use Rattle.column_steps.proofs.Signs.{under_unscaled, under_scaled}
+use Rattle.number_steps.proofs.Order.{over_unscaled, zero_unscaled, product_over, product_at_least, natural, lt_scaled, cases_order_ℤ}
 
 pub gap_is : (l m : HalfPlane) (p : Point) → m.b *ℤ value_at l p ≡ l.b *ℤ value_at m p +ℤ gap_at l m p.x (pos p.w)
 gap_is l m p =

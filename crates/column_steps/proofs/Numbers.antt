@@ -4,11 +4,8 @@ use Rattle.std.proofs.lemmas.Int.{ints}
 use Rattle.std.specs.Int.RustNames.{int_lt}
 use Rattle.plane_terms.specs.Lists.{Every}
 use Rattle.plane_terms.specs.Columns.{put}
+use Rattle.column_steps.specs.Rising.{IsRising}
 use Rattle.column_steps.proofs.Every.{every_map}
-
-abbrev pub IsRising : List ℤ → Type 0
-IsRising [] = Unit {0}
-IsRising (x ∷ xs) = Every (λ y. x <ℤ y) xs × IsRising xs
 
 abbrev pub IsAmong : ℤ → List ℤ → Type 0
 IsAmong v [] = ⊥

@@ -7,7 +7,8 @@ use Rattle.plane_terms.specs.HalfPlane.{HalfPlane, value_at}
 use Rattle.plane_terms.specs.Segment.{Segment, cross, left_of, right_of, IsBetween, OnSegment, IsEndOf, MeetAtEnds}
 use Rattle.plane_terms.specs.Columns.{gap_at, is_lower}
 use Rattle.number_steps.proofs.Ring.{num, neg, ◌⊕◌, ◌⊖◌, ◌⊗◌, same_by, le_by, le_read, same_read}
-use Rattle.number_steps.proofs.Order.{product_at_least, most_scaled, least_unscaled, natural, scaled_le, cases_order_ℤ}
+use Rattle.column_steps.proofs.Signs.{most_scaled}
+use Rattle.number_steps.proofs.Order.{product_at_least, least_unscaled, natural, scaled_le, cases_order_ℤ}
 use Rattle.column_steps.specs.Slots.{IsAcross}
 use Rattle.column_steps.proofs.Lines.{IsLower, IsWithin, MeetWithin, one_order, point_on, point_on-is, point_on-other, point_on-within}
 

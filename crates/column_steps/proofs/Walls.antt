@@ -9,9 +9,10 @@ use Rattle.plane_terms.specs.Segment.{Segment, IsSegment, cross, IsBetween, OnSe
 use Rattle.plane_terms.specs.Polygon.{OnBoundary}
 use Rattle.plane_terms.specs.Cell.{InCells}
 use Rattle.plane_terms.specs.Columns.{put, ordinates, column, slots, is_covered, intervals}
+use Rattle.column_steps.specs.Rising.{IsRising}
 use Rattle.column_steps.specs.Slots.{IsJudged}
 use Rattle.column_steps.proofs.Every.{every_map, every_both, by_test}
-use Rattle.column_steps.proofs.Numbers.{every-put, IsRising, IsRising-put, IsAmong, among-put, among-put_other}
+use Rattle.column_steps.proofs.Numbers.{every-put, IsRising-put, IsAmong, among-put, among-put_other}
 use Rattle.column_steps.proofs.Intervals.{intervals_out, intervals_in}
 use Rattle.column_steps.proofs.Order.{chain-column}
 use Rattle.column_steps.proofs.Segments.{one_way}

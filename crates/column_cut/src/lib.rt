@@ -1,0 +1,15 @@
+// The inside and the outside of a polygon as convex cells: columns between the abscissas of its vertices, and walls at them.
+#![tactic(auto)]
+
+mod column;
+mod coordinate;
+mod cut;
+mod gaps;
+pub mod laws;
+mod parity;
+mod push;
+mod ranked;
+mod slots;
+mod vertices;
+
+pub use cut::{inside, outside};
