@@ -33,11 +33,7 @@ fn slot_over(alloc: Global, below: &Option<Seg>) -> Result<Cell, NoMemory>
 }
 
 /// What lies between two neighbours of a column, every other one from below.
-pub(crate) fn slots_of(
-    alloc: Global,
-    parity: Parity,
-    column: &[Seg],
-) -> Result<Cells, NoMemory>
+pub(crate) fn slots_of(alloc: Global, parity: Parity, column: &[Seg]) -> Result<Cells, NoMemory>
     ensures { IfOk result (λ cells. cells ≡ slots (is_even parity) None column.now) }
 {
     let mut slots = Cells::new(alloc);

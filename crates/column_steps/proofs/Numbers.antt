@@ -51,3 +51,11 @@ pub among-put_other : (u v : ℤ) (xs : List ℤ) → IsAmong u xs → IsAmong u
 among-put_other u v [] m = absurd m
 among-put_other u v (x ∷ xs) (inl e) = put_cases (IsAmong u) v x xs (put v xs) (λ k. inr (inl e)) (λ k. inl e) (λ k. inl e)
 among-put_other u v (x ∷ xs) (inr m) = put_cases (IsAmong u) v x xs (put v xs) (λ k. inr (inr m)) (λ k. inr (among-put_other u v xs m)) (λ k. inr m)
+
+pub from-put : (u v : ℤ) (xs : List ℤ) → IsAmong u (put v xs) → (u ≡ v) ⊎ IsAmong u xs
+from-put u v [] m = m
+from-put u v (x ∷ xs) m = put_cases (λ ys. IsAmong u ys → (u ≡ v) ⊎ IsAmong u (x ∷ xs)) v x xs (put v xs) (λ e k. k) (λ e. after (from-put u v xs)) (λ e k. inr k) m
+  where
+    after : (IsAmong u (put v xs) → (u ≡ v) ⊎ IsAmong u xs) → (u ≡ x) ⊎ IsAmong u (put v xs) → (u ≡ v) ⊎ ((u ≡ x) ⊎ IsAmong u xs)
+    after f (inl e) = inr (inl e)
+    after f (inr k) = elim (f k) [ inl e ↦ inl e | inr l ↦ inr (inr l) ]

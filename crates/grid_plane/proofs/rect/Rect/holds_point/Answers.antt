@@ -8,7 +8,7 @@ pub returns-clause-meaning : goal.returns-clause-meaning
 returns-clause-meaning c =
     let q = c.args.p in
     let r = c.args.self.now in
-    let same : c.is_round.result ≡ is_within (rect_at q) r = c.is_round.ensures ∙ ap (λ s. is_within s r) c.round.ensures in
+    let same : c.is_round.result ≡ is_within (rect_at q) r = c.is_round.ensures ∙ ap (λ s. is_within s r) c.round.ensures.value in
     let w = says _ _ same (Decides-is_within (rect_at q) r) in
     let h = held_place q r in
     (λ t. h.0 (w.0 t), λ k. w.1 (h.1 k))
