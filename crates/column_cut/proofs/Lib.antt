@@ -1,5 +1,6 @@
 pub mod Unique
 pub mod Ascending
+pub mod Steps
 pub mod Stable
 pub mod Ranking
 pub mod SortedColumn

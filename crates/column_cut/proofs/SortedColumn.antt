@@ -13,14 +13,14 @@ use Rattle.plane_terms.specs.Lists.{Every}
 use Rattle.column_cut.proofs.Stable.{put_in, put_all, sorted_is_put_all}
 use Rattle.column_cut.proofs.Ranking.{is_under-ranks}
 
-gap_by_levels : (sx sy tx ty ux uy vx vy m : ℤ) → (neg_ℤ (ty -ℤ sy) *ℤ (vx -ℤ ux) -ℤ neg_ℤ (vy -ℤ uy) *ℤ (tx -ℤ sx)) *ℤ m +ℤ (((ty -ℤ sy) *ℤ sx -ℤ (tx -ℤ sx) *ℤ sy) *ℤ (vx -ℤ ux) -ℤ ((vy -ℤ uy) *ℤ ux -ℤ (vx -ℤ ux) *ℤ uy) *ℤ (tx -ℤ sx)) *ℤ pos 2 ≡ ((ty -ℤ sy) *ℤ (pos 2 *ℤ sx -ℤ m) -ℤ (tx -ℤ sx) *ℤ (pos 2 *ℤ sy)) *ℤ (vx -ℤ ux) -ℤ ((vy -ℤ uy) *ℤ (pos 2 *ℤ ux -ℤ m) -ℤ (vx -ℤ ux) *ℤ (pos 2 *ℤ uy)) *ℤ (tx -ℤ sx)
+gap_by_levels : (sx sy tx ty ux uy vx vy m : ℤ) → (neg_ℤ (ty -ℤ sy) *ℤ (vx -ℤ ux) -ℤ neg_ℤ (vy -ℤ uy) *ℤ (tx -ℤ sx)) *ℤ m +ℤ (((ty -ℤ sy) *ℤ sx -ℤ (tx -ℤ sx) *ℤ sy) *ℤ (vx -ℤ ux) -ℤ ((vy -ℤ uy) *ℤ ux -ℤ (vx -ℤ ux) *ℤ uy) *ℤ (tx -ℤ sx)) *ℤ pos 2 ≡ ((pos 2 *ℤ sx -ℤ m) *ℤ (ty -ℤ sy) -ℤ pos 2 *ℤ sy *ℤ (tx -ℤ sx)) *ℤ (vx -ℤ ux) -ℤ ((pos 2 *ℤ ux -ℤ m) *ℤ (vy -ℤ uy) -ℤ pos 2 *ℤ uy *ℤ (vx -ℤ ux)) *ℤ (tx -ℤ sx)
 gap_by_levels sx sy tx ty ux uy vx vy m =
     let dx = num tx ⊖ num sx in
     let dy = num ty ⊖ num sy in
     let ex = num vx ⊖ num ux in
     let ey = num vy ⊖ num uy in
     same_by ((neg dy ⊗ ex ⊖ neg ey ⊗ dx) ⊗ num m ⊕ ((dy ⊗ num sx ⊖ dx ⊗ num sy) ⊗ ex ⊖ (ey ⊗ num ux ⊖ ex ⊗ num uy) ⊗ dx) ⊗ num (pos 2))
-    ((dy ⊗ (num (pos 2) ⊗ num sx ⊖ num m) ⊖ dx ⊗ (num (pos 2) ⊗ num sy)) ⊗ ex ⊖ (ey ⊗ (num (pos 2) ⊗ num ux ⊖ num m) ⊖ ex ⊗ (num (pos 2) ⊗ num uy)) ⊗ dx)
+    (((num (pos 2) ⊗ num sx ⊖ num m) ⊗ dy ⊖ num (pos 2) ⊗ num sy ⊗ dx) ⊗ ex ⊖ ((num (pos 2) ⊗ num ux ⊖ num m) ⊗ ey ⊖ num (pos 2) ⊗ num uy ⊗ ex) ⊗ dx)
     (omega arith)
 
 tests : (g u v : ℤ) → g ≡ u -ℤ v → int_le (pos 0) g ≡ not (int_lt u v)

@@ -1,6 +1,6 @@
 ghost use Rattle.std.specs.Prelude.{◌≡◌, ◌++◌, ◌∷◌, [], cond, OnOk, IfOk};
 ghost use Rattle.plane_terms.specs.Lists.{Every};
-ghost use Rattle.plane_terms.specs.Point.{InReach, Place};
+ghost use Rattle.plane_terms.specs.Point.{InReach};
 ghost use Rattle.plane_terms.specs.Columns.{abscissas, ordinates};
 ghost use Rattle.column_cut.specs.Vertices.{ascending, xs_of, ys_at, is_at};
 
@@ -36,14 +36,22 @@ fn ascending(alloc: Global, values: Vec<i32>) -> Result<Vec<Coordinate>, NoMemor
     coordinates(alloc, &distinct(values)?)
 }
 
+fn push_abscissa(values: &mut Vec<i32>, place: &GridPoint) -> Result<(), NoMemory>
+    ensures value { OnOk result (values.new.items ≡ values.old.items ++ place.now.x ∷ []) }
+    ensures reach { Every InReach values.old.items → OnOk result (Every InReach values.new.items) }
+{
+    values.push(place.x())?;
+    Ok(())
+}
+
 fn all_abscissas(alloc: Global, segments: &[Seg]) -> Result<Vec<i32>, NoMemory>
     ensures value { IfOk result (λ v. v.items ≡ xs_of segments.now) }
     ensures reach { IfOk result (λ v. Every InReach v.items) }
 {
     let mut values = Vec::new(alloc);
     for segment in segments {
-        values.push(segment.lo().x())?;
-        values.push(segment.hi().x())?;
+        push_abscissa(&mut values, &segment.lo())?;
+        push_abscissa(&mut values, &segment.hi())?;
     }
     Ok(values)
 }

@@ -1,0 +1,56 @@
+-- The steps of the loops that push cells, and what lies last.
+use Rattle.std.proofs.Common.{◌≡◌, ℕ, suc, ◌+◌, ◌-◌, ◌<◌, ℤ, arith, sym, subst, ap, refl, ◌∙◌, Bool, cond, List, [], ◌∷◌, ◌++◌, append_assoc, length, get_or, take, drop, Option, Some, None, IfOk}
+use Rattle.std.specs.Prelude.{slice_get, Result, Ok, Err, unwrap_or, ◌||◌}
+use Rattle.std.specs.List.{list_any}
+use Rattle.std.specs.Option.{option_copied}
+use denote.Ref.{Bor}
+use Rattle.std.proofs.lemmas.List.{drop_more, take_more, get_or_default}
+use Rattle.std.proofs.lemmas.List.Elements.{filter-append}
+use Rattle.std.proofs.lemmas.Option.{slice_get_within, get_or_from_slice_get, unwrap_or-slice_get}
+use Rattle.plane_terms.specs.HalfPlane.{HalfPlane}
+use Rattle.plane_terms.specs.Segment.{Segment}
+use Rattle.plane_terms.specs.Cell.{Cell}
+use Rattle.plane_terms.specs.Carve.{kept}
+use Rattle.plane_terms.specs.Decide.{has_point}
+use Rattle.plane_terms.specs.Columns.{is_covered, last}
+use Rattle.column_cut.specs.Gaps.{covers}
+
+drop_next : {A : Type 0} (xs : List A) (i : ℕ) (x : A) → slice_get xs i ≡ Some x → drop i xs ≡ x ∷ drop (i + 1) xs
+drop_next xs i x e = drop_more xs i x (slice_get_within xs i x e) ∙ ap (λ y. y ∷ drop (i + 1) xs) (get_or_from_slice_get xs i x x e)
+
+take_next : {A : Type 0} (xs : List A) (i : ℕ) (x : A) → slice_get xs i ≡ Some x → take (i + 1) xs ≡ take i xs ++ x ∷ []
+take_next xs i x e = take_more xs i x (slice_get_within xs i x e) ∙ ap (λ y. take i xs ++ y ∷ []) (get_or_from_slice_get xs i x x e)
+
+pub halves_more : (first old new cell : List HalfPlane) (i : ℕ) (h : HalfPlane) → slice_get cell i ≡ Some h → old ≡ first ++ take i cell → new ≡ old ++ h ∷ [] → new ≡ first ++ take (i + 1) cell
+halves_more first old new cell i h g e f =
+    f ∙ ap (λ hs. hs ++ h ∷ []) e ∙ append_assoc first (take i cell) (h ∷ []) ∙ ap (λ hs. first ++ hs) (sym (take_next cell i h g))
+
+-- what F makes of a list, cell by cell: those of the next one are pushed
+pub push_step : (F : List Cell → List Cell) (one : Cell → List Cell) → ((g : Cell) (gs : List Cell) → F (g ∷ gs) ≡ one g ++ F gs) → (gs : List Cell) (i : ℕ) (g : Cell) → slice_get gs i ≡ Some g → (old new whole : List Cell) → old ++ kept (F (drop i gs)) ≡ whole → new ≡ old ++ kept (one g) → new ++ kept (F (drop (i + 1) gs)) ≡ whole
+push_step F one step gs i g e old new whole before pushed =
+    let rest = F (drop (i + 1) gs) in
+    let f : kept (F (drop i gs)) ≡ kept (one g) ++ kept rest = ap (λ hs. kept (F hs)) (drop_next gs i g e) ∙ ap kept (step g (drop (i + 1) gs)) ∙ filter-append has_point (one g) rest in
+    ap (λ cs. cs ++ kept rest) pushed ∙ append_assoc old (kept (one g)) (kept rest) ∙ ap (λ cs. old ++ cs) (sym f) ∙ before
+
+pub covered_is : (x a b : ℤ) (ss : List Segment) → list_any (λ s. covers x s a b) ss ≡ is_covered x ss a b
+covered_is x a b [] = refl
+covered_is x a b (s ∷ ss) = ap (λ r. covers x s a b || r) (covered_is x a b ss)
+
+-- ---- the last of a list
+last_at : (x : ℤ) (xs : List ℤ) → last x xs ≡ get_or xs (length xs - 1) x
+last_at x [] = refl
+last_at x (y ∷ ys) = last_at y ys ∙ step ys
+  where
+    step : (ys : List ℤ) → get_or ys (length ys - 1) y ≡ get_or (y ∷ ys) (suc (length ys) - 1) x
+    step [] = refl
+    step (z ∷ zs) =
+        let e : suc (suc (length zs)) - 1 ≡ suc (length zs) = omega arith in
+        let f : suc (length zs) - 1 ≡ length zs = omega arith in
+        rw (e, f) (get_or_default (z ∷ zs) (length zs) y x (omega arith))
+
+copied_or : (r : Option (Bor ℤ)) (d : Bor ℤ) → (unwrap_or r d).now ≡ unwrap_or (option_copied r) d.now
+copied_or (Some b) d = refl
+copied_or None d = refl
+
+pub last_is : (r : Option (Bor ℤ)) (d : Bor ℤ) (xs : List ℤ) → option_copied r ≡ slice_get xs (length xs - 1) → (unwrap_or r d).now ≡ last d.now xs
+last_is r d xs e = copied_or r d ∙ ap (λ o. unwrap_or o d.now) e ∙ unwrap_or-slice_get xs (length xs - 1) d.now ∙ sym (last_at d.now xs)
