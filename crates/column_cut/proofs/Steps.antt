@@ -32,10 +32,6 @@ push_step F one step gs i g e old new whole before pushed =
     let f : kept (F (drop i gs)) ≡ kept (one g) ++ kept rest = ap (λ hs. kept (F hs)) (drop_next gs i g e) ∙ ap kept (step g (drop (i + 1) gs)) ∙ filter-append has_point (one g) rest in
     ap (λ cs. cs ++ kept rest) pushed ∙ append_assoc old (kept (one g)) (kept rest) ∙ ap (λ cs. old ++ cs) (sym f) ∙ before
 
-pub covered_is : (x a b : ℤ) (ss : List Segment) → list_any (λ s. covers x s a b) ss ≡ is_covered x ss a b
-covered_is x a b [] = refl
-covered_is x a b (s ∷ ss) = ap (λ r. covers x s a b || r) (covered_is x a b ss)
-
 -- ---- the last of a list
 last_at : (x : ℤ) (xs : List ℤ) → last x xs ≡ get_or xs (length xs - 1) x
 last_at x [] = refl

@@ -24,7 +24,12 @@ fn covers(segment: &Seg, x: &Coordinate, low: &Coordinate, high: &Coordinate) ->
 fn is_covered(segments: &[Seg], x: &Coordinate, low: &Coordinate, high: &Coordinate) -> bool
     ensures { result ≡ is_covered x.now segments.now low.now high.now }
 {
-    segments.iter().any(|segment| covers(segment, x, low, high))
+    for segment in segments {
+        if covers(segment, x, low, high) {
+            return true;
+        }
+    }
+    false
 }
 
 fn above(low: &Coordinate) -> Half
