@@ -1,5 +1,5 @@
 -- The test of two ranks is an order in which any two compare.
-use Rattle.std.proofs.Common.{◌≡◌, ℕ, ℤ, pos, ◌-ℤ◌, ◌*ℤ◌, ◌≤ℤ◌, ◌<ℤ◌, ◌≤◌, ◌^◌, arith, true, false, unsigned_abs, lit<}
+use Rattle.std.proofs.Common.{◌≡◌, ℤ, pos, ◌-ℤ◌, ◌*ℤ◌, ◌≤ℤ◌, ◌<ℤ◌, ◌≤◌, ◌^◌, arith, true, false, unsigned_abs, lit<}
 use Rattle.std.proofs.lemmas.Int.{ints, to_z-of_z, fits_signed_mul}
 use mir.Syntax.{Width, w128, w32}
 use mir.Val.{SFits, to_z, of_z}

@@ -1,19 +1,16 @@
 -- The steps of the loops that push cells, and what lies last.
-use Rattle.std.proofs.Common.{◌≡◌, ℕ, suc, ◌+◌, ◌-◌, ◌<◌, ℤ, arith, sym, subst, ap, refl, ◌∙◌, Bool, cond, List, [], ◌∷◌, ◌++◌, append_assoc, length, get_or, take, drop, Option, Some, None, IfOk}
-use Rattle.std.specs.Prelude.{slice_get, Result, Ok, Err, unwrap_or, ◌||◌}
-use Rattle.std.specs.List.{list_any}
+use Rattle.std.proofs.Common.{◌≡◌, ℕ, suc, ◌+◌, ◌-◌, ℤ, arith, sym, ap, refl, ◌∙◌, List, [], ◌∷◌, ◌++◌, append_assoc, length, get_or, take, drop, Option, Some, None}
+use Rattle.std.specs.Prelude.{slice_get, unwrap_or}
 use Rattle.std.specs.Option.{option_copied}
 use denote.Ref.{Bor}
 use Rattle.std.proofs.lemmas.List.{drop_more, take_more, get_or_default}
 use Rattle.std.proofs.lemmas.List.Elements.{filter-append}
 use Rattle.std.proofs.lemmas.Option.{slice_get_within, get_or_from_slice_get, unwrap_or-slice_get}
 use Rattle.plane_terms.specs.HalfPlane.{HalfPlane}
-use Rattle.plane_terms.specs.Segment.{Segment}
 use Rattle.plane_terms.specs.Cell.{Cell}
 use Rattle.plane_terms.specs.Carve.{kept}
 use Rattle.plane_terms.specs.Decide.{has_point}
-use Rattle.plane_terms.specs.Columns.{is_covered, last}
-use Rattle.column_cut.specs.Gaps.{covers}
+use Rattle.plane_terms.specs.Columns.{last}
 
 drop_next : {A : Type 0} (xs : List A) (i : ℕ) (x : A) → slice_get xs i ≡ Some x → drop i xs ≡ x ∷ drop (i + 1) xs
 drop_next xs i x e = drop_more xs i x (slice_get_within xs i x e) ∙ ap (λ y. y ∷ drop (i + 1) xs) (get_or_from_slice_get xs i x x e)
