@@ -10,6 +10,8 @@ mod parity;
 mod push;
 mod ranked;
 mod slots;
+#[cfg(test)]
+mod tests;
 mod vertices;
 
 pub use cut::{inside, outside};
