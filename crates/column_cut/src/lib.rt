@@ -4,7 +4,7 @@
 mod column;
 mod coordinate;
 mod cut;
-mod gaps;
+mod intervals;
 pub mod laws;
 mod parity;
 mod push;

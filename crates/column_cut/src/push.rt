@@ -4,7 +4,7 @@ ghost use Rattle.plane_terms.specs.Carve.{kept};
 ghost use Rattle.plane_terms.specs.Columns.{at_wall, on_wall, in_column, intervals, is_covered, ordinates};
 
 use crate::coordinate::Coordinate;
-use crate::gaps::gaps_of;
+use crate::intervals::intervals_of;
 use convex_cell::{Cell, Cells};
 use grid_plane::{Half, NoMemory, Seg, x_is, x_over, x_under};
 use std::alloc::Global;
@@ -46,12 +46,12 @@ pub(crate) fn left_of(x: &Coordinate) -> Half
     x_under(x.value())
 }
 
-fn wall_cell(alloc: Global, x: &Coordinate, slot: &Cell, gap: &Cell) -> Result<Cell, NoMemory>
-    ensures { IfOk result (λ cell. cell ≡ x_is x.now ∷ slot.now ++ gap.now) }
+fn wall_cell(alloc: Global, x: &Coordinate, slot: &Cell, interval: &Cell) -> Result<Cell, NoMemory>
+    ensures { IfOk result (λ cell. cell ≡ x_is x.now ∷ slot.now ++ interval.now) }
 {
     let mut halves = Vec::from_slice(alloc, &[on(x)])?;
     push_halves(&mut halves, slot)?;
-    push_halves(&mut halves, gap)?;
+    push_halves(&mut halves, interval)?;
     Cell::of(alloc, &halves)
 }
 
@@ -73,12 +73,12 @@ fn push_at_wall(
     alloc: Global,
     x: &Coordinate,
     slot: &Cell,
-    gaps: &Cells,
+    intervals: &Cells,
 ) -> Result<(), NoMemory>
-    ensures { OnOk result (cells.new ≡ cells.old ++ kept (at_wall x.now slot.now gaps.now)) }
+    ensures { OnOk result (cells.new ≡ cells.old ++ kept (at_wall x.now slot.now intervals.now)) }
 {
-    for i in 0..gaps.len() {
-        push_kept(cells, wall_cell(alloc, x, slot, gaps.cell(i))?)?;
+    for i in 0..intervals.len() {
+        push_kept(cells, wall_cell(alloc, x, slot, intervals.cell(i))?)?;
     }
     Ok(())
 }
@@ -88,12 +88,12 @@ fn push_on_wall(
     alloc: Global,
     x: &Coordinate,
     slots: &Cells,
-    gaps: &Cells,
+    intervals: &Cells,
 ) -> Result<(), NoMemory>
-    ensures { OnOk result (cells.new ≡ cells.old ++ kept (on_wall x.now slots.now gaps.now)) }
+    ensures { OnOk result (cells.new ≡ cells.old ++ kept (on_wall x.now slots.now intervals.now)) }
 {
     for i in 0..slots.len() {
-        push_at_wall(cells, alloc, x, slots.cell(i), gaps)?;
+        push_at_wall(cells, alloc, x, slots.cell(i), intervals)?;
     }
     Ok(())
 }
@@ -108,7 +108,7 @@ pub(crate) fn push_wall(
 ) -> Result<(), NoMemory>
     ensures { OnOk result (cells.new ≡ cells.old ++ kept (on_wall x.now slots.now (intervals (is_covered x.now segments.now) None (ordinates x.now segments.now)))) }
 {
-    push_on_wall(cells, alloc, x, slots, &gaps_of(alloc, segments, x)?)
+    push_on_wall(cells, alloc, x, slots, &intervals_of(alloc, segments, x)?)
 }
 
 /// The cells of a column: each slot between its two walls.

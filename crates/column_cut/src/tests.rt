@@ -30,6 +30,16 @@ fn square(rt: HostRuntime) -> Result<(), Fail> {
     Ok(())
 }
 
+// The polygon that docs/columns.md draws: two columns inside, and between them the stretch of the wall below its notch.
+#[test]
+fn notched(rt: HostRuntime) -> Result<(), Fail> {
+    let alloc = rt.alloc();
+    let segments = ring(alloc, &[(0, 0), (8, 0), (8, 6), (4, 6), (4, 2), (0, 2)])?;
+    assert_eq!(rt; inside(alloc, &segments)?.len(), 3);
+    assert_eq!(rt; outside(alloc, &segments)?.len(), 12);
+    Ok(())
+}
+
 // Of no segment, which no polygon has, nothing is inside, and the whole plane outside.
 #[test]
 fn nothing(rt: HostRuntime) -> Result<(), Fail> {

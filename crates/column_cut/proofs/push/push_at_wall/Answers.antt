@@ -11,4 +11,4 @@ loop-i-preserved c =
     let x = c.args.x.now in
     let slot = c.args.slot.now in
     let pushed = subst (λ (cell : Cell). c.push_kept.new.cells ≡ c.loop-i.cells ++ kept (cell ∷ [])) c.in_ok-wall_cell.ensures c.in_ok-push_kept.ensures in
-    push_step (at_wall x slot) (λ g. (x_is x ∷ slot ++ g) ∷ []) (λ g gs. refl) c.args.gaps.now c.loop-i.i c.cell.result.now c.cell.ensures c.loop-i.cells c.push_kept.new.cells _ c.loop-i.invariant pushed
+    push_step (at_wall x slot) (λ g. (x_is x ∷ slot ++ g) ∷ []) (λ g gs. refl) c.args.intervals.now c.loop-i.i c.cell.result.now c.cell.ensures c.loop-i.cells c.push_kept.new.cells _ c.loop-i.invariant pushed

@@ -1,4 +1,4 @@
--- The stretches of a wall.
+-- What an upright segment covers of a wall.
 --
 -- covers x s a b     the upright segment s at x covers what is between a and b
 use Rattle.std.specs.Prelude.{ℤ, Bool, ◌&&◌, int_le}

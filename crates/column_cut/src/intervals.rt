@@ -1,7 +1,7 @@
 ghost use Rattle.std.specs.Prelude.{◌≡◌, ◌++◌, ◌∷◌, [], ◌&&◌, cond, None, OnOk, IfOk, int_le};
 ghost use Rattle.plane_terms.specs.HalfPlane.{y_over, y_under};
 ghost use Rattle.plane_terms.specs.Columns.{is_covered, intervals, ordinates};
-ghost use Rattle.column_cut.specs.Gaps.{covers};
+ghost use Rattle.column_cut.specs.Covering.{covers};
 
 use crate::coordinate::Coordinate;
 use crate::vertices::ordinates_of;
@@ -44,23 +44,23 @@ fn below(high: &Coordinate) -> Half
     y_under(high.value())
 }
 
-fn push_between(
-    gaps: &mut Cells,
+fn push_interval(
+    intervals: &mut Cells,
     alloc: Global,
     segments: &[Seg],
     x: &Coordinate,
     low: &Coordinate,
     high: &Coordinate,
 ) -> Result<(), NoMemory>
-    ensures { OnOk result (gaps.new ≡ gaps.old ++ cond (is_covered x.now segments.now low.now high.now) [] ((y_over low.now ∷ y_under high.now ∷ []) ∷ [])) }
+    ensures { OnOk result (intervals.new ≡ intervals.old ++ cond (is_covered x.now segments.now low.now high.now) [] ((y_over low.now ∷ y_under high.now ∷ []) ∷ [])) }
 {
     if is_covered(segments, x, low, high) {
         return Ok(());
     }
-    gaps.push(Cell::of(alloc, &[above(low), below(high)])?)
+    intervals.push(Cell::of(alloc, &[above(low), below(high)])?)
 }
 
-fn gaps_from(
+fn intervals_from(
     alloc: Global,
     segments: &[Seg],
     x: &Coordinate,
@@ -69,32 +69,36 @@ fn gaps_from(
 ) -> Result<Cells, NoMemory>
     ensures { IfOk result (λ cells. cells ≡ intervals (is_covered x.now segments.now) None (first.now ∷ rest.now)) }
 {
-    let mut gaps = Cells::new(alloc);
-    gaps.push(Cell::of(alloc, &[below(first)])?)?;
+    let mut intervals = Cells::new(alloc);
+    intervals.push(Cell::of(alloc, &[below(first)])?)?;
     let mut low = *first;
     for high in rest {
-        push_between(&mut gaps, alloc, segments, x, &low, high)?;
+        push_interval(&mut intervals, alloc, segments, x, &low, high)?;
         low = *high;
     }
-    gaps.push(Cell::of(alloc, &[above(&low)])?)?;
-    Ok(gaps)
+    intervals.push(Cell::of(alloc, &[above(&low)])?)?;
+    Ok(intervals)
 }
 
 fn whole_wall(alloc: Global) -> Result<Cells, NoMemory>
     ensures { IfOk result (λ cells. cells ≡ [] ∷ []) }
 {
-    let mut gaps = Cells::new(alloc);
-    gaps.push(Cell::of(alloc, &[])?)?;
-    Ok(gaps)
+    let mut intervals = Cells::new(alloc);
+    intervals.push(Cell::of(alloc, &[])?)?;
+    Ok(intervals)
 }
 
 /// The open stretches of a wall between its vertices, from below, without those that an upright segment covers.
-pub(crate) fn gaps_of(alloc: Global, segments: &[Seg], x: &Coordinate) -> Result<Cells, NoMemory>
+pub(crate) fn intervals_of(
+    alloc: Global,
+    segments: &[Seg],
+    x: &Coordinate,
+) -> Result<Cells, NoMemory>
     ensures { IfOk result (λ cells. cells ≡ intervals (is_covered x.now segments.now) None (ordinates x.now segments.now)) }
 {
     let ordinates = ordinates_of(alloc, segments, x)?;
     match ordinates.split_first() {
         None => whole_wall(alloc),
-        Some((first, rest)) => gaps_from(alloc, segments, x, first, rest),
+        Some((first, rest)) => intervals_from(alloc, segments, x, first, rest),
     }
 }

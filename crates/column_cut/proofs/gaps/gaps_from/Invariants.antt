@@ -1,6 +1,0 @@
-use Rattle.std.proofs.Common.{◌≡◌, ◌++◌, ◌∷◌, drop, None, Some}
-use Rattle.plane_terms.specs.Columns.{intervals, is_covered}
-use Rattle.column_cut.proofs.gaps.gaps_from.Given as goal
-
-abbrev pub invariant-loop-high : goal.invariant-loop-high
-invariant-loop-high l = l.gaps ++ intervals (is_covered l.x l.segments) (Some l.low) (drop l.high-index l.rest) ≡ intervals (is_covered l.x l.segments) None (l.first ∷ l.rest)
