@@ -1,6 +1,6 @@
 -- The steps of the loops that push cells, and what lies last.
-use Rattle.std.proofs.Common.{◌≡◌, ℕ, suc, ◌+◌, ◌-◌, ℤ, arith, sym, ap, refl, ◌∙◌, List, [], ◌∷◌, ◌++◌, append_assoc, length, get_or, take, drop, Option, Some, None}
-use Rattle.std.specs.Prelude.{slice_get, unwrap_or}
+use Rattle.std.proofs.Common.{◌≡◌, ℕ, suc, ◌+◌, ◌-◌, ℤ, arith, sym, ap, refl, ◌∙◌, List, [], ◌∷◌, ◌++◌, append_assoc, length, get_or, take, drop, Option, Some, None, subst}
+use Rattle.std.specs.Prelude.{slice_get, Result, Ok, Err, OnOk, unwrap_or}
 use Rattle.std.specs.Option.{option_copied}
 use denote.Ref.{Bor}
 use Rattle.std.proofs.lemmas.List.{drop_more, take_more, get_or_default}
@@ -47,3 +47,9 @@ copied_or None d = refl
 
 pub last_is : (r : Option (Bor ℤ)) (d : Bor ℤ) (xs : List ℤ) → option_copied r ≡ slice_get xs (length xs - 1) → (unwrap_or r d).now ≡ last d.now xs
 last_is r d xs e = copied_or r d ∙ ap (λ o. unwrap_or o d.now) e ∙ unwrap_or-slice_get xs (length xs - 1) d.now ∙ sym (last_at d.now xs)
+
+-- ---- the cells of a wall, and then those of the column to its right, from the same slots
+pub strip_done : {E : Type 0} (r : Result (Unit {0}) E) (F G : List Cell → List Cell) (made slots : List Cell) → made ≡ slots → (old mid new : List Cell) → mid ≡ old ++ kept (F made) → OnOk r (new ≡ mid ++ kept (G made)) → OnOk r (new ≡ old ++ kept (F slots ++ G slots))
+strip_done (Ok u) F G made slots e old mid new f g =
+    subst (λ s. new ≡ old ++ kept (F s ++ G s)) e (g ∙ ap (λ cs. cs ++ kept (G made)) f ∙ append_assoc old (kept (F made)) (kept (G made)) ∙ ap (λ cs. old ++ cs) (sym (filter-append has_point (F made) (G made))))
+strip_done (Err v) F G made slots e old mid new f g = g
