@@ -1,0 +1,95 @@
+-- What a sort and the dropping of doubles leave is the ascending list of the numbers, each once.
+use Rattle.std.proofs.Common.{◌≡◌, ℕ, zero, suc, ◌<◌, ℤ, ◌<ℤ◌, arith, sym, subst, refl, inl, inr, List, [], ◌∷◌, ◌++◌, length, get_or, Bool, true, false, cond}
+use Rattle.std.proofs.lemmas.Grind.{common_steps}
+use Rattle.std.proofs.lemmas.Int.{ints}
+use Rattle.std.specs.List.{Contains, dedup}
+use Rattle.std.specs.List.Sorted.{IsPermutation, IsSorted, IsStrictlySortedBy}
+use Rattle.std.specs.Ordering.{int_cmp, int_eq}
+use Rattle.std.specs.Cmp.{int_ranked, int_eq_equiv, int_cmp_total, signed_Decides}
+use Rattle.std.specs.declared.cmp.Ordering.TheVariants.{Less}
+use Rattle.std.proofs.lemmas.List.Sorted.{Contains-permutation, IsPermutation-sym}
+use Rattle.std.proofs.lemmas.List.Kept.{Contains-dedup, Contains-from_dedup, IsStrictlySortedBy-dedup}
+use Rattle.plane_terms.specs.Lists.{Every}
+use Rattle.plane_terms.specs.Segment.{Segment}
+use Rattle.plane_terms.specs.Columns.{put, abscissas, ordinates}
+use Rattle.column_steps.specs.Rising.{IsRising}
+use Rattle.column_steps.proofs.Every.{every_map}
+use Rattle.column_steps.proofs.Numbers.{every-put, IsRising-put, among-put, among-put_other, from-put}
+use Rattle.column_cut.specs.Vertices.{ascending, xs_of, ys_at, is_at}
+use Rattle.column_cut.proofs.Unique.{IsAmong, same_by_members}
+
+-- ---- members by recursion and by index
+among_from_contains : {X : Type 0} (xs : List X) (k : ℕ) (x : X) → k < length xs → get_or xs k x ≡ x → IsAmong x xs
+among_from_contains [] k x h e = absurd (omega arith)
+among_from_contains (y ∷ ys) zero x h e = inl (sym e)
+among_from_contains (y ∷ ys) (suc k) x h e = inr (among_from_contains ys k x (omega arith) e)
+
+contains_from_among : {X : Type 0} (xs : List X) (x : X) → IsAmong x xs → Contains xs x
+contains_from_among [] x m = absurd m
+contains_from_among (y ∷ ys) x (inl e) = (0, omega arith, sym e)
+contains_from_among (y ∷ ys) x (inr m) = let c = contains_from_among ys x m in (suc c.0, omega (arith, c.1), c.2)
+
+-- ---- the ascending list
+ascending-rising : (vs : List ℤ) → IsRising (ascending vs)
+ascending-rising [] = tt
+ascending-rising (v ∷ vs) = IsRising-put v (ascending vs) (ascending-rising vs)
+
+among_ascending : (z : ℤ) (vs : List ℤ) → IsAmong z vs → IsAmong z (ascending vs)
+among_ascending z [] m = m
+among_ascending z (v ∷ vs) (inl e) = subst (λ u. IsAmong u (put v (ascending vs))) (sym e) (among-put v (ascending vs))
+among_ascending z (v ∷ vs) (inr m) = among-put_other z v (ascending vs) (among_ascending z vs m)
+
+from_ascending : (z : ℤ) (vs : List ℤ) → IsAmong z (ascending vs) → IsAmong z vs
+from_ascending z [] m = m
+from_ascending z (v ∷ vs) m = elim (from-put z v (ascending vs) m) [ inl e ↦ inl e | inr k ↦ inr (from_ascending z vs k) ]
+
+pub every_ascending : (P : ℤ → Type 0) (vs : List ℤ) → Every P vs → Every P (ascending vs)
+every_ascending P [] h = tt
+every_ascending P (v ∷ vs) h = every-put P v (ascending vs) h.0 (every_ascending P vs h.1)
+
+-- ---- sorted, without doubles
+rising_from_sorted : (xs : List ℤ) → IsStrictlySortedBy int_cmp xs → IsRising xs
+unfolding IsStrictlySortedBy
+rising_from_sorted [] h = tt
+rising_from_sorted (x ∷ xs) h = (every_map (λ y. int_cmp x y ≡ Less) (λ y. x <ℤ y) (λ y e. int_ranked x y Less (sym e)) xs h.0, rising_from_sorted xs h.1)
+
+not_both : (a b : ℤ) → a <ℤ b → b <ℤ a → ⊥
+not_both a b h k = omega (arith, ints)
+
+pub distinct_is : (vs sorted : List ℤ) → IsPermutation vs sorted → IsSorted int_cmp sorted → dedup int_eq sorted ≡ ascending vs
+distinct_is vs sorted p s =
+    same_by_members (λ a b. a <ℤ b) not_both (dedup int_eq sorted) (ascending vs)
+    (rising_from_sorted (dedup int_eq sorted) (IsStrictlySortedBy-dedup int_cmp_total (λ x y. refl) sorted s)) (ascending-rising vs)
+    (λ z m.
+    let c = Contains-permutation sorted vs z (IsPermutation-sym vs sorted p) (Contains-from_dedup int_eq sorted z (contains_from_among (dedup int_eq sorted) z m)) in
+    among_ascending z vs (among_from_contains vs c.0 z c.1 c.2))
+    (λ z m.
+    let c = Contains-dedup int_eq_equiv (λ x y. (signed_Decides x y).0) sorted z (Contains-permutation vs sorted z p (contains_from_among vs z (from_ascending z vs m))) in
+    among_from_contains (dedup int_eq sorted) c.0 z c.1 c.2)
+
+-- ---- the coordinates of the vertices
+pub abscissas_are : (ss : List Segment) → ascending (xs_of ss) ≡ abscissas ss
+abscissas_are [] = refl
+abscissas_are (s ∷ ss) = rw (abscissas_are ss) refl
+
+pub ordinates_are : (x : ℤ) (ss : List Segment) → ascending (ys_at x ss) ≡ ordinates x ss
+ordinates_are x [] = refl
+ordinates_are x (s ∷ ss) = by_tests (is_at s.lo.x x) (is_at s.hi.x x) (ordinates_are x ss)
+  where
+    by_tests : (a b : Bool) → ascending (ys_at x ss) ≡ ordinates x ss →
+        ascending (cond b (s.hi.y ∷ cond a (s.lo.y ∷ ys_at x ss) (ys_at x ss)) (cond a (s.lo.y ∷ ys_at x ss) (ys_at x ss))) ≡ cond b (put s.hi.y (cond a (put s.lo.y (ordinates x ss)) (ordinates x ss))) (cond a (put s.lo.y (ordinates x ss)) (ordinates x ss))
+    by_tests true true e = rw e refl
+    by_tests true false e = rw e refl
+    by_tests false true e = rw e refl
+    by_tests false false e = e
+
+-- ---- the loop that collects ordinates
+pub push_ends : (vs rest : List ℤ) (a b : Bool) (low high : ℤ) → ((vs ++ cond b (high ∷ []) []) ++ cond a (low ∷ []) []) ++ rest ≡ vs ++ cond b (high ∷ cond a (low ∷ rest) rest) (cond a (low ∷ rest) rest)
+push_ends vs rest true true low high = grind (arith, common_steps)
+push_ends vs rest true false low high = grind (arith, common_steps)
+push_ends vs rest false true low high = grind (arith, common_steps)
+push_ends vs rest false false low high = grind (arith, common_steps)
+
+pub every_end : (P : ℤ → Type 0) (vs : List ℤ) (v : ℤ) → Every P vs → P v → Every P (vs ++ v ∷ [])
+every_end P [] v h k = (k, tt)
+every_end P (x ∷ xs) v h k = (h.0, every_end P xs v h.1 k)

@@ -1,0 +1,14 @@
+use Rattle.std.proofs.Common.{◌≡◌, ◌↔◌, List, subst, sym}
+use Rattle.plane_terms.specs.Point.{Point}
+use Rattle.plane_terms.specs.Polygon.{IsSimpleList, IsOutside}
+use Rattle.plane_terms.specs.Cell.{Cell, InCells}
+use Rattle.plane_terms.specs.Columns.{outside_cells}
+use Rattle.column_steps.proofs.Exact.{outside_is_exact}
+use Rattle.convex_cell.proofs.Results.{if_ok}
+use Rattle.column_cut.proofs.cut.outside.Goals as goal
+
+pub returns-clause-points : goal.returns-clause-points
+returns-clause-points c =
+    let ss = c.args.segments.now in
+    let P : List Cell → Type 0 = λ cells. IsSimpleList ss → (p : Point) → InCells cells p ↔ IsOutside ss p in
+    if_ok (λ cells. cells ≡ outside_cells ss) P _ (λ cells e. subst P (sym e) (outside_is_exact ss)) c.outside_of.ensures

@@ -1,0 +1,4 @@
+pub mod Parity
+pub mod Ranks
+pub mod Vertices
+pub mod Covering

@@ -1,0 +1,126 @@
+ghost use Rattle.std.specs.Prelude.{◌≡◌, ◌++◌, ◌∷◌, [], ◌<ℤ◌, ◌↔◌, None, OnOk, IfOk};
+ghost use Rattle.plane_terms.specs.Point.{Point};
+ghost use Rattle.plane_terms.specs.Polygon.{IsSimpleList, IsInside, IsOutside};
+ghost use Rattle.plane_terms.specs.Cell.{InCells};
+ghost use Rattle.plane_terms.specs.HalfPlane.{x_over, x_under};
+ghost use Rattle.plane_terms.specs.Carve.{kept};
+ghost use Rattle.plane_terms.specs.Columns.{column, slots, wall, in_column, cells_from, last, inside_cells, outside_cells};
+ghost use Rattle.column_steps.specs.Rising.{IsRising};
+ghost use Rattle.column_cut.specs.Parity.{is_even};
+
+use crate::column::column_of;
+use crate::coordinate::Coordinate;
+use crate::parity::Parity;
+use crate::push::{left_of, push_column, push_kept, push_wall, right_of};
+use crate::slots::slots_of;
+use crate::vertices::abscissas_of;
+use convex_cell::{Cell, Cells};
+use grid_plane::{NoMemory, Seg};
+use std::alloc::Global;
+
+fn push_strip(
+    cells: &mut Cells,
+    alloc: Global,
+    parity: Parity,
+    segments: &[Seg],
+    left: &Coordinate,
+    right: &Coordinate,
+) -> Result<(), NoMemory>
+    requires { left.now <ℤ right.now }
+    ensures { OnOk result (let c = column left.now right.now segments.now in cells.new ≡ cells.old ++ kept (wall (is_even parity) left.now segments.now c ++ in_column left.now right.now (slots (is_even parity) None c))) }
+{
+    let column = column_of(alloc, segments, left, right)?;
+    let slots = slots_of(alloc, parity, &column)?;
+    push_wall(cells, alloc, segments, left, &slots)?;
+    push_column(cells, alloc, left, right, &slots)
+}
+
+fn push_last_wall(
+    cells: &mut Cells,
+    alloc: Global,
+    parity: Parity,
+    segments: &[Seg],
+    x: &Coordinate,
+) -> Result<(), NoMemory>
+    ensures { OnOk result (cells.new ≡ cells.old ++ kept (wall (is_even parity) x.now segments.now [])) }
+{
+    let slots = slots_of(alloc, parity, &[])?;
+    push_wall(cells, alloc, segments, x, &slots)
+}
+
+/// From the first abscissa on: each wall, and the column to its right.
+fn push_strips(
+    cells: &mut Cells,
+    alloc: Global,
+    parity: Parity,
+    segments: &[Seg],
+    first: &Coordinate,
+    rest: &[Coordinate],
+) -> Result<(), NoMemory>
+    requires { IsRising (first.now ∷ rest.now) }
+    ensures { OnOk result (cells.new ≡ cells.old ++ kept (cells_from (is_even parity) segments.now first.now rest.now)) }
+{
+    let mut left = *first;
+    for right in rest {
+        push_strip(cells, alloc, parity, segments, &left, right)?;
+        left = *right;
+    }
+    push_last_wall(cells, alloc, parity, segments, &left)
+}
+
+fn push_right_side(
+    cells: &mut Cells,
+    alloc: Global,
+    first: &Coordinate,
+    rest: &[Coordinate],
+) -> Result<(), NoMemory>
+    ensures { OnOk result (cells.new ≡ cells.old ++ kept ((x_over (last first.now rest.now) ∷ []) ∷ [])) }
+{
+    let greatest = rest.last().unwrap_or(first);
+    push_kept(cells, Cell::of(alloc, &[right_of(greatest)])?)
+}
+
+fn inside_of(alloc: Global, segments: &[Seg]) -> Result<Cells, NoMemory>
+    ensures { IfOk result (λ cells. cells ≡ inside_cells segments.now) }
+{
+    let mut cells = Cells::new(alloc);
+    let abscissas = abscissas_of(alloc, segments)?;
+    if let Some((first, rest)) = abscissas.split_first() {
+        push_strips(&mut cells, alloc, Parity::Odd, segments, first, rest)?;
+    }
+    Ok(cells)
+}
+
+fn outside_of(alloc: Global, segments: &[Seg]) -> Result<Cells, NoMemory>
+    ensures { IfOk result (λ cells. cells ≡ outside_cells segments.now) }
+{
+    let mut cells = Cells::new(alloc);
+    let abscissas = abscissas_of(alloc, segments)?;
+    let Some((first, rest)) = abscissas.split_first() else {
+        push_kept(&mut cells, Cell::of(alloc, &[])?)?;
+        return Ok(cells);
+    };
+    push_kept(&mut cells, Cell::of(alloc, &[left_of(first)])?)?;
+    push_strips(&mut cells, alloc, Parity::Even, segments, first, rest)?;
+    push_right_side(&mut cells, alloc, first, rest)?;
+    Ok(cells)
+}
+
+/// The cells of the inside of a polygon, over the list of its segments: column by column from the left, in each first its
+/// wall. Of a list whose segments meet at ends alone they hold exactly the points inside. The only error is want of memory.
+pub fn inside(alloc: Global, segments: &[Seg]) -> Result<Cells, NoMemory>
+    ensures value { IfOk result (λ cells. cells ≡ inside_cells segments.now) }
+    ensures points { IfOk result (λ cells. IsSimpleList segments.now → (p : Point) → InCells cells p ↔ IsInside segments.now p) }
+{
+    inside_of(alloc, segments)
+}
+
+/// The cells of what is neither inside a polygon nor on its boundary: first all that is left of it, then column by column,
+/// last all that is right of it. Of a list whose segments meet at ends alone they hold exactly those points.
+/// The only error is want of memory.
+pub fn outside(alloc: Global, segments: &[Seg]) -> Result<Cells, NoMemory>
+    ensures value { IfOk result (λ cells. cells ≡ outside_cells segments.now) }
+    ensures points { IfOk result (λ cells. IsSimpleList segments.now → (p : Point) → InCells cells p ↔ IsOutside segments.now p) }
+{
+    outside_of(alloc, segments)
+}

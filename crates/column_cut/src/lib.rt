@@ -1,0 +1,17 @@
+// The inside and the outside of a polygon as convex cells: columns between the abscissas of its vertices, and walls at them.
+#![tactic(auto)]
+
+mod column;
+mod coordinate;
+mod cut;
+mod intervals;
+pub mod laws;
+mod parity;
+mod push;
+mod ranked;
+mod slots;
+#[cfg(test)]
+mod tests;
+mod vertices;
+
+pub use cut::{inside, outside};

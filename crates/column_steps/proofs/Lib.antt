@@ -1,0 +1,13 @@
+pub mod Signs
+pub mod Every
+pub mod Lines
+pub mod Segments
+pub mod Order
+pub mod Slots
+pub mod Strip
+pub mod Numbers
+pub mod Intervals
+pub mod Walls
+pub mod Cells
+pub mod Exact
+pub mod Laws
