@@ -49,20 +49,57 @@ fn nothing(rt: HostRuntime) -> Result<(), Fail> {
     Ok(())
 }
 
-// A comb of ten teeth, slanted on both sides: no cell of the inside meets one of the outside.
+// A comb of ten teeth, slanted on both sides: its back, then each tooth from below.
+const COMB: [(i64, i64); 42] = [
+    (0, 0),
+    (100, 0),
+    (100, 1),
+    (1, 2),
+    (1, 3),
+    (101, 4),
+    (101, 5),
+    (2, 6),
+    (2, 7),
+    (102, 8),
+    (102, 9),
+    (3, 10),
+    (3, 11),
+    (103, 12),
+    (103, 13),
+    (4, 14),
+    (4, 15),
+    (104, 16),
+    (104, 17),
+    (5, 18),
+    (5, 19),
+    (105, 20),
+    (105, 21),
+    (6, 22),
+    (6, 23),
+    (106, 24),
+    (106, 25),
+    (7, 26),
+    (7, 27),
+    (107, 28),
+    (107, 29),
+    (8, 30),
+    (8, 31),
+    (108, 32),
+    (108, 33),
+    (9, 34),
+    (9, 35),
+    (109, 36),
+    (109, 37),
+    (10, 38),
+    (10, 39),
+    (0, 40),
+];
+
+// No cell of the comb's inside meets one of its outside.
 #[test]
 fn comb(rt: HostRuntime) -> Result<(), Fail> {
     let alloc = rt.alloc();
-    let mut vertices = Vec::new(alloc);
-    vertices.push((0, 0))?;
-    for k in 0..10 {
-        vertices.push((100 + k, 4 * k))?;
-        vertices.push((100 + k, 4 * k + 1))?;
-        vertices.push((k + 1, 4 * k + 2))?;
-        vertices.push((k + 1, 4 * k + 3))?;
-    }
-    vertices.push((0, 40))?;
-    let segments = ring(alloc, &vertices)?;
+    let segments = ring(alloc, &COMB)?;
     let cells = inside(alloc, &segments)?;
     assert!(rt; cells.len() > 0);
     let others = outside(alloc, &segments)?;
