@@ -1,22 +1,35 @@
 ghost use Rattle.std.specs.Prelude.{◌≤◌};
 
-use crate::replays::{AT_ONCE, calls_for, failing_sink, failing_source, replay};
-use crate::script::{LEN, first_lines, first_replies, status_of};
+use super::{
+    AT_ONCE, Kind, calls_for, failing_sink, failing_source, first_lines, first_replies, replay,
+    status_of,
+};
+use crate::script::LEN;
 use crate::tally::Tally;
 use std::alloc::{AllocError, Global};
 use topo_outside::{SureSink, SureSource};
 
 /// The first lines of the script, as many as there are, where nothing fails.
-pub fn plain_runs(alloc: Global) -> Result<Tally, AllocError> {
-    let mut tally = Tally::new();
-    for count in 0..LEN + 1 {
-        let mut source = SureSource::new(first_lines(alloc, count)?);
-        let mut sink = SureSink::new(alloc);
-        let status = replay(alloc, &mut source, &mut sink)?;
-        let expected = first_replies(alloc, count)?;
-        tally.note(status == status_of(count) && sink.bytes().as_slice() == expected.as_slice());
+pub struct PlainRuns;
+
+impl Kind for PlainRuns {
+    fn name(&self) -> &str {
+        "the first lines of the script"
     }
-    Ok(tally)
+
+    fn runs(&self, alloc: Global) -> Result<Tally, AllocError> {
+        let mut tally = Tally::new();
+        for count in 0..LEN + 1 {
+            let mut source = SureSource::new(first_lines(alloc, count)?);
+            let mut sink = SureSink::new(alloc);
+            let status = replay(alloc, &mut source, &mut sink)?;
+            let expected = first_replies(alloc, count)?;
+            tally.note(
+                status == status_of(count) && sink.bytes().as_slice() == expected.as_slice(),
+            );
+        }
+        Ok(tally)
+    }
 }
 
 // The source gives and the sink takes pieces. The call after the last of each would fail.
@@ -50,11 +63,19 @@ fn run_with_pieces_given(alloc: Global, given: usize, tally: &mut Tally) -> Resu
 }
 
 /// The whole script in pieces of 1, 2 and 7 bytes and at once, for the source and for the sink.
-pub fn runs_in_pieces(alloc: Global) -> Result<Tally, AllocError> {
-    let mut tally = Tally::new();
-    run_with_pieces_given(alloc, 1, &mut tally)?;
-    run_with_pieces_given(alloc, 2, &mut tally)?;
-    run_with_pieces_given(alloc, 7, &mut tally)?;
-    run_with_pieces_given(alloc, AT_ONCE, &mut tally)?;
-    Ok(tally)
+pub struct RunsInPieces;
+
+impl Kind for RunsInPieces {
+    fn name(&self) -> &str {
+        "pieces of 1, 2 and 7 bytes, and all at once"
+    }
+
+    fn runs(&self, alloc: Global) -> Result<Tally, AllocError> {
+        let mut tally = Tally::new();
+        run_with_pieces_given(alloc, 1, &mut tally)?;
+        run_with_pieces_given(alloc, 2, &mut tally)?;
+        run_with_pieces_given(alloc, 7, &mut tally)?;
+        run_with_pieces_given(alloc, AT_ONCE, &mut tally)?;
+        Ok(tally)
+    }
 }
