@@ -13,7 +13,7 @@
 -- WritesRun, WritesPrefix     the whole text of a run was written; a prefix of the text of a run over first lines was
 --
 -- No lemma on runs opens `Step`. Source: own.
-use Rattle.std.specs.Prelude.{◌≡◌, ℕ, ℤ, zero, suc, Bool, true, false, List, [], ◌∷◌, ◌++◌, flat_map, Option}
+use Rattle.std.specs.Prelude.{◌≡◌, ℕ, Bool, true, false, List, [], ◌∷◌, ◌++◌, flat_map, Option}
 use Rattle.std.specs.List.{list_any}
 use Rattle.std.specs.Io.KnownBytes.{Appends}
 use Rattle.plane_terms.specs.Lists.{Every}
