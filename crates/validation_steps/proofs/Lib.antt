@@ -5,3 +5,6 @@ pub mod Viewed
 pub mod Parts
 pub mod Replacing
 pub mod Validating
+pub mod Selecting
+pub mod Counting
+pub mod Posters
