@@ -1,0 +1,3 @@
+pub mod Fronts
+mod Ends
+pub mod Printed

@@ -1,0 +1,14 @@
+// Parts of texts: runs of bytes, fields between blanks, numbers of any length.
+#![tactic(auto)]
+
+mod bytes;
+mod fields;
+mod number;
+mod runs;
+
+pub use bytes::{is_blank, is_digit, is_letter, is_number_byte};
+pub use fields::{
+    behind_word, is_only, is_over, next_field, skip_blanks, skip_end_blanks, split_field,
+};
+pub use number::{Number, are_digits, read_number, value_up_to};
+pub use runs::{Class, spells, split_run};
