@@ -1,0 +1,4 @@
+pub mod Coordinates
+pub mod Groups
+pub mod Numbers
+pub mod OneForm
