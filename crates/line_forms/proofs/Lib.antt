@@ -2,3 +2,4 @@ pub mod Coordinates
 pub mod Groups
 pub mod Numbers
 pub mod OneForm
+mod Rows

@@ -1,11 +1,10 @@
 -- A line has one form.
 use Rattle.std.proofs.Common.{ℕ, ◌≡◌, Bool, true, false, List, [], ◌∷◌, refl, sym, ap, ◌∙◌, subst, arith, Option, Some, None, eqb-true}
-use Rattle.std.specs.Prelude.{codes, bytes_eq, is_some, ◌==◌, ◌||◌, if◌then◌else◌}
+use Rattle.std.specs.Prelude.{codes, bytes_eq, is_some, if◌then◌else◌}
 use Rattle.std.proofs.lemmas.Slice.Eq.{bytes_eq-Decides}
 use Rattle.plane_terms.specs.declared.kind.Kind.{Kind}
 use Rattle.plane_terms.specs.declared.kind.Kind.TheVariants as shapes
-use Rattle.text_terms.specs.Fields.{is_blank, is_remark, skip_blanks, front_field, behind_field, is_skipped}
-use Rattle.rule_core.specs.declared.rule_kind.RuleKind.{RuleKind}
+use Rattle.text_terms.specs.Fields.{is_remark, skip_blanks, front_field, behind_field}
 use Rattle.rule_core.specs.Table.{dest_of}
 use Rattle.rule_core.proofs.OneWord.{one_word}
 use Rattle.line_forms.specs.declared.coordinate.Coordinate.{Coordinate}

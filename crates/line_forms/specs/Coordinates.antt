@@ -7,7 +7,7 @@
 -- coordinate_by neg n    what digits of the value n mean, behind a `-` where neg is true
 --
 -- Zeros in front are free, digits may be as many as one likes, and `-0` is 0. Source: own.
-use Rattle.std.specs.Prelude.{◌≡◌, ℕ, ℤ, Bool, false, ◌&&◌, ◌==◌, nat_le, nat_lt, List, [], ◌∷◌, length, if◌then◌else◌}
+use Rattle.std.specs.Prelude.{◌≡◌, ℕ, ℤ, Bool, ◌&&◌, ◌==◌, nat_le, nat_lt, List, [], ◌∷◌, length, if◌then◌else◌}
 use Rattle.std.specs.List.{list_all}
 use Rattle.plane_terms.specs.Point.{InReach}
 use Rattle.text_terms.specs.Fields.{is_digit}

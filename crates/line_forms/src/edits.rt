@@ -33,7 +33,11 @@ fn read_delete(line: &[u8]) -> Option<(Name, u32)>
 {
     let (editor, rest) = next_name(behind_word(line, b"by")?)?;
     let (handle, rest) = next_handle(behind_word(rest, b"delete")?)?;
-    if is_over(rest) { Some((editor, handle)) } else { None }
+    if is_over(rest) {
+        Some((editor, handle))
+    } else {
+        None
+    }
 }
 
 // The editor of a line that has just this word behind the name.
@@ -42,7 +46,11 @@ fn editor_before(line: &[u8], word: &[u8]) -> Option<Name>
         (λ e. IsLine line.now (form.Word (codes "by") ∷ form.Name e ∷ form.Word word.now ∷ [])) }
 {
     let (editor, rest) = next_name(behind_word(line, b"by")?)?;
-    if is_only(rest, word) { Some(editor) } else { None }
+    if is_only(rest, word) {
+        Some(editor)
+    } else {
+        None
+    }
 }
 
 /// The form of a line that edits features, or undoes or redoes an edit.

@@ -18,3 +18,6 @@ pub use form::Form;
 pub use grid_plane::Name;
 pub use read::{FormFault, LINE_LIMIT, one_form_law, read_form};
 pub use rule_core::{Kind, RuleKind};
+
+#[cfg(test)]
+mod tests;

@@ -16,7 +16,11 @@ fn key_behind(line: &[u8], word: &[u8]) -> Option<(u16, u32, u32)>
     let (rule, rest) = next_rule(behind_word(line, word)?)?;
     let (subject, rest) = next_handle(rest)?;
     let (other, rest) = next_number(rest, 0, u32::MAX)?;
-    if is_over(rest) { Some((rule, subject, other)) } else { None }
+    if is_over(rest) {
+        Some((rule, subject, other))
+    } else {
+        None
+    }
 }
 
 /// The form of a line that marks an error as an exception, or takes the mark away.

@@ -26,7 +26,11 @@ fn read_window(line: &[u8]) -> Option<(Coordinate, Coordinate, Coordinate, Coord
     let (y0, rest) = next_coordinate(rest)?;
     let (x1, rest) = next_coordinate(rest)?;
     let (y1, rest) = next_coordinate(rest)?;
-    if is_over(rest) { Some((x0, y0, x1, y1)) } else { None }
+    if is_over(rest) {
+        Some((x0, y0, x1, y1))
+    } else {
+        None
+    }
 }
 
 /// The form of a line that validates.
