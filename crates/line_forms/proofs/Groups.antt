@@ -5,7 +5,7 @@ use Rattle.plane_terms.specs.declared.kind.Kind.{Kind}
 use Rattle.plane_terms.specs.declared.kind.Kind.TheVariants as shapes
 use Rattle.text_terms.specs.Fields.{is_skipped}
 use Rattle.rule_core.specs.declared.rule_kind.RuleKind.{RuleKind}
-use Rattle.line_forms.specs.declared.coordinate.Coordinate.{Coordinate}
+use Rattle.line_forms.specs.declared.window_number.WindowNumber.{WindowNumber}
 use Rattle.line_forms.specs.Forms.{Form, Piece, Word, Name, Rest, HasForm, IsLine, kind_word, second_class, rule_number, handle, partner}
 use Rattle.line_forms.specs.Forms as form
 use Rattle.line_forms.specs.Groups.{Group, group_of, NoneOf, Skipped, Classes, Sessions, Edits, Validations, Marks, Listings}
@@ -60,7 +60,7 @@ no_edit line add change delete undo redo f g p = absurd cc
 
 pub no_validation : (line : List ℕ)
     → (HasForm line form.ValidateAll → ⊥)
-    → ((x0 y0 x1 y1 : Coordinate) → HasForm line (form.Window x0 y0 x1 y1) → ⊥)
+    → ((x0 y0 x1 y1 : WindowNumber) → HasForm line (form.Window x0 y0 x1 y1) → ⊥)
     → NoneOf Validations line
 no_validation line all window form.ValidateAll g p = all p
 no_validation line all window (form.Window x0 y0 x1 y1) g p = window x0 y0 x1 y1 p

@@ -1,4 +1,4 @@
-pub mod Coordinates
+pub mod WindowNumbers
 pub mod Groups
 pub mod Numbers
 pub mod OneForm

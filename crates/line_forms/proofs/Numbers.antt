@@ -4,7 +4,7 @@ use Rattle.std.proofs.lemmas.Bool.Decides.{nat_tests}
 use Rattle.std.specs.Prelude.{nat_le, Bool, if◌then◌else◌}
 use Rattle.text_terms.specs.Numbers.{IsNumeral, IsWithinText}
 use Rattle.wkt_terms.specs.Numerals.{value_of}
-use Rattle.line_forms.specs.Coordinates.{is_digits}
+use Rattle.line_forms.specs.WindowNumbers.{is_digits}
 
 -- what a numeral is made of
 pub record AreDigits (text : List ℕ) (n : ℕ) : Type 0 where

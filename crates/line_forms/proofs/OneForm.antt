@@ -7,12 +7,12 @@ use Rattle.plane_terms.specs.declared.kind.Kind.TheVariants as shapes
 use Rattle.text_terms.specs.Fields.{is_remark, skip_blanks, front_field, behind_field}
 use Rattle.rule_core.specs.Table.{dest_of}
 use Rattle.rule_core.proofs.OneWord.{one_word}
-use Rattle.line_forms.specs.declared.coordinate.Coordinate.{Coordinate}
-use Rattle.line_forms.specs.Coordinates.{IsCoordinate}
+use Rattle.line_forms.specs.declared.window_number.WindowNumber.{WindowNumber}
+use Rattle.line_forms.specs.WindowNumbers.{IsWindowNumber}
 use Rattle.line_forms.specs.Forms.{Form, HasForm, IsLine, kind_word, second_class}
 use Rattle.line_forms.specs.Forms as form
 use Rattle.line_forms.proofs.Numbers.{one_number}
-use Rattle.line_forms.proofs.Coordinates.{one_coordinate, all_is_none}
+use Rattle.line_forms.proofs.WindowNumbers.{one_window_number, all_is_none}
 
 one_kind : (j k : Kind) → kind_word j ≡ kind_word k → j ≡ k
 one_kind shapes.Point shapes.Point e = refl
@@ -92,11 +92,11 @@ remark_field (b ∷ bs) e = let same : b ≡ 35 = eqb-true b 35 e in subst (λ c
 remark_tag : (word next third : List ℕ) → is_remark word ≡ true → tag_of word next third ≡ 0
 remark_tag word next third e = rw e refl
 
-not_all : (field : List ℕ) (c : Coordinate) → IsCoordinate field c → bytes_eq field (codes "all") ≡ false
+not_all : (field : List ℕ) (c : WindowNumber) → IsWindowNumber field c → bytes_eq field (codes "all") ≡ false
 not_all field c h = by (bytes_eq field (codes "all")) refl
   where
     by : (t : Bool) → bytes_eq field (codes "all") ≡ t → bytes_eq field (codes "all") ≡ false
-    by true e = absurd (all_is_none c (subst (λ f. IsCoordinate f c) ((bytes_eq-Decides field (codes "all")).0 e) h))
+    by true e = absurd (all_is_none c (subst (λ f. IsWindowNumber f c) ((bytes_eq-Decides field (codes "all")).0 e) h))
     by false e = e
 
 window_tag : (field t : List ℕ) → bytes_eq field (codes "all") ≡ false → tag_of (codes "validate") field t ≡ 13
@@ -164,10 +164,10 @@ one_of line (form.Window a b c d) (form.Window x y z w) p q e =
     let f2 = third line in
     let f3 = first (behind_first (behind_first (behind_first line))) in
     let f4 = first (behind_first (behind_first (behind_first (behind_first line)))) in
-    let e1 = one_coordinate f1 a x p.1.0 q.1.0 in
-    let e2 = one_coordinate f2 b y p.1.1.0 q.1.1.0 in
-    let e3 = one_coordinate f3 c z p.1.1.1.0 q.1.1.1.0 in
-    let e4 = one_coordinate f4 d w p.1.1.1.1.0 q.1.1.1.1.0 in
+    let e1 = one_window_number f1 a x p.1.0 q.1.0 in
+    let e2 = one_window_number f2 b y p.1.1.0 q.1.1.0 in
+    let e3 = one_window_number f3 c z p.1.1.1.0 q.1.1.1.0 in
+    let e4 = one_window_number f4 d w p.1.1.1.1.0 q.1.1.1.1.0 in
     cc
 one_of line (form.Mark r a b) (form.Mark s c d) p q e =
     let e1 = one_number (second line) 1 65535 r s p.1.0 q.1.0 in

@@ -5,8 +5,8 @@ use Rattle.std.specs.Prelude.{codes}
 use Rattle.plane_terms.specs.declared.kind.Kind.TheVariants as shapes
 use Rattle.text_terms.specs.Numbers.{IsNumeral, IsWithinText}
 use Rattle.rule_core.specs.declared.rule_kind.RuleKind.TheVariants as rule
-use Rattle.line_forms.specs.declared.coordinate.Coordinate.TheVariants.{Within, Beyond}
-use Rattle.line_forms.specs.Coordinates.{IsCoordinate}
+use Rattle.line_forms.specs.declared.window_number.WindowNumber.TheVariants.{Within, Beyond}
+use Rattle.line_forms.specs.WindowNumbers.{IsWindowNumber}
 use Rattle.line_forms.specs.Forms.{HasForm, Blank, Class, Rule, Add, Delete, ValidateAll, Window, Rules}
 
 skipped : HasForm (codes " # class wells point") Blank
@@ -43,10 +43,10 @@ numeral_0 : IsNumeral (codes "0") 0
 numeral_0 = record { some = λ e. cc; digits = refl; value = refl }
 
 -- a `-` with a zero, and a number beyond the reach
-zero_is : IsCoordinate (codes "-0") (Within (pos 0))
+zero_is : IsWindowNumber (codes "-0") (Within (pos 0))
 zero_is = record { number = pos 0; written = inr (codes "0", 0, refl, numeral_0, refl); means = (refl, record { low = omega (arith, ints); high = omega (arith, ints) }) }
 
-far_is : IsCoordinate (codes "4194305") Beyond
+far_is : IsWindowNumber (codes "4194305") Beyond
 far_is = record { number = pos 4194305; written = inl (4194305, record { some = λ e. cc; digits = refl; value = refl }, refl); means = λ i. omega (arith, ints, i.high) }
 
 window_line : HasForm (codes "validate -0 4194305 -0 -0") (Window (Within (pos 0)) Beyond (Within (pos 0)) (Within (pos 0)))

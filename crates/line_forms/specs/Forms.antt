@@ -18,8 +18,8 @@ use Rattle.text_terms.specs.Fields.{is_name, skip_blanks, front_field, behind_fi
 use Rattle.text_terms.specs.Numbers.{IsWithinText}
 use Rattle.rule_core.specs.declared.rule_kind.RuleKind.{RuleKind}
 use Rattle.rule_core.specs.Table.{word_of, dest_of}
-use Rattle.line_forms.specs.declared.coordinate.Coordinate.{Coordinate}
-use Rattle.line_forms.specs.Coordinates.{IsCoordinate}
+use Rattle.line_forms.specs.declared.window_number.WindowNumber.{WindowNumber}
+use Rattle.line_forms.specs.WindowNumbers.{IsWindowNumber}
 
 pub data Form : Type 0 where
   Blank : Form
@@ -35,7 +35,7 @@ pub data Form : Type 0 where
   Undo : List ℕ → Form
   Redo : List ℕ → Form
   ValidateAll : Form
-  Window : Coordinate → Coordinate → Coordinate → Coordinate → Form
+  Window : WindowNumber → WindowNumber → WindowNumber → WindowNumber → Form
   Mark : ℕ → ℕ → ℕ → Form
   Unmark : ℕ → ℕ → ℕ → Form
   Dirty : Form
@@ -49,7 +49,7 @@ pub data Piece : Type 0 where
   Word : List ℕ → Piece  -- these bytes
   Name : List ℕ → Piece  -- these bytes, which are a name
   Number : ℕ → ℕ → ℕ → Piece  -- digits of a value from the first number to the second: the third
-  WindowNumber : Coordinate → Piece  -- a window's number, and what it means
+  OfWindow : WindowNumber → Piece      -- a window's number, and what it means
   Rest : List ℕ → Piece  -- all that is left, without the blanks at its ends
   Remark : Piece  -- nothing, or all that is left behind a `#`
   Never : Piece  -- no text
@@ -58,7 +58,7 @@ abbrev pub Says : List ℕ → Piece → Type 0
 Says field (Word w) = field ≡ w
 Says field (Name n) = (field ≡ n) × IsTrue (is_name n)
 Says field (Number low high n) = IsWithinText low high field n
-Says field (WindowNumber c) = IsCoordinate field c
+Says field (OfWindow c) = IsWindowNumber field c
 Says field (Rest r) = ⊥
 Says field Remark = ⊥
 Says field Never = ⊥
@@ -68,7 +68,7 @@ IsLine text [] = skip_blanks text ≡ []
 IsLine text (Word w ∷ ps) = Says (front_field (skip_blanks text)) (Word w) × IsLine (behind_field (skip_blanks text)) ps
 IsLine text (Name n ∷ ps) = Says (front_field (skip_blanks text)) (Name n) × IsLine (behind_field (skip_blanks text)) ps
 IsLine text (Number low high n ∷ ps) = Says (front_field (skip_blanks text)) (Number low high n) × IsLine (behind_field (skip_blanks text)) ps
-IsLine text (WindowNumber c ∷ ps) = Says (front_field (skip_blanks text)) (WindowNumber c) × IsLine (behind_field (skip_blanks text)) ps
+IsLine text (OfWindow c ∷ ps) = Says (front_field (skip_blanks text)) (OfWindow c) × IsLine (behind_field (skip_blanks text)) ps
 IsLine text (Rest r ∷ ps) = (skip_end_blanks (skip_blanks text) ≡ r) × (ps ≡ [])
 IsLine text (Remark ∷ ps) = (is_skipped text ≡ true) × (ps ≡ [])
 IsLine text (Never ∷ ps) = ⊥
@@ -109,7 +109,7 @@ pieces (Delete e h) = Word (codes "by") ∷ Name e ∷ Word (codes "delete") ∷
 pieces (Undo e) = Word (codes "by") ∷ Name e ∷ Word (codes "undo") ∷ []
 pieces (Redo e) = Word (codes "by") ∷ Name e ∷ Word (codes "redo") ∷ []
 pieces ValidateAll = Word (codes "validate") ∷ Word (codes "all") ∷ []
-pieces (Window x0 y0 x1 y1) = Word (codes "validate") ∷ WindowNumber x0 ∷ WindowNumber y0 ∷ WindowNumber x1 ∷ WindowNumber y1 ∷ []
+pieces (Window x0 y0 x1 y1) = Word (codes "validate") ∷ OfWindow x0 ∷ OfWindow y0 ∷ OfWindow x1 ∷ OfWindow y1 ∷ []
 pieces (Mark r a b) = Word (codes "mark") ∷ rule_number r ∷ handle a ∷ partner b ∷ []
 pieces (Unmark r a b) = Word (codes "unmark") ∷ rule_number r ∷ handle a ∷ partner b ∷ []
 pieces Dirty = Word (codes "dirty") ∷ []

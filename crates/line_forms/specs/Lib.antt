@@ -1,4 +1,4 @@
-pub mod Coordinates
+pub mod WindowNumbers
 pub mod Forms
 pub mod Groups
 pub mod Seen

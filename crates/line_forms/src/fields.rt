@@ -1,9 +1,9 @@
 ghost use Rattle.std.specs.Prelude.{◌≡◌, ℕ, IsTrue, MatchOption};
 ghost use Rattle.text_terms.specs.Fields.{is_name, skip_blanks, front_field, behind_field, skip_end_blanks, is_skipped};
 ghost use Rattle.text_terms.specs.Numbers.{IsWithinText};
-ghost use Rattle.line_forms.specs.Coordinates.{IsCoordinate};
+ghost use Rattle.line_forms.specs.WindowNumbers.{IsWindowNumber};
 
-use crate::coordinate::{Coordinate, read_coordinate};
+use crate::window_number::{WindowNumber, read_window_number};
 use crate::number::number_within;
 use grid_plane::Name;
 use text_numbers::{next_field, skip_blanks, skip_end_blanks};
@@ -44,12 +44,12 @@ pub fn next_handle(text: &[u8]) -> Option<(u32, &[u8])>
 }
 
 /// The number of a window that comes next, and what follows it.
-pub fn next_coordinate(text: &[u8]) -> Option<(Coordinate, &[u8])>
-    ensures { MatchOption result ((c : Coordinate) → IsCoordinate (front_field (skip_blanks text.now)) c → ⊥)
-        (λ x. IsCoordinate (front_field (skip_blanks text.now)) x.0 × (x.1.now ≡ behind_field (skip_blanks text.now))) }
+pub fn next_window_number(text: &[u8]) -> Option<(WindowNumber, &[u8])>
+    ensures { MatchOption result ((c : WindowNumber) → IsWindowNumber (front_field (skip_blanks text.now)) c → ⊥)
+        (λ x. IsWindowNumber (front_field (skip_blanks text.now)) x.0 × (x.1.now ≡ behind_field (skip_blanks text.now))) }
 {
     let (field, rest) = next_field(text);
-    Some((read_coordinate(field)?, rest))
+    Some((read_window_number(field)?, rest))
 }
 
 /// What is left of a line, without the blanks at its ends.

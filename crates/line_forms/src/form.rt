@@ -1,4 +1,4 @@
-use crate::coordinate::Coordinate;
+use crate::window_number::WindowNumber;
 use grid_plane::Name;
 use rule_core::{Kind, RuleKind};
 
@@ -33,7 +33,7 @@ pub enum Form<'a> {
     /// `validate all`
     ValidateAll,
     /// `validate X0 Y0 X1 Y1`
-    Window(Coordinate, Coordinate, Coordinate, Coordinate),
+    Window(WindowNumber, WindowNumber, WindowNumber, WindowNumber),
     /// `mark R H H2`
     Mark(u16, u32, u32),
     /// `unmark R H H2`

@@ -2,7 +2,7 @@
 #![tactic(auto)]
 
 mod classes;
-mod coordinate;
+mod window_number;
 mod edits;
 mod fields;
 mod form;
@@ -13,7 +13,7 @@ mod read;
 mod sessions;
 mod validations;
 
-pub use coordinate::Coordinate;
+pub use window_number::WindowNumber;
 pub use form::Form;
 pub use grid_plane::Name;
 pub use read::{FormFault, LINE_LIMIT, one_form_law, read_form};

@@ -1,6 +1,6 @@
 ghost use Rattle.std.specs.Prelude.{◌≡◌, ℕ, MatchOption};
 ghost use Rattle.text_terms.specs.Numbers.{IsWithinText};
-ghost use Rattle.line_forms.specs.Coordinates.{is_digits};
+ghost use Rattle.line_forms.specs.WindowNumbers.{is_digits};
 
 use text_numbers::{are_digits, value_up_to};
 

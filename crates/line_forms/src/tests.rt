@@ -27,10 +27,10 @@ fn windows(rt: HostRuntime) {
         assert!(rt; false);
         return;
     };
-    assert_eq!(rt; x0, Coordinate::Within(-7));
-    assert_eq!(rt; y0, Coordinate::Beyond);
-    assert_eq!(rt; x1, Coordinate::Within(4_194_304));
-    assert_eq!(rt; y1, Coordinate::Beyond);
+    assert_eq!(rt; x0, WindowNumber::Within(-7));
+    assert_eq!(rt; y0, WindowNumber::Beyond);
+    assert_eq!(rt; x1, WindowNumber::Within(4_194_304));
+    assert_eq!(rt; y1, WindowNumber::Beyond);
 }
 
 #[test]

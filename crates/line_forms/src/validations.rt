@@ -4,8 +4,8 @@ ghost use Rattle.line_forms.specs.Forms as form;
 ghost use Rattle.line_forms.specs.Groups.{NoneOf, Validations};
 ghost use Rattle.line_forms.specs.Seen.{form_of};
 
-use crate::coordinate::Coordinate;
-use crate::fields::next_coordinate;
+use crate::window_number::WindowNumber;
+use crate::fields::next_window_number;
 use crate::form::Form;
 use text_numbers::{behind_word, is_only, is_over};
 
@@ -18,14 +18,14 @@ fn is_validate_all(line: &[u8]) -> bool
     is_only(rest, b"all")
 }
 
-fn read_window(line: &[u8]) -> Option<(Coordinate, Coordinate, Coordinate, Coordinate)>
-    ensures { MatchOption result ((x0 y0 x1 y1 : Coordinate) → HasForm line.now (form.Window x0 y0 x1 y1) → ⊥)
+fn read_window(line: &[u8]) -> Option<(WindowNumber, WindowNumber, WindowNumber, WindowNumber)>
+    ensures { MatchOption result ((x0 y0 x1 y1 : WindowNumber) → HasForm line.now (form.Window x0 y0 x1 y1) → ⊥)
         (λ x. HasForm line.now (form.Window x.0 x.1 x.2 x.3)) }
 {
-    let (x0, rest) = next_coordinate(behind_word(line, b"validate")?)?;
-    let (y0, rest) = next_coordinate(rest)?;
-    let (x1, rest) = next_coordinate(rest)?;
-    let (y1, rest) = next_coordinate(rest)?;
+    let (x0, rest) = next_window_number(behind_word(line, b"validate")?)?;
+    let (y0, rest) = next_window_number(rest)?;
+    let (x1, rest) = next_window_number(rest)?;
+    let (y1, rest) = next_window_number(rest)?;
     if is_over(rest) {
         Some((x0, y0, x1, y1))
     } else {

@@ -6,9 +6,9 @@ use Rattle.std.specs.Prelude.{codes, nat_le, ◌==◌, neg_ℤ, if◌then◌else
 use Rattle.plane_terms.specs.Point.{InReach}
 use Rattle.text_terms.specs.Numbers.{IsSigned}
 use Rattle.wkt_terms.specs.Numerals.{value_of, is_negative, signed}
-use Rattle.line_forms.specs.declared.coordinate.Coordinate.{Coordinate}
-use Rattle.line_forms.specs.declared.coordinate.Coordinate.TheVariants.{Within, Beyond}
-use Rattle.line_forms.specs.Coordinates.{Means, IsCoordinate, behind_minus, is_digits, coordinate_by}
+use Rattle.line_forms.specs.declared.window_number.WindowNumber.{WindowNumber}
+use Rattle.line_forms.specs.declared.window_number.WindowNumber.TheVariants.{Within, Beyond}
+use Rattle.line_forms.specs.WindowNumbers.{Means, IsWindowNumber, behind_minus, is_digits, number_by}
 use Rattle.line_forms.proofs.Numbers.{numeral, digits_of}
 
 -- what a whole number's text is made of
@@ -51,7 +51,7 @@ far true zero h i = omega arith
 far true (suc n) h i = omega (arith, ints, i.low)
 far false n h i = omega (arith, ints, i.high)
 
-pub read : (text : List ℕ) → is_digits (behind_minus text) ≡ true → IsCoordinate text (coordinate_by (is_negative text) (value_of (behind_minus text)))
+pub read : (text : List ℕ) → is_digits (behind_minus text) ≡ true → IsWindowNumber text (number_by (is_negative text) (value_of (behind_minus text)))
 read text e = record { number = signed (is_negative text) (value_of (behind_minus text)); written = whole text e; means = by (nat_le (value_of (behind_minus text)) 4194304) refl }
   where
     by : (t : Bool) → nat_le (value_of (behind_minus text)) 4194304 ≡ t → Means (if t then Within (signed (is_negative text) (value_of (behind_minus text))) else Beyond) (signed (is_negative text) (value_of (behind_minus text)))
@@ -62,21 +62,21 @@ read text e = record { number = signed (is_negative text) (value_of (behind_minu
 one_signed : (text : List ℕ) (y z : ℤ) → IsSigned text y → IsSigned text z → y ≡ z
 one_signed text y z p q = (parts text y p).value ∙ sym (parts text z q).value
 
-one_meaning : (z : ℤ) (c d : Coordinate) → Means c z → Means d z → c ≡ d
+one_meaning : (z : ℤ) (c d : WindowNumber) → Means c z → Means d z → c ≡ d
 one_meaning z (Within x) (Within y) p q = ap Within (p.0 ∙ sym q.0)
 one_meaning z (Within x) Beyond p q = absurd (q p.1)
 one_meaning z Beyond (Within y) p q = absurd (p q.1)
 one_meaning z Beyond Beyond p q = refl
 
-pub one_coordinate : (text : List ℕ) (c d : Coordinate) → IsCoordinate text c → IsCoordinate text d → c ≡ d
-one_coordinate text c d p q = one_meaning q.number c d (subst (Means c) (one_signed text p.number q.number p.written q.written) p.means) q.means
+pub one_window_number : (text : List ℕ) (c d : WindowNumber) → IsWindowNumber text c → IsWindowNumber text d → c ≡ d
+one_window_number text c d p q = one_meaning q.number c d (subst (Means c) (one_signed text p.number q.number p.written q.written) p.means) q.means
 
-pub coordinate_digits : (text : List ℕ) (c : Coordinate) → IsCoordinate text c → is_digits (behind_minus text) ≡ true
-coordinate_digits text c h = (parts text h.number h.written).digits
+pub window_digits : (text : List ℕ) (c : WindowNumber) → IsWindowNumber text c → is_digits (behind_minus text) ≡ true
+window_digits text c h = (parts text h.number h.written).digits
 
-pub unread : (text : List ℕ) (c : Coordinate) → is_digits (behind_minus text) ≡ false → IsCoordinate text c → ⊥
-unread text c e h = let d = coordinate_digits text c h in cc
+pub unread : (text : List ℕ) (c : WindowNumber) → is_digits (behind_minus text) ≡ false → IsWindowNumber text c → ⊥
+unread text c e h = let d = window_digits text c h in cc
 
 -- the word `all` is no number
-pub all_is_none : (c : Coordinate) → IsCoordinate (codes "all") c → ⊥
-all_is_none c h = let d = coordinate_digits (codes "all") c h in cc
+pub all_is_none : (c : WindowNumber) → IsWindowNumber (codes "all") c → ⊥
+all_is_none c h = let d = window_digits (codes "all") c h in cc

@@ -2,7 +2,7 @@ ghost use Rattle.std.specs.Prelude.{◌≡◌, MatchOption, IsTrue};
 ghost use Rattle.std.specs.List.{list_all};
 ghost use Rattle.text_terms.specs.Fields.{is_digit};
 ghost use Rattle.wkt_terms.specs.Numerals.{value_of, is_negative};
-ghost use Rattle.line_forms.specs.Coordinates.{IsCoordinate, behind_minus, coordinate_by};
+ghost use Rattle.line_forms.specs.WindowNumbers.{IsWindowNumber, behind_minus, number_by};
 
 use crate::number::is_digits;
 use text_numbers::value_up_to;
@@ -12,7 +12,7 @@ const REACH: u64 = 4_194_304;
 
 /// What a number of a window means.
 #[derive(Clone, Copy, PartialEq, Eq, Debug)]
-pub enum Coordinate {
+pub enum WindowNumber {
     /// A coordinate within the reach, in grid units.
     Within(i32),
     /// A whole number beyond the reach, however large.
@@ -37,25 +37,25 @@ fn split_minus(field: &[u8]) -> (bool, &[u8])
 }
 
 // What these digits mean, with a `-` before them or without.
-fn coordinate_of(negative: bool, digits: &[u8]) -> Coordinate
+fn number_of(negative: bool, digits: &[u8]) -> WindowNumber
     requires { IsTrue (list_all is_digit digits.now) }
-    ensures { result ≡ coordinate_by negative (value_of digits.now) }
+    ensures { result ≡ number_by negative (value_of digits.now) }
 {
     let Some(n) = value_up_to(REACH, digits) else {
-        return Coordinate::Beyond;
+        return WindowNumber::Beyond;
     };
     let n = n as i32;
-    Coordinate::Within(if negative { -n } else { n })
+    WindowNumber::Within(if negative { -n } else { n })
 }
 
 /// What a field means as a number of a window; `None` exactly where it is not digits, with a `-` before them or without.
-#[tactic(auto, using(crate::proofs::Coordinates::read, crate::proofs::Coordinates::unread))]
-pub fn read_coordinate(field: &[u8]) -> Option<Coordinate>
-    ensures { MatchOption result ((c : Coordinate) → IsCoordinate field.now c → ⊥) (λ c. IsCoordinate field.now c) }
+#[tactic(auto, using(crate::proofs::WindowNumbers::read, crate::proofs::WindowNumbers::unread))]
+pub fn read_window_number(field: &[u8]) -> Option<WindowNumber>
+    ensures { MatchOption result ((c : WindowNumber) → IsWindowNumber field.now c → ⊥) (λ c. IsWindowNumber field.now c) }
 {
     let (negative, digits) = split_minus(field);
     if !is_digits(digits) {
         return None;
     }
-    Some(coordinate_of(negative, digits))
+    Some(number_of(negative, digits))
 }
