@@ -2,11 +2,13 @@
 #![tactic(auto)]
 
 mod bytes;
+mod coordinate;
 mod fields;
 mod number;
 mod runs;
 
 pub use bytes::{is_blank, is_digit, is_letter, is_number_byte};
+pub use coordinate::Coordinate;
 pub use fields::{
     behind_word, is_only, is_over, next_field, skip_blanks, skip_end_blanks, split_field,
 };

@@ -5,6 +5,7 @@ ghost use Rattle.wkt_terms.specs.Numerals.{value_of, is_negative, unsigned, is_f
 ghost use Rattle.text_numbers.specs.Numbers.{meant};
 
 use crate::bytes::is_digit;
+use crate::coordinate::Coordinate;
 use crate::runs::{Class, split_run};
 
 // The greatest coordinate, in grid units.
@@ -13,8 +14,8 @@ const REACH: u64 = 4_194_304;
 /// What a numeral means on the grid.
 #[derive(Clone, Copy)]
 pub enum Number {
-    /// A coordinate within the reach, in grid units.
-    Whole(i32),
+    /// A whole number within the reach.
+    Whole(Coordinate),
     /// A digit behind the point is not 0.
     OffGrid,
     /// Whole, and beyond the reach.
@@ -112,7 +113,7 @@ fn within_reach(negative: bool, whole: &[u8]) -> Number
         return Number::OutOfReach;
     };
     let n = n as i32;
-    Number::Whole(if negative { -n } else { n })
+    Number::Whole(Coordinate::new(if negative { -n } else { n }))
 }
 
 fn number_in(negative: bool, whole: &[u8], fraction: &[u8]) -> Number

@@ -1,2 +1,6 @@
 pub mod Runs
 pub mod Numerals
+pub mod Tokens
+pub mod Grammar
+pub mod Faults
+pub mod Written
