@@ -49,7 +49,7 @@ pub data Piece : Type 0 where
   Word : List ℕ → Piece  -- these bytes
   Name : List ℕ → Piece  -- these bytes, which are a name
   Number : ℕ → ℕ → ℕ → Piece  -- digits of a value from the first number to the second: the third
-  OfWindow : WindowNumber → Piece      -- a window's number, and what it means
+  OfWindow : WindowNumber → Piece  -- a window's number, and what it means
   Rest : List ℕ → Piece  -- all that is left, without the blanks at its ends
   Remark : Piece  -- nothing, or all that is left behind a `#`
   Never : Piece  -- no text

@@ -3,8 +3,8 @@ ghost use Rattle.text_terms.specs.Fields.{is_name, skip_blanks, front_field, beh
 ghost use Rattle.text_terms.specs.Numbers.{IsWithinText};
 ghost use Rattle.line_forms.specs.WindowNumbers.{IsWindowNumber};
 
-use crate::window_number::{WindowNumber, read_window_number};
 use crate::number::number_within;
+use crate::window_number::{WindowNumber, read_window_number};
 use grid_plane::Name;
 use text_numbers::{next_field, skip_blanks, skip_end_blanks};
 

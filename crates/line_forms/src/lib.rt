@@ -2,7 +2,6 @@
 #![tactic(auto)]
 
 mod classes;
-mod window_number;
 mod edits;
 mod fields;
 mod form;
@@ -12,12 +11,13 @@ mod number;
 mod read;
 mod sessions;
 mod validations;
+mod window_number;
 
-pub use window_number::WindowNumber;
 pub use form::Form;
 pub use grid_plane::Name;
 pub use read::{FormFault, LINE_LIMIT, one_form_law, read_form};
 pub use rule_core::{Kind, RuleKind};
+pub use window_number::WindowNumber;
 
 #[cfg(test)]
 mod tests;

@@ -4,9 +4,9 @@ ghost use Rattle.line_forms.specs.Forms as form;
 ghost use Rattle.line_forms.specs.Groups.{NoneOf, Validations};
 ghost use Rattle.line_forms.specs.Seen.{form_of};
 
-use crate::window_number::WindowNumber;
 use crate::fields::next_window_number;
 use crate::form::Form;
+use crate::window_number::WindowNumber;
 use text_numbers::{behind_word, is_only, is_over};
 
 fn is_validate_all(line: &[u8]) -> bool
