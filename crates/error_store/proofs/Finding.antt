@@ -1,5 +1,5 @@
 -- The place of a key in an ascending list, and what a filter leaves of one.
-use Rattle.std.proofs.Common.{◌≡◌, inl, inr, ℕ, zero, suc, ◌<◌, Bool, true, false, arith, refl, sym, ◌∙◌, List, [], ◌∷◌, Option, Some, None, length, get_or, cond}
+use Rattle.std.proofs.Common.{◌≡◌, inl, inr, ℕ, zero, suc, ◌<◌, Bool, true, false, arith, refl, sym, ◌∙◌, List, [], ◌∷◌, Some, None, length, get_or, cond}
 use Rattle.std.proofs.lemmas.Bool.{cases_Bool}
 use Rattle.std.proofs.lemmas.Bool.Decides.{nat_tests}
 use Rattle.std.specs.Prelude.{slice_get}

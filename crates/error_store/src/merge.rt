@@ -26,11 +26,7 @@ fn is_chosen(selected: &Handles, e: &PointError) -> bool
 }
 
 // Puts the error last, unless its subject is selected.
-fn put_old(
-    out: &mut Vec<PointError>,
-    selected: &Handles,
-    e: &PointError,
-) -> Result<(), NoMemory>
+fn put_old(out: &mut Vec<PointError>, selected: &Handles, e: &PointError) -> Result<(), NoMemory>
     ensures goes { is_chosen selected.now e.now ≡ true → OnOk result (out.new.items ≡ out.old.items) }
     ensures stays { is_chosen selected.now e.now ≡ false → OnOk result (out.new.items ≡ out.old.items ++ e.now ∷ []) }
 {

@@ -1,5 +1,5 @@
 -- The project that the fields stand for, after each change.
-use Rattle.std.proofs.Common.{◌≡◌, ℕ, ◌+◌, true, List, [], ◌∷◌, ◌++◌, map, Some, length, sym, refl, ap, ◌∙◌, subst}
+use Rattle.std.proofs.Common.{◌≡◌, ℕ, ◌+◌, true, List, [], ◌∷◌, ◌++◌, Some, length, sym, refl, ap, ◌∙◌, subst}
 use Rattle.std.proofs.lemmas.List.{map_push}
 use Rattle.plane_terms.specs.Point.{Place, IsInReach}
 use Rattle.plane_terms.specs.Rectangle.{Rectangle, IsRectangle, rect_at, whole_grid}

@@ -1,5 +1,5 @@
 -- The errors after a validation are the old ones, with those of the selected points replaced.
-use Rattle.std.proofs.Common.{◌≡◌, ◌⊎◌, inl, inr, ℕ, zero, suc, Bool, true, false, ◌&&◌, not, List, [], ◌∷◌, ◌++◌, map, refl, sym, ap, ◌∙◌, Some, None, arith, cond, filter, append-nil}
+use Rattle.std.proofs.Common.{◌≡◌, inl, inr, ℕ, zero, suc, Bool, true, false, not, List, [], ◌∷◌, ◌++◌, map, refl, sym, ap, ◌∙◌, Some, arith, cond, filter, append-nil}
 use Rattle.std.specs.Prelude.{◌==◌, if◌then◌else◌, slice_get}
 use Rattle.std.specs.List.{list_any, flat_map}
 use Rattle.std.proofs.lemmas.Bool.{cases_Bool, or_cases, or_right}
@@ -7,14 +7,14 @@ use Rattle.std.proofs.lemmas.Bool.Decides.{nat_tests}
 use Rattle.plane_terms.specs.Lists.{Every}
 use Rattle.plane_terms.specs.Point.{Place}
 use Rattle.plane_terms.specs.Rectangle.{Rectangle, IsRectangle}
-use Rattle.topology_terms.specs.Feature.{Feature, feature_at}
+use Rattle.topology_terms.specs.Feature.{Feature}
 use Rattle.topology_terms.specs.Entry.{Entry, has_key, entry_at, IsAscending}
 use Rattle.topology_terms.specs.Project.{Project, InForce}
 use Rattle.sound_steps.proofs.FeatureLists.{handle_of}
 use Rattle.sound_steps.proofs.Lists.{same_entries, same_key}
-use Rattle.point_steps.specs.Points.{is_selected, judged_entries, kept_entries, entries_after, validated_in, is_plain}
+use Rattle.point_steps.specs.Points.{is_selected, judged_entries, entries_after, validated_in, is_plain}
 use Rattle.point_steps.proofs.ListTests.{Has, every_mapped, every_flattened, every_has}
-use Rattle.point_steps.proofs.PlainFacts.{IsPlain, IsPlainEntry, plain_facts, plain_test}
+use Rattle.point_steps.proofs.PlainFacts.{IsPlainEntry, plain_facts, plain_test}
 use Rattle.point_steps.proofs.Plains.{plain_validated}
 use Rattle.point_steps.proofs.Orders.{found_at, found_has}
 use Rattle.point_steps.proofs.Judgings.{OfSubject, after_of, none_or_one}

@@ -25,11 +25,7 @@ pub fn is_of(class: u16, a: &PointFeature) -> bool
 }
 
 // Of points those of the class.
-fn among(
-    alloc: Global,
-    class: u16,
-    inside: &[PointFeature],
-) -> Result<Vec<PointFeature>, NoMemory>
+fn among(alloc: Global, class: u16, inside: &[PointFeature]) -> Result<Vec<PointFeature>, NoMemory>
     ensures { IfOk result (λ v. v.items ≡ filter (is_of class) inside.now) }
 {
     let points: Vec<PointFeature> = inside

@@ -1,4 +1,4 @@
-use Rattle.std.proofs.Common.{map, take, ◌<◌}
+use Rattle.std.proofs.Common.{map, take}
 use Rattle.std.proofs.lemmas.List.Elements.{All-from_recursion}
 use Rattle.topo_core.specs.declared.parts.PointFeature.{PointFeature}
 use Rattle.topo_core.proofs.Judged.{handles_below}

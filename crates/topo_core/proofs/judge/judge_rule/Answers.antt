@@ -1,4 +1,4 @@
-use Rattle.std.proofs.Common.{◌≡◌, true, filter, ap, ◌∙◌}
+use Rattle.std.proofs.Common.{◌≡◌, true, ap, ◌∙◌}
 use Rattle.plane_terms.specs.Lists.{Every}
 use Rattle.plane_terms.specs.Rectangle.{rect_at, rects_meet}
 use Rattle.topo_core.specs.Parts.{rule_list}
@@ -21,9 +21,9 @@ returns-in-Some c = λ p rules features dirt.
     let points : IsByPlace c.in-Some.class w F c.deref-in-Some-3.result.now = rw c.deref-in-Some-3.ensures.value (c.in_ok-points-in-Some.ensures w F (c.deref-in-Some.ensures.value ∙ c.in_ok-inside.ensures)) in
     let inside : Every (λ (a : PointFeature). rects_meet w (rect_at a.place) ≡ true) c.deref-in-Some-2.result.now = rw c.deref-in-Some-2.ensures.value (all_inside w (λ a. is_dirty_at wide single a.place) F c.in_ok-inside.inside.items c.in_ok-dirty.dirty.items c.in_ok-inside.ensures of_dirty) in
     rule_judged w p c.in-Some.class F c.in_ok-inside.inside.items c.in_ok-dirty.dirty.items wide single c.count_of.result c.in_ok-selected.selected c.in_ok-fresh-in-Some.fresh.items (rules ∙ ap rule_list c.in-Some.is) features (rw (← dirt) at c.in_ok-index.ensures)
-        c.in_ok-inside.ensures of_dirty (rw c.deref-2.ensures.value at c.in_ok-selected.ensures) (rw c.deref-in-Some-4.ensures.value at c.count_of.ensures) (rw c.deref-in-Some-2.ensures.value at (c.in_ok-fresh-in-Some.ensures w F points inside))
+    c.in_ok-inside.ensures of_dirty (rw c.deref-2.ensures.value at c.in_ok-selected.ensures) (rw c.deref-in-Some-4.ensures.value at c.count_of.ensures) (rw c.deref-in-Some-2.ensures.value at (c.in_ok-fresh-in-Some.ensures w F points inside))
 
 pub returns : goal.returns
 returns c = λ p rules features dirt.
     rw c.new.ensures.items (nothing_judged c.args.window.now p c.args.features.now c.in_ok-inside.inside.items c.in_ok-dirty.dirty.items c.in_ok-index.index.wide.items c.in_ok-index.index.single.items c.in_ok-selected.selected (rules ∙ ap rule_list c.in-None.is) features (rw (← dirt) at c.in_ok-index.ensures)
-        c.in_ok-inside.ensures (rw c.deref.ensures.value at c.in_ok-dirty.ensures) (rw c.deref-2.ensures.value at c.in_ok-selected.ensures))
+    c.in_ok-inside.ensures (rw c.deref.ensures.value at c.in_ok-dirty.ensures) (rw c.deref-2.ensures.value at c.in_ok-selected.ensures))
