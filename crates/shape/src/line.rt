@@ -1,0 +1,40 @@
+ghost use Rattle.std.specs.Prelude.{◌≡◌, IfOk, IfErr};
+ghost use Rattle.plane_terms.specs.Shape.{shape_of};
+ghost use Rattle.plane_terms.specs.declared.kind.Kind.TheVariants as kind;
+ghost use Rattle.shape.specs.Given.{lines_in, IsCountable};
+ghost use Rattle.shape.specs.Faults.{IsFault, IsFlawless};
+ghost use Rattle.shape.specs.Form.{line_shape, IsDrawn};
+
+use crate::counts::check_line;
+use crate::envelope::box_of_line;
+use crate::fault::ShapeFault;
+use crate::segments::push_paths;
+use crate::vertices::keep_parts;
+use grid_plane::{GridPoint, Rect, Seg};
+use std::alloc::Global;
+
+/// The parts of a line, each from its first vertex to its last, and what follows from them.
+#[derive(Drop)]
+pub(crate) struct Line {
+    pub(crate) parts: Vec<Vec<GridPoint>>,
+    pub(crate) segs: Vec<Seg>,
+    pub(crate) env: Rect,
+}
+
+impl Line {
+    pub(crate) fn of(alloc: Global, parts: Vec<Vec<GridPoint>>) -> Result<Line, ShapeFault>
+        requires { IsCountable (lines_in parts.items) }
+        ensures made { IfOk result (λ l. line_shape l.parts.items ≡ shape_of kind.Line (lines_in parts.items)) }
+        ensures drawn { IfOk result (λ l. IsDrawn (line_shape l.parts.items) l.segs.items l.env) }
+        ensures flawless { IfOk result (λ _. IsFlawless (shape_of kind.Line (lines_in parts.items))) }
+        ensures refused { IfErr result (λ fault. IsFault (shape_of kind.Line (lines_in parts.items)) fault) }
+    {
+        let mut parts = parts;
+        keep_parts(&mut parts);
+        check_line(&parts)?;
+        let mut segs = Vec::new(alloc);
+        push_paths(&mut segs, &parts)?;
+        let env = box_of_line(&parts);
+        Ok(Line { parts, segs, env })
+    }
+}
