@@ -1,16 +1,18 @@
-ghost use Rattle.std.specs.Prelude.{◌≡◌, IfOk, IfErr};
-ghost use Rattle.plane_terms.specs.Shape.{shape_of};
+ghost use Rattle.std.specs.Prelude.{◌≡◌, ◌<◌, ◌≤◌, length, flat_map, slice_get, Some, IfOk, IfErr};
+ghost use Rattle.plane_terms.specs.Lists.{Every};
+ghost use Rattle.plane_terms.specs.Shape.{shape_of, two_ends};
 ghost use Rattle.plane_terms.specs.declared.kind.Kind.TheVariants as kind;
-ghost use Rattle.shape.specs.Given.{lines_in, IsCountable};
+ghost use Rattle.shape.specs.Given.{rings_in, lines_in, IsCountable};
 ghost use Rattle.shape.specs.Faults.{IsFault, IsFlawless};
 ghost use Rattle.shape.specs.Form.{line_shape, IsDrawn};
 
 use crate::counts::check_line;
 use crate::envelope::box_of_line;
 use crate::fault::ShapeFault;
+use crate::same::copy_of_rings;
 use crate::segments::push_paths;
 use crate::vertices::keep_parts;
-use grid_plane::{GridPoint, Rect, Seg};
+use grid_plane::{GridPoint, NoMemory, Rect, Seg};
 use std::alloc::Global;
 
 /// The parts of a line, each from its first vertex to its last, and what follows from them.
@@ -36,5 +38,31 @@ impl Line {
         push_paths(&mut segs, &parts)?;
         let env = box_of_line(&parts);
         Ok(Line { parts, segs, env })
+    }
+
+    /// The end of this number: of each part the first vertex, then the last.
+    pub(crate) fn end(&self, i: usize) -> GridPoint
+        requires long { Every (λ part. 1 ≤ length part) (rings_in self.now.parts.items) }
+        requires within { i < length (flat_map two_ends (rings_in self.now.parts.items)) }
+        ensures { slice_get (flat_map two_ends (rings_in self.now.parts.items)) i ≡ Some result }
+    {
+        let part = &self.parts[i / 2];
+        if i % 2 == 0 {
+            part[0]
+        } else {
+            part[part.len() - 1]
+        }
+    }
+
+    pub(crate) fn try_copy(&self, alloc: Global) -> Result<Line, NoMemory>
+        ensures parts { IfOk result (λ l. rings_in l.parts.items ≡ rings_in self.now.parts.items) }
+        ensures segs { IfOk result (λ l. l.segs.items ≡ self.now.segs.items) }
+        ensures env { IfOk result (λ l. l.env ≡ self.now.env) }
+    {
+        Ok(Line {
+            parts: copy_of_rings(alloc, &self.parts)?,
+            segs: Vec::from_slice(alloc, &self.segs)?,
+            env: self.env,
+        })
     }
 }

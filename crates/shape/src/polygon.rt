@@ -8,10 +8,11 @@ ghost use Rattle.shape.specs.Form.{polygon_shape, IsDrawn};
 use crate::counts::check_polygon;
 use crate::envelope::box_of_polygon;
 use crate::fault::ShapeFault;
+use crate::same::copy_of_parts;
 use crate::segments::push_polygons;
 use crate::sweep::check_pairs;
 use crate::vertices::close_parts;
-use grid_plane::{GridPoint, Rect, Seg};
+use grid_plane::{GridPoint, NoMemory, Rect, Seg};
 use std::alloc::Global;
 
 /// The parts of a polygon, each a list of rings, a ring without its first vertex again; and what follows from them.
@@ -38,5 +39,17 @@ impl Polygon {
         check_pairs(alloc, &segs)?;
         let env = box_of_polygon(&parts);
         Ok(Polygon { parts, segs, env })
+    }
+
+    pub(crate) fn try_copy(&self, alloc: Global) -> Result<Polygon, NoMemory>
+        ensures parts { IfOk result (λ g. polygons_in g.parts.items ≡ polygons_in self.now.parts.items) }
+        ensures segs { IfOk result (λ g. g.segs.items ≡ self.now.segs.items) }
+        ensures env { IfOk result (λ g. g.env ≡ self.now.env) }
+    {
+        Ok(Polygon {
+            parts: copy_of_parts(alloc, &self.parts)?,
+            segs: Vec::from_slice(alloc, &self.segs)?,
+            env: self.env,
+        })
     }
 }

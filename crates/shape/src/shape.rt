@@ -1,12 +1,15 @@
 ghost use Rattle.std.specs.Prelude.{◌≡◌, ◌↔◌, ◌<◌, length, map, slice_get, Some, IsTrue, IfOk, IfErr};
-ghost use Rattle.plane_terms.specs.Shape as terms;
+ghost use Rattle.plane_terms.specs.Point.{IsInReach};
 ghost use Rattle.plane_terms.specs.Shape.{point_shape, shape_of, place_of, segments_of, ends_of, envelope_of, IsShape};
 ghost use Rattle.plane_terms.specs.declared.kind.Kind.TheVariants as kind;
 ghost use Rattle.shape.specs.Given.{lines_in, polygons_in, IsCountable};
 ghost use Rattle.shape.specs.Faults.{IsFault, IsFlawless};
 
 use crate::fault::ShapeFault;
-use crate::form::{Form, Line, Polygon};
+use crate::form::Form;
+use crate::line::Line;
+use crate::polygon::Polygon;
+use crate::same::{are_same_parts, are_same_rings};
 use grid_plane::{GridPoint, NoMemory, Rect, Seg};
 use plane_terms::Kind;
 use std::alloc::Global;
@@ -75,30 +78,45 @@ impl Shape {
         ensures value { result ≡ self.now.kind }
         ensures valid { IsShape self.now }
     {
-        self.form.kind()
+        match &self.form {
+            Form::Point(_) => Kind::Point,
+            Form::Line(_) => Kind::Line,
+            Form::Polygon(_) => Kind::Polygon,
+        }
     }
 
     /// The number of parts; of a point it is 1.
     pub fn part_count(&self) -> usize
         ensures { result ≡ length self.now.parts }
     {
-        self.form.part_count()
+        match &self.form {
+            Form::Point(_) => 1,
+            Form::Line(line) => line.parts.len(),
+            Form::Polygon(polygon) => polygon.parts.len(),
+        }
     }
 
-    /// The place of a point.
+    /// The place of a point; of a line or a polygon its first vertex.
     pub fn place(&self) -> GridPoint
-        requires { self.now.kind ≡ kind.Point }
         ensures value { result ≡ place_of self.now }
-        ensures whole { self.now ≡ point_shape result }
+        ensures whole { self.now.kind ≡ kind.Point → self.now ≡ point_shape result }
+        ensures reach { IsInReach result }
     {
-        self.form.place()
+        match &self.form {
+            Form::Point(place) => *place,
+            Form::Line(line) => line.parts[0][0],
+            Form::Polygon(polygon) => polygon.parts[0][0][0],
+        }
     }
 
     /// The parts of a line, each the list of its vertices; of the other kinds there are none.
     pub fn lines(&self) -> &[Vec<GridPoint>]
         ensures { self.now.kind ≡ kind.Line → lines_in result.now ≡ self.now.parts }
     {
-        self.form.lines()
+        match &self.form {
+            Form::Line(line) => &line.parts,
+            _ => &[],
+        }
     }
 
     /// The parts of a polygon, each the list of its rings, a ring the list of its vertices without the first again; of the
@@ -106,14 +124,21 @@ impl Shape {
     pub fn polygons(&self) -> &[Vec<Vec<GridPoint>>]
         ensures { self.now.kind ≡ kind.Polygon → polygons_in result.now ≡ self.now.parts }
     {
-        self.form.polygons()
+        match &self.form {
+            Form::Polygon(polygon) => &polygon.parts,
+            _ => &[],
+        }
     }
 
     /// The least rectangle that holds all vertices.
     pub fn env(&self) -> Rect
         ensures { result ≡ envelope_of self.now }
     {
-        self.form.env()
+        match &self.form {
+            Form::Point(place) => Rect::round(*place),
+            Form::Line(line) => line.env,
+            Form::Polygon(polygon) => polygon.env,
+        }
     }
 
     /// The segments, part by part and ring by ring: each goes from a vertex to the next, the last of a ring back to the first.
@@ -121,7 +146,11 @@ impl Shape {
         ensures value { result.now ≡ segments_of self.now }
         ensures valid { IsShape self.now }
     {
-        self.form.segs()
+        match &self.form {
+            Form::Point(_) => &[],
+            Form::Line(line) => &line.segs,
+            Form::Polygon(polygon) => &polygon.segs,
+        }
     }
 
     /// The number of segments; of a point it is 0.
@@ -143,7 +172,10 @@ impl Shape {
     pub fn end_count(&self) -> usize
         ensures { result ≡ length (ends_of self.now) }
     {
-        self.form.end_count()
+        match &self.form {
+            Form::Line(line) => 2 * line.parts.len(),
+            _ => 0,
+        }
     }
 
     /// The end of this number, from 0: part by part the first vertex, then the last.
@@ -151,22 +183,35 @@ impl Shape {
         requires { i < length (ends_of self.now) }
         ensures { slice_get (ends_of self.now) i ≡ Some result }
     {
-        self.form.end(i)
+        match &self.form {
+            Form::Line(line) => line.end(i),
+            _ => self.place(),
+        }
     }
 
     /// Whether the shapes are equal: of one kind, with the same vertices in the same rings of the same parts.
     pub fn same(&self, other: &Shape) -> bool
         ensures { IsTrue result ↔ (self.now ≡ other.now) }
     {
-        self.form.same(&other.form)
+        match (&self.form, &other.form) {
+            (Form::Point(place), Form::Point(other)) => place == other,
+            (Form::Line(line), Form::Line(other)) => are_same_rings(&line.parts, &other.parts),
+            (Form::Polygon(polygon), Form::Polygon(other)) => {
+                are_same_parts(&polygon.parts, &other.parts)
+            }
+            _ => false,
+        }
     }
 
     /// An equal shape.
     pub fn try_copy(&self, alloc: Global) -> Result<Shape, NoMemory>
         ensures { IfOk result (λ s. s ≡ self.now) }
     {
-        Ok(Shape {
-            form: self.form.try_copy(alloc)?,
-        })
+        let form = match &self.form {
+            Form::Point(place) => Form::Point(*place),
+            Form::Line(line) => Form::Line(line.try_copy(alloc)?),
+            Form::Polygon(polygon) => Form::Polygon(polygon.try_copy(alloc)?),
+        };
+        Ok(Shape { form })
     }
 }

@@ -1,0 +1,18 @@
+-- Counting rings and vertices.
+--
+-- first_short least n rings   the number of the first ring with fewer vertices than `least`, where they are numbered from n on
+-- IsFull s                    rings are not lacking, none is short, and 2,000 vertices or fewer are kept
+use Rattle.std.specs.Prelude.{ℕ, ◌+◌, ◌≤◌, List, [], ◌∷◌, length, Option, Some, None, cond, nat_lt}
+use Rattle.plane_terms.specs.Lists.{Every}
+use Rattle.plane_terms.specs.Point.{Place}
+use Rattle.plane_terms.specs.Shape.{Shape, rings_of, vertices_of}
+use Rattle.shape.specs.Faults.{least, LacksRings}
+
+abbrev pub first_short : ℕ → ℕ → List (List Place) → Option ℕ
+first_short fewest n [] = None
+first_short fewest n (ring ∷ rings) = cond (nat_lt (length ring) fewest) (Some n) (first_short fewest (n + 1) rings)
+
+pub record IsFull (s : Shape) : Type 0 where
+  pub ringed : ¬ (LacksRings s)
+  pub long : Every (λ ring. least s.kind ≤ length ring) (rings_of s)
+  pub few : length (vertices_of s) ≤ 2000

@@ -1,0 +1,142 @@
+ghost use Rattle.std.specs.Prelude.{◌≡◌, ◌<◌, ◌^◌, ℕ, ◌∷◌, length, None, OnOk, IfOk, IfErr};
+ghost use Rattle.std.specs.List.Sorted.{IsPermutation};
+ghost use Rattle.plane_terms.specs.Lists.{EveryPair};
+ghost use Rattle.plane_terms.specs.Shape.{AreSimple};
+ghost use Rattle.shape.specs.Faults.{IsPair, AreBad};
+ghost use Rattle.shape.specs.Sweep.{numbered, is_bad, pair_of, is_sooner, considered, best_with, best_among, Ascends, AreProper, IsPairFault};
+
+use crate::fault::ShapeFault;
+use crate::numbered::Numbered;
+use crate::pair::Pair;
+use grid_plane::{NoMemory, Seg, Share};
+use std::alloc::Global;
+
+fn is_bad(s: &Seg, t: &Seg) -> bool
+    ensures { result ≡ is_bad s.now t.now }
+{
+    match s.shares(t) {
+        Share::Nothing => false,
+        Share::Along => true,
+        Share::Cross => true,
+        Share::Touch => false,
+    }
+}
+
+fn pair_of(a: &Numbered, b: &Numbered) -> Pair
+    ensures { result ≡ pair_of a.now b.now }
+{
+    if a.number < b.number {
+        Pair {
+            i: a.number,
+            j: b.number,
+        }
+    } else {
+        Pair {
+            i: b.number,
+            j: a.number,
+        }
+    }
+}
+
+fn is_sooner(pair: &Pair, best: &Option<Pair>) -> bool
+    ensures { result ≡ is_sooner pair.now best.now }
+{
+    match best {
+        None => true,
+        Some(known) => pair.i < known.i || (pair.i == known.i && pair.j < known.j),
+    }
+}
+
+/// The best pair so far, once this one is known.
+fn consider(a: &Numbered, b: &Numbered, best: Option<Pair>) -> Option<Pair>
+    ensures { result ≡ considered a.now b.now best }
+{
+    let pair = pair_of(a, b);
+    if a.number != b.number && is_sooner(&pair, &best) && is_bad(&a.seg, &b.seg) {
+        Some(pair)
+    } else {
+        best
+    }
+}
+
+/// Whether all of the second segment is right of the first.
+fn is_past(a: &Numbered, b: &Numbered) -> bool {
+    b.seg.lo().x() > a.seg.hi().x()
+}
+
+/// The best pair once `a` was set against each of the rest: those that begin right of it share nothing with it.
+fn best_with(a: &Numbered, rest: &[Numbered], best: Option<Pair>) -> Option<Pair>
+    requires ascends { Ascends rest.now }
+    requires proper { AreProper (a.now ∷ rest.now) }
+    ensures { result ≡ best_with a.now rest.now best }
+{
+    let mut found = best;
+    for b in rest {
+        if is_past(a, b) {
+            return found;
+        }
+        found = consider(a, b, found);
+    }
+    found
+}
+
+fn best_among(all: &[Numbered]) -> Option<Pair>
+    requires ascends { Ascends all.now }
+    requires proper { AreProper all.now }
+    ensures { result ≡ best_among all.now None }
+{
+    let mut found = None;
+    let mut next = 0;
+    for a in all {
+        next += 1;
+        found = best_with(a, &all[next..], found);
+    }
+    found
+}
+
+fn numbered(alloc: Global, segs: &[Seg]) -> Result<Vec<Numbered>, NoMemory>
+    requires { length segs.now < 2 ^ 32 }
+    ensures value { IfOk result (λ v. v.items ≡ numbered 0 segs.now) }
+    ensures proper { IfOk result (λ v. AreProper v.items) }
+{
+    let mut all = Vec::new(alloc);
+    let mut number = 0;
+    for seg in segs {
+        all.push(Numbered { number, seg: *seg })?;
+        number += 1;
+    }
+    Ok(all)
+}
+
+fn sort(all: &mut Vec<Numbered>)
+    ensures ascends { Ascends all.new.items }
+    ensures moved { IsPermutation all.old.items all.new.items }
+{
+    all.sort_unstable_by_key(|numbered| numbered.seg.lo().x());
+}
+
+/// The first pair of segments, in order of the first number, then of the second, that cross or run along each other.
+/// Segments are set against those alone that begin no further right than they end.
+fn first_bad_pair(alloc: Global, segs: &[Seg]) -> Result<Option<Pair>, NoMemory>
+    requires { length segs.now < 2 ^ 32 }
+{
+    let mut all = numbered(alloc, segs)?;
+    sort(&mut all);
+    Ok(best_among(&all))
+}
+
+/// The faults of a polygon's segments.
+pub(crate) fn check_pairs(alloc: Global, segs: &[Seg]) -> Result<(), ShapeFault>
+    requires { length segs.now < 2 ^ 32 }
+    ensures simple { OnOk result (EveryPair AreSimple segs.now) }
+    ensures none { OnOk result ((i j : ℕ) → ¬ (IsPair AreBad segs.now i j)) }
+    ensures refused { IfErr result (λ fault. IsPairFault segs.now fault) }
+{
+    let Some(Pair { i, j }) = first_bad_pair(alloc, segs)? else {
+        return Ok(());
+    };
+    match segs[i as usize].shares(&segs[j as usize]) {
+        Share::Along => Err(ShapeFault::Along { i, j }),
+        _ => Err(ShapeFault::Cross { i, j }),
+    }
+}
