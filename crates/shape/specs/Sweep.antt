@@ -1,5 +1,6 @@
 -- The first bad pair of a list of segments, found in another order.
 --
+-- numbered_segment n s     the segment with its number, its least and its greatest ordinate
 -- numbered n ss            the segments with their numbers, from n on
 -- is_bad s t               the test of `AreBad`, by what the segments share
 -- pair_of n m              the two numbers, the lower first
@@ -8,11 +9,11 @@
 -- best_with n ms best      the same, once n was set against each of ms
 -- best_among ns best       the same, once each of ns was set against each later one
 -- Ascends ns               the segments stand by the abscissas of their lower ends
--- AreProper ns             their lower ends come before their upper ends
+-- IsBoxed n                the segment's ends are two, in order, and its least and greatest ordinate are said
 -- IsPairFault ss fault     the fault is the first bad pair of ss, by what the two segments share
 use Rattle.std.specs.Prelude.{◌≡◌, ℕ, ◌+◌, ◌==◌, nat_lt, Bool, true, false, not, cond, ◌&&◌, ◌||◌, List, [], ◌∷◌, Option, Some, None, ◌≤ℤ◌}
-use Rattle.plane_terms.specs.Lists.{Every, EveryPair}
-use Rattle.plane_terms.specs.Segment.{Segment, IsSegment, Overlap}
+use Rattle.plane_terms.specs.Lists.{EveryPair}
+use Rattle.plane_terms.specs.Segment.{Segment, IsSegment, Overlap, box_of}
 use Rattle.grid_plane.specs.Share.{share_of, CrossOnce}
 use Rattle.grid_plane.specs.declared.share.Share.{Share}
 use Rattle.grid_plane.specs.declared.share.Share.TheVariants as share
@@ -22,9 +23,12 @@ use Rattle.shape.specs.declared.fault.ShapeFault.TheVariants.{TooFew, TooMany, C
 use Rattle.shape.specs.declared.numbered.Numbered.{Numbered}
 use Rattle.shape.specs.declared.pair.Pair.{Pair}
 
+abbrev pub numbered_segment : ℕ → Segment → Numbered
+numbered_segment n s = record { number = n; seg = s; low = (box_of s).y0; high = (box_of s).y1 }
+
 abbrev pub numbered : ℕ → List Segment → List Numbered
 numbered n [] = []
-numbered n (s ∷ ss) = record { number = n; seg = s } ∷ numbered (n + 1) ss
+numbered n (s ∷ ss) = numbered_segment n s ∷ numbered (n + 1) ss
 
 abbrev pub is_bad_share : Share → Bool
 is_bad_share share.Nothing = false
@@ -57,8 +61,10 @@ best_among (n ∷ ns) best = best_among ns (best_with n ns best)
 abbrev pub Ascends : List Numbered → Type 0
 Ascends ns = EveryPair (λ n m. n.seg.lo.x ≤ℤ m.seg.lo.x) ns
 
-abbrev pub AreProper : List Numbered → Type 0
-AreProper ns = Every (λ n. IsSegment n.seg) ns
+pub record IsBoxed (n : Numbered) : Type 0 where
+  pub proper : IsSegment n.seg
+  pub low : n.low ≡ (box_of n.seg).y0
+  pub high : n.high ≡ (box_of n.seg).y1
 
 abbrev pub IsPairFault : List Segment → ShapeFault → Type 0
 IsPairFault ss (TooFew part) = ⊥

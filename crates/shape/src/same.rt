@@ -16,8 +16,8 @@ pub(crate) fn are_same_rings(rings: &[Vec<GridPoint>], others: &[Vec<GridPoint>]
     if rings.len() != others.len() {
         return false;
     }
-    for (ring, other) in rings.iter().zip(others) {
-        if !are_same_vertices(ring, other) {
+    for i in 0..rings.len() {
+        if !are_same_vertices(&rings[i], &others[i]) {
             return false;
         }
     }
@@ -30,8 +30,8 @@ pub(crate) fn are_same_parts(parts: &[Vec<Vec<GridPoint>>], others: &[Vec<Vec<Gr
     if parts.len() != others.len() {
         return false;
     }
-    for (part, other) in parts.iter().zip(others) {
-        if !are_same_rings(part, other) {
+    for i in 0..parts.len() {
+        if !are_same_rings(&parts[i], &others[i]) {
             return false;
         }
     }

@@ -1,9 +1,10 @@
-ghost use Rattle.std.specs.Prelude.{◌≡◌, ◌<◌, ◌^◌, ℕ, ◌∷◌, length, None, OnOk, IfOk, IfErr};
+ghost use Rattle.std.specs.Prelude.{◌≡◌, ◌<◌, ◌<ℤ◌, ◌^◌, false, ℕ, ◌∷◌, length, None, OnOk, IfOk, IfErr};
+ghost use Rattle.std.specs.Bool.{OnTrue, OnFalse};
 ghost use Rattle.std.specs.List.Sorted.{IsPermutation};
-ghost use Rattle.plane_terms.specs.Lists.{EveryPair};
+ghost use Rattle.plane_terms.specs.Lists.{Every, EveryPair};
 ghost use Rattle.plane_terms.specs.Shape.{AreSimple};
 ghost use Rattle.shape.specs.Faults.{IsPair, AreBad};
-ghost use Rattle.shape.specs.Sweep.{numbered, is_bad, pair_of, is_sooner, considered, best_with, best_among, Ascends, AreProper, IsPairFault};
+ghost use Rattle.shape.specs.Sweep.{numbered, is_bad, pair_of, is_sooner, considered, numbered_segment, best_with, best_among, Ascends, IsBoxed, IsPairFault};
 
 use crate::fault::ShapeFault;
 use crate::numbered::Numbered;
@@ -60,14 +61,25 @@ fn consider(a: &Numbered, b: &Numbered, best: Option<Pair>) -> Option<Pair>
 }
 
 /// Whether all of the second segment is right of the first.
-fn is_past(a: &Numbered, b: &Numbered) -> bool {
+fn is_past(a: &Numbered, b: &Numbered) -> bool
+    ensures { OnTrue result (a.now.seg.hi.x <ℤ b.now.seg.lo.x) }
+{
     b.seg.lo().x() > a.seg.hi().x()
+}
+
+/// Whether neither is all above the other: only such can share a point.
+fn is_level(a: &Numbered, b: &Numbered) -> bool
+    requires a_boxed { IsBoxed a.now }
+    requires b_boxed { IsBoxed b.now }
+    ensures { OnFalse result (is_bad a.now.seg b.now.seg ≡ false) }
+{
+    b.low <= a.high && a.low <= b.high
 }
 
 /// The best pair once `a` was set against each of the rest: those that begin right of it share nothing with it.
 fn best_with(a: &Numbered, rest: &[Numbered], best: Option<Pair>) -> Option<Pair>
     requires ascends { Ascends rest.now }
-    requires proper { AreProper (a.now ∷ rest.now) }
+    requires boxed { Every IsBoxed (a.now ∷ rest.now) }
     ensures { result ≡ best_with a.now rest.now best }
 {
     let mut found = best;
@@ -75,14 +87,16 @@ fn best_with(a: &Numbered, rest: &[Numbered], best: Option<Pair>) -> Option<Pair
         if is_past(a, b) {
             return found;
         }
-        found = consider(a, b, found);
+        if is_level(a, b) {
+            found = consider(a, b, found);
+        }
     }
     found
 }
 
 fn best_among(all: &[Numbered]) -> Option<Pair>
     requires ascends { Ascends all.now }
-    requires proper { AreProper all.now }
+    requires boxed { Every IsBoxed all.now }
     ensures { result ≡ best_among all.now None }
 {
     let mut found = None;
@@ -94,15 +108,28 @@ fn best_among(all: &[Numbered]) -> Option<Pair>
     found
 }
 
+fn numbered_seg(number: u32, seg: &Seg) -> Numbered
+    ensures value { result ≡ numbered_segment number seg.now }
+    ensures boxed { IsBoxed result }
+{
+    let env = seg.env();
+    Numbered {
+        number,
+        seg: *seg,
+        low: env.y0(),
+        high: env.y1(),
+    }
+}
+
 fn numbered(alloc: Global, segs: &[Seg]) -> Result<Vec<Numbered>, NoMemory>
     requires { length segs.now < 2 ^ 32 }
     ensures value { IfOk result (λ v. v.items ≡ numbered 0 segs.now) }
-    ensures proper { IfOk result (λ v. AreProper v.items) }
+    ensures boxed { IfOk result (λ v. Every IsBoxed v.items) }
 {
     let mut all = Vec::new(alloc);
     let mut number = 0;
     for seg in segs {
-        all.push(Numbered { number, seg: *seg })?;
+        all.push(numbered_seg(number, seg))?;
         number += 1;
     }
     Ok(all)
