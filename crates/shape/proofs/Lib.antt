@@ -1,0 +1,9 @@
+pub mod Bad
+pub mod Boxes
+pub mod Changed
+pub mod Dropped
+pub mod Ends
+pub mod Filled
+pub mod Opening
+pub mod Places
+pub mod Shorts

@@ -1,6 +1,6 @@
 -- The first bad pair of a list of segments, found in another order.
 --
--- numbered_segment n s     the segment with its number, its least and its greatest ordinate
+-- numbered_segment n s     the segment with its number and its envelope
 -- numbered n ss            the segments with their numbers, from n on
 -- is_bad s t               the test of `AreBad`, by what the segments share
 -- pair_of n m              the two numbers, the lower first
@@ -9,7 +9,8 @@
 -- best_with n ms best      the same, once n was set against each of ms
 -- best_among ns best       the same, once each of ns was set against each later one
 -- Ascends ns               the segments stand by the abscissas of their lower ends
--- IsBoxed n                the segment's ends are two, in order, and its least and greatest ordinate are said
+-- IsBoxed n                the segment's ends are two, in order, and the envelope is its own
+-- IsFirstBad ss best       best is the first bad pair of ss, and None where there is no bad pair
 -- IsPairFault ss fault     the fault is the first bad pair of ss, by what the two segments share
 use Rattle.std.specs.Prelude.{◌≡◌, ℕ, ◌+◌, ◌==◌, nat_lt, Bool, true, false, not, cond, ◌&&◌, ◌||◌, List, [], ◌∷◌, Option, Some, None, ◌≤ℤ◌}
 use Rattle.plane_terms.specs.Lists.{EveryPair}
@@ -17,14 +18,14 @@ use Rattle.plane_terms.specs.Segment.{Segment, IsSegment, Overlap, box_of}
 use Rattle.grid_plane.specs.Share.{share_of, CrossOnce}
 use Rattle.grid_plane.specs.declared.share.Share.{Share}
 use Rattle.grid_plane.specs.declared.share.Share.TheVariants as share
-use Rattle.shape.specs.Faults.{IsFirstPair}
+use Rattle.shape.specs.Faults.{AreBad, IsPair, IsFirstPair}
 use Rattle.shape.specs.declared.fault.ShapeFault.{ShapeFault}
 use Rattle.shape.specs.declared.fault.ShapeFault.TheVariants.{TooFew, TooMany, Cross, Along, NoMemory}
 use Rattle.shape.specs.declared.numbered.Numbered.{Numbered}
 use Rattle.shape.specs.declared.pair.Pair.{Pair}
 
 abbrev pub numbered_segment : ℕ → Segment → Numbered
-numbered_segment n s = record { number = n; seg = s; low = (box_of s).y0; high = (box_of s).y1 }
+numbered_segment n s = record { number = n; seg = s; env = box_of s }
 
 abbrev pub numbered : ℕ → List Segment → List Numbered
 numbered n [] = []
@@ -63,8 +64,11 @@ Ascends ns = EveryPair (λ n m. n.seg.lo.x ≤ℤ m.seg.lo.x) ns
 
 pub record IsBoxed (n : Numbered) : Type 0 where
   pub proper : IsSegment n.seg
-  pub low : n.low ≡ (box_of n.seg).y0
-  pub high : n.high ≡ (box_of n.seg).y1
+  pub env : n.env ≡ box_of n.seg
+
+abbrev pub IsFirstBad : List Segment → Option Pair → Type 0
+IsFirstBad ss None = (i j : ℕ) → ¬ (IsPair AreBad ss i j)
+IsFirstBad ss (Some p) = IsFirstPair AreBad ss p.i p.j
 
 abbrev pub IsPairFault : List Segment → ShapeFault → Type 0
 IsPairFault ss (TooFew part) = ⊥

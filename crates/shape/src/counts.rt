@@ -1,7 +1,6 @@
-ghost use Rattle.std.specs.Prelude.{◌≡◌, ◌≤◌, ◌<◌, ◌+◌, ◌^◌, ◌↔◌, [], length, flat_map, IsTrue, OnOk, IfErr};
-ghost use Rattle.plane_terms.specs.Lists.{SomeOf};
+ghost use Rattle.std.specs.Prelude.{◌≡◌, ◌<◌, ◌+◌, ◌^◌, length, OnOk, IfErr};
 ghost use Rattle.shape.specs.Given.{rings_in, lines_in, polygons_in, all_rings, all_vertices, IsCountable};
-ghost use Rattle.shape.specs.Counts.{first_short, IsFull};
+ghost use Rattle.shape.specs.Counts.{first_short, has_bare_part, IsFull};
 ghost use Rattle.shape.specs.Faults.{IsFault};
 ghost use Rattle.shape.specs.Form.{line_shape, polygon_shape};
 
@@ -41,10 +40,16 @@ fn first_short_ring(parts: &[Vec<Vec<GridPoint>>]) -> Option<u32>
     None
 }
 
+/// Whether some part has no ring.
 fn has_bare_part(parts: &[Vec<Vec<GridPoint>>]) -> bool
-    ensures { IsTrue result ↔ SomeOf (λ part. part ≡ []) (polygons_in parts.now) }
+    ensures { result ≡ has_bare_part (polygons_in parts.now) }
 {
-    parts.iter().any(|part| part.is_empty())
+    for part in parts {
+        if part.is_empty() {
+            return true;
+        }
+    }
+    false
 }
 
 /// How many vertices there are after so many.
@@ -95,7 +100,10 @@ pub(crate) fn check_polygon(parts: &[Vec<Vec<GridPoint>>]) -> Result<(), ShapeFa
     ensures full { OnOk result (IsFull (polygon_shape parts.now)) }
     ensures refused { IfErr result (λ fault. IsFault (polygon_shape parts.now) fault) }
 {
-    if parts.is_empty() || has_bare_part(parts) {
+    if parts.is_empty() {
+        return Err(ShapeFault::TooFew { part: 0 });
+    }
+    if has_bare_part(parts) {
         return Err(ShapeFault::TooFew { part: 0 });
     }
     if let Some(part) = first_short_ring(parts) {

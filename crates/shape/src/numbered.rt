@@ -1,10 +1,9 @@
-use grid_plane::Seg;
+use grid_plane::{Rect, Seg};
 
-/// A segment, its number in the list of all, and its least and greatest ordinate.
+/// A segment, its number in the list of all, and its envelope.
 #[derive(Clone, Copy)]
 pub(crate) struct Numbered {
     pub(crate) number: u32,
     pub(crate) seg: Seg,
-    pub(crate) low: i32,
-    pub(crate) high: i32,
+    pub(crate) env: Rect,
 }

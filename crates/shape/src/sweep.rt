@@ -1,10 +1,11 @@
-ghost use Rattle.std.specs.Prelude.{◌≡◌, ◌<◌, ◌<ℤ◌, ◌^◌, false, ℕ, ◌∷◌, length, None, OnOk, IfOk, IfErr};
-ghost use Rattle.std.specs.Bool.{OnTrue, OnFalse};
+ghost use Rattle.std.specs.Prelude.{◌≡◌, ◌<◌, ◌<ℤ◌, ◌^◌, ℕ, ◌∷◌, length, None, OnOk, IfOk, IfErr};
+ghost use Rattle.std.specs.Bool.{OnTrue};
 ghost use Rattle.std.specs.List.Sorted.{IsPermutation};
 ghost use Rattle.plane_terms.specs.Lists.{Every, EveryPair};
+ghost use Rattle.plane_terms.specs.Segment.{IsSegment};
 ghost use Rattle.plane_terms.specs.Shape.{AreSimple};
 ghost use Rattle.shape.specs.Faults.{IsPair, AreBad};
-ghost use Rattle.shape.specs.Sweep.{numbered, is_bad, pair_of, is_sooner, considered, numbered_segment, best_with, best_among, Ascends, IsBoxed, IsPairFault};
+ghost use Rattle.shape.specs.Sweep.{numbered, is_bad, pair_of, is_sooner, considered, numbered_segment, best_with, best_among, Ascends, IsBoxed, IsFirstBad, IsPairFault};
 
 use crate::fault::ShapeFault;
 use crate::numbered::Numbered;
@@ -50,14 +51,18 @@ fn is_sooner(pair: &Pair, best: &Option<Pair>) -> bool
 
 /// The best pair so far, once this one is known.
 fn consider(a: &Numbered, b: &Numbered, best: Option<Pair>) -> Option<Pair>
+    requires a_boxed { IsBoxed a.now }
+    requires b_boxed { IsBoxed b.now }
     ensures { result ≡ considered a.now b.now best }
 {
+    if !a.env.meets(&b.env) {
+        return best;
+    }
     let pair = pair_of(a, b);
     if a.number != b.number && is_sooner(&pair, &best) && is_bad(&a.seg, &b.seg) {
-        Some(pair)
-    } else {
-        best
+        return Some(pair);
     }
+    best
 }
 
 /// Whether all of the second segment is right of the first.
@@ -65,15 +70,6 @@ fn is_past(a: &Numbered, b: &Numbered) -> bool
     ensures { OnTrue result (a.now.seg.hi.x <ℤ b.now.seg.lo.x) }
 {
     b.seg.lo().x() > a.seg.hi().x()
-}
-
-/// Whether neither is all above the other: only such can share a point.
-fn is_level(a: &Numbered, b: &Numbered) -> bool
-    requires a_boxed { IsBoxed a.now }
-    requires b_boxed { IsBoxed b.now }
-    ensures { OnFalse result (is_bad a.now.seg b.now.seg ≡ false) }
-{
-    b.low <= a.high && a.low <= b.high
 }
 
 /// The best pair once `a` was set against each of the rest: those that begin right of it share nothing with it.
@@ -87,9 +83,7 @@ fn best_with(a: &Numbered, rest: &[Numbered], best: Option<Pair>) -> Option<Pair
         if is_past(a, b) {
             return found;
         }
-        if is_level(a, b) {
-            found = consider(a, b, found);
-        }
+        found = consider(a, b, found);
     }
     found
 }
@@ -112,12 +106,10 @@ fn numbered_seg(number: u32, seg: &Seg) -> Numbered
     ensures value { result ≡ numbered_segment number seg.now }
     ensures boxed { IsBoxed result }
 {
-    let env = seg.env();
     Numbered {
         number,
         seg: *seg,
-        low: env.y0(),
-        high: env.y1(),
+        env: seg.env(),
     }
 }
 
@@ -146,6 +138,8 @@ fn sort(all: &mut Vec<Numbered>)
 /// Segments are set against those alone that begin no further right than they end.
 fn first_bad_pair(alloc: Global, segs: &[Seg]) -> Result<Option<Pair>, NoMemory>
     requires { length segs.now < 2 ^ 32 }
+    ensures first { IfOk result (λ best. IsFirstBad segs.now best) }
+    ensures proper { IfOk result (λ _. Every IsSegment segs.now) }
 {
     let mut all = numbered(alloc, segs)?;
     sort(&mut all);
