@@ -5,7 +5,7 @@ use Rattle.std.specs.List.{slice_get}
 use Rattle.number_steps.proofs.Ring.{int_tests}
 use Rattle.plane_terms.specs.Lists.{Every, EveryPair}
 use Rattle.plane_terms.specs.Point.{Point}
-use Rattle.plane_terms.specs.Rectangle.{RectsMeet, rects_meet}
+use Rattle.plane_terms.specs.Rectangle.{Rectangle, RectHolds, RectsMeet, rects_meet}
 use Rattle.plane_terms.specs.Segment.{Segment, IsSegment, SharePoint, Overlap, OnSegment, MeetAtEnds, IsEndOf, box_of}
 use Rattle.plane_terms.specs.Shape.{AreSimple}
 use Rattle.grid_plane.specs.Share.{share_of, AreSame, CrossOnce, TouchOnce}
@@ -40,11 +40,17 @@ bad_back s t (inl c) = inl (cross_sym t s c)
 bad_back s t (inr o) = inr (overlap_back s t o)
 
 -- ---- bad pairs have envelopes that meet
+shared : (s t : Segment) (p : Point) → OnSegment s p → OnSegment t p → SharePoint s t
+shared s t p h k = (p, h, k)
+
 bad_share_point : (r : Share) (s t : Segment) → Means r s t → is_bad_share r ≡ true → SharePoint s t
 bad_share_point Nothing s t h e = cc
-bad_share_point Along s t h e = (h.p, h.p_on_s, h.p_on_t)
-bad_share_point Cross s t h e = (h.meet.at, h.meet.first, h.meet.second)
+bad_share_point Along s t h e = shared s t h.p h.p_on_s h.p_on_t
+bad_share_point Cross s t h e = shared s t h.meet.at h.meet.first h.meet.second
 bad_share_point Touch s t h e = cc
+
+both : (r s : Rectangle) (p : Point) → RectHolds r p → RectHolds s p → RectsMeet r s
+both r s p h k = (p, h, k)
 
 tests : (a b c d e f g h : ℤ) → a ≤ℤ b → c ≤ℤ d → e ≤ℤ f → g ≤ℤ h → int_le a b && (int_le c d && (int_le e f && int_le g h)) ≡ true
 tests a b c d e f g h i j k l = grind (arith, ints)
@@ -52,7 +58,7 @@ tests a b c d e f g h i j k l = grind (arith, ints)
 bad_boxes : (s t : Segment) → IsSegment s → IsSegment t → is_bad s t ≡ true → rects_meet (box_of s) (box_of t) ≡ true
 bad_boxes s t g h e =
     let p = bad_share_point (share_of s t) s t (share_of-means s t g h) e in
-    let m : RectsMeet (box_of s) (box_of t) = (p.0, (box_holds s p.0 g p.1, box_holds t p.0 h p.2)) in
+    let m : RectsMeet (box_of s) (box_of t) = both (box_of s) (box_of t) p.0 (box_holds s p.0 g p.1) (box_holds t p.0 h p.2) in
     let c = crossing (box_of s) (box_of t) m in
     tests _ _ _ _ _ _ _ _ c.0 c.1.0 c.1.1.0 c.1.1.1
 
@@ -73,7 +79,7 @@ fine_past s t g h l = by_no (is_bad s t) never
     never : is_bad s t ≡ true → ⊥
     never b =
         let p = bad_share_point (share_of s t) s t (share_of-means s t g h) b in
-        let m : RectsMeet (box_of s) (box_of t) = (p.0, (box_holds s p.0 g p.1, box_holds t p.0 h p.2)) in
+        let m : RectsMeet (box_of s) (box_of t) = both (box_of s) (box_of t) p.0 (box_holds s p.0 g p.1) (box_holds t p.0 h p.2) in
         let c = crossing (box_of s) (box_of t) m in
         omega (arith, ints, l, c.1.0)
 

@@ -1,5 +1,5 @@
 -- Lines and polygons of which no ring is lacking or too short.
-use Rattle.std.proofs.Common.{◌≡◌, ◌≢◌, ℕ, ◌+◌, ◌<◌, ◌≤◌, Bool, true, false, ◌||◌, ◌⊎◌, inl, inr, List, [], ◌∷◌, ◌++◌, length, get_or, Vec, Option, Some, None, refl, sym, ap, subst, ◌∙◌, arith}
+use Rattle.std.proofs.Common.{◌≡◌, ◌≢◌, ℕ, suc, ◌+◌, ◌<◌, ◌≤◌, Bool, true, false, ◌||◌, ◌⊎◌, inl, inr, List, [], ◌∷◌, ◌++◌, length, get_or, Vec, Option, Some, None, refl, sym, ap, subst, ◌∙◌, arith}
 use Rattle.std.proofs.lemmas.List.{length-map}
 use Rattle.std.specs.Bool.{◌==◌}
 use Rattle.std.specs.Global.{Global}
@@ -51,13 +51,16 @@ few_none : (s : Shape) → ¬ (LacksRings s) → Every (λ ring. least s.kind �
 few_none s r l n (inl k) = r k.0
 few_none s r l n (inr k) = none_first (IsShort s.kind) (rings_of s) n (long_none s.kind (rings_of s) l) k.1
 
+no_zero : (n : ℕ) → (suc n == 0) ≡ true → ⊥
+no_zero n e = grind arith
+
 -- ---- lines
 line_long : (ps : List Ring) → first_short 2 0 (rings_in ps) ≡ None → Every (λ ring. 2 ≤ length ring) (rings_of (line_shape ps))
 line_long ps e = subst (λ (rs : List (List Place)). Every (λ ring. 2 ≤ length ring) rs) (sym (line_rings ps)) (none_short kind.Line 0 (rings_in ps) e)
 
 pub line_empty : (ps : List Ring) → (length ps == 0) ≡ true → IsFew (line_shape ps) 0
 line_empty [] e = inl (inl refl, refl)
-line_empty (p ∷ ps) e = cc
+line_empty (p ∷ ps) e = absurd (no_zero (length ps) e)
 
 pub line_few : (ps : List Ring) (n : ℕ) → (length ps == 0) ≡ false → first_short 2 0 (rings_in ps) ≡ Some n → IsFew (line_shape ps) n
 line_few ps n e f = inr (line_ringed ps e, subst (λ (rs : List (List Place)). IsFirstOf (IsShort kind.Line) rs n) (sym (line_rings ps)) (short_first kind.Line n (rings_in ps) f))
@@ -74,7 +77,7 @@ line_full ps n e f h l = record { ringed = line_ringed ps e; long = line_long ps
 -- ---- polygons
 pub polygon_empty : (ps : List (Vec Ring Global)) → (length ps == 0) ≡ true → IsFew (polygon_shape ps) 0
 polygon_empty [] e = inl (inl refl, refl)
-polygon_empty (p ∷ ps) e = cc
+polygon_empty (p ∷ ps) e = absurd (no_zero (length ps) e)
 
 pub polygon_bare : (ps : List (Vec Ring Global)) → has_bare_part (polygons_in ps) ≡ true → IsFew (polygon_shape ps) 0
 polygon_bare ps e = inl (inr (bare_some (polygons_in ps) e), refl)

@@ -1,9 +1,12 @@
+pub mod Ascending
 pub mod Bad
+pub mod Best
 pub mod Boxes
 pub mod Changed
 pub mod Dropped
 pub mod Ends
 pub mod Filled
+pub mod Made
 pub mod Opening
 pub mod Places
 pub mod Shorts

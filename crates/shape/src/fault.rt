@@ -1,4 +1,5 @@
-use std::alloc::{AllocError, AllocFailed};
+ghost use Rattle.std.specs.Prelude.{◌≡◌};
+ghost use Rattle.shape.specs.declared.fault.ShapeFault.TheVariants as shape_fault;
 
 /// Why parts are no shape: the first of these that applies.
 #[derive(Clone, Copy, PartialEq, Eq, Debug)]
@@ -18,19 +19,9 @@ pub enum ShapeFault {
 }
 
 impl From<grid_plane::NoMemory> for ShapeFault {
+    ghost from_gives = { λ _ e. e ≡ shape_fault.NoMemory };
+
     fn from(_: grid_plane::NoMemory) -> Self {
-        ShapeFault::NoMemory
-    }
-}
-
-impl From<AllocError> for ShapeFault {
-    fn from(_: AllocError) -> Self {
-        ShapeFault::NoMemory
-    }
-}
-
-impl<T: Drop> From<AllocFailed<T>> for ShapeFault {
-    fn from(_: AllocFailed<T>) -> Self {
         ShapeFault::NoMemory
     }
 }

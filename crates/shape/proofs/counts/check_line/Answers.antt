@@ -15,8 +15,7 @@ count_vertices-count-requires c = omega (arith, c.requires.vertices, ap (λ (vs 
 pub returns-then-count-gt-MOST-clause-refused : goal.returns-then-count-gt-MOST-clause-refused
 returns-then-count-gt-MOST-clause-refused c = (
   line_none_few c.args.parts.now (sym c.is_empty.ensures ∙ c.if-is_empty.false) (sym c.first_short.ensures ∙ c.in_default.is),
-  line_many c.args.parts.now c.count_vertices-count.result c.count_vertices-count.ensures,
-  omega (arith, c.if-count-gt-MOST.true),
+  (line_many c.args.parts.now c.count_vertices-count.result c.count_vertices-count.ensures, omega (arith, c.if-count-gt-MOST.true)),
 )
 
 pub returns-clause-full : goal.returns-clause-full

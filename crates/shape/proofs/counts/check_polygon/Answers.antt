@@ -12,8 +12,7 @@ returns-in-Some-clause-refused c =
 pub returns-then-count-gt-MOST-clause-refused : goal.returns-then-count-gt-MOST-clause-refused
 returns-then-count-gt-MOST-clause-refused c = (
   polygon_none_few c.args.parts.now (sym c.is_empty.ensures ∙ c.if-is_empty.false) (sym c.has_bare_part.ensures ∙ c.if-has_bare_part.false) (sym c.first_short_ring.ensures ∙ c.in_default.is),
-  c.count_in_parts-count.ensures,
-  omega (arith, c.if-count-gt-MOST.true),
+  (c.count_in_parts-count.ensures, omega (arith, c.if-count-gt-MOST.true)),
 )
 
 pub returns-clause-full : goal.returns-clause-full
