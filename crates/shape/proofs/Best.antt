@@ -6,7 +6,8 @@ use Rattle.std.specs.List.{slice_get, Contains}
 use Rattle.std.specs.List.Sorted.{IsPermutation}
 use Rattle.plane_terms.specs.Lists.{Every, EveryPair, SomeOf}
 use Rattle.plane_terms.specs.Rectangle.{Rectangle, rects_meet}
-use Rattle.plane_terms.specs.Segment.{Segment, IsSegment, box_of}
+use Rattle.plane_terms.specs.Segment.{Segment, IsSegment, Overlap, box_of}
+use Rattle.grid_plane.specs.Share.{CrossOnce}
 use Rattle.shape.specs.Faults.{AreBad, IsPair, IsFirstPair, IsBefore}
 use Rattle.shape.specs.declared.numbered.Numbered.{Numbered}
 use Rattle.shape.specs.declared.pair.Pair.{Pair}
@@ -312,3 +313,44 @@ past_all n m whole ms best e a g h l =
   where
     further : (x y z : ℤ) → x <ℤ y → y ≤ℤ z → x <ℤ z
     further x y z l u = omega (arith, ints)
+
+-- ---- what the first bad pair shares
+pub get_below : (ss : List Segment) (i : ℕ) (s : Segment) → slice_get ss i ≡ Some s → i < length ss
+get_below [] i s e = cc
+get_below (t ∷ ts) zero s e = omega arith
+get_below (t ∷ ts) (suc i) s e = omega (arith, get_below ts i s e)
+
+got : (ss : List Segment) (i : ℕ) (s : Segment) → i < length ss → s ≡ get_or ss i s → slice_get ss i ≡ Some s
+got [] i s l e = absurd (omega (arith, l))
+got (t ∷ ts) zero s l e = ap Some (sym e)
+got (t ∷ ts) (suc i) s l e = got ts i s (omega (arith, l)) e
+
+some_segment : {s t : Segment} → Some s ≡ Some t → s ≡ t
+some_segment e = cc
+
+pub along_first : (ss : List Segment) (i j : ℕ) (s t : Segment) → IsFirstPair AreBad ss i j → s ≡ get_or ss i s → t ≡ get_or ss j t → Overlap s t → IsFirstPair Overlap ss i j
+along_first ss i j s t f e k o =
+    record {
+      pair = record {
+        ordered = f.pair.ordered;
+        s = s;
+        t = t;
+        first = got ss i s (get_below ss i f.pair.s f.pair.first) e;
+        second = got ss j t (get_below ss j f.pair.t f.pair.second) k;
+        says = o;
+      };
+      first = f.first;
+    }
+
+pub cross_first : (ss : List Segment) (i j : ℕ) (s t : Segment) → IsFirstPair AreBad ss i j → s ≡ get_or ss i s → t ≡ get_or ss j t → (Overlap s t → ⊥) → IsFirstPair CrossOnce ss i j
+cross_first ss i j s t f e k n =
+    let a = got ss i s (get_below ss i f.pair.s f.pair.first) e in
+    let b = got ss j t (get_below ss j f.pair.t f.pair.second) k in
+    let same_s : f.pair.s ≡ s = some_segment (sym f.pair.first ∙ a) in
+    let same_t : f.pair.t ≡ t = some_segment (sym f.pair.second ∙ b) in
+    let bad : AreBad s t = subst (λ (v : Segment). AreBad s v) same_t (subst (λ (u : Segment). AreBad u f.pair.t) same_s f.pair.says) in
+    record { pair = record { ordered = f.pair.ordered; s = s; t = t; first = a; second = b; says = crosses bad }; first = f.first }
+  where
+    crosses : AreBad s t → CrossOnce s t
+    crosses (inl c) = c
+    crosses (inr o) = absurd (n o)

@@ -31,18 +31,17 @@ kept_lines : (f : List Place → List Place) (ps : List Ring) → map (λ (part 
 kept_lines f [] = refl
 kept_lines f (p ∷ ps) = ap (λ rs. (f p.items ∷ []) ∷ rs) (kept_lines f ps)
 
+abbrev line : List (List (List Place)) → Shape
+line parts = record { kind = kind.Line; parts = parts }
+
+abbrev polygon : List (List (List Place)) → Shape
+polygon parts = record { kind = kind.Polygon; parts = parts }
+
 pub line_made : (ps given : List Ring) → rings_in ps ≡ rings_by kind.Line (rings_in given) → line_shape ps ≡ shape_of kind.Line (lines_in given)
 line_made ps given e =
     ap (λ (parts : List (List (List Place))). line parts) (line_parts ps ∙ ap (λ rs. map (λ (r : List Place). r ∷ []) rs) e ∙ sym (kept_lines (ring_by kind.Line) given))
-  where
-    abbrev line : List (List (List Place)) → Shape
-    line parts = record { kind = kind.Line; parts = parts }
-
 pub polygon_made : (ps given : List (Vec Ring Global)) → polygons_in ps ≡ parts_by kind.Polygon (polygons_in given) → polygon_shape ps ≡ shape_of kind.Polygon (polygons_in given)
 polygon_made ps given e = ap (λ (parts : List (List (List Place))). polygon parts) e
-  where
-    abbrev polygon : List (List (List Place)) → Shape
-    polygon parts = record { kind = kind.Polygon; parts = parts }
 
 -- ---- no more vertices are kept than were given
 kept_short : (p : Place) (ps : List Place) → length (without_repeats (p ∷ ps)) ≤ suc (length ps)
