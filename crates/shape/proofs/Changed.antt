@@ -1,8 +1,8 @@
 -- A list of which the first i elements were changed one by one, and two lists that were compared one by one.
 --
 -- Changed h f i now then     h sees of each of the first i elements of `now` what f makes of what h sees in `then`; the others stand
-use Rattle.std.proofs.Common.{◌≡◌, ℕ, zero, suc, ◌+◌, ◌<◌, ◌≤◌, List, [], ◌∷◌, length, get_or, set, take, map, refl, sym, ap, ◌∙◌, arith, subst}
-use Rattle.std.proofs.lemmas.List.{get_or-map}
+use Rattle.std.proofs.Common.{◌≡◌, ℕ, zero, suc, ◌+◌, ◌<◌, ◌≤◌, List, [], ◌∷◌, length, get_or, set, take, drop, ◌++◌, map, refl, sym, ap, ◌∙◌, arith, subst}
+use Rattle.std.proofs.lemmas.List.{get_or-map, drop_all, append-nil, take_all}
 
 abbrev pub Changed : {X Y : Type 0} → (X → Y) → (Y → Y) → ℕ → List X → List X → Type 0
 Changed h f zero now then = now ≡ then
@@ -56,3 +56,11 @@ same_more h i xs ys x y l m e k s t = subst (λ (n : ℕ). take n (map h xs) ≡
 pub same_at : {X Y : Type 0} (h : X → Y) (i : ℕ) (xs ys : List X) (x y : X) → i < length xs → i < length ys → x ≡ get_or xs i x → y ≡ get_or ys i y → map h xs ≡ map h ys → h x ≡ h y
 same_at h i xs ys x y l m e k s =
     ap h e ∙ sym (get_or-map h xs i x (h y) l) ∙ ap (λ zs. get_or zs i (h y)) s ∙ get_or-map h ys i y (h y) m ∙ ap h (sym k)
+
+-- ---- a part of a vector that was written and put back
+pub written : {X : Type 0} (n : ℕ) (new old : List X) → length new ≡ length old → n ≡ length old → take n (new ++ drop (length new) old) ≡ new
+written n new old e k =
+    ap (λ (rest : List _). take n (new ++ rest)) (drop_all (length new) old (omega (arith, e))) ∙ ap (λ xs. take n xs) (append-nil new) ∙ take_whole n new (omega (arith, e, k))
+  where
+    take_whole : {X : Type 0} (n : ℕ) (xs : List X) → length xs ≤ n → take n xs ≡ xs
+    take_whole n xs h = take_all n xs h

@@ -1,6 +1,6 @@
 ghost use Rattle.std.specs.Prelude.{◌≡◌, ◌<◌, ◌≤◌, length, flat_map, slice_get, Some, IfOk, IfErr};
 ghost use Rattle.plane_terms.specs.Lists.{Every};
-ghost use Rattle.plane_terms.specs.Shape.{shape_of, two_ends};
+ghost use Rattle.plane_terms.specs.Shape.{shape_of, two_ends, NextDiffer};
 ghost use Rattle.plane_terms.specs.declared.kind.Kind.TheVariants as kind;
 ghost use Rattle.shape.specs.Given.{rings_in, lines_in, IsCountable};
 ghost use Rattle.shape.specs.Faults.{IsFault, IsFlawless};
@@ -11,7 +11,7 @@ use crate::envelope::box_of_line;
 use crate::fault::ShapeFault;
 use crate::same::copy_of_rings;
 use crate::segments::push_paths;
-use crate::vertices::keep_parts;
+use crate::vertices::kept_parts;
 use grid_plane::{GridPoint, NoMemory, Rect, Seg};
 use std::alloc::Global;
 
@@ -23,6 +23,22 @@ pub(crate) struct Line {
     pub(crate) env: Rect,
 }
 
+/// The line of parts of which the vertices are those that are kept.
+fn line_of(alloc: Global, parts: Vec<Vec<GridPoint>>) -> Result<Line, ShapeFault>
+    requires countable { IsCountable (lines_in parts.items) }
+    requires differ { Every NextDiffer (rings_in parts.items) }
+    ensures parts { IfOk result (λ l. l.parts.items ≡ parts.items) }
+    ensures drawn { IfOk result (λ l. IsDrawn (line_shape parts.items) l.segs.items l.env) }
+    ensures flawless { IfOk result (λ _. IsFlawless (line_shape parts.items)) }
+    ensures refused { IfErr result (λ fault. IsFault (line_shape parts.items) fault) }
+{
+    check_line(&parts)?;
+    let mut segs = Vec::new(alloc);
+    push_paths(&mut segs, &parts)?;
+    let env = box_of_line(&parts);
+    Ok(Line { parts, segs, env })
+}
+
 impl Line {
     pub(crate) fn of(alloc: Global, parts: Vec<Vec<GridPoint>>) -> Result<Line, ShapeFault>
         requires { IsCountable (lines_in parts.items) }
@@ -31,13 +47,7 @@ impl Line {
         ensures flawless { IfOk result (λ _. IsFlawless (shape_of kind.Line (lines_in parts.items))) }
         ensures refused { IfErr result (λ fault. IsFault (shape_of kind.Line (lines_in parts.items)) fault) }
     {
-        let mut parts = parts;
-        keep_parts(&mut parts);
-        check_line(&parts)?;
-        let mut segs = Vec::new(alloc);
-        push_paths(&mut segs, &parts)?;
-        let env = box_of_line(&parts);
-        Ok(Line { parts, segs, env })
+        line_of(alloc, kept_parts(parts))
     }
 
     /// The end of this number: of each part the first vertex, then the last.
@@ -55,7 +65,7 @@ impl Line {
     }
 
     pub(crate) fn try_copy(&self, alloc: Global) -> Result<Line, NoMemory>
-        ensures parts { IfOk result (λ l. rings_in l.parts.items ≡ rings_in self.now.parts.items) }
+        ensures parts { IfOk result (λ l. line_shape l.parts.items ≡ line_shape self.now.parts.items) }
         ensures segs { IfOk result (λ l. l.segs.items ≡ self.now.segs.items) }
         ensures env { IfOk result (λ l. l.env ≡ self.now.env) }
     {

@@ -1,7 +1,10 @@
 ghost use Rattle.std.specs.Prelude.{◌≡◌, IfOk, IfErr};
+ghost use Rattle.plane_terms.specs.Lists.{Every};
 ghost use Rattle.plane_terms.specs.Shape.{shape_of};
 ghost use Rattle.plane_terms.specs.declared.kind.Kind.TheVariants as kind;
-ghost use Rattle.shape.specs.Given.{polygons_in, IsCountable};
+ghost use Rattle.shape.specs.Given.{polygons_in, all_rings, IsCountable};
+ghost use Rattle.shape.specs.Kept.{IsClosing};
+ghost use Rattle.shape.specs.Counts.{IsFull};
 ghost use Rattle.shape.specs.Faults.{IsFault, IsFlawless};
 ghost use Rattle.shape.specs.Form.{polygon_shape, IsDrawn};
 
@@ -11,7 +14,7 @@ use crate::fault::ShapeFault;
 use crate::same::copy_of_parts;
 use crate::segments::push_polygons;
 use crate::sweep::check_pairs;
-use crate::vertices::close_parts;
+use crate::vertices::closed_parts;
 use grid_plane::{GridPoint, NoMemory, Rect, Seg};
 use std::alloc::Global;
 
@@ -23,6 +26,23 @@ pub(crate) struct Polygon {
     pub(crate) env: Rect,
 }
 
+/// The polygon of parts of which the vertices are those that are kept.
+fn polygon_of(alloc: Global, parts: Vec<Vec<Vec<GridPoint>>>) -> Result<Polygon, ShapeFault>
+    requires countable { IsCountable (polygons_in parts.items) }
+    requires closing { IsFull (polygon_shape parts.items) → Every IsClosing (all_rings (polygons_in parts.items)) }
+    ensures parts { IfOk result (λ g. g.parts.items ≡ parts.items) }
+    ensures drawn { IfOk result (λ g. IsDrawn (polygon_shape parts.items) g.segs.items g.env) }
+    ensures flawless { IfOk result (λ _. IsFlawless (polygon_shape parts.items)) }
+    ensures refused { IfErr result (λ fault. IsFault (polygon_shape parts.items) fault) }
+{
+    check_polygon(&parts)?;
+    let mut segs = Vec::new(alloc);
+    push_polygons(&mut segs, &parts)?;
+    check_pairs(alloc, &segs)?;
+    let env = box_of_polygon(&parts);
+    Ok(Polygon { parts, segs, env })
+}
+
 impl Polygon {
     pub(crate) fn of(alloc: Global, parts: Vec<Vec<Vec<GridPoint>>>) -> Result<Polygon, ShapeFault>
         requires { IsCountable (polygons_in parts.items) }
@@ -31,18 +51,11 @@ impl Polygon {
         ensures flawless { IfOk result (λ _. IsFlawless (shape_of kind.Polygon (polygons_in parts.items))) }
         ensures refused { IfErr result (λ fault. IsFault (shape_of kind.Polygon (polygons_in parts.items)) fault) }
     {
-        let mut parts = parts;
-        close_parts(&mut parts);
-        check_polygon(&parts)?;
-        let mut segs = Vec::new(alloc);
-        push_polygons(&mut segs, &parts)?;
-        check_pairs(alloc, &segs)?;
-        let env = box_of_polygon(&parts);
-        Ok(Polygon { parts, segs, env })
+        polygon_of(alloc, closed_parts(parts))
     }
 
     pub(crate) fn try_copy(&self, alloc: Global) -> Result<Polygon, NoMemory>
-        ensures parts { IfOk result (λ g. polygons_in g.parts.items ≡ polygons_in self.now.parts.items) }
+        ensures parts { IfOk result (λ g. polygon_shape g.parts.items ≡ polygon_shape self.now.parts.items) }
         ensures segs { IfOk result (λ g. g.segs.items ≡ self.now.segs.items) }
         ensures env { IfOk result (λ g. g.env ≡ self.now.env) }
     {

@@ -207,11 +207,14 @@ impl Shape {
     pub fn try_copy(&self, alloc: Global) -> Result<Shape, NoMemory>
         ensures { IfOk result (λ s. s ≡ self.now) }
     {
-        let form = match &self.form {
-            Form::Point(place) => Form::Point(*place),
-            Form::Line(line) => Form::Line(line.try_copy(alloc)?),
-            Form::Polygon(polygon) => Form::Polygon(polygon.try_copy(alloc)?),
-        };
-        Ok(Shape { form })
+        match &self.form {
+            Form::Point(place) => Ok(Shape::point(*place)),
+            Form::Line(line) => Ok(Shape {
+                form: Form::Line(line.try_copy(alloc)?),
+            }),
+            Form::Polygon(polygon) => Ok(Shape {
+                form: Form::Polygon(polygon.try_copy(alloc)?),
+            }),
+        }
     }
 }

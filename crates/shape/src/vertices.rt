@@ -30,8 +30,7 @@ fn close(ring: &mut Vec<GridPoint>)
     open(ring);
 }
 
-/// The vertices of a line that are kept.
-pub(crate) fn keep_parts(parts: &mut [Vec<GridPoint>])
+fn keep_parts(parts: &mut [Vec<GridPoint>])
     ensures { rings_in parts.new ≡ rings_by kind.Line (rings_in parts.old) }
 {
     for part in parts.iter_mut() {
@@ -47,11 +46,28 @@ fn close_rings(rings: &mut [Vec<GridPoint>])
     }
 }
 
-/// The vertices of a polygon that are kept.
-pub(crate) fn close_parts(parts: &mut [Vec<Vec<GridPoint>>])
+fn close_parts(parts: &mut [Vec<Vec<GridPoint>>])
     ensures { polygons_in parts.new ≡ parts_by kind.Polygon (polygons_in parts.old) }
 {
     for part in parts.iter_mut() {
         close_rings(part);
     }
+}
+
+/// The vertices of a line that are kept.
+pub(crate) fn kept_parts(parts: Vec<Vec<GridPoint>>) -> Vec<Vec<GridPoint>>
+    ensures { rings_in result.items ≡ rings_by kind.Line (rings_in parts.items) }
+{
+    let mut kept = parts;
+    keep_parts(&mut kept);
+    kept
+}
+
+/// The vertices of a polygon that are kept.
+pub(crate) fn closed_parts(parts: Vec<Vec<Vec<GridPoint>>>) -> Vec<Vec<Vec<GridPoint>>>
+    ensures { polygons_in result.items ≡ parts_by kind.Polygon (polygons_in parts.items) }
+{
+    let mut closed = parts;
+    close_parts(&mut closed);
+    closed
 }
