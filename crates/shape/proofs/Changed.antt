@@ -2,7 +2,7 @@
 --
 -- Changed h f i now then     h sees of each of the first i elements of `now` what f makes of what h sees in `then`; the others stand
 use Rattle.std.proofs.Common.{◌≡◌, ℕ, zero, suc, ◌+◌, ◌<◌, ◌≤◌, List, [], ◌∷◌, length, get_or, set, take, drop, ◌++◌, map, refl, sym, ap, ◌∙◌, arith, subst}
-use Rattle.std.proofs.lemmas.List.{get_or-map, drop_all, append-nil, take_all}
+use Rattle.std.proofs.lemmas.List.{get_or-map, length-map, drop_all, append-nil, take_all}
 
 abbrev pub Changed : {X Y : Type 0} → (X → Y) → (Y → Y) → ℕ → List X → List X → Type 0
 Changed h f zero now then = now ≡ then
@@ -64,3 +64,7 @@ written n new old e k =
   where
     take_whole : {X : Type 0} (n : ℕ) (xs : List X) → length xs ≤ n → take n xs ≡ xs
     take_whole n xs h = take_all n xs h
+
+pub lengths : {X Y : Type 0} (h : X → Y) (f : Y → Y) (new now old : List X) → map h new ≡ map f (map h now) → now ≡ old → length new ≡ length old
+lengths h f new now old e k =
+    omega (arith, ap (λ ys. length ys) e, length-map new h, length-map (map h now) f, length-map now h, ap (λ xs. length xs) k)

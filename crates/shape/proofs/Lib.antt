@@ -10,4 +10,5 @@ pub mod Held
 pub mod Made
 pub mod Opening
 pub mod Places
+pub mod Results
 pub mod Shorts

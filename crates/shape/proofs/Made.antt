@@ -240,3 +240,22 @@ pair_fault s k f (TooMany n) h = absurd h
 pair_fault s k f (Cross i j) h = (none_few s f, none_many s f, k, h)
 pair_fault s k f (Along i j) h = (none_few s f, none_many s f, k, h)
 pair_fault s k f NoMemory h = tt
+
+pub line_flawless : (ps : List Ring) → IsFull (line_shape ps) → IsFlawless (line_shape ps)
+line_flawless ps f = full_flawless (line_shape ps) f (λ k. absurd (no_polygon k))
+  where
+    no_polygon : kind.Line ≡ kind.Polygon → ⊥
+    no_polygon e = cc
+
+-- ---- how many segments
+path_count : (p : Place) (ps : List Place) → length (path (p ∷ ps)) ≡ length ps
+path_count p [] = refl
+path_count p (q ∷ qs) = omega (arith, path_count q qs)
+
+closed_count : (vs : List Place) → length (closed_path vs) ≡ length vs
+closed_count [] = refl
+closed_count (p ∷ ps) = omega (arith, path_count p (ps ++ p ∷ []), length-append ps (p ∷ []))
+
+pub segments_count : (rs : List (List Place)) → length (flat_map closed_path rs) ≡ length (all_vertices rs)
+segments_count [] = refl
+segments_count (r ∷ rs) = omega (arith, length-append (closed_path r) (flat_map closed_path rs), length-append r (all_vertices rs), closed_count r, segments_count rs)

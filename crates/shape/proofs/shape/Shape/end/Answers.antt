@@ -5,12 +5,13 @@ use Rattle.plane_terms.specs.Shape.{Shape, ends_of, two_ends}
 use Rattle.shape.specs.Given.{rings_in}
 use Rattle.shape.specs.Form.{shape_in, IsFormed}
 use Rattle.shape.specs.declared.form.Form.{Form}
+use Rattle.shape.specs.declared.form.Form.TheVariants as form
 use Rattle.shape.proofs.Held.{held_ends, held_rings}
 use Rattle.shape.proofs.shape.Shape.end.Goals as goal
 
 pub end-requires-clause-long : goal.end-requires-clause-long
 end-requires-clause-long c =
-    let d : IsFormed _ = subst (λ (f : Form). IsFormed f) c.in-Line.is c.self.invariant in
+    let d : IsFormed (form.Line c.in-Line.line) = subst (λ (f : Form). IsFormed f) c.in-Line.is c.self.invariant in
     held_rings c.in-Line.line.parts.items d.valid
 
 pub end-requires-clause-within : goal.end-requires-clause-within
