@@ -1,14 +1,13 @@
 -- Bad pairs, by what the segments share.
-use Rattle.std.proofs.Common.{◌≡◌, ℕ, zero, suc, ◌<◌, ℤ, ◌≤ℤ◌, ◌<ℤ◌, Bool, true, false, ◌&&◌, ◌⊎◌, inl, inr, List, [], ◌∷◌, length, Some, refl, sym, ap, ◌∙◌, arith, int_le}
+use Rattle.std.proofs.Common.{◌≡◌, ℕ, zero, suc, ℤ, ◌≤ℤ◌, ◌<ℤ◌, Bool, true, false, ◌&&◌, ◌⊎◌, inl, inr, List, [], ◌∷◌, Some, refl, ap, arith, int_le}
 use Rattle.std.proofs.lemmas.Int.{ints}
 use Rattle.std.specs.List.{slice_get}
-use Rattle.number_steps.proofs.Ring.{int_tests}
 use Rattle.plane_terms.specs.Lists.{Every, EveryPair}
 use Rattle.plane_terms.specs.Point.{Point}
 use Rattle.plane_terms.specs.Rectangle.{Rectangle, RectHolds, RectsMeet, rects_meet}
-use Rattle.plane_terms.specs.Segment.{Segment, IsSegment, SharePoint, Overlap, OnSegment, MeetAtEnds, IsEndOf, box_of}
+use Rattle.plane_terms.specs.Segment.{Segment, IsSegment, SharePoint, Overlap, OnSegment, IsEndOf, box_of}
 use Rattle.plane_terms.specs.Shape.{AreSimple}
-use Rattle.grid_plane.specs.Share.{share_of, AreSame, CrossOnce, TouchOnce}
+use Rattle.grid_plane.specs.Share.{share_of, AreSame}
 use Rattle.grid_plane.specs.declared.share.Share.{Share}
 use Rattle.grid_plane.specs.declared.share.Share.TheVariants.{Nothing, Along, Cross, Touch}
 use Rattle.grid_plane.proofs.Decides.{Means, share_of-means, means_one, end_same}

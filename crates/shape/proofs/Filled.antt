@@ -1,5 +1,5 @@
 -- Lines and polygons of which no ring is lacking or too short.
-use Rattle.std.proofs.Common.{◌≡◌, ◌≢◌, ℕ, suc, ◌+◌, ◌<◌, ◌≤◌, Bool, true, false, ◌||◌, ◌⊎◌, inl, inr, List, [], ◌∷◌, ◌++◌, length, get_or, Vec, Option, Some, None, refl, sym, ap, subst, ◌∙◌, arith}
+use Rattle.std.proofs.Common.{◌≡◌, ℕ, suc, ◌+◌, ◌≤◌, true, false, inl, inr, List, [], ◌∷◌, length, Vec, Some, None, refl, sym, ap, subst, ◌∙◌, arith}
 use Rattle.std.proofs.lemmas.List.{length-map}
 use Rattle.std.specs.Bool.{◌==◌}
 use Rattle.std.specs.Global.{Global}
@@ -8,7 +8,7 @@ use Rattle.plane_terms.specs.Point.{Place}
 use Rattle.plane_terms.specs.Shape.{Shape, rings_of, vertices_of}
 use Rattle.plane_terms.specs.declared.kind.Kind.TheVariants as kind
 use Rattle.shape.specs.Given.{Ring, rings_in, lines_in, polygons_in, all_rings, all_vertices}
-use Rattle.shape.specs.Faults.{least, IsShort, LacksRings, IsFirstOf, IsFew, IsMany, NoneFew, NoneMany}
+use Rattle.shape.specs.Faults.{least, IsShort, LacksRings, IsFirstOf, IsFew, NoneFew, NoneMany}
 use Rattle.shape.specs.Counts.{first_short, has_bare_part, IsFull}
 use Rattle.shape.specs.Form.{line_shape, polygon_shape}
 use Rattle.shape.proofs.Shorts.{short_first, none_short, none_first, long_none, bare_some, bare_none}

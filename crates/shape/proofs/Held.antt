@@ -4,7 +4,7 @@ use Rattle.std.proofs.lemmas.List.{length-map}
 use Rattle.plane_terms.specs.Lists.{Every, SomeOf}
 use Rattle.plane_terms.specs.Point.{Place}
 use Rattle.plane_terms.specs.Rectangle.{Rectangle, rect_at}
-use Rattle.plane_terms.specs.Shape.{Shape, point_shape, envelope_of, box_from, box_of_places, ends_of, two_ends, IsShape, IsRing, NextDiffer}
+use Rattle.plane_terms.specs.Shape.{Shape, point_shape, envelope_of, box_from, box_of_places, ends_of, two_ends, IsShape, IsRing}
 use Rattle.plane_terms.specs.declared.kind.Kind.TheVariants as kind
 use Rattle.std.specs.List.{flat_map}
 use Rattle.shape.specs.Given.{Ring, rings_in, lines_in, polygons_in, all_rings, all_vertices}

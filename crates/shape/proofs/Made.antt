@@ -1,25 +1,24 @@
 -- What the parts make is a shape, and has no fault.
-use Rattle.std.proofs.Common.{◌≡◌, ◌≢◌, ℕ, suc, ◌+◌, ◌<◌, ◌≤◌, Bool, true, false, cond, if◌then◌else◌, ◌⊎◌, inl, inr, List, [], ◌∷◌, ◌++◌, length, map, reverse, Vec, refl, sym, ap, subst, ◌∙◌, arith, length-append, pos}
+use Rattle.std.proofs.Common.{◌≡◌, ℕ, suc, ◌≤◌, Bool, true, false, if◌then◌else◌, inl, inr, List, [], ◌∷◌, ◌++◌, length, map, reverse, Vec, refl, sym, ap, subst, ◌∙◌, arith, length-append}
 use Rattle.std.proofs.lemmas.List.{length-map, map-append, reverse-append, reverse-reverse, length-reverse}
 use Rattle.std.specs.Global.{Global}
 use Rattle.std.specs.List.{flat_map}
 use Rattle.plane_terms.specs.Lists.{Every, EveryPair, SomeOf}
 use Rattle.plane_terms.specs.Point.{Place, IsInReach, same_place}
 use Rattle.plane_terms.specs.Rectangle.{Rectangle}
-use Rattle.plane_terms.specs.Segment.{Segment, Overlap}
-use Rattle.plane_terms.specs.Shape.{Shape, shape_of, rings_of, vertices_of, segments_of, envelope_of, without_repeats, skip_equal, opened, ring_by, AreUnlike, NextDiffer, first_place, path, closed_path, IsPart, IsRing, IsShape, AreSimple, HasParts}
+use Rattle.plane_terms.specs.Segment.{Segment}
+use Rattle.plane_terms.specs.Shape.{Shape, shape_of, rings_of, vertices_of, segments_of, envelope_of, without_repeats, skip_equal, opened, ring_by, AreUnlike, NextDiffer, path, closed_path, IsPart, AreSimple}
 use Rattle.plane_terms.specs.declared.kind.Kind.{Kind}
 use Rattle.plane_terms.specs.declared.kind.Kind.TheVariants as kind
-use Rattle.grid_plane.specs.Share.{CrossOnce}
 use Rattle.shape.specs.Given.{Ring, rings_in, lines_in, polygons_in, all_rings, all_vertices, IsCountable}
 use Rattle.shape.specs.Kept.{rings_by, parts_by, IsClosing}
-use Rattle.shape.specs.Faults.{least, IsShort, LacksRings, IsFew, IsMany, NoneFew, NoneMany, IsPair, IsFirstPair, AreBad, IsFault, IsFlawless}
+use Rattle.shape.specs.Faults.{IsPair, AreBad, IsFault, IsFlawless}
 use Rattle.shape.specs.Counts.{IsFull}
 use Rattle.shape.specs.Form.{line_shape, polygon_shape, IsDrawn}
 use Rattle.shape.specs.Sweep.{IsPairFault}
 use Rattle.shape.specs.declared.fault.ShapeFault.{ShapeFault}
 use Rattle.shape.specs.declared.fault.ShapeFault.TheVariants.{TooFew, TooMany, Cross, Along, NoMemory}
-use Rattle.shape.proofs.Filled.{line_rings, line_count, line_vertices, none_few, none_many}
+use Rattle.shape.proofs.Filled.{line_rings, none_few, none_many}
 use Rattle.shape.proofs.Places.{is_same, same_turned}
 
 -- ---- the parts that were kept make the shape
@@ -40,6 +39,7 @@ polygon parts = record { kind = kind.Polygon; parts = parts }
 pub line_made : (ps given : List Ring) → rings_in ps ≡ rings_by kind.Line (rings_in given) → line_shape ps ≡ shape_of kind.Line (lines_in given)
 line_made ps given e =
     ap (λ (parts : List (List (List Place))). line parts) (line_parts ps ∙ ap (λ rs. map (λ (r : List Place). r ∷ []) rs) e ∙ sym (kept_lines (ring_by kind.Line) given))
+
 pub polygon_made : (ps given : List (Vec Ring Global)) → polygons_in ps ≡ parts_by kind.Polygon (polygons_in given) → polygon_shape ps ≡ shape_of kind.Polygon (polygons_in given)
 polygon_made ps given e = ap (λ (parts : List (List (List Place))). polygon parts) e
 

@@ -1,12 +1,11 @@
 -- Places, and the vertices that are kept.
-use Rattle.std.proofs.Common.{◌≡◌, ◌≢◌, ℤ, Bool, true, false, cond, ◌&&◌, List, [], ◌∷◌, arith, refl, sym, ap, ◌∙◌, int_eq}
+use Rattle.std.proofs.Common.{◌≡◌, ℤ, Bool, true, false, cond, ◌&&◌, List, [], ◌∷◌, arith, refl, ap, ◌∙◌, int_eq}
 use Rattle.std.proofs.lemmas.Int.{ints}
-use Rattle.std.proofs.lemmas.Bool.{false≢true}
 use Rattle.std.specs.Bool.{Decides}
 use Rattle.std.specs.List.{dedup, dedup_from}
 use lib.Pointwise.{pointwise}
 use Rattle.plane_terms.specs.Point.{Place, same_place}
-use Rattle.plane_terms.specs.Shape.{without_repeats, AreUnlike, NextDiffer}
+use Rattle.plane_terms.specs.Shape.{without_repeats}
 
 same_by_x : (p : Place) → same_place p p ≡ true
 same_by_x p = numbers p.x p.y

@@ -1,5 +1,5 @@
 -- The first ring that is too short.
-use Rattle.std.proofs.Common.{◌≡◌, ◌≢◌, ℕ, zero, suc, ◌+◌, ◌<◌, ◌≤◌, List, [], ◌∷◌, ◌++◌, length, Option, Some, None, Bool, true, false, cond, ◌||◌, nat_lt, refl, sym, ap, ◌∙◌, subst, arith, ◌⊎◌, inl, inr, get_or, drop, Vec, length-append}
+use Rattle.std.proofs.Common.{◌≡◌, ℕ, zero, suc, ◌+◌, ◌<◌, ◌≤◌, List, [], ◌∷◌, ◌++◌, length, Option, Some, None, Bool, true, false, cond, nat_lt, refl, sym, ap, ◌∙◌, subst, arith, inl, inr, get_or, drop, Vec, length-append}
 use Rattle.std.proofs.lemmas.List.{length-map}
 use Rattle.std.specs.Global.{Global}
 use Rattle.std.specs.Option.{is_some}
@@ -9,7 +9,7 @@ use Rattle.plane_terms.specs.Point.{Place}
 use Rattle.plane_terms.specs.declared.kind.Kind.{Kind}
 use Rattle.shape.specs.Faults.{least, IsShort, IsFirstOf}
 use Rattle.shape.proofs.Dropped.{item_dropped}
-use Rattle.shape.specs.Counts.{first_short, has_no_ring, has_bare_part}
+use Rattle.shape.specs.Counts.{first_short, has_bare_part}
 
 lt_true : (a b : ℕ) → nat_lt a b ≡ true → a < b
 lt_true a b e = grind arith

@@ -1,6 +1,6 @@
 use Rattle.std.proofs.Common.{sym, ◌∙◌, arith, ap, length, List}
 use Rattle.plane_terms.specs.Point.{Place}
-use Rattle.shape.proofs.Filled.{line_count, line_vertices, line_empty, line_few, line_none_few, line_many, line_full}
+use Rattle.shape.proofs.Filled.{line_count, line_vertices, line_few, line_none_few, line_many, line_full}
 use Rattle.shape.proofs.counts.check_line.Goals as goal
 
 pub first_short-requires : goal.first_short-requires

@@ -1,4 +1,4 @@
-use Rattle.std.proofs.Common.{◌≡◌, ◌∙◌, ap, subst, List, ◌++◌, flat_map}
+use Rattle.std.proofs.Common.{◌∙◌, ap, subst, List, ◌++◌, flat_map}
 use Rattle.plane_terms.specs.Lists.{Every}
 use Rattle.plane_terms.specs.Point.{IsInReach}
 use Rattle.plane_terms.specs.Segment.{Segment}

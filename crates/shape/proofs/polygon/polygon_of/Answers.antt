@@ -1,4 +1,4 @@
-use Rattle.std.proofs.Common.{◌≡◌, ◌∙◌, ap, sym, subst, List, Vec, ◌++◌, flat_map, length, arith, ℕ, refl}
+use Rattle.std.proofs.Common.{◌∙◌, ap, sym, subst, List, Vec, ◌++◌, flat_map, length, arith, ℕ, refl}
 use Rattle.std.specs.Global.{Global}
 use Rattle.plane_terms.specs.Lists.{Every, EveryPair}
 use Rattle.plane_terms.specs.Point.{IsInReach}

@@ -1,4 +1,3 @@
-use Rattle.std.proofs.Common.{◌∙◌, sym}
 use Rattle.number_steps.proofs.Tests.{says}
 use Rattle.shape.proofs.Places.{same_lists}
 use Rattle.shape.proofs.same.are_same_vertices.Goals as goal

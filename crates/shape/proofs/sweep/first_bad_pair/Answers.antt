@@ -1,4 +1,4 @@
-use Rattle.std.proofs.Common.{◌≡◌, ◌∙◌, ap, sym, subst, List, None, Option}
+use Rattle.std.proofs.Common.{◌∙◌, ap, sym, subst, List, None, Option}
 use Rattle.std.proofs.lemmas.List.Elements.{recursion_from_All, All-from_recursion}
 use Rattle.std.proofs.lemmas.List.Sorted.{All-permutation}
 use Rattle.std.specs.List.Sorted.{IsPermutation}

@@ -1,4 +1,4 @@
-use Rattle.std.proofs.Common.{◌≡◌, ◌∙◌, ap, sym, arith, length, ◌<◌, ◌≤◌, Vec, get_or, List}
+use Rattle.std.proofs.Common.{◌∙◌, ap, sym, arith, Vec, get_or, List}
 use Rattle.std.specs.Global.{Global}
 use Rattle.std.specs.Vec.{with_items}
 use Rattle.plane_terms.specs.Shape.{ring_by}

@@ -1,4 +1,4 @@
-use Rattle.std.proofs.Common.{◌∙◌, ap, sym, arith, length, ◌<◌, ◌≤◌}
+use Rattle.std.proofs.Common.{◌∙◌, ap, sym, arith}
 use Rattle.plane_terms.specs.Shape.{ring_by}
 use Rattle.plane_terms.specs.declared.kind.Kind.TheVariants as kind
 use Rattle.shape.specs.Given.{Ring}

@@ -1,4 +1,4 @@
-use Rattle.std.proofs.Common.{◌∙◌, ap, arith, length, List}
+use Rattle.std.proofs.Common.{◌∙◌, ap, arith, List}
 use Rattle.plane_terms.specs.Shape.{ring_by}
 use Rattle.plane_terms.specs.declared.kind.Kind.TheVariants as kind
 use Rattle.shape.specs.Given.{Ring, rings_in}

@@ -1,4 +1,4 @@
-use Rattle.std.proofs.Common.{arith, ◌/◌, ◌%◌, ◌*◌, ◌+◌, ◌≡◌, ◌<◌, ap, ◌∙◌, get_or, ◌-◌, length, ℕ}
+use Rattle.std.proofs.Common.{arith, ◌/◌, ◌*◌, ◌+◌, ◌≡◌, ap, ◌∙◌, get_or, ◌-◌, length, ℕ}
 use Rattle.shape.proofs.Ends.{end_within, part_long, end_first, end_last}
 use Rattle.shape.proofs.line.Line.end.Goals as goal
 

@@ -1,4 +1,4 @@
-use Rattle.std.proofs.Common.{◌≡◌, ◌∙◌, ap, subst}
+use Rattle.std.proofs.Common.{◌∙◌, ap, subst}
 use Rattle.plane_terms.specs.Shape.{Shape}
 use Rattle.shape.specs.Faults.{IsFault, IsFlawless}
 use Rattle.shape.specs.Form.{line_shape}

@@ -1,9 +1,4 @@
-use Rattle.std.proofs.Common.{◌≡◌, ◌∙◌, ap, subst}
-use Rattle.plane_terms.specs.Shape.{Shape}
-use Rattle.shape.specs.Faults.{IsFault, IsFlawless}
-use Rattle.shape.specs.Form.{polygon_shape}
-use Rattle.shape.proofs.Made.{polygon_made, polygon_countable, polygon_closes}
-use Rattle.shape.proofs.Results.{if_ok, if_err}
+use Rattle.shape.proofs.Made.{polygon_countable, polygon_closes}
 use Rattle.shape.proofs.polygon.Polygon.of.Goals as goal
 
 pub polygon_of-requires-clause-countable : goal.polygon_of-requires-clause-countable

@@ -1,8 +1,7 @@
-use Rattle.std.proofs.Common.{◌≡◌, ◌∙◌, sym, ap, subst, arith, length, List, Some}
-use Rattle.std.specs.List.{slice_get, flat_map}
+use Rattle.std.proofs.Common.{◌∙◌, sym, ap, subst, arith, length, List}
+use Rattle.std.specs.List.{slice_get}
 use Rattle.plane_terms.specs.Point.{Place}
-use Rattle.plane_terms.specs.Shape.{Shape, ends_of, two_ends}
-use Rattle.shape.specs.Given.{rings_in}
+use Rattle.plane_terms.specs.Shape.{ends_of}
 use Rattle.shape.specs.Form.{shape_in, IsFormed}
 use Rattle.shape.specs.declared.form.Form.{Form}
 use Rattle.shape.specs.declared.form.Form.TheVariants as form

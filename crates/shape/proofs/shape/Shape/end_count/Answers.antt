@@ -1,4 +1,4 @@
-use Rattle.std.proofs.Common.{◌≡◌, ◌∙◌, sym, ap, subst, arith, length}
+use Rattle.std.proofs.Common.{◌∙◌, sym, ap, subst, arith, length}
 use Rattle.plane_terms.specs.Shape.{Shape, ends_of}
 use Rattle.shape.specs.Form.{shape_in, IsFormed}
 use Rattle.shape.specs.declared.form.Form.{Form}

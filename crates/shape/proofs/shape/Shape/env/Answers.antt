@@ -1,4 +1,4 @@
-use Rattle.std.proofs.Common.{◌≡◌, ◌∙◌, sym, ap}
+use Rattle.std.proofs.Common.{◌∙◌, sym, ap}
 use Rattle.plane_terms.specs.Shape.{envelope_of}
 use Rattle.shape.specs.Form.{shape_in}
 use Rattle.shape.specs.declared.form.Form.{Form}

@@ -1,7 +1,6 @@
-use Rattle.std.proofs.Common.{◌≡◌, ◌∙◌, sym, ap}
+use Rattle.std.proofs.Common.{◌∙◌, sym, ap}
 use Rattle.shape.specs.Given.{rings_in}
 use Rattle.shape.specs.Form.{shape_in}
-use Rattle.shape.specs.declared.form.Form.{Form}
 use Rattle.shape.proofs.Held.{same_lines, same_rings}
 use Rattle.shape.proofs.shape.Shape.same.Goals as goal
 
