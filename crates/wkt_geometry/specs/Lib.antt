@@ -1,0 +1,4 @@
+pub mod Meanings
+pub mod States
+pub mod Faults
+pub mod Appended
