@@ -1,4 +1,3 @@
 pub mod Meanings
 pub mod States
 pub mod Faults
-pub mod Appended

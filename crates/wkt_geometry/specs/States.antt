@@ -1,15 +1,13 @@
 -- What the states of the code stand for.
 --
--- lists_of, parts_of               vectors of vectors, as lists of lists
 -- geometry_of, group_of, owner_of, state_of, cause_of     the value of the table that the code's value is
 -- Gives view r read                the result r, seen by view, is what reading gives, unless memory ran out
 -- number_at t                      the number that a token gives where one is expected
-use Rattle.std.specs.Prelude.{ℤ, ◌≡◌, List, Vec, map, Result, Ok, Err}
-use Rattle.std.specs.Global.{Global}
-use Rattle.plane_terms.specs.Point.{Place}
+use Rattle.std.specs.Prelude.{ℤ, ◌≡◌, Result, Ok, Err}
 use Rattle.wkt_terms.specs.Grammar as grammar
 use Rattle.wkt_terms.specs.Numerals as numerals
 use Rattle.wkt_terms.specs.Tokens as tokens
+use Rattle.wkt_steps.specs.Seen.{lists_of, parts_of}
 use Rattle.wkt_steps.specs.Steps as steps
 use Rattle.wkt_geometry.specs.declared.fault.Cause.{Cause}
 use Rattle.wkt_geometry.specs.declared.fault.Cause.TheVariants as cause
@@ -23,15 +21,6 @@ use Rattle.wkt_geometry.specs.declared.state.Owner.{Owner}
 use Rattle.wkt_geometry.specs.declared.state.Owner.TheVariants as owner
 use Rattle.wkt_geometry.specs.declared.state.State.{State}
 use Rattle.wkt_geometry.specs.declared.state.State.TheVariants as state
-
-abbrev pub Ring : Type 0
-Ring = Vec Place Global
-
-abbrev pub lists_of : List Ring → List (List Place)
-lists_of lists = map (λ list. list.items) lists
-
-abbrev pub parts_of : List (Vec Ring Global) → List (List (List Place))
-parts_of parts = map (λ part. lists_of part.items) parts
 
 abbrev pub geometry_of : Geometry → grammar.Geometry
 geometry_of (geometry.Point p) = grammar.APoint p

@@ -4,7 +4,8 @@ ghost use Rattle.text_numbers.specs.Numbers.{meant};
 ghost use Rattle.wkt_terms.specs.Tokens as tokens;
 ghost use Rattle.wkt_steps.specs.Steps as steps;
 ghost use Rattle.wkt_geometry.specs.Meanings.{token_meant};
-ghost use Rattle.wkt_geometry.specs.States.{Gives, IsNumberAt, lists_of, parts_of, group_of, owner_of, state_of};
+ghost use Rattle.wkt_steps.specs.Seen.{lists_of, parts_of};
+ghost use Rattle.wkt_geometry.specs.States.{Gives, IsNumberAt, group_of, owner_of, state_of};
 
 use crate::fault::{Cause, Stop};
 use crate::geometry::Geometry;
