@@ -1,9 +1,8 @@
 -- What reading a text gives.
 --
 -- Keeps text rest s     what the loop keeps: the text was read up to rest, and this led to the state s
-use Rattle.std.proofs.Common.{ℕ, ◌≡◌, ◌<◌, ◌≤◌, ◌-◌, List, [], ◌∷◌, length, Result, Ok, Err, Option, Some, None, MatchResult, refl, sym, ap, ◌∙◌, subst, arith}
+use Rattle.std.proofs.Common.{ℕ, ◌≡◌, ◌<◌, ◌≤◌, ◌-◌, List, [], ◌∷◌, length, Result, Ok, Err, Option, Some, None, MatchResult, refl, sym, subst, arith}
 use Rattle.text_terms.specs.Fields.{skip_blanks}
-use Rattle.wkt_terms.specs.Faults.{FirstFault}
 use Rattle.wkt_terms.specs.Grammar as grammar
 use Rattle.wkt_terms.specs.Grammar.{IsWkt}
 use Rattle.wkt_terms.specs.Tokens.{End, token_at, behind_token}

@@ -1,14 +1,18 @@
 -- Text that is appended piece by piece.
 --
 -- joined     what was appended, and then the rest
+-- failed     what `?` hands on
 -- cut        a piece that was cut short is a front of what it begins
 -- start, more, done, stopped     the same of a loop: before it, a piece more, at its end, and where a piece is cut short
-use Rattle.std.proofs.Common.{ℕ, ◌≡◌, List, [], ◌∷◌, ◌++◌, map, length, Result, Ok, Err, refl, sym, ap, ◌∙◌, append_assoc, append-nil, arith}
+use Rattle.std.proofs.Common.{ℕ, suc, ◌≡◌, ◌<◌, ◌≤◌, ◌+◌, ◌-◌, List, [], ◌∷◌, ◌++◌, map, length, take, drop, get_or, Result, Ok, Err, refl, sym, ap, ◌∙◌, subst, append_assoc, append-nil, add-one, arith}
+use Rattle.std.proofs.Math.Seq.{drop-cons}
+use Rattle.std.proofs.lemmas.Grind.{common_steps}
+use Rattle.std.specs.Prelude.{IsErr, codes}
 use Rattle.plane_terms.specs.Point.{Place}
 use Rattle.text_terms.specs.Wkt.{listed}
 use Rattle.wkt_terms.specs.Grammar.{ALine, Lines, APolygon, Polygons}
 use Rattle.wkt_terms.specs.Shapes.{closed, of_lines, of_polygons}
-use Rattle.wkt_terms.specs.Written.{place_text, bracketed, lists_text, written}
+use Rattle.wkt_terms.specs.Written.{place_text, bracketed, list_text, lists_text, written}
 use Rattle.wkt_steps.specs.Commas.{comma_texts}
 use Rattle.wkt_steps.proofs.Written.{listed_items}
 use Rattle.wkt_writer.specs.Appended.{Pushed, Appends}
@@ -54,6 +58,94 @@ then_cut old mid new a b e q =
       },
     )
 
-pub joined : {X E : Type 0} (r : Result X E) (old mid new a b : List ℕ) → mid ≡ old ++ a → Appends r mid new b → Appends r old new (a ++ b)
-joined (Ok x) old mid new a b e h = h ∙ (ap (λ t. t ++ b) e ∙ append_assoc old a b)
-joined (Err x) old mid new a b e h = then_cut old mid new a b e h
+-- a call that failed, as `?` hands it on
+pub failed : {X E : Type 0} (r : Result X E) (old new text t : List ℕ) → IsErr r → text ≡ t → IsCut old new t → Appends r old new text
+failed (Ok x) old new text t h e q = absurd cc
+failed (Err x) old new text t h e q = subst (λ (u : List ℕ). IsCut old new u) (sym e) q
+
+-- ---- lists with commas
+
+abbrev comma : List ℕ
+comma = 44 ∷ 32 ∷ []
+
+rest_is : {A : Type 0} (y : A) (ys : List A) → take (length (y ∷ ys) - 1) (drop 1 (y ∷ ys)) ≡ ys
+rest_is y ys = grind (arith, common_steps)
+
+pub listed_at : {A : Type 0} (f : A → List ℕ) (xs : List A) (x : A) → 1 ≤ length xs → x ≡ get_or xs 0 x → listed (map f xs) ≡ f x ++ comma_texts f (take (length xs - 1) (drop 1 xs))
+listed_at f [] x some is = absurd (omega arith)
+listed_at f (y ∷ ys) x some is = listed_items f y ys ∙ (ap (λ v. f v ++ comma_texts f ys) (sym is) ∙ ap (λ vs. f x ++ comma_texts f vs) (sym (rest_is y ys)))
+
+-- the same of a view of the items
+pub listed_by : {A B : Type 0} (f : B → List ℕ) (g : A → B) (xs : List A) (x : A) → 1 ≤ length xs → x ≡ get_or xs 0 x → listed (map f (map g xs)) ≡ f (g x) ++ comma_texts f (map g (take (length xs - 1) (drop 1 xs)))
+listed_by f g [] x some is = absurd (omega arith)
+listed_by f g (y ∷ ys) x some is = listed_items f (g y) (map g ys) ∙ (ap (λ v. f (g v) ++ comma_texts f (map g ys)) (sym is) ∙ ap (λ vs. f (g x) ++ comma_texts f (map g vs)) (sym (rest_is y ys)))
+
+pub commas_at : {A : Type 0} (f : A → List ℕ) (xs : List A) (i : ℕ) (x : A) → i < length xs → x ≡ get_or xs i x → comma_texts f (drop i xs) ≡ comma ++ (f x ++ comma_texts f (drop (i + 1) xs))
+commas_at f xs i x below is = ap (comma_texts f) (drop-cons xs i x below) ∙ (ap (λ v. comma ++ (f v ++ comma_texts f (drop (suc i) xs))) (sym is) ∙ ap (λ k. comma ++ (f x ++ comma_texts f (drop k xs))) (sym add-one))
+
+pub commas_by : {A B : Type 0} (f : B → List ℕ) (g : A → B) (xs : List A) (i : ℕ) (x : A) → i < length xs → x ≡ get_or xs i x → comma_texts f (map g (drop i xs)) ≡ comma ++ (f (g x) ++ comma_texts f (map g (drop (i + 1) xs)))
+commas_by f g xs i x below is = ap (λ vs. comma_texts f (map g vs)) (drop-cons xs i x below) ∙ (ap (λ v. comma ++ (f (g v) ++ comma_texts f (map g (drop (suc i) xs)))) (sym is) ∙ ap (λ k. comma ++ (f (g x) ++ comma_texts f (map g (drop k xs)))) (sym add-one))
+
+-- the comma before an item was cut short, or the item was
+pub comma_cut : (old now new text left a next : List ℕ) → left ≡ comma ++ (a ++ next) → Pushed old now text left → IsCut now new comma → IsCut old new text
+comma_cut old now new text left a next e p q = stopped old now new text comma (a ++ next) (subst (λ (t : List ℕ). Pushed old now text t) e p) q
+
+pub item_cut : (old now mid new text left a next : List ℕ) → left ≡ comma ++ (a ++ next) → Pushed old now text left → mid ≡ now ++ comma → IsCut mid new a → IsCut old new text
+item_cut old now mid new text left a next e p m q = stopped old mid new text a next (more old now mid text comma (a ++ next) (subst (λ (t : List ℕ). Pushed old now text t) e p) m) q
+
+pub item_done : (old now mid new text left a next : List ℕ) → left ≡ comma ++ (a ++ next) → Pushed old now text left → mid ≡ now ++ comma → new ≡ mid ++ a → Pushed old new text next
+item_done old now mid new text left a next e p m n = more old mid new text a next (more old now mid text comma (a ++ next) (subst (λ (t : List ℕ). Pushed old now text t) e p) m) n
+
+-- ---- what the words are followed by
+
+pub closed_items : (p : Place) (ps : List Place) → listed (map place_text (closed (p ∷ ps))) ≡ place_text p ++ (comma_texts place_text ps ++ (comma ++ place_text p))
+closed_items p ps = listed_items place_text p (ps ++ p ∷ []) ∙ ap (λ t. place_text p ++ t) (commas_last ps)
+  where
+    commas_last : (qs : List Place) → comma_texts place_text (qs ++ p ∷ []) ≡ comma_texts place_text qs ++ (comma ++ place_text p)
+    commas_last [] = ap (λ t. comma ++ t) (append-nil (place_text p))
+    commas_last (q ∷ qs) = ap (λ t. comma ++ (place_text q ++ t)) (commas_last qs) ∙ ap (λ t. comma ++ t) (sym (append_assoc (place_text q) (comma_texts place_text qs) (comma ++ place_text p)))
+
+pub closed_at : (xs : List Place) (x : Place) → 1 ≤ length xs → x ≡ get_or xs 0 x → listed (map place_text (closed xs)) ≡ place_text x ++ (comma_texts place_text (take (length xs - 1) (drop 1 xs)) ++ (comma ++ place_text x))
+closed_at [] x some is = absurd (omega arith)
+closed_at (y ∷ ys) x some is =
+    closed_items y ys ∙ (ap (λ v. place_text v ++ (comma_texts place_text ys ++ (comma ++ place_text v))) (sym is)
+      ∙ ap (λ vs. place_text x ++ (comma_texts place_text vs ++ (comma ++ place_text x))) (sym (rest_is y ys)))
+
+pub one_line : (pss : List (List Place)) (ps : List Place) → length pss ≡ 1 → ps ≡ get_or pss 0 ps → written (of_lines pss) ≡ codes "LINESTRING " ++ list_text ps
+one_line [] ps one is = absurd (omega arith)
+one_line (qs ∷ []) ps one is = ap (λ t. codes "LINESTRING " ++ list_text t) (sym is)
+one_line (qs ∷ rs ∷ pss) ps one is = absurd (omega arith)
+
+pub more_lines : (pss : List (List Place)) → (length pss ≡ 1 → ⊥) → written (of_lines pss) ≡ codes "MULTILINESTRING " ++ lists_text pss
+more_lines [] other = refl
+more_lines (qs ∷ []) other = absurd (other refl)
+more_lines (qs ∷ rs ∷ pss) other = refl
+
+closed_texts : (rings : List (List Place)) → map list_text (map closed rings) ≡ map ring_text rings
+closed_texts [] = refl
+closed_texts (r ∷ rings) = ap (λ t. list_text (closed r) ∷ t) (closed_texts rings)
+
+closed_lists : (rings : List (List Place)) → lists_text (map closed rings) ≡ rings_text rings
+closed_lists rings = ap (λ t. bracketed (listed t)) (closed_texts rings)
+
+closed_parts : (parts : List (List (List Place))) → map lists_text (map (λ part. map closed part) parts) ≡ map rings_text parts
+closed_parts [] = refl
+closed_parts (part ∷ parts) = ap (λ t. t ∷ map lists_text (map (λ more. map closed more) parts)) (closed_lists part) ∙ ap (λ t. rings_text part ∷ t) (closed_parts parts)
+
+pub one_polygon : (parts : List (List (List Place))) (part : List (List Place)) → length parts ≡ 1 → part ≡ get_or parts 0 part → written (of_polygons parts) ≡ codes "POLYGON " ++ rings_text part
+one_polygon [] part one is = absurd (omega arith)
+one_polygon (rings ∷ []) part one is = ap (λ t. codes "POLYGON " ++ t) (closed_lists rings ∙ ap rings_text (sym is))
+one_polygon (rings ∷ more ∷ parts) part one is = absurd (omega arith)
+
+pub more_polygons : (parts : List (List (List Place))) → (length parts ≡ 1 → ⊥) → written (of_polygons parts) ≡ codes "MULTIPOLYGON " ++ bracketed (listed (map rings_text parts))
+more_polygons [] other = refl
+more_polygons (rings ∷ []) other = absurd (other refl)
+more_polygons (rings ∷ more ∷ parts) other = ap (λ t. codes "MULTIPOLYGON " ++ bracketed (listed t)) (closed_parts (rings ∷ more ∷ parts))
+
+-- ---- places
+
+pub as_number : (x z : ℤ) → InReach x → x ≡ z → signed_decimal (to_z w32 (of_z w32 x)) ≡ signed_decimal z
+as_number x z h e = let k : to_z w32 (of_z w32 x) ≡ x = omega (arith, ints, h.low, h.high) in ap signed_decimal (k ∙ e)
+
+pub point_is : (q : Place) → written (APoint q) ≡ codes "POINT (" ++ (place_text q ++ 41 ∷ [])
+point_is q = ap (λ t. codes "POINT (" ++ t) (sym (append_assoc (signed_decimal q.x) (32 ∷ signed_decimal q.y) (41 ∷ [])))

@@ -29,7 +29,8 @@ fn push_places(out: &mut Vec<u8>, places: &[GridPoint]) -> Result<(), AllocError
         [] => Ok(()),
         [first, more @ ..] => {
             push_place(out, first)?;
-            push_more_places(out, more)
+            push_more_places(out, more)?;
+            Ok(())
         }
     }
 }
@@ -39,7 +40,8 @@ fn push_list(out: &mut Vec<u8>, places: &[GridPoint]) -> Result<(), AllocError>
 {
     push_text(out, b"(")?;
     push_places(out, places)?;
-    push_text(out, b")")
+    push_text(out, b")")?;
+    Ok(())
 }
 
 // The lists, each behind a comma.
@@ -61,7 +63,8 @@ fn push_list_items(out: &mut Vec<u8>, lists: &[Vec<GridPoint>]) -> Result<(), Al
         [] => Ok(()),
         [first, more @ ..] => {
             push_list(out, first)?;
-            push_more_lists(out, more)
+            push_more_lists(out, more)?;
+            Ok(())
         }
     }
 }
@@ -71,7 +74,8 @@ fn push_lists(out: &mut Vec<u8>, lists: &[Vec<GridPoint>]) -> Result<(), AllocEr
 {
     push_text(out, b"(")?;
     push_list_items(out, lists)?;
-    push_text(out, b")")
+    push_text(out, b")")?;
+    Ok(())
 }
 
 /// Appends the written form of a line of these parts; after want of memory a front of it.
@@ -81,11 +85,13 @@ pub fn push_line(out: &mut Vec<u8>, parts: &[Vec<GridPoint>]) -> Result<(), Allo
     match parts {
         [part] => {
             push_text(out, b"LINESTRING ")?;
-            push_list(out, part)
+            push_list(out, part)?;
+            Ok(())
         }
         _ => {
             push_text(out, b"MULTILINESTRING ")?;
-            push_lists(out, parts)
+            push_lists(out, parts)?;
+            Ok(())
         }
     }
 }

@@ -18,7 +18,8 @@ fn push_number(out: &mut Vec<u8>, number: i32) -> Result<(), AllocError>
     ensures { Appends result out.old.items out.new.items (signed_decimal number) }
 {
     let mut buffer = Buffer::new();
-    push_text(out, buffer.format(number).as_bytes())
+    push_text(out, buffer.format(number).as_bytes())?;
+    Ok(())
 }
 
 /// Appends the two coordinates with a space between them.
@@ -27,7 +28,8 @@ pub fn push_place(out: &mut Vec<u8>, place: &GridPoint) -> Result<(), AllocError
 {
     push_number(out, place.x())?;
     push_text(out, b" ")?;
-    push_number(out, place.y())
+    push_number(out, place.y())?;
+    Ok(())
 }
 
 /// Appends the written form of a point; after want of memory a front of it.
@@ -36,5 +38,6 @@ pub fn push_point(out: &mut Vec<u8>, place: &GridPoint) -> Result<(), AllocError
 {
     push_text(out, b"POINT (")?;
     push_place(out, place)?;
-    push_text(out, b")")
+    push_text(out, b")")?;
+    Ok(())
 }

@@ -22,7 +22,8 @@ fn push_ring_places(out: &mut Vec<u8>, ring: &[GridPoint]) -> Result<(), AllocEr
             push_place(out, first)?;
             push_more_places(out, more)?;
             push_text(out, b", ")?;
-            push_place(out, first)
+            push_place(out, first)?;
+            Ok(())
         }
     }
 }
@@ -32,7 +33,8 @@ fn push_ring(out: &mut Vec<u8>, ring: &[GridPoint]) -> Result<(), AllocError>
 {
     push_text(out, b"(")?;
     push_ring_places(out, ring)?;
-    push_text(out, b")")
+    push_text(out, b")")?;
+    Ok(())
 }
 
 // The rings, each behind a comma.
@@ -54,7 +56,8 @@ fn push_ring_items(out: &mut Vec<u8>, rings: &[Vec<GridPoint>]) -> Result<(), Al
         [] => Ok(()),
         [first, more @ ..] => {
             push_ring(out, first)?;
-            push_more_rings(out, more)
+            push_more_rings(out, more)?;
+            Ok(())
         }
     }
 }
@@ -64,7 +67,8 @@ fn push_rings(out: &mut Vec<u8>, rings: &[Vec<GridPoint>]) -> Result<(), AllocEr
 {
     push_text(out, b"(")?;
     push_ring_items(out, rings)?;
-    push_text(out, b")")
+    push_text(out, b")")?;
+    Ok(())
 }
 
 // The parts, each behind a comma.
@@ -86,7 +90,8 @@ fn push_part_items(out: &mut Vec<u8>, parts: &[Vec<Vec<GridPoint>>]) -> Result<(
         [] => Ok(()),
         [first, more @ ..] => {
             push_rings(out, first)?;
-            push_more_parts(out, more)
+            push_more_parts(out, more)?;
+            Ok(())
         }
     }
 }
@@ -96,7 +101,8 @@ fn push_parts(out: &mut Vec<u8>, parts: &[Vec<Vec<GridPoint>>]) -> Result<(), Al
 {
     push_text(out, b"(")?;
     push_part_items(out, parts)?;
-    push_text(out, b")")
+    push_text(out, b")")?;
+    Ok(())
 }
 
 /// Appends the written form of a polygon of these parts, each ring closed by its first vertex; after want of memory a front of it.
@@ -106,11 +112,13 @@ pub fn push_polygon(out: &mut Vec<u8>, parts: &[Vec<Vec<GridPoint>>]) -> Result<
     match parts {
         [part] => {
             push_text(out, b"POLYGON ")?;
-            push_rings(out, part)
+            push_rings(out, part)?;
+            Ok(())
         }
         _ => {
             push_text(out, b"MULTIPOLYGON ")?;
-            push_parts(out, parts)
+            push_parts(out, parts)?;
+            Ok(())
         }
     }
 }
