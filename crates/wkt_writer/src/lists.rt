@@ -1,4 +1,4 @@
-ghost use Rattle.std.specs.Prelude.{map};
+ghost use Rattle.std.specs.Prelude.{◌++◌, map, codes};
 ghost use Rattle.text_terms.specs.Wkt.{listed};
 ghost use Rattle.wkt_terms.specs.Shapes.{of_lines};
 ghost use Rattle.wkt_terms.specs.Written.{place_text, list_text, lists_text, written};
@@ -78,20 +78,31 @@ fn push_lists(out: &mut Vec<u8>, lists: &[Vec<GridPoint>]) -> Result<(), AllocEr
     Ok(())
 }
 
+// A line of one part.
+fn push_one_line(out: &mut Vec<u8>, part: &[GridPoint]) -> Result<(), AllocError>
+    ensures { Appends result out.old.items out.new.items (codes "LINESTRING " ++ list_text part.now) }
+{
+    push_text(out, b"LINESTRING ")?;
+    push_list(out, part)?;
+    Ok(())
+}
+
+// A line of any number of parts but one.
+fn push_more_lines(out: &mut Vec<u8>, parts: &[Vec<GridPoint>]) -> Result<(), AllocError>
+    ensures { Appends result out.old.items out.new.items (codes "MULTILINESTRING " ++ lists_text (lists_of parts.now)) }
+{
+    push_text(out, b"MULTILINESTRING ")?;
+    push_lists(out, parts)?;
+    Ok(())
+}
+
 /// Appends the written form of a line of these parts; after want of memory a front of it.
 pub fn push_line(out: &mut Vec<u8>, parts: &[Vec<GridPoint>]) -> Result<(), AllocError>
     ensures { Appends result out.old.items out.new.items (written (of_lines (lists_of parts.now))) }
 {
-    match parts {
-        [part] => {
-            push_text(out, b"LINESTRING ")?;
-            push_list(out, part)?;
-            Ok(())
-        }
-        _ => {
-            push_text(out, b"MULTILINESTRING ")?;
-            push_lists(out, parts)?;
-            Ok(())
-        }
+    if parts.len() == 1 {
+        push_one_line(out, &parts[0])
+    } else {
+        push_more_lines(out, parts)
     }
 }

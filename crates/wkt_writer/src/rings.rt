@@ -1,4 +1,4 @@
-ghost use Rattle.std.specs.Prelude.{map};
+ghost use Rattle.std.specs.Prelude.{◌++◌, map, codes};
 ghost use Rattle.text_terms.specs.Wkt.{listed};
 ghost use Rattle.wkt_terms.specs.Shapes.{closed, of_polygons};
 ghost use Rattle.wkt_terms.specs.Written.{place_text, bracketed, list_text, lists_text, written};
@@ -12,6 +12,15 @@ use crate::place::{push_place, push_text};
 use grid_plane::GridPoint;
 use std::alloc::AllocError;
 
+// The first place of a ring again, behind a comma.
+fn push_closing(out: &mut Vec<u8>, first: &GridPoint) -> Result<(), AllocError>
+    ensures { Appends result out.old.items out.new.items (codes ", " ++ place_text first.now) }
+{
+    push_text(out, b", ")?;
+    push_place(out, first)?;
+    Ok(())
+}
+
 // The places of a ring and its first again, with commas between them.
 fn push_ring_places(out: &mut Vec<u8>, ring: &[GridPoint]) -> Result<(), AllocError>
     ensures { Appends result out.old.items out.new.items (listed (map place_text (closed ring.now))) }
@@ -21,8 +30,7 @@ fn push_ring_places(out: &mut Vec<u8>, ring: &[GridPoint]) -> Result<(), AllocEr
         [first, more @ ..] => {
             push_place(out, first)?;
             push_more_places(out, more)?;
-            push_text(out, b", ")?;
-            push_place(out, first)?;
+            push_closing(out, first)?;
             Ok(())
         }
     }
@@ -105,20 +113,31 @@ fn push_parts(out: &mut Vec<u8>, parts: &[Vec<Vec<GridPoint>>]) -> Result<(), Al
     Ok(())
 }
 
+// A polygon of one part.
+fn push_one_polygon(out: &mut Vec<u8>, rings: &[Vec<GridPoint>]) -> Result<(), AllocError>
+    ensures { Appends result out.old.items out.new.items (codes "POLYGON " ++ rings_text (lists_of rings.now)) }
+{
+    push_text(out, b"POLYGON ")?;
+    push_rings(out, rings)?;
+    Ok(())
+}
+
+// A polygon of any number of parts but one.
+fn push_more_polygons(out: &mut Vec<u8>, parts: &[Vec<Vec<GridPoint>>]) -> Result<(), AllocError>
+    ensures { Appends result out.old.items out.new.items (codes "MULTIPOLYGON " ++ bracketed (listed (map rings_text (parts_of parts.now)))) }
+{
+    push_text(out, b"MULTIPOLYGON ")?;
+    push_parts(out, parts)?;
+    Ok(())
+}
+
 /// Appends the written form of a polygon of these parts, each ring closed by its first vertex; after want of memory a front of it.
 pub fn push_polygon(out: &mut Vec<u8>, parts: &[Vec<Vec<GridPoint>>]) -> Result<(), AllocError>
     ensures { Appends result out.old.items out.new.items (written (of_polygons (parts_of parts.now))) }
 {
-    match parts {
-        [part] => {
-            push_text(out, b"POLYGON ")?;
-            push_rings(out, part)?;
-            Ok(())
-        }
-        _ => {
-            push_text(out, b"MULTIPOLYGON ")?;
-            push_parts(out, parts)?;
-            Ok(())
-        }
+    if parts.len() == 1 {
+        push_one_polygon(out, &parts[0])
+    } else {
+        push_more_polygons(out, parts)
     }
 }
