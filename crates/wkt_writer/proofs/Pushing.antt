@@ -3,7 +3,7 @@
 -- failed     what `?` hands on
 -- cut, then_cut     a piece that was cut short, at the front of a text or behind what was appended
 -- start, more, done, stopped     the same of a loop: before it, a piece more, at its end, and where a piece is cut short
-use Rattle.std.proofs.Common.{ℕ, ℤ, to_z, of_z, w32, suc, ◌≡◌, ◌<◌, ◌≤◌, ◌+◌, ◌-◌, List, [], ◌∷◌, ◌++◌, map, length, take, drop, get_or, Result, Ok, Err, refl, sym, ap, ◌∙◌, subst, append_assoc, append-nil, add-one, arith}
+use Rattle.std.proofs.Common.{ℕ, ℤ, to_z, of_z, w32, suc, ◌≡◌, ◌<◌, ◌≤◌, ◌+◌, ◌-◌, List, [], ◌∷◌, ◌++◌, map, length, take, drop, get_or, Result, Ok, Err, refl, sym, ap, ◌∙◌, subst, append_assoc, append-nil, arith}
 use Rattle.std.proofs.Math.Seq.{drop-cons}
 use Rattle.std.proofs.lemmas.Grind.{common_steps}
 use Rattle.std.proofs.lemmas.Int.{ints}
@@ -12,7 +12,7 @@ use Rattle.std.specs.Prelude.{IsErr, Vec, codes}
 use Rattle.std.specs.Global.{Global}
 use Rattle.plane_terms.specs.Point.{Place, InReach}
 use Rattle.text_terms.specs.Wkt.{listed}
-use Rattle.wkt_terms.specs.Grammar.{APoint, ALine, Lines, APolygon, Polygons}
+use Rattle.wkt_terms.specs.Grammar.{APoint}
 use Rattle.wkt_terms.specs.Shapes.{closed, of_lines, of_polygons}
 use Rattle.wkt_terms.specs.Written.{place_text, bracketed, list_text, lists_text, written}
 use Rattle.wkt_steps.specs.Commas.{comma_texts}

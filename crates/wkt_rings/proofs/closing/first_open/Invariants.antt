@@ -1,7 +1,0 @@
-use Rattle.std.proofs.Common.{◌≡◌, ◌+◌, length}
-use Rattle.wkt_rings.specs.Open.{first_open}
-use Rattle.wkt_rings.proofs.Closing.{left}
-use Rattle.wkt_rings.proofs.closing.first_open.Given as goal
-
-abbrev pub invariant-loop-part : goal.invariant-loop-part
-invariant-loop-part l = (l.from + length (left l.parts l.part-index) ≡ length (left l.parts 0)) × (first_open l.from (left l.parts l.part-index) ≡ first_open 0 (left l.parts 0))
