@@ -17,6 +17,8 @@ import subprocess
 import sys
 import tempfile
 
+from polygons import comb, ring, spiral, zigzag
+
 HERE = os.path.dirname(os.path.abspath(__file__))
 PROGRAM = os.path.join(HERE, '..', 'crates', 'column_timing', 'out', 'column_timing')
 SCRIPT = """class zones polygon
@@ -24,38 +26,6 @@ class covers polygon
 rule polygon_must_be_covered_by_feature_class_of zones covers
 begin ann
 """
-
-
-def ring(n):
-    half = n // 2
-    hill = lambda i: (i - half // 2) ** 2
-    return [(4 * i, hill(i)) for i in range(half)] + [(4 * i + 1, 2000000 - hill(i)) for i in reversed(range(half))]
-
-
-def comb(n):
-    teeth = (n - 2) // 4
-    out = [(0, 0)]
-    for k in range(teeth):
-        out += [(2000 + k, 4 * k), (2000 + k, 4 * k + 1), (k + 1, 4 * k + 2), (k + 1, 4 * k + 3)]
-    return out + [(0, 4 * teeth)]
-
-
-def spiral(n):
-    half = n // 2
-
-    def corner(i, r):
-        return ((r, -r), (r, r), (-r, r), (-r, -r))[i % 4]
-
-    return [corner(i, 8 * i + 8) for i in range(half)] + [corner(i, 8 * i + 24) for i in reversed(range(half))]
-
-
-def zigzag(n):
-    half = n // 2
-
-    def at(i, right):
-        return ((0 if i % 2 == 0 else 1000000) + i + right, 100 * i)
-
-    return [at(i, 0) for i in range(half)] + [at(i, 2000) for i in reversed(range(half))]
 
 
 def frame_of(vertices):

@@ -20,32 +20,11 @@ import subprocess
 import sys
 import tempfile
 
+from polygons import comb, ring, spiral
+
 HERE = os.path.dirname(os.path.abspath(__file__))
 PROGRAM = os.path.join(HERE, '..', 'crates', 'shape_timing', 'out', 'shape_timing')
 TURNS = 3
-
-
-def ring(n):
-    half = n // 2
-    hill = lambda i: (i - half // 2) ** 2
-    return [(4 * i, hill(i)) for i in range(half)] + [(4 * i + 1, 2000000 - hill(i)) for i in reversed(range(half))]
-
-
-def comb(n):
-    teeth = (n - 2) // 4
-    out = [(0, 0)]
-    for k in range(teeth):
-        out += [(2000 + k, 4 * k), (2000 + k, 4 * k + 1), (k + 1, 4 * k + 2), (k + 1, 4 * k + 3)]
-    return out + [(0, 4 * teeth)]
-
-
-def spiral(n):
-    half = n // 2
-
-    def corner(i, r):
-        return ((r, -r), (r, r), (-r, r), (-r, -r))[i % 4]
-
-    return [corner(i, 8 * i + 8) for i in range(half)] + [corner(i, 8 * i + 24) for i in reversed(range(half))]
 
 
 def on_circle(radius, turn):
