@@ -65,8 +65,8 @@ opened_same [] h = absurd (omega (arith, h.0))
 opened_same (p ∷ ps) h =
     let at : length (p ∷ ps) - 1 ≡ length ps = omega arith in
     let last : last_of p ps ≡ get_or (p ∷ ps) (length (p ∷ ps) - 1) (last_of p ps) = last_at p ps (last_of p ps) ∙ ap (λ k. get_or (p ∷ ps) k (last_of p ps)) (sym at) in
-    let open : p ∷ ps ≡ opened (p ∷ ps) = open_end (p ∷ ps) (last_of p ps) p (omega (arith, h.0)) last refl (last_unlike p ps p h.1) in
-    ap opened (kept (p ∷ ps) (front_differs (p ∷ ps) p h.1)) ∙ sym open
+    let stays : p ∷ ps ≡ opened (p ∷ ps) = open_end (p ∷ ps) (last_of p ps) p (omega (arith, h.0)) last refl (last_unlike p ps p h.1) in
+    ap opened (kept (p ∷ ps) (front_differs (p ∷ ps) p h.1)) ∙ sym stays
 
 last_is : (p : Place) (ps : List Place) (x : Place) → last_of p (ps ++ x ∷ []) ≡ x
 last_is p [] x = refl
