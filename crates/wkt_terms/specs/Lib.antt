@@ -4,4 +4,3 @@ pub mod Tokens
 pub mod Grammar
 pub mod Faults
 pub mod Written
-pub mod Shapes
