@@ -1,14 +1,15 @@
-// Reads texts whose answers stand before them, ANSWER|TEXT on a line, and tells how many differ. The words are the files' names.
-//
-// The answer is the written form of the shape, or the fault with its place or number.
+// Reads each line of standard input as well-known text, and writes the shape in its one written form, or the first fault.
 #![tactic(auto)]
 
 use shape::ShapeFault;
 use std::alloc::{AllocError, Global};
-use std::{env, fs, io};
+use std::io::{self, Read};
 use wkt_text::{WktFault, read_wkt, write_wkt};
 
-fn say_shape_fault(alloc: Global, fault: ShapeFault) -> Result<String, AllocError> {
+// The most bytes of a text that is read.
+const LONGEST: usize = 1_048_576;
+
+fn shape_fault_text(alloc: Global, fault: ShapeFault) -> Result<String, AllocError> {
     match fault {
         ShapeFault::TooFew { part } => format!(in alloc; "few {part}"),
         ShapeFault::TooMany { count } => format!(in alloc; "many {count}"),
@@ -18,74 +19,45 @@ fn say_shape_fault(alloc: Global, fault: ShapeFault) -> Result<String, AllocErro
     }
 }
 
-fn say_fault(alloc: Global, fault: WktFault) -> Result<String, AllocError> {
+fn fault_text(alloc: Global, fault: WktFault) -> Result<String, AllocError> {
     match fault {
         WktFault::Syntax { at } => format!(in alloc; "syntax {at}"),
         WktFault::OffGrid { at } => format!(in alloc; "off the grid {at}"),
         WktFault::OutOfReach { at } => format!(in alloc; "out of reach {at}"),
         WktFault::Unsupported { at } => format!(in alloc; "unsupported {at}"),
         WktFault::NotClosed { ring } => format!(in alloc; "not closed {ring}"),
-        WktFault::Invalid(fault) => say_shape_fault(alloc, fault),
+        WktFault::Invalid(fault) => shape_fault_text(alloc, fault),
         WktFault::NoMemory => format!(in alloc; "no memory"),
     }
 }
 
-// Whether a text is answered as it is to be.
-fn holds(alloc: Global, expected: &[u8], text: &[u8]) -> Result<bool, AllocError> {
-    if text.len() > 1_048_576 {
-        return Ok(false);
+// What is told of a text, as a line.
+fn push_told(alloc: Global, text: &[u8], out: &mut Vec<u8>) -> Result<(), AllocError> {
+    if text.len() > LONGEST {
+        return out.extend_from_slice(b"too long\n");
     }
     match read_wkt(alloc, text) {
         Ok(shape) => {
-            let mut written = Vec::new(alloc);
-            Ok(write_wkt(&shape, &mut written).is_ok() && written.as_slice() == expected)
+            if write_wkt(&shape, out).is_err() {
+                out.extend_from_slice(b"no memory")?;
+            }
         }
-        Err(fault) => {
-            let said = say_fault(alloc, fault)?;
-            Ok(said.as_bytes() == expected)
-        }
+        Err(fault) => out.extend_from_slice(fault_text(alloc, fault)?.as_bytes())?,
     }
-}
-
-/// How many texts were read, and how many are answered otherwise.
-#[derive(Drop)]
-struct Tally {
-    texts: u64,
-    differ: u64,
-}
-
-fn say_difference(rt: &HostRuntime, line: &[u8]) -> io::Result<()> {
-    match str::from_utf8(line) {
-        Ok(line) => println!(rt; "differs: {line}"),
-        Err(_) => println!(rt; "a text differs"),
-    }
-}
-
-fn read_file(rt: &HostRuntime, file: &str, tally: &mut Tally) -> io::Result<()> {
-    let alloc = rt.alloc();
-    let cases = fs::read(rt, file)?;
-    for line in cases.split(|b| *b == b'\n') {
-        let Some(bar) = line.iter().position(|b| *b == b'|') else {
-            continue;
-        };
-        tally.texts = tally.texts.saturating_add(1);
-        if !holds(alloc, &line[..bar], &line[bar + 1..])? {
-            tally.differ = tally.differ.saturating_add(1);
-            say_difference(rt, line)?;
-        }
-    }
-    Ok(())
+    out.extend_from_slice(b"\n")
 }
 
 fn main(rt: HostRuntime) -> io::Result<()> {
-    let mut tally = Tally {
-        texts: 0,
-        differ: 0,
-    };
-    for file in env::args(&rt)?.skip(1) {
-        read_file(&rt, file.as_str(), &mut tally)?;
+    let alloc = rt.alloc();
+    let mut input = Vec::new(alloc);
+    rt.stdin().read_to_end(&mut input)?;
+    let lines = input.strip_suffix(b"\n").unwrap_or(&input);
+    for text in lines.split(|b| *b == b'\n') {
+        let mut told = Vec::new(alloc);
+        push_told(alloc, text, &mut told)?;
+        if let Ok(line) = str::from_utf8(&told) {
+            print!(rt; "{line}")?;
+        }
     }
-    let texts = tally.texts;
-    let differ = tally.differ;
-    println!(rt; "{texts} texts, {differ} differ")
+    Ok(())
 }
