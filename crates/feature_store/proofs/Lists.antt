@@ -139,6 +139,7 @@ every_set P pre post before after h k = every_join P pre (option_to_list after +
   where
     rest : Every P post
     rest = every_right P (option_to_list before) post (every_right P pre (option_to_list before ++ post) h)
+
     new : (a : Option Feature) → IfSome a P → Every P (option_to_list a ++ post)
     new None k = rest
     new (Some f) k = (k, rest)
@@ -168,9 +169,11 @@ ascending_set h pre post before after u s = ascending_join h pre (option_to_list
   where
     rest : IsAscending post
     rest = ascending_right (option_to_list before) post (ascending_right pre (option_to_list before ++ post) u)
+
     new : (a : Option Feature) → IfSome a (λ (f : Feature). f.handle ≡ h) → IsAscending (option_to_list a ++ post)
     new None own = rest
     new (Some f) own = (subst (λ n. Every (λ (g : Feature). n < g.handle) post) (sym own) s.above, rest)
+
     least : (a : Option Feature) → IfSome a (λ (f : Feature). f.handle ≡ h) → Every (λ (f : Feature). h ≤ f.handle) (option_to_list a ++ post)
     least None own = at_least h post s.above
     least (Some f) own = (omega (arith, own), at_least h post s.above)
