@@ -1,16 +1,15 @@
 -- What every store keeps is kept as a class or a feature comes.
-use Rattle.std.proofs.Common.{ℕ, zero, suc, ◌≡◌, ◌≢◌, ◌<◌, ◌≤◌, ◌+◌, ◌-◌, Bool, true, false, List, [], ◌∷◌, ◌++◌, length, refl, sym, ◌∙◌, ap, subst, arith, Option, Some, None, length-append, eqb}
-use Rattle.std.proofs.lemmas.Bool.Decides.{nat_tests}
+use Rattle.std.proofs.Common.{ℕ, zero, suc, ◌≡◌, ◌≢◌, ◌<◌, ◌≤◌, ◌+◌, ◌-◌, Bool, true, false, List, [], ◌∷◌, ◌++◌, length, refl, sym, ◌∙◌, ap, arith, Option, Some, None, length-append, eqb}
 use Rattle.std.proofs.lemmas.Slice.Eq.{bytes_eq-Decides}
 use Rattle.std.specs.Prelude.{bytes_eq, is_some, slice_get, if◌then◌else◌}
 use Rattle.std.specs.Option.{option_map}
 use Rattle.plane_terms.specs.Lists.{Every, EveryPair}
 use Rattle.plane_terms.specs.declared.kind.Kind.{Kind}
-use Rattle.topology_terms.specs.Feature.{Class, Feature, IsAscending}
+use Rattle.topology_terms.specs.Feature.{Class, Feature}
 use Rattle.script_terms.specs.State.{number_from}
 use Rattle.feature_store.specs.Stored.{class_at}
 use Rattle.feature_store.specs.Keeps.{IsOfClass, IsGiven, AreUnlike, IsStore}
-use Rattle.feature_store.specs.Changes.{IsTaken, HasKind, HasOtherKind}
+use Rattle.feature_store.specs.Changes.{IsTaken, HasKind}
 use Rattle.feature_store.proofs.Lists.{every_join, ascending_join}
 
 pub taken : (cs : List Class) (name : List ℕ) (r : Option ℕ) → r ≡ number_from 1 cs name → is_some r ≡ true → IsTaken cs name

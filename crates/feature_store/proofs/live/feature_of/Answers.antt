@@ -1,4 +1,3 @@
-use Rattle.std.proofs.Common.{rules}
 use Rattle.feature_store.proofs.Lists.{found_at, none_at, here_within}
 use Rattle.feature_store.proofs.live.feature_of.Goals as goal
 

@@ -1,4 +1,4 @@
-use Rattle.std.proofs.Common.{rules, refl, sym, ◌∙◌, ap, length}
+use Rattle.std.proofs.Common.{rules, refl, sym, length}
 use Rattle.std.proofs.lemmas.Option.{slice_get_read}
 use Rattle.feature_store.proofs.Lists.{written}
 use Rattle.feature_store.proofs.live.swap_at.Goals as goal

@@ -1,6 +1,5 @@
 use Rattle.std.proofs.Common.{◌≡◌, ◌∙◌, sym, ap, rules}
 use Rattle.topology_terms.specs.Feature.{Feature}
-use Rattle.feature_store.specs.Stored.{Stored}
 use Rattle.feature_store.proofs.Keeping.{feature_kept, of_class}
 use Rattle.feature_store.proofs.store.Store.add.Goals as goal
 
