@@ -2,10 +2,11 @@
 use Rattle.std.proofs.Common.{ℕ, zero, suc, ◌≡◌, ◌≢◌, ◌<◌, ◌≤◌, ◌+◌, ◌-◌, Bool, true, false, List, [], ◌∷◌, ◌++◌, length, refl, sym, ◌∙◌, ap, arith, Option, Some, None, length-append, eqb}
 use Rattle.std.proofs.lemmas.Slice.Eq.{bytes_eq-Decides}
 use Rattle.std.specs.Prelude.{bytes_eq, is_some, slice_get, if◌then◌else◌}
-use Rattle.std.specs.Option.{option_map}
+use Rattle.std.specs.Option.{option_map, IfSome}
 use Rattle.plane_terms.specs.Lists.{Every, EveryPair}
 use Rattle.plane_terms.specs.declared.kind.Kind.{Kind}
-use Rattle.topology_terms.specs.Feature.{Class, Feature}
+use Rattle.topology_terms.specs.Feature.{Class, Feature, feature_at}
+use Rattle.sound_steps.proofs.FeatureLists.{at_handle, past_handle, handle_of}
 use Rattle.script_terms.specs.State.{number_from}
 use Rattle.feature_store.specs.Stored.{class_at}
 use Rattle.feature_store.specs.Keeps.{IsOfClass, IsGiven, AreUnlike, IsStore}
@@ -97,3 +98,23 @@ pub of_class : (cs : List Class) (f : Feature) (n : ℕ) (k : Kind) → f.class 
 of_class cs f n k same kind e =
     let h = of_kind cs n k e in
     record { class = h.class; there = ap (class_at cs) same ∙ h.there; kind = kind ∙ h.kind }
+
+-- ---- a live feature
+pub live_own : (F : List Feature) (h : ℕ) → IfSome (feature_at F h) (λ (f : Feature). f.handle ≡ h)
+live_own F h = by (feature_at F h) refl
+  where
+    by : (o : Option Feature) → feature_at F h ≡ o → IfSome o (λ (f : Feature). f.handle ≡ h)
+    by None e = tt
+    by (Some f) e = handle_of F h f e
+
+none_in : (h : ℕ) → feature_at [] h ≡ None
+unfolding feature_at
+none_in h = refl
+
+pub live_each : (P : Feature → Type 0) (F : List Feature) (h : ℕ) → Every P F → IfSome (feature_at F h) P
+live_each P [] h all = rw (none_in h) tt
+live_each P (f ∷ F) h all = by (eqb f.handle h) refl (live_each P F h all.1)
+  where
+    by : (t : Bool) → eqb f.handle h ≡ t → IfSome (feature_at F h) P → IfSome (feature_at (f ∷ F) h) P
+    by true e rest = rw (at_handle f F h e) all.0
+    by false e rest = rw (past_handle f F h e) rest

@@ -196,7 +196,9 @@ impl Store {
         requires own { IfSome kept.old (λ f. f.handle ≡ handle) }
         requires fits { IfSome kept.old (IsOfClass self.old.classes) }
         requires room { 1 ≤ self.old.room }
-        ensures { IsSwapped handle kept.new kept.old self.old self.new }
+        ensures swapped { IsSwapped handle kept.new kept.old self.old self.new }
+        ensures own { IfSome kept.new (λ f. f.handle ≡ handle) }
+        ensures fits { IfSome kept.new (IsOfClass self.new.classes) }
     {
         exchange(&mut self.features, handle, kept);
     }
@@ -209,6 +211,8 @@ impl Store {
         requires own { IfSome kept.old (λ f. f.handle ≡ handle) }
         requires fits { IfSome kept.old (IsOfClass self.old.classes) }
         ensures done { OnOk result (IsSwapped handle kept.new kept.old self.old self.new) }
+        ensures own { IfSome kept.new (λ f. f.handle ≡ handle) }
+        ensures fits { IfSome kept.new (IsOfClass self.new.classes) }
         ensures same { OnErr result (IsSame self.old self.new) }
         ensures kept { OnErr result (kept.new ≡ kept.old) }
     {

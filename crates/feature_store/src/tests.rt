@@ -31,9 +31,11 @@ fn features_come_and_go(rt: HostRuntime) -> Result<(), Fail> {
     assert!(rt; store.get(1).is_none());
     assert!(rt; kept.is_some());
     assert_eq!(rt; store.len(), 1);
-    assert!(rt; store.get(2).is_some());
+    store.swap(1, &mut kept)?;
+    assert!(rt; kept.is_none());
+    assert!(rt; store.get(1).is_some());
     assert_eq!(rt; store.next_handle(), 3);
     let copy = store.try_copy(rt.alloc())?;
-    assert_eq!(rt; copy.len(), 1);
+    assert_eq!(rt; copy.len(), 2);
     Ok(())
 }
