@@ -2,15 +2,15 @@
 --
 -- At front s             these tokens lead to the open state s
 -- caused front s t       the cause for which the table refuses t is the one of the definition
-use Rattle.std.proofs.Common.{ℕ, ℤ, pos, ◌≡◌, List, [], ◌∷◌, ◌++◌, Result, Ok, Err, refl, sym, ap, ◌∙◌, subst, append_assoc, append-nil, inl, inr}
+use Rattle.std.proofs.Common.{pos, ◌≡◌, List, [], ◌∷◌, ◌++◌, Result, Ok, Err, refl, sym, ap, ◌∙◌, subst, append_assoc, append-nil, inl, inr}
 use Rattle.plane_terms.specs.Point.{Place}
-use Rattle.wkt_terms.specs.Faults.{IsFront, IsBegun, Wants, EndsInNumber, UnsupportedAt, NumeralAt, IsCause}
-use Rattle.wkt_terms.specs.Grammar.{Geometry, APoint, ALine, Lines, APolygon, Polygons, IsSome, AreSome, position, items, list, lists, commas, spelling}
+use Rattle.wkt_terms.specs.Faults.{Wants, EndsInNumber, UnsupportedAt, IsCause}
+use Rattle.wkt_terms.specs.Grammar.{Geometry, APoint, ALine, Lines, APolygon, Polygons, IsSome, position, items, list, lists, spelling}
 use Rattle.wkt_terms.specs.Numerals.{Number}
 use Rattle.wkt_terms.specs.Numerals as number
 use Rattle.wkt_terms.specs.Tokens.{Word, Point, LineString, MultiLineString, Polygon, MultiPolygon, Modifier, Strange, Token, Open, Close, Comma, Named, Numeral, Other, End}
-use Rattle.wkt_steps.specs.Steps.{Cause, IsSyntax, IsOffGrid, IsOutOfReach, Group, OfLines, OfPolygon, OfPart, Owner, OfPoint, OfLine, OneOf, State, Start, BeforeParts, BeforeLists, BeforeList, BeforeX, BeforeY, AfterPosition, AfterList, AfterPart, Complete, Over, at_open, step, run, ◌>>=◌}
-use Rattle.wkt_steps.proofs.Grammar.{Gives, Adds, adds, reads, run-append, fits, stops, IsOpen, so_far, Holds, Closes, lead, head, before_next, items-snoc}
+use Rattle.wkt_steps.specs.Steps.{Cause, IsSyntax, Group, OfLines, OfPolygon, OfPart, Owner, OfPoint, OfLine, OneOf, State, Start, BeforeParts, BeforeLists, BeforeList, BeforeX, BeforeY, AfterPosition, AfterList, AfterPart, Complete, Over, at_open, step, run}
+use Rattle.wkt_steps.proofs.Grammar.{Gives, Adds, adds, run-append, fits, stops, IsOpen, so_far, Holds, Closes, lead, head, before_next}
 
 pub record At (front : List Token) (s : State) : Type 0 where
   pub ran : run Start front ≡ Ok s

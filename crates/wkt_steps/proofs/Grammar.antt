@@ -6,14 +6,14 @@
 -- adds              a step adds its token to what is so far
 -- reads, again      what is run is what is spelled, and back
 -- fits, stops       what was read begins a spelling, and with a refused token it begins none
-use Rattle.std.proofs.Common.{ℕ, ℤ, pos, ◌≡◌, List, [], ◌∷◌, ◌++◌, Result, Ok, Err, refl, sym, ap, ◌∙◌, subst, append_assoc, append-nil, arith, rules}
+use Rattle.std.proofs.Common.{ℤ, pos, ◌≡◌, List, [], ◌∷◌, ◌++◌, Result, Ok, Err, refl, sym, ap, ◌∙◌, subst, append_assoc, append-nil}
 use Rattle.std.specs.List.{AllByRecursion}
 use Rattle.plane_terms.specs.Point.{Place}
 use Rattle.wkt_terms.specs.Faults.{IsFront, IsBegun}
 use Rattle.wkt_terms.specs.Grammar.{Geometry, APoint, ALine, Lines, APolygon, Polygons, IsSome, AreSome, IsFull, position, commas, items, list, lists, spelling}
 use Rattle.wkt_terms.specs.Numerals.{Number}
 use Rattle.wkt_terms.specs.Numerals as number
-use Rattle.wkt_terms.specs.Tokens.{Word, Point, LineString, MultiLineString, Polygon, MultiPolygon, Modifier, Strange, Token, Open, Close, Comma, Named, Numeral, Other, End}
+use Rattle.wkt_terms.specs.Tokens.{Point, LineString, MultiLineString, Polygon, MultiPolygon, Modifier, Strange, Token, Open, Close, Comma, Named, Numeral, Other, End}
 use Rattle.wkt_steps.specs.Steps.{Cause, Group, OfLines, OfPolygon, OfPart, Owner, OfPoint, OfLine, OneOf, State, Start, BeforeParts, BeforeLists, BeforeList, BeforeX, BeforeY, AfterPosition, AfterList, AfterPart, Complete, Over, place, closed, ended, after_comma, at_open, step, run, ◌>>=◌}
 
 -- ---- lists with commas

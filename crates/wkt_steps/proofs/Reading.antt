@@ -3,17 +3,17 @@
 -- Read text rest s         the text was read up to rest, which does not begin with a blank, and this led to the state s
 -- begins, goes_on, stopped, completed     how reading begins and goes on, and what it shows where it ends
 -- one_value, no_fault      a text spells one geometry at most, and then it has no first fault
-use Rattle.std.proofs.Common.{ℕ, ℤ, pos, ◌≡◌, ◌≢◌, ◌<◌, ◌≤◌, ◌+◌, ◌-◌, ◌==◌, Bool, true, false, cond, List, [], ◌∷◌, ◌++◌, length, Result, Ok, Err, refl, sym, ap, ◌∙◌, subst, append_assoc, append-nil, arith, rules, ◌⊎◌, inl, inr}
+use Rattle.std.proofs.Common.{ℕ, ◌≡◌, ◌<◌, ◌≤◌, ◌-◌, ◌==◌, Bool, true, false, cond, List, [], ◌∷◌, ◌++◌, length, Result, Ok, Err, refl, sym, ap, ◌∙◌, subst, append_assoc, append-nil, arith, ◌⊎◌, inl, inr}
 use Rattle.text_terms.specs.Fields.{is_blank, is_letter, skip_blanks}
 use Rattle.wkt_terms.specs.Runs.{is_number_byte, front_of, behind}
-use Rattle.wkt_terms.specs.Faults.{IsFront, IsBegun, StopsAt, FirstFault, IsCause}
+use Rattle.wkt_terms.specs.Faults.{IsBegun, StopsAt, FirstFault}
 use Rattle.wkt_terms.specs.Grammar.{Geometry, IsFull, IsWkt, spelling}
 use Rattle.wkt_terms.specs.Numerals.{number_of}
 use Rattle.wkt_terms.specs.Tokens.{Token, End, Open, Close, Comma, Named, Numeral, Other, StartsWith, word_of, token_at, behind_token}
-use Rattle.wkt_steps.specs.Steps.{Cause, State, Start, Complete, Over, step, run, ◌>>=◌}
+use Rattle.wkt_steps.specs.Steps.{Cause, State, Start, Over, step, run}
 use Rattle.text_numbers.proofs.Fronts.{behind-le}
-use Rattle.wkt_steps.proofs.Causes.{At, CauseOk, caused}
-use Rattle.wkt_steps.proofs.Grammar.{Gives, Adds, adds, Reads, reads, again, run-append, fits, stops, IsOpen, so_far, Holds}
+use Rattle.wkt_steps.proofs.Causes.{CauseOk, caused}
+use Rattle.wkt_steps.proofs.Grammar.{Gives, Adds, adds, reads, again, run-append, fits, stops, IsOpen, so_far}
 
 pub record Read (text rest : List ℕ) (s : State) : Type 0 where
   pub done : List Token

@@ -4,9 +4,8 @@
 -- IsRead ft fs P          the text ft of what has P begins with its tokens fs, whatever follows that is no byte of a number
 -- listed_items            a list with commas is its first item and the others behind commas
 -- written_read            the promise
-use Rattle.std.proofs.Common.{ℕ, ℤ, pos, negsuc, ◌≡◌, ◌<◌, ◌≤◌, Bool, true, false, cond, ◌&&◌, List, [], ◌∷◌, ◌++◌, map, length, refl, sym, ap, ◌∙◌, subst, append_assoc, append-nil, arith}
+use Rattle.std.proofs.Common.{ℕ, ℤ, ◌≡◌, Bool, true, false, cond, ◌&&◌, List, [], ◌∷◌, ◌++◌, map, refl, sym, ap, ◌∙◌, subst, append_assoc, append-nil, arith}
 use Rattle.std.specs.List.{list_all, AllByRecursion}
-use Rattle.std.specs.Prelude.{codes}
 use Rattle.std.specs.Fmt.{signed_decimal}
 use Rattle.plane_terms.specs.Point.{Place, InReach, IsInReach}
 use Rattle.text_terms.specs.Fields.{skip_blanks}
@@ -14,7 +13,7 @@ use Rattle.text_terms.specs.Wkt.{listed}
 use Rattle.wkt_terms.specs.Grammar.{Geometry, APoint, ALine, Lines, APolygon, Polygons, IsSome, AreSome, IsFull, IsWkt, position, commas, items, list, lists}
 use Rattle.wkt_terms.specs.Numerals.{Whole, number_of}
 use Rattle.wkt_terms.specs.Runs.{is_number_byte, front_of, behind}
-use Rattle.wkt_terms.specs.Tokens.{Token, Open, Close, Comma, Numeral, End, StartsWith, token_at, behind_token}
+use Rattle.wkt_terms.specs.Tokens.{Token, Open, Close, Numeral, End, StartsWith, token_at, behind_token}
 use Rattle.wkt_terms.specs.Written.{place_text, bracketed, list_text, lists_text, written, IsInGrid}
 use Rattle.text_numbers.proofs.Fronts.{Stops, front_whole}
 use Rattle.text_numbers.proofs.Printed.{IsNumberText, number_text, number_byte, printed}

@@ -6,7 +6,7 @@
 -- State            what was read, and what is expected next
 -- step s t         the state behind the token t, or why t does not fit
 -- run s ts         the same for tokens one after another
-use Rattle.std.specs.Prelude.{ℕ, ℤ, List, [], ◌∷◌, ◌++◌, Result, Ok, Err}
+use Rattle.std.specs.Prelude.{ℤ, List, [], ◌∷◌, ◌++◌, Result, Ok, Err}
 use Rattle.plane_terms.specs.Point.{Place}
 pub use Rattle.wkt_terms.specs.Faults.{Cause, IsSyntax, IsOffGrid, IsOutOfReach, IsUnsupported}
 use Rattle.wkt_terms.specs.Grammar.{Geometry, APoint, ALine, Lines, APolygon, Polygons}

@@ -4,3 +4,4 @@ pub mod Tokens
 pub mod Grammar
 pub mod Faults
 pub mod Written
+pub mod Shapes
