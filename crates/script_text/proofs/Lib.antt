@@ -1,0 +1,2 @@
+pub mod WindowSides
+pub mod TextWithin
