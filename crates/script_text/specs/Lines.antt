@@ -6,7 +6,7 @@
 --                        or its four numbers are no window: the reach first, then the order
 -- IsLineFault line r     the line is no command's, and r says why: it is too long, whatever it holds; else it has no form; else as its form's fault
 --
--- A line has one command or one fault, and no other. Source: own.
+-- A line has one command at most. Source: own.
 use Rattle.std.specs.Prelude.{◌≡◌, ◌⊎◌, ◌<◌, ◌≤◌, ℕ, List, [], ◌∷◌, length}
 use Rattle.plane_terms.specs.Rectangle.{Rectangle, whole_grid}
 use Rattle.plane_terms.specs.Shape.{Shape}

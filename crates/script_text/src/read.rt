@@ -100,3 +100,10 @@ pub fn read_line(alloc: Global, line: &[u8]) -> Result<Command, LineFault>
         Err(FormFault::NoForm) => Err(LineFault::Refused(LineRefusal::NotALine)),
     }
 }
+
+/// The law of commands: a line has one command at most.
+pub fn one_command_law(line: &[u8])
+    ensures { (c d : commands.Command) → IsCommandLine line.now c → IsCommandLine line.now d → c ≡ d }
+{
+    let _ = line;
+}
