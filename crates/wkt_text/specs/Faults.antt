@@ -1,0 +1,61 @@
+-- Why a text is not read.
+--
+-- IsShapeFault s e       the parts of s make no shape, and e carries the first fault that applies; want of memory may come at any time
+-- IsPolygonFault ps e    the same of the parts ps of a polygon as they are written, or e is the number of the first ring that is not closed
+-- IsWholeFault g e       the same of a geometry
+-- IsWktFault text e      the first token that does not fit, its cause and its place; or where the text spells a geometry, its fault
+use Rattle.std.specs.Prelude.{ℕ, ◌≡◌, true, List, map}
+use Rattle.plane_terms.specs.Lists.{Every}
+use Rattle.plane_terms.specs.Point.{Place}
+use Rattle.plane_terms.specs.Shape.{Shape, shape_of}
+use Rattle.plane_terms.specs.declared.kind.Kind.TheVariants as kind
+use Rattle.shape.specs.Faults.{IsFault}
+use Rattle.shape.specs.Given.{all_rings}
+use Rattle.shape.specs.declared.fault.ShapeFault.TheVariants as shape
+use Rattle.wkt_terms.specs.Faults.{FirstFault, IsSyntax, IsOffGrid, IsOutOfReach, IsUnsupported}
+use Rattle.wkt_terms.specs.Grammar.{Geometry, IsWkt}
+use Rattle.wkt_terms.specs.Shapes.{is_closed, without_last, rings_in, shape_in, AreClosed, IsFirstOpen}
+use Rattle.wkt_text.specs.declared.fault.WktFault.{WktFault}
+use Rattle.wkt_text.specs.declared.fault.WktFault.TheVariants.{Syntax, OffGrid, OutOfReach, Unsupported, NotClosed, Invalid, NoMemory}
+
+abbrev pub IsShapeFault : Shape → WktFault → Type 0
+IsShapeFault s (Syntax at) = ⊥
+IsShapeFault s (OffGrid at) = ⊥
+IsShapeFault s (OutOfReach at) = ⊥
+IsShapeFault s (Unsupported at) = ⊥
+IsShapeFault s (NotClosed ring) = ⊥
+IsShapeFault s (Invalid f) = IsFault s f × (f ≡ shape.NoMemory → ⊥)
+IsShapeFault s NoMemory = Unit {0}
+
+abbrev pub closed_rings : List (List (List Place)) → Type 0
+closed_rings parts = Every (λ ring. is_closed ring ≡ true) (all_rings parts)
+
+abbrev pub opened_shape : List (List (List Place)) → Shape
+opened_shape parts = shape_of kind.Polygon (map (λ part. map without_last part) parts)
+
+abbrev pub IsPolygonFault : List (List (List Place)) → WktFault → Type 0
+IsPolygonFault parts (Syntax at) = ⊥
+IsPolygonFault parts (OffGrid at) = ⊥
+IsPolygonFault parts (OutOfReach at) = ⊥
+IsPolygonFault parts (Unsupported at) = ⊥
+IsPolygonFault parts (NotClosed ring) = IsFirstOpen (all_rings parts) ring
+IsPolygonFault parts (Invalid f) = closed_rings parts × IsShapeFault (opened_shape parts) (Invalid f)
+IsPolygonFault parts NoMemory = Unit {0}
+
+abbrev pub IsWholeFault : Geometry → WktFault → Type 0
+IsWholeFault g (Syntax at) = ⊥
+IsWholeFault g (OffGrid at) = ⊥
+IsWholeFault g (OutOfReach at) = ⊥
+IsWholeFault g (Unsupported at) = ⊥
+IsWholeFault g (NotClosed ring) = IsFirstOpen (rings_in g) ring
+IsWholeFault g (Invalid f) = AreClosed g × IsShapeFault (shape_in g) (Invalid f)
+IsWholeFault g NoMemory = Unit {0}
+
+abbrev pub IsWktFault : List ℕ → WktFault → Type 0
+IsWktFault text (Syntax at) = FirstFault text at IsSyntax
+IsWktFault text (OffGrid at) = FirstFault text at IsOffGrid
+IsWktFault text (OutOfReach at) = FirstFault text at IsOutOfReach
+IsWktFault text (Unsupported at) = FirstFault text at IsUnsupported
+IsWktFault text (NotClosed ring) = (g : Geometry) × IsWkt text g × IsWholeFault g (NotClosed ring)
+IsWktFault text (Invalid f) = (g : Geometry) × IsWkt text g × IsWholeFault g (Invalid f)
+IsWktFault text NoMemory = Unit {0}

@@ -1,0 +1,28 @@
+ghost use Rattle.std.specs.Prelude.{◌≡◌, ◌++◌};
+ghost use Rattle.wkt_terms.specs.Shapes.{shape_text};
+ghost use Rattle.wkt_writer.specs.Appended.{Appends};
+
+use grid_plane::NoMemory;
+use shape::{Kind, Shape};
+use std::alloc::AllocError;
+use wkt_writer::{push_line, push_point, push_polygon};
+
+fn push_shape(out: &mut Vec<u8>, shape: &Shape) -> Result<(), AllocError>
+    ensures { Appends result out.old.items out.new.items (shape_text shape.now) }
+{
+    match shape.kind() {
+        Kind::Point => push_point(out, &shape.place()),
+        Kind::Line => push_line(out, shape.lines()),
+        Kind::Polygon => push_polygon(out, shape.polygons()),
+    }
+}
+
+/// Appends the one written form of a shape; after want of memory a front of it is appended. Reading it gives the shape again.
+pub fn write_wkt(shape: &Shape, out: &mut Vec<u8>) -> Result<(), NoMemory>
+    ensures { Appends result out.old.items out.new.items (shape_text shape.now) }
+{
+    match push_shape(out, shape) {
+        Ok(()) => Ok(()),
+        Err(_) => Err(NoMemory),
+    }
+}
