@@ -32,10 +32,22 @@ fn windows(rt: HostRuntime) {
 #[test]
 fn shapes(rt: HostRuntime) {
     let lines = [
-        ("by ann add lots POINT(10.5 0)", LineRefusal::OffGrid { at: 6 }),
-        ("by ann add lots POINT(0 4194305)", LineRefusal::OutOfReach { at: 8 }),
-        ("by ann change 2  POINT Z (1 2 3)", LineRefusal::Unsupported { at: 6 }),
-        ("by ann add lots POLYGON((0 0,10 0,10 10))", LineRefusal::NotClosed { ring: 0 }),
+        (
+            "by ann add lots POINT(10.5 0)",
+            LineRefusal::OffGrid { at: 6 },
+        ),
+        (
+            "by ann add lots POINT(0 4194305)",
+            LineRefusal::OutOfReach { at: 8 },
+        ),
+        (
+            "by ann change 2  POINT Z (1 2 3)",
+            LineRefusal::Unsupported { at: 6 },
+        ),
+        (
+            "by ann add lots POLYGON((0 0,10 0,10 10))",
+            LineRefusal::NotClosed { ring: 0 },
+        ),
         ("by ann add lots POINT(1)", LineRefusal::NotALine),
         ("by ann change 0 POINT (1.5 0)", LineRefusal::NotALine),
     ];
