@@ -1,0 +1,29 @@
+-- What every store keeps.
+--
+-- IsOfClass cs f   the class of the feature is one of these, and has the kind of its shape
+-- IsGiven n f      the handle of the feature was given before the handle n
+-- IsStore cs F n   at most 64 classes, no two of one name; features ascend by handle, each of a class of its kind, under a handle that was given
+use Rattle.std.specs.Prelude.{◌≡◌, ◌≢◌, ℕ, ◌<◌, ◌≤◌, List, length, Some}
+use Rattle.plane_terms.specs.Lists.{Every, EveryPair}
+use Rattle.topology_terms.specs.Feature.{Class, Feature, IsAscending}
+use Rattle.feature_store.specs.Stored.{class_at}
+
+pub record IsOfClass (cs : List Class) (f : Feature) : Type 0 where
+  pub class : Class
+  pub there : class_at cs f.class ≡ Some class
+  pub kind : f.shape.kind ≡ class.kind
+
+pub record IsGiven (n : ℕ) (f : Feature) : Type 0 where
+  pub from_1 : 1 ≤ f.handle
+  pub before : f.handle < n
+
+abbrev pub AreUnlike : Class → Class → Type 0
+AreUnlike c d = c.name ≢ d.name
+
+pub record IsStore (cs : List Class) (F : List Feature) (next : ℕ) : Type 0 where
+  pub few : length cs ≤ 64
+  pub names : EveryPair AreUnlike cs
+  pub ascending : IsAscending F
+  pub given : Every (IsGiven next) F
+  pub kinds : Every (IsOfClass cs) F
+  pub from_1 : 1 ≤ next

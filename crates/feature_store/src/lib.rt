@@ -1,0 +1,14 @@
+// The feature store: classes and features, a finite map of handles.
+#![tactic(auto)]
+
+mod class;
+mod fault;
+mod live;
+mod store;
+#[cfg(test)]
+mod tests;
+
+pub use fault::StoreFault;
+pub use grid_plane::{Name, NoMemory};
+pub use shape::{Feature, Kind, Shape};
+pub use store::Store;

@@ -1,0 +1,234 @@
+ghost use Rattle.std.specs.Prelude.{◌≡◌, ◌≤◌, ◌<◌, ℕ, [], length, slice_get, Some, None, Option, MatchOption, IfSome, IfOk, IfErr, OnOk, OnErr};
+ghost use Rattle.std.specs.Option.{option_map};
+ghost use Rattle.topology_terms.specs.Feature.{feature_at};
+ghost use Rattle.topology_terms.specs.Feature as terms;
+ghost use Rattle.script_terms.specs.State.{number_from};
+ghost use Rattle.feature_store.specs.Stored.{class_at, IsSame};
+ghost use Rattle.feature_store.specs.Keeps.{IsOfClass, IsStore};
+ghost use Rattle.feature_store.specs.Changes.{IsClassAdded, IsClassFault, IsAdded, IsAddFault, IsSwapped};
+
+use crate::class::{Class, class_number, copy_classes};
+use crate::fault::StoreFault;
+use crate::live::{copy_features, exchange, feature_of};
+use grid_plane::{Name, NoMemory};
+use shape::{Feature, Kind, Shape};
+use std::alloc::Global;
+use std::marker::Model;
+
+// The most classes there may be.
+const CLASS_LIMIT: usize = 64;
+
+/// The classes, numbered from 1, and the live features under their handles: a finite map. Handles are given once, from 1
+/// upwards.
+#[derive(Drop)]
+pub struct Store {
+    classes: Vec<Class>,
+    features: Vec<Feature>,
+    next: u32,
+}
+
+impl Model for Store {
+    ghost use Rattle.std.specs.Prelude.{◌-◌, vec_len, vec_capacity};
+    ghost use Rattle.feature_store.specs.Stored.{Stored};
+    ghost use Rattle.feature_store.specs.Keeps.{IsStore};
+
+    ghost Value = { Stored };
+
+    ghost view = { λ s. record { classes = s.classes.items; features = s.features.items; next = s.next; room = vec_capacity s.features - vec_len s.features } };
+
+    ghost invariant = { λ s. IsStore s.classes.items s.features.items s.next };
+}
+
+impl Store {
+    /// No class and no feature; the next handle is 1.
+    pub fn new(alloc: Global) -> Store
+        ensures classes { result.classes ≡ [] }
+        ensures features { result.features ≡ [] }
+        ensures next { result.next ≡ 1 }
+    {
+        Store {
+            classes: Vec::new(alloc),
+            features: Vec::new(alloc),
+            next: 1,
+        }
+    }
+
+    /// Adds a class of this name and kind and answers its number, from 1 up. Refused where the name is taken, then where
+    /// there are 64 classes; after a refusal nothing has changed.
+    pub fn add_class(&mut self, name: Name, kind: Kind) -> Result<u16, StoreFault>
+        ensures done { IfOk result (λ n. IsClassAdded name kind n self.old self.new) }
+        ensures refused { IfErr result (IsClassFault self.old name) }
+        ensures kept { OnErr result (IsSame self.old self.new) }
+    {
+        if class_number(&self.classes, &name).is_some() {
+            return Err(StoreFault::ClassTaken);
+        }
+        if self.classes.len() == CLASS_LIMIT {
+            return Err(StoreFault::ClassesFull);
+        }
+        self.classes.push(Class::new(name, kind))?;
+        Ok(self.classes.len() as u16)
+    }
+
+    /// The number of the class of this name.
+    pub fn class_by_name(&self, name: &Name) -> Option<u16>
+        ensures { result ≡ number_from 1 self.now.classes name.now }
+    {
+        class_number(&self.classes, name)
+    }
+
+    /// How many classes there are; they have the numbers from 1 to this.
+    pub fn class_count(&self) -> u16
+        ensures count { result ≡ length self.now.classes }
+        ensures few { result ≤ 64 }
+    {
+        self.classes.len() as u16
+    }
+
+    // The class of this number.
+    fn class(&self, class: u16) -> Option<&Class>
+        ensures { MatchOption result (class_at self.now.classes class ≡ None) (λ c. class_at self.now.classes class ≡ Some c.now) }
+    {
+        if class == 0 {
+            return None;
+        }
+        self.classes.get(usize::from(class) - 1)
+    }
+
+    /// The name of the class of this number, where there is one.
+    pub fn class_name(&self, class: u16) -> Option<&Name>
+        ensures { MatchOption result (class_at self.now.classes class ≡ None) (λ n. option_map (λ (c : terms.Class). c.name) (class_at self.now.classes class) ≡ Some n.now) }
+    {
+        Some(self.class(class)?.name())
+    }
+
+    /// The kind of the shapes of the class of this number, where there is one.
+    pub fn class_kind(&self, class: u16) -> Option<Kind>
+        ensures { result ≡ option_map (λ (c : terms.Class). c.kind) (class_at self.now.classes class) }
+    {
+        Some(self.class(class)?.kind())
+    }
+
+    /// Adds a feature of the class of this number and answers its handle, the next one, which then rises by one. Refused
+    /// where there is no such class, then where the kinds differ, then where the next handle is 4,294,967,295; after a
+    /// refusal nothing has changed.
+    pub fn add(&mut self, class: u16, shape: Shape) -> Result<u32, StoreFault>
+        ensures done { IfOk result (λ h. IsAdded class shape h self.old self.new) }
+        ensures refused { IfErr result (IsAddFault self.old class shape) }
+        ensures kept { OnErr result (IsSame self.old self.new) }
+    {
+        let Some(kind) = self.class_kind(class) else {
+            return Err(StoreFault::NoClass);
+        };
+        if shape.kind() != kind {
+            return Err(StoreFault::WrongKind);
+        }
+        let handle = self.next;
+        if handle == u32::MAX {
+            return Err(StoreFault::HandlesSpent);
+        }
+        self.features.push(Feature::new(handle, class, shape))?;
+        self.next = handle + 1;
+        Ok(handle)
+    }
+
+    /// The live feature of this handle. Takes steps for the logarithm of their number.
+    pub fn get(&self, handle: u32) -> Option<&Feature>
+        ensures { MatchOption result (feature_at self.now.features handle ≡ None) (λ f. feature_at self.now.features handle ≡ Some f.now) }
+    {
+        feature_of(&self.features, handle)
+    }
+
+    /// How many live features there are.
+    pub fn len(&self) -> usize
+        ensures { result ≡ length self.now.features }
+    {
+        self.features.len()
+    }
+
+    /// The live feature at this place, from 0, in order of handles.
+    pub fn feature(&self, i: usize) -> &Feature
+        requires { i < length self.now.features }
+        ensures { slice_get self.now.features i ≡ Some result.now }
+    {
+        &self.features[i]
+    }
+
+    /// The live features in order of handles.
+    pub fn features(&self) -> &[Feature]
+        ensures value { result.now ≡ self.now.features }
+        ensures keeps { IsStore self.now.classes self.now.features self.now.next }
+    {
+        &self.features
+    }
+
+    /// The handle that comes next.
+    pub fn next_handle(&self) -> u32
+        ensures next { result ≡ self.now.next }
+        ensures from_1 { 1 ≤ result }
+    {
+        self.next
+    }
+
+    /// Raises the next handle.
+    pub fn set_next(&mut self, next: u32)
+        requires { self.old.next ≤ next }
+        ensures classes { self.new.classes ≡ self.old.classes }
+        ensures features { self.new.features ≡ self.old.features }
+        ensures next { self.new.next ≡ next }
+    {
+        self.next = next;
+    }
+
+    /// Makes room for a feature more, so that the next exchange wants no memory.
+    pub fn room(&mut self) -> Result<(), NoMemory>
+        ensures room { OnOk result (1 ≤ self.new.room) }
+        ensures same { IsSame self.old self.new }
+    {
+        self.features.reserve(1)?;
+        Ok(())
+    }
+
+    /// Exchanges the live feature of this handle, or its absence, with the kept one. Takes no memory: there is room.
+    pub fn swap_in(&mut self, handle: u32, kept: &mut Option<Feature>)
+        requires from_1 { 1 ≤ handle }
+        requires given { handle < self.old.next }
+        requires own { IfSome kept.old (λ f. f.handle ≡ handle) }
+        requires fits { IfSome kept.old (IsOfClass self.old.classes) }
+        requires room { 1 ≤ self.old.room }
+        ensures swapped { IsSwapped handle kept.new kept.old self.old self.new }
+        ensures own { IfSome kept.new (λ f. f.handle ≡ handle) }
+        ensures fits { IfSome kept.new (IsOfClass self.new.classes) }
+    {
+        exchange(&mut self.features, handle, kept);
+    }
+
+    /// Exchanges the live feature of this handle, or its absence, with the kept one. After a refusal, want of memory,
+    /// nothing has changed.
+    pub fn swap(&mut self, handle: u32, kept: &mut Option<Feature>) -> Result<(), NoMemory>
+        requires from_1 { 1 ≤ handle }
+        requires given { handle < self.old.next }
+        requires own { IfSome kept.old (λ f. f.handle ≡ handle) }
+        requires fits { IfSome kept.old (IsOfClass self.old.classes) }
+        ensures done { OnOk result (IsSwapped handle kept.new kept.old self.old self.new) }
+        ensures own { IfSome kept.new (λ f. f.handle ≡ handle) }
+        ensures fits { IfSome kept.new (IsOfClass self.new.classes) }
+        ensures same { OnErr result (IsSame self.old self.new) }
+        ensures kept { OnErr result (kept.new ≡ kept.old) }
+    {
+        self.room()?;
+        self.swap_in(handle, kept);
+        Ok(())
+    }
+
+    /// An equal store.
+    pub fn try_copy(&self, alloc: Global) -> Result<Store, NoMemory>
+        ensures { IfOk result (λ s. IsSame self.now s) }
+    {
+        Ok(Store {
+            classes: copy_classes(alloc, &self.classes)?,
+            features: copy_features(alloc, &self.features)?,
+            next: self.next,
+        })
+    }
+}

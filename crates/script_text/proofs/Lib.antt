@@ -1,0 +1,3 @@
+pub mod WindowSides
+pub mod TextWithin
+pub mod OneCommand

@@ -1,0 +1,28 @@
+-- What the code's commands stand for.
+--
+-- command_of c     the command that the code's value is
+use Rattle.script_text.specs.Commands as commands
+use Rattle.script_text.specs.declared.command.Command.{Command}
+use Rattle.script_text.specs.declared.command.Command.TheVariants as command
+
+abbrev pub command_of : Command → commands.Command
+command_of command.Blank = commands.Blank
+command_of (command.Class name kind) = commands.Class name kind
+command_of (command.Rule kind origin dest) = commands.Rule kind origin dest
+command_of (command.DropRule rule) = commands.DropRule rule
+command_of (command.Begin editor) = commands.Begin editor
+command_of (command.End editor) = commands.End editor
+command_of (command.Discard editor) = commands.Discard editor
+command_of (command.Add editor class shape) = commands.Add editor class shape
+command_of (command.Change editor handle shape) = commands.Change editor handle shape
+command_of (command.Delete editor handle) = commands.Delete editor handle
+command_of (command.Undo editor) = commands.Undo editor
+command_of (command.Redo editor) = commands.Redo editor
+command_of (command.Validate window) = commands.Validate window
+command_of (command.Mark rule subject other) = commands.Mark rule subject other
+command_of (command.Unmark rule subject other) = commands.Unmark rule subject other
+command_of command.Dirty = commands.Dirty
+command_of command.Errors = commands.Errors
+command_of command.Cells = commands.Cells
+command_of command.Features = commands.Features
+command_of command.Rules = commands.Rules

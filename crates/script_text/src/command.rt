@@ -1,0 +1,48 @@
+use grid_plane::{Name, Rect};
+use rule_core::{Kind, RuleKind};
+use shape::Shape;
+
+/// What a line asks for: one variant a command, with the values of the line's fields in their order.
+#[derive(Drop)]
+pub enum Command {
+    /// Nothing: the line is skipped.
+    Blank,
+    /// `class NAME KIND`
+    Class(Name, Kind),
+    /// `rule WORD ORIGIN [DEST]`
+    Rule(RuleKind, Name, Option<Name>),
+    /// `droprule R`
+    DropRule(u16),
+    /// `begin EDITOR`
+    Begin(Name),
+    /// `end EDITOR`
+    End(Name),
+    /// `discard EDITOR`
+    Discard(Name),
+    /// `by EDITOR add CLASS SHAPE`
+    Add(Name, Name, Shape),
+    /// `by EDITOR change H SHAPE`
+    Change(Name, u32, Shape),
+    /// `by EDITOR delete H`
+    Delete(Name, u32),
+    /// `by EDITOR undo`
+    Undo(Name),
+    /// `by EDITOR redo`
+    Redo(Name),
+    /// `validate X0 Y0 X1 Y1`, or `validate all`, which is the whole grid.
+    Validate(Rect),
+    /// `mark R H H2`
+    Mark(u16, u32, u32),
+    /// `unmark R H H2`
+    Unmark(u16, u32, u32),
+    /// `dirty`
+    Dirty,
+    /// `errors`
+    Errors,
+    /// `cells`
+    Cells,
+    /// `features`
+    Features,
+    /// `rules`
+    Rules,
+}
