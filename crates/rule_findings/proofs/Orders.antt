@@ -1,5 +1,5 @@
 -- Findings in the order of partners, with one more.
-use Rattle.std.proofs.Common.{◌≡◌, ℕ, ◌<◌, List, [], ◌∷◌, ◌++◌}
+use Rattle.std.proofs.Common.{◌<◌, List, [], ◌∷◌, ◌++◌}
 use Rattle.plane_terms.specs.Lists.{Every}
 use Rattle.topology_terms.specs.Meaning.{Finding}
 use Rattle.validation_steps.specs.Parts.{AreInOrder}

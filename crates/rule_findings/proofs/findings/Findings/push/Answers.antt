@@ -1,4 +1,3 @@
-use Rattle.std.proofs.Common.{◌≡◌}
 use Rattle.rule_findings.proofs.Orders.{order_more}
 use Rattle.rule_findings.proofs.findings.Findings.push.Goals as goal
 

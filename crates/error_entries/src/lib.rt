@@ -1,0 +1,12 @@
+// The errors of any rule: entries with their cells, frames and marks, replaced by subject.
+#![tactic(auto)]
+
+mod compare;
+mod entry;
+mod errors;
+mod key;
+mod merge;
+
+pub use entry::Entry;
+pub use errors::Errors;
+pub use key::Key;
