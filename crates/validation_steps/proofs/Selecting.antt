@@ -16,13 +16,10 @@ use Rattle.topology_terms.specs.Project.{Project}
 use Rattle.topology_terms.specs.Changes.{IsSelected}
 use Rattle.sound_steps.proofs.FeatureLists.{at_handle, past_handle}
 use Rattle.sound_steps.proofs.Lists.{at_key, past_key, same_key}
+use Rattle.validation_steps.specs.Picked.{ArePicked}
 use Rattle.validation_steps.proofs.Handles.{IsAmong, among, contained}
 
 -- ---- picked along a list
--- out has what was there before, and the numbers of the elements of which P holds
-abbrev pub ArePicked : {X : Type 0} → (X → Type 0) → (X → ℕ) → List X → List ℕ → List ℕ → Type 0
-ArePicked {X} P number xs before out = (a : ℕ) → Contains out a ↔ (Contains before a ⊎ SomeOf (λ (x : X). (number x ≡ a) × P x) xs)
-
 among_joined : (a : ℕ) (ms ns : List ℕ) → IsAmong a (ms ++ ns) → IsAmong a ms ⊎ IsAmong a ns
 among_joined a [] ns h = inr h
 among_joined a (m ∷ ms) ns h = elim h [ inl e ↦ inl (inl e) | inr k ↦ elim (among_joined a ms ns k) [ inl l ↦ inl (inr l) | inr l ↦ inr l ] ]

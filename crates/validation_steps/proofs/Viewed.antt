@@ -23,7 +23,7 @@ around F V f p v k = record { forth = λ h g e m. (v.forth h g e).0; back = λ h
 pub subject_seen : (F V : List Feature) (a : ℕ) (f : Feature) → feature_at F a ≡ Some f → IsView F f V → feature_at V a ≡ Some f
 subject_seen F V a f e v = let held = holds_corner (env f) (envelope_proper f.shape) in v.back a f e (corner (env f), held, held)
 
-in_envelope : (M : Meaning) → Laws M → (row : Row) (F : List Feature) (a b : ℕ) (f : Feature) (p : Point) → feature_at F a ≡ Some f → M.BrokenAt row F a b p → RectHolds (env f) p
+pub in_envelope : (M : Meaning) → Laws M → (row : Row) (F : List Feature) (a b : ℕ) (f : Feature) (p : Point) → feature_at F a ≡ Some f → M.BrokenAt row F a b p → RectHolds (env f) p
 in_envelope M L row F a b f p e k =
     let y = L.inside row F a b p k in
     let same : y.0 ≡ f = (let l = y.1 in cc) in
