@@ -2,7 +2,8 @@
 use Rattle.std.proofs.Common.{◌≡◌, ℕ, ◌<◌, zero, suc, Bool, true, false, List, [], ◌∷◌, Some, None, refl, sym, ◌∙◌, ap, arith, length, get_or}
 use Rattle.std.specs.Prelude.{slice_get, nat_lt, ◌==◌}
 use Rattle.std.specs.List.Sorted.{IsPartitionPoint, IsPartitionedBy}
-use Rattle.std.proofs.lemmas.Bool.Decides.{nat_tests, eqb_tells}
+use Rattle.std.proofs.lemmas.Bool.Decides.{nat_tests}
+use Rattle.std.proofs.lemmas.Option.{slice_get-get_or}
 use Rattle.plane_terms.specs.Lists.{Every}
 use Rattle.topology_terms.specs.Feature.{Feature, feature_at, IsAscending}
 use Rattle.sound_steps.proofs.FeatureLists.{at_handle, past_handle}
@@ -67,3 +68,21 @@ not_there (f ∷ F) h (suc i) u p n =
 
 pub apart_handle : (m n : ℕ) → (m ≡ n → ⊥) → (m == n) ≡ false
 apart_handle m n d = grind (arith, nat_tests)
+
+-- what is read at a place, within the list
+pub read_there : (F : List Feature) (i : ℕ) (f : Feature) → true ≡ nat_lt i (length F) → f ≡ get_or F i f → slice_get F i ≡ Some f
+read_there F i f t e = slice_get-get_or F i f (below i (length F) (sym t)) ∙ ap Some (sym e)
+  where
+    below : (m n : ℕ) → nat_lt m n ≡ true → m < n
+    below m n t = grind (arith, nat_tests)
+
+pub read_within : (F : List Feature) (i : ℕ) (f : Feature) → slice_get F i ≡ Some f → i < length F
+read_within [] i f e = cc
+read_within (g ∷ F) zero f e = omega arith
+read_within (g ∷ F) (suc i) f e = let l = read_within F i f e in omega arith
+
+pub not_beyond : (F : List Feature) (i : ℕ) (f : Feature) → false ≡ nat_lt i (length F) → slice_get F i ≡ Some f → ⊥
+not_beyond F i f t e = beyond i (length F) (sym t) (read_within F i f e)
+  where
+    beyond : (m n : ℕ) → nat_lt m n ≡ false → m < n → ⊥
+    beyond m n t l = grind (arith, nat_tests)

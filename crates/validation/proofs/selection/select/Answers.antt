@@ -1,4 +1,4 @@
-use Rattle.std.proofs.Common.{◌≡◌, ◌↔◌, ◌⊎◌, ◌∙◌, ℕ, [], List, Contains, sym}
+use Rattle.std.proofs.Common.{◌≡◌, ◌↔◌, ◌⊎◌, ◌∙◌, ℕ, [], List, Contains, sym, subst}
 use Rattle.std.proofs.lemmas.Result.{IfOk-weaker}
 use Rattle.plane_terms.specs.Lists.{SomeOf}
 use Rattle.topology_terms.specs.Feature.{Feature, env}
@@ -13,7 +13,7 @@ use Rattle.validation_steps.proofs.Selecting.{selected_picked}
 use Rattle.validation.proofs.selection.select.Goals as goal
 
 pub returns-clause-rising : goal.returns-clause-rising
-returns-clause-rising c = IfOk-weaker c.handles_of.result _ IsRising (λ s h. rw (h, c.deref.ensures.value) (rising c.once_each.new.found.items c.once_each.ensures.ascending)) c.handles_of.ensures
+returns-clause-rising c = IfOk-weaker c.handles_of.result _ IsRising (λ s h. subst IsRising (sym (h ∙ c.deref.ensures.value)) (rising c.once_each.new.found.items c.once_each.ensures.ascending)) c.handles_of.ensures
 
 pub returns-clause-chosen : goal.returns-clause-chosen
 returns-clause-chosen c = IfOk-weaker c.handles_of.result _
@@ -26,4 +26,4 @@ returns-clause-chosen c = IfOk-weaker c.handles_of.result _
     let second : ArePicked (λ (e : Entry). MeetsPart p.dirt w e.frame) (λ (e : Entry). e.subject) p.entries early late = rw (ee, ed) (rw c.entries.ensures.value at c.in_ok-add_subjects.ensures) in
     let chosen = selected_picked p w early late (rw ef c.requires) (rw ee c.entries.ensures.ascending) first second a in
     let once = c.once_each.ensures.same a in
-    rw (h, c.deref.ensures.value) ((λ k. chosen.0 (once.0 k)), (λ k. once.1 (chosen.1 k)))) c.handles_of.ensures
+    subst (λ t. Contains t a ↔ IsSelected p w a) (sym (h ∙ c.deref.ensures.value)) ((λ k. chosen.0 (once.0 k)), (λ k. once.1 (chosen.1 k)))) c.handles_of.ensures
