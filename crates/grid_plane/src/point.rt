@@ -7,7 +7,7 @@ use std::marker::Model;
 pub const REACH: i64 = 4_194_304;
 
 /// A place of the grid within the reach, in grid units.
-#[derive(Clone, Copy)]
+#[derive(Clone, Copy, PartialEq, Eq)]
 pub struct GridPoint {
     x: i32,
     y: i32,

@@ -1,0 +1,14 @@
+pub mod Ascending
+pub mod Bad
+pub mod Best
+pub mod Boxes
+pub mod Changed
+pub mod Dropped
+pub mod Ends
+pub mod Filled
+pub mod Held
+pub mod Made
+pub mod Opening
+pub mod Places
+pub mod Results
+pub mod Shorts

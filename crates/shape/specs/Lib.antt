@@ -1,0 +1,6 @@
+pub mod Counts
+pub mod Faults
+pub mod Form
+pub mod Given
+pub mod Kept
+pub mod Sweep

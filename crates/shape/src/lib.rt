@@ -1,0 +1,24 @@
+// Shapes of features: points, lines and polygons of the grid, exactly valid or refused by name; and features.
+#![tactic(auto)]
+
+mod counts;
+mod envelope;
+mod fault;
+mod feature;
+mod form;
+mod line;
+mod numbered;
+mod pair;
+mod polygon;
+mod same;
+mod segments;
+mod shape;
+mod sweep;
+#[cfg(test)]
+mod tests;
+mod vertices;
+
+pub use fault::ShapeFault;
+pub use feature::Feature;
+pub use plane_terms::Kind;
+pub use shape::Shape;

@@ -1,0 +1,65 @@
+ghost use Rattle.std.specs.Prelude.{◌≡◌, ◌↔◌, IsTrue, IfOk};
+ghost use Rattle.shape.specs.Given.{rings_in, polygons_in};
+
+use grid_plane::{GridPoint, NoMemory};
+use std::alloc::Global;
+
+fn are_same_vertices(ring: &[GridPoint], other: &[GridPoint]) -> bool
+    ensures { IsTrue result ↔ (ring.now ≡ other.now) }
+{
+    ring == other
+}
+
+pub(crate) fn are_same_rings(rings: &[Vec<GridPoint>], others: &[Vec<GridPoint>]) -> bool
+    ensures { IsTrue result ↔ (rings_in rings.now ≡ rings_in others.now) }
+{
+    if rings.len() != others.len() {
+        return false;
+    }
+    for i in 0..rings.len() {
+        if !are_same_vertices(&rings[i], &others[i]) {
+            return false;
+        }
+    }
+    true
+}
+
+pub(crate) fn are_same_parts(parts: &[Vec<Vec<GridPoint>>], others: &[Vec<Vec<GridPoint>>]) -> bool
+    ensures { IsTrue result ↔ (polygons_in parts.now ≡ polygons_in others.now) }
+{
+    if parts.len() != others.len() {
+        return false;
+    }
+    for i in 0..parts.len() {
+        if !are_same_rings(&parts[i], &others[i]) {
+            return false;
+        }
+    }
+    true
+}
+
+pub(crate) fn copy_of_rings(
+    alloc: Global,
+    rings: &[Vec<GridPoint>],
+) -> Result<Vec<Vec<GridPoint>>, NoMemory>
+    ensures { IfOk result (λ v. rings_in v.items ≡ rings_in rings.now) }
+{
+    let mut copy = Vec::new(alloc);
+    for ring in rings {
+        copy.push(Vec::from_slice(alloc, ring)?)?;
+    }
+    Ok(copy)
+}
+
+pub(crate) fn copy_of_parts(
+    alloc: Global,
+    parts: &[Vec<Vec<GridPoint>>],
+) -> Result<Vec<Vec<Vec<GridPoint>>>, NoMemory>
+    ensures { IfOk result (λ v. polygons_in v.items ≡ polygons_in parts.now) }
+{
+    let mut copy = Vec::new(alloc);
+    for part in parts {
+        copy.push(copy_of_rings(alloc, part)?)?;
+    }
+    Ok(copy)
+}
