@@ -1,0 +1,61 @@
+ghost use Rattle.std.specs.Prelude.{◌≡◌, ◌<◌, [], ◌∷◌, ◌++◌, length, slice_get, Some, OnOk, OnErr};
+ghost use Rattle.plane_terms.specs.Lists.{Every};
+ghost use Rattle.topology_terms.specs.Feature as terms;
+
+use grid_plane::NoMemory;
+use shape::Feature;
+use std::alloc::Global;
+use std::marker::Model;
+
+/// The features that a rule is shown for a subject, ascending by handle.
+#[derive(Drop)]
+pub struct View<'a> {
+    features: Vec<&'a Feature>,
+}
+
+impl<'a> Model for View<'a> {
+    ghost use Rattle.std.specs.Prelude.{List, map};
+    ghost use Rattle.topology_terms.specs.Feature as terms;
+
+    ghost Value = { List terms.Feature };
+
+    ghost view = { λ v. map (λ f. f.now) v.features.items };
+
+    ghost invariant = { λ v. terms.IsAscending (map (λ f. f.now) v.features.items) };
+}
+
+impl<'a> View<'a> {
+    /// No feature.
+    pub fn new(alloc: Global) -> View<'a>
+        ensures { result ≡ [] }
+    {
+        View {
+            features: Vec::new(alloc),
+        }
+    }
+
+    /// How many features there are.
+    pub fn len(&self) -> usize
+        ensures { result ≡ length self.now }
+    {
+        self.features.len()
+    }
+
+    /// The feature at this place of the list, from 0.
+    pub fn feature(&self, i: usize) -> &'a Feature
+        requires { i < length self.now }
+        ensures { slice_get self.now i ≡ Some result.now }
+    {
+        self.features[i]
+    }
+
+    /// Puts a feature last, whose handle is above all others; where memory runs out the list stays as it was.
+    pub fn push(&mut self, f: &'a Feature) -> Result<(), NoMemory>
+        requires { Every (λ (g : terms.Feature). g.handle < f.now.handle) self.old }
+        ensures ok { OnOk result (self.new ≡ self.old ++ f.now ∷ []) }
+        ensures err { OnErr result (self.new ≡ self.old) }
+    {
+        self.features.push(f)?;
+        Ok(())
+    }
+}

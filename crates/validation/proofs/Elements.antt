@@ -1,0 +1,41 @@
+-- Elements of lists, by place.
+use Rattle.std.proofs.Common.{◌≡◌, ◌↔◌, ℕ, ◌<◌, ◌+◌, zero, suc, Bool, true, false, List, [], ◌∷◌, ◌++◌, Option, Some, None, refl, sym, ◌∙◌, ap, arith, take, length, get_or, cond, subst}
+use Rattle.std.specs.Prelude.{slice_get, All}
+use Rattle.std.specs.List.{filter}
+use Rattle.std.specs.List.Sorted.{IsStrictlyIncreasing}
+use Rattle.std.proofs.lemmas.List.{take_more, get_or-take, length-take}
+use Rattle.std.proofs.lemmas.List.Elements.{All-from_get_or}
+use Rattle.std.proofs.lemmas.List.Kept.{AllPairs-from_increasing}
+use Rattle.std.proofs.lemmas.Option.{get_or_from_slice_get}
+use Rattle.plane_terms.specs.Lists.{Every}
+use Rattle.topology_terms.specs.Feature.{Feature, IsAscending}
+use Rattle.validation_steps.proofs.Joining.{every_joined, every_mapped}
+
+pub every_at : {A : Type 0} (P : A → Type 0) (xs : List A) (i : ℕ) (x : A) → Every P xs → i < length xs → x ≡ get_or xs i x → P x
+every_at P [] i x h l e = absurd (omega arith)
+every_at P (y ∷ xs) zero x h l e = let s : y ≡ x = sym e in subst P s h.0
+every_at P (y ∷ xs) (suc i) x h l e = every_at P xs i x h.1 (omega arith) e
+
+pub every_got : {A : Type 0} (P : A → Type 0) (xs : List A) (i : ℕ) (x : A) → Every P xs → i < length xs → slice_get xs i ≡ Some x → P x
+every_got P xs i x h l e = every_at P xs i x h l (sym (get_or_from_slice_get xs i x x e))
+
+-- the numbers before one of an increasing list are below it
+pub all_before : (xs : List ℕ) (i x : ℕ) → IsStrictlyIncreasing xs → i < length xs → x ≡ get_or xs i x → All (λ h. h < x) (take i xs)
+all_before xs i x u l e = All-from_get_or (λ h. h < x) (take i xs) x (λ k m.
+    let short : k < i = (let n = length-take i xs in omega arith) in
+    let p : get_or xs k x < get_or xs i x = AllPairs-from_increasing xs u k i x short l in
+    subst (λ n. n < x) (sym (get_or-take i xs k x short)) (subst (λ n. get_or xs k x < n) (sym e) p))
+
+-- the features before one of an ascending list have lower handles
+pub every_before : (F : List Feature) (i : ℕ) (f : Feature) → IsAscending F → i < length F → f ≡ get_or F i f → Every (λ (g : Feature). g.handle < f.handle) (take i F)
+every_before [] i f u l e = absurd (omega arith)
+every_before (g ∷ F) zero f u l e = tt
+every_before (g ∷ F) (suc i) f u l e = (every_at (λ (x : Feature). g.handle < x.handle) F i f u.0 (omega arith) e, every_before F i f u.1 (omega arith) e)
+
+pub every_kept : {A : Type 0} (P : A → Type 0) (test : A → Bool) (xs : List A) → Every P xs → Every P (filter test xs)
+every_kept P test [] h = tt
+every_kept {A} P test (x ∷ xs) h = pick (test x) (every_kept P test xs h.1)
+  where
+    pick : (b : Bool) → Every P (filter test xs) → Every P (cond b (x ∷ filter test xs) (filter test xs))
+    pick true k = (h.0, k)
+    pick false k = k

@@ -1,0 +1,4 @@
+mod Elements
+mod Lookups
+mod CellFrames
+mod Settled

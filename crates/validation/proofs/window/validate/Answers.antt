@@ -1,0 +1,34 @@
+use Rattle.std.proofs.Common.{◌≡◌, ◌↔◌, ℕ, Contains}
+use Rattle.topology_terms.specs.Project.{Project}
+use Rattle.topology_terms.specs.Changes.{IsSelected}
+use Rattle.validation_steps.specs.Parts.{live_of}
+use Rattle.validation_steps.proofs.Judging.{judging_fresh}
+use Rattle.validation_steps.proofs.Validating.{parts_kept_valid, parts_kept_sound, parts_kept_settled}
+use Rattle.validation.specs.Projects.{HasParts, with_parts}
+use Rattle.validation.proofs.Settled.{validated, selected_live}
+use Rattle.validation.proofs.window.validate.Goals as goal
+
+pub replace-requires-clause-new : goal.replace-requires-clause-new
+replace-requires-clause-new g c = judging_fresh g.R.RuleSet.meaning c.args.features.now c.in_ok-selected.selected c.args.in_force.now c.in_ok-fresh.fresh.items c.in_ok-fresh.ensures.judging
+
+pub returns-clause-step : goal.returns-clause-step
+returns-clause-step g c = λ p h.
+    let cut = rw c.in_ok-left.ensures at c.in_ok-cut.ensures.ok in
+    validated g.R.RuleSet.meaning c.args.window.now p c.args.in_force.now c.args.features.now c.args.dirt.now c.cut.new.self c.args.errors.now c.replace.new.self c.in_ok-fresh.fresh.items c.in_ok-selected.selected
+    h c.requires.rules c.in_ok-selected.ensures.rising (λ a. c.in_ok-selected.ensures.chosen p h.features h.dirt h.entries a) c.in_ok-fresh.ensures.judging c.in_ok-replace.ensures.replaced cut
+
+pub returns-clause-valid : goal.returns-clause-valid
+returns-clause-valid g c = λ p h v. parts_kept_valid g.R.RuleSet.meaning g.met.R.RuleSet.right c.args.window.now p (with_parts p c.cut.new.self c.replace.new.self) (returns-clause-step g c p h) v
+
+pub returns-clause-sound : goal.returns-clause-sound
+returns-clause-sound g c = λ p h v s. parts_kept_sound g.R.RuleSet.meaning g.met.R.RuleSet.laws g.met.R.RuleSet.right c.args.window.now p (with_parts p c.cut.new.self c.replace.new.self) (returns-clause-step g c p h) v s
+
+pub returns-clause-settled : goal.returns-clause-settled
+returns-clause-settled g c = λ p h v s. parts_kept_settled g.R.RuleSet.meaning g.met.R.RuleSet.laws g.met.R.RuleSet.right c.args.window.now p (with_parts p c.cut.new.self c.replace.new.self) (returns-clause-step g c p h) v s
+
+pub returns-clause-judged : goal.returns-clause-judged
+returns-clause-judged g c = λ p h. (
+  live_of c.args.features.now c.in_ok-selected.selected,
+  selected_live c.args.window.now p c.args.features.now c.in_ok-selected.selected c.requires.features c.in_ok-selected.ensures.rising (λ a. c.in_ok-selected.ensures.chosen p h.features h.dirt h.entries a),
+  c.in_ok-fresh.ensures.judged,
+)

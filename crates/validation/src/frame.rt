@@ -1,0 +1,33 @@
+ghost use Rattle.std.specs.Prelude.{◌≡◌, ◌≢◌, ◌<◌, [], ◌∷◌, false, length, slice_get, Some};
+ghost use Rattle.plane_terms.specs.Lists.{Every};
+ghost use Rattle.plane_terms.specs.Point.{Point};
+ghost use Rattle.plane_terms.specs.Rectangle.{RectHolds, whole_grid};
+ghost use Rattle.plane_terms.specs.Cell.{InCell, HasPoint, HavePoints, IsLeastFrame};
+ghost use Rattle.plane_terms.specs.Cell as terms;
+
+use convex_cell::Cells;
+use grid_plane::Rect;
+
+// The frame of the cell at this place.
+fn frame_at(cells: &Cells, i: usize) -> Rect
+    requires short { i < length cells.now }
+    requires points { HavePoints cells.now }
+    requires on_grid { Every (λ (c : terms.Cell). (p : Point) → InCell c p → RectHolds whole_grid p) cells.now }
+    ensures { (c : terms.Cell) → slice_get cells.now i ≡ Some c → IsLeastFrame result (c ∷ []) }
+{
+    cells.cell(i).frame()
+}
+
+/// The least rectangle of the grid that holds every point of the cells. It takes no memory.
+pub fn frame_of(cells: &Cells) -> Rect
+    requires some { cells.now ≢ [] }
+    requires points { HavePoints cells.now }
+    requires on_grid { Every (λ (c : terms.Cell). (p : Point) → InCell c p → RectHolds whole_grid p) cells.now }
+    ensures { IsLeastFrame result cells.now }
+{
+    let mut frame = frame_at(cells, 0);
+    for i in 1..cells.len() {
+        frame = frame.join(&frame_at(cells, i));
+    }
+    frame
+}

@@ -1,0 +1,143 @@
+ghost use Rattle.std.specs.Prelude.{◌≡◌, ◌++◌, [], ◌∷◌, List, true, false, Some, IfOk, OnOk};
+ghost use Rattle.std.specs.Option.{option_to_list};
+ghost use Rattle.plane_terms.specs.Lists.{Every, Paired, how_many};
+ghost use Rattle.plane_terms.specs.Cell.{IsLeastFrame};
+ghost use Rattle.topology_terms.specs.Feature.{feature_at, env, IsAscending};
+ghost use Rattle.topology_terms.specs.Broken.{judges_test};
+ghost use Rattle.topology_terms.specs.Entry as terms;
+ghost use Rattle.topology_terms.specs.Project as projects;
+ghost use Rattle.validation_steps.specs.Parts.{IsNewEntry, IsSubjectPart, IsRulePart, IsJudging, live_of};
+ghost use Rattle.validation_steps.specs.Framed.{IsFramable};
+ghost use Rattle.validation_steps.specs.Counts.{raised, judged_of};
+
+use crate::lookup::find;
+use crate::frame::frame_of;
+use crate::near::view_of;
+use error_entries::{Entry, Key};
+use grid_plane::{Handles, NoMemory, Rect};
+use rule_findings::{Finding, InForce};
+use rule_judging::{RuleSet, Work};
+use shape::Feature;
+use std::alloc::Global;
+
+// The least frame of its cells, or the envelope of the subject that breaks the rule as a whole.
+fn frame_for(f: &Feature, x: &Finding) -> Rect
+    requires { IsFramable x.now }
+    ensures least { x.now.whole ≡ false → IsLeastFrame result x.now.cells }
+    ensures envelope { x.now.whole ≡ true → result ≡ env f.now }
+{
+    if x.whole {
+        f.shape().env()
+    } else {
+        frame_of(&x.cells)
+    }
+}
+
+fn entry_of(rule: u16, f: &Feature, x: Finding) -> Entry
+    requires { IsFramable x }
+    ensures { IsNewEntry rule f.now.handle f.now x result }
+{
+    let frame = frame_for(f, &x);
+    let key = Key {
+        rule,
+        subject: f.handle(),
+        other: x.other,
+    };
+    Entry::new(key, x.whole, false, frame, x.cells)
+}
+
+// Puts an entry for each finding.
+fn add_findings(rule: u16, f: &Feature, findings: Vec<Finding>, out: &mut Vec<Entry>) -> Result<(), NoMemory>
+    requires { Every IsFramable findings.items }
+    ensures { OnOk result ((es : List terms.Entry) × (out.new.items ≡ out.old.items ++ es) × Paired (IsNewEntry rule f.now.handle f.now) findings.items es) }
+{
+    for x in findings {
+        out.push(entry_of(rule, f, x))?;
+    }
+    Ok(())
+}
+
+fn judge_live<R: RuleSet>(
+    rules: &R,
+    alloc: Global,
+    rule: &InForce,
+    features: &[Feature],
+    f: &Feature,
+    out: &mut Vec<Entry>,
+    work: &mut Work,
+) -> Result<(), NoMemory>
+    requires ascending { IsAscending features.now }
+    requires live { feature_at features.now f.now.handle ≡ Some f.now }
+    requires fits { R.meaning.Fits rule.now.row features.now }
+    ensures part { OnOk result ((es : List terms.Entry) × (out.new.items ≡ out.old.items ++ es) × IsSubjectPart R.meaning features.now rule.now.number rule.now.row f.now.handle es) }
+    ensures judged { OnOk result (work.new ≡ raised work.old (how_many (judges_test rule.now.row) (f.now ∷ []))) }
+{
+    f.shape().env().corner_law();
+    if !rule.row.judges(f.class()) {
+        return Ok(());
+    }
+    let view = view_of(alloc, features, f)?;
+    let findings = rules.judge_row(alloc, &rule.row, &view, f.handle(), work)?;
+    add_findings(rule.number, f, findings.into_list(), out)
+}
+
+fn judge_subject<R: RuleSet>(
+    rules: &R,
+    alloc: Global,
+    rule: &InForce,
+    features: &[Feature],
+    subject: u32,
+    out: &mut Vec<Entry>,
+    work: &mut Work,
+) -> Result<(), NoMemory>
+    requires ascending { IsAscending features.now }
+    requires fits { R.meaning.Fits rule.now.row features.now }
+    ensures part { OnOk result ((es : List terms.Entry) × (out.new.items ≡ out.old.items ++ es) × IsSubjectPart R.meaning features.now rule.now.number rule.now.row subject es) }
+    ensures judged { OnOk result (work.new ≡ raised work.old (how_many (judges_test rule.now.row) (option_to_list (feature_at features.now subject)))) }
+{
+    match find(features, subject) {
+        Some(f) => judge_live(rules, alloc, rule, features, f, out, work),
+        None => Ok(()),
+    }
+}
+
+fn judge_rule<R: RuleSet>(
+    rules: &R,
+    alloc: Global,
+    rule: &InForce,
+    features: &[Feature],
+    selected: &Handles,
+    out: &mut Vec<Entry>,
+    work: &mut Work,
+) -> Result<(), NoMemory>
+    requires ascending { IsAscending features.now }
+    requires fits { R.meaning.Fits rule.now.row features.now }
+    ensures part { OnOk result ((es : List terms.Entry) × (out.new.items ≡ out.old.items ++ es) × IsRulePart R.meaning features.now selected.now rule.now es) }
+    ensures judged { OnOk result (work.new ≡ raised work.old (how_many (judges_test rule.now.row) (live_of features.now selected.now))) }
+{
+    for i in 0..selected.len() {
+        judge_subject(rules, alloc, rule, features, selected.at(i), out, work)?;
+    }
+    Ok(())
+}
+
+/// Puts the new entries of the selected subjects: rule by rule, subject by subject, in the order of partners.
+pub fn judge_all<R: RuleSet>(
+    rules: &R,
+    alloc: Global,
+    in_force: &[InForce],
+    features: &[Feature],
+    selected: &Handles,
+    out: &mut Vec<Entry>,
+    work: &mut Work,
+) -> Result<(), NoMemory>
+    requires ascending { IsAscending features.now }
+    requires fits { Every (λ (q : projects.InForce). R.meaning.Fits q.row features.now) in_force.now }
+    ensures part { OnOk result ((es : List terms.Entry) × (out.new.items ≡ out.old.items ++ es) × IsJudging R.meaning features.now in_force.now selected.now es) }
+    ensures judged { OnOk result (work.new ≡ raised work.old (judged_of in_force.now (live_of features.now selected.now))) }
+{
+    for rule in in_force {
+        judge_rule(rules, alloc, rule, features, selected, out, work)?;
+    }
+    Ok(())
+}

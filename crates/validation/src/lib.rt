@@ -1,0 +1,11 @@
+// A validation of a window: the subjects that it selects are judged anew by every rule in force.
+#![tactic(auto)]
+
+mod frame;
+mod judge;
+mod lookup;
+mod near;
+mod selection;
+mod window;
+
+pub use window::validate;

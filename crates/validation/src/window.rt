@@ -1,0 +1,81 @@
+ghost use Rattle.std.specs.Prelude.{◌≡◌, ℕ, List, [], Some, IfOk, OnOk, OnErr};
+ghost use Rattle.plane_terms.specs.Lists.{IsThose};
+ghost use Rattle.topology_terms.specs.Feature.{IsAscending};
+ghost use Rattle.topology_terms.specs.Feature as features_of;
+ghost use Rattle.topology_terms.specs.Broken.{Row};
+ghost use Rattle.topology_terms.specs.Entry as entries_of;
+ghost use Rattle.topology_terms.specs.Project.{Project, IsProject, AreAscending, rule_at};
+ghost use Rattle.topology_terms.specs.Sound.{IsSoundUnder};
+ghost use Rattle.topology_terms.specs.Settled.{IsSettledUnder, IsValidatedBy};
+ghost use Rattle.topology_terms.specs.Changes.{IsSelected};
+ghost use Rattle.validation_steps.specs.Parts.{IsRising, IsJudging, live_of};
+ghost use Rattle.validation_steps.specs.Counts.{raised, judged_of};
+ghost use Rattle.validation.specs.Projects.{HasParts, with_parts};
+
+use crate::judge::judge_all;
+use crate::selection::select;
+use dirty_area::Dirt;
+use error_entries::{Entry, Errors};
+use grid_plane::{Handles, NoMemory, Rect};
+use rule_findings::InForce;
+use rule_judging::{RuleSet, Work};
+use shape::Feature;
+use std::alloc::Global;
+
+// The new entries of the selected subjects, in the order of their keys.
+fn rejudge<R: RuleSet>(
+    rules: &R,
+    alloc: Global,
+    in_force: &[InForce],
+    features: &[Feature],
+    selected: &Handles,
+    work: &mut Work,
+) -> Result<Vec<Entry>, NoMemory>
+    requires rules { AreAscending in_force.now }
+    requires features { IsAscending features.now }
+    requires fits { (n : ℕ) (row : Row) → rule_at in_force.now n ≡ Some row → R.meaning.Fits row features.now }
+    requires selected { IsRising selected.now }
+    ensures judging { IfOk result (λ es. IsJudging R.meaning features.now in_force.now selected.now es.items) }
+    ensures ascending { IfOk result (λ es. entries_of.IsAscending es.items) }
+    ensures judged { IfOk result (λ _. work.new ≡ raised work.old (judged_of in_force.now (live_of features.now selected.now))) }
+{
+    let mut found = Vec::new(alloc);
+    judge_all(rules, alloc, in_force, features, selected, &mut found, work)?;
+    Ok(found)
+}
+
+/// Validates the window: every rule in force judges each live feature of its subjects that the window and the dirt select;
+/// the entries of the selected subjects give way to the findings, and the window is cut out of the dirt.
+///
+/// The count of judgements rises by exactly the number of pairs of a rule in force and a selected feature that it judges.
+/// After an `Err`, want of memory, errors and dirt are as they were: all growth comes before the first change.
+pub fn validate<R: RuleSet>(
+    rules: &R,
+    alloc: Global,
+    in_force: &[InForce],
+    features: &[Feature],
+    errors: &mut Errors,
+    dirt: &mut Dirt,
+    window: &Rect,
+    work: &mut Work,
+) -> Result<(), NoMemory>
+    requires rules { AreAscending in_force.now }
+    requires features { IsAscending features.now }
+    requires fits { (n : ℕ) (row : Row) → rule_at in_force.now n ≡ Some row → R.meaning.Fits row features.now }
+    ensures step { OnOk result ((p : Project) → HasParts p in_force.now features.now dirt.old errors.old → IsValidatedBy R.meaning window.now p (with_parts p dirt.new errors.new)) }
+    ensures valid { OnOk result ((p : Project) → HasParts p in_force.now features.now dirt.old errors.old → IsProject R.meaning p → IsProject R.meaning (with_parts p dirt.new errors.new)) }
+    ensures sound { OnOk result ((p : Project) → HasParts p in_force.now features.now dirt.old errors.old → IsProject R.meaning p → IsSoundUnder R.meaning p → IsSoundUnder R.meaning (with_parts p dirt.new errors.new)) }
+    ensures settled { OnOk result ((p : Project) → HasParts p in_force.now features.now dirt.old errors.old → IsProject R.meaning p → IsSettledUnder R.meaning p → IsSettledUnder R.meaning (with_parts p dirt.new errors.new)) }
+    ensures judged { OnOk result ((p : Project) → HasParts p in_force.now features.now dirt.old errors.old → (fs : List features_of.Feature) × IsThose (λ (f : features_of.Feature). IsSelected p window.now f.handle) features.now fs × (work.new ≡ raised work.old (judged_of in_force.now fs))) }
+    ensures ordered { OnOk result (entries_of.IsAscending errors.new) }
+    ensures errors_kept { OnErr result (errors.new ≡ errors.old) }
+    ensures dirt_kept { OnErr result (dirt.new ≡ dirt.old) }
+{
+    let selected = select(alloc, features, errors, dirt, window)?;
+    let fresh = rejudge(rules, alloc, in_force, features, &selected, work)?;
+    let mut left = dirt.try_copy(alloc)?;
+    left.cut(alloc, window)?;
+    errors.replace(alloc, &selected, fresh)?;
+    *dirt = left;
+    Ok(())
+}
