@@ -1,0 +1,5 @@
+pub mod WindowNumbers
+pub mod Groups
+pub mod Numbers
+pub mod OneForm
+mod Rows

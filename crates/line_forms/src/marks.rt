@@ -1,0 +1,38 @@
+ghost use Rattle.std.specs.Prelude.{◌≡◌, ℕ, [], ◌∷◌, codes, MatchOption};
+ghost use Rattle.line_forms.specs.Forms.{IsLine, HasForm, rule_number, handle, partner};
+ghost use Rattle.line_forms.specs.Forms as form;
+ghost use Rattle.line_forms.specs.Groups.{NoneOf, Marks};
+ghost use Rattle.line_forms.specs.Seen.{form_of};
+
+use crate::fields::{next_handle, next_number, next_rule};
+use crate::form::Form;
+use text_numbers::{behind_word, is_over};
+
+// The rule, the subject and the partner behind this word, of a line that has just these.
+fn key_behind(line: &[u8], word: &[u8]) -> Option<(u16, u32, u32)>
+    ensures { MatchOption result ((r a b : ℕ) → IsLine line.now (form.Word word.now ∷ rule_number r ∷ handle a ∷ partner b ∷ []) → ⊥)
+        (λ x. IsLine line.now (form.Word word.now ∷ rule_number x.0 ∷ handle x.1 ∷ partner x.2 ∷ [])) }
+{
+    let (rule, rest) = next_rule(behind_word(line, word)?)?;
+    let (subject, rest) = next_handle(rest)?;
+    let (other, rest) = next_number(rest, 0, u32::MAX)?;
+    if is_over(rest) {
+        Some((rule, subject, other))
+    } else {
+        None
+    }
+}
+
+/// The form of a line that marks an error as an exception, or takes the mark away.
+#[tactic(auto, using(crate::proofs::Groups::no_mark))]
+pub fn read_marks(line: &[u8]) -> Option<Form>
+    ensures { MatchOption result (NoneOf Marks line.now) (λ f. HasForm line.now (form_of f)) }
+{
+    if let Some((rule, subject, other)) = key_behind(line, b"mark") {
+        return Some(Form::Mark(rule, subject, other));
+    }
+    if let Some((rule, subject, other)) = key_behind(line, b"unmark") {
+        return Some(Form::Unmark(rule, subject, other));
+    }
+    None
+}

@@ -1,0 +1,61 @@
+ghost use Rattle.std.specs.Prelude.{◌≡◌, MatchOption, IsTrue};
+ghost use Rattle.std.specs.List.{list_all};
+ghost use Rattle.text_terms.specs.Fields.{is_digit};
+ghost use Rattle.wkt_terms.specs.Numerals.{value_of, is_negative};
+ghost use Rattle.line_forms.specs.WindowNumbers.{IsWindowNumber, behind_minus, number_by};
+
+use crate::number::is_digits;
+use text_numbers::value_up_to;
+
+// The greatest coordinate, in grid units.
+const REACH: u64 = 4_194_304;
+
+/// What a number of a window means.
+#[derive(Clone, Copy, PartialEq, Eq, Debug)]
+pub enum WindowNumber {
+    /// A coordinate within the reach, in grid units.
+    Within(i32),
+    /// A whole number beyond the reach, however large.
+    Beyond,
+}
+
+// Whether a `-` stands in front, and what stands behind it.
+fn split_minus(field: &[u8]) -> (bool, &[u8])
+    ensures negative { result.0 ≡ is_negative field.now }
+    ensures behind { result.1.now ≡ behind_minus field.now }
+{
+    match field {
+        [] => (false, field),
+        [first, rest @ ..] => {
+            if *first == b'-' {
+                (true, rest)
+            } else {
+                (false, field)
+            }
+        }
+    }
+}
+
+// What these digits mean, with a `-` before them or without.
+fn number_of(negative: bool, digits: &[u8]) -> WindowNumber
+    requires { IsTrue (list_all is_digit digits.now) }
+    ensures { result ≡ number_by negative (value_of digits.now) }
+{
+    let Some(n) = value_up_to(REACH, digits) else {
+        return WindowNumber::Beyond;
+    };
+    let n = n as i32;
+    WindowNumber::Within(if negative { -n } else { n })
+}
+
+/// What a field means as a number of a window; `None` exactly where it is not digits, with a `-` before them or without.
+#[tactic(auto, using(crate::proofs::WindowNumbers::read, crate::proofs::WindowNumbers::unread))]
+pub fn read_window_number(field: &[u8]) -> Option<WindowNumber>
+    ensures { MatchOption result ((c : WindowNumber) → IsWindowNumber field.now c → ⊥) (λ c. IsWindowNumber field.now c) }
+{
+    let (negative, digits) = split_minus(field);
+    if !is_digits(digits) {
+        return None;
+    }
+    Some(number_of(negative, digits))
+}
