@@ -25,7 +25,13 @@ pub trait Rule {
         ensures { result ≡ row_of self.now };
 
     /// What is found for the subject; the count of judgements stays.
-    fn seek(&self, alloc: Global, view: &View<'_>, subject: u32, work: &mut Work) -> Result<Findings, NoMemory>
+    fn seek(
+        &self,
+        alloc: Global,
+        view: &View<'_>,
+        subject: u32,
+        work: &mut Work,
+    ) -> Result<Findings, NoMemory>
         requires shown { IsShown (row_of self.now) view.now subject }
         requires fits { meaning.Fits (row_of self.now) view.now }
         ensures cut { IfOk result (λ xs. meaning.IsCutting (row_of self.now) view.now subject xs) }
@@ -40,7 +46,13 @@ pub trait Rule {
 
 /// Judges the subject: the findings are the rule's cutting of what is broken, and say exactly what is. The count of judgements
 /// rises by one, also where memory runs out.
-pub fn judge<R: Rule>(rule: &R, alloc: Global, view: &View<'_>, subject: u32, work: &mut Work) -> Result<Findings, NoMemory>
+pub fn judge<R: Rule>(
+    rule: &R,
+    alloc: Global,
+    view: &View<'_>,
+    subject: u32,
+    work: &mut Work,
+) -> Result<Findings, NoMemory>
     requires shown { IsShown (R.row_of rule.now) view.now subject }
     requires fits { R.meaning.Fits (R.row_of rule.now) view.now }
     ensures cut { IfOk result (λ xs. R.meaning.IsCutting (R.row_of rule.now) view.now subject xs) }
@@ -56,7 +68,14 @@ pub trait RuleSet {
     ghost meaning: { Meaning };
 
     /// What is found for the subject; the count of judgements rises by one.
-    fn judge_row(&self, alloc: Global, row: &RuleRow, view: &View<'_>, subject: u32, work: &mut Work) -> Result<Findings, NoMemory>
+    fn judge_row(
+        &self,
+        alloc: Global,
+        row: &RuleRow,
+        view: &View<'_>,
+        subject: u32,
+        work: &mut Work,
+    ) -> Result<Findings, NoMemory>
         requires shown { IsShown row.now view.now subject }
         requires fits { meaning.Fits row.now view.now }
         ensures cut { IfOk result (λ xs. meaning.IsCutting row.now view.now subject xs) }

@@ -1,5 +1,5 @@
 -- A validation, from its selection, its new entries, its replacement and its cut.
-use Rattle.std.proofs.Common.{◌≡◌, ◌≢◌, ◌↔◌, ◌⊎◌, ℕ, ◌<◌, true, false, arith, List, [], ◌∷◌, Some, None, refl, sym, ◌∙◌, Contains, inl, inr}
+use Rattle.std.proofs.Common.{◌≡◌, ◌≢◌, ◌↔◌, ◌⊎◌, ℕ, ◌<◌, true, false, arith, List, [], ◌∷◌, Some, None, refl, Contains, inl, inr}
 use Rattle.std.specs.Prelude.{◌==◌}
 use Rattle.std.proofs.lemmas.Bool.Decides.{eqb_tells}
 use Rattle.plane_terms.specs.Lists.{Every, IsThose}
@@ -14,7 +14,6 @@ use Rattle.topology_terms.specs.Changes.{IsSelected}
 use Rattle.topology_terms.specs.Settled.{IsValidatedBy}
 use Rattle.validation_steps.specs.Parts.{IsRising, IsJudging, live_of}
 use Rattle.validation_steps.specs.Replaced.{IsReplaced}
-use Rattle.validation_steps.proofs.Joining.{every_mapped}
 use Rattle.validation_steps.proofs.Validating.{validated_by_parts}
 use Rattle.validation_steps.proofs.Counting.{live_those}
 use Rattle.validation.specs.Projects.{HasParts, with_parts}

@@ -10,8 +10,8 @@ ghost use Rattle.validation_steps.specs.Parts.{IsNewEntry, IsSubjectPart, IsRule
 ghost use Rattle.validation_steps.specs.Framed.{IsFramable};
 ghost use Rattle.validation_steps.specs.Counts.{raised, judged_of};
 
-use crate::lookup::find;
 use crate::frame::frame_of;
+use crate::lookup::find;
 use crate::near::view_of;
 use error_entries::{Entry, Key};
 use grid_plane::{Handles, NoMemory, Rect};
@@ -47,7 +47,12 @@ fn entry_of(rule: u16, f: &Feature, x: Finding) -> Entry
 }
 
 // Puts an entry for each finding.
-fn add_findings(rule: u16, f: &Feature, findings: Vec<Finding>, out: &mut Vec<Entry>) -> Result<(), NoMemory>
+fn add_findings(
+    rule: u16,
+    f: &Feature,
+    findings: Vec<Finding>,
+    out: &mut Vec<Entry>,
+) -> Result<(), NoMemory>
     requires { Every IsFramable findings.items }
     ensures { OnOk result ((es : List terms.Entry) × (out.new.items ≡ out.old.items ++ es) × Paired (IsNewEntry rule f.now.handle f.now) findings.items es) }
 {

@@ -24,7 +24,11 @@ fn near_to<'a>(alloc: Global, features: &'a [Feature], r: &Rect) -> Result<View<
 }
 
 /// The features whose envelope meets the subject's. Goes over all features.
-pub fn view_of<'a>(alloc: Global, features: &'a [Feature], f: &Feature) -> Result<View<'a>, NoMemory>
+pub fn view_of<'a>(
+    alloc: Global,
+    features: &'a [Feature],
+    f: &Feature,
+) -> Result<View<'a>, NoMemory>
     requires { IsAscending features.now }
     ensures { IfOk result (λ v. IsView features.now f.now v) }
 {

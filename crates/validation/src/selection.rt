@@ -25,7 +25,12 @@ fn push_if(found: &mut Vec<u32>, test: bool, handle: u32) -> Result<(), NoMemory
 }
 
 // The features whose envelope meets what is dirty of the window.
-fn add_features(features: &[Feature], dirt: &Dirt, window: &Rect, found: &mut Vec<u32>) -> Result<(), NoMemory>
+fn add_features(
+    features: &[Feature],
+    dirt: &Dirt,
+    window: &Rect,
+    found: &mut Vec<u32>,
+) -> Result<(), NoMemory>
     ensures { OnOk result (ArePicked (λ (f : features_of.Feature). MeetsPart dirt.now window.now (env f)) (λ (f : features_of.Feature). f.handle) features.now found.old.items found.new.items) }
 {
     for f in features {
@@ -35,7 +40,12 @@ fn add_features(features: &[Feature], dirt: &Dirt, window: &Rect, found: &mut Ve
 }
 
 // The subjects of the errors whose frame does.
-fn add_subjects(entries: &[Entry], dirt: &Dirt, window: &Rect, found: &mut Vec<u32>) -> Result<(), NoMemory>
+fn add_subjects(
+    entries: &[Entry],
+    dirt: &Dirt,
+    window: &Rect,
+    found: &mut Vec<u32>,
+) -> Result<(), NoMemory>
     ensures { OnOk result (ArePicked (λ (e : entries_of.Entry). MeetsPart dirt.now window.now e.frame) (λ (e : entries_of.Entry). e.subject) entries.now found.old.items found.new.items) }
 {
     for e in entries {
@@ -66,7 +76,13 @@ fn once_each(found: &mut Vec<u32>)
 
 /// The handles that the window and the dirt select: of live features by their envelope, and of subjects of errors by the
 /// error's frame.
-pub fn select(alloc: Global, features: &[Feature], errors: &Errors, dirt: &Dirt, window: &Rect) -> Result<Handles, NoMemory>
+pub fn select(
+    alloc: Global,
+    features: &[Feature],
+    errors: &Errors,
+    dirt: &Dirt,
+    window: &Rect,
+) -> Result<Handles, NoMemory>
     requires { features_of.IsAscending features.now }
     ensures rising { IfOk result IsRising }
     ensures chosen { IfOk result (λ s. (p : Project) → p.features ≡ features.now → p.dirt ≡ dirt.now → p.entries ≡ errors.now → (a : ℕ) → Contains s a ↔ IsSelected p window.now a) }

@@ -1,4 +1,3 @@
-use Rattle.std.proofs.Common.{◌≡◌}
 use Rattle.plane_terms.specs.Point.{Point}
 use Rattle.plane_terms.specs.Rectangle.{RectHolds, whole_grid}
 use Rattle.plane_terms.specs.Cell.{Cell, InCell, HasPoint}

@@ -1,5 +1,4 @@
-use Rattle.std.proofs.Common.{◌≡◌, arith, take}
-use Rattle.plane_terms.specs.Cell.{IsLeastFrame}
+use Rattle.std.proofs.Common.{arith}
 use Rattle.validation.proofs.CellFrames.{frame_more}
 use Rattle.validation.proofs.frame.frame_of.Goals as goal
 

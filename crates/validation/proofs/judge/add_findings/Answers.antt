@@ -1,4 +1,4 @@
-use Rattle.std.proofs.Common.{◌≡◌, ◌∙◌, ap, ◌++◌, [], ◌∷◌, append_assoc}
+use Rattle.std.proofs.Common.{◌∙◌, ap, ◌++◌, [], ◌∷◌, append_assoc}
 use Rattle.validation_steps.specs.Parts.{IsNewEntry}
 use Rattle.validation_steps.proofs.Joining.{paired_more}
 use Rattle.validation.proofs.judge.add_findings.Goals as goal

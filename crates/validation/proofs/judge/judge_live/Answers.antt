@@ -1,16 +1,12 @@
-use Rattle.std.proofs.Common.{◌≡◌, ◌∙◌, sym, ap, [], ◌++◌, List, false, true, append-nil}
+use Rattle.std.proofs.Common.{◌≡◌, ◌∙◌, sym, ap, [], false, append-nil}
 use Rattle.std.proofs.lemmas.Result.{on_ok_weaker}
 use Rattle.topology_terms.specs.Project.{InForce}
 use Rattle.topology_terms.specs.Broken.{judges_test}
-use Rattle.topology_terms.specs.Entry.{Entry}
-use Rattle.plane_terms.specs.Lists.{Paired}
 use Rattle.plane_terms.specs.Rectangle.{IsRectangle}
 use Rattle.topology_terms.specs.Feature.{env}
-use Rattle.validation_steps.specs.Parts.{IsNewEntry, IsSubjectPart}
 use Rattle.validation_steps.proofs.Parts.{part_idle, part_judged}
-use Rattle.validation_steps.proofs.Viewed.{subject_seen, view_fits, view_cut}
+use Rattle.validation_steps.proofs.Viewed.{subject_seen, view_fits}
 use Rattle.validation_steps.proofs.Frames.{framable}
-use Rattle.rule_judging.specs.Shown.{IsShown}
 use Rattle.validation.proofs.judge.judge_live.Goals as goal
 
 pub returns-then-not-judges-clause-part : goal.returns-then-not-judges-clause-part
@@ -61,6 +57,10 @@ returns-clause-part g c =
     let number = ap (λ (q : InForce). q.number) c.rule.view_is in
     let cut = rw (row, c.handle.ensures) at c.in_ok-findings.ensures.cut in
     on_ok_weaker c.add_findings.result
-    (λ h. (h.0, h.1, part_judged M g.met.R.RuleSet.laws g.met.R.RuleSet.views F V r c.args.rule.now.row f.handle f c.in_ok-findings.findings h.0 c.requires.ascending c.requires.fits c.requires.live c.in_ok-view.ensures cut c.into_list.ensures.order
-    (rw (number, c.into_list.ensures.list) at h.2)))
+    (λ h. (
+      h.0,
+      h.1,
+      part_judged M g.met.R.RuleSet.laws g.met.R.RuleSet.views F V r c.args.rule.now.row f.handle f c.in_ok-findings.findings h.0 c.requires.ascending c.requires.fits c.requires.live c.in_ok-view.ensures cut c.into_list.ensures.order
+          (rw (number, c.into_list.ensures.list) at h.2),
+    ))
     c.add_findings.ensures

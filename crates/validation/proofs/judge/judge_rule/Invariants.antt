@@ -8,4 +8,4 @@ use Rattle.validation.proofs.judge.judge_rule.Given as goal
 
 abbrev pub invariant-loop-i : goal.invariant-loop-i
 invariant-loop-i g l = ((es : List Entry) × (l.out.items ≡ l.initial.out.items ++ es) × IsRulePart g.R.RuleSet.meaning l.features (take l.i l.selected) l.rule es)
-  × (l.work ≡ raised l.initial.work (how_many (judges_test l.rule.row) (live_of l.features (take l.i l.selected))))
+    × (l.work ≡ raised l.initial.work (how_many (judges_test l.rule.row) (live_of l.features (take l.i l.selected))))

@@ -1,5 +1,4 @@
-use Rattle.std.proofs.Common.{◌≡◌, ◌<◌, take}
-use Rattle.std.specs.List.{filter}
+use Rattle.std.proofs.Common.{◌<◌, take}
 use Rattle.plane_terms.specs.Rectangle.{rects_meet}
 use Rattle.topology_terms.specs.Feature.{Feature, env}
 use Rattle.validation.proofs.Elements.{every_before, every_kept}

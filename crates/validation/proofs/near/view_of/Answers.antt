@@ -1,8 +1,4 @@
-use Rattle.std.proofs.Common.{◌≡◌}
-use Rattle.std.specs.List.{filter}
 use Rattle.std.proofs.lemmas.Result.{IfOk-weaker}
-use Rattle.plane_terms.specs.Rectangle.{rects_meet}
-use Rattle.topology_terms.specs.Feature.{Feature, env}
 use Rattle.validation_steps.specs.Views.{IsView}
 use Rattle.validation_steps.proofs.Viewed.{view_filtered}
 use Rattle.validation.proofs.near.view_of.Goals as goal

@@ -1,4 +1,3 @@
-use Rattle.std.proofs.Common.{◌≡◌, take, arith}
 use Rattle.std.proofs.lemmas.List.{take_all}
 use Rattle.topology_terms.specs.Feature.{Feature, env}
 use Rattle.dirty_area.specs.Parts.{MeetsPart}

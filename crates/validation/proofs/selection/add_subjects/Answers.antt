@@ -1,4 +1,4 @@
-use Rattle.std.proofs.Common.{◌≡◌, take, arith, ap}
+use Rattle.std.proofs.Common.{ap}
 use Rattle.std.proofs.lemmas.List.{take_all}
 use Rattle.topology_terms.specs.Entry.{Entry}
 use Rattle.dirty_area.specs.Parts.{MeetsPart}

@@ -1,4 +1,4 @@
-use Rattle.std.proofs.Common.{◌≡◌, get_or, sym}
+use Rattle.std.proofs.Common.{get_or}
 use Rattle.std.proofs.lemmas.List.{get_or_default}
 use Rattle.validation.proofs.Elements.{all_before}
 use Rattle.validation.proofs.selection.handles_of.Goals as goal

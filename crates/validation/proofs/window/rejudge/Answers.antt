@@ -1,4 +1,4 @@
-use Rattle.std.proofs.Common.{◌≡◌, ◌++◌, []}
+use Rattle.std.proofs.Common.{◌≡◌}
 use Rattle.validation_steps.proofs.Judging.{judging_ascends}
 use Rattle.validation.proofs.Settled.{fits_each}
 use Rattle.validation.proofs.window.rejudge.Goals as goal

@@ -1,10 +1,7 @@
-use Rattle.std.proofs.Common.{◌≡◌, ◌↔◌, ℕ, Contains}
-use Rattle.topology_terms.specs.Project.{Project}
-use Rattle.topology_terms.specs.Changes.{IsSelected}
 use Rattle.validation_steps.specs.Parts.{live_of}
 use Rattle.validation_steps.proofs.Judging.{judging_fresh}
 use Rattle.validation_steps.proofs.Validating.{parts_kept_valid, parts_kept_sound, parts_kept_settled}
-use Rattle.validation.specs.Projects.{HasParts, with_parts}
+use Rattle.validation.specs.Projects.{with_parts}
 use Rattle.validation.proofs.Settled.{validated, selected_live}
 use Rattle.validation.proofs.window.validate.Goals as goal
 
