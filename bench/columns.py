@@ -1,19 +1,29 @@
 #!/usr/bin/env python3
-"""How long `inside` and `outside` take together, how much memory they need, and how many cells they make.
+"""How long the cells inside a polygon take, and those outside, how much memory, and how many there are.
 
-    bench/columns.py [--sizes N,..]
+    bench/columns.py [--sizes N,..] [--baseline WORDS]
 
 A ring lies between two parabolas; a comb has slanted teeth that lie above one another; a spiral goes out and comes back beside itself;
-a zigzag goes from side to side and comes back above itself. Build `crates/column_timing` first: `rt run -- 1 < stdin` in its folder.
+a zigzag goes from side to side and comes back beside itself. Build `crates/column_timing` first: `rt run -- 1 < stdin` in its folder.
+
+Beside another program of the same words and texts, where one is given, two questions are asked of both: the cells inside, and
+the inside of a rectangle round the polygon carved by the cells outside. The other program is asked by a script with the rule
+that one class covers another, validated; the same script without that line is taken off its time, and not off its memory.
 """
 import argparse
 import os
+import shlex
 import subprocess
 import sys
 import tempfile
 
 HERE = os.path.dirname(os.path.abspath(__file__))
 PROGRAM = os.path.join(HERE, '..', 'crates', 'column_timing', 'out', 'column_timing')
+SCRIPT = """class zones polygon
+class covers polygon
+rule polygon_must_be_covered_by_feature_class_of zones covers
+begin ann
+"""
 
 
 def ring(n):
@@ -23,7 +33,7 @@ def ring(n):
 
 
 def comb(n):
-    teeth = n // 4
+    teeth = (n - 2) // 4
     out = [(0, 0)]
     for k in range(teeth):
         out += [(2000 + k, 4 * k), (2000 + k, 4 * k + 1), (k + 1, 4 * k + 2), (k + 1, 4 * k + 3)]
@@ -42,46 +52,84 @@ def spiral(n):
 def zigzag(n):
     half = n // 2
 
-    def at(i, up):
-        return ((0 if i % 2 == 0 else 1000000) + i, 100 * i + up)
+    def at(i, right):
+        return ((0 if i % 2 == 0 else 1000000) + i + right, 100 * i)
 
-    return [at(i, 0) for i in range(half)] + [at(i, 40) for i in reversed(range(half))]
+    return [at(i, 0) for i in range(half)] + [at(i, 2000) for i in reversed(range(half))]
 
 
-def text_of(vertices):
+def frame_of(vertices):
+    xs, ys = [x for x, _ in vertices], [y for _, y in vertices]
+    x0, y0, x1, y1 = min(xs) - 1, min(ys) - 1, max(xs) + 1, max(ys) + 1
+    return [(x0, y0), (x1, y0), (x1, y1), (x0, y1)]
+
+
+def segments_of(vertices):
     ends = vertices[1:] + vertices[:1]
     return ''.join('%d %d %d %d\n' % (a + b) for a, b in zip(vertices, ends))
 
 
-def measured(folder, text):
-    """The least processor time in s and peak of memory in MiB of three runs, and what the program wrote."""
-    report, runs = os.path.join(folder, 'report'), []
-    for _ in range(3):
-        done = subprocess.run([os.path.join(folder, 'measured'), report, '300', PROGRAM, '1'], input=text, capture_output=True, text=True)
-        with open(report) as lines:
-            status, microseconds, kilobytes = map(int, lines.read().split())
-        if done.returncode or status:
-            sys.exit('the program ended with %d' % status)
-        runs.append((microseconds / 1e6, kilobytes / 1024))
-    return min(r[0] for r in runs), min(r[1] for r in runs), done.stdout
+def added(name, vertices):
+    places = ', '.join('%d %d' % place for place in vertices + vertices[:1])
+    return 'by ann add %s POLYGON ((%s))\n' % (name, places)
+
+
+class Meter:
+    """Runs programs three times each, and takes the least time in s and the least peak of memory in MiB."""
+
+    def __init__(self, folder):
+        self.tool, self.report = os.path.join(folder, 'measured'), os.path.join(folder, 'report')
+        subprocess.run(['cc', '-O2', '-o', self.tool, os.path.join(HERE, 'measured.c')], check=True)
+
+    def run(self, words, text):
+        runs = []
+        for _ in range(3):
+            done = subprocess.run([self.tool, self.report, '300'] + words, input=text, capture_output=True, text=True)
+            with open(self.report) as lines:
+                status, microseconds, kilobytes = map(int, lines.read().split())
+            if done.returncode or status:
+                sys.exit('a program ended with %d: %s' % (status, done.stdout[-200:]))
+            runs.append((microseconds / 1e6, kilobytes / 1024))
+        return min(r[0] for r in runs), min(r[1] for r in runs), done.stdout
+
+    def made(self, wanted, text):
+        seconds, memory, told = self.run([PROGRAM, '1', wanted], text)
+        return seconds, memory, int(told.split()[2])
+
+    def validated(self, words, lines):
+        without = self.run(words, SCRIPT + lines)[0]
+        seconds, memory, _ = self.run(words, SCRIPT + lines + 'validate all\n')
+        return seconds - without, memory
+
+
+def row(meter, baseline, name, vertices):
+    segments, frame = segments_of(vertices), frame_of(vertices)
+    figures = [name, str(len(vertices))]
+    for wanted, text in (('inside', segments), ('outside', segments), ('carved', segments_of(frame) + segments)):
+        figures += ['%.3f s, %.1f MiB, %d cells' % meter.made(wanted, text)]
+    if baseline:
+        for lines in (added('zones', vertices), added('zones', frame) + added('covers', vertices)):
+            figures += ['%.3f s, %.1f MiB' % meter.validated(baseline, lines)]
+    print('| ' + ' | '.join(figures) + ' |', flush=True)
 
 
 def main():
     parser = argparse.ArgumentParser()
     parser.add_argument('--sizes', default='100,500,2000')
-    sizes = [int(n) for n in parser.parse_args().sizes.split(',')]
+    parser.add_argument('--baseline', type=shlex.split)
+    options = parser.parse_args()
     if not os.path.isfile(PROGRAM):
         sys.exit('build crates/column_timing first: `rt run -- 1 < stdin` in its folder')
-    print('| polygon | vertices | cells inside | cells outside | time in s | memory in MiB |')
-    print('|---|---|---|---|---|---|')
+    heads = ['polygon', 'vertices', 'inside', 'outside', 'carved by outside']
+    if options.baseline:
+        options.baseline += ['replay']
+        heads += ['the other: inside', 'the other: carved by outside']
+    print('| ' + ' | '.join(heads) + ' |\n' + '|---' * len(heads) + '|')
     with tempfile.TemporaryDirectory() as folder:
-        subprocess.run(['cc', '-O2', '-o', os.path.join(folder, 'measured'), os.path.join(HERE, 'measured.c')], check=True)
+        meter = Meter(folder)
         for name, make in (('ring', ring), ('comb', comb), ('spiral', spiral), ('zigzag', zigzag)):
-            for n in sizes:
-                vertices = make(n)
-                seconds, memory, told = measured(folder, text_of(vertices))
-                words = told.split()
-                print('| %s | %d | %s | %s | %.3f | %.1f |' % (name, len(vertices), words[2], words[5], seconds, memory), flush=True)
+            for n in map(int, options.sizes.split(',')):
+                row(meter, options.baseline, name, make(n))
 
 
 if __name__ == '__main__':

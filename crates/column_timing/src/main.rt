@@ -1,14 +1,31 @@
-// Cuts a list of segments into columns over and over, for bench/: how long `inside` and `outside` take.
+// Cuts a list of segments into columns over and over, for bench/: how long the cells inside and those outside take.
 //
-// The word is how often both are made. Each line of standard input is a segment, its ends as `X Y U V`, in grid units. What is
-// written is how many segments there are, and how many cells inside and outside.
+// The first word is how often they are made, the second which: `inside` or `outside` of all segments, or `carved`, the inside of
+// the first four carved by the outside of the others. Each line of standard input is a segment, its ends as `X Y U V`, in grid
+// units. What is written is how many segments there are, and how many cells were made.
 #![tactic(auto)]
 
 use column_cut::{inside, outside};
-use grid_plane::{GridPoint, Seg};
+use convex_cell::Cells;
+use grid_plane::{GridPoint, NoMemory, Seg};
 use std::alloc::Global;
 use std::io::{BufRead, BufReader};
 use std::{env, io};
+
+// Which cells are made.
+#[derive(Drop)]
+enum Wanted {
+    Inside,
+    Outside,
+    Carved,
+}
+
+// What the words ask for.
+#[derive(Drop)]
+struct Task {
+    times: u32,
+    wanted: Wanted,
+}
 
 fn place_of(x: &str, y: &str) -> Option<GridPoint> {
     GridPoint::at(x.parse::<i64>().ok()?, y.parse::<i64>().ok()?)
@@ -21,23 +38,38 @@ fn segment_of(line: &str) -> Option<Seg> {
     Seg::of(from, to)
 }
 
-fn counts(alloc: Global, segments: &[Seg]) -> Option<(usize, usize)> {
-    let within = inside(alloc, segments).ok()?.len();
-    let without = outside(alloc, segments).ok()?.len();
-    Some((within, without))
+fn carved(alloc: Global, segments: &[Seg]) -> Result<Cells, NoMemory> {
+    let (first, others) = segments.split_at(segments.len().min(4));
+    inside(alloc, first)?.carve(alloc, &outside(alloc, others)?)
 }
 
-fn times(rt: &HostRuntime) -> io::Result<u32> {
+fn cells_of(alloc: Global, wanted: &Wanted, segments: &[Seg]) -> Result<Cells, NoMemory> {
+    match wanted {
+        Wanted::Inside => inside(alloc, segments),
+        Wanted::Outside => outside(alloc, segments),
+        Wanted::Carved => carved(alloc, segments),
+    }
+}
+
+fn task_of(rt: &HostRuntime) -> io::Result<Task> {
+    let mut task = Task {
+        times: 1,
+        wanted: Wanted::Inside,
+    };
     for word in env::args(rt)?.skip(1) {
-        if let Ok(n) = word.parse::<u32>() {
-            return Ok(n);
+        match word.as_str() {
+            "inside" => task.wanted = Wanted::Inside,
+            "outside" => task.wanted = Wanted::Outside,
+            "carved" => task.wanted = Wanted::Carved,
+            number => task.times = number.parse::<u32>().unwrap_or(1),
         }
     }
-    Ok(1)
+    Ok(task)
 }
 
 fn main(rt: HostRuntime) -> io::Result<()> {
     let alloc = rt.alloc();
+    let task = task_of(&rt)?;
     let mut segments = Vec::new(alloc);
     for line in BufReader::new(alloc, rt.stdin())?.lines(alloc) {
         if let Some(segment) = segment_of(line?.as_str()) {
@@ -45,14 +77,15 @@ fn main(rt: HostRuntime) -> io::Result<()> {
         }
     }
     let mut made = None;
-    for _ in 0..times(&rt)? {
-        made = counts(alloc, &segments);
+    for _ in 0..task.times {
+        made = cells_of(alloc, &task.wanted, &segments).ok();
     }
     let all = segments.len();
     match made {
-        Some((within, without)) => println!(rt;
-            "{all} segments, {within} cells inside, {without} outside"
-        ),
-        None => println!(rt; "{all} segments, and no memory for their cells"),
+        Some(cells) => {
+            let count = cells.len();
+            println!(rt; "{all} segments, {count} cells")
+        }
+        None => println!(rt; "{all} segments, and no cells"),
     }
 }

@@ -43,7 +43,7 @@ pub pieces-apart : (r w : Rectangle) → rects_meet r w ≡ false → pieces r w
 unfolding pieces
 pieces-apart r w e = rw e
 
-pieces_round : (r w m : Rectangle) → rects_meet r w ≡ true → m ≡ part_of r w → pieces r w ≡
+pub pieces_round : (r w m : Rectangle) → rects_meet r w ≡ true → m ≡ part_of r w → pieces r w ≡
     piece_if (int_lt r.x0 w.x0) (rect_of r.x0 r.y0 w.x0 r.y1)
     ++ (piece_if (int_lt w.x1 r.x1) (rect_of w.x1 r.y0 r.x1 r.y1)
     ++ (piece_if (int_lt r.y0 w.y0) (rect_of m.x0 r.y0 m.x1 w.y0)
@@ -51,7 +51,7 @@ pieces_round : (r w m : Rectangle) → rects_meet r w ≡ true → m ≡ part_of
 unfolding pieces
 pieces_round r w m e f = rw (e, f)
 
-add_all-four : (d a b c e : List Rectangle) → add_all d (a ++ (b ++ (c ++ e))) ≡ add_all (add_all (add_all (add_all d a) b) c) e
+pub add_all-four : (d a b c e : List Rectangle) → add_all d (a ++ (b ++ (c ++ e))) ≡ add_all (add_all (add_all (add_all d a) b) c) e
 add_all-four d a b c e = rw (add_all-append, add_all-append, add_all-append)
 
 -- four calls add the pieces

@@ -1,6 +1,7 @@
-ghost use Rattle.std.specs.Prelude.{◌≡◌, IfOk, OnOk};
+ghost use Rattle.std.specs.Prelude.{◌≡◌, [], ◌∷◌, ◌++◌, true, false, IfOk, OnOk};
 ghost use Rattle.std.specs.Option.{option_to_list};
-ghost use Rattle.plane_terms.specs.Dirt.{add_all, pieces, cut_dirt};
+ghost use Rattle.plane_terms.specs.Rectangle.{rects_meet};
+ghost use Rattle.plane_terms.specs.Dirt.{IsLoose, add_all, pieces, cut_dirt};
 ghost use Rattle.dirty_area.specs.Parts.{IsCommon};
 
 use crate::list::add_to;
@@ -28,22 +29,28 @@ fn add_round(rects: &mut Vec<Rect>, r: &Rect, w: &Rect, common: &Rect) -> Result
     add_piece(rects, above(r, w, common))
 }
 
-// Adds the pieces of the rectangle that the window leaves.
+// Adds what the window leaves of the rectangle: the pieces round the window, or beside it the whole rectangle, put last.
 fn add_pieces(rects: &mut Vec<Rect>, r: &Rect, w: &Rect) -> Result<(), NoMemory>
-    ensures { OnOk result (rects.new.items ≡ add_all rects.old.items (pieces r.now w.now)) }
+    ensures round { rects_meet r.now w.now ≡ true → OnOk result (rects.new.items ≡ add_all rects.old.items (pieces r.now w.now)) }
+    ensures beside { rects_meet r.now w.now ≡ false → OnOk result (rects.new.items ≡ rects.old.items ++ r.now ∷ []) }
 {
     r.corner_law();
     w.corner_law();
     match r.part(w) {
         Some(common) => add_round(rects, r, w, &common),
-        None => add_to(rects, *r),
+        None => {
+            rects.push(*r)?;
+            Ok(())
+        }
     }
 }
 
-/// A list of dirt without the window.
+/// A list of dirt without the window. What lies beside the window is compared with nothing.
 pub fn cut_of(alloc: Global, rects: &[Rect], w: &Rect) -> Result<Vec<Rect>, NoMemory>
+    requires { IsLoose rects.now }
     ensures { IfOk result (λ v. v.items ≡ cut_dirt rects.now w.now) }
 {
+    w.corner_law();
     let mut left = Vec::new(alloc);
     for r in rects {
         add_pieces(&mut left, r, w)?;

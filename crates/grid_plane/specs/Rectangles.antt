@@ -1,29 +1,19 @@
 -- Rectangles as the code makes and tests them.
 --
--- sides r                 its four numbers, in the order in which they are given
--- IsFirstOut k vs         the k-th number of vs, from 0, is beyond the reach, and those before it are not
 -- IsRectFault e r         the four numbers of r are no rectangle of the grid, and e says why
 -- HoldsAt q P             P holds at the place q: at each point that is there
 -- IsJoin j r s            j is the least rectangle that holds both r and s
 -- IsPart m r s            m holds exactly the points that both hold
-use Rattle.std.specs.Prelude.{ℕ, ℤ, zero, suc, ◌↔◌, List, [], ◌∷◌}
+use Rattle.std.specs.Prelude.{◌↔◌}
 use Rattle.plane_terms.specs.Lists.{Every}
 use Rattle.plane_terms.specs.Point.{Place, Point, InReach, IsAt}
-use Rattle.plane_terms.specs.Rectangle.{Rectangle, RectHolds, IsWithin, IsProper}
+use Rattle.plane_terms.specs.Rectangle.{Rectangle, RectHolds, IsWithin, IsProper, numbers_of, IsFirstOut}
 use Rattle.grid_plane.specs.declared.fault.RectFault.{RectFault}
 use Rattle.grid_plane.specs.declared.fault.RectFault.TheVariants.{OutOfReach, Reversed}
 
-abbrev pub sides : Rectangle → List ℤ
-sides r = r.x0 ∷ r.y0 ∷ r.x1 ∷ r.y1 ∷ []
-
-abbrev pub IsFirstOut : ℕ → List ℤ → Type 0
-IsFirstOut k [] = ⊥
-IsFirstOut zero (v ∷ vs) = ¬ (InReach v)
-IsFirstOut (suc k) (v ∷ vs) = InReach v × IsFirstOut k vs
-
 abbrev pub IsRectFault : RectFault → Rectangle → Type 0
-IsRectFault (OutOfReach at) r = IsFirstOut at (sides r)
-IsRectFault Reversed r = Every InReach (sides r) × ¬ (IsProper r)
+IsRectFault (OutOfReach at) r = IsFirstOut at (numbers_of r)
+IsRectFault Reversed r = Every InReach (numbers_of r) × ¬ (IsProper r)
 
 abbrev pub HoldsAt : Place → (Point → Type 0) → Type 0
 HoldsAt q P = (p : Point) → IsAt q p → P p

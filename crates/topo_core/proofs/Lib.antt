@@ -3,3 +3,4 @@ pub mod Ranges
 pub mod PlaceOrders
 pub mod Judged
 pub mod DirtPlaces
+pub mod Replaced

@@ -12,7 +12,7 @@ use Rattle.std.proofs.lemmas.Bool.{and_parts}
 use Rattle.std.proofs.lemmas.Bool.Decides.{Decides-int_eq}
 use Rattle.plane_terms.specs.Point.{Place, same_place}
 use Rattle.plane_terms.specs.Rectangle.{Rectangle, rect_at, rects_meet}
-use Rattle.topo_core.specs.Places.{place_order, place_rank, is_at, is_of, is_among, IsByPlace}
+use Rattle.topo_core.specs.Places.{place_order, place_rank, is_at, is_of, is_inside, is_among, IsByPlace}
 use Rattle.topo_core.specs.declared.parts.PointFeature.{PointFeature}
 
 pub place_order_total : IsTotalOrder place_order
@@ -82,6 +82,16 @@ among_there class w q b inside = by (is_at q b) refl
         let here : rects_meet w (rect_at b.place) ≡ true = ap (λ p. rects_meet w (rect_at p)) (placed q b there) ∙ inside in
         alike (is_of class b) (rects_meet w (rect_at b.place)) (is_at q b) here
     by false there = apart (is_of class b) (rects_meet w (rect_at b.place)) (is_at q b) there
+
+and_turned : (s t : Bool) → (s && t) ≡ (t && s)
+and_turned true true = refl
+and_turned true false = refl
+and_turned false true = refl
+and_turned false false = refl
+
+-- of those in the window those of the class
+pub among_inside : (class : ℕ) (w : Rectangle) (F : List PointFeature) → filter (is_of class) (filter (is_inside w) F) ≡ filter (is_among class w) F
+among_inside class w F = filter-filter (is_inside w) (is_of class) F ∙ filter_agree (λ b. is_inside w b && is_of class b) (is_among class w) (λ b. and_turned (is_inside w b) (is_of class b)) F
 
 -- a stable sort by place of the points of the class in the window
 pub by_place_from_sort : (class : ℕ) (w : Rectangle) (F points : List PointFeature) → IsSortedBy comes_before points → IsStableBy comes_before (filter (is_among class w) F) points → IsByPlace class w F points

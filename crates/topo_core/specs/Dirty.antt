@@ -7,14 +7,12 @@
 -- meets_place q r       r holds q, by its sides
 -- is_dirty_at wide single q     a wide rectangle meets q, or a single one is there
 -- IsIndexOf d wide single       so are exactly the places that a rectangle of d meets
--- is_judged_at class w wide single a     the point a is of the class and in the window w, and its place is dirty
 use Rattle.std.specs.Prelude.{◌≡◌, ℕ, ◌==◌, Bool, ◌&&◌, ◌||◌, List}
 use Rattle.std.specs.Ordering.{int_eq, ordering_index}
 use Rattle.std.specs.List.{list_any}
 use Rattle.plane_terms.specs.Point.{Place}
 use Rattle.plane_terms.specs.Rectangle.{Rectangle, rect_at, rects_meet}
 use Rattle.topo_core.specs.Places.{place_order}
-use Rattle.topo_core.specs.declared.parts.PointFeature.{PointFeature}
 
 abbrev pub corner : Rectangle → Place
 corner r = record { x = r.x0; y = r.y0 }
@@ -36,6 +34,3 @@ is_dirty_at wide single q = list_any (meets_place q) wide || list_any (is_corner
 
 pub record IsIndexOf (d wide single : List Rectangle) : Type 0 where
   pub each : (q : Place) → list_any (meets_place q) d ≡ is_dirty_at wide single q
-
-abbrev pub is_judged_at : ℕ → Rectangle → List Rectangle → List Rectangle → PointFeature → Bool
-is_judged_at class w wide single a = (rects_meet w (rect_at a.place) && is_dirty_at wide single a.place) && (a.class == class)

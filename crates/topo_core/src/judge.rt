@@ -1,57 +1,62 @@
-ghost use Rattle.std.specs.Prelude.{◌≡◌, ◌==◌, ◌&&◌, ◌++◌, ℕ, List, true, map, filter, flat_map, count_by, OnOk, IfOk};
+ghost use Rattle.std.specs.Prelude.{◌≡◌, ◌==◌, ◌++◌, ℕ, List, true, map, filter, flat_map, count_by, OnOk, IfOk};
+ghost use Rattle.plane_terms.specs.Lists.{Every};
 ghost use Rattle.plane_terms.specs.Rectangle.{Rectangle, rect_at, rects_meet};
+ghost use Rattle.topology_terms.specs.Feature.{IsAscending};
 ghost use Rattle.topology_terms.specs.Project.{Project};
-ghost use Rattle.point_steps.specs.Points.{disjoint_rule, judged_entries, kept_entries, entries_after, judged_count, validated_in, keys_ascend};
-ghost use Rattle.topo_core.specs.Parts.{feature_of, entry_of_pair, rule_list};
-ghost use Rattle.topo_core.specs.Dirty.{is_dirty_at, is_judged_at, IsIndexOf};
-ghost use Rattle.topo_core.specs.Places.{IsByPlace, is_above, pair_of};
-ghost use Rattle.topo_core.specs.declared.parts.Pair.{Pair};
+ghost use Rattle.point_steps.specs.Points.{disjoint_rule, judged_entries};
+ghost use Rattle.topo_core.specs.Parts.{feature_of, rule_list};
+ghost use Rattle.topo_core.specs.Dirty.{is_dirty_at};
+ghost use Rattle.topo_core.specs.Places.{IsByPlace, is_of, is_above, is_inside, error_of};
+ghost use Rattle.topo_core.specs.Judging.{IsJudging};
 ghost use Rattle.topo_core.specs.declared.parts.PointFeature.{PointFeature};
 
+use crate::NoMemory;
 use crate::dirt_index::DirtIndex;
 use crate::parts::PointFeature;
-use crate::places::{by_place, points_at};
-use crate::{NoMemory, Pair};
-use grid_plane::Rect;
+use crate::places::{by_place, is_of, points_at};
+use error_store::{Key, PointError};
+use grid_plane::{Handles, Rect};
 use std::alloc::Global;
 
-// Whether the point is in the window, and its place is dirty.
-fn is_selected(window: &Rect, dirt: &DirtIndex, a: &PointFeature) -> bool
-    ensures { result ≡ (rects_meet window.now (rect_at a.now.place) && is_dirty_at dirt.now.wide.items dirt.now.single.items a.now.place) }
-{
-    window.meets(&Rect::round(a.place)) && dirt.is_dirty(a.place)
+/// What a validation finds: how many points the rule judges, the selected points, and their errors as they are now.
+#[derive(Drop)]
+pub struct Judging {
+    pub judged: usize,
+    pub selected: Handles,
+    pub fresh: Vec<PointError>,
 }
 
-// The pairs of the point with the points above it.
+// The errors of the point with the points above it.
 fn push_pairs(
-    out: &mut Vec<Pair>,
+    out: &mut Vec<PointError>,
     a: &PointFeature,
     others: &[PointFeature],
 ) -> Result<(), NoMemory>
-    ensures { OnOk result (out.new.items ≡ out.old.items ++ map (pair_of a.now) (filter (is_above a.now) others.now)) }
+    ensures { OnOk result (out.new.items ≡ out.old.items ++ map (error_of a.now) (filter (is_above a.now) others.now)) }
 {
     for b in others {
         if a.handle < b.handle {
-            out.push(Pair {
+            let key = Key {
+                rule: 1,
                 subject: a.handle,
                 other: b.handle,
-                place: a.place,
-            })?;
+            };
+            out.push(PointError::at(key, a.place))?;
         }
     }
     Ok(())
 }
 
-// The pairs of the point with its partners, which are found among the points of the class by place.
+// The errors of the point with its partners, which are found among the points of the class by place.
 fn push_partners(
-    out: &mut Vec<Pair>,
+    out: &mut Vec<PointError>,
     class: u16,
     a: &PointFeature,
     points: &[PointFeature],
 ) -> Result<(), NoMemory>
     requires { (w : Rectangle) × (F : List PointFeature) × IsByPlace class w F points.now }
     ensures { (w : Rectangle) (F : List PointFeature) → IsByPlace class w F points.now → rects_meet w (rect_at a.now.place) ≡ true →
-        OnOk result (map entry_of_pair out.new.items ≡ map entry_of_pair out.old.items ++ judged_entries (map feature_of F) (disjoint_rule class) (feature_of a.now)) }
+        OnOk result (out.new.items ≡ out.old.items ++ judged_entries (map feature_of F) (disjoint_rule class) (feature_of a.now)) }
 {
     if a.class != class {
         return Ok(());
@@ -59,107 +64,106 @@ fn push_partners(
     push_pairs(out, a, points_at(points, a.place))
 }
 
-// The pairs of the subject of this handle.
-fn pairs_of(entries: &[Pair], handle: u32) -> &[Pair]
-    requires { keys_ascend (map entry_of_pair entries.now) ≡ true }
-    ensures { result.now ≡ filter (λ (e : Pair). e.subject == handle) entries.now }
-{
-    let start = entries.partition_point(|e| e.subject < handle);
-    let rest = &entries[start..];
-    let end = rest.partition_point(|e| e.subject <= handle);
-    &rest[..end]
-}
-
-// The pairs of the point, as they stand.
-fn push_kept(out: &mut Vec<Pair>, a: &PointFeature, entries: &[Pair]) -> Result<(), NoMemory>
-    requires { keys_ascend (map entry_of_pair entries.now) ≡ true }
-    ensures { (class : ℕ) → OnOk result (map entry_of_pair out.new.items ≡ map entry_of_pair out.old.items ++ kept_entries (map entry_of_pair entries.now) (disjoint_rule class) (feature_of a.now)) }
-{
-    out.extend_from_slice(pairs_of(entries, a.handle))?;
-    Ok(())
-}
-
-// The entries of the point after a validation of the window.
-fn push_entries(
-    out: &mut Vec<Pair>,
-    class: u16,
-    window: &Rect,
-    a: &PointFeature,
-    points: &[PointFeature],
-    dirt: &DirtIndex,
-    entries: &[Pair],
-) -> Result<(), NoMemory>
-    requires by_place { (F : List PointFeature) × IsByPlace class window.now F points.now }
-    requires ascending { keys_ascend (map entry_of_pair entries.now) ≡ true }
-    ensures { (p : Project) (F : List PointFeature) → IsByPlace class window.now F points.now → p.features ≡ map feature_of F → IsIndexOf p.dirt dirt.now.wide.items dirt.now.single.items → p.entries ≡ map entry_of_pair entries.now →
-        OnOk result (map entry_of_pair out.new.items ≡ map entry_of_pair out.old.items ++ entries_after window.now p (disjoint_rule class) (feature_of a.now)) }
-{
-    if is_selected(window, dirt, a) {
-        push_partners(out, class, a, points)
-    } else {
-        push_kept(out, a, entries)
-    }
-}
-
-// The entries after a validation of the window.
+// The errors of the selected points.
 pub fn judge_all(
     alloc: Global,
     class: u16,
-    window: &Rect,
-    features: &[PointFeature],
-    dirt: &DirtIndex,
-    entries: &[Pair],
-) -> Result<Vec<Pair>, NoMemory>
-    requires { keys_ascend (map entry_of_pair entries.now) ≡ true }
-    ensures { (p : Project) → p.features ≡ map feature_of features.now → IsIndexOf p.dirt dirt.now.wide.items dirt.now.single.items → p.entries ≡ map entry_of_pair entries.now →
-        IfOk result (λ v. map entry_of_pair v.items ≡ flat_map (entries_after window.now p (disjoint_rule class)) (map feature_of features.now)) }
+    selected: &[PointFeature],
+    points: &[PointFeature],
+) -> Result<Vec<PointError>, NoMemory>
+    requires { (w : Rectangle) × (F : List PointFeature) × IsByPlace class w F points.now }
+    ensures { (w : Rectangle) (F : List PointFeature) → IsByPlace class w F points.now → Every (λ (a : PointFeature). rects_meet w (rect_at a.place) ≡ true) selected.now →
+        IfOk result (λ v. v.items ≡ flat_map (judged_entries (map feature_of F) (disjoint_rule class)) (map feature_of selected.now)) }
 {
-    let points = by_place(alloc, class, window, features)?;
     let mut out = Vec::new(alloc);
-    for a in features {
-        push_entries(&mut out, class, window, a, &points, dirt, entries)?;
+    for a in selected {
+        push_partners(&mut out, class, a, points)?;
     }
     Ok(out)
 }
 
-// Whether a validation judges the point under the rule for this class.
-fn is_judged(class: u16, window: &Rect, dirt: &DirtIndex, a: &PointFeature) -> bool
-    ensures { result ≡ is_judged_at class window.now dirt.now.wide.items dirt.now.single.items a.now }
+// The points in the window.
+fn inside_of(
+    alloc: Global,
+    window: &Rect,
+    features: &[PointFeature],
+) -> Result<Vec<PointFeature>, NoMemory>
+    ensures { IfOk result (λ v. v.items ≡ filter (is_inside window.now) features.now) }
 {
-    is_selected(window, dirt, a) && a.class == class
-}
-
-// How many points of the class are in the window, and dirty.
-fn count_judged(class: u16, window: &Rect, features: &[PointFeature], dirt: &DirtIndex) -> usize
-    ensures { result ≡ count_by (is_judged_at class window.now dirt.now.wide.items dirt.now.single.items) features.now }
-{
-    features
+    let inside: Vec<PointFeature> = features
         .iter()
-        .filter(|a| is_judged(class, window, dirt, a))
-        .count()
+        .filter(|a| window.meets(&Rect::round(a.place)))
+        .copied()
+        .collect(alloc)?;
+    Ok(inside)
 }
 
-// How many points a validation of the window judges, and what it finds, if there is a rule.
+// Of points those whose place is dirty.
+fn dirty_of(
+    alloc: Global,
+    inside: &[PointFeature],
+    dirt: &DirtIndex,
+) -> Result<Vec<PointFeature>, NoMemory>
+    ensures { IfOk result (λ v. v.items ≡ filter (λ (a : PointFeature). is_dirty_at dirt.now.wide.items dirt.now.single.items a.place) inside.now) }
+{
+    let dirty: Vec<PointFeature> = inside
+        .iter()
+        .filter(|a| dirt.is_dirty(a.place))
+        .copied()
+        .collect(alloc)?;
+    Ok(dirty)
+}
+
+// Their handles.
+fn handles_of(alloc: Global, points: &[PointFeature]) -> Result<Handles, NoMemory>
+    requires { IsAscending (map feature_of points.now) }
+    ensures { IfOk result (λ h. h ≡ map (λ (a : PointFeature). a.handle) points.now) }
+{
+    let mut handles = Handles::new(alloc);
+    for a in points {
+        handles.push(a.handle)?;
+    }
+    Ok(handles)
+}
+
+// How many points of the class there are.
+fn count_of(class: u16, points: &[PointFeature]) -> usize
+    ensures { result ≡ count_by (is_of class) points.now }
+{
+    points.iter().filter(|a| is_of(class, a)).count()
+}
+
+// What a validation of the window finds, if there is a rule or not. It reads the features once.
 pub fn judge_rule(
     alloc: Global,
     rule: Option<u16>,
     window: &Rect,
     features: &[PointFeature],
     dirt: &[Rect],
-    entries: &[Pair],
-) -> Result<(usize, Vec<Pair>), NoMemory>
-    requires { keys_ascend (map entry_of_pair entries.now) ≡ true }
-    ensures { (p : Project) → p.rules ≡ rule_list rule → p.features ≡ map feature_of features.now → p.dirt ≡ dirt.now → p.entries ≡ map entry_of_pair entries.now →
-        IfOk result (λ v. (v.0 ≡ judged_count window.now p) × (map entry_of_pair v.1.items ≡ (validated_in window.now p).entries)) }
+) -> Result<Judging, NoMemory>
+    requires { IsAscending (map feature_of features.now) }
+    ensures { (p : Project) → p.rules ≡ rule_list rule → p.features ≡ map feature_of features.now → p.dirt ≡ dirt.now →
+        IfOk result (λ v. IsJudging window.now p v.judged v.selected v.fresh.items) }
 {
+    let index = DirtIndex::of(alloc, dirt)?;
+    let inside = inside_of(alloc, window, features)?;
+    let dirty = dirty_of(alloc, &inside, &index)?;
+    let selected = handles_of(alloc, &dirty)?;
     match rule {
         Some(class) => {
-            let index = DirtIndex::of(alloc, dirt)?;
-            let judged = count_judged(class, window, features, &index);
-            let found = judge_all(alloc, class, window, features, &index, entries)?;
-            Ok((judged, found))
+            let points = by_place(alloc, class, &inside)?;
+            let fresh = judge_all(alloc, class, &dirty, &points)?;
+            Ok(Judging {
+                judged: count_of(class, &dirty),
+                selected,
+                fresh,
+            })
         }
-        None => Ok((0, Vec::new(alloc))),
+        None => Ok(Judging {
+            judged: 0,
+            selected,
+            fresh: Vec::new(alloc),
+        }),
     }
 }
 

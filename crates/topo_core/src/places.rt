@@ -1,10 +1,12 @@
-ghost use Rattle.std.specs.Prelude.{◌≡◌, filter, IfOk};
+ghost use Rattle.std.specs.Prelude.{◌≡◌, List, filter, IfOk};
 ghost use Rattle.std.specs.List.Sorted.{IsNonDecreasingBy};
-ghost use Rattle.topo_core.specs.Places.{place_order, place_rank, is_at, is_among, IsByPlace};
+ghost use Rattle.plane_terms.specs.Rectangle.{Rectangle};
+ghost use Rattle.topo_core.specs.Places.{place_order, place_rank, is_at, is_of, is_inside, IsByPlace};
+ghost use Rattle.topo_core.specs.declared.parts.PointFeature.{PointFeature};
 
 use crate::NoMemory;
 use crate::parts::PointFeature;
-use grid_plane::{GridPoint, Rect};
+use grid_plane::GridPoint;
 use std::alloc::Global;
 use std::cmp::Ordering;
 
@@ -15,40 +17,34 @@ fn place_order(p: GridPoint, q: GridPoint) -> Ordering
     p.x().cmp(&q.x()).then(p.y().cmp(&q.y()))
 }
 
-// Whether the point is of the class and in the window.
-fn is_among(class: u16, window: &Rect, a: &PointFeature) -> bool
-    ensures { result ≡ is_among class window.now a.now }
+// Whether the point is of the class.
+pub fn is_of(class: u16, a: &PointFeature) -> bool
+    ensures { result ≡ is_of class a.now }
 {
-    a.class == class && window.meets(&Rect::round(a.place))
+    a.class == class
 }
 
-// The points of the class in the window.
-fn among(
-    alloc: Global,
-    class: u16,
-    window: &Rect,
-    features: &[PointFeature],
-) -> Result<Vec<PointFeature>, NoMemory>
-    ensures { IfOk result (λ v. v.items ≡ filter (is_among class window.now) features.now) }
+// Of points those of the class.
+fn among(alloc: Global, class: u16, inside: &[PointFeature]) -> Result<Vec<PointFeature>, NoMemory>
+    ensures { IfOk result (λ v. v.items ≡ filter (is_of class) inside.now) }
 {
-    let points: Vec<PointFeature> = features
+    let points: Vec<PointFeature> = inside
         .iter()
-        .filter(|a| is_among(class, window, a))
+        .filter(|a| is_of(class, a))
         .copied()
         .collect(alloc)?;
     Ok(points)
 }
 
-// The points of the class in the window, in order of places, those at one place as they stand.
+// Of the points in a window those of the class, in order of places, those at one place as they stand.
 pub fn by_place(
     alloc: Global,
     class: u16,
-    window: &Rect,
-    features: &[PointFeature],
+    inside: &[PointFeature],
 ) -> Result<Vec<PointFeature>, NoMemory>
-    ensures { IfOk result (λ v. IsByPlace class window.now features.now v.items) }
+    ensures { (w : Rectangle) (F : List PointFeature) → inside.now ≡ filter (is_inside w) F → IfOk result (λ v. IsByPlace class w F v.items) }
 {
-    let mut points = among(alloc, class, window, features)?;
+    let mut points = among(alloc, class, inside)?;
     points.sort_by(|a, b| place_order(a.place, b.place))?;
     Ok(points)
 }

@@ -1,7 +1,7 @@
 // Judging as the definitions say it, point by point against all points: what the tests compare with.
-ghost use Rattle.std.specs.Prelude.{◌≡◌, ◌++◌, ℕ, map, flat_map, OnOk, IfOk};
+ghost use Rattle.std.specs.Prelude.{◌≡◌, ◌++◌, [], map, flat_map, OnOk, IfOk};
 ghost use Rattle.topology_terms.specs.Project.{Project};
-ghost use Rattle.point_steps.specs.Points.{is_partner, is_selected, disjoint_rule, judged_entries, kept_entries, entries_after};
+ghost use Rattle.point_steps.specs.Points.{is_partner, is_selected, disjoint_rule, judged_entries, entries_after};
 ghost use Rattle.topo_core.specs.Parts.{feature_of, entry_of_pair};
 
 use crate::dirt_index::meets_any;
@@ -42,18 +42,6 @@ fn push_partners(
     Ok(())
 }
 
-// The pairs of the point, as they stand.
-fn push_kept(out: &mut Vec<Pair>, a: &PointFeature, entries: &[Pair]) -> Result<(), NoMemory>
-    ensures { (class : ℕ) → OnOk result (map entry_of_pair out.new.items ≡ map entry_of_pair out.old.items ++ kept_entries (map entry_of_pair entries.now) (disjoint_rule class) (feature_of a.now)) }
-{
-    for e in entries {
-        if e.subject == a.handle {
-            out.push(*e)?;
-        }
-    }
-    Ok(())
-}
-
 // Whether the point is in the window, and its place is dirty.
 fn is_selected(window: &Rect, dirt: &[Rect], a: &PointFeature) -> bool
     ensures { result ≡ is_selected window.now dirt.now (feature_of a.now) }
@@ -70,15 +58,14 @@ fn push_entries(
     a: &PointFeature,
     features: &[PointFeature],
     dirt: &[Rect],
-    entries: &[Pair],
 ) -> Result<(), NoMemory>
-    ensures { (p : Project) → p.features ≡ map feature_of features.now → p.dirt ≡ dirt.now → p.entries ≡ map entry_of_pair entries.now →
+    ensures { (p : Project) → p.features ≡ map feature_of features.now → p.dirt ≡ dirt.now → p.entries ≡ [] →
         OnOk result (map entry_of_pair out.new.items ≡ map entry_of_pair out.old.items ++ entries_after window.now p (disjoint_rule class) (feature_of a.now)) }
 {
     if is_selected(window, dirt, a) {
         push_partners(out, class, a, features)
     } else {
-        push_kept(out, a, entries)
+        Ok(())
     }
 }
 
@@ -89,14 +76,13 @@ pub fn judge_plainly(
     window: &Rect,
     features: &[PointFeature],
     dirt: &[Rect],
-    entries: &[Pair],
 ) -> Result<Vec<Pair>, NoMemory>
-    ensures { (p : Project) → p.features ≡ map feature_of features.now → p.dirt ≡ dirt.now → p.entries ≡ map entry_of_pair entries.now →
+    ensures { (p : Project) → p.features ≡ map feature_of features.now → p.dirt ≡ dirt.now → p.entries ≡ [] →
         IfOk result (λ v. map entry_of_pair v.items ≡ flat_map (entries_after window.now p (disjoint_rule class)) (map feature_of features.now)) }
 {
     let mut out = Vec::new(alloc);
     for a in features {
-        push_entries(&mut out, class, window, a, features, dirt, entries)?;
+        push_entries(&mut out, class, window, a, features, dirt)?;
     }
     Ok(out)
 }

@@ -12,6 +12,7 @@ use crate::judge::judge_rule;
 use crate::parts::PointFeature;
 use crate::{AddFault, NoMemory, Pair, Summary};
 use dirty_area::Dirt;
+use error_store::Errors;
 use grid_plane::{GridPoint, Name, Rect};
 use std::alloc::Global;
 use std::marker::Model;
@@ -27,7 +28,7 @@ pub struct Topology {
     features: Vec<PointFeature>,
     next: u32,
     dirt: Dirt,
-    entries: Vec<Pair>,
+    entries: Errors,
 }
 
 impl Model for Topology {
@@ -56,7 +57,7 @@ impl Topology {
             features: Vec::new(alloc),
             next: 1,
             dirt: Dirt::new(alloc),
-            entries: Vec::new(alloc),
+            entries: Errors::new(alloc),
         }
     }
 
@@ -152,19 +153,21 @@ impl Topology {
         ensures err { OnErr result (self.new ≡ self.old) }
     {
         window.corner_law();
-        let (judged, entries) = judge_rule(
+        let judging = judge_rule(
             self.alloc,
             self.rule,
             &window,
             &self.features,
             self.dirt.rects(),
-            &self.entries,
         )?;
+        let entries = self
+            .entries
+            .replaced(self.alloc, &judging.selected, &judging.fresh)?;
         self.dirt.cut(self.alloc, &window)?;
         let errors = entries.len();
         self.entries = entries;
         Ok(Summary {
-            judged: judged as u64,
+            judged: judging.judged as u64,
             errors: errors as u64,
             dirty: self.dirt.len() as u64,
         })
@@ -189,7 +192,13 @@ impl Topology {
         requires { i < length self.now.entries }
         ensures { slice_get self.now.entries i ≡ Some (entry_of_pair result) }
     {
-        self.entries[i]
+        let e = self.entries.at(i);
+        let key = e.key();
+        Pair {
+            subject: key.subject,
+            other: key.other,
+            place: e.place(),
+        }
     }
 }
 

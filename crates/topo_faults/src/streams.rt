@@ -1,4 +1,8 @@
-ghost use Rattle.std.specs.Prelude.{◌≤◌, length, None, Some};
+ghost use Rattle.std.specs.Prelude.{◌≡◌, ◌+◌, ◌-◌, ◌^◌, ◌≤◌, [], length, min, None, Some, Ok, IfOk};
+ghost use Rattle.std.specs.Io.{ReadsAtMost, WritesAtMost};
+ghost use Rattle.std.specs.Io.KnownBytes.{ReadConsumes, WriteAppends};
+ghost use Rattle.topo_outside.specs.Causes.{ReadCause, WriteCause};
+ghost use Rattle.topo_outside.specs.Memory.{counted};
 
 use std::alloc::Global;
 use topo_outside::{Failed, Sink, SinkFault, Source};
@@ -15,7 +19,10 @@ pub struct EndlessSource {
 
 impl EndlessSource {
     /// The source of this line.
-    pub fn new(line: Vec<u8>) -> Self {
+    pub fn new(line: Vec<u8>) -> Self
+        ensures line { result.line ≡ line }
+        ensures unread { (result.at ≡ 0) × (result.before ≡ 0) × (result.given ≡ 0) }
+    {
         EndlessSource {
             line,
             at: 0,
@@ -25,12 +32,16 @@ impl EndlessSource {
     }
 
     /// So many bytes were given before the last read.
-    pub fn before(&self) -> u64 {
+    pub fn before(&self) -> u64
+        ensures { result ≡ self.now.before }
+    {
         self.before
     }
 
     /// So many bytes were given.
-    pub fn given(&self) -> u64 {
+    pub fn given(&self) -> u64
+        ensures { result ≡ self.now.given }
+    {
         self.given
     }
 }
@@ -40,7 +51,14 @@ impl Source for EndlessSource {
 
     ghost faults = { λ s. 0 };
 
-    fn read(&mut self, buf: &mut [u8]) -> Result<usize, Failed> {
+    fn read(&mut self, buf: &mut [u8]) -> Result<usize, Failed>
+        ensures bound { ReadsAtMost result buf.new }
+        ensures bytes { ReadConsumes None None result buf.new }
+        ensures cause { ReadCause 0 0 result }
+        ensures before { self.new.before ≡ self.old.given }
+        ensures given { IfOk result (λ n. self.new.given ≡ min (self.old.given + n) (2 ^ 64 - 1)) }
+        ensures line { self.new.line ≡ self.old.line }
+    {
         if self.at == self.line.len() {
             self.at = 0;
         }
@@ -66,7 +84,11 @@ pub struct StingySink {
 
 impl StingySink {
     /// An empty sink, which takes at most `piece` bytes at once; the call of this number, from 1, takes none.
-    pub fn new(alloc: Global, piece: usize, stingy: u64) -> Self {
+    pub fn new(alloc: Global, piece: usize, stingy: u64) -> Self
+        ensures empty { result.bytes.items ≡ [] }
+        ensures calls { (result.calls ≡ 0) × (result.faults ≡ 0) }
+        ensures as_given { (result.piece ≡ piece) × (result.stingy ≡ stingy) }
+    {
         StingySink {
             bytes: Vec::new(alloc),
             piece,
@@ -77,7 +99,9 @@ impl StingySink {
     }
 
     /// What was written.
-    pub fn bytes(&self) -> &Vec<u8> {
+    pub fn bytes(&self) -> &Vec<u8>
+        ensures { result.now ≡ self.now.bytes }
+    {
         &self.bytes
     }
 }
@@ -87,7 +111,14 @@ impl Sink for StingySink {
 
     ghost faults = { λ s. s.faults };
 
-    fn write(&mut self, bytes: &[u8]) -> Result<usize, SinkFault> {
+    fn write(&mut self, bytes: &[u8]) -> Result<usize, SinkFault>
+        ensures bound { WritesAtMost result bytes.now }
+        ensures bytes { WriteAppends (Some self.old.bytes.items) (Some self.new.bytes.items) result bytes.now }
+        ensures cause { WriteCause self.old.faults self.new.faults bytes.now result }
+        ensures stingy { counted self.old.calls ≡ self.old.stingy → result ≡ Ok 0 }
+        ensures calls { self.new.calls ≡ counted self.old.calls }
+        ensures as_given { (self.new.piece ≡ self.old.piece) × (self.new.stingy ≡ self.old.stingy) }
+    {
         self.calls = self.calls.saturating_add(1);
         if self.calls == self.stingy || self.piece == 0 {
             self.faults = self.faults.saturating_add(1);

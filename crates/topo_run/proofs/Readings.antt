@@ -8,7 +8,7 @@ use Rattle.std.specs.Prelude.{codes, bytes_eq}
 use Rattle.std.proofs.lemmas.Slice.Eq.{bytes_eq-Decides}
 use lib.Signed.{mag}
 use Rattle.plane_terms.specs.Point.{Place, InReach, IsInReach}
-use Rattle.plane_terms.specs.Rectangle.{Rectangle, IsRectangle}
+use Rattle.plane_terms.specs.Rectangle.{Rectangle, IsRectangle, numbers_of, IsFirstOut}
 use Rattle.plane_terms.specs.Shape.{Shape, point_shape}
 use Rattle.text_terms.specs.Fields.{HasFields, skip_blanks, front_field, behind_field, skip_end_blanks}
 use Rattle.text_terms.specs.Numbers.{IsSigned}
@@ -16,7 +16,7 @@ use Rattle.text_terms.specs.Wkt.{point_text, IsWrittenPoint}
 use Rattle.topology_terms.specs.declared.rule_kind.RuleKind.TheVariants as rule
 use Rattle.script_terms.specs.Command.{Command, Class, Rule, Begin, Add, Validate, Dirty, Errors, Cells, IsWindowText, IsValidateLine, IsCommandLine}
 use Rattle.script_terms.specs.Refusal.{Refusal, NotALine, NoClass, NoSession, OutOfReach, HandlesSpent, Reversed}
-use Rattle.script_terms.specs.Run.{numbers_of, IsFirstOut, IsLineFault, Reading, Skipped, Reads, Faulty, ReadsAs}
+use Rattle.script_terms.specs.Run.{IsLineFault, Reading, Skipped, Reads, Faulty, ReadsAs}
 use Rattle.grid_plane.specs.declared.fault.RectFault.{RectFault}
 use Rattle.grid_plane.specs.declared.fault.RectFault.TheVariants as fault
 use Rattle.topo_run.specs.Windows.{fault_of}

@@ -6,11 +6,11 @@ use Rattle.std.specs.List.{list_all}
 use Rattle.std.specs.Prelude.{codes, nat_le, unwrap_or, if◌then◌else◌, Result, Ok, Err, IfOk, IfErr, MatchResult}
 use Rattle.plane_terms.specs.Lists.{Every, Paired}
 use Rattle.plane_terms.specs.Point.{InReach}
-use Rattle.plane_terms.specs.Rectangle.{Rectangle, IsRectangle, rect_of}
+use Rattle.plane_terms.specs.Rectangle.{Rectangle, IsRectangle, rect_of, numbers_of, IsFirstOut}
 use Rattle.text_terms.specs.Fields.{is_digit, HasFields}
 use Rattle.text_terms.specs.Numbers.{value_from, IsNumeral, IsSigned}
 use Rattle.script_terms.specs.Command.{IsWindowText}
-use Rattle.script_terms.specs.Run.{numbers_of, IsFirstOut, IsLineFault}
+use Rattle.script_terms.specs.Run.{IsLineFault}
 use Rattle.grid_plane.specs.Rectangles as plane
 use Rattle.grid_plane.specs.declared.fault.RectFault.{RectFault}
 use Rattle.grid_plane.specs.declared.fault.RectFault.TheVariants as fault
@@ -201,7 +201,7 @@ same_window w v h i =
     λ j. record { x0 = x0 j; y0 = y0 j; x1 = x1 j; y1 = y1 j }
 
 -- the first beyond the reach is the first of those that are like them
-first_out : (k : ℕ) (zs vs : List ℤ) → Paired IsLike zs vs → plane.IsFirstOut k vs → IsFirstOut k zs
+first_out : (k : ℕ) (zs vs : List ℤ) → Paired IsLike zs vs → IsFirstOut k vs → IsFirstOut k zs
 first_out k [] [] h o = absurd o
 first_out k [] (v ∷ vs) h o = absurd h
 first_out k (z ∷ zs) [] h o = absurd h
@@ -209,7 +209,7 @@ first_out zero (z ∷ zs) (v ∷ vs) h o = beyond_like z v h.0 o
 first_out (suc k) (z ∷ zs) (v ∷ vs) h o = (subst InReach (sym (within_like z v h.0 o.0)) o.0, first_out k zs vs h.1 o.1)
 
 fault_read : (line : List ℕ) (w v : Rectangle) (e : RectFault) → IsWindowText line w → IsLikeWindow w v → plane.IsRectFault e v → IsLineFault line (fault_of e)
-fault_read line w v (fault.OutOfReach at) text h o = (w, text, first_out at (numbers_of w) (plane.sides v) (h.x0, (h.y0, (h.x1, (h.y1, tt)))) o)
+fault_read line w v (fault.OutOfReach at) text h o = (w, text, first_out at (numbers_of w) (numbers_of v) (h.x0, (h.y0, (h.x1, (h.y1, tt)))) o)
 fault_read line w v fault.Reversed text h o =
     let i : AreInReach v = record { x0 = o.0.0; y0 = o.0.1.0; x1 = o.0.1.1.0; y1 = o.0.1.1.1.0 } in
     (v, subst (IsWindowText line) (same_window w v h i) text, o.0, o.1)

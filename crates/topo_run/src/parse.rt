@@ -10,13 +10,12 @@ ghost use Rattle.script_terms.specs.Run.{ReadsAs};
 ghost use Rattle.topo_run.specs.Commands.{reading_of, command_of};
 ghost use Rattle.topo_run.specs.Grammar.{NoName, AdderText, IsWordText, IsNamedText, IsOtherText};
 
-use crate::fields::{
-    behind_word, is_only, is_over, is_pair, is_skipped, next_field, skip_blanks, skip_end_blanks,
-};
+use crate::fields::{is_pair, is_skipped};
 use crate::point::read_point;
 use crate::reply::Refusal;
 use crate::window::{read_window, refusal_of};
 use grid_plane::{GridPoint, Name, Rect};
+use text_numbers::{behind_word, is_only, is_over, next_field, skip_blanks, skip_end_blanks};
 use topology_terms::RuleKind;
 
 /// The commands that a line may be.

@@ -3,9 +3,9 @@ ghost use Rattle.plane_terms.specs.Shape.{Shape, point_shape};
 ghost use Rattle.text_terms.specs.Wkt.{IsWrittenPoint};
 ghost use Rattle.topo_run.specs.Numbers.{AreCoordinates, NoPoint};
 
-use crate::fields::split_field;
 use crate::number::read_coordinate;
 use grid_plane::GridPoint;
+use text_numbers::split_field;
 
 fn behind<'a>(text: &'a [u8], front: &[u8]) -> Option<&'a [u8]>
     ensures { MatchOption result ((rest : List ℕ) → text.now ≡ front.now ++ rest → ⊥) (λ rest. text.now ≡ front.now ++ rest.now) }

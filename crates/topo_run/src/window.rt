@@ -6,10 +6,10 @@ ghost use Rattle.script_terms.specs.Run.{IsLineFault};
 ghost use Rattle.topo_run.specs.Replies as replies;
 ghost use Rattle.topo_run.specs.Windows.{IsLikeWindow, fault_of};
 
-use crate::fields::{behind_word, is_over, next_field};
 use crate::reply::Refusal;
 use crate::signed::read_signed;
 use grid_plane::{Rect, RectFault};
+use text_numbers::{behind_word, is_over, next_field};
 
 /// Why four numbers are no window, as a refusal.
 pub fn refusal_of(fault: RectFault) -> Refusal

@@ -1,4 +1,5 @@
 use super::*;
+use crate::Pair;
 use crate::plainly::judge_plainly;
 use grid_plane::GridPoint;
 use std::test::Fail;
@@ -16,13 +17,22 @@ fn points(alloc: Global, many: u32) -> Result<Vec<PointFeature>, Fail> {
     Ok(points)
 }
 
-// The errors by their two handles.
-fn handles(alloc: Global, found: &[Pair]) -> Result<Vec<(u32, u32)>, Fail> {
+// The pairs by their two handles.
+fn handles(alloc: Global, pairs: &[Pair]) -> Result<Vec<(u32, u32)>, Fail> {
     let mut handles = Vec::new(alloc);
-    for pair in found {
+    for pair in pairs {
         handles.push((pair.subject, pair.other))?;
     }
     Ok(handles)
+}
+
+// The errors by their two handles.
+fn keys(alloc: Global, errors: &[PointError]) -> Result<Vec<(u32, u32)>, Fail> {
+    let mut keys = Vec::new(alloc);
+    for error in errors {
+        keys.push((error.key().subject, error.key().other))?;
+    }
+    Ok(keys)
 }
 
 #[test]
@@ -31,41 +41,12 @@ fn judges_as_plainly(rt: HostRuntime) -> Result<(), Fail> {
     let points = points(alloc, 200)?;
     let place = GridPoint::at(2, -1).ok_or("in reach")?;
     for dirt in [Rect::round(place), Rect::whole()] {
-        let found = judge_all(
-            alloc,
-            1,
-            &Rect::whole(),
-            &points,
-            &DirtIndex::of(alloc, &[dirt])?,
-            &[],
-        )?;
-        let plain = judge_plainly(alloc, 1, &Rect::whole(), &points, &[dirt], &[])?;
+        let inside = inside_of(alloc, &Rect::whole(), &points)?;
+        let dirty = dirty_of(alloc, &inside, &DirtIndex::of(alloc, &[dirt])?)?;
+        let found = judge_all(alloc, 1, &dirty, &by_place(alloc, 1, &inside)?)?;
+        let plain = judge_plainly(alloc, 1, &Rect::whole(), &points, &[dirt])?;
         assert!(rt; found.len() >= 15);
-        assert_eq!(rt; handles(alloc, &found)?, handles(alloc, &plain)?);
+        assert_eq!(rt; keys(alloc, &found)?, handles(alloc, &plain)?);
     }
-    Ok(())
-}
-
-#[test]
-fn keeps_pairs_as_plainly(rt: HostRuntime) -> Result<(), Fail> {
-    let alloc = rt.alloc();
-    let points = points(alloc, 200)?;
-    let place = GridPoint::at(2, -1).ok_or("in reach")?;
-    let entries = [(1, 3), (1, 21), (37, 57), (97, 99), (300, 301)].map(|(subject, other)| Pair {
-        subject,
-        other,
-        place,
-    });
-    let found = judge_all(
-        alloc,
-        1,
-        &Rect::whole(),
-        &points,
-        &DirtIndex::of(alloc, &[])?,
-        &entries,
-    )?;
-    let plain = judge_plainly(alloc, 1, &Rect::whole(), &points, &[], &entries)?;
-    assert_eq!(rt; found.len(), 4);
-    assert_eq!(rt; handles(alloc, &found)?, handles(alloc, &plain)?);
     Ok(())
 }

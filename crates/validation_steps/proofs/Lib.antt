@@ -1,0 +1,10 @@
+pub mod Joining
+pub mod Handles
+pub mod Judging
+pub mod Viewed
+pub mod Parts
+pub mod Replacing
+pub mod Validating
+pub mod Selecting
+pub mod Counting
+pub mod Posters
