@@ -3,18 +3,18 @@
 -- kept, opened_same        a ring of a shape loses nothing when it is read
 -- closed_is_closed, without_closed     its closed form is closed, and without its last place it is the ring
 -- again                    the promise
-use Rattle.std.proofs.Common.{ℕ, zero, suc, ◌≡◌, ◌<◌, ◌≤◌, ◌+◌, ◌-◌, true, false, cond, List, [], ◌∷◌, ◌++◌, map, length, take, get_or, length-append, refl, sym, ap, ◌∙◌, subst, arith}
+use Rattle.std.proofs.Common.{◌≡◌, ◌≤◌, ◌-◌, true, false, cond, List, [], ◌∷◌, ◌++◌, map, length, take, get_or, length-append, refl, sym, ap, ◌∙◌, arith}
 use Rattle.std.specs.List.{AllByRecursion}
 use Rattle.std.specs.Prelude.{flat_map}
 use Rattle.plane_terms.specs.Lists.{Every}
 use Rattle.plane_terms.specs.Point.{Place, IsInReach, same_place}
-use Rattle.plane_terms.specs.Shape.{Shape, rings_of, vertices_of, last_of, shape_of, ring_by, without_repeats, opened, AreUnlike, NextDiffer, IsPart, IsRing, IsShape}
+use Rattle.plane_terms.specs.Shape.{Shape, last_of, shape_of, ring_by, without_repeats, opened, NextDiffer, IsPart, IsRing, IsShape}
 use Rattle.plane_terms.specs.declared.kind.Kind.{Kind}
 use Rattle.plane_terms.specs.declared.kind.Kind.TheVariants as kind
 use Rattle.shape.proofs.Opening.{open_end}
 use Rattle.shape.proofs.Places.{same_is}
-use Rattle.wkt_terms.specs.Grammar.{Geometry, APoint, ALine, Lines, APolygon, Polygons, IsSome, AreSome, IsFull}
-use Rattle.wkt_terms.specs.Shapes.{is_closed, without_last, shape_in, rings_in, AreClosed, IsShapeText, closed, of_lines, of_polygons, geometry_in, shape_text}
+use Rattle.wkt_terms.specs.Grammar.{APoint, IsSome, AreSome, IsFull}
+use Rattle.wkt_terms.specs.Shapes.{is_closed, without_last, shape_in, AreClosed, IsShapeText, closed, of_lines, of_polygons, shape_text}
 use Rattle.wkt_terms.specs.Written.{IsInGrid}
 use Rattle.wkt_steps.proofs.Written.{written_read}
 use Rattle.wkt_text.proofs.FirstOpen.{last_at}

@@ -4,7 +4,7 @@
 -- total w xs             the sum of what w weighs of each
 -- countable              the parts of what a text of 1,048,576 bytes spells can be counted
 -- countable_opened       so can they where each ring has lost its last place
-use Rattle.std.proofs.Common.{ℕ, ◌≡◌, ◌<◌, ◌≤◌, ◌+◌, ◌-◌, ◌^◌, List, [], ◌∷◌, ◌++◌, map, length, take, length-append, refl, ap, ◌∙◌, sym, subst, arith}
+use Rattle.std.proofs.Common.{ℕ, ◌≡◌, ◌<◌, ◌≤◌, ◌+◌, ◌-◌, ◌^◌, List, [], ◌∷◌, ◌++◌, map, length, length-append, refl, ap, ◌∙◌, sym, subst, arith}
 use Rattle.std.specs.Prelude.{flat_map}
 use Rattle.std.proofs.lemmas.List.{length-map, length-take}
 use Rattle.plane_terms.specs.Point.{Place}
@@ -13,7 +13,7 @@ use Rattle.text_terms.specs.Fields.{skip_blanks}
 use Rattle.wkt_terms.specs.Grammar.{Geometry, APoint, ALine, Lines, APolygon, Polygons, IsWkt, position, commas, items, list, lists, spelling}
 use Rattle.wkt_terms.specs.Shapes.{without_last}
 use Rattle.wkt_terms.specs.Tokens.{Token, Open, Close, Comma, Named, Numeral, Other, End, StartsWith, token_at, behind_token}
-use Rattle.wkt_steps.proofs.Reading.{skip_blanks-le, behind_token-le, shorter}
+use Rattle.wkt_steps.proofs.Reading.{skip_blanks-le, shorter}
 use Rattle.wkt_text.specs.Given.{given_in}
 
 abbrev one : Token → ℕ

@@ -2,7 +2,7 @@
 --
 -- every_at, pair_at     what holds of each, or of each pair, holds of those at these places
 -- valid_flawless        the promise
-use Rattle.std.proofs.Common.{ℕ, zero, suc, ◌≡◌, ◌<◌, ◌≤◌, ◌⊎◌, inl, inr, List, [], ◌∷◌, length, Some, refl, sym, ap, ◌∙◌, subst, arith}
+use Rattle.std.proofs.Common.{ℕ, zero, suc, ◌≡◌, ◌<◌, ◌≤◌, ◌⊎◌, inl, inr, List, [], ◌∷◌, length, Some, ap, subst, arith}
 use Rattle.std.specs.Prelude.{slice_get}
 use Rattle.plane_terms.specs.Lists.{Every, EveryPair, SomeOf}
 use Rattle.plane_terms.specs.Point.{Place}

@@ -1,5 +1,5 @@
 -- The parts of a shape, as they are written.
-use Rattle.std.proofs.Common.{◌≡◌, List, [], ◌∷◌, map, Result, refl, sym, ap, ◌∙◌, subst, ℕ}
+use Rattle.std.proofs.Common.{◌≡◌, List, [], ◌∷◌, refl, sym, ap, ◌∙◌}
 use Rattle.std.specs.Prelude.{Vec, flat_map}
 use Rattle.std.specs.Global.{Global}
 use Rattle.plane_terms.specs.Shape.{Shape, rings_of, place_of}

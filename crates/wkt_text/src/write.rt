@@ -1,5 +1,6 @@
 ghost use Rattle.std.specs.Prelude.{◌≡◌, ◌++◌};
-ghost use Rattle.wkt_terms.specs.Shapes.{shape_text};
+ghost use Rattle.plane_terms.specs.Shape.{IsShape};
+ghost use Rattle.wkt_terms.specs.Shapes.{shape_text, IsShapeText};
 ghost use Rattle.wkt_writer.specs.Appended.{Appends};
 
 use grid_plane::NoMemory;
@@ -8,7 +9,7 @@ use std::alloc::AllocError;
 use wkt_writer::{push_line, push_point, push_polygon};
 
 fn push_shape(out: &mut Vec<u8>, shape: &Shape) -> Result<(), AllocError>
-    ensures { Appends result out.old.items out.new.items (shape_text shape.now) }
+    ensures { Appends result out.old.items out.new.items (shape_text shape.now) × IsShape shape.now }
 {
     match shape.kind() {
         Kind::Point => push_point(out, &shape.place()),
@@ -18,8 +19,10 @@ fn push_shape(out: &mut Vec<u8>, shape: &Shape) -> Result<(), AllocError>
 }
 
 /// Appends the one written form of a shape; after want of memory a front of it is appended. Reading it gives the shape again.
+#[tactic(auto, using(crate::proofs::Again::again))]
 pub fn write_wkt(shape: &Shape, out: &mut Vec<u8>) -> Result<(), NoMemory>
-    ensures { Appends result out.old.items out.new.items (shape_text shape.now) }
+    ensures appended { Appends result out.old.items out.new.items (shape_text shape.now) }
+    ensures again { IsShapeText (shape_text shape.now) shape.now }
 {
     match push_shape(out, shape) {
         Ok(()) => Ok(()),

@@ -1,4 +1,4 @@
-use Rattle.std.proofs.Common.{◌∙◌, ap, sym, arith, length, ◌<◌, ◌≤◌}
+use Rattle.std.proofs.Common.{◌∙◌, ap, sym, arith}
 use Rattle.wkt_terms.specs.Shapes.{without_last}
 use Rattle.wkt_steps.specs.Seen.{Ring}
 use Rattle.shape.proofs.Changed.{changed_more, changed_all}

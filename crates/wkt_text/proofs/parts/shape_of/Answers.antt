@@ -1,4 +1,4 @@
-use Rattle.std.proofs.Common.{List, subst, sym}
+use Rattle.std.proofs.Common.{List, subst}
 use Rattle.plane_terms.specs.Point.{Place}
 use Rattle.shape.specs.Given.{IsCountable}
 use Rattle.wkt_geometry.specs.States.{geometry_of}
