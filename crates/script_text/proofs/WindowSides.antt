@@ -3,8 +3,7 @@ use Rattle.std.proofs.Common.{ℕ, ℤ, zero, suc, ◌≡◌, [], ◌∷◌, ref
 use Rattle.std.proofs.lemmas.Int.{ints}
 use Rattle.plane_terms.specs.Lists.{Every}
 use Rattle.plane_terms.specs.Point.{InReach}
-use Rattle.plane_terms.specs.Rectangle.{Rectangle, IsRectangle, IsProper, rect_of}
-use Rattle.grid_plane.specs.Rectangles.{IsFirstOut, sides}
+use Rattle.plane_terms.specs.Rectangle.{Rectangle, IsRectangle, IsProper, rect_of, numbers_of, IsFirstOut}
 use Rattle.line_forms.specs.declared.window_number.WindowNumber.{WindowNumber}
 use Rattle.line_forms.specs.declared.window_number.WindowNumber.TheVariants.{Within, Beyond}
 use Rattle.script_text.specs.Numbers.{side_of}
@@ -46,7 +45,7 @@ reach_y1 w h = record { low = omega (arith, ints); high = omega (arith, ints) }
 pub made : (a b c d : WindowNumber) (w : Rectangle) → w ≡ rect_of (side_of a) (side_of b) (side_of c) (side_of d) → IsRectangle w → IsWindow a b c d w
 made a b c d w e h = record { sides = sides_are a b c d w e (reach_x0 w h) (reach_y0 w h) (reach_x1 w h) (reach_y1 w h); rectangle = h }
 
-pub reversed : (a b c d : WindowNumber) → Every InReach (sides (rect_of (side_of a) (side_of b) (side_of c) (side_of d))) → (IsProper (rect_of (side_of a) (side_of b) (side_of c) (side_of d)) → ⊥) → IsReversed a b c d
+pub reversed : (a b c d : WindowNumber) → Every InReach (numbers_of (rect_of (side_of a) (side_of b) (side_of c) (side_of d))) → (IsProper (rect_of (side_of a) (side_of b) (side_of c) (side_of d)) → ⊥) → IsReversed a b c d
 reversed a b c d h n =
     let w = rect_of (side_of a) (side_of b) (side_of c) (side_of d) in
     record {
@@ -59,7 +58,7 @@ reversed a b c d h n =
       improper = n;
     }
 
-pub first_beyond : (k : ℕ) (a b c d : WindowNumber) → IsFirstOut k (sides (rect_of (side_of a) (side_of b) (side_of c) (side_of d))) → IsFirstBeyond k (a ∷ b ∷ c ∷ d ∷ [])
+pub first_beyond : (k : ℕ) (a b c d : WindowNumber) → IsFirstOut k (numbers_of (rect_of (side_of a) (side_of b) (side_of c) (side_of d))) → IsFirstBeyond k (a ∷ b ∷ c ∷ d ∷ [])
 first_beyond zero a b c d h = far a h
 first_beyond (suc zero) a b c d h = (near a h.0, far b h.1)
 first_beyond (suc (suc zero)) a b c d h = (near a h.0, (near b h.1.0, far c h.1.1))
