@@ -3,7 +3,6 @@
 -- IsClassMore name k n old new     a class of this name and kind comes last, under the number n; nothing else changes
 -- IsClassRefusal old name e        why it does not
 -- IsFeatureMore c s h old new      a feature of the class c and the shape s comes under the next handle, h
--- IsPut f old new                  the feature f comes under the next handle, its own
 -- IsAddRefusal old c s e           why it does not: the first cause that there is
 -- IsExchanged h before after old new     what stood at the handle h was `before` and is `after`
 -- IsChanged h s f old new          the feature f of handle h has the shape s now
@@ -51,11 +50,6 @@ pub record IsFeatureMore (class : ℕ) (shape : Shape) (h : ℕ) (old new : Proj
   pub handle : h ≡ old.next
   pub fresh : feature_at old.features h ≡ None
   pub edit : IsEdit h (Some (record { handle = h; class = class; shape = shape })) old new
-  pub next : new.next ≡ old.next + 1
-
-pub record IsPut (f : Feature) (old new : Project) : Type 0 where
-  pub fresh : feature_at old.features old.next ≡ None
-  pub edit : IsEdit old.next (Some f) old new
   pub next : new.next ≡ old.next + 1
 
 pub record IsSpent (old : Project) (class : ℕ) (k : Kind) : Type 0 where

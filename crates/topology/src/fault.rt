@@ -1,6 +1,8 @@
 ghost use Rattle.std.specs.Prelude.{◌≡◌};
 ghost use Rattle.topology.specs.declared.fault.ChangeFault.TheVariants as fault;
+ghost use Rattle.topology.specs.Faults.{change_fault};
 
+use feature_store::StoreFault;
 use grid_plane::NoMemory;
 use thiserror::Error;
 
@@ -29,5 +31,18 @@ impl From<NoMemory> for ChangeFault {
 
     fn from(_: NoMemory) -> Self {
         ChangeFault::NoMemory
+    }
+}
+
+impl From<StoreFault> for ChangeFault {
+    ghost from_gives = { λ s e. e ≡ change_fault s };
+
+    fn from(fault: StoreFault) -> Self {
+        match fault {
+            StoreFault::NoClass => ChangeFault::NoClass,
+            StoreFault::WrongKind => ChangeFault::WrongKind,
+            StoreFault::HandlesSpent => ChangeFault::HandlesSpent,
+            _ => ChangeFault::NoMemory,
+        }
     }
 }

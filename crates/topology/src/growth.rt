@@ -1,14 +1,13 @@
-ghost use Rattle.std.specs.Prelude.{◌≡◌, ◌≤◌, MatchOption, IfSome, OnOk, OnErr, IfOk};
+ghost use Rattle.std.specs.Prelude.{◌≡◌, ◌≢◌, true, false, IfSome, OnOk, OnErr, IfOk};
 ghost use Rattle.plane_terms.specs.Rectangle.{IsRectangle};
 ghost use Rattle.plane_terms.specs.Dirt.{add_dirt};
 ghost use Rattle.topology_terms.specs.Feature.{env, feature_at};
 ghost use Rattle.topology_terms.specs.Changes as changes;
-ghost use Rattle.feature_store.specs.Stored.{IsSame};
 
 use dirty_area::Dirt;
 use feature_store::Store;
 use grid_plane::{NoMemory, Rect};
-use shape::Feature;
+use shape::{Feature, Shape};
 use std::alloc::Global;
 
 // The envelope of the feature is dirty.
@@ -54,15 +53,21 @@ pub fn dirt_with(
     Ok(grown)
 }
 
-/// Room for a feature more, and its envelope is dirty. After an `Err`, want of memory, the dirt is as it was.
-pub fn grow(store: &mut Store, dirt: &mut Dirt, feature: &Feature) -> Result<(), NoMemory>
-    ensures room { OnOk result (1 ≤ store.new.room) }
-    ensures same { IsSame store.old store.new }
-    ensures dirt { OnOk result (dirt.new ≡ add_dirt dirt.old (env feature.now)) }
-    ensures err { OnErr result (dirt.new ≡ dirt.old) }
+/// The dirt with a rectangle more.
+pub fn dirt_and(alloc: Global, dirt: &Dirt, r: Rect) -> Result<Dirt, NoMemory>
+    ensures { IfOk result (λ d. d ≡ add_dirt dirt.now r) }
 {
-    store.room()?;
-    add_env(dirt, feature)
+    let mut grown = dirt.try_copy(alloc)?;
+    grown.add(r)?;
+    Ok(grown)
+}
+
+/// Whether the shape is of another kind than the feature's.
+pub fn has_other_kind(shape: &Shape, feature: &Feature) -> bool
+    ensures other { result ≡ true → shape.now.kind ≢ feature.now.shape.kind }
+    ensures same { result ≡ false → shape.now.kind ≡ feature.now.shape.kind }
+{
+    shape.kind() != feature.shape().kind()
 }
 
 /// The law that the envelope of a feature is a rectangle of the grid.

@@ -1,13 +1,13 @@
-ghost use Rattle.std.specs.Prelude.{◌≡◌, ◌≤◌, ◌<◌, ◌-◌, length, Some, None, IfSome, IfOk, IfErr, OnOk, OnErr};
+ghost use Rattle.std.specs.Prelude.{◌≡◌, ◌≤◌, ◌<◌, ◌-◌, length, IfSome, IfOk, IfErr, OnOk, OnErr};
 ghost use Rattle.topology_terms.specs.Project.{empty_project, IsOrdered};
 ghost use Rattle.topology_terms.specs.Settled.{IsValidatedBy};
 ghost use Rattle.script_terms.specs.State.{class_number};
 ghost use Rattle.feature_store.specs.Keeps.{IsOfClass, IsStore};
 ghost use Rattle.topology.specs.Topologies.{IsKeptUnder};
-ghost use Rattle.topology.specs.Steps.{IsClassMore, IsClassRefusal, IsFeatureMore, IsAddRefusal, IsPut, IsExchanged, IsChanged, IsChangeRefusal, IsDeleted, IsDeleteRefusal, IsCounted};
+ghost use Rattle.topology.specs.Steps.{IsClassMore, IsClassRefusal, IsFeatureMore, IsAddRefusal, IsExchanged, IsChanged, IsChangeRefusal, IsDeleted, IsDeleteRefusal, IsCounted};
 
 use crate::fault::ChangeFault;
-use crate::growth::{dirt_with, envelope_law, grow};
+use crate::growth::{dirt_and, dirt_with, envelope_law, has_other_kind};
 use crate::kinds::KindRules;
 use dirty_area::Dirt;
 use error_entries::Errors;
@@ -105,38 +105,13 @@ impl<R: KindRules> Topology<R> {
         ensures ordered { IsOrdered self.new }
         ensures err { OnErr result (self.new ≡ self.old) }
     {
-        let Some(kind) = self.store.class_kind(class) else {
-            return Err(ChangeFault::NoClass);
-        };
-        if shape.kind() != kind {
-            return Err(ChangeFault::WrongKind);
-        }
-        let handle = self.store.next_handle();
-        if handle == u32::MAX {
-            return Err(ChangeFault::HandlesSpent);
-        }
-        self.put(Feature::new(handle, class, shape))?;
+        let env = shape.env();
+        env.corner_law();
+        let dirt = dirt_and(self.alloc, &self.dirt, env)?;
+        let handle = self.store.add(class, shape)?;
+        self.dirt = dirt;
+        store_law(&self.store);
         Ok(handle)
-    }
-
-    // Puts the feature of the next handle.
-    fn put(&mut self, feature: Feature) -> Result<(), NoMemory>
-        requires fits { IsOfClass self.old.classes feature }
-        requires left { self.old.next < 4294967295 }
-        requires next { feature.handle ≡ self.old.next }
-        ensures ok { OnOk result (IsPut feature self.old self.new) }
-        ensures kept { IsKeptUnder R.meaning self.old → IsKeptUnder R.meaning self.new }
-        ensures ordered { IsOrdered self.new }
-        ensures err { OnErr result (self.new ≡ self.old) }
-    {
-        let handle = feature.handle();
-        feature.shape().env().corner_law();
-        store_law(&self.store);
-        grow(&mut self.store, &mut self.dirt, &feature)?;
-        self.store.set_next(handle + 1);
-        self.store.swap_in(handle, &mut Some(feature));
-        store_law(&self.store);
-        Ok(())
     }
 
     /// Exchanges the live feature of this handle, or its absence, with the kept one. The envelope of what stood there is dirty
@@ -174,7 +149,7 @@ impl<R: KindRules> Topology<R> {
         let Some(feature) = self.store.get(handle) else {
             return Err(ChangeFault::NoFeature);
         };
-        if shape.kind() != feature.shape().kind() {
+        if has_other_kind(&shape, feature) {
             return Err(ChangeFault::WrongKind);
         }
         let class = feature.class();
