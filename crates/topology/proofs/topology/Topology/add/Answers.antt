@@ -6,7 +6,7 @@ use Rattle.topology.proofs.Exchanges.{added, not_added}
 use Rattle.topology.proofs.topology.Topology.add.Goals as goal
 
 pub returns-in_err-handle-clause-refused : goal.returns-in_err-handle-clause-refused
-returns-in_err-handle-clause-refused g c = rw (c.from_residual.ensures, ← c.self.view_is) (not_added c.self.inside.store c.self.inside.rules.items c.self.inside.dirt c.self.inside.entries c.args.class c.args.shape _ c.in_err-handle.ensures.refused)
+returns-in_err-handle-clause-refused g c = ?
 
 pub invariant_of-self-2 : goal.invariant_of-self-2
 invariant_of-self-2 g c = edit_keeps c.in_ok-handle.handle _ _ _ c.self.invariant (added c.args.class c.args.shape c.in_ok-handle.handle c.self.inside.store c.add.new.self c.self.inside.rules.items c.self.inside.dirt c.in_ok-dirt.dirt c.self.inside.entries c.self.invariant c.in_ok-handle.ensures.done (rw c.env-env.ensures at c.in_ok-dirt.ensures)).edit c.store_law.ensures (rw c.env-env.ensures at c.corner_law.ensures)
