@@ -1,7 +1,7 @@
 -- What the store does, with the dirt, is an edit.
-use Rattle.std.proofs.Common.{◌≡◌, ◌≢◌, ◌⊎◌, inl, inr, ℕ, ◌+◌, ◌<◌, ◌≤◌, List, [], ◌∷◌, ◌++◌, Option, Some, None, Bool, true, false, refl, sym, ◌∙◌}
+use Rattle.std.proofs.Common.{◌≡◌, ◌≢◌, ◌⊎◌, inl, inr, ℕ, ◌+◌, ◌<◌, ◌≤◌, List, [], ◌∷◌, ◌++◌, Option, Some, None, Bool, true, false, Result, Ok, Err, refl, sym, subst, ◌∙◌}
 use Rattle.std.specs.Prelude.{◌==◌, is_some, MatchOption}
-use Rattle.std.specs.Option.{IfSome}
+use Rattle.std.specs.Result.{IsErrAnd, IfErr}
 use Rattle.std.proofs.lemmas.Bool.Decides.{eqb_tells}
 use Rattle.plane_terms.specs.Lists.{Every}
 use Rattle.plane_terms.specs.Rectangle.{Rectangle}
@@ -20,6 +20,7 @@ use Rattle.feature_store.specs.declared.fault.StoreFault.TheVariants as store_fa
 use Rattle.feature_store.proofs.Keeping.{live_each}
 use Rattle.topology.specs.Topologies.{IsTopology, project_of}
 use Rattle.topology.specs.Faults.{change_fault}
+use Rattle.topology.specs.declared.fault.ChangeFault.{ChangeFault}
 use Rattle.topology.specs.Steps.{IsFeatureMore, IsAddRefusal}
 use Rattle.topology.proofs.Whole.{none_given}
 
@@ -83,3 +84,8 @@ other_shape p t h n f shape e same kind =
 
 pub nothing : (s : Stored) (rules : List InForce) (d : List Rectangle) (es : List Entry) → s.classes ≡ [] → s.features ≡ [] → s.next ≡ 1 → rules ≡ [] → d ≡ [] → es ≡ [] → project_of s rules d es ≡ empty_project
 nothing s rules d es a b c k m n = rw (a, b, c, k, m, n) refl
+
+-- an error that was told from another cause
+pub told : {A : Type 0} (r : Result A ChangeFault) (x : ChangeFault) (P : ChangeFault → Type 0) → IsErrAnd r (λ e. e ≡ x) → P x → IfErr r P
+told (Ok a) x P e p = tt
+told (Err f) x P e p = subst P (sym e) p
