@@ -1,16 +1,14 @@
 -- What the store does, with the dirt, is an edit.
-use Rattle.std.proofs.Common.{◌≡◌, ◌≢◌, ◌⊎◌, inl, inr, ℕ, ◌+◌, ◌<◌, ◌≤◌, List, [], ◌∷◌, ◌++◌, Option, Some, None, Bool, true, false, Result, Ok, Err, refl, sym, subst, ◌∙◌}
-use Rattle.std.specs.Prelude.{◌==◌, is_some, MatchOption}
+use Rattle.std.proofs.Common.{◌≡◌, ◌≢◌, inl, inr, ℕ, ◌<◌, ◌≤◌, List, [], ◌∷◌, ◌++◌, Option, Some, None, true, Result, Ok, Err, refl, sym, subst, ◌∙◌}
+use Rattle.std.specs.Prelude.{is_some, MatchOption}
 use Rattle.std.specs.Result.{IsErrAnd, IfErr}
 use Rattle.std.proofs.lemmas.Bool.Decides.{eqb_tells}
-use Rattle.plane_terms.specs.Lists.{Every}
 use Rattle.plane_terms.specs.Rectangle.{Rectangle}
 use Rattle.plane_terms.specs.Shape.{Shape, envelope_of}
 use Rattle.plane_terms.specs.Dirt.{add_dirt}
-use Rattle.topology_terms.specs.Feature.{Class, Feature, feature_at, env, IsSetAt}
+use Rattle.topology_terms.specs.Feature.{Feature, feature_at, IsSetAt}
 use Rattle.topology_terms.specs.Entry.{Entry}
 use Rattle.topology_terms.specs.Project.{Project, InForce, empty_project}
-use Rattle.topology_terms.specs.Changes.{IsEdit, add_envelope}
 use Rattle.sound_steps.proofs.FeatureLists.{at_handle, past_handle, own_handle, handle_of}
 use Rattle.feature_store.specs.Stored.{Stored}
 use Rattle.feature_store.specs.Keeps.{IsOfClass, IsGiven}

@@ -1,19 +1,17 @@
 -- What every topology keeps: it is ordered, its rules fit, and it is a project by any meaning that asks for kinds alone.
-use Rattle.std.proofs.Common.{◌≡◌, ◌≢◌, ◌⊎◌, inl, inr, ℕ, zero, suc, ◌<◌, ◌+◌, ◌-◌, Bool, true, false, List, [], ◌∷◌, ◌++◌, Option, Some, None, refl, sym, ◌∙◌, ap, arith, eqb}
-use Rattle.std.specs.Prelude.{◌==◌, slice_get, if◌then◌else◌}
+use Rattle.std.proofs.Common.{◌≡◌, inl, inr, ℕ, ◌<◌, List, [], ◌∷◌, Option, Some, None, refl, sym, ◌∙◌, ap, arith}
 use Rattle.std.specs.Option.{IfSome}
 use Rattle.std.proofs.lemmas.Bool.Decides.{eqb_tells}
 use Rattle.plane_terms.specs.Lists.{Every}
-use Rattle.plane_terms.specs.Rectangle.{Rectangle, IsRectangle}
 use Rattle.plane_terms.specs.declared.kind.Kind.{Kind}
-use Rattle.topology_terms.specs.Feature.{Class, Feature, feature_at, env, IsOf}
+use Rattle.topology_terms.specs.Feature.{Class, Feature, feature_at}
 use Rattle.topology_terms.specs.Broken.{Row, Fits, origin_kind, dest_kind}
 use Rattle.topology_terms.specs.Meaning.{Meaning}
-use Rattle.topology_terms.specs.Entry.{Entry, entry_at}
+use Rattle.topology_terms.specs.Entry.{entry_at}
 use Rattle.topology_terms.specs.Project.{Project, InForce, IsProject, IsOrdered, rule_at, empty_project}
 use Rattle.sound_steps.proofs.FeatureLists.{past_handle}
 use Rattle.feature_store.specs.Stored.{class_at}
-use Rattle.feature_store.specs.Keeps.{IsOfClass, IsGiven, IsStore}
+use Rattle.feature_store.specs.Keeps.{IsOfClass, IsGiven}
 use Rattle.feature_store.specs.Changes.{HasKind}
 use Rattle.feature_store.proofs.Keeping.{live_each}
 use Rattle.topology.specs.Kinds.{HasKinds, TakesKinds}

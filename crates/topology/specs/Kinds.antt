@@ -2,8 +2,7 @@
 --
 -- HasKinds cs row      the class of the subjects is there, and has the kind that the rule takes; so has the second class, where the rule takes one
 -- TakesKinds M         the meaning asks no more of the features than that both sides have the rule's kinds
-use Rattle.std.specs.Prelude.{◌≡◌, List, Some, IfSome}
-use Rattle.plane_terms.specs.declared.kind.Kind.{Kind}
+use Rattle.std.specs.Prelude.{List, IfSome}
 use Rattle.topology_terms.specs.Feature.{Class, Feature}
 use Rattle.topology_terms.specs.Broken.{Row, Fits, origin_kind, dest_kind}
 use Rattle.topology_terms.specs.Meaning.{Meaning}

@@ -1,4 +1,4 @@
-use Rattle.std.proofs.Common.{subst, sym, refl}
+use Rattle.std.proofs.Common.{subst, sym}
 use Rattle.topology.specs.Topologies.{IsKeptUnder}
 use Rattle.topology.proofs.Whole.{ordered}
 use Rattle.topology.proofs.Kept.{edit_keeps, edit_kept}
