@@ -1,0 +1,3 @@
+mod Whole
+mod Kept
+mod Exchanges

@@ -1,0 +1,4 @@
+pub mod Kinds
+pub mod Topologies
+pub mod Faults
+pub mod Steps

@@ -1,0 +1,8 @@
+ghost use Rattle.topology.specs.Kinds.{TakesKinds};
+
+use rule_judging::RuleSet;
+
+/// All rules, each of which fits where the features of both sides have the kinds that it takes.
+pub trait KindRules: RuleSet {
+    ghost kinds: { TakesKinds Self.meaning };
+}
