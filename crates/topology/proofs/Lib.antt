@@ -1,3 +1,5 @@
 mod Whole
 mod Kept
 mod Exchanges
+mod RuleLists
+mod RulesMore

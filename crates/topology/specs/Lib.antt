@@ -2,3 +2,5 @@ pub mod Kinds
 pub mod Topologies
 pub mod Faults
 pub mod Steps
+pub mod RuleLists
+pub mod RuleSteps

@@ -2,11 +2,16 @@
 #![tactic(auto)]
 
 mod fault;
+mod fitting;
 mod growth;
 mod kinds;
+mod rule_fault;
+mod rules;
 mod topology;
 
 pub use fault::ChangeFault;
 pub use feature_store::{Feature, Kind, Name, NoMemory, Shape, StoreFault};
 pub use kinds::KindRules;
+pub use rule_fault::RuleFault;
+pub use rule_findings::RuleRow;
 pub use topology::{Summary, Topology};

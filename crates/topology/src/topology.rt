@@ -1,24 +1,32 @@
 ghost use Rattle.std.specs.Prelude.{◌≡◌, ◌≤◌, ◌<◌, ◌-◌, length, IfSome, IfOk, IfErr, OnOk, OnErr};
 ghost use Rattle.topology_terms.specs.Project.{empty_project, IsOrdered};
 ghost use Rattle.topology_terms.specs.Settled.{IsValidatedBy};
-ghost use Rattle.script_terms.specs.State.{class_number};
+ghost use Rattle.script_terms.specs.State.{class_number, least_free};
+ghost use Rattle.topology_terms.specs.Changes.{IsRuleAdded};
+ghost use Rattle.topology.specs.RuleSteps.{MayAdd, IsRuleRefusal};
 ghost use Rattle.feature_store.specs.Keeps.{IsOfClass, IsStore};
 ghost use Rattle.topology.specs.Topologies.{IsKeptUnder};
 ghost use Rattle.topology.specs.Steps.{IsClassMore, IsClassRefusal, IsFeatureMore, IsAddRefusal, IsExchanged, IsChanged, IsChangeRefusal, IsDeleted, IsDeleteRefusal, IsCounted};
 
 use crate::fault::ChangeFault;
+use crate::fitting::fit;
 use crate::growth::{dirt_and, dirt_with, envelope_law, has_other_kind};
 use crate::kinds::KindRules;
+use crate::rule_fault::RuleFault;
+use crate::rules::{free_number, number_of_row, put_rule};
 use dirty_area::Dirt;
 use error_entries::Errors;
 use feature_store::{Store, StoreFault};
 use grid_plane::{Name, NoMemory, Rect};
-use rule_findings::InForce;
+use rule_findings::{InForce, RuleRow};
 use rule_judging::Work;
 use shape::{Feature, Kind, Shape};
 use std::alloc::Global;
 use std::marker::Model;
 use validation::validate;
+
+// The most rules there may be.
+const RULE_LIMIT: usize = 256;
 
 /// What a validation did: how often a rule was tried on a subject, how many errors and how many dirty rectangles there are now.
 #[derive(Clone, Copy)]
@@ -112,6 +120,31 @@ impl<R: KindRules> Topology<R> {
         self.dirt = dirt;
         store_law(&self.store);
         Ok(handle)
+    }
+
+    /// Puts a rule in force under the least number from 1 that is free, and answers the number; the whole grid is dirty then.
+    /// Refused where a class is missing, then where the classes do not fit the rule, then where an equal rule is in force, then
+    /// where there are 256 rules.
+    pub fn add_rule(&mut self, row: RuleRow) -> Result<u16, RuleFault>
+        ensures ok { IfOk result (λ n. (n ≡ least_free self.old.rules) × IsRuleAdded n row self.old self.new) }
+        ensures may { OnOk result (MayAdd self.old row) }
+        ensures refused { IfErr result (IsRuleRefusal self.old row) }
+        ensures kept { IsKeptUnder R.meaning self.old → IsKeptUnder R.meaning self.new }
+        ensures ordered { IsOrdered self.new }
+        ensures err { OnErr result (self.new ≡ self.old) }
+    {
+        fit(&self.store, &row)?;
+        if let Some(number) = number_of_row(&self.rules, &row) {
+            return Err(RuleFault::There { number });
+        }
+        if self.rules.len() >= RULE_LIMIT {
+            return Err(RuleFault::Full);
+        }
+        let number = free_number(&self.rules);
+        let dirt = dirt_and(self.alloc, &self.dirt, Rect::whole())?;
+        put_rule(&mut self.rules, InForce { number, row })?;
+        self.dirt = dirt;
+        Ok(number)
     }
 
     /// Exchanges the live feature of this handle, or its absence, with the kept one. The envelope of what stood there is dirty

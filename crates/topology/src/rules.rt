@@ -1,0 +1,69 @@
+ghost use Rattle.std.specs.Prelude.{◌≡◌, ◌≢◌, ◌≤◌, ◌<◌, true, false, length, insert, None, Some, MatchOption, OnOk, OnErr, MatchResult};
+ghost use Rattle.topology_terms.specs.Broken.{origin_kind, dest_kind};
+ghost use Rattle.topology_terms.specs.Project.{AreAscending, rule_at};
+ghost use Rattle.script_terms.specs.State.{least_free};
+ghost use Rattle.topology.specs.RuleLists.{run_on, lower_from, with_rule, IsNowhere};
+
+use grid_plane::NoMemory;
+use rule_findings::{InForce, RuleRow};
+
+fn is_row(a: &RuleRow, b: &RuleRow) -> bool
+    ensures same { result ≡ true → a.now ≡ b.now }
+    ensures other { result ≡ false → a.now ≢ b.now }
+{
+    a.kind == b.kind && a.origin == b.origin && a.dest == b.dest
+}
+
+/// The number of the rule in force that has this row.
+pub fn number_of_row(rules: &[InForce], row: &RuleRow) -> Option<u16>
+    requires { AreAscending rules.now }
+    ensures { MatchOption result (IsNowhere rules.now row.now) (λ n. rule_at rules.now n ≡ Some row.now) }
+{
+    for rule in rules {
+        if is_row(&rule.row, row) {
+            return Some(rule.number);
+        }
+    }
+    None
+}
+
+/// The least number from 1 that no rule has.
+pub fn free_number(rules: &[InForce]) -> u16
+    requires few { length rules.now < 256 }
+    requires ascending { AreAscending rules.now }
+    ensures least { result ≡ least_free rules.now }
+    ensures free { rule_at rules.now result ≡ None }
+{
+    let mut number = 1;
+    for rule in rules {
+        if rule.number == number {
+            number += 1;
+        }
+    }
+    number
+}
+
+// How many of the rules have numbers below this one.
+fn place_of(rules: &[InForce], number: u16) -> usize
+    ensures within { result ≤ length rules.now }
+    ensures place { result ≡ lower_from 0 number rules.now }
+{
+    let mut place = 0;
+    for rule in rules {
+        if rule.number < number {
+            place += 1;
+        }
+    }
+    place
+}
+
+/// Puts the rule into the list at its place.
+pub fn put_rule(rules: &mut Vec<InForce>, rule: InForce) -> Result<(), NoMemory>
+    requires { AreAscending rules.old.items }
+    ensures ok { OnOk result (rules.new.items ≡ with_rule rules.old.items rule) }
+    ensures err { OnErr result (rules.new.items ≡ rules.old.items) }
+{
+    let place = place_of(rules, rule.number);
+    rules.insert(place, rule)?;
+    Ok(())
+}
