@@ -1,11 +1,11 @@
 -- A rule more in an ascending list.
 use Rattle.std.proofs.Common.{◌≡◌, ◌≢◌, inl, inr, ℕ, zero, suc, ◌<◌, ◌≤◌, ◌+◌, Bool, true, false, List, [], ◌∷◌, Some, None, length, drop, get_or, drop-cons, refl, sym, subst, ap, ◌∙◌, arith, eqb, ltb}
-use Rattle.std.specs.Prelude.{is_some, insert, ◌⊎◌}
+use Rattle.std.specs.Prelude.{is_some, insert, ◌⊎◌, ◌==◌, if◌then◌else◌}
 use Rattle.std.proofs.lemmas.Bool.Decides.{nat_tests, eqb_tells}
 use Rattle.plane_terms.specs.Lists.{Every}
 use Rattle.topology_terms.specs.Project.{InForce, AreAscending, rule_at}
 use Rattle.script_terms.specs.State.{least_free, free_from}
-use Rattle.topology.specs.RuleLists.{run_on, lower_from, with_rule}
+use Rattle.topology.specs.RuleLists.{lower_from, with_rule}
 
 pub at_number : (q : InForce) (qs : List InForce) (n : ℕ) → eqb q.number n ≡ true → rule_at (q ∷ qs) n ≡ Some q.row
 unfolding rule_at
@@ -21,7 +21,11 @@ own_number n m e = grind (arith, nat_tests)
 other_number : (n m : ℕ) → n ≢ m → eqb n m ≡ false
 other_number n m e = grind (arith, nat_tests)
 
--- ---- the least free number
+-- ---- the least free number: the first from n on that no rule of the ascending list has
+abbrev pub run_on : ℕ → List InForce → ℕ
+run_on n [] = n
+run_on n (q ∷ qs) = if q.number == n then run_on (n + 1) qs else run_on n qs
+
 run_from : (qs : List InForce) (n : ℕ) → n ≤ run_on n qs
 run_from [] n = omega arith
 run_from (q ∷ qs) n = elim (eqb_tells q.number n) [

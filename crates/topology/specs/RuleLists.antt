@@ -1,18 +1,12 @@
 -- A list of rules in force that ascends by number, and a rule more.
 --
--- run_on n rs          the first number from n on that no rule of the ascending list has
 -- lower_from i n rs    i, and one more for each rule whose number is below n
 -- with_rule rs q       the list with the rule q before the first of a higher number
 -- IsNowhere rs row     no rule in force has this row
-use Rattle.std.specs.Prelude.{◌≢◌, ℕ, ◌+◌, ◌==◌, List, [], ◌∷◌, if◌then◌else◌}
-use Rattle.std.specs.Prelude.{ltb}
+use Rattle.std.specs.Prelude.{◌≢◌, ℕ, ◌+◌, ltb, List, [], ◌∷◌, if◌then◌else◌}
 use Rattle.plane_terms.specs.Lists.{Every}
 use Rattle.topology_terms.specs.Broken.{Row}
 use Rattle.topology_terms.specs.Project.{InForce}
-
-abbrev pub run_on : ℕ → List InForce → ℕ
-run_on n [] = n
-run_on n (q ∷ qs) = if q.number == n then run_on (n + 1) qs else run_on n qs
 
 abbrev pub lower_from : ℕ → ℕ → List InForce → ℕ
 lower_from i n [] = i

@@ -3,6 +3,7 @@
 -- IsMissing cs row     the class of the origin does not exist, or that of the destination where the rule takes one
 -- IsUnfit cs row       none is missing; but a class has another kind than the rule takes, both are one, or a destination is given that the rule does not take
 -- DoesFit cs row       the classes have the kinds that the rule takes, and are two; where it takes one, no second is given
+-- IsFitFault cs row e  why the classes do not serve the rule
 -- MayAdd p row         they fit, no rule in force is equal, and there are fewer than 256
 -- IsRuleRefusal p row e    why the rule is not added: the first cause that there is
 use Rattle.std.specs.Prelude.{◌≡◌, ◌≢◌, ◌⊎◌, ℕ, ◌<◌, ◌≤◌, List, length, Option, Some, None}

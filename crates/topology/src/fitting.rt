@@ -1,8 +1,6 @@
-ghost use Rattle.std.specs.Prelude.{◌≡◌, true, false, MatchResult, IfErr, OnOk};
+ghost use Rattle.std.specs.Prelude.{◌≡◌, IfErr, OnOk};
 ghost use Rattle.topology_terms.specs.Broken as terms;
-ghost use Rattle.topology.specs.RuleSteps.{DoesFit, IsRuleRefusal};
-ghost use Rattle.topology.specs.declared.rule_fault.RuleFault.TheVariants as fault;
-ghost use Rattle.topology.specs.RuleSteps.{IsMissing, IsUnfit, IsFitFault};
+ghost use Rattle.topology.specs.RuleSteps.{DoesFit, IsFitFault};
 
 use crate::rule_fault::RuleFault;
 use feature_store::Store;

@@ -1,8 +1,7 @@
-ghost use Rattle.std.specs.Prelude.{◌≡◌, ◌≢◌, ◌≤◌, ◌<◌, true, false, length, insert, None, Some, MatchOption, OnOk, OnErr, MatchResult};
-ghost use Rattle.topology_terms.specs.Broken.{origin_kind, dest_kind};
+ghost use Rattle.std.specs.Prelude.{◌≡◌, ◌≢◌, ◌≤◌, ◌<◌, true, false, length, None, Some, MatchOption, OnOk, OnErr};
 ghost use Rattle.topology_terms.specs.Project.{AreAscending, rule_at};
 ghost use Rattle.script_terms.specs.State.{least_free};
-ghost use Rattle.topology.specs.RuleLists.{run_on, lower_from, with_rule, IsNowhere};
+ghost use Rattle.topology.specs.RuleLists.{lower_from, with_rule, IsNowhere};
 
 use grid_plane::NoMemory;
 use rule_findings::{InForce, RuleRow};

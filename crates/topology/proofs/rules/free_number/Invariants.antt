@@ -1,5 +1,5 @@
 use Rattle.std.proofs.Common.{◌≡◌, ◌≤◌, ◌+◌, drop}
-use Rattle.topology.specs.RuleLists.{run_on}
+use Rattle.topology.proofs.RuleLists.{run_on}
 use Rattle.topology.proofs.rules.free_number.Given as goal
 
 abbrev pub invariant-loop-rule : goal.invariant-loop-rule
