@@ -9,7 +9,7 @@ use Rattle.std.specs.Prelude.{◌≡◌, ◌≢◌, ℕ, ◌+◌, ◌<◌, List,
 use Rattle.plane_terms.specs.Shape.{Shape}
 use Rattle.plane_terms.specs.declared.kind.Kind.{Kind}
 use Rattle.topology_terms.specs.Feature.{Class, Feature, feature_at, IsSetAt}
-use Rattle.script_terms.specs.State.{number_from}
+use Rattle.topology_terms.specs.Lookups.{number_from}
 use Rattle.feature_store.specs.Stored.{Stored, class_at}
 use Rattle.feature_store.specs.declared.fault.StoreFault.{StoreFault}
 use Rattle.feature_store.specs.declared.fault.StoreFault.TheVariants as fault

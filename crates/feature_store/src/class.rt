@@ -1,7 +1,7 @@
 ghost use Rattle.std.specs.Prelude.{◌≡◌, ◌≤◌, length, bytes_eq, IsTrue, IfOk};
 ghost use Rattle.text_terms.specs.Fields.{is_name};
 ghost use Rattle.topology_terms.specs.Feature as terms;
-ghost use Rattle.script_terms.specs.State.{number_from};
+ghost use Rattle.topology_terms.specs.Lookups.{number_from};
 
 use grid_plane::{Name, NoMemory};
 use shape::Kind;

@@ -2,7 +2,7 @@ ghost use Rattle.std.specs.Prelude.{◌≡◌, ◌≤◌, ◌<◌, ℕ, [], leng
 ghost use Rattle.std.specs.Option.{option_map};
 ghost use Rattle.topology_terms.specs.Feature.{feature_at};
 ghost use Rattle.topology_terms.specs.Feature as terms;
-ghost use Rattle.script_terms.specs.State.{number_from};
+ghost use Rattle.topology_terms.specs.Lookups.{number_from};
 ghost use Rattle.feature_store.specs.Stored.{class_at, IsSame};
 ghost use Rattle.feature_store.specs.Keeps.{IsOfClass, IsStore};
 ghost use Rattle.feature_store.specs.Changes.{IsClassAdded, IsClassFault, IsAdded, IsAddFault, IsSwapped};

@@ -3,7 +3,7 @@ ghost use Rattle.topology_terms.specs.Feature as terms;
 ghost use Rattle.topology_terms.specs.Broken.{judges_test};
 
 use std::marker::Model;
-use topology_terms::RuleKind;
+use rule_core::RuleKind;
 
 /// What a rule in force speaks of: its kind, the number of the class of its subjects, and the number of its second class,
 /// or 0 where it has none.

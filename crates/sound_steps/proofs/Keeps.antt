@@ -12,8 +12,8 @@ use Rattle.topology_terms.specs.Project.{Project, IsProject, rule_at, empty_proj
 use Rattle.topology_terms.specs.Sound.{IsKept, IsSound}
 use Rattle.topology_terms.specs.Changes.{IsEdit, IsRuleAdded, IsValidated}
 use Rattle.topology_terms.specs.Settled.{IsValidatedBy}
-use Rattle.topology_terms.specs.declared.rule_kind.RuleKind.{RuleKind}
-use Rattle.topology_terms.specs.declared.rule_kind.RuleKind.TheVariants as kind
+use Rattle.rule_core.specs.declared.rule_kind.RuleKind.{RuleKind}
+use Rattle.rule_core.specs.declared.rule_kind.RuleKind.TheVariants as kind
 use Rattle.sound_steps.proofs.Edits.{same_or_not, edit_sound}
 use Rattle.sound_steps.proofs.RuleChanges.{add_rule_sound}
 use Rattle.sound_steps.proofs.Validations.{validated_sound}

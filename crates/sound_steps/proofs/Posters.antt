@@ -9,8 +9,8 @@ use Rattle.topology_terms.specs.Broken.{Row, BrokenAt, BrokenWhole, broken_at, b
 use Rattle.topology_terms.specs.Meaning.{Finding, finding_at, Laws, AreRight, CutsRight}
 use Rattle.topology_terms.specs.Cutting.{near_after, BreaksAt, AreBrokenPairs, cutting_by, IsCutting}
 use Rattle.topology_terms.specs.Poster.{poster}
-use Rattle.topology_terms.specs.declared.rule_kind.RuleKind.{RuleKind}
-use Rattle.topology_terms.specs.declared.rule_kind.RuleKind.TheVariants as kind
+use Rattle.rule_core.specs.declared.rule_kind.RuleKind.{RuleKind}
+use Rattle.rule_core.specs.declared.rule_kind.RuleKind.TheVariants as kind
 use Rattle.sound_steps.proofs.Disjoint.{place_held, disjoint_inside, disjoint_point, disjoint_at, disjoint_there, disjoint_near}
 use Rattle.sound_steps.proofs.Edits.{agree_back}
 use Rattle.sound_steps.proofs.FeatureLists.{handle_of}

@@ -4,7 +4,7 @@ use Rattle.std.specs.Prelude.{is_some, insert, ◌⊎◌, ◌==◌, if◌then◌
 use Rattle.std.proofs.lemmas.Bool.Decides.{nat_tests, eqb_tells}
 use Rattle.plane_terms.specs.Lists.{Every}
 use Rattle.topology_terms.specs.Project.{InForce, AreAscending, rule_at}
-use Rattle.script_terms.specs.State.{least_free, free_from}
+use Rattle.topology_terms.specs.Lookups.{least_free, free_from}
 use Rattle.topology.specs.RuleLists.{lower_from, with_rule}
 
 pub at_number : (q : InForce) (qs : List InForce) (n : ℕ) → eqb q.number n ≡ true → rule_at (q ∷ qs) n ≡ Some q.row

@@ -19,7 +19,7 @@ use Rattle.topology_terms.specs.Feature.{Feature, feature_at}
 use Rattle.topology_terms.specs.Project.{Project}
 use Rattle.topology_terms.specs.Changes.{IsEdit, IsSelected}
 use Rattle.validation_steps.specs.Counts.{raised, judged_of}
-use Rattle.script_terms.specs.State.{number_from}
+use Rattle.topology_terms.specs.Lookups.{number_from}
 use Rattle.feature_store.specs.Stored.{class_at}
 use Rattle.feature_store.specs.Changes.{HasKind, HasOtherKind, IsTaken, IsFull}
 use Rattle.feature_store.specs.declared.fault.StoreFault.{StoreFault}

@@ -6,7 +6,7 @@ use crate::rule_fault::RuleFault;
 use feature_store::Store;
 use rule_findings::RuleRow;
 use shape::Kind;
-use topology_terms::RuleKind;
+use rule_core::RuleKind;
 
 fn origin_kind(kind: RuleKind) -> Kind
     ensures { result ≡ terms.origin_kind kind }

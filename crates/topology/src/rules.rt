@@ -1,6 +1,6 @@
 ghost use Rattle.std.specs.Prelude.{◌≡◌, ◌≢◌, ◌≤◌, ◌<◌, true, false, length, None, Some, MatchOption, OnOk, OnErr};
 ghost use Rattle.topology_terms.specs.Project.{AreAscending, rule_at};
-ghost use Rattle.script_terms.specs.State.{least_free};
+ghost use Rattle.topology_terms.specs.Lookups.{least_free};
 ghost use Rattle.topology.specs.RuleLists.{lower_from, with_rule, IsNowhere};
 
 use grid_plane::NoMemory;

@@ -1,7 +1,7 @@
 ghost use Rattle.std.specs.Prelude.{◌≡◌, ◌≤◌, ◌<◌, ◌-◌, length, IfSome, IfOk, IfErr, OnOk, OnErr};
 ghost use Rattle.topology_terms.specs.Project.{empty_project, IsOrdered};
 ghost use Rattle.topology_terms.specs.Settled.{IsValidatedBy};
-ghost use Rattle.script_terms.specs.State.{class_number, least_free};
+ghost use Rattle.topology_terms.specs.Lookups.{class_number, least_free};
 ghost use Rattle.topology_terms.specs.Changes.{IsRuleAdded};
 ghost use Rattle.topology.specs.RuleSteps.{MayAdd, IsRuleRefusal};
 ghost use Rattle.feature_store.specs.Keeps.{IsOfClass, IsStore};

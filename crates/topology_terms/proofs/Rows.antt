@@ -8,7 +8,7 @@ use Rattle.plane_terms.proofs.Points.{point}
 use Rattle.topology_terms.specs.Feature.{Feature, Side, feature_at}
 use Rattle.topology_terms.specs.Broken.{Row, BrokenAt}
 use Rattle.topology_terms.specs.Cutting.{IsCutting}
-use Rattle.topology_terms.specs.declared.rule_kind.RuleKind.TheVariants as kind
+use Rattle.rule_core.specs.declared.rule_kind.RuleKind.TheVariants as kind
 
 abbrev at : ℤ → ℤ → Place
 at x y = record { x = x; y = y }

@@ -3,26 +3,38 @@
 -- IsCutting row F a xs     xs are the findings for the subject a, in their one order and their one list of cells
 -- near A f F       the features of the side whose envelope meets the subject's, but the subject itself, in the order of F, which ascends
 -- near_after A f F     of those, the ones whose handle is above the subject's
+-- inside f         the cells of a polygon's inside
+-- overlap_cells f g    the cells of what is inside both
+-- pair_findings cells gs   for each partner of gs whose cells there are, a finding of them
 -- AreBrokenPairs   of some partners those with which the rule is broken at the subject's place, a finding each
 --
--- Where a place is chosen by the rule's sentence, the sentence itself decides, and the cutting is a relation (`IsThose`).
+-- A list made of cells alone is a function: a test tells the empty ones. Where a place is chosen by the rule's sentence, the
+-- sentence itself decides, and the cutting is a relation (`IsThose`). A rule that has no sentence yet has no findings.
 -- Source: own.
-use Rattle.std.specs.Prelude.{◌≡◌, ℕ, nat_lt, ◌==◌, false, not, ◌&&◌, List, [], ◌∷◌, map, filter, flat_map, Some}
+use Rattle.std.specs.Prelude.{◌≡◌, ℕ, nat_lt, ◌==◌, false, not, ◌&&◌, List, [], ◌∷◌, map, filter, flat_map, Option, None, Some}
 use Rattle.plane_terms.specs.Lists.{IsThose}
 use Rattle.plane_terms.specs.Point.{Place, Point, IsAt}
 use Rattle.plane_terms.specs.Rectangle.{rects_meet}
 use Rattle.plane_terms.specs.Cell.{Cell, at_place}
-use Rattle.topology_terms.specs.Feature.{Feature, Side, is_on_side, feature_at, place, env}
+use Rattle.plane_terms.specs.Carve.{carve_of}
+use Rattle.plane_terms.specs.Columns.{inside_cells}
+use Rattle.topology_terms.specs.Feature.{Feature, Side, is_on_side, feature_at, sides, place, env}
 use Rattle.topology_terms.specs.Broken.{Row, BrokenAt}
 use Rattle.topology_terms.specs.Meaning.{Finding}
-use Rattle.topology_terms.specs.declared.rule_kind.RuleKind.{RuleKind}
-use Rattle.topology_terms.specs.declared.rule_kind.RuleKind.TheVariants as kind
+use Rattle.topology_terms.specs.Sentences.{Sentence, sentence_of}
+use Rattle.topology_terms.specs.Sentences as sentence
 
 abbrev pub near : Side → Feature → List Feature → List Feature
 near A f F = filter (λ (g : Feature). is_on_side A g && (rects_meet (env f) (env g) && not (g.handle == f.handle))) F
 
 abbrev pub near_after : Side → Feature → List Feature → List Feature
 near_after A f F = filter (λ (g : Feature). nat_lt f.handle g.handle) (near A f F)
+
+abbrev pub inside : Feature → List Cell
+inside f = inside_cells (sides f)
+
+abbrev pub overlap_cells : Feature → Feature → List Cell
+overlap_cells f g = carve_of (inside f) (inside g)
 
 -- a finding where there are cells
 abbrev pub finding_of : ℕ → List Cell → List Finding
@@ -44,8 +56,11 @@ pub record AreBrokenPairs (row : Row) (F : List Feature) (f : Feature) (gs : Lis
   pub those : IsThose (λ (g : Feature). BreaksAt row F f.handle g.handle (place f)) gs chosen
   pub findings : xs ≡ pair_findings (λ g. place_cells (place f ∷ [])) chosen
 
-abbrev pub cutting_by : RuleKind → Row → List Feature → Feature → List Finding → Type 0
-cutting_by kind.PointMustBeDisjoint row F f xs = AreBrokenPairs row F f (near_after row.origin f F) xs
+abbrev pub cutting_by : Option Sentence → Row → List Feature → Feature → List Finding → Type 0
+cutting_by None row F f xs = xs ≡ []
+cutting_by (Some sentence.PolygonMustNotOverlap) row F f xs = xs ≡ pair_findings (overlap_cells f) (near_after row.origin f F)
+cutting_by (Some sentence.PolygonMustNotOverlapWith) row F f xs = xs ≡ pair_findings (overlap_cells f) (near row.dest f F)
+cutting_by (Some sentence.PointMustBeDisjoint) row F f xs = AreBrokenPairs row F f (near_after row.origin f F) xs
 
 unfoldable pub IsCutting : Row → List Feature → ℕ → List Finding → Type 0
-IsCutting row F a xs = (f : Feature) × (feature_at F a ≡ Some f) × cutting_by row.kind row F f xs
+IsCutting row F a xs = (f : Feature) × (feature_at F a ≡ Some f) × cutting_by (sentence_of row.kind) row F f xs

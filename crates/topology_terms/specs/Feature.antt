@@ -7,7 +7,7 @@
 -- IsOnSide A f, is_on_side A f     f is of the side's class; the test of it
 -- IsOf F A h f       f is the live feature h, and of the side
 -- NoneOf F A P       P holds of no live feature of the side
--- place f, env f   the place of a point, the envelope
+-- sides f, place f, env f   the segments, the place of a point, the envelope
 -- Agree P F G        F and G have the same features among those of which P holds in either
 -- IsSetAt h after F G     G is F with the feature of h set, or taken away
 -- IsAscending F      each handle is above those before
@@ -17,7 +17,8 @@ use Rattle.std.specs.Prelude.{Bool, ◌≡◌, ◌≢◌, ℕ, ◌==◌, ◌<◌
 use Rattle.plane_terms.specs.Lists.{Every}
 use Rattle.plane_terms.specs.Point.{Place}
 use Rattle.plane_terms.specs.Rectangle.{Rectangle}
-use Rattle.plane_terms.specs.Shape.{Shape, place_of, envelope_of}
+use Rattle.plane_terms.specs.Segment.{Segment}
+use Rattle.plane_terms.specs.Shape.{Shape, segments_of, place_of, envelope_of}
 use Rattle.plane_terms.specs.declared.kind.Kind.{Kind}
 
 pub record Class : Type 0 where
@@ -49,6 +50,9 @@ pub record IsOf (F : List Feature) (A : Side) (h : ℕ) (f : Feature) : Type 0 w
 
 abbrev pub NoneOf : List Feature → Side → (Feature → Type 0) → Type 0
 NoneOf F A P = (h : ℕ) (f : Feature) → IsOf F A h f → ¬ (P f)
+
+abbrev pub sides : Feature → List Segment
+sides f = segments_of f.shape
 
 abbrev pub place : Feature → Place
 place f = place_of f.shape

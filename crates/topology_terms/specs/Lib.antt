@@ -1,12 +1,13 @@
 pub mod Feature
+pub mod Sentences
 pub mod Rules
 pub mod Broken
-pub mod Words
 pub mod Meaning
 pub mod Cutting
 pub mod Poster
 pub mod Entry
 pub mod Project
+pub mod Lookups
 pub mod Sound
 pub mod Changes
 pub mod Settled

@@ -8,8 +8,8 @@ use Rattle.topology_terms.specs.Feature.{Feature, Side, feature_at, is_on_side, 
 use Rattle.topology_terms.specs.Broken.{Row, BrokenAt, broken_at, judges_test}
 use Rattle.topology_terms.specs.Cutting.{cutting_by, IsCutting, BreaksAt, near_after}
 use Rattle.topology_terms.specs.Poster.{poster}
-use Rattle.topology_terms.specs.declared.rule_kind.RuleKind.{RuleKind}
-use Rattle.topology_terms.specs.declared.rule_kind.RuleKind.TheVariants as kind
+use Rattle.rule_core.specs.declared.rule_kind.RuleKind.{RuleKind}
+use Rattle.rule_core.specs.declared.rule_kind.RuleKind.TheVariants as kind
 use Rattle.sound_steps.proofs.FeatureLists.{handle_of}
 use Rattle.validation_steps.specs.Views.{ViewLaws}
 

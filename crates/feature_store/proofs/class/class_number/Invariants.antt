@@ -1,5 +1,5 @@
 use Rattle.std.proofs.Common.{◌≡◌, ◌+◌, drop}
-use Rattle.script_terms.specs.State.{number_from}
+use Rattle.topology_terms.specs.Lookups.{number_from}
 use Rattle.feature_store.proofs.class.class_number.Given as goal
 
 abbrev pub invariant-loop-class : goal.invariant-loop-class

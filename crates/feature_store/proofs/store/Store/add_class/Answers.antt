@@ -1,6 +1,6 @@
 use Rattle.std.proofs.Common.{◌≡◌, ◌∙◌, sym, ap, None, length}
 use Rattle.topology_terms.specs.Feature.{Class}
-use Rattle.script_terms.specs.State.{number_from}
+use Rattle.topology_terms.specs.Lookups.{number_from}
 use Rattle.feature_store.specs.Stored.{Stored}
 use Rattle.feature_store.proofs.Keeping.{taken, none_of, class_kept}
 use Rattle.feature_store.proofs.store.Store.add_class.Goals as goal
