@@ -10,7 +10,7 @@ use Rattle.std.specs.Option.{option_map}
 use Rattle.plane_terms.specs.Point.{Place, Point, IsAt}
 use Rattle.plane_terms.specs.Cell.{InCells}
 use Rattle.topology_terms.specs.Entry.{Entry, entry_at, HasCellsAt}
-use Rattle.sound_steps.proofs.Places.{place_one}
+use Rattle.rule_laws.proofs.Places.{place_one}
 use Rattle.plain_topology.specs.Plain.{entry_of, entries_of}
 use Rattle.plain_topology.specs.declared.entries.PlainEntry.{PlainEntry}
 use Rattle.plain_topology.proofs.PlaceFacts.{cells_points}

@@ -7,7 +7,7 @@ use Rattle.std.specs.Option.{option_map}
 use Rattle.plane_terms.specs.Point.{Place, Point, IsAt}
 use Rattle.topology_terms.specs.Feature.{Feature, feature_at, place}
 use Rattle.topology_terms.specs.Broken.{BrokenAt}
-use Rattle.sound_steps.proofs.Places.{place_one}
+use Rattle.rule_laws.proofs.Places.{place_one}
 use Rattle.plain_topology.specs.Plain.{feature_of, features_of, row_of, IsThere}
 use Rattle.plain_topology.specs.declared.points.PlainPoint.{PlainPoint}
 

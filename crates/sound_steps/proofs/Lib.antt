@@ -4,17 +4,10 @@ pub mod Edits
 pub mod RuleChanges
 pub mod Validations
 pub mod Marks
-pub mod Disjoint
 pub mod States
 pub mod Settling
 pub mod Lists
 pub mod Pieces
 pub mod Cuts
-pub mod Those
-pub mod Places
 pub mod Meetings
 pub mod FeatureLists
-pub mod Nears
-pub mod Findings
-pub mod Posters
-pub mod Keeps

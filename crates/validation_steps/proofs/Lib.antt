@@ -7,5 +7,4 @@ pub mod Replacing
 pub mod Validating
 pub mod Selecting
 pub mod Counting
-pub mod Posters
 pub mod Frames

@@ -1,0 +1,2 @@
+// The laws of the rules that are built: lemmas alone.
+#![tactic(auto)]
