@@ -1,7 +1,5 @@
--- Worked rows: replies, refusals and a step, computed from the definitions.
-use Rattle.std.proofs.Common.{◌≡◌, ◌≢◌, ℕ, ℤ, pos, negsuc, true, false, List, [], ◌∷◌, ◌++◌, Some, None, refl, inl, inr, arith}
-use Rattle.std.proofs.lemmas.Int.{ints}
-use Rattle.std.specs.List.{list_all}
+-- Worked rows: replies and refusals, computed from the definitions.
+use Rattle.std.proofs.Common.{◌≡◌, ℕ, ℤ, pos, false, List, [], ◌∷◌, ◌++◌, Some, None, refl}
 use Rattle.std.specs.Prelude.{codes}
 use Rattle.std.specs.Fmt.{digits}
 use Rattle.plane_terms.specs.Point.{Place}
@@ -10,16 +8,16 @@ use Rattle.plane_terms.specs.Dirt.{add_dirt, add_all, pieces, cut_from, cut_dirt
 use Rattle.plane_terms.specs.HalfPlane.{x_is, y_is}
 use Rattle.plane_terms.specs.Shape.{Shape}
 use Rattle.plane_terms.specs.declared.kind.Kind.TheVariants as shapes
-use Rattle.text_terms.specs.Fields.{is_digit}
-use Rattle.text_terms.specs.Numbers.{value_from, IsNumeral}
-use Rattle.topology_terms.specs.Project.{Project}
-use Rattle.topology_terms.specs.declared.rule_kind.RuleKind.TheVariants as kind
-use Rattle.script_terms.specs.Command.{IsWindowText, IsCommandLine, Rule, Begin, Add, Validate}
-use Rattle.script_terms.specs.Refusal.{NotALine, NoSession, NoClass, OutOfReach, Reversed}
-use Rattle.script_terms.specs.Reply.{Judged, Refused, CellList, DirtyList, ErrorList, reply_text}
+use Rattle.rule_core.specs.declared.rule_kind.RuleKind.TheVariants as kind
+use Rattle.topology_terms.specs.Feature.{feature_at}
+use Rattle.topology_terms.specs.Project.{Project, rule_at}
+use Rattle.shape.specs.declared.fault.ShapeFault.TheVariants as fault
+use Rattle.script_text.specs.declared.fault.LineRefusal.TheVariants as line
+use Rattle.script_text.specs.Commands.{Class, Rule, DropRule, Begin, End, Add, Change, Delete, Undo}
+use Rattle.script_terms.specs.Refusal.{Line, ClassTaken, NoSession, NoClass, Unfit, RuleThere, NoRule, WrongKind, NoFeature}
+use Rattle.script_terms.specs.Reply.{Judged, Refused, CellList, DirtyList, ErrorList, FeatureList, reply_text}
 use Rattle.script_terms.specs.State.{State}
-use Rattle.script_terms.specs.Answer.{refusal_of}
-use Rattle.script_terms.specs.Run.{IsLineFault}
+use Rattle.script_terms.specs.Refusing.{not_built, refusal_of}
 
 abbrev at : ℤ → ℤ → Place
 at x y = record { x = x; y = y }
@@ -39,7 +37,7 @@ wells = record {
 }
 
 abbrev open_ann : State
-open_ann = record { project = wells; sessions = record { name = codes "ann"; done = []; undone = [] } ∷ [] }
+open_ann = record { project = wells; editor = Some (codes "ann") }
 
 -- ---- the replies of the row
 cells : reply_text (CellList wells) ≡ codes "error 1 1 2 cells 3 4 3 4" ++ 10 ∷ codes "cell 1 0 -3 =, 0 1 -4 =" ++ 10 ∷ codes "total 1" ++ 10 ∷ []
@@ -68,78 +66,56 @@ no_class = refl
 accepted : refusal_of open_ann (Add (codes "ann") (codes "wells") (point (pos 0) (pos 0))) ≡ None
 accepted = refl
 
-second_rule : refusal_of open_ann (Rule kind.PointMustBeDisjoint (codes "wells") None) ≡ Some NotALine
+other_kind : refusal_of open_ann (Add (codes "ann") (codes "wells") (record { kind = shapes.Line; parts = ((at (pos 0) (pos 0) ∷ at (pos 5) (pos 0) ∷ []) ∷ []) ∷ [] })) ≡ Some WrongKind
+other_kind = refl
+
+second_class : refusal_of open_ann (Class (codes "wells") shapes.Line) ≡ Some ClassTaken
+second_class = refl
+
+second_rule : refusal_of open_ann (Rule kind.PointMustBeDisjoint (codes "wells") None) ≡ Some RuleThere
 second_rule = refl
 
-second_session : refusal_of open_ann (Begin (codes "ann")) ≡ Some NotALine
+lots_of_points : refusal_of open_ann (Rule kind.PolygonMustNotOverlap (codes "wells") None) ≡ Some Unfit
+lots_of_points = refl
+
+no_such_class : refusal_of open_ann (Rule kind.PointMustBeDisjoint (codes "roads") None) ≡ Some NoClass
+no_such_class = refl
+
+-- a rule that is not built yet is none before its classes are looked at
+unbuilt_rule : refusal_of open_ann (Rule kind.LineMustNotOverlap (codes "roads") None) ≡ Some not_built
+unbuilt_rule = refl
+
+no_such_rule : refusal_of open_ann (DropRule 2) ≡ Some NoRule
+unfolding rule_at
+no_such_rule = refl
+
+second_session : refusal_of open_ann (Begin (codes "bob")) ≡ Some not_built
 second_session = refl
 
--- ---- lines
-rule_line : IsCommandLine (codes "rule point_must_be_disjoint wells") (Rule kind.PointMustBeDisjoint (codes "wells") None)
-rule_line = (refl, (refl, tt), (refl, (refl, (refl, refl))))
+no_such_feature : refusal_of open_ann (Delete (codes "ann") 3) ≡ Some NoFeature
+unfolding feature_at
+no_such_feature = refl
 
-validate_line : IsCommandLine (codes " validate  all ") (Validate whole_grid)
-validate_line = inl ((refl, (refl, refl)), refl)
+moved : refusal_of open_ann (Change (codes "ann") 2 (point (pos 5) (pos 4))) ≡ None
+unfolding feature_at
+moved = refl
 
--- digits, with zeros in front or not, and a `-` before them
-numeral : (text : List ℕ) (n : ℕ) → text ≢ [] → list_all is_digit text ≡ true → value_from 0 text ≡ n → IsNumeral text n
-numeral text n some digits value = record { some = some; digits = digits; value = value }
+undone : refusal_of open_ann (Undo (codes "ann")) ≡ Some not_built
+undone = refl
 
-window_text : IsWindowText (codes "validate  0 -07 5 5") (rect_of (pos 0) (negsuc 6) (pos 5) (pos 5))
-window_text = record {
-  x0 = codes "0";
-  y0 = codes "-07";
-  x1 = codes "5";
-  y1 = codes "5";
-  fields = (refl, (refl, (refl, (refl, (refl, refl)))));
-  x0_is = inl (0, numeral (codes "0") 0 (λ e. cc) refl refl, refl);
-  y0_is = inr (codes "07", 7, refl, numeral (codes "07") 7 (λ e. cc) refl refl, refl);
-  x1_is = inl (5, numeral (codes "5") 5 (λ e. cc) refl refl, refl);
-  y1_is = inl (5, numeral (codes "5") 5 (λ e. cc) refl refl, refl);
-}
-
-window_line : IsCommandLine (codes "validate  0 -07 5 5") (Validate (rect_of (pos 0) (negsuc 6) (pos 5) (pos 5)))
-window_line = inr (window_text, grind (arith, ints))
-
--- ---- one refusal each of a window
-beyond : IsLineFault (codes "validate 0 0 0 4194305") (OutOfReach 3)
-beyond = (
-  rect_of (pos 0) (pos 0) (pos 0) (pos 4194305),
-  record {
-    x0 = codes "0";
-    y0 = codes "0";
-    x1 = codes "0";
-    y1 = codes "4194305";
-    fields = (refl, (refl, (refl, (refl, (refl, refl)))));
-    x0_is = inl (0, numeral (codes "0") 0 (λ e. cc) refl refl, refl);
-    y0_is = inl (0, numeral (codes "0") 0 (λ e. cc) refl refl, refl);
-    x1_is = inl (0, numeral (codes "0") 0 (λ e. cc) refl refl, refl);
-    y1_is = inl (4194305, numeral (codes "4194305") 4194305 (λ e. cc) refl refl, refl);
-  },
-  (grind (arith, ints), (grind (arith, ints), (grind (arith, ints), (λ h. omega (arith, ints, h.high))))),
-)
-
-beyond_text : reply_text (Refused (OutOfReach 3)) ≡ codes "refused E15 3" ++ 10 ∷ []
+-- ---- the words of refusals
+beyond_text : reply_text (Refused (Line (line.OutOfReach 3))) ≡ codes "refused E15 3" ++ 10 ∷ []
 unfolding digits
 beyond_text = refl
 
-turned : IsLineFault (codes "validate 5 0 4 0") Reversed
-turned = (
-  rect_of (pos 5) (pos 0) (pos 4) (pos 0),
-  record {
-    x0 = codes "5";
-    y0 = codes "0";
-    x1 = codes "4";
-    y1 = codes "0";
-    fields = (refl, (refl, (refl, (refl, (refl, refl)))));
-    x0_is = inl (5, numeral (codes "5") 5 (λ e. cc) refl refl, refl);
-    y0_is = inl (0, numeral (codes "0") 0 (λ e. cc) refl refl, refl);
-    x1_is = inl (4, numeral (codes "4") 4 (λ e. cc) refl refl, refl);
-    y1_is = inl (0, numeral (codes "0") 0 (λ e. cc) refl refl, refl);
-  },
-  (grind (arith, ints), (grind (arith, ints), (grind (arith, ints), (grind (arith, ints), tt)))),
-  λ h. omega (arith, ints, h.wide),
-)
+crossed_text : reply_text (Refused (Line (line.Invalid (fault.Cross 0 2)))) ≡ codes "refused E18 cross 0 2" ++ 10 ∷ []
+unfolding digits
+crossed_text = refl
+
+-- ---- features
+features : reply_text (FeatureList wells) ≡ codes "feature 1 wells POINT (3 4)" ++ 10 ∷ codes "feature 2 wells POINT (3 4)" ++ 10 ∷ codes "total 2" ++ 10 ∷ []
+unfolding digits
+features = refl
 
 -- ---- a window in the middle of the grid: the four pieces round it stay dirty
 four_left : reply_text (DirtyList (record wells { dirt = cut_dirt (whole_grid ∷ []) (rect_of (pos 0) (pos 0) (pos 5) (pos 5)) })) ≡

@@ -1,28 +1,69 @@
 -- Why a line is refused, and the words of each refusal.
 --
--- Refusal            one constructor a code; of a number beyond the reach with its position, from 0, among the four of a window
+-- Refusal            a fault of the line's own, or one constructor a cause in the state
+-- shape_fault_text f     what is wrong with a shape, and the numbers that say where
 -- refusal_text r     the code, and what stands behind it
 -- when b r           the refusal r where b is true; first_of the first that there is
 --
 -- Source: own.
 use Rattle.std.specs.Prelude.{ℕ, Bool, List, [], ◌∷◌, Option, Some, None, codes, decimal, if◌then◌else◌}
 use Rattle.text_terms.specs.Wkt.{◌⧺◌}
+use Rattle.shape.specs.declared.fault.ShapeFault.{ShapeFault}
+use Rattle.shape.specs.declared.fault.ShapeFault.TheVariants.{TooFew, TooMany, Cross, Along, NoMemory}
+use Rattle.script_text.specs.declared.fault.LineRefusal.{LineRefusal}
+use Rattle.script_text.specs.declared.fault.LineRefusal.TheVariants.{NotALine, TooLong, OffGrid, OutOfReach, Unsupported, NotClosed, Invalid, Reversed}
 
 pub data Refusal : Type 0 where
-  NotALine : Refusal
+  Line : LineRefusal → Refusal
+  ClassTaken : Refusal
+  ClassesFull : Refusal
   NoClass : Refusal
+  Unfit : Refusal
+  RuleThere : Refusal
+  RulesFull : Refusal
+  NoRule : Refusal
   NoSession : Refusal
-  OutOfReach : ℕ → Refusal
+  WrongKind : Refusal
+  NoFeature : Refusal
   HandlesSpent : Refusal
-  Reversed : Refusal
+
+abbrev pub with_number : List ℕ → ℕ → List ℕ
+with_number word n = word ⧺ 32 ∷ decimal n
+
+abbrev pub with_pair : List ℕ → ℕ → ℕ → List ℕ
+with_pair word i j = word ⧺ 32 ∷ decimal i ⧺ 32 ∷ decimal j
+
+-- want of memory is no line's fault, and has no text
+abbrev pub shape_fault_text : ShapeFault → List ℕ
+shape_fault_text (TooFew part) = with_number (codes "few") part
+shape_fault_text (TooMany count) = with_number (codes "many") count
+shape_fault_text (Cross i j) = with_pair (codes "cross") i j
+shape_fault_text (Along i j) = with_pair (codes "along") i j
+shape_fault_text NoMemory = []
+
+abbrev pub line_refusal_text : LineRefusal → List ℕ
+line_refusal_text NotALine = codes "E01"
+line_refusal_text TooLong = codes "E02"
+line_refusal_text (OffGrid at) = with_number (codes "E14") at
+line_refusal_text (OutOfReach at) = with_number (codes "E15") at
+line_refusal_text (Unsupported at) = with_number (codes "E16") at
+line_refusal_text (NotClosed ring) = with_number (codes "E17") ring
+line_refusal_text (Invalid fault) = codes "E18 " ⧺ shape_fault_text fault
+line_refusal_text Reversed = codes "E24"
 
 abbrev pub refusal_text : Refusal → List ℕ
-refusal_text NotALine = codes "E01"
+refusal_text (Line r) = line_refusal_text r
+refusal_text ClassTaken = codes "E03"
+refusal_text ClassesFull = codes "E04"
 refusal_text NoClass = codes "E05"
+refusal_text Unfit = codes "E06"
+refusal_text RuleThere = codes "E07"
+refusal_text RulesFull = codes "E08"
+refusal_text NoRule = codes "E09"
 refusal_text NoSession = codes "E12"
-refusal_text (OutOfReach at) = codes "E15 " ⧺ decimal at
+refusal_text WrongKind = codes "E13"
+refusal_text NoFeature = codes "E19"
 refusal_text HandlesSpent = codes "E21"
-refusal_text Reversed = codes "E24"
 
 abbrev pub when : Bool → Refusal → Option Refusal
 when b r = if b then Some r else None

@@ -1,8 +1,6 @@
 -- Runs over lines.
 --
--- Reading             what a line is: skipped, a command's, or at fault
--- IsLineFault line r  the fault of a line that is no command's: a window's number is beyond the reach, and the first such is named;
---                     or the window's corners are not in order; or the line has not even the form of a window's, and is no line
+-- Reading             what a line is: a command's, or at fault
 -- ReadsAs line r      the line is so; a line at fault is no command's, and has its fault
 -- Outcome, ComesOf    what comes of a line: the text that is written, the state after it, and whether it was refused
 -- Step s line o       one step: the line is read, answered, and this comes of it
@@ -16,12 +14,10 @@
 use Rattle.std.specs.Prelude.{◌≡◌, ℕ, Bool, true, false, List, [], ◌∷◌, ◌++◌, flat_map, Option}
 use Rattle.std.specs.List.{list_any}
 use Rattle.std.specs.Io.KnownBytes.{Appends}
-use Rattle.plane_terms.specs.Lists.{Every}
-use Rattle.plane_terms.specs.Point.{InReach}
-use Rattle.plane_terms.specs.Rectangle.{Rectangle, IsProper, numbers_of, IsFirstOut}
-use Rattle.text_terms.specs.Fields.{is_skipped}
-use Rattle.script_terms.specs.Command.{Command, IsWindowText, IsCommandLine}
-use Rattle.script_terms.specs.Refusal.{Refusal, NotALine, NoClass, NoSession, OutOfReach, HandlesSpent, Reversed}
+use Rattle.script_text.specs.Commands.{Command}
+use Rattle.script_text.specs.Lines.{IsCommandLine, IsLineFault}
+use Rattle.script_text.specs.declared.fault.LineRefusal.{LineRefusal}
+use Rattle.script_terms.specs.Refusal.{Refusal, Line}
 use Rattle.script_terms.specs.Reply.{Reply, Refused, reply_text}
 use Rattle.topology_terms.specs.Project.{IsOrdered}
 use Rattle.script_terms.specs.State.{State}
@@ -29,23 +25,12 @@ use Rattle.script_terms.specs.Answer.{Answers}
 use Rattle.script_terms.specs.Headline.{Headline}
 
 pub data Reading : Type 0 where
-  Skipped : Reading
   Reads : Command → Reading
-  Faulty : Refusal → Reading
-
--- a line has one fault at most, and a line of the form of a window's has one where the window is no rectangle of the grid
-abbrev pub IsLineFault : List ℕ → Refusal → Type 0
-IsLineFault line NotALine = (w : Rectangle) → ¬ (IsWindowText line w)
-IsLineFault line (OutOfReach at) = (w : Rectangle) × IsWindowText line w × IsFirstOut at (numbers_of w)
-IsLineFault line Reversed = (w : Rectangle) × IsWindowText line w × Every InReach (numbers_of w) × ¬ (IsProper w)
-IsLineFault line NoClass = ⊥
-IsLineFault line NoSession = ⊥
-IsLineFault line HandlesSpent = ⊥
+  Faulty : LineRefusal → Reading
 
 abbrev pub ReadsAs : List ℕ → Reading → Type 0
-ReadsAs line Skipped = is_skipped line ≡ true
-ReadsAs line (Reads c) = (is_skipped line ≡ false) × IsCommandLine line c
-ReadsAs line (Faulty r) = (is_skipped line ≡ false) × ((c : Command) → ¬ (IsCommandLine line c)) × IsLineFault line r
+ReadsAs line (Reads c) = IsCommandLine line c
+ReadsAs line (Faulty r) = ((c : Command) → ¬ (IsCommandLine line c)) × IsLineFault line r
 
 pub record Outcome : Type 0 where
   pub text : List ℕ
@@ -61,9 +46,8 @@ pub record IsOutcome (reply : Reply) (o : Outcome) : Type 0 where
   pub refused : o.refused ≡ is_refusal reply
 
 abbrev pub ComesOf : State → Reading → Outcome → Type 0
-ComesOf s Skipped o = o ≡ record { text = []; after = s; refused = false }
 ComesOf s (Reads c) o = (reply : Reply) × Answers s c reply o.after × IsOutcome reply o
-ComesOf s (Faulty r) o = (o.after ≡ s) × IsOutcome (Refused r) o
+ComesOf s (Faulty r) o = (o.after ≡ s) × IsOutcome (Refused (Line r)) o
 
 pub record Step (s : State) (line : List ℕ) (o : Outcome) : Type 0 where
   pub reading : Reading
