@@ -4,6 +4,7 @@
 -- row_of p k origin dest  the row that a line names
 -- kind_of_class cs n      the kind of the shapes of the class of this number
 -- is_kind o k             there is a kind, and it is k
+-- lacks_class p k origin dest     a class that the line names, or a second one that the rule takes, is not there
 -- is_fit p row            the classes have the kinds that the rule takes, and are two; where it takes one, no second is given
 -- is_row q r              the two rows are equal
 -- kind_at p h             the kind of the shape of the feature of this handle
@@ -65,9 +66,13 @@ is_fit p row = is_kind (kind_of_class p.classes row.origin.class) (origin_of row
 abbrev pub is_row : Row → Row → Bool
 is_row q r = bytes_eq (word_of q.kind) (word_of r.kind) && ((q.origin.class == r.origin.class) && (q.dest.class == r.dest.class))
 
-abbrev pub names_none : Project → Option (List ℕ) → Bool
-names_none p None = false
-names_none p (Some name) = is_none (class_number p name)
+abbrev pub lacks_second : Project → Option (List ℕ) → Option Kind → Bool
+lacks_second p (Some name) o = is_none (class_number p name)
+lacks_second p None None = false
+lacks_second p None (Some k) = true
+
+abbrev pub lacks_class : Project → RuleKind → List ℕ → Option (List ℕ) → Bool
+lacks_class p k origin dest = is_none (class_number p origin) || lacks_second p dest (dest_of k)
 
 abbrev pub kind_at : Project → ℕ → Option Kind
 kind_at p h = option_map (λ (f : Feature). f.shape.kind) (feature_at p.features h)
@@ -80,7 +85,7 @@ refusal_of s Blank = None
 refusal_of s (AClass name k) = first_of (when (is_some (class_number s.project name)) ClassTaken ∷ when (length s.project.classes == 64) ClassesFull ∷ [])
 refusal_of s (Rule k origin dest) =
     let row = row_of s.project k origin dest in
-    first_of (when (not (is_built k)) not_built ∷ when (is_none (class_number s.project origin) || names_none s.project dest) NoClass ∷ when (not (is_fit s.project row)) Unfit
+    first_of (when (not (is_built k)) not_built ∷ when (lacks_class s.project k origin dest) NoClass ∷ when (not (is_fit s.project row)) Unfit
     ∷ when (list_any (λ (q : InForce). is_row q.row row) s.project.rules) RuleThere ∷ when (length s.project.rules == 256) RulesFull ∷ [])
 refusal_of s (DropRule r) = when (is_none (rule_at s.project.rules r)) NoRule
 refusal_of s (Begin editor) = when (is_some s.editor) not_built

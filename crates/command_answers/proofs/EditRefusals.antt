@@ -1,0 +1,76 @@
+-- Why a line adds no class and changes no feature, as the topology tells it and as a run says it.
+use Rattle.std.proofs.Common.{◌≡◌, ◌≢◌, ℕ, Bool, true, false, not, refl, List, [], ◌∷◌, length, Option, Some, None, arith}
+use Rattle.std.specs.Prelude.{◌==◌, is_none, is_some}
+use Rattle.plane_terms.specs.Shape.{Shape}
+use Rattle.plane_terms.specs.declared.kind.Kind.{Kind}
+use Rattle.topology_terms.specs.Feature.{Feature, feature_at}
+use Rattle.topology_terms.specs.Lookups.{class_number}
+use Rattle.topology_terms.specs.Project.{Project}
+use Rattle.feature_store.specs.declared.fault.StoreFault.{StoreFault}
+use Rattle.feature_store.specs.declared.fault.StoreFault.TheVariants as store_fault
+use Rattle.topology.specs.Steps.{IsClassMore, IsClassRefusal, IsFeatureMore, IsAddRefusal, IsChanged, IsChangeRefusal, IsDeleted, IsDeleteRefusal}
+use Rattle.topology.specs.declared.fault.ChangeFault.{ChangeFault}
+use Rattle.topology.specs.declared.fault.ChangeFault.TheVariants as fault
+use Rattle.script_text.specs.Commands.{Class, Add, Change, Delete}
+use Rattle.script_terms.specs.Refusal.{Refusal, ClassTaken, ClassesFull, NoClass, WrongKind, NoFeature, HandlesSpent}
+use Rattle.script_terms.specs.State.{State, is_open}
+use Rattle.script_terms.specs.Refusing.{refusal_of, number_or_0, kind_of_class, kind_at, is_kind, same_kind}
+use Rattle.command_answers.proofs.Tests.{own_kind, other_kind, other_number, own_number}
+use Rattle.command_answers.proofs.Classes.{not_absent, kind_told, other_told}
+
+-- ---- classes
+pub class_refusal : StoreFault → Refusal
+class_refusal store_fault.ClassTaken = ClassTaken
+class_refusal other = ClassesFull
+
+pub refused_class : (s : State) (name : List ℕ) (k : Kind) (e : StoreFault) → IsClassRefusal s.project name e → e ≢ store_fault.NoMemory → refusal_of s (Class name k) ≡ Some (class_refusal e)
+refused_class s name k store_fault.ClassTaken h n = rw h.taken refl
+refused_class s name k store_fault.ClassesFull h n = rw (h.free, h.full) refl
+refused_class s name k store_fault.NoClass h n = absurd h
+refused_class s name k store_fault.WrongKind h n = absurd h
+refused_class s name k store_fault.HandlesSpent h n = absurd h
+refused_class s name k store_fault.NoMemory h n = absurd (n refl)
+
+pub may_class : (s : State) (name : List ℕ) (k : Kind) (n : ℕ) (new : Project) → IsClassMore name k n s.project new → refusal_of s (Class name k) ≡ None
+may_class s name k n new h = rw (h.free, other_number (length s.project.classes) 64 (let l = h.some_left in omega arith)) refl
+
+-- ---- features
+pub change_refusal : ChangeFault → Refusal
+change_refusal fault.NoClass = NoClass
+change_refusal fault.NoFeature = NoFeature
+change_refusal fault.WrongKind = WrongKind
+change_refusal fault.HandlesSpent = HandlesSpent
+change_refusal fault.NoMemory = NoClass
+
+pub refused_add : (s : State) (editor class : List ℕ) (shape : Shape) (n : ℕ) (e : ChangeFault) → is_open s editor ≡ true → class_number s.project class ≡ Some n → IsAddRefusal s.project n shape e → e ≢ fault.NoMemory → refusal_of s (Add editor class shape) ≡ Some (change_refusal e)
+refused_add s editor class shape n fault.NoClass open named h m = absurd (not_absent s.project.classes class n named h)
+refused_add s editor class shape n fault.NoFeature open named h m = absurd h
+refused_add s editor class shape n fault.WrongKind open named h m = rw (open, named, other_told s.project.classes n shape.kind h) refl
+refused_add s editor class shape n fault.HandlesSpent open named h m = rw (open, named, kind_told s.project.classes n shape.kind h.fits, h.spent) refl
+refused_add s editor class shape n fault.NoMemory open named h m = absurd (m refl)
+
+pub may_add : (s : State) (editor class : List ℕ) (shape : Shape) (n h : ℕ) (new : Project) → is_open s editor ≡ true → class_number s.project class ≡ Some n → IsFeatureMore n shape h s.project new → refusal_of s (Add editor class shape) ≡ None
+may_add s editor class shape n h new open named more = rw (open, named, kind_told s.project.classes n shape.kind more.fits, other_number s.project.next 4294967295 more.left) refl
+
+pub refused_change : (s : State) (editor : List ℕ) (h : ℕ) (shape : Shape) (e : ChangeFault) → is_open s editor ≡ true → IsChangeRefusal s.project h shape e → e ≢ fault.NoMemory → refusal_of s (Change editor h shape) ≡ Some (change_refusal e)
+refused_change s editor h shape fault.NoClass open k m = absurd k
+refused_change s editor h shape fault.NoFeature open k m = rw (open, k) refl
+refused_change s editor h shape fault.WrongKind open k m = rw (open, k.live) (other_last (other_kind k.feature.shape.kind shape.kind k.kind))
+  where
+    other_last : same_kind k.feature.shape.kind shape.kind ≡ false → refusal_of s (Change editor h shape) ≡ Some WrongKind
+    other_last e = rw (open, k.live, e) refl
+refused_change s editor h shape fault.HandlesSpent open k m = absurd k
+refused_change s editor h shape fault.NoMemory open k m = absurd (m refl)
+
+pub may_change : (s : State) (editor : List ℕ) (h : ℕ) (shape : Shape) (f : Feature) (new : Project) → is_open s editor ≡ true → IsChanged h shape f s.project new → refusal_of s (Change editor h shape) ≡ None
+may_change s editor h shape f new open k = rw (open, k.was, k.kind, own_kind f.shape.kind) refl
+
+pub refused_delete : (s : State) (editor : List ℕ) (h : ℕ) (e : ChangeFault) → is_open s editor ≡ true → IsDeleteRefusal s.project h e → e ≢ fault.NoMemory → refusal_of s (Delete editor h) ≡ Some (change_refusal e)
+refused_delete s editor h fault.NoFeature open k m = rw (open, k) refl
+refused_delete s editor h fault.NoMemory open k m = absurd (m refl)
+refused_delete s editor h fault.NoClass open k m = absurd k
+refused_delete s editor h fault.WrongKind open k m = absurd k
+refused_delete s editor h fault.HandlesSpent open k m = absurd k
+
+pub may_delete : (s : State) (editor : List ℕ) (h : ℕ) (f : Feature) (new : Project) → is_open s editor ≡ true → IsDeleted h f s.project new → refusal_of s (Delete editor h) ≡ None
+may_delete s editor h f new open k = rw (open, k.was) refl

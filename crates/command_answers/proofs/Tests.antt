@@ -1,0 +1,57 @@
+-- What the tests of refusals decide.
+use Rattle.std.proofs.Common.{◌≡◌, ◌≢◌, ℕ, Bool, true, false, ◌&&◌, refl, List, [], ◌∷◌, Option, Some, None, arith}
+use Rattle.std.specs.Prelude.{◌==◌, bytes_eq, is_some}
+use Rattle.std.specs.List.{list_any}
+use Rattle.std.proofs.lemmas.Bool.Decides.{nat_tests}
+use Rattle.std.proofs.lemmas.Slice.Eq.{bytes_eq-Decides}
+use Rattle.plane_terms.specs.Lists.{Every}
+use Rattle.plane_terms.specs.declared.kind.Kind.{Kind}
+use Rattle.plane_terms.specs.declared.kind.Kind.TheVariants as kind
+use Rattle.rule_core.specs.Table.{word_of}
+use Rattle.rule_core.proofs.OneWord.{one_word}
+use Rattle.topology_terms.specs.Broken.{Row}
+use Rattle.topology_terms.specs.Project.{InForce, rule_at}
+use Rattle.script_terms.specs.Refusing.{same_kind, is_row}
+
+pub own_kind : (k : Kind) → same_kind k k ≡ true
+own_kind kind.Point = refl
+own_kind kind.Line = refl
+own_kind kind.Polygon = refl
+
+pub other_kind : (k l : Kind) → l ≢ k → same_kind k l ≡ false
+other_kind kind.Point kind.Point n = absurd (n refl)
+other_kind kind.Point kind.Line n = refl
+other_kind kind.Point kind.Polygon n = refl
+other_kind kind.Line kind.Point n = refl
+other_kind kind.Line kind.Line n = absurd (n refl)
+other_kind kind.Line kind.Polygon n = refl
+other_kind kind.Polygon kind.Point n = refl
+other_kind kind.Polygon kind.Line n = refl
+other_kind kind.Polygon kind.Polygon n = absurd (n refl)
+
+pub same_number : (m n : ℕ) → (m == n) ≡ true → m ≡ n
+same_number m n t = grind (arith, nat_tests)
+
+pub other_number : (m n : ℕ) → m ≢ n → (m == n) ≡ false
+other_number m n d = grind (arith, nat_tests)
+
+pub own_number : (n : ℕ) → (n == n) ≡ true
+own_number n = grind (arith, nat_tests)
+
+-- equal words, and equal numbers
+both : (s t : Bool) → (s && t) ≡ true → (s ≡ true) × (t ≡ true)
+both true true e = (refl, refl)
+both true false e = absurd cc
+both false t e = absurd cc
+
+pub same_row : (q r : Row) → is_row q r ≡ true → q ≡ r
+same_row q r e =
+    let parts = both (bytes_eq (word_of q.kind) (word_of r.kind)) ((q.origin.class == r.origin.class) && (q.dest.class == r.dest.class)) e in
+    let numbers = both (q.origin.class == r.origin.class) (q.dest.class == r.dest.class) parts.1 in
+    let kinds = one_word q.kind r.kind ((bytes_eq-Decides (word_of q.kind) (word_of r.kind)).0 parts.0) in
+    let origins = same_number q.origin.class r.origin.class numbers.0 in
+    let dests = same_number q.dest.class r.dest.class numbers.1 in
+    cc
+
+pub own_row : (r : Row) → is_row r r ≡ true
+own_row r = rw ((bytes_eq-Decides (word_of r.kind) (word_of r.kind)).1 refl, own_number r.origin.class, own_number r.dest.class) refl
