@@ -55,7 +55,7 @@ framable M L C row F a f xs fits e r cut order =
     each_found IsFramable xs order (λ b x k. record {
       some = right.some b x k;
       points = right.have_points b x k;
-      on_grid = λ w. every_cell (λ p. RectHolds whole_grid p) x.cells (λ p c. within_Holds (env f) whole_grid r.on_grid p (in_envelope M L row F a b f p e ((right.points b x k w p).0 c)));
+      on_grid = λ w. every_cell (λ p. RectHolds whole_grid p) x.cells (λ p c. within_Holds (env f) whole_grid r.on_grid p (in_envelope M L row F a b f p fits e ((right.points b x k w p).0 c)));
     })
 
 -- ---- frames
