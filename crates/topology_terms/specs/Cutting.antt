@@ -2,7 +2,7 @@
 --
 -- IsCutting row F a xs     xs are the findings for the subject a, in their one order and their one list of cells; none for one that the row does not judge
 -- cutting_by       the findings for a subject that is judged, by the rule's sentence
--- near A f F       the features of the side whose envelope meets the subject's, but the subject itself, in the order of F, which ascends
+-- near A f F       the features of the side whose envelope meets the subject's, in the order of F, which ascends; with the subject itself, where it is of the side
 -- near_after A f F     of those, the ones whose handle is above the subject's
 -- inside f         the cells of a polygon's inside
 -- overlap_cells f g    the cells of what is inside both
@@ -12,7 +12,7 @@
 -- A list made of cells alone is a function: a test tells the empty ones. Where a place is chosen by the rule's sentence, the
 -- sentence itself decides, and the cutting is a relation (`IsThose`). A rule that has no sentence yet has no findings.
 -- Source: own.
-use Rattle.std.specs.Prelude.{◌≡◌, ℕ, nat_lt, ◌==◌, Bool, true, false, not, ◌&&◌, List, [], ◌∷◌, map, filter, flat_map, Option, None, Some}
+use Rattle.std.specs.Prelude.{◌≡◌, ℕ, nat_lt, Bool, true, false, ◌&&◌, List, [], ◌∷◌, map, filter, flat_map, Option, None, Some}
 use Rattle.plane_terms.specs.Lists.{IsThose}
 use Rattle.plane_terms.specs.Point.{Place, Point, IsAt}
 use Rattle.plane_terms.specs.Rectangle.{rects_meet}
@@ -26,7 +26,7 @@ use Rattle.topology_terms.specs.Sentences.{Sentence, sentence_of}
 use Rattle.topology_terms.specs.Sentences as sentence
 
 abbrev pub near : Side → Feature → List Feature → List Feature
-near A f F = filter (λ (g : Feature). is_on_side A g && (rects_meet (env f) (env g) && not (g.handle == f.handle))) F
+near A f F = filter (λ (g : Feature). is_on_side A g && rects_meet (env f) (env g)) F
 
 abbrev pub near_after : Side → Feature → List Feature → List Feature
 near_after A f F = filter (λ (g : Feature). nat_lt f.handle g.handle) (near A f F)
