@@ -72,7 +72,7 @@ fn push_cell_lines(out: &mut Vec<u8>, cells: &Cells) -> Result<(), NoMemory>
 }
 
 // The line of an error and those of its cells.
-fn push_with_cells(out: &mut Vec<u8>, entry: &Entry) -> Result<(), NoMemory>
+pub fn push_with_cells(out: &mut Vec<u8>, entry: &Entry) -> Result<(), NoMemory>
     ensures { OnOk result (out.new.items ≡ out.old.items ++ entry_lines entry.now) }
 {
     push_entry_line(out, entry)?;
