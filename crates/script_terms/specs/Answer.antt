@@ -40,9 +40,9 @@ pub record IsUnruled (n : ℕ) (old new : State) : Type 0 where
   pub dropped : IsRuleDropped n old.project new.project
   pub editor : new.editor ≡ old.editor
 
-pub record IsBegun (editor : List ℕ) (old new : State) : Type 0 where
+pub record IsBegun (name : List ℕ) (old new : State) : Type 0 where
   pub project : new.project ≡ old.project
-  pub editor : new.editor ≡ Some editor
+  pub editor : new.editor ≡ Some name
 
 -- the feature comes under the next handle, which no feature had
 pub record IsAdded (class : List ℕ) (shape : Shape) (h : ℕ) (old new : State) : Type 0 where
