@@ -3,7 +3,7 @@
 -- Reply              what a command is answered with; a listing has the project that it lists; Nothing of a line that is skipped
 -- reply_text r       its lines
 -- rect_text, half_text, op_text, mark_text, extent_text     the parts of lines
--- class_name p c     the name of the class of this number; no name (never) where there is none
+-- class_name cs c    the name of the class of this number; no name (never) where there is none
 -- dirty_line, entry_line, cell_line, feature_line, total_line     one line of a listing each; entry_lines: an entry's line and those of its cells
 --
 -- Texts are grouped from the right (`⧺`), as `write!` builds them; one function of the code appends one of these.
@@ -66,11 +66,11 @@ abbrev pub name_in : Option Class → List ℕ
 name_in None = []
 name_in (Some c) = c.name
 
-abbrev pub class_name : Project → ℕ → List ℕ
-class_name p c = name_in (class_at p.classes c)
+abbrev pub class_name : List Class → ℕ → List ℕ
+class_name cs c = name_in (class_at cs c)
 
-abbrev pub feature_line : Project → Feature → List ℕ
-feature_line p f = codes "feature " ⧺ decimal f.handle ⧺ 32 ∷ class_name p f.class ⧺ 32 ∷ shape_text f.shape ⧺ 10 ∷ []
+abbrev pub feature_line : List Class → Feature → List ℕ
+feature_line cs f = codes "feature " ⧺ decimal f.handle ⧺ 32 ∷ class_name cs f.class ⧺ 32 ∷ shape_text f.shape ⧺ 10 ∷ []
 
 abbrev pub total_line : ℕ → List ℕ
 total_line n = codes "total " ⧺ decimal n ⧺ 10 ∷ []
@@ -84,4 +84,4 @@ reply_text (Refused r) = codes "refused " ⧺ refusal_text r ⧺ 10 ∷ []
 reply_text (DirtyList p) = flat_map dirty_line p.dirt ⧺ total_line (length p.dirt)
 reply_text (ErrorList p) = flat_map entry_line p.entries ⧺ total_line (length p.entries)
 reply_text (CellList p) = flat_map entry_lines p.entries ⧺ total_line (length p.entries)
-reply_text (FeatureList p) = flat_map (feature_line p) p.features ⧺ total_line (length p.features)
+reply_text (FeatureList p) = flat_map (feature_line p.classes) p.features ⧺ total_line (length p.features)

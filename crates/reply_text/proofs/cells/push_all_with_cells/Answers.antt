@@ -1,0 +1,8 @@
+use Rattle.std.proofs.Common.{refl}
+use Rattle.std.proofs.lemmas.Option.{slice_get_read}
+use Rattle.script_terms.specs.Reply.{entry_lines}
+use Rattle.reply_text.proofs.Listings.{said_more}
+use Rattle.reply_text.proofs.cells.push_all_with_cells.Goals as goal
+
+pub loop-entry-preserved : goal.loop-entry-preserved
+loop-entry-preserved c = said_more entry_lines _ _ _ _ _ _ (slice_get_read _ _ _ _ refl c.loop-entry-test.true c.entry-item.is) c.loop-entry.invariant c.in_ok-push_with_cells.ensures

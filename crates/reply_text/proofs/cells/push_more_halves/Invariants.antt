@@ -1,0 +1,7 @@
+use Rattle.std.proofs.Common.{◌≡◌, ◌++◌, drop}
+use Rattle.wkt_steps.specs.Commas.{comma_texts}
+use Rattle.script_terms.specs.Reply.{half_text}
+use Rattle.reply_text.proofs.cells.push_more_halves.Given as goal
+
+abbrev pub invariant-loop-i : goal.invariant-loop-i
+invariant-loop-i l = l.out.items ++ comma_texts half_text (drop l.i l.cell) ≡ l.initial.out.items ++ comma_texts half_text (drop 1 l.cell)

@@ -1,0 +1,8 @@
+use Rattle.std.proofs.Common.{refl}
+use Rattle.std.proofs.lemmas.Option.{slice_get_read}
+use Rattle.script_terms.specs.Reply.{dirty_line}
+use Rattle.reply_text.proofs.Listings.{said_more}
+use Rattle.reply_text.proofs.dirt.push_dirty_lines.Goals as goal
+
+pub loop-r-preserved : goal.loop-r-preserved
+loop-r-preserved c = said_more dirty_line _ _ _ _ _ _ (slice_get_read _ _ _ _ refl c.loop-r-test.true c.r-item.is) c.loop-r.invariant c.in_ok-push_dirty_line.ensures

@@ -1,0 +1,51 @@
+ghost use Rattle.std.specs.Prelude.{◌≡◌, ◌++◌, flat_map, length, OnOk};
+ghost use Rattle.script_terms.specs.Reply.{mark_text, extent_text, entry_line, total_line};
+
+use crate::numbers::{push_number, push_rect, push_text, push_total};
+use error_entries::{Entry, Errors};
+use grid_plane::NoMemory;
+
+fn mark_word(marked: bool) -> &'static [u8]
+    ensures { result.now ≡ mark_text marked }
+{
+    if marked { b"exception " } else { b"error " }
+}
+
+fn extent_word(whole: bool) -> &'static [u8]
+    ensures { result.now ≡ extent_text whole }
+{
+    if whole { b" whole " } else { b" cells " }
+}
+
+/// Appends the line of an error: its mark, its key, its extent and its frame.
+pub fn push_entry_line(out: &mut Vec<u8>, entry: &Entry) -> Result<(), NoMemory>
+    ensures { OnOk result (out.new.items ≡ out.old.items ++ entry_line entry.now) }
+{
+    let key = entry.key();
+    push_text(out, mark_word(entry.marked()))?;
+    push_number(out, key.rule)?;
+    push_text(out, b" ")?;
+    push_number(out, key.subject)?;
+    push_text(out, b" ")?;
+    push_number(out, key.other)?;
+    push_text(out, extent_word(entry.whole()))?;
+    push_rect(out, &entry.frame())?;
+    push_text(out, b"\n")
+}
+
+fn push_entry_lines(out: &mut Vec<u8>, entries: &[Entry]) -> Result<(), NoMemory>
+    ensures { OnOk result (out.new.items ≡ out.old.items ++ flat_map entry_line entries.now) }
+{
+    for entry in entries {
+        push_entry_line(out, entry)?;
+    }
+    Ok(())
+}
+
+/// Appends a line for each error, in the order of their keys, and their number.
+pub fn push_error_list(out: &mut Vec<u8>, errors: &Errors) -> Result<(), NoMemory>
+    ensures { OnOk result (out.new.items ≡ out.old.items ++ (flat_map entry_line errors.now ++ total_line (length errors.now))) }
+{
+    push_entry_lines(out, errors.entries())?;
+    push_total(out, errors.len())
+}

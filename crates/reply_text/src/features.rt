@@ -1,0 +1,47 @@
+ghost use Rattle.std.specs.Prelude.{◌≡◌, ◌++◌, flat_map, length, OnOk};
+ghost use Rattle.script_terms.specs.Reply.{class_name, feature_line, total_line};
+
+use crate::numbers::{push_number, push_text, push_total};
+use feature_store::Store;
+use grid_plane::NoMemory;
+use shape::Feature;
+use wkt_text::write_wkt;
+
+// The name of the class of this number; nothing where there is none.
+fn push_class_name(out: &mut Vec<u8>, store: &Store, class: u16) -> Result<(), NoMemory>
+    ensures { OnOk result (out.new.items ≡ out.old.items ++ class_name store.now.classes class) }
+{
+    match store.class_name(class) {
+        Some(name) => push_text(out, name.bytes()),
+        None => Ok(()),
+    }
+}
+
+fn push_feature_line(out: &mut Vec<u8>, store: &Store, feature: &Feature) -> Result<(), NoMemory>
+    ensures { OnOk result (out.new.items ≡ out.old.items ++ feature_line store.now.classes feature.now) }
+{
+    push_text(out, b"feature ")?;
+    push_number(out, feature.handle())?;
+    push_text(out, b" ")?;
+    push_class_name(out, store, feature.class())?;
+    push_text(out, b" ")?;
+    write_wkt(feature.shape(), out)?;
+    push_text(out, b"\n")
+}
+
+fn push_feature_lines(out: &mut Vec<u8>, store: &Store) -> Result<(), NoMemory>
+    ensures { OnOk result (out.new.items ≡ out.old.items ++ flat_map (feature_line store.now.classes) store.now.features) }
+{
+    for feature in store.features() {
+        push_feature_line(out, store, feature)?;
+    }
+    Ok(())
+}
+
+/// Appends a line for each live feature, in the order of their handles, and their number.
+pub fn push_feature_list(out: &mut Vec<u8>, store: &Store) -> Result<(), NoMemory>
+    ensures { OnOk result (out.new.items ≡ out.old.items ++ (flat_map (feature_line store.now.classes) store.now.features ++ total_line (length store.now.features))) }
+{
+    push_feature_lines(out, store)?;
+    push_total(out, store.len())
+}

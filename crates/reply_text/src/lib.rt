@@ -1,0 +1,11 @@
+// The texts of replies: each line in ASCII, with one LF at its end, appended to a text.
+#![tactic(auto)]
+
+mod cells;
+mod dirt;
+mod errors;
+mod features;
+mod numbers;
+mod refusal;
+
+pub use refusal::Refusal;

@@ -1,0 +1,111 @@
+ghost use Rattle.std.specs.Prelude.{◌≡◌, ◌++◌, OnOk};
+ghost use Rattle.script_terms.specs.Refusal.{refusal_text, line_refusal_text, shape_fault_text, with_number, with_pair};
+ghost use Rattle.script_text.specs.declared.fault.LineRefusal.TheVariants.{Invalid};
+ghost use Rattle.reply_text.specs.Replies.{refusal_of};
+
+use crate::numbers::{push_number, push_text};
+use grid_plane::NoMemory;
+use script_text::LineRefusal;
+use shape::ShapeFault;
+
+/// Why a line is refused.
+#[derive(Clone, Copy, PartialEq, Eq, Debug)]
+pub enum Refusal {
+    /// The line is no command's.
+    Line(LineRefusal),
+    /// There is a class of this name.
+    ClassTaken,
+    /// There are 64 classes.
+    ClassesFull,
+    /// No class has this name.
+    NoClass,
+    /// The classes do not have the kinds that the rule takes, or are one where they should be two.
+    Unfit,
+    /// An equal rule is in force.
+    RuleThere,
+    /// There are 256 rules.
+    RulesFull,
+    /// No rule has this number.
+    NoRule,
+    /// The editor has no open session.
+    NoSession,
+    /// The shape's kind is not the class's.
+    WrongKind,
+    /// No live feature has this handle.
+    NoFeature,
+    /// Every handle was given.
+    HandlesSpent,
+}
+
+fn push_with_number(out: &mut Vec<u8>, word: &[u8], number: u32) -> Result<(), NoMemory>
+    ensures { OnOk result (out.new.items ≡ out.old.items ++ with_number word.now number) }
+{
+    push_text(out, word)?;
+    push_text(out, b" ")?;
+    push_number(out, number)
+}
+
+fn push_with_pair(out: &mut Vec<u8>, word: &[u8], i: u32, j: u32) -> Result<(), NoMemory>
+    ensures { OnOk result (out.new.items ≡ out.old.items ++ with_pair word.now i j) }
+{
+    push_text(out, word)?;
+    push_text(out, b" ")?;
+    push_number(out, i)?;
+    push_text(out, b" ")?;
+    push_number(out, j)
+}
+
+// What is wrong with a shape; want of memory is no line's fault.
+fn push_shape_fault(out: &mut Vec<u8>, fault: ShapeFault) -> Result<(), NoMemory>
+    ensures { OnOk result (out.new.items ≡ out.old.items ++ shape_fault_text fault) }
+{
+    match fault {
+        ShapeFault::TooFew { part } => push_with_number(out, b"few", part),
+        ShapeFault::TooMany { count } => push_with_number(out, b"many", count),
+        ShapeFault::Cross { i, j } => push_with_pair(out, b"cross", i, j),
+        ShapeFault::Along { i, j } => push_with_pair(out, b"along", i, j),
+        ShapeFault::NoMemory => Ok(()),
+    }
+}
+
+fn push_invalid(out: &mut Vec<u8>, fault: ShapeFault) -> Result<(), NoMemory>
+    ensures { OnOk result (out.new.items ≡ out.old.items ++ line_refusal_text (Invalid fault)) }
+{
+    push_text(out, b"E18 ")?;
+    push_shape_fault(out, fault)
+}
+
+fn push_line_refusal(out: &mut Vec<u8>, refusal: LineRefusal) -> Result<(), NoMemory>
+    ensures { OnOk result (out.new.items ≡ out.old.items ++ line_refusal_text refusal) }
+{
+    match refusal {
+        LineRefusal::NotALine => push_text(out, b"E01"),
+        LineRefusal::TooLong => push_text(out, b"E02"),
+        LineRefusal::OffGrid { at } => push_with_number(out, b"E14", at),
+        LineRefusal::OutOfReach { at } => push_with_number(out, b"E15", at),
+        LineRefusal::Unsupported { at } => push_with_number(out, b"E16", at),
+        LineRefusal::NotClosed { ring } => push_with_number(out, b"E17", ring),
+        LineRefusal::Invalid(fault) => push_invalid(out, fault),
+        LineRefusal::Reversed => push_text(out, b"E24"),
+    }
+}
+
+/// Appends the code of the refusal and what stands behind it: the place of a number, the parts of a shape.
+pub fn push_refusal(out: &mut Vec<u8>, refusal: Refusal) -> Result<(), NoMemory>
+    ensures { OnOk result (out.new.items ≡ out.old.items ++ refusal_text (refusal_of refusal)) }
+{
+    match refusal {
+        Refusal::Line(refusal) => push_line_refusal(out, refusal),
+        Refusal::ClassTaken => push_text(out, b"E03"),
+        Refusal::ClassesFull => push_text(out, b"E04"),
+        Refusal::NoClass => push_text(out, b"E05"),
+        Refusal::Unfit => push_text(out, b"E06"),
+        Refusal::RuleThere => push_text(out, b"E07"),
+        Refusal::RulesFull => push_text(out, b"E08"),
+        Refusal::NoRule => push_text(out, b"E09"),
+        Refusal::NoSession => push_text(out, b"E12"),
+        Refusal::WrongKind => push_text(out, b"E13"),
+        Refusal::NoFeature => push_text(out, b"E19"),
+        Refusal::HandlesSpent => push_text(out, b"E21"),
+    }
+}
