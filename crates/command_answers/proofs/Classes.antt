@@ -1,5 +1,5 @@
 -- Classes by name, by number and by kind.
-use Rattle.std.proofs.Common.{◌≡◌, ◌≢◌, ◌⊎◌, ℕ, ◌+◌, ◌-◌, ◌≤◌, Bool, true, false, ◌&&◌, refl, sym, List, [], ◌∷◌, Option, Some, None, arith}
+use Rattle.std.proofs.Common.{◌≡◌, ◌≢◌, ◌⊎◌, ℕ, suc, ◌+◌, ◌-◌, ◌≤◌, Bool, true, false, ◌&&◌, refl, sym, List, [], ◌∷◌, Option, Some, None, arith}
 use Rattle.std.specs.Prelude.{◌==◌, bytes_eq, is_none, slice_get, not, IfSome, if◌then◌else◌}
 use Rattle.std.specs.Option.{option_map}
 use Rattle.plane_terms.specs.declared.kind.Kind.{Kind}
@@ -20,15 +20,15 @@ first_of_all : (k n : ℕ) (c : Class) (cs : List Class) → k ≡ n → slice_g
 first_of_all k n c cs e = let z : n - k ≡ 0 = omega arith in rw z refl
 
 one_later : (k n : ℕ) (c : Class) (cs : List Class) → k + 1 ≤ n → slice_get (c ∷ cs) (n - k) ≡ slice_get cs (n - (k + 1))
-one_later k n c cs l = let z : n - k ≡ 1 + (n - (k + 1)) = omega arith in rw z refl
+one_later k n c cs l = let z : n - k ≡ suc (n - (k + 1)) = omega arith in rw z refl
 
 pub named : (k n : ℕ) (cs : List Class) (name : List ℕ) → number_from k cs name ≡ Some n → IsNamed k n cs
 named k n [] name e = absurd cc
-named k n (c ∷ cs) name e = by (bytes_eq c.name name) e
+named k n (c ∷ cs) name e = by (bytes_eq c.name name) e (named (k + 1) n cs name)
   where
-    by : (t : Bool) → (if t then Some k else number_from (k + 1) cs name) ≡ Some n → IsNamed k n (c ∷ cs)
-    by true e = let same : k ≡ n = cc in record { class = c; from = omega arith; there = first_of_all k n c cs same }
-    by false e = let later = named (k + 1) n cs name e in record { class = later.class; from = (let l = later.from in omega arith); there = rw (one_later k n c cs later.from) later.there }
+    by : (t : Bool) → (if t then Some k else number_from (k + 1) cs name) ≡ Some n → (number_from (k + 1) cs name ≡ Some n → IsNamed (k + 1) n cs) → IsNamed k n (c ∷ cs)
+    by true e later = let same : k ≡ n = cc in record { class = c; from = omega arith; there = first_of_all k n c cs same }
+    by false e later = let l = later e in record { class = l.class; from = (let m = l.from in omega arith); there = rw (one_later k n c cs l.from) l.there }
 
 -- a number that a name has is a class's
 pub named_class : (cs : List Class) (name : List ℕ) (n : ℕ) → number_from 1 cs name ≡ Some n → (c : Class) × (class_at cs n ≡ Some c)

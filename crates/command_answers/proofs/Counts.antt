@@ -1,6 +1,7 @@
 -- How often rules are tried at most.
-use Rattle.std.proofs.Common.{◌≡◌, ◌⊎◌, inl, inr, ℕ, ◌+◌, ◌*◌, ◌≤◌, ◌<◌, Bool, true, false, refl, List, [], ◌∷◌, length, arith}
-use Rattle.std.specs.Prelude.{if◌then◌else◌}
+use Rattle.std.proofs.Common.{◌≡◌, ◌⊎◌, inl, inr, ℕ, suc, ◌+◌, ◌*◌, ◌≤◌, ◌<◌, Bool, true, false, refl, List, [], ◌∷◌, length, arith}
+use Rattle.std.specs.Prelude.{cond}
+use Rattle.std.proofs.lemmas.List.Sums.{sum_by-cons}
 use Rattle.plane_terms.specs.Lists.{Every, IsThose, how_many}
 use Rattle.topology_terms.specs.Feature.{Feature, IsAscending}
 use Rattle.topology_terms.specs.Project.{InForce}
@@ -9,11 +10,11 @@ use Rattle.validation_steps.specs.Counts.{judged_of}
 
 pub few_of : {A : Type 0} (test : A → Bool) (xs : List A) → how_many test xs ≤ length xs
 few_of test [] = omega arith
-few_of test (x ∷ xs) = by (test x) refl
+few_of test (x ∷ xs) = by (test x) (few_of test xs)
   where
-    by : (t : Bool) → test x ≡ t → how_many test (x ∷ xs) ≤ length (x ∷ xs)
-    by true e = let few = few_of test xs in rw e (omega arith)
-    by false e = let few = few_of test xs in rw e (omega arith)
+    by : (t : Bool) → how_many test xs ≤ length xs → cond t (suc (how_many test xs)) (how_many test xs) ≤ suc (length xs)
+    by true few = omega arith
+    by false few = omega arith
 
 pub fewer_chosen : {A : Type 0} (P : A → Type 0) (xs ys : List A) → IsThose P xs ys → length ys ≤ length xs
 fewer_chosen P [] ys h = rw h (omega arith)
@@ -33,8 +34,14 @@ few_handles low next (f ∷ F) l a from below =
     above [] h = tt
     above (g ∷ G) h = (omega (arith, h.0), above G h.1)
 
-pub few_judged : (rules : List InForce) (fs : List Feature) (m n : ℕ) → length rules ≤ m → length fs ≤ n → judged_of rules fs ≤ m * n
-few_judged [] fs m n a b = omega arith
-few_judged (r ∷ rules) fs m n a b =
-    let one = few_of (judges_test r.row) fs in
-    grind (arith, one)
+-- n times at most for each rule
+pub few_judged : (rules : List InForce) (fs : List Feature) (n : ℕ) → length fs ≤ n → judged_of rules fs ≤ length rules * n
+few_judged [] fs n b = omega arith
+few_judged (r ∷ rules) fs n b =
+    let count : InForce → ℕ = λ (rule : InForce). how_many (judges_test rule.row) fs in
+    rw (sum_by-cons count r rules) (by (how_many (judges_test r.row) fs) (judged_of rules fs) (few_of (judges_test r.row) fs) (few_judged rules fs n b))
+  where
+    once_more : (m : ℕ) → suc m * n ≡ n + m * n
+    once_more m = grind arith
+    by : (one rest : ℕ) → one ≤ length fs → rest ≤ length rules * n → one + rest ≤ suc (length rules) * n
+    by one rest h k = rw (once_more (length rules)) (omega (arith, h, k, b))

@@ -12,17 +12,14 @@ use Rattle.topology.specs.Steps.{IsClassMore, IsClassRefusal, IsFeatureMore, IsA
 use Rattle.topology.specs.declared.fault.ChangeFault.{ChangeFault}
 use Rattle.topology.specs.declared.fault.ChangeFault.TheVariants as fault
 use Rattle.script_text.specs.Commands.{Class, Add, Change, Delete}
-use Rattle.script_terms.specs.Refusal.{Refusal, ClassTaken, ClassesFull, NoClass, WrongKind, NoFeature, HandlesSpent}
+use Rattle.script_terms.specs.Refusal.{WrongKind}
 use Rattle.script_terms.specs.State.{State, is_open}
 use Rattle.script_terms.specs.Refusing.{refusal_of, number_or_0, kind_of_class, kind_at, is_kind, same_kind}
+use Rattle.command_answers.specs.Refusals.{class_refusal, change_refusal}
 use Rattle.command_answers.proofs.Tests.{own_kind, other_kind, other_number, own_number}
 use Rattle.command_answers.proofs.Classes.{not_absent, kind_told, other_told}
 
 -- ---- classes
-pub class_refusal : StoreFault → Refusal
-class_refusal store_fault.ClassTaken = ClassTaken
-class_refusal other = ClassesFull
-
 pub refused_class : (s : State) (name : List ℕ) (k : Kind) (e : StoreFault) → IsClassRefusal s.project name e → e ≢ store_fault.NoMemory → refusal_of s (Class name k) ≡ Some (class_refusal e)
 refused_class s name k store_fault.ClassTaken h n = rw h.taken refl
 refused_class s name k store_fault.ClassesFull h n = rw (h.free, h.full) refl
@@ -35,13 +32,6 @@ pub may_class : (s : State) (name : List ℕ) (k : Kind) (n : ℕ) (new : Projec
 may_class s name k n new h = rw (h.free, other_number (length s.project.classes) 64 (let l = h.some_left in omega arith)) refl
 
 -- ---- features
-pub change_refusal : ChangeFault → Refusal
-change_refusal fault.NoClass = NoClass
-change_refusal fault.NoFeature = NoFeature
-change_refusal fault.WrongKind = WrongKind
-change_refusal fault.HandlesSpent = HandlesSpent
-change_refusal fault.NoMemory = NoClass
-
 pub refused_add : (s : State) (editor class : List ℕ) (shape : Shape) (n : ℕ) (e : ChangeFault) → is_open s editor ≡ true → class_number s.project class ≡ Some n → IsAddRefusal s.project n shape e → e ≢ fault.NoMemory → refusal_of s (Add editor class shape) ≡ Some (change_refusal e)
 refused_add s editor class shape n fault.NoClass open named h m = absurd (not_absent s.project.classes class n named h)
 refused_add s editor class shape n fault.NoFeature open named h m = absurd h

@@ -19,9 +19,9 @@ use Rattle.topology.specs.RuleSteps.{IsMissing, DestMissing, DestUnfit, DestApar
 use Rattle.topology.specs.declared.rule_fault.RuleFault.{RuleFault}
 use Rattle.topology.specs.declared.rule_fault.RuleFault.TheVariants as fault
 use Rattle.script_text.specs.Commands.{Rule}
-use Rattle.script_terms.specs.Refusal.{Refusal, Unfit, RuleThere, RulesFull, NoClass}
 use Rattle.script_terms.specs.State.{State}
 use Rattle.script_terms.specs.Refusing.{row_of, lacks_class, lacks_second, named_number, number_or_0, is_fit, fits_dest, is_kind, kind_of_class, is_row, refusal_of}
+use Rattle.command_answers.specs.Refusals.{rule_refusal}
 use Rattle.command_answers.proofs.Tests.{other_number, own_number, same_row, own_row}
 use Rattle.command_answers.proofs.Classes.{not_absent, kind_told, other_told}
 
@@ -98,13 +98,6 @@ somewhere row (q ∷ rs) n e = by (q.number == n) refl
     by false t = rw (somewhere row rs n (rw t at e)) (true_last (is_row q.row row))
 
 -- ---- the refusals
-pub rule_refusal : RuleFault → Refusal
-rule_refusal fault.NoClass = NoClass
-rule_refusal fault.Unfit = Unfit
-rule_refusal (fault.There n) = RuleThere
-rule_refusal fault.Full = RulesFull
-rule_refusal fault.NoMemory = NoClass
-
 pub refused_rule : (s : State) (k : RuleKind) (origin : List ℕ) (dest : Option (List ℕ)) (e : RuleFault) → is_built k ≡ true → lacks_class s.project k origin dest ≡ false → IsRuleRefusal s.project (row_of s.project k origin dest) e → e ≢ fault.NoMemory → refusal_of s (Rule k origin dest) ≡ Some (rule_refusal e)
 refused_rule s k origin dest fault.NoClass built there h n = absurd (none_missing s.project k origin dest there h)
 refused_rule s k origin dest fault.Unfit built there h n = rw (built, there, unfit s.project (row_of s.project k origin dest) h) refl

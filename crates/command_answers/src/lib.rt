@@ -1,2 +1,11 @@
-// What a run answers each command, and what it leaves of its state.
+// What each command is answered, and what it leaves.
 #![tactic(auto)]
+
+mod answer;
+mod classes;
+mod edits;
+mod refused;
+mod world;
+
+pub use reply_text::{Refusal, Reply};
+pub use world::World;

@@ -1,0 +1,42 @@
+ghost use Rattle.std.specs.Prelude.{◌≡◌, IfOk, OnErr};
+ghost use Rattle.script_text.specs.Seen.{command_of};
+ghost use Rattle.script_terms.specs.Answer.{Answers};
+ghost use Rattle.reply_text.specs.Replies.{said_of};
+
+use crate::classes::NOT_BUILT;
+use crate::world::World;
+use grid_plane::NoMemory;
+use reply_text::Reply;
+use script_text::Command;
+
+impl World {
+    /// Does what the command asks for, and answers what the reply says; a listing lists the state as it is then. After want
+    /// of memory nothing has changed.
+    pub fn answer(&mut self, command: Command) -> Result<Reply, NoMemory>
+        ensures answers { IfOk result (λ r. Answers self.old (command_of command) (said_of self.new.project r) self.new) }
+        ensures err { OnErr result (self.new ≡ self.old) }
+    {
+        match command {
+            Command::Blank => Ok(Reply::Nothing),
+            Command::Class(name, kind) => self.answer_class(name, kind),
+            Command::Rule(kind, origin, dest) => self.answer_rule(kind, &origin, &dest),
+            Command::DropRule(rule) => Ok(self.answer_drop_rule(rule)),
+            Command::Begin(editor) => Ok(self.answer_begin(editor)),
+            Command::Add(editor, class, shape) => self.answer_add(&editor, &class, shape),
+            Command::Change(editor, handle, shape) => self.answer_change(&editor, handle, shape),
+            Command::Delete(editor, handle) => self.answer_delete(&editor, handle),
+            Command::Validate(window) => self.answer_validate(window),
+            Command::Dirty => Ok(Reply::DirtyList),
+            Command::Errors => Ok(Reply::ErrorList),
+            Command::Cells => Ok(Reply::CellList),
+            Command::Features => Ok(Reply::FeatureList),
+            Command::End(_)
+            | Command::Discard(_)
+            | Command::Undo(_)
+            | Command::Redo(_)
+            | Command::Mark(..)
+            | Command::Unmark(..)
+            | Command::Rules => Ok(NOT_BUILT),
+        }
+    }
+}

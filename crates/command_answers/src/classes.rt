@@ -1,0 +1,80 @@
+ghost use Rattle.std.specs.Prelude.{◌≡◌, true, false, MatchOption, IfOk, OnErr};
+ghost use Rattle.topology_terms.specs.Sentences.{is_built};
+ghost use Rattle.script_text.specs.Commands.{Class, Rule, DropRule};
+ghost use Rattle.script_terms.specs.Answer.{Answers};
+ghost use Rattle.script_terms.specs.Refusing.{row_of, lacks_class};
+ghost use Rattle.reply_text.specs.Replies.{said_of};
+
+use crate::refused::{refused_class, refused_rule};
+use crate::world::World;
+use grid_plane::{Name, NoMemory};
+use poster_rules::is_built;
+use reply_text::{Refusal, Reply};
+use rule_core::{Kind, RuleKind};
+use rule_findings::RuleRow;
+use script_text::LineRefusal;
+
+/// What is answered to a command or a rule that is not built yet.
+pub const NOT_BUILT: Reply = Reply::Refused(Refusal::Line(LineRefusal::NotALine));
+
+impl World {
+    /// `class NAME KIND`
+    #[tactic(auto, using(crate::proofs::Answering::class_added, crate::proofs::Answering::class_refused))]
+    pub(crate) fn answer_class(&mut self, name: Name, kind: Kind) -> Result<Reply, NoMemory>
+        ensures answers { IfOk result (λ r. Answers self.old (Class name kind) (said_of self.new.project r) self.new) }
+        ensures err { OnErr result (self.new ≡ self.old) }
+    {
+        match self.topology.add_class(name, kind) {
+            Ok(number) => Ok(Reply::Number(u32::from(number))),
+            Err(fault) => refused_class(fault),
+        }
+    }
+
+    // The row that a line names, where its classes are there, and the second one where the rule takes one.
+    fn row_of(&self, kind: RuleKind, origin: &Name, dest: &Option<Name>) -> Option<RuleRow>
+        ensures { MatchOption result (lacks_class self.now.project kind origin.now dest.now ≡ true)
+            (λ r. (lacks_class self.now.project kind origin.now dest.now ≡ false) × (r ≡ row_of self.now.project kind origin.now dest.now)) }
+    {
+        let store = self.topology.store();
+        let origin = store.class_by_name(origin)?;
+        let dest = match dest {
+            Some(name) => store.class_by_name(name)?,
+            None if kind.takes_dest() => return None,
+            None => 0,
+        };
+        Some(RuleRow { kind, origin, dest })
+    }
+
+    /// `rule WORD ORIGIN [DEST]`
+    #[tactic(auto, using(crate::proofs::Answering::rule_added, crate::proofs::Answering::rule_refused, crate::proofs::Answering::no_class))]
+    pub(crate) fn answer_rule(
+        &mut self,
+        kind: RuleKind,
+        origin: &Name,
+        dest: &Option<Name>,
+    ) -> Result<Reply, NoMemory>
+        ensures answers { IfOk result (λ r. Answers self.old (Rule kind origin.now dest.now) (said_of self.new.project r) self.new) }
+        ensures err { OnErr result (self.new ≡ self.old) }
+    {
+        if !is_built(kind) {
+            return Ok(NOT_BUILT);
+        }
+        let Some(row) = self.row_of(kind, origin, dest) else {
+            return Ok(Reply::Refused(Refusal::NoClass));
+        };
+        match self.topology.add_rule(row) {
+            Ok(number) => Ok(Reply::Number(u32::from(number))),
+            Err(fault) => refused_rule(fault),
+        }
+    }
+
+    /// `droprule R`
+    pub(crate) fn answer_drop_rule(&mut self, number: u16) -> Reply
+        ensures { Answers self.old (DropRule number) (said_of self.new.project result) self.new }
+    {
+        match self.topology.drop_rule(number) {
+            Ok(()) => Reply::Done,
+            Err(_) => Reply::Refused(Refusal::NoRule),
+        }
+    }
+}

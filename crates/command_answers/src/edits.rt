@@ -1,0 +1,93 @@
+ghost use Rattle.std.specs.Prelude.{◌≡◌, IfOk, OnErr};
+ghost use Rattle.script_text.specs.Commands.{Begin, Add, Change, Delete, Validate};
+ghost use Rattle.script_terms.specs.Answer.{Answers};
+ghost use Rattle.reply_text.specs.Replies.{said_of};
+
+use crate::classes::NOT_BUILT;
+use crate::refused::refused_change;
+use crate::world::World;
+use grid_plane::{Name, NoMemory, Rect};
+use reply_text::{Refusal, Reply};
+use rule_judging::Work;
+use shape::Shape;
+
+impl World {
+    /// `begin EDITOR`
+    pub(crate) fn answer_begin(&mut self, editor: Name) -> Reply
+        ensures { Answers self.old (Begin editor) (said_of self.new.project result) self.new }
+    {
+        if self.editor.is_some() {
+            return NOT_BUILT;
+        }
+        self.editor = Some(editor);
+        Reply::Done
+    }
+
+    /// `by EDITOR add CLASS SHAPE`
+    #[tactic(auto, using(crate::proofs::Answering::feature_added, crate::proofs::Answering::add_refused))]
+    pub(crate) fn answer_add(
+        &mut self,
+        editor: &Name,
+        class: &Name,
+        shape: Shape,
+    ) -> Result<Reply, NoMemory>
+        ensures answers { IfOk result (λ r. Answers self.old (Add editor.now class.now shape) (said_of self.new.project r) self.new) }
+        ensures err { OnErr result (self.new ≡ self.old) }
+    {
+        if !self.is_open(editor) {
+            return Ok(Reply::Refused(Refusal::NoSession));
+        }
+        let Some(class) = self.topology.store().class_by_name(class) else {
+            return Ok(Reply::Refused(Refusal::NoClass));
+        };
+        match self.topology.add(class, shape) {
+            Ok(handle) => Ok(Reply::Number(handle)),
+            Err(fault) => refused_change(fault),
+        }
+    }
+
+    /// `by EDITOR change H SHAPE`
+    #[tactic(auto, using(crate::proofs::Answering::feature_changed, crate::proofs::Answering::change_refused))]
+    pub(crate) fn answer_change(
+        &mut self,
+        editor: &Name,
+        handle: u32,
+        shape: Shape,
+    ) -> Result<Reply, NoMemory>
+        ensures answers { IfOk result (λ r. Answers self.old (Change editor.now handle shape) (said_of self.new.project r) self.new) }
+        ensures err { OnErr result (self.new ≡ self.old) }
+    {
+        if !self.is_open(editor) {
+            return Ok(Reply::Refused(Refusal::NoSession));
+        }
+        match self.topology.change(handle, shape) {
+            Ok(_) => Ok(Reply::Done),
+            Err(fault) => refused_change(fault),
+        }
+    }
+
+    /// `by EDITOR delete H`
+    #[tactic(auto, using(crate::proofs::Answering::feature_deleted, crate::proofs::Answering::delete_refused))]
+    pub(crate) fn answer_delete(&mut self, editor: &Name, handle: u32) -> Result<Reply, NoMemory>
+        ensures answers { IfOk result (λ r. Answers self.old (Delete editor.now handle) (said_of self.new.project r) self.new) }
+        ensures err { OnErr result (self.new ≡ self.old) }
+    {
+        if !self.is_open(editor) {
+            return Ok(Reply::Refused(Refusal::NoSession));
+        }
+        match self.topology.delete(handle) {
+            Ok(_) => Ok(Reply::Done),
+            Err(fault) => refused_change(fault),
+        }
+    }
+
+    /// `validate X0 Y0 X1 Y1`, and `validate all`
+    #[tactic(auto, using(crate::proofs::Answering::validated))]
+    pub(crate) fn answer_validate(&mut self, window: Rect) -> Result<Reply, NoMemory>
+        ensures answers { IfOk result (λ r. Answers self.old (Validate window) (said_of self.new.project r) self.new) }
+        ensures err { OnErr result (self.new ≡ self.old) }
+    {
+        let mut work = Work::new();
+        Ok(Reply::Judged(self.topology.validate(window, &mut work)?))
+    }
+}

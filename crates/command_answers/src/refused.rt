@@ -1,0 +1,50 @@
+ghost use Rattle.std.specs.Prelude.{◌≡◌, ◌≢◌, IfOk};
+ghost use Rattle.topology_terms.specs.Project.{Project};
+ghost use Rattle.script_terms.specs.Reply.{Refused};
+ghost use Rattle.reply_text.specs.Replies.{said_of};
+ghost use Rattle.command_answers.specs.Refusals.{class_refusal, change_refusal, rule_refusal};
+
+use feature_store::StoreFault;
+use grid_plane::NoMemory;
+use reply_text::{Refusal, Reply};
+use topology::{ChangeFault, RuleFault};
+
+/// What is answered where no class was added.
+pub fn refused_class(fault: StoreFault) -> Result<Reply, NoMemory>
+    ensures { IfOk result (λ r. (fault ≢ StoreFault.NoMemory) × ((p : Project) → said_of p r ≡ Refused (class_refusal fault))) }
+{
+    match fault {
+        StoreFault::ClassTaken => Ok(Reply::Refused(Refusal::ClassTaken)),
+        StoreFault::ClassesFull => Ok(Reply::Refused(Refusal::ClassesFull)),
+        StoreFault::NoClass => Ok(Reply::Refused(Refusal::NoClass)),
+        StoreFault::WrongKind => Ok(Reply::Refused(Refusal::WrongKind)),
+        StoreFault::HandlesSpent => Ok(Reply::Refused(Refusal::HandlesSpent)),
+        StoreFault::NoMemory => Err(NoMemory),
+    }
+}
+
+/// What is answered where no feature was added, changed or deleted.
+pub fn refused_change(fault: ChangeFault) -> Result<Reply, NoMemory>
+    ensures { IfOk result (λ r. (fault ≢ ChangeFault.NoMemory) × ((p : Project) → said_of p r ≡ Refused (change_refusal fault))) }
+{
+    match fault {
+        ChangeFault::NoClass => Ok(Reply::Refused(Refusal::NoClass)),
+        ChangeFault::NoFeature => Ok(Reply::Refused(Refusal::NoFeature)),
+        ChangeFault::WrongKind => Ok(Reply::Refused(Refusal::WrongKind)),
+        ChangeFault::HandlesSpent => Ok(Reply::Refused(Refusal::HandlesSpent)),
+        ChangeFault::NoMemory => Err(NoMemory),
+    }
+}
+
+/// What is answered where no rule was put in force.
+pub fn refused_rule(fault: RuleFault) -> Result<Reply, NoMemory>
+    ensures { IfOk result (λ r. (fault ≢ RuleFault.NoMemory) × ((p : Project) → said_of p r ≡ Refused (rule_refusal fault))) }
+{
+    match fault {
+        RuleFault::NoClass => Ok(Reply::Refused(Refusal::NoClass)),
+        RuleFault::Unfit => Ok(Reply::Refused(Refusal::Unfit)),
+        RuleFault::There { .. } => Ok(Reply::Refused(Refusal::RuleThere)),
+        RuleFault::Full => Ok(Reply::Refused(Refusal::RulesFull)),
+        RuleFault::NoMemory => Err(NoMemory),
+    }
+}
