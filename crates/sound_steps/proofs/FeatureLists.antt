@@ -36,7 +36,7 @@ above_all m n [] h k = tt
 above_all m n (f ∷ F) h k = (omega (arith, k.0), above_all m n F h k.1)
 
 -- a handle below all has no feature
-none_below : (h : ℕ) (F : List Feature) → AllAbove h F → feature_at F h ≡ None
+pub none_below : (h : ℕ) (F : List Feature) → AllAbove h F → feature_at F h ≡ None
 unfolding feature_at
 none_below h [] k = refl
 none_below h (f ∷ F) k = past_handle f F h (other_handle h f.handle k.0) ∙ none_below h F k.1
