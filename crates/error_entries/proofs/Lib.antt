@@ -1,2 +1,3 @@
+mod Dropping
 mod Merging
 mod Steps

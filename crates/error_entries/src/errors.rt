@@ -1,8 +1,10 @@
-ghost use Rattle.std.specs.Prelude.{◌≡◌, ◌<◌, ◌≤◌, ◌+◌, [], length, slice_get, Some, IfOk, OnOk, OnErr, vec_len, vec_capacity};
-ghost use Rattle.topology_terms.specs.Entry.{IsAscending};
+ghost use Rattle.std.specs.Prelude.{◌≡◌, ◌≢◌, ◌==◌, ◌<◌, ◌≤◌, ◌+◌, ℕ, [], not, filter, length, slice_get, None, Some, IfOk, OnOk, OnErr, vec_len, vec_capacity};
+ghost use Rattle.topology_terms.specs.Entry.{entry_at, IsAscending};
+ghost use Rattle.topology_terms.specs.Entry as terms;
 ghost use Rattle.validation_steps.specs.Replaced.{IsReplaced, AreFresh};
 
 use crate::entry::Entry;
+use crate::list::drop_from;
 use crate::merge::merge;
 use grid_plane::{Handles, NoMemory};
 use std::alloc::{AllocError, Global};
@@ -92,5 +94,15 @@ impl Errors {
         merge(old, selected, fresh, &mut out);
         self.entries = out;
         Ok(())
+    }
+
+    /// The errors of the rule of this number go, and all others stay in their order. Takes no memory.
+    pub fn drop_rule(&mut self, rule: u16)
+        ensures left { self.new ≡ filter (λ (e : terms.Entry). not (e.rule == rule)) self.old }
+        ensures gone { (a b : ℕ) → entry_at self.new rule a b ≡ None }
+        ensures kept { (k a b : ℕ) → k ≢ rule → entry_at self.new k a b ≡ entry_at self.old k a b }
+        ensures ascending { IsAscending self.new }
+    {
+        drop_from(&mut self.entries, rule);
     }
 }
