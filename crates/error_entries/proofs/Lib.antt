@@ -1,2 +1,4 @@
+mod Dropping
+mod Finding
 mod Merging
 mod Steps

@@ -1,4 +1,4 @@
-ghost use Rattle.std.specs.Prelude.{◌≡◌, ◌↔◌, IsTrue, Some};
+ghost use Rattle.std.specs.Prelude.{◌≡◌, ◌↔◌, IsTrue, Some, IfOk};
 ghost use Rattle.topology_terms.specs.Changes.{IsUnchanged};
 ghost use Rattle.topology_terms.specs.Entry as terms;
 ghost use Rattle.validation_steps.specs.Replaced.{IsRemarked};
@@ -6,7 +6,8 @@ ghost use Rattle.error_entries.specs.Keys.{key_of};
 
 use crate::key::Key;
 use convex_cell::Cells;
-use grid_plane::Rect;
+use grid_plane::{NoMemory, Rect};
+use std::alloc::Global;
 use std::marker::Model;
 
 /// An error of a rule. Error features and exceptions of a geodatabase topology (Esri).
@@ -104,5 +105,18 @@ impl Entry {
     {
         let on = self.marked && self.is_unchanged(&fresh);
         fresh.with_mark(on)
+    }
+
+    /// An equal value.
+    pub fn try_copy(&self, alloc: Global) -> Result<Entry, NoMemory>
+        ensures { IfOk result (λ e. e ≡ self.now) }
+    {
+        Ok(Entry {
+            key: self.key,
+            whole: self.whole,
+            marked: self.marked,
+            frame: self.frame,
+            cells: self.cells.try_copy(alloc)?,
+        })
     }
 }

@@ -1,8 +1,11 @@
-ghost use Rattle.std.specs.Prelude.{◌≡◌, ◌<◌, ◌≤◌, ◌+◌, [], length, slice_get, Some, IfOk, OnOk, OnErr, vec_len, vec_capacity};
-ghost use Rattle.topology_terms.specs.Entry.{IsAscending};
+ghost use Rattle.std.specs.Prelude.{◌≡◌, ◌≢◌, ◌==◌, ◌<◌, ◌≤◌, ◌+◌, ℕ, [], not, filter, length, slice_get, None, Some, MatchOption, IfOk, OnOk, OnErr, vec_len, vec_capacity};
+ghost use Rattle.topology_terms.specs.Entry.{entry_at, IsAscending};
+ghost use Rattle.topology_terms.specs.Entry as terms;
 ghost use Rattle.validation_steps.specs.Replaced.{IsReplaced, AreFresh};
 
 use crate::entry::Entry;
+use crate::key::Key;
+use crate::list::{copy_of, drop_from, find_in};
 use crate::merge::merge;
 use grid_plane::{Handles, NoMemory};
 use std::alloc::{AllocError, Global};
@@ -71,6 +74,13 @@ impl Errors {
         &self.entries
     }
 
+    /// The error of this key. Takes steps by the logarithm of their number.
+    pub fn find(&self, key: Key) -> Option<&Entry>
+        ensures { MatchOption result (entry_at self.now key.rule key.subject key.other ≡ None) (λ e. entry_at self.now key.rule key.subject key.other ≡ Some e.now) }
+    {
+        find_in(&self.entries, key)
+    }
+
     /// The errors of the selected subjects give way to the fresh ones, and all others stay. A fresh error is marked exactly
     /// where the old one of its key was, and had the same extent, frame and cells. After an `Err`, want of memory, nothing
     /// has changed. Goes over both lists once.
@@ -92,5 +102,24 @@ impl Errors {
         merge(old, selected, fresh, &mut out);
         self.entries = out;
         Ok(())
+    }
+
+    /// The errors of the rule of this number go, and all others stay in their order. Takes no memory.
+    pub fn drop_rule(&mut self, rule: u16)
+        ensures left { self.new ≡ filter (λ (e : terms.Entry). not (e.rule == rule)) self.old }
+        ensures gone { (a b : ℕ) → entry_at self.new rule a b ≡ None }
+        ensures kept { (k a b : ℕ) → k ≢ rule → entry_at self.new k a b ≡ entry_at self.old k a b }
+        ensures ascending { IsAscending self.new }
+    {
+        drop_from(&mut self.entries, rule);
+    }
+
+    /// An equal value.
+    pub fn try_copy(&self, alloc: Global) -> Result<Errors, NoMemory>
+        ensures { IfOk result (λ e. e ≡ self.now) }
+    {
+        Ok(Errors {
+            entries: copy_of(alloc, &self.entries)?,
+        })
     }
 }

@@ -5,6 +5,7 @@ mod compare;
 mod entry;
 mod errors;
 mod key;
+mod list;
 mod merge;
 
 pub use entry::Entry;

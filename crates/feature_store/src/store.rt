@@ -177,6 +177,7 @@ impl Store {
         ensures classes { self.new.classes ≡ self.old.classes }
         ensures features { self.new.features ≡ self.old.features }
         ensures next { self.new.next ≡ next }
+        ensures room { self.new.room ≡ self.old.room }
     {
         self.next = next;
     }

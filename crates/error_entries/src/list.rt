@@ -1,0 +1,45 @@
+ghost use Rattle.std.specs.Prelude.{◌≡◌, ◌==◌, not, filter, None, Some, IfOk, MatchOption};
+ghost use Rattle.topology_terms.specs.Entry.{entry_at};
+ghost use Rattle.topology_terms.specs.Entry as terms;
+
+use crate::compare::compare;
+use crate::entry::Entry;
+use crate::key::Key;
+use grid_plane::NoMemory;
+use std::alloc::Global;
+
+/// The error of this key.
+pub fn find_in(entries: &[Entry], key: Key) -> Option<&Entry>
+    requires { terms.IsAscending entries.now }
+    ensures { MatchOption result (entry_at entries.now key.rule key.subject key.other ≡ None) (λ e. entry_at entries.now key.rule key.subject key.other ≡ Some e.now) }
+{
+    match entries.binary_search_by(|e| compare(e.key(), key)) {
+        Ok(i) => Some(&entries[i]),
+        Err(_) => None,
+    }
+}
+
+// Whether the error is of another rule.
+fn is_of_other(e: &Entry, rule: u16) -> bool
+    ensures { result ≡ not (e.now.rule == rule) }
+{
+    e.key().rule != rule
+}
+
+/// Takes out the errors of the rule.
+pub fn drop_from(entries: &mut Vec<Entry>, rule: u16)
+    ensures { entries.new.items ≡ filter (λ (e : terms.Entry). not (e.rule == rule)) entries.old.items }
+{
+    entries.retain(|e| is_of_other(e, rule));
+}
+
+/// The same list once more.
+pub fn copy_of(alloc: Global, entries: &[Entry]) -> Result<Vec<Entry>, NoMemory>
+    ensures { IfOk result (λ v. v.items ≡ entries.now) }
+{
+    let mut copy = Vec::new(alloc);
+    for e in entries {
+        copy.push(e.try_copy(alloc)?)?;
+    }
+    Ok(copy)
+}
