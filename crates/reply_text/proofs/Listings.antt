@@ -31,8 +31,8 @@ comma_more f xs i x now mid new whole at before comma item =
     rw add-one (ap (λ t. t ++ comma_texts f (drop (suc i) xs)) said ∙ (append_assoc now (44 ∷ 32 ∷ f x) (comma_texts f (drop (suc i) xs)) ∙ (ap (λ t. now ++ t) (sym (commas_drop f xs i x at)) ∙ before)))
 
 -- the first item, and the others behind commas
-pub first_said : {X : Type 0} (f : X → List ℕ) (xs : List X) (x : X) (old mid new : List ℕ) → slice_get xs 0 ≡ Some x → mid ≡ old ++ f x → new ≡ mid ++ comma_texts f (drop 1 xs) → new ≡ old ++ listed (map f xs)
-first_said f [] x old mid new at first others = cc
-first_said f (y ∷ ys) x old mid new at first others =
+pub first_said : {X : Type 0} (f : X → List ℕ) (xs : List X) (x : X) (old mid : List ℕ) → slice_get xs 0 ≡ Some x → mid ≡ old ++ f x → mid ++ comma_texts f (drop 1 xs) ≡ old ++ listed (map f xs)
+first_said f [] x old mid at first = cc
+first_said f (y ∷ ys) x old mid at first =
     let e : y ≡ x = cc in
-    others ∙ (ap (λ t. t ++ comma_texts f ys) first ∙ (append_assoc old (f x) (comma_texts f ys) ∙ (ap (λ v. old ++ (f v ++ comma_texts f ys)) (sym e) ∙ ap (λ t. old ++ t) (sym (listed_items f y ys)))))
+    ap (λ t. t ++ comma_texts f ys) first ∙ (append_assoc old (f x) (comma_texts f ys) ∙ (ap (λ v. old ++ (f v ++ comma_texts f ys)) (sym e) ∙ ap (λ t. old ++ t) (sym (listed_items f y ys))))

@@ -1,5 +1,5 @@
 ghost use Rattle.std.specs.Prelude.{◌≡◌, ◌++◌, flat_map, length, OnOk};
-ghost use Rattle.script_terms.specs.Reply.{mark_text, extent_text, entry_line, total_line};
+ghost use Rattle.script_terms.specs.Reply.{mark_text, key_text, extent_text, entry_line, total_line};
 
 use crate::numbers::{push_number, push_rect, push_text, push_total};
 use error_entries::{Entry, Errors};
@@ -17,17 +17,24 @@ fn extent_word(whole: bool) -> &'static [u8]
     if whole { b" whole " } else { b" cells " }
 }
 
-/// Appends the line of an error: its mark, its key, its extent and its frame.
-pub fn push_entry_line(out: &mut Vec<u8>, entry: &Entry) -> Result<(), NoMemory>
-    ensures { OnOk result (out.new.items ≡ out.old.items ++ entry_line entry.now) }
+// Rule, subject and partner.
+fn push_key(out: &mut Vec<u8>, entry: &Entry) -> Result<(), NoMemory>
+    ensures { OnOk result (out.new.items ≡ out.old.items ++ key_text entry.now) }
 {
     let key = entry.key();
-    push_text(out, mark_word(entry.marked()))?;
     push_number(out, key.rule)?;
     push_text(out, b" ")?;
     push_number(out, key.subject)?;
     push_text(out, b" ")?;
-    push_number(out, key.other)?;
+    push_number(out, key.other)
+}
+
+/// Appends the line of an error: its mark, its key, its extent and its frame.
+pub fn push_entry_line(out: &mut Vec<u8>, entry: &Entry) -> Result<(), NoMemory>
+    ensures { OnOk result (out.new.items ≡ out.old.items ++ entry_line entry.now) }
+{
+    push_text(out, mark_word(entry.marked()))?;
+    push_key(out, entry)?;
     push_text(out, extent_word(entry.whole()))?;
     push_rect(out, &entry.frame())?;
     push_text(out, b"\n")

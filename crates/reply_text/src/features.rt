@@ -29,10 +29,14 @@ fn push_feature_line(out: &mut Vec<u8>, store: &Store, feature: &Feature) -> Res
     push_text(out, b"\n")
 }
 
-fn push_feature_lines(out: &mut Vec<u8>, store: &Store) -> Result<(), NoMemory>
-    ensures { OnOk result (out.new.items ≡ out.old.items ++ flat_map (feature_line store.now.classes) store.now.features) }
+fn push_feature_lines(
+    out: &mut Vec<u8>,
+    store: &Store,
+    features: &[Feature],
+) -> Result<(), NoMemory>
+    ensures { OnOk result (out.new.items ≡ out.old.items ++ flat_map (feature_line store.now.classes) features.now) }
 {
-    for feature in store.features() {
+    for feature in features {
         push_feature_line(out, store, feature)?;
     }
     Ok(())
@@ -42,6 +46,6 @@ fn push_feature_lines(out: &mut Vec<u8>, store: &Store) -> Result<(), NoMemory>
 pub fn push_feature_list(out: &mut Vec<u8>, store: &Store) -> Result<(), NoMemory>
     ensures { OnOk result (out.new.items ≡ out.old.items ++ (flat_map (feature_line store.now.classes) store.now.features ++ total_line (length store.now.features))) }
 {
-    push_feature_lines(out, store)?;
+    push_feature_lines(out, store, store.features())?;
     push_total(out, store.len())
 }

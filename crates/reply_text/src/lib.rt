@@ -7,5 +7,7 @@ mod errors;
 mod features;
 mod numbers;
 mod refusal;
+#[cfg(test)]
+mod tests;
 
 pub use refusal::Refusal;
