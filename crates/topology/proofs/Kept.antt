@@ -118,7 +118,7 @@ class_kept M d old new i k = record { sound = class_sound M d old new i k.sound;
 -- ---- a validation
 pub validated_keeps : (M : Meaning) → CutsRight M → TakesKinds M → (w : Rectangle) (old new : Project) → IsTopology old → IsValidatedBy M w old new → entries.IsAscending new.entries → IsTopology new
 validated_keeps M C K w old new t i order =
-    let v = parts_kept_valid M C w old new i (valid M K old t) in
+    let v = parts_kept_valid M C w old new i (valid M K old t) t.store.ascending in
     record {
       store = rw (i.classes, i.features, i.next) t.store;
       rules = rw i.rules t.rules;
@@ -132,6 +132,6 @@ validated_keeps M C K w old new t i order =
 
 pub validated_kept : (M : Meaning) → Laws M → CutsRight M → TakesKinds M → (w : Rectangle) (old new : Project) → IsTopology old → IsValidatedBy M w old new → IsKeptUnder M old → IsKeptUnder M new
 validated_kept M L C K w old new t i k = record {
-  sound = parts_kept_sound M L C w old new i (valid M K old t) k.sound;
-  settled = parts_kept_settled M L C w old new i (valid M K old t) k.settled;
+  sound = parts_kept_sound M L C w old new i (valid M K old t) t.store.ascending k.sound;
+  settled = parts_kept_settled M L C w old new i (valid M K old t) t.store.ascending k.settled;
 }
