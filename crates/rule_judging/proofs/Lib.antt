@@ -1,1 +1,3 @@
 mod Orders
+mod Lookups
+pub mod Partners

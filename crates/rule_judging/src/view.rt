@@ -1,4 +1,4 @@
-ghost use Rattle.std.specs.Prelude.{◌≡◌, ◌<◌, [], ◌∷◌, ◌++◌, length, slice_get, Some, OnOk, OnErr};
+ghost use Rattle.std.specs.Prelude.{◌≡◌, ◌<◌, [], ◌∷◌, ◌++◌, length, slice_get, Some, IsSome, OnOk, OnErr};
 ghost use Rattle.plane_terms.specs.Lists.{Every};
 ghost use Rattle.topology_terms.specs.Feature as terms;
 
@@ -47,6 +47,14 @@ impl<'a> View<'a> {
         ensures { slice_get self.now i ≡ Some result.now }
     {
         self.features[i]
+    }
+
+    /// The feature of this handle, which is there. Goes over the list.
+    pub fn subject(&self, handle: u32) -> &'a Feature
+        requires { IsSome (terms.feature_at self.now handle) }
+        ensures { terms.feature_at self.now handle ≡ Some result.now }
+    {
+        self.features.iter().find(|f| f.handle() == handle).unwrap()
     }
 
     /// Puts a feature last, whose handle is above all others; where memory runs out the list stays as it was.

@@ -32,7 +32,8 @@ impl Work {
         self.judged
     }
 
-    pub(crate) fn raise(&mut self)
+    /// One judgement more.
+    pub fn raise(&mut self)
         ensures { self.new ≡ raised self.old 1 }
     {
         self.judged = self.judged.saturating_add(1);

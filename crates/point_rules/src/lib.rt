@@ -1,0 +1,6 @@
+// The rules whose subjects are points.
+#![tactic(auto)]
+
+mod point_must_be_disjoint;
+
+pub use point_must_be_disjoint::PointMustBeDisjoint;
