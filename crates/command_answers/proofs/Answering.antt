@@ -43,41 +43,40 @@ pub done : (s t : State) (c : Command) (reply : Reply) → refusal_of s c ≡ No
 done s t c reply e d = rw e d
 
 pub class_added : (s t : State) (name : List ℕ) (k : Kind) (n : ℕ) → IsClassMore name k n s.project t.project → t.editor ≡ s.editor → Answers s (Class name k) (Number n) t
-class_added s t name k n h same = done s t (Class name k) (Number n) (may_class s name k n t.project h) (rw h.number refl, record { project = whole; editor = same })
-  where
-    whole : t.project ≡ record s.project { classes = s.project.classes ++ record { name = name; kind = k } ∷ [] }
-    whole = let a = h.classes in let b = h.rules in let c = h.features in let d = h.next in let e = h.dirt in let f = h.entries in cc
+class_added s t name k n h same =
+    done s t (Class name k) (Number n) (may_class s name k n t.project h)
+    (rw h.number refl, record { classes = h.classes; rules = h.rules; features = h.features; next = h.next; dirt = h.dirt; entries = h.entries; editor = same })
 
 pub feature_added : (s t : State) (editor class : List ℕ) (shape : Shape) (n h : ℕ) → is_open s editor ≡ true → class_number s.project class ≡ Some n → IsFeatureMore n shape h s.project t.project → t.editor ≡ s.editor → Answers s (Add editor class shape) (Number h) t
-feature_added s t editor class shape n h open named more same =
-    done s t (Add editor class shape) (Number h) (may_add s editor class shape n h t.project open named more)
+feature_added s t editor class shape n h opened named more same =
+    done s t (Add editor class shape) (Number h) (may_add s editor class shape n h t.project opened named more)
     (h, refl, record { number = more.handle; absent = more.fresh; next = more.next; edit = rw named more.edit; editor = same })
 
 pub feature_changed : (s t : State) (editor : List ℕ) (h : ℕ) (shape : Shape) (f : Feature) → is_open s editor ≡ true → IsChanged h shape f s.project t.project → t.editor ≡ s.editor → Answers s (Change editor h shape) Done t
-feature_changed s t editor h shape f open k same =
+feature_changed s t editor h shape f opened k same =
     let own = handle_of s.project.features h f k.was in
-    done s t (Change editor h shape) Done (may_change s editor h shape f t.project open k)
+    done s t (Change editor h shape) Done (may_change s editor h shape f t.project opened k)
     (refl, record { edit = rw (k.was, own) k.edit; next = k.next; editor = same })
 
 pub feature_deleted : (s t : State) (editor : List ℕ) (h : ℕ) (f : Feature) → is_open s editor ≡ true → IsDeleted h f s.project t.project → t.editor ≡ s.editor → Answers s (Delete editor h) Done t
-feature_deleted s t editor h f open k same =
-    done s t (Delete editor h) Done (may_delete s editor h f t.project open k) (refl, record { edit = k.edit; next = k.next; editor = same })
+feature_deleted s t editor h f opened k same =
+    done s t (Delete editor h) Done (may_delete s editor h f t.project opened k) (refl, record { edit = k.edit; next = k.next; editor = same })
 
 -- ---- what is refused
 pub class_refused : (s t : State) (name : List ℕ) (k : Kind) (e : StoreFault) (reply : Reply) → IsClassRefusal s.project name e → e ≢ store_fault.NoMemory → reply ≡ Refused (class_refusal e) → t ≡ s → Answers s (Class name k) reply t
 class_refused s t name k e reply h n said same = refused s t (Class name k) reply (class_refusal e) (refused_class s name k e h n) said same
 
 pub no_session : (s t : State) (editor class : List ℕ) (shape : Shape) → is_open s editor ≡ false → t ≡ s → Answers s (Add editor class shape) (Refused NoSession) t
-no_session s t editor class shape open same = refused s t (Add editor class shape) (Refused NoSession) NoSession (rw open refl) refl same
+no_session s t editor class shape opened same = refused s t (Add editor class shape) (Refused NoSession) NoSession (rw opened refl) refl same
 
 pub add_refused : (s t : State) (editor class : List ℕ) (shape : Shape) (n : ℕ) (e : ChangeFault) (reply : Reply) → is_open s editor ≡ true → class_number s.project class ≡ Some n → IsAddRefusal s.project n shape e → e ≢ change_fault.NoMemory → reply ≡ Refused (change_refusal e) → t ≡ s → Answers s (Add editor class shape) reply t
-add_refused s t editor class shape n e reply open named h m said same = refused s t (Add editor class shape) reply (change_refusal e) (refused_add s editor class shape n e open named h m) said same
+add_refused s t editor class shape n e reply opened named h m said same = refused s t (Add editor class shape) reply (change_refusal e) (refused_add s editor class shape n e opened named h m) said same
 
 pub change_refused : (s t : State) (editor : List ℕ) (h : ℕ) (shape : Shape) (e : ChangeFault) (reply : Reply) → is_open s editor ≡ true → IsChangeRefusal s.project h shape e → e ≢ change_fault.NoMemory → reply ≡ Refused (change_refusal e) → t ≡ s → Answers s (Change editor h shape) reply t
-change_refused s t editor h shape e reply open k m said same = refused s t (Change editor h shape) reply (change_refusal e) (refused_change s editor h shape e open k m) said same
+change_refused s t editor h shape e reply opened k m said same = refused s t (Change editor h shape) reply (change_refusal e) (refused_change s editor h shape e opened k m) said same
 
 pub delete_refused : (s t : State) (editor : List ℕ) (h : ℕ) (e : ChangeFault) (reply : Reply) → is_open s editor ≡ true → IsDeleteRefusal s.project h e → e ≢ change_fault.NoMemory → reply ≡ Refused (change_refusal e) → t ≡ s → Answers s (Delete editor h) reply t
-delete_refused s t editor h e reply open k m said same = refused s t (Delete editor h) reply (change_refusal e) (refused_delete s editor h e open k m) said same
+delete_refused s t editor h e reply opened k m said same = refused s t (Delete editor h) reply (change_refusal e) (refused_delete s editor h e opened k m) said same
 
 -- ---- rules
 pub rule_added : (s t : State) (k : RuleKind) (origin : List ℕ) (dest : Option (List ℕ)) (n : ℕ) → is_built k ≡ true → lacks_class s.project k origin dest ≡ false → MayAdd s.project (row_of s.project k origin dest) → n ≡ least_free s.project.rules → IsRuleAdded n (row_of s.project k origin dest) s.project t.project → t.editor ≡ s.editor → Answers s (Rule k origin dest) (Number n) t

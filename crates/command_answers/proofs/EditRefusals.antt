@@ -33,34 +33,31 @@ may_class s name k n new h = rw (h.free, other_number (length s.project.classes)
 
 -- ---- features
 pub refused_add : (s : State) (editor class : List ℕ) (shape : Shape) (n : ℕ) (e : ChangeFault) → is_open s editor ≡ true → class_number s.project class ≡ Some n → IsAddRefusal s.project n shape e → e ≢ fault.NoMemory → refusal_of s (Add editor class shape) ≡ Some (change_refusal e)
-refused_add s editor class shape n fault.NoClass open named h m = absurd (not_absent s.project.classes class n named h)
-refused_add s editor class shape n fault.NoFeature open named h m = absurd h
-refused_add s editor class shape n fault.WrongKind open named h m = rw (open, named, other_told s.project.classes n shape.kind h) refl
-refused_add s editor class shape n fault.HandlesSpent open named h m = rw (open, named, kind_told s.project.classes n shape.kind h.fits, h.spent) refl
-refused_add s editor class shape n fault.NoMemory open named h m = absurd (m refl)
+refused_add s editor class shape n fault.NoClass opened named h m = absurd (not_absent s.project.classes class n named h)
+refused_add s editor class shape n fault.NoFeature opened named h m = absurd h
+refused_add s editor class shape n fault.WrongKind opened named h m = rw (opened, named, other_told s.project.classes n shape.kind h) refl
+refused_add s editor class shape n fault.HandlesSpent opened named h m = rw (opened, named, kind_told s.project.classes n shape.kind h.fits, h.spent) refl
+refused_add s editor class shape n fault.NoMemory opened named h m = absurd (m refl)
 
 pub may_add : (s : State) (editor class : List ℕ) (shape : Shape) (n h : ℕ) (new : Project) → is_open s editor ≡ true → class_number s.project class ≡ Some n → IsFeatureMore n shape h s.project new → refusal_of s (Add editor class shape) ≡ None
-may_add s editor class shape n h new open named more = rw (open, named, kind_told s.project.classes n shape.kind more.fits, other_number s.project.next 4294967295 more.left) refl
+may_add s editor class shape n h new opened named more = rw (opened, named, kind_told s.project.classes n shape.kind more.fits, other_number s.project.next 4294967295 more.left) refl
 
 pub refused_change : (s : State) (editor : List ℕ) (h : ℕ) (shape : Shape) (e : ChangeFault) → is_open s editor ≡ true → IsChangeRefusal s.project h shape e → e ≢ fault.NoMemory → refusal_of s (Change editor h shape) ≡ Some (change_refusal e)
-refused_change s editor h shape fault.NoClass open k m = absurd k
-refused_change s editor h shape fault.NoFeature open k m = rw (open, k) refl
-refused_change s editor h shape fault.WrongKind open k m = rw (open, k.live) (other_last (other_kind k.feature.shape.kind shape.kind k.kind))
-  where
-    other_last : same_kind k.feature.shape.kind shape.kind ≡ false → refusal_of s (Change editor h shape) ≡ Some WrongKind
-    other_last e = rw (open, k.live, e) refl
-refused_change s editor h shape fault.HandlesSpent open k m = absurd k
-refused_change s editor h shape fault.NoMemory open k m = absurd (m refl)
+refused_change s editor h shape fault.NoClass opened k m = absurd k
+refused_change s editor h shape fault.NoFeature opened k m = rw (opened, k) refl
+refused_change s editor h shape fault.WrongKind opened k m = rw (opened, k.live, other_kind k.feature.shape.kind shape.kind k.kind) refl
+refused_change s editor h shape fault.HandlesSpent opened k m = absurd k
+refused_change s editor h shape fault.NoMemory opened k m = absurd (m refl)
 
 pub may_change : (s : State) (editor : List ℕ) (h : ℕ) (shape : Shape) (f : Feature) (new : Project) → is_open s editor ≡ true → IsChanged h shape f s.project new → refusal_of s (Change editor h shape) ≡ None
-may_change s editor h shape f new open k = rw (open, k.was, k.kind, own_kind f.shape.kind) refl
+may_change s editor h shape f new opened k = rw (opened, k.was, k.kind, own_kind f.shape.kind) refl
 
 pub refused_delete : (s : State) (editor : List ℕ) (h : ℕ) (e : ChangeFault) → is_open s editor ≡ true → IsDeleteRefusal s.project h e → e ≢ fault.NoMemory → refusal_of s (Delete editor h) ≡ Some (change_refusal e)
-refused_delete s editor h fault.NoFeature open k m = rw (open, k) refl
-refused_delete s editor h fault.NoMemory open k m = absurd (m refl)
-refused_delete s editor h fault.NoClass open k m = absurd k
-refused_delete s editor h fault.WrongKind open k m = absurd k
-refused_delete s editor h fault.HandlesSpent open k m = absurd k
+refused_delete s editor h fault.NoFeature opened k m = rw (opened, k) refl
+refused_delete s editor h fault.NoMemory opened k m = absurd (m refl)
+refused_delete s editor h fault.NoClass opened k m = absurd k
+refused_delete s editor h fault.WrongKind opened k m = absurd k
+refused_delete s editor h fault.HandlesSpent opened k m = absurd k
 
 pub may_delete : (s : State) (editor : List ℕ) (h : ℕ) (f : Feature) (new : Project) → is_open s editor ≡ true → IsDeleted h f s.project new → refusal_of s (Delete editor h) ≡ None
-may_delete s editor h f new open k = rw (open, k.was) refl
+may_delete s editor h f new opened k = rw (opened, k.was) refl

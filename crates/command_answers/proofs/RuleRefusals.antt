@@ -79,23 +79,24 @@ has_row row q = is_row q.row row
 
 pub nowhere : (row : Row) (rs : List InForce) → IsNowhere rs row → list_any (λ (q : InForce). is_row q.row row) rs ≡ false
 nowhere row [] h = refl
-nowhere row (q ∷ rs) h = by (is_row q.row row) refl
+nowhere row (q ∷ rs) h = by (is_row q.row row) refl (nowhere row rs h.1)
   where
-    by : (t : Bool) → is_row q.row row ≡ t → list_any (λ (q : InForce). is_row q.row row) (q ∷ rs) ≡ false
-    by true e = absurd (h.0 (same_row q.row row e))
-    by false e = rw e (nowhere row rs h.1)
+    by : (t : Bool) → is_row q.row row ≡ t → list_any (λ (q : InForce). is_row q.row row) rs ≡ false → list_any (λ (q : InForce). is_row q.row row) (q ∷ rs) ≡ false
+    by true e rest = absurd (h.0 (same_row q.row row e))
+    by false e rest = rw e rest
+
+true_last : (t : Bool) → (t || true) ≡ true
+true_last true = refl
+true_last false = refl
 
 pub somewhere : (row : Row) (rs : List InForce) (n : ℕ) → rule_at rs n ≡ Some row → list_any (λ (q : InForce). is_row q.row row) rs ≡ true
 unfolding rule_at
 somewhere row [] n e = absurd cc
-somewhere row (q ∷ rs) n e = by (q.number == n) refl
+somewhere row (q ∷ rs) n e = by (q.number == n) refl (somewhere row rs n)
   where
-    true_last : (t : Bool) → (t || true) ≡ true
-    true_last true = refl
-    true_last false = refl
-    by : (t : Bool) → (q.number == n) ≡ t → list_any (λ (q : InForce). is_row q.row row) (q ∷ rs) ≡ true
-    by true t = let same : q.row ≡ row = (let f = rw t at e in cc) in rw (same, own_row row) refl
-    by false t = rw (somewhere row rs n (rw t at e)) (true_last (is_row q.row row))
+    by : (t : Bool) → (q.number == n) ≡ t → (rule_at rs n ≡ Some row → list_any (λ (q : InForce). is_row q.row row) rs ≡ true) → list_any (λ (q : InForce). is_row q.row row) (q ∷ rs) ≡ true
+    by true t rest = let same : q.row ≡ row = (let f = rw t at e in cc) in rw (same, own_row row) refl
+    by false t rest = rw (rest (rw t at e)) (true_last (is_row q.row row))
 
 -- ---- the refusals
 pub refused_rule : (s : State) (k : RuleKind) (origin : List ℕ) (dest : Option (List ℕ)) (e : RuleFault) → is_built k ≡ true → lacks_class s.project k origin dest ≡ false → IsRuleRefusal s.project (row_of s.project k origin dest) e → e ≢ fault.NoMemory → refusal_of s (Rule k origin dest) ≡ Some (rule_refusal e)

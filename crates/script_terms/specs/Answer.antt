@@ -2,7 +2,7 @@
 --
 -- IsDone old c reply new  the command is done: this is the reply, and this is what it leaves
 -- Answers old c reply new     refused with the state as it was, or done
--- ProjectIs old p new     the project is p now, and the session stays
+-- IsClassed, IsRuled, IsUnruled, IsBegun, IsAdded     what a line of each kind leaves
 -- IsAltered h after old new   an edit that gives no new handle: the feature is set so, or taken away
 --
 -- What is not named stays. Source: editing and validation of a geodatabase topology (Esri).
@@ -10,6 +10,7 @@ use Rattle.std.specs.Prelude.{◌≡◌, ℕ, ◌+◌, List, [], ◌∷◌, ◌+
 use Rattle.plane_terms.specs.Lists.{IsThose}
 use Rattle.plane_terms.specs.Rectangle.{Rectangle}
 use Rattle.plane_terms.specs.Shape.{Shape}
+use Rattle.plane_terms.specs.declared.kind.Kind.{Kind}
 use Rattle.topology_terms.specs.Feature.{Feature, feature_at}
 use Rattle.topology_terms.specs.Broken.{Row}
 use Rattle.topology_terms.specs.Poster.{poster}
@@ -24,8 +25,14 @@ use Rattle.script_terms.specs.Reply.{Reply, Nothing, Done, Number, Judged, Refus
 use Rattle.script_terms.specs.State.{State}
 use Rattle.script_terms.specs.Refusing.{number_or_0, row_of, refusal_of}
 
-pub record ProjectIs (old : State) (p : Project) (new : State) : Type 0 where
-  pub project : new.project ≡ p
+-- a class of this name and kind comes last
+pub record IsClassed (name : List ℕ) (k : Kind) (old new : State) : Type 0 where
+  pub classes : new.project.classes ≡ old.project.classes ++ record { name = name; kind = k } ∷ []
+  pub rules : new.project.rules ≡ old.project.rules
+  pub features : new.project.features ≡ old.project.features
+  pub next : new.project.next ≡ old.project.next
+  pub dirt : new.project.dirt ≡ old.project.dirt
+  pub entries : new.project.entries ≡ old.project.entries
   pub editor : new.editor ≡ old.editor
 
 pub record IsSame (old new : State) : Type 0 where
@@ -73,7 +80,7 @@ pub record IsValidation (w : Rectangle) (old new : Project) (judged errors dirty
 
 abbrev pub IsDone : State → Command → Reply → State → Type 0
 IsDone old Blank reply new = (reply ≡ Nothing) × IsSame old new
-IsDone old (AClass name k) reply new = (reply ≡ Number (length old.project.classes + 1)) × ProjectIs old (record old.project { classes = old.project.classes ++ record { name = name; kind = k } ∷ [] }) new
+IsDone old (AClass name k) reply new = (reply ≡ Number (length old.project.classes + 1)) × IsClassed name k old new
 IsDone old (Rule k origin dest) reply new = (n : ℕ) × (reply ≡ Number n) × IsRuled (row_of old.project k origin dest) n old new
 IsDone old (DropRule r) reply new = (reply ≡ Done) × IsUnruled r old new
 IsDone old (Begin editor) reply new = (reply ≡ Done) × IsBegun editor old new

@@ -5,7 +5,7 @@ ghost use Rattle.topology_terms.specs.Lookups.{class_number, least_free};
 ghost use Rattle.topology_terms.specs.Changes.{IsRuleAdded};
 ghost use Rattle.topology.specs.RuleSteps.{MayAdd, IsRuleRefusal};
 ghost use Rattle.feature_store.specs.Keeps.{IsOfClass, IsStore};
-ghost use Rattle.topology.specs.Topologies.{IsKeptUnder};
+ghost use Rattle.topology.specs.Topologies.{IsKeptUnder, IsTopology};
 ghost use Rattle.topology.specs.Steps.{IsClassMore, IsClassRefusal, IsFeatureMore, IsAddRefusal, IsExchanged, IsChanged, IsChangeRefusal, IsDeleted, IsDeleteRefusal, IsCounted};
 
 use crate::fault::ChangeFault;
@@ -86,6 +86,14 @@ impl<R: KindRules> Topology<R> {
     /// The law that rules, features and entries stand in the order of their keys, below the next handle.
     pub fn order_law(&self)
         ensures { IsOrdered self.now }
+    {
+        let _ = &self.store;
+    }
+
+    /// The law of what every topology keeps: classes and features as a store keeps them, rules by number and at most 256,
+    /// errors by key, each of a rule in force.
+    pub fn topology_law(&self)
+        ensures { IsTopology self.now }
     {
         let _ = &self.store;
     }
