@@ -1,11 +1,5 @@
 pub mod Endings
-pub mod Forms
-pub mod Listings
-pub mod Numbers
-pub mod Points
-pub mod Readings
 pub mod Runs
 pub mod Stepping
 pub mod Texts
-pub mod Windows
 pub mod Words

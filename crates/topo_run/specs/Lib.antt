@@ -1,9 +1,3 @@
-pub mod Commands
-pub mod Ends
-pub mod Grammar
-pub mod Numbers
 pub mod Reads
-pub mod Replies
+pub mod Ends
 pub mod Stops
-pub mod Windows
-pub mod Worlds

@@ -1,4 +1,4 @@
-ghost use Rattle.std.specs.Prelude.{◌≡◌, ◌≤◌, ◌++◌, ◌||◌, ℕ, List, string_bytes, IfOk, OnOk, OnErr, IsErrOf};
+ghost use Rattle.std.specs.Prelude.{◌≡◌, ◌≤◌, ◌++◌, ◌||◌, ℕ, List, IfOk, OnOk, OnErr, IsErrOf};
 ghost use Rattle.std.specs.Io.KnownBytes.{Appends};
 ghost use Rattle.text_terms.specs.Lines.{lines_of};
 ghost use Rattle.script_terms.specs.State.{empty_state};
@@ -12,10 +12,10 @@ use crate::answer::answer_line;
 use crate::lines::split_line;
 use crate::read::read_script;
 use crate::status::{Status, is_at_end, status_of};
-use crate::world::World;
 use crate::write::write_all;
+use command_answers::World;
+use grid_plane::NoMemory;
 use std::alloc::Global;
-use topo_core::NoMemory;
 use topo_outside::{Sink, SinkFault, Source};
 
 // So many bytes of replies are gathered before they are written.
@@ -54,16 +54,16 @@ fn either(a: bool, b: bool) -> bool
 }
 
 // Writes the replies that are gathered, where they are many; what is left of them is gathered still.
-fn write_if_many<K: Sink>(sink: &mut K, gathered: &mut String) -> Result<(), SinkFault>
-    ensures ok { OnOk result ((front : List ℕ) × (string_bytes gathered.old ≡ front ++ string_bytes gathered.new) × Appends (K.written sink.old) (K.written sink.new) front) }
-    ensures err { OnErr result ((front : List ℕ) × IsPrefix front (string_bytes gathered.old) × Appends (K.written sink.old) (K.written sink.new) front) }
+fn write_if_many<K: Sink>(sink: &mut K, gathered: &mut Vec<u8>) -> Result<(), SinkFault>
+    ensures ok { OnOk result ((front : List ℕ) × (gathered.old.items ≡ front ++ gathered.new.items) × Appends (K.written sink.old) (K.written sink.new) front) }
+    ensures err { OnErr result ((front : List ℕ) × IsPrefix front (gathered.old.items) × Appends (K.written sink.old) (K.written sink.new) front) }
     ensures later { K.faults sink.old ≤ K.faults sink.new }
     ensures failed { IsErrOf result SinkFault.Failed → Rose (K.faults sink.old) (K.faults sink.new) }
 {
     if gathered.len() < GATHERED {
         return Ok(());
     }
-    write_all(sink, gathered.as_bytes())?;
+    write_all(sink, gathered)?;
     gathered.clear();
     Ok(())
 }
@@ -76,16 +76,17 @@ fn answer_all<K: Sink>(alloc: Global, text: &[u8], whole: bool, sink: &mut K) ->
     ensures failed { IsErrOf result Stop.Write → Rose (K.faults sink.old) (K.faults sink.new) }
 {
     let mut world = World::new(alloc);
-    let mut gathered = String::new(alloc);
+    world.headline_law();
+    let mut gathered = Vec::new(alloc);
     let mut refused = false;
     let mut rest = text;
     while let Some((line, after)) = split_line(rest, whole) {
-        let bad = answer_line(&mut world, line, &mut gathered)?;
+        let bad = answer_line(alloc, &mut world, line, &mut gathered)?;
         write_if_many(sink, &mut gathered)?;
         refused = either(refused, bad);
         rest = after;
     }
-    write_all(sink, gathered.as_bytes())?;
+    write_all(sink, gathered)?;
     Ok(refused)
 }
 

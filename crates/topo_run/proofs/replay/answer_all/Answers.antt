@@ -4,7 +4,7 @@ use Rattle.topo_run.proofs.replay.answer_all.Goals as goal
 
 pub loop-line-init : goal.loop-line-init
 loop-line-init g c = record {
-  far = rw (c.new-world.ensures, c.new-gathered.ensures.bytes) (begins _ _ _);
+  far = rw (c.new-world.ensures, c.new-gathered.ensures.bytes) (begins _ _ _ c.headline_law.ensures.headline);
   later = omega arith;
 }
 
