@@ -1,4 +1,7 @@
 mod Elements
+mod Filters
+mod Spots
+mod Nearby
 mod Lookups
 mod CellFrames
 mod Settled

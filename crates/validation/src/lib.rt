@@ -2,9 +2,11 @@
 #![tactic(auto)]
 
 mod frame;
+mod index;
 mod judge;
 mod lookup;
 mod near;
+mod once;
 mod selection;
 mod window;
 

@@ -9,6 +9,7 @@ ghost use Rattle.dirty_area.specs.Parts.{MeetsPart};
 ghost use Rattle.validation_steps.specs.Parts.{IsRising};
 ghost use Rattle.validation_steps.specs.Picked.{ArePicked};
 
+use crate::once::once_each;
 use dirty_area::Dirt;
 use error_entries::{Entry, Errors};
 use grid_plane::{Handles, NoMemory, Rect};
@@ -64,14 +65,6 @@ fn handles_of(alloc: Global, found: &[u32]) -> Result<Handles, NoMemory>
         handles.push(*handle)?;
     }
     Ok(handles)
-}
-
-fn once_each(found: &mut Vec<u32>)
-    ensures ascending { IsStrictlyIncreasing found.new.items }
-    ensures same { (a : ℕ) → Contains found.new.items a ↔ Contains found.old.items a }
-{
-    found.sort_unstable();
-    found.dedup();
 }
 
 /// The handles that the window and the dirt select: of live features by their envelope, and of subjects of errors by the
