@@ -2,6 +2,7 @@ mod Elements
 mod Filters
 mod Spots
 mod Nearby
+mod Dirtied
 mod Lookups
 mod CellFrames
 mod Settled

@@ -73,7 +73,7 @@ place_some P [] x k l e p = absurd (omega arith)
 place_some P (y ∷ ys) x zero l e p = inl (subst P (sym e) p)
 place_some P (y ∷ ys) x (suc k) l e p = inr (place_some P ys x k (omega arith) e p)
 
-some_moved : {X : Type 0} (P : X → Type 0) (xs ys : List X) → IsPermutation xs ys → SomeOf P xs → SomeOf P ys
+pub some_moved : {X : Type 0} (P : X → Type 0) (xs ys : List X) → IsPermutation xs ys → SomeOf P xs → SomeOf P ys
 some_moved P xs ys m h =
     let y = some_place P xs h in
     let c = Contains-permutation xs ys y.0 m y.1 in
