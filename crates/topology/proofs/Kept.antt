@@ -6,7 +6,7 @@ use Rattle.plane_terms.specs.Lists.{Every}
 use Rattle.plane_terms.specs.Rectangle.{Rectangle, IsRectangle}
 use Rattle.plane_terms.specs.declared.kind.Kind.{Kind}
 use Rattle.topology_terms.specs.Feature.{Class, Feature, env}
-use Rattle.topology_terms.specs.Broken.{origin_kind, dest_kind}
+use Rattle.rule_core.specs.Table.{origin_of, dest_of}
 use Rattle.topology_terms.specs.Meaning.{Meaning, Laws, CutsRight}
 use Rattle.topology_terms.specs.Entry.{Entry, entry_at}
 use Rattle.topology_terms.specs.Entry as entries
@@ -78,7 +78,7 @@ dest_end cs d n (Some k) h = kind_end cs d n k h
 kinds_end : (cs : List Class) (d : Class) (rules : List InForce) → Every (λ (q : InForce). HasKinds cs q.row) rules → Every (λ (q : InForce). HasKinds (cs ++ d ∷ []) q.row) rules
 kinds_end cs d [] h = tt
 kinds_end cs d (q ∷ rules) h = (
-  record { origin = kind_end cs d q.row.origin.class (origin_kind q.row.kind) h.0.origin; dest = dest_end cs d q.row.dest.class (dest_kind q.row.kind) h.0.dest },
+  record { origin = kind_end cs d q.row.origin.class (origin_of q.row.kind) h.0.origin; dest = dest_end cs d q.row.dest.class (dest_of q.row.kind) h.0.dest },
   kinds_end cs d rules h.1,
 )
 
@@ -118,7 +118,7 @@ class_kept M d old new i k = record { sound = class_sound M d old new i k.sound;
 -- ---- a validation
 pub validated_keeps : (M : Meaning) → CutsRight M → TakesKinds M → (w : Rectangle) (old new : Project) → IsTopology old → IsValidatedBy M w old new → entries.IsAscending new.entries → IsTopology new
 validated_keeps M C K w old new t i order =
-    let v = parts_kept_valid M C w old new i (valid M K old t) in
+    let v = parts_kept_valid M C w old new i (valid M K old t) t.store.ascending in
     record {
       store = rw (i.classes, i.features, i.next) t.store;
       rules = rw i.rules t.rules;
@@ -132,6 +132,6 @@ validated_keeps M C K w old new t i order =
 
 pub validated_kept : (M : Meaning) → Laws M → CutsRight M → TakesKinds M → (w : Rectangle) (old new : Project) → IsTopology old → IsValidatedBy M w old new → IsKeptUnder M old → IsKeptUnder M new
 validated_kept M L C K w old new t i k = record {
-  sound = parts_kept_sound M L C w old new i (valid M K old t) k.sound;
-  settled = parts_kept_settled M L C w old new i (valid M K old t) k.settled;
+  sound = parts_kept_sound M L C w old new i (valid M K old t) t.store.ascending k.sound;
+  settled = parts_kept_settled M L C w old new i (valid M K old t) t.store.ascending k.settled;
 }

@@ -53,8 +53,8 @@ rule_keeps n row s rules more d e es free m t kinds =
     }
 
 pub rule_kept : (M : Meaning) → Laws M → TakesKinds M → (n : ℕ) (row : Row) (old new : Project)
-    → IsTopology old → IsRuleAdded n row old new → IsKeptUnder M old → IsKeptUnder M new
-rule_kept M L K n row old new t i k = record {
-  sound = add_rule_sound M L n row old new (valid M K old t) i k.sound;
+    → IsTopology old → IsTopology new → IsRuleAdded n row old new → IsKeptUnder M old → IsKeptUnder M new
+rule_kept M L K n row old new t u i k = record {
+  sound = add_rule_sound M L n row old new (valid M K old t) (valid M K new u) i k.sound;
   settled = add_rule_settled M n row old new (valid M K old t) i k.settled;
 }

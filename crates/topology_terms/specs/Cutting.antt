@@ -1,7 +1,8 @@
 -- How the points where a rule is broken are cut into cells, rule by rule.
 --
--- IsCutting row F a xs     xs are the findings for the subject a, in their one order and their one list of cells
--- near A f F       the features of the side whose envelope meets the subject's, but the subject itself, in the order of F, which ascends
+-- IsCutting row F a xs     xs are the findings for the subject a, in their one order and their one list of cells; none for one that the row does not judge
+-- cutting_by       the findings for a subject that is judged, by the rule's sentence
+-- near A f F       the features of the side whose envelope meets the subject's, in the order of F, which ascends; with the subject itself, where it is of the side
 -- near_after A f F     of those, the ones whose handle is above the subject's
 -- inside f         the cells of a polygon's inside
 -- overlap_cells f g    the cells of what is inside both
@@ -11,7 +12,7 @@
 -- A list made of cells alone is a function: a test tells the empty ones. Where a place is chosen by the rule's sentence, the
 -- sentence itself decides, and the cutting is a relation (`IsThose`). A rule that has no sentence yet has no findings.
 -- Source: own.
-use Rattle.std.specs.Prelude.{◌≡◌, ℕ, nat_lt, ◌==◌, false, not, ◌&&◌, List, [], ◌∷◌, map, filter, flat_map, Option, None, Some}
+use Rattle.std.specs.Prelude.{◌≡◌, ℕ, nat_lt, Bool, true, false, ◌&&◌, List, [], ◌∷◌, map, filter, flat_map, Option, None, Some}
 use Rattle.plane_terms.specs.Lists.{IsThose}
 use Rattle.plane_terms.specs.Point.{Place, Point, IsAt}
 use Rattle.plane_terms.specs.Rectangle.{rects_meet}
@@ -19,13 +20,13 @@ use Rattle.plane_terms.specs.Cell.{Cell, at_place}
 use Rattle.plane_terms.specs.Carve.{carve_of}
 use Rattle.plane_terms.specs.Columns.{inside_cells}
 use Rattle.topology_terms.specs.Feature.{Feature, Side, is_on_side, feature_at, sides, place, env}
-use Rattle.topology_terms.specs.Broken.{Row, BrokenAt}
+use Rattle.topology_terms.specs.Broken.{Row, BrokenAt, judges_test}
 use Rattle.topology_terms.specs.Meaning.{Finding}
 use Rattle.topology_terms.specs.Sentences.{Sentence, sentence_of}
 use Rattle.topology_terms.specs.Sentences as sentence
 
 abbrev pub near : Side → Feature → List Feature → List Feature
-near A f F = filter (λ (g : Feature). is_on_side A g && (rects_meet (env f) (env g) && not (g.handle == f.handle))) F
+near A f F = filter (λ (g : Feature). is_on_side A g && rects_meet (env f) (env g)) F
 
 abbrev pub near_after : Side → Feature → List Feature → List Feature
 near_after A f F = filter (λ (g : Feature). nat_lt f.handle g.handle) (near A f F)
@@ -62,5 +63,10 @@ cutting_by (Some sentence.PolygonMustNotOverlap) row F f xs = xs ≡ pair_findin
 cutting_by (Some sentence.PolygonMustNotOverlapWith) row F f xs = xs ≡ pair_findings (overlap_cells f) (near row.dest f F)
 cutting_by (Some sentence.PointMustBeDisjoint) row F f xs = AreBrokenPairs row F f (near_after row.origin f F) xs
 
+-- by whether the subject is judged
+abbrev pub cutting_if : Bool → Row → List Feature → Feature → List Finding → Type 0
+cutting_if true row F f xs = cutting_by (sentence_of row.kind) row F f xs
+cutting_if false row F f xs = xs ≡ []
+
 unfoldable pub IsCutting : Row → List Feature → ℕ → List Finding → Type 0
-IsCutting row F a xs = (f : Feature) × (feature_at F a ≡ Some f) × cutting_by (sentence_of row.kind) row F f xs
+IsCutting row F a xs = (f : Feature) × (feature_at F a ≡ Some f) × cutting_if (judges_test row f) row F f xs

@@ -7,7 +7,7 @@ use Rattle.plane_terms.specs.Lists.{Every}
 use Rattle.plane_terms.specs.Point.{Point}
 use Rattle.plane_terms.specs.Rectangle.{Rectangle, RectHolds, IsWithin, IsRectangle, whole_grid, join_of}
 use Rattle.plane_terms.specs.Cell.{Cell, InCell, InCells, IsLeastFrame}
-use Rattle.topology_terms.specs.Feature.{Feature, feature_at, env}
+use Rattle.topology_terms.specs.Feature.{Feature, feature_at, env, IsAscending}
 use Rattle.topology_terms.specs.Broken.{Row}
 use Rattle.topology_terms.specs.Meaning.{Meaning, Laws, CutsRight, Finding, finding_at}
 use Rattle.sound_steps.proofs.Planes.{within_Holds}
@@ -49,13 +49,13 @@ every_cell Q [] h = tt
 every_cell Q (c ∷ cs) h = ((λ p k. h p (inl k)), every_cell Q cs (λ p k. h p (inr k)))
 
 pub framable : (M : Meaning) → Laws M → CutsRight M → (row : Row) (F : List Feature) (a : ℕ) (f : Feature) (xs : List Finding)
-    → M.Fits row F → feature_at F a ≡ Some f → IsRectangle (env f) → M.IsCutting row F a xs → AreInOrder xs → Every IsFramable xs
-framable M L C row F a f xs fits e r cut order =
-    let right = C.right row F a f fits e xs cut in
+    → IsAscending F → M.Fits row F → feature_at F a ≡ Some f → IsRectangle (env f) → M.IsCutting row F a xs → AreInOrder xs → Every IsFramable xs
+framable M L C row F a f xs u fits e r cut order =
+    let right = C.right row F a f u fits e xs cut in
     each_found IsFramable xs order (λ b x k. record {
       some = right.some b x k;
       points = right.have_points b x k;
-      on_grid = λ w. every_cell (λ p. RectHolds whole_grid p) x.cells (λ p c. within_Holds (env f) whole_grid r.on_grid p (in_envelope M L row F a b f p e ((right.points b x k w p).0 c)));
+      on_grid = λ w. every_cell (λ p. RectHolds whole_grid p) x.cells (λ p c. within_Holds (env f) whole_grid r.on_grid p (in_envelope M L row F a b f p fits e ((right.points b x k w p).0 c)));
     })
 
 -- ---- frames

@@ -2,7 +2,7 @@
 use Rattle.std.proofs.Common.{◌≡◌, ◌↔◌, inl, inr, ℕ, List, [], None, refl, ◌∙◌, Contains}
 use Rattle.plane_terms.specs.Rectangle.{Rectangle}
 use Rattle.plane_terms.specs.Dirt.{cut_dirt}
-use Rattle.topology_terms.specs.Feature.{feature_at}
+use Rattle.topology_terms.specs.Feature.{feature_at, IsAscending}
 use Rattle.topology_terms.specs.Meaning.{Meaning, Laws, CutsRight, finding_at}
 use Rattle.topology_terms.specs.Entry.{Entry, entry_at}
 use Rattle.topology_terms.specs.Project.{Project, IsProject, AreAscending, rule_at}
@@ -73,11 +73,11 @@ validated_by_parts M w old new selected fresh v u rest made = record {
 }
 
 -- ---- what it keeps
-pub parts_kept_valid : (M : Meaning) → CutsRight M → (w : Rectangle) (old new : Project) → IsValidatedBy M w old new → IsProject M old → IsProject M new
-parts_kept_valid M C w old new i v = validated_state M w old new v (validated_by_cut M C w old new v i)
+pub parts_kept_valid : (M : Meaning) → CutsRight M → (w : Rectangle) (old new : Project) → IsValidatedBy M w old new → IsProject M old → IsAscending old.features → IsProject M new
+parts_kept_valid M C w old new i v u = validated_state M w old new v (validated_by_cut M C w old new v u i)
 
-pub parts_kept_sound : (M : Meaning) → Laws M → CutsRight M → (w : Rectangle) (old new : Project) → IsValidatedBy M w old new → IsProject M old → IsSoundUnder M old → IsSoundUnder M new
-parts_kept_sound M L C w old new i v s = validated_sound M L w old new v (validated_by_cut M C w old new v i) s
+pub parts_kept_sound : (M : Meaning) → Laws M → CutsRight M → (w : Rectangle) (old new : Project) → IsValidatedBy M w old new → IsProject M old → IsAscending old.features → IsSoundUnder M old → IsSoundUnder M new
+parts_kept_sound M L C w old new i v u s = validated_sound M L w old new v (validated_by_cut M C w old new v u i) s
 
-pub parts_kept_settled : (M : Meaning) → Laws M → CutsRight M → (w : Rectangle) (old new : Project) → IsValidatedBy M w old new → IsProject M old → IsSettledUnder M old → IsSettledUnder M new
-parts_kept_settled M L C w old new i v s = validated_settled M L C w old new v i s
+pub parts_kept_settled : (M : Meaning) → Laws M → CutsRight M → (w : Rectangle) (old new : Project) → IsValidatedBy M w old new → IsProject M old → IsAscending old.features → IsSettledUnder M old → IsSettledUnder M new
+parts_kept_settled M L C w old new i v u s = validated_settled M L C w old new v u i s

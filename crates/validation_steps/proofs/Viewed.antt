@@ -23,9 +23,9 @@ around F V f p v k = record { forth = λ h g e m. (v.forth h g e).0; back = λ h
 pub subject_seen : (F V : List Feature) (a : ℕ) (f : Feature) → feature_at F a ≡ Some f → IsView F f V → feature_at V a ≡ Some f
 subject_seen F V a f e v = let held = holds_corner (env f) (envelope_proper f.shape) in v.back a f e (corner (env f), held, held)
 
-pub in_envelope : (M : Meaning) → Laws M → (row : Row) (F : List Feature) (a b : ℕ) (f : Feature) (p : Point) → feature_at F a ≡ Some f → M.BrokenAt row F a b p → RectHolds (env f) p
-in_envelope M L row F a b f p e k =
-    let y = L.inside row F a b p k in
+pub in_envelope : (M : Meaning) → Laws M → (row : Row) (F : List Feature) (a b : ℕ) (f : Feature) (p : Point) → M.Fits row F → feature_at F a ≡ Some f → M.BrokenAt row F a b p → RectHolds (env f) p
+in_envelope M L row F a b f p u e k =
+    let y = L.inside row F a b p u k in
     let same : y.0 ≡ f = (let l = y.1 in cc) in
     rw same at y.2
 
@@ -37,8 +37,8 @@ module _ (M : Meaning) (L : Laws M) (row : Row) (F V : List Feature) (a : ℕ) (
   -- broken at the same points, with the same partners
   pub view_at : (b : ℕ) (p : Point) → M.BrokenAt row V a b p ↔ M.BrokenAt row F a b p
   view_at b p = (
-    (λ k. L.point row V F a b p w u (around F V f p v (in_envelope M L row V a b f p (subject_seen F V a f e v) k)) k),
-    (λ k. L.point row F V a b p u w (agree_back (λ g. RectHolds (env g) p) V F (around F V f p v (in_envelope M L row F a b f p e k))) k),
+    (λ k. L.point row V F a b p w u (around F V f p v (in_envelope M L row V a b f p w (subject_seen F V a f e v) k)) k),
+    (λ k. L.point row F V a b p u w (agree_back (λ g. RectHolds (env g) p) V F (around F V f p v (in_envelope M L row F a b f p u e k))) k),
   )
 
   -- broken as a whole

@@ -44,7 +44,7 @@ add_findings-requires g c =
     let fits = view_fits M g.met.R.RuleSet.views c.args.rule.now.row F V f v c.requires.fits in
     let cut = rw (row, c.handle.ensures) at c.in_ok-findings.ensures.cut in
     let proper : IsRectangle (env f) = rw (c.env.ensures, c.shape.ensures) at c.corner_law.ensures in
-    rw c.into_list.ensures.list (framable M L g.met.R.RuleSet.right c.args.rule.now.row V f.handle f c.in_ok-findings.findings fits (subject_seen F V f.handle f c.requires.live v) proper cut c.into_list.ensures.order)
+    rw c.into_list.ensures.list (framable M L g.met.R.RuleSet.right c.args.rule.now.row V f.handle f c.in_ok-findings.findings v.ascending fits (subject_seen F V f.handle f c.requires.live v) proper cut c.into_list.ensures.order)
 
 pub returns-clause-part : goal.returns-clause-part
 returns-clause-part g c =

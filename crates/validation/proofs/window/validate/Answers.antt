@@ -15,13 +15,13 @@ returns-clause-step g c = λ p h.
     h c.requires.rules c.in_ok-selected.ensures.rising (λ a. c.in_ok-selected.ensures.chosen p h.features h.dirt h.entries a) c.in_ok-fresh.ensures.judging c.in_ok-replace.ensures.replaced cut
 
 pub returns-clause-valid : goal.returns-clause-valid
-returns-clause-valid g c = λ p h v. parts_kept_valid g.R.RuleSet.meaning g.met.R.RuleSet.right c.args.window.now p (with_parts p c.cut.new.self c.replace.new.self) (returns-clause-step g c p h) v
+returns-clause-valid g c = λ p h v. parts_kept_valid g.R.RuleSet.meaning g.met.R.RuleSet.right c.args.window.now p (with_parts p c.cut.new.self c.replace.new.self) (returns-clause-step g c p h) v (rw h.features c.requires.features)
 
 pub returns-clause-sound : goal.returns-clause-sound
-returns-clause-sound g c = λ p h v s. parts_kept_sound g.R.RuleSet.meaning g.met.R.RuleSet.laws g.met.R.RuleSet.right c.args.window.now p (with_parts p c.cut.new.self c.replace.new.self) (returns-clause-step g c p h) v s
+returns-clause-sound g c = λ p h v s. parts_kept_sound g.R.RuleSet.meaning g.met.R.RuleSet.laws g.met.R.RuleSet.right c.args.window.now p (with_parts p c.cut.new.self c.replace.new.self) (returns-clause-step g c p h) v (rw h.features c.requires.features) s
 
 pub returns-clause-settled : goal.returns-clause-settled
-returns-clause-settled g c = λ p h v s. parts_kept_settled g.R.RuleSet.meaning g.met.R.RuleSet.laws g.met.R.RuleSet.right c.args.window.now p (with_parts p c.cut.new.self c.replace.new.self) (returns-clause-step g c p h) v s
+returns-clause-settled g c = λ p h v s. parts_kept_settled g.R.RuleSet.meaning g.met.R.RuleSet.laws g.met.R.RuleSet.right c.args.window.now p (with_parts p c.cut.new.self c.replace.new.self) (returns-clause-step g c p h) v (rw h.features c.requires.features) s
 
 pub returns-clause-judged : goal.returns-clause-judged
 returns-clause-judged g c = λ p h. (

@@ -14,7 +14,7 @@ returns-clause-ok g c = rw (← c.self.view_is) (
 )
 
 pub returns-clause-kept : goal.returns-clause-kept
-returns-clause-kept g c = λ k. rule_kept g.R.RuleSet.meaning g.met.R.RuleSet.laws g.met.R.KindRules.kinds c.free_number-number.result c.args.row _ _ c.self.invariant (rule_added c.free_number-number.result c.args.row c.self.inside.store c.self.inside.rules.items c.put_rule.new.rules.items c.self.inside.dirt c.in_ok-dirt.dirt c.self.inside.entries (rw c.deref-2.ensures.value at c.free_number-number.ensures.free) c.in_ok-put_rule.ensures.ok (rw c.whole.ensures at c.in_ok-dirt.ensures)) (subst (IsKeptUnder g.R.RuleSet.meaning) (sym c.self.view_is) k)
+returns-clause-kept g c = λ k. rule_kept g.R.RuleSet.meaning g.met.R.RuleSet.laws g.met.R.KindRules.kinds c.free_number-number.result c.args.row _ _ c.self.invariant (invariant_of-self-2 g c) (rule_added c.free_number-number.result c.args.row c.self.inside.store c.self.inside.rules.items c.put_rule.new.rules.items c.self.inside.dirt c.in_ok-dirt.dirt c.self.inside.entries (rw c.deref-2.ensures.value at c.free_number-number.ensures.free) c.in_ok-put_rule.ensures.ok (rw c.whole.ensures at c.in_ok-dirt.ensures)) (subst (IsKeptUnder g.R.RuleSet.meaning) (sym c.self.view_is) k)
 
 pub returns-clause-ordered : goal.returns-clause-ordered
 returns-clause-ordered g c = ordered _ (invariant_of-self-2 g c)
