@@ -60,6 +60,15 @@ kept_twice s t (f ∷ F) = both (t f) (kept_twice s t F)
     both true e = same_pick (s f) (s f) f (filter s (filter t F)) (filter (λ g. t g && s g) F) refl e
     both false e = e
 
+-- what is kept passes
+pass_pick : (P : Feature → Type 0) (t : Feature → Bool) (b : Bool) (f : Feature) (F : List Feature) → t f ≡ b → P f → Every (λ (g : Feature). (t g ≡ true) × P g) F → Every (λ (g : Feature). (t g ≡ true) × P g) (cond b (f ∷ F) F)
+pass_pick P t true f F e p h = ((e, p), h)
+pass_pick P t false f F e p h = h
+
+pub kept_pass : (P : Feature → Type 0) (t : Feature → Bool) (F : List Feature) → Every P F → Every (λ (g : Feature). (t g ≡ true) × P g) (filter t F)
+kept_pass P t [] k = tt
+kept_pass P t (f ∷ F) k = pass_pick P t (t f) f (filter t F) refl k.0 (kept_pass P t F k.1)
+
 -- where a test decides, what it keeps are those
 those_pick : (P : Feature → Type 0) (b : Bool) (f : Feature) (F G : List Feature) → (b ≡ true → P f) → (P f → b ≡ true) → IsThose P F G → IsThose P (f ∷ F) (cond b (f ∷ G) G)
 those_pick P true f F G y n h = inl (y refl, (G, refl, h))
@@ -119,9 +128,13 @@ more cells test F i g b e t =
     ap (pair_findings cells) (filter_more test F i g (within F i g e) ∙ ap (λ gs. filter test (take i F) ++ gs) one) ∙ flat_map-append (λ (x : Feature). finding_of x.handle (cells x)) (filter test (take i F)) (cond b (g ∷ []) [])
 
 -- with a partner more
-pub found_more : (cells : Feature → List Cell) (test : Feature → Bool) (F : List Feature) (i : ℕ) (g : Feature) → slice_get F i ≡ Some g → test g ≡ true → pair_findings cells (filter test (take (i + 1) F)) ≡ pair_findings cells (filter test (take i F)) ++ finding_of g.handle (cells g)
-found_more cells test F i g e t = more cells test F i g true e t ∙ ap (λ xs. pair_findings cells (filter test (take i F)) ++ xs) (append-nil (finding_of g.handle (cells g)))
+pub found_more : (cells : Feature → List Cell) (test : Feature → Bool) (F : List Feature) (i : ℕ) (g : Feature) (found part new : List Finding) → slice_get F i ≡ Some g → test g ≡ true
+    → found ≡ pair_findings cells (filter test (take i F)) → part ≡ finding_of g.handle (cells g) → new ≡ found ++ part → new ≡ pair_findings cells (filter test (take (i + 1) F))
+found_more cells test F i g found part new e t h k n =
+    let m = more cells test F i g true e t ∙ ap (λ xs. pair_findings cells (filter test (take i F)) ++ xs) (append-nil (finding_of g.handle (cells g))) in
+    n ∙ (rw (h, k) refl ∙ sym m)
 
 -- with a feature more that is none
-pub found_same : (cells : Feature → List Cell) (test : Feature → Bool) (F : List Feature) (i : ℕ) (g : Feature) → slice_get F i ≡ Some g → test g ≡ false → pair_findings cells (filter test (take (i + 1) F)) ≡ pair_findings cells (filter test (take i F))
-found_same cells test F i g e t = more cells test F i g false e t ∙ append-nil (pair_findings cells (filter test (take i F)))
+pub found_same : (cells : Feature → List Cell) (test : Feature → Bool) (F : List Feature) (i : ℕ) (g : Feature) (found : List Finding) → slice_get F i ≡ Some g → test g ≡ false
+    → found ≡ pair_findings cells (filter test (take i F)) → found ≡ pair_findings cells (filter test (take (i + 1) F))
+found_same cells test F i g found e t h = h ∙ sym (more cells test F i g false e t ∙ append-nil (pair_findings cells (filter test (take i F))))
