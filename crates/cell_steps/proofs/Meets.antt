@@ -8,7 +8,7 @@ use Rattle.plane_terms.specs.Point.{Point}
 use Rattle.plane_terms.specs.HalfPlane.{HalfPlane, Holds}
 use Rattle.plane_terms.specs.declared.op.Op.{Op}
 use Rattle.plane_terms.specs.declared.op.Op.TheVariants.{Over, AtLeast, Zero}
-use Rattle.plane_terms.specs.Cell.{Cell, InCell, InCells, op_number, same_half, meet_of}
+use Rattle.plane_terms.specs.Cell.{Cell, InCell, InCells, HavePoints, op_number, same_half, meet_of}
 use Rattle.plane_terms.specs.Decide.{has_point}
 use Rattle.plane_terms.specs.Carve.{kept, carve_of}
 use Rattle.cell_steps.proofs.Lists.{all_append, some_append}
@@ -67,6 +67,14 @@ kept_points (c ∷ cs) p = by_cases (has_point c) refl (kept_points cs p)
     by_cases : (b : Bool) → has_point c ≡ b → InCells (kept cs) p ↔ InCells cs p → InCells (cond b (c ∷ kept cs) (kept cs)) p ↔ (InCell c p ⊎ InCells cs p)
     by_cases true e rest = (λ h. elim h [ inl a ↦ inl a | inr k ↦ inr (rest.0 k) ], λ h. elim h [ inl a ↦ inl a | inr k ↦ inr (rest.1 k) ])
     by_cases false e rest = (λ h. inr (rest.0 h), λ h. elim h [ inl a ↦ absurd (false≢true (sym e ∙ (has_point-true c).1 (p, a))) | inr k ↦ rest.1 k ])
+
+pub kept_have_points : (cs : List Cell) → HavePoints (kept cs)
+kept_have_points [] = tt
+kept_have_points (c ∷ cs) = by_cases (has_point c) refl (kept_have_points cs)
+  where
+    by_cases : (b : Bool) → has_point c ≡ b → HavePoints (kept cs) → HavePoints (cond b (c ∷ kept cs) (kept cs))
+    by_cases true e rest = ((has_point-true c).0 e, rest)
+    by_cases false e rest = rest
 
 met_points : (c : Cell) (ds : List Cell) (p : Point) → InCells (map {A = Cell} (meet_of c) ds) p ↔ (InCell c p × InCells ds p)
 met_points c [] p = (λ h. absurd h, λ h. h.1)

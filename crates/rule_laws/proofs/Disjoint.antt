@@ -1,38 +1,18 @@
 -- The laws of Must Be Disjoint, from its sentence.
-use Rattle.std.proofs.Common.{◌≡◌, ℕ, ℤ, ◌≤ℤ◌, arith, List, [], ◌∷◌, Some}
-use Rattle.std.specs.Int.{int_max, int_min}
+use Rattle.std.proofs.Common.{◌≡◌, ℕ, arith, List, [], ◌∷◌, Some}
 use Rattle.std.proofs.lemmas.Int.{ints}
 use Rattle.plane_terms.specs.Point.{Place, Point, IsAt}
-use Rattle.plane_terms.specs.Rectangle.{Rectangle, RectHolds, IsWithin, rect_at, join_of}
+use Rattle.plane_terms.specs.Rectangle.{RectHolds, rect_at}
 use Rattle.plane_terms.specs.Shape.{box_from, box_of_places, vertices_of, first_place, envelope_of}
 use Rattle.topology_terms.specs.Feature.{Feature, Side, feature_at, env, place, Agree}
 use Rattle.topology_terms.specs.Rules.PointMustBeDisjoint.{BrokenAt}
 use Rattle.topology_terms.specs.Cutting.{near_after}
 use Rattle.sound_steps.proofs.Planes.{within_Holds}
+use Rattle.rule_laws.proofs.Envelopes.{box_grows}
 use Rattle.rule_laws.proofs.Places.{place_one}
 use Rattle.sound_steps.proofs.Meetings.{meets_test}
 use Rattle.sound_steps.proofs.FeatureLists.{handle_of}
 use Rattle.rule_laws.proofs.Nears.{near_after_has}
-
-le_max : (a b : ℤ) → a ≤ℤ int_max a b
-le_max a b = grind (arith, ints)
-
-min_le : (a b : ℤ) → int_min a b ≤ℤ a
-min_le a b = grind (arith, ints)
-
-within_join : (r s : Rectangle) → IsWithin r (join_of r s)
-within_join r s = record { left = min_le r.x0 s.x0; right = le_max r.x1 s.x1; below = min_le r.y0 s.y0; above = le_max r.y1 s.y1 }
-
-within_trans : (r s t : Rectangle) → IsWithin r s → IsWithin s t → IsWithin r t
-within_trans r s t i j = record { left = omega (arith, ints, i.left, j.left); right = omega (arith, ints, i.right, j.right); below = omega (arith, ints, i.below, j.below); above = omega (arith, ints, i.above, j.above) }
-
-within_same : (r : Rectangle) → IsWithin r r
-within_same r = record { left = omega (arith, ints); right = omega (arith, ints); below = omega (arith, ints); above = omega (arith, ints) }
-
--- a box only grows
-box_grows : (r : Rectangle) (ps : List Place) → IsWithin r (box_from r ps)
-box_grows r [] = within_same r
-box_grows r (p ∷ ps) = within_trans r (join_of r (rect_at p)) (box_from (join_of r (rect_at p)) ps) (within_join r (rect_at p)) (box_grows (join_of r (rect_at p)) ps)
 
 pub at_held : (q : Place) (p : Point) → IsAt q p → RectHolds (rect_at q) p
 at_held q p i = record { left = omega (arith, ints, i.x); right = omega (arith, ints, i.x); below = omega (arith, ints, i.y); above = omega (arith, ints, i.y) }
@@ -89,6 +69,4 @@ pub disjoint_near : (A B : Side) (F : List Feature) (a b : ℕ) (f : Feature) (p
 disjoint_near A B F a b f p e h =
     let here = disjoint_at A B F a b f p e h in
     let meet = meets_test (env f) (env h.g) (p, place_held f p here, place_held h.g p h.b_at) in
-    let m = handle_of F a f e in
-    let n = handle_of F b h.g h.partner.live in
-    (h.g, near_after_has A f F b h.g h.partner.live h.partner.on_side meet (rw (m, n) h.first))
+    (h.g, near_after_has A f F b h.g h.partner meet (rw (handle_of F a f e) h.first))

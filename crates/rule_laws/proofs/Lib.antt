@@ -2,6 +2,9 @@ pub mod Those
 pub mod Places
 pub mod Nears
 pub mod Findings
+pub mod Envelopes
+pub mod Crossings
 pub mod Disjoint
+pub mod Overlaps
 pub mod Posters
 pub mod Views

@@ -1,18 +1,18 @@
 -- The features near a subject: the list depends on those alone whose envelope meets the subject's.
 use Rattle.std.proofs.Common.{◌≡◌, inl, inr, ℕ, ◌<◌, Bool, true, false, arith, refl, sym, ◌∙◌, ap, List, [], ◌∷◌, Option, Some, None}
-use Rattle.std.specs.Prelude.{cond, nat_lt, ◌==◌, ◌&&◌, not}
+use Rattle.std.specs.Prelude.{cond, nat_lt, ◌==◌, ◌&&◌}
 use Rattle.std.specs.List.{filter}
 use Rattle.std.proofs.lemmas.Bool.Decides.{nat_tests}
 use Rattle.plane_terms.specs.Rectangle.{RectsMeet, rects_meet}
-use Rattle.topology_terms.specs.Feature.{Feature, Side, IsOnSide, is_on_side, feature_at, env, Agree, IsAscending}
+use Rattle.topology_terms.specs.Feature.{Feature, Side, IsOf, is_on_side, feature_at, env, Agree, IsAscending}
 use Rattle.topology_terms.specs.Cutting.{near, near_after}
 use Rattle.sound_steps.proofs.Dirts.{bool_cases}
-use Rattle.sound_steps.proofs.FeatureLists.{passing, feature_at-filter, ascending_filter, same_features, at_handle, past_handle, past_pick}
+use Rattle.sound_steps.proofs.FeatureLists.{passing, of_filter, handle_of, feature_at-filter, ascending_filter, same_features, at_handle, past_handle, past_pick}
 use Rattle.sound_steps.proofs.Meetings.{meets_from_test, envelope_proper}
 
 -- the test by which a feature is near, and that by which it comes after
 abbrev pub is_near : Side → Feature → Feature → Bool
-is_near A f g = is_on_side A g && (rects_meet (env f) (env g) && not (g.handle == f.handle))
+is_near A f g = is_on_side A g && rects_meet (env f) (env g)
 
 abbrev pub is_after : Feature → Feature → Bool
 is_after f g = nat_lt f.handle g.handle
@@ -44,22 +44,26 @@ passing_same test (Some f) q m n = elim (bool_cases (test f)) [
 
 near_meets : (A : Side) (f g : Feature) → is_near A f g ≡ true → RectsMeet (env f) (env g)
 near_meets A f g t =
-    let m : rects_meet (env f) (env g) ≡ true = both_second (is_on_side A g) (rects_meet (env f) (env g)) (not (g.handle == f.handle)) t in
+    let m : rects_meet (env f) (env g) ≡ true = second (is_on_side A g) (rects_meet (env f) (env g)) t in
     meets_from_test (env f) (env g) (envelope_proper f.shape) (envelope_proper g.shape) m
   where
-    both_second : (a b c : Bool) → (a && (b && c)) ≡ true → b ≡ true
-    both_second a b c e = grind arith
+    second : (a b : Bool) → (a && b) ≡ true → b ≡ true
+    second a b e = grind arith
 
 -- features that agree on what meets the subject's envelope have the same near it
-pub near_after_same : (A : Side) (f : Feature) (F G : List Feature) → IsAscending F → IsAscending G → Agree (λ g. RectsMeet (env f) (env g)) F G → near_after A f F ≡ near_after A f G
-near_after_same A f F G u v agree =
-    let near_u = ascending_filter (is_near A f) F u in
-    let near_v = ascending_filter (is_near A f) G v in
-    same_features (near_after A f F) (near_after A f G) (ascending_filter (is_after f) (near A f F) near_u) (ascending_filter (is_after f) (near A f G) near_v) (λ h.
+pub near_same : (A : Side) (f : Feature) (F G : List Feature) → IsAscending F → IsAscending G → Agree (λ g. RectsMeet (env f) (env g)) F G → near A f F ≡ near A f G
+near_same A f F G u v agree = same_features (near A f F) (near A f G) (ascending_filter (is_near A f) F u) (ascending_filter (is_near A f) G v) (λ h.
     let same = passing_same (is_near A f) (feature_at F h) (feature_at G h) (λ g e t. agree.forth h g e (near_meets A f g t)) (λ g e t. agree.back h g e (near_meets A f g t)) in
-    let left = feature_at-filter (is_after f) (near A f F) h near_u ∙ ap (passing (is_after f)) (feature_at-filter (is_near A f) F h u) in
-    let right = feature_at-filter (is_after f) (near A f G) h near_v ∙ ap (passing (is_after f)) (feature_at-filter (is_near A f) G h v) in
-    left ∙ (ap (passing (is_after f)) same ∙ sym right))
+    feature_at-filter (is_near A f) F h u ∙ (same ∙ sym (feature_at-filter (is_near A f) G h v)))
+
+pub near_after_same : (A : Side) (f : Feature) (F G : List Feature) → IsAscending F → IsAscending G → Agree (λ g. RectsMeet (env f) (env g)) F G → near_after A f F ≡ near_after A f G
+near_after_same A f F G u v agree = ap (filter (is_after f)) (near_same A f F G u v agree)
+
+pub near_ascends : (A : Side) (f : Feature) (F : List Feature) → IsAscending F → IsAscending (near A f F)
+near_ascends A f F u = ascending_filter (is_near A f) F u
+
+pub near_after_ascends : (A : Side) (f : Feature) (F : List Feature) → IsAscending F → IsAscending (near_after A f F)
+near_after_ascends A f F u = ascending_filter (is_after f) (near A f F) (near_ascends A f F u)
 
 kept_pick : (b : Bool) (f : Feature) (F : List Feature) (h : ℕ) → b ≡ true → (f.handle == h) ≡ true → feature_at (cond b (f ∷ F) F) h ≡ Some f
 kept_pick true f F h t k = at_handle f F h k
@@ -77,22 +81,37 @@ kept_at test (f ∷ F) h g e t = elim (bool_cases (f.handle == h)) [
   | inr k ↦ past_pick (test f) f (filter test F) h k ∙ kept_at test F h g (sym (past_handle f F h k) ∙ e) t
 ]
 
--- a partner above the subject whose envelope meets the subject's is near it
-pub near_after_has : (A : Side) (f : Feature) (F : List Feature) (b : ℕ) (g : Feature) → feature_at F b ≡ Some g → IsOnSide A g → rects_meet (env f) (env g) ≡ true → f.handle < g.handle → feature_at (near_after A f F) b ≡ Some g
-near_after_has A f F b g e s m l =
-    let side : is_on_side A g ≡ true = on_side_test g.class A.class s.class in
-    let other : not (g.handle == f.handle) ≡ true = apart f.handle g.handle l in
-    let near_is : is_near A f g ≡ true = all_three (is_on_side A g) (rects_meet (env f) (env g)) (not (g.handle == f.handle)) side m other in
-    kept_at (is_after f) (near A f F) b g (kept_at (is_near A f) F b g e near_is) (after_test f.handle g.handle l)
+-- a feature of the side whose envelope meets the subject's is near it
+pub near_has : (A : Side) (f : Feature) (F : List Feature) (b : ℕ) (g : Feature) → IsOf F A b g → rects_meet (env f) (env g) ≡ true → feature_at (near A f F) b ≡ Some g
+near_has A f F b g i m = kept_at (is_near A f) F b g i.live (both (is_on_side A g) (rects_meet (env f) (env g)) (on_side_test g.class A.class i.on_side.class) m)
   where
     on_side_test : (m n : ℕ) → m ≡ n → (m == n) ≡ true
     on_side_test m n e = grind (arith, nat_tests)
 
-    apart : (m n : ℕ) → m < n → not (n == m) ≡ true
-    apart m n l = grind (arith, nat_tests)
+    both : (a b : Bool) → a ≡ true → b ≡ true → (a && b) ≡ true
+    both a b i j = grind arith
 
+-- and what is near is of the side
+pub near_of : (A : Side) (f : Feature) (F : List Feature) (b : ℕ) (g : Feature) → IsAscending F → feature_at (near A f F) b ≡ Some g → IsOf F A b g
+near_of A f F b g u e =
+    let k = of_filter (is_near A f) F b g u e in
+    record { live = k.0; on_side = record { class = class_of g.class A.class (rects_meet (env f) (env g)) k.1 } }
+  where
+    class_of : (m n : ℕ) (b : Bool) → ((m == n) && b) ≡ true → m ≡ n
+    class_of m n b e = grind (arith, nat_tests)
+
+-- of those the ones above the subject
+pub near_after_has : (A : Side) (f : Feature) (F : List Feature) (b : ℕ) (g : Feature) → IsOf F A b g → rects_meet (env f) (env g) ≡ true → f.handle < b → feature_at (near_after A f F) b ≡ Some g
+near_after_has A f F b g i m l = kept_at (is_after f) (near A f F) b g (near_has A f F b g i m) (after_test f.handle g.handle (rw (handle_of F b g i.live) l))
+  where
     after_test : (m n : ℕ) → m < n → nat_lt m n ≡ true
     after_test m n l = grind (arith, nat_tests)
 
-    all_three : (a b c : Bool) → a ≡ true → b ≡ true → c ≡ true → (a && (b && c)) ≡ true
-    all_three a b c i j k = grind arith
+pub near_after_of : (A : Side) (f : Feature) (F : List Feature) (b : ℕ) (g : Feature) → IsAscending F → feature_at (near_after A f F) b ≡ Some g → IsOf F A b g × (f.handle < b)
+near_after_of A f F b g u e =
+    let k = of_filter (is_after f) (near A f F) b g (near_ascends A f F u) e in
+    let i = near_of A f F b g u k.0 in
+    (i, rw (handle_of F b g i.live) at (above f.handle g.handle k.1))
+  where
+    above : (m n : ℕ) → nat_lt m n ≡ true → m < n
+    above m n t = grind (arith, nat_tests)

@@ -1,0 +1,72 @@
+-- The vertices of a shape, and the ends of a polygon's segments, lie in its envelope.
+use Rattle.std.proofs.Common.{◌≡◌, arith, Bool, true, false, List, [], ◌∷◌, ◌++◌}
+use Rattle.std.specs.Prelude.{flat_map, if◌then◌else◌}
+use Rattle.std.proofs.lemmas.Int.{ints}
+use Rattle.plane_terms.specs.Lists.{Every}
+use Rattle.plane_terms.specs.Point.{Place}
+use Rattle.plane_terms.specs.Rectangle.{Rectangle, IsWithin, rect_at, join_of}
+use Rattle.plane_terms.specs.Segment.{Segment, comes_before, segment_between}
+use Rattle.plane_terms.specs.Shape.{Shape, box_from, box_of_places, vertices_of, envelope_of, path, closed_path, segments_by, segments_of, rings_of}
+use Rattle.plane_terms.specs.declared.kind.Kind.{Kind}
+use Rattle.plane_terms.specs.declared.kind.Kind.TheVariants as shapes
+use Rattle.cell_steps.proofs.Lists.{all_append}
+use Rattle.sound_steps.proofs.Planes.{within_self}
+use Rattle.validation_steps.proofs.Frames.{within_join_left, within_join_right}
+
+within_trans : (r s t : Rectangle) → IsWithin r s → IsWithin s t → IsWithin r t
+within_trans r s t i j = record { left = omega (arith, ints, i.left, j.left); right = omega (arith, ints, i.right, j.right); below = omega (arith, ints, i.below, j.below); above = omega (arith, ints, i.above, j.above) }
+
+-- a box only grows
+pub box_grows : (r : Rectangle) (ps : List Place) → IsWithin r (box_from r ps)
+box_grows r [] = within_self r
+box_grows r (p ∷ ps) = within_trans r (join_of r (rect_at p)) (box_from (join_of r (rect_at p)) ps) (within_join_left r (rect_at p)) (box_grows (join_of r (rect_at p)) ps)
+
+-- the place lies in the rectangle
+abbrev pub LiesIn : Rectangle → Place → Type 0
+LiesIn r q = IsWithin (rect_at q) r
+
+box_has : (r : Rectangle) (ps : List Place) → Every (LiesIn (box_from r ps)) ps
+box_has r [] = tt
+box_has r (p ∷ ps) =
+    let s = join_of r (rect_at p) in
+    (within_trans (rect_at p) s (box_from s ps) (within_join_right r (rect_at p)) (box_grows s ps), box_has s ps)
+
+places_in : (ps : List Place) → Every (LiesIn (box_of_places ps)) ps
+places_in [] = tt
+places_in (p ∷ ps) = (box_grows (rect_at p) ps, box_has (rect_at p) ps)
+
+vertices_in : (s : Shape) → Every (LiesIn (envelope_of s)) (vertices_of s)
+unfolding envelope_of
+vertices_in s = places_in (vertices_of s)
+
+-- ---- what holds of the vertices holds of the ends of the segments
+abbrev pub BothEnds : (Place → Type 0) → Segment → Type 0
+BothEnds P s = P s.lo × P s.hi
+
+between_ends : (P : Place → Type 0) (a b : Place) → P a → P b → BothEnds P (segment_between a b)
+between_ends P a b h k = by_order (comes_before a b)
+  where
+    by_order : (t : Bool) → BothEnds P (if t then record { lo = a; hi = b; turned = false } else record { lo = b; hi = a; turned = true })
+    by_order true = (h, k)
+    by_order false = (k, h)
+
+path_ends : (P : Place → Type 0) (ps : List Place) → Every P ps → Every (BothEnds P) (path ps)
+path_ends P [] h = tt
+path_ends P (p ∷ []) h = tt
+path_ends P (p ∷ q ∷ ps) h = (between_ends P p q h.0 h.1.0, path_ends P (q ∷ ps) h.1)
+
+closed_ends : (P : Place → Type 0) (ring : List Place) → Every P ring → Every (BothEnds P) (closed_path ring)
+closed_ends P [] h = tt
+closed_ends P (p ∷ ps) h = path_ends P (p ∷ ps ++ p ∷ []) ((all_append P (p ∷ ps) (p ∷ [])).1 (h, (h.0, tt)))
+
+rings_ends : (P : Place → Type 0) (rings : List (List Place)) → Every P (flat_map (λ ring. ring) rings) → Every (BothEnds P) (flat_map closed_path rings)
+rings_ends P [] h = tt
+rings_ends P (ring ∷ rings) h =
+    let k = (all_append P ring (flat_map (λ ring. ring) rings)).0 h in
+    (all_append (BothEnds P) (closed_path ring) (flat_map closed_path rings)).1 (closed_ends P ring k.0, rings_ends P rings k.1)
+
+pub polygon_ends : (s : Shape) → s.kind ≡ shapes.Polygon → Every (BothEnds (LiesIn (envelope_of s))) (segments_of s)
+polygon_ends s e = by_kind (LiesIn (envelope_of s)) s.kind (rings_of s) e (vertices_in s)
+  where
+    by_kind : (P : Place → Type 0) (k : Kind) (rings : List (List Place)) → k ≡ shapes.Polygon → Every P (flat_map (λ ring. ring) rings) → Every (BothEnds P) (segments_by k rings)
+    by_kind P k rings e h = rw e (rings_ends P rings h)
