@@ -2,7 +2,8 @@ ghost use Rattle.std.specs.Prelude.{◌≡◌, IfOk};
 ghost use Rattle.topology_terms.specs.Feature.{IsAscending};
 ghost use Rattle.topology_terms.specs.Poster.{poster};
 ghost use Rattle.rule_core.specs.declared.rule_kind.RuleKind.TheVariants as kind;
-ghost use Rattle.area_rules.specs.Stub.{poster_laws, poster_cuts, poster_views};
+ghost use Rattle.rule_laws.proofs.Posters.{poster_laws, poster_cuts};
+ghost use Rattle.rule_laws.proofs.Views.{poster_views};
 ghost use Rattle.area_rules.specs.Overlaps.{is_later, overlaps};
 
 use crate::overlap::push_overlap;

@@ -3,7 +3,8 @@ ghost use Rattle.plane_terms.specs.Cell.{at_place};
 ghost use Rattle.topology_terms.specs.Feature.{IsAscending};
 ghost use Rattle.topology_terms.specs.Poster.{poster};
 ghost use Rattle.rule_core.specs.declared.rule_kind.RuleKind.TheVariants as kind;
-ghost use Rattle.point_rules.specs.Stub.{poster_laws, poster_cuts, poster_views};
+ghost use Rattle.rule_laws.proofs.Posters.{poster_laws, poster_cuts};
+ghost use Rattle.rule_laws.proofs.Views.{poster_views};
 ghost use Rattle.point_rules.specs.Doubles.{is_double, doubles};
 
 use convex_cell::{Cell, Cells};

@@ -60,15 +60,6 @@ kept_twice s t (f ∷ F) = both (t f) (kept_twice s t F)
     both true e = same_pick (s f) (s f) f (filter s (filter t F)) (filter (λ g. t g && s g) F) refl e
     both false e = e
 
--- what is kept passes
-pass_pick : (P : Feature → Type 0) (t : Feature → Bool) (b : Bool) (f : Feature) (F : List Feature) → t f ≡ b → P f → Every (λ (g : Feature). (t g ≡ true) × P g) F → Every (λ (g : Feature). (t g ≡ true) × P g) (cond b (f ∷ F) F)
-pass_pick P t true f F e p h = ((e, p), h)
-pass_pick P t false f F e p h = h
-
-pub kept_pass : (P : Feature → Type 0) (t : Feature → Bool) (F : List Feature) → Every P F → Every (λ (g : Feature). (t g ≡ true) × P g) (filter t F)
-kept_pass P t [] k = tt
-kept_pass P t (f ∷ F) k = pass_pick P t (t f) f (filter t F) refl k.0 (kept_pass P t F k.1)
-
 -- where a test decides, what it keeps are those
 those_pick : (P : Feature → Type 0) (b : Bool) (f : Feature) (F G : List Feature) → (b ≡ true → P f) → (P f → b ≡ true) → IsThose P F G → IsThose P (f ∷ F) (cond b (f ∷ G) G)
 those_pick P true f F G y n h = inl (y refl, (G, refl, h))
