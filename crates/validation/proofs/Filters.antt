@@ -1,5 +1,5 @@
 -- A filter of a part of a list is that of the whole, where what was left out does not pass.
-use Rattle.std.proofs.Common.{◌≡◌, ℕ, ◌<◌, ◌≤◌, zero, suc, Bool, true, false, List, [], ◌∷◌, cond, refl, sym, ◌∙◌, ap, arith, take, drop, length}
+use Rattle.std.proofs.Common.{◌≡◌, ℕ, ◌≤◌, zero, suc, Bool, true, false, List, [], ◌∷◌, cond, refl, sym, ◌∙◌, ap, arith, take, drop, length}
 use Rattle.std.specs.Prelude.{◌||◌}
 use Rattle.std.specs.List.{filter, list_any, AllWithin}
 use Rattle.std.specs.List.Sorted.{IsPartitionedBy}

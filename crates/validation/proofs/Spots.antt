@@ -1,5 +1,5 @@
 -- Spots that begin too far east, or so far west that not even the widest reaches the rectangle, do not meet it.
-use Rattle.std.proofs.Common.{◌≡◌, ℕ, ◌≤◌, ◌<◌, ℤ, ◌≤ℤ◌, ◌+ℤ◌, ◌-ℤ◌, ◌+◌, ◌⊎◌, inl, inr, refl, pos, cond, Bool, true, false, List, [], ◌∷◌, length, take, drop, get_or, All, arith, ◌∙◌}
+use Rattle.std.proofs.Common.{◌≡◌, ℕ, ◌≤◌, ◌<◌, ℤ, ◌≤ℤ◌, ◌+ℤ◌, ◌-ℤ◌, ◌+◌, ◌⊎◌, inl, inr, refl, pos, cond, Bool, true, false, List, length, take, drop, get_or, All, arith, ◌∙◌}
 use Rattle.std.specs.Prelude.{int_lt, int_le}
 use Rattle.std.specs.List.{filter, AllWithin}
 use Rattle.std.specs.List.Sorted.{IsPartitionedBy, IsPartitionPoint}

@@ -41,11 +41,7 @@ fn add_features(
 }
 
 // The subjects of the errors whose frame does.
-fn add_subjects(
-    entries: &[Entry],
-    dirty: &DirtyParts,
-    found: &mut Vec<u32>,
-) -> Result<(), NoMemory>
+fn add_subjects(entries: &[Entry], dirty: &DirtyParts, found: &mut Vec<u32>) -> Result<(), NoMemory>
     ensures { OnOk result (ArePicked (λ (e : entries_of.Entry). MeetsDirt dirty.now e.frame) (λ (e : entries_of.Entry). e.subject) entries.now found.old.items found.new.items) }
 {
     for e in entries {
