@@ -9,7 +9,7 @@ use Rattle.topology_terms.specs.Feature.{Class, Feature, feature_at}
 use Rattle.sound_steps.proofs.FeatureLists.{at_handle, past_handle, handle_of}
 use Rattle.topology_terms.specs.Lookups.{number_from}
 use Rattle.feature_store.specs.Stored.{class_at}
-use Rattle.feature_store.specs.Keeps.{IsOfClass, IsGiven, AreUnlike, IsStore}
+use Rattle.feature_store.specs.Keeps.{IsOfClass, IsGiven, HasSimpleSides, AreUnlike, IsStore}
 use Rattle.feature_store.specs.Changes.{IsTaken, HasKind}
 use Rattle.feature_store.proofs.Lists.{every_join, ascending_join}
 
@@ -62,6 +62,7 @@ class_kept cs F next d name same free some_left s = record {
   ascending = s.ascending;
   given = s.given;
   kinds = kinds_end cs d F s.kinds;
+  simple = s.simple;
   from_1 = s.from_1;
 }
 
@@ -74,8 +75,8 @@ pub given_later : (next later : ℕ) (F : List Feature) → next ≤ later → E
 given_later next later [] upto h = tt
 given_later next later (f ∷ F) upto h = (record { from_1 = h.0.from_1; before = let b = h.0.before in omega arith }, given_later next later F upto h.1)
 
-pub feature_kept : (cs : List Class) (F : List Feature) (next : ℕ) (f : Feature) → f.handle ≡ next → IsOfClass cs f → IsStore cs F next → IsStore cs (F ++ f ∷ []) (next + 1)
-feature_kept cs F next f same of_class s =
+pub feature_kept : (cs : List Class) (F : List Feature) (next : ℕ) (f : Feature) → f.handle ≡ next → IsOfClass cs f → HasSimpleSides f → IsStore cs F next → IsStore cs (F ++ f ∷ []) (next + 1)
+feature_kept cs F next f same of_class simple s =
     let first = s.from_1 in
     record {
       few = s.few;
@@ -83,6 +84,7 @@ feature_kept cs F next f same of_class s =
       ascending = ascending_join next F (f ∷ []) s.ascending (tt, tt) (below_next next F s.given) (omega arith, tt);
       given = every_join (IsGiven (next + 1)) F (f ∷ []) (given_later next (next + 1) F (omega arith) s.given) (record { from_1 = omega arith; before = omega arith }, tt);
       kinds = every_join (IsOfClass cs) F (f ∷ []) s.kinds (of_class, tt);
+      simple = every_join HasSimpleSides F (f ∷ []) s.simple (simple, tt);
       from_1 = omega arith;
     }
 

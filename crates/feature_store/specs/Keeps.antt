@@ -2,10 +2,13 @@
 --
 -- IsOfClass cs f   the class of the feature is one of these, and has the kind of its shape
 -- IsGiven n f      the handle of the feature was given before the handle n
--- IsStore cs F n   at most 64 classes, no two of one name; features ascend by handle, each of a class of its kind, under a handle that was given
+-- HasSimpleSides f the segments of the feature, where it is a polygon, meet at ends alone
+-- IsStore cs F n   at most 64 classes, no two of one name; features ascend by handle, each of a class of its kind, under a handle that was given; each polygon is simple
 use Rattle.std.specs.Prelude.{◌≡◌, ◌≢◌, ℕ, ◌<◌, ◌≤◌, List, length, Some}
 use Rattle.plane_terms.specs.Lists.{Every, EveryPair}
-use Rattle.topology_terms.specs.Feature.{Class, Feature, IsAscending}
+use Rattle.plane_terms.specs.Polygon.{IsSimpleList}
+use Rattle.plane_terms.specs.declared.kind.Kind.TheVariants as shapes
+use Rattle.topology_terms.specs.Feature.{Class, Feature, IsAscending, sides}
 use Rattle.feature_store.specs.Stored.{class_at}
 
 pub record IsOfClass (cs : List Class) (f : Feature) : Type 0 where
@@ -17,6 +20,9 @@ pub record IsGiven (n : ℕ) (f : Feature) : Type 0 where
   pub from_1 : 1 ≤ f.handle
   pub before : f.handle < n
 
+pub record HasSimpleSides (f : Feature) : Type 0 where
+  pub polygon : f.shape.kind ≡ shapes.Polygon → IsSimpleList (sides f)
+
 abbrev pub AreUnlike : Class → Class → Type 0
 AreUnlike c d = c.name ≢ d.name
 
@@ -26,4 +32,5 @@ pub record IsStore (cs : List Class) (F : List Feature) (next : ℕ) : Type 0 wh
   pub ascending : IsAscending F
   pub given : Every (IsGiven next) F
   pub kinds : Every (IsOfClass cs) F
+  pub simple : Every HasSimpleSides F
   pub from_1 : 1 ≤ next

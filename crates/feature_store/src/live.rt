@@ -2,7 +2,7 @@ ghost use Rattle.std.specs.Prelude.{◌≡◌, ◌<◌, ◌≤◌, ◌+◌, ◌+
 ghost use Rattle.std.specs.Option.{option_to_list};
 ghost use Rattle.plane_terms.specs.Lists.{Every};
 ghost use Rattle.topology_terms.specs.Feature.{Class, feature_at, IsSetAt, IsAscending};
-ghost use Rattle.feature_store.specs.Keeps.{IsGiven, IsOfClass};
+ghost use Rattle.feature_store.specs.Keeps.{HasSimpleSides, IsGiven, IsOfClass};
 ghost use Rattle.feature_store.specs.Places.{IsPlace, IsFound};
 
 use grid_plane::NoMemory;
@@ -76,10 +76,20 @@ pub fn exchange(features: &mut Vec<Feature>, handle: u32, kept: &mut Option<Feat
     ensures ascending { IsAscending features.new.items }
     ensures given { (n : ℕ) → Every (IsGiven n) features.old.items → IfSome kept.old (IsGiven n) → Every (IsGiven n) features.new.items }
     ensures kinds { (cs : List Class) → Every (IsOfClass cs) features.old.items → IfSome kept.old (IsOfClass cs) → Every (IsOfClass cs) features.new.items }
+    ensures simple { Every HasSimpleSides features.old.items → IfSome kept.old HasSimpleSides → Every HasSimpleSides features.new.items }
 {
     match find(features, handle) {
         Ok(place) => swap_at(features, place, kept),
         Err(place) => put_at(features, place, kept),
+    }
+}
+
+/// The law that the segments of a kept polygon meet at ends alone.
+pub fn kept_law(kept: &Option<Feature>)
+    ensures { IfSome kept.now HasSimpleSides }
+{
+    if let Some(feature) = kept {
+        feature.shape().simple_law();
     }
 }
 

@@ -9,7 +9,7 @@ ghost use Rattle.feature_store.specs.Changes.{IsClassAdded, IsClassFault, IsAdde
 
 use crate::class::{Class, class_number, copy_classes};
 use crate::fault::StoreFault;
-use crate::live::{copy_features, exchange, feature_of};
+use crate::live::{copy_features, exchange, feature_of, kept_law};
 use grid_plane::{Name, NoMemory};
 use shape::{Feature, Kind, Shape};
 use std::alloc::Global;
@@ -127,6 +127,7 @@ impl Store {
         if handle == u32::MAX {
             return Err(StoreFault::HandlesSpent);
         }
+        shape.simple_law();
         self.features.push(Feature::new(handle, class, shape))?;
         self.next = handle + 1;
         Ok(handle)
@@ -200,6 +201,7 @@ impl Store {
         ensures own { IfSome kept.new (λ f. f.handle ≡ handle) }
         ensures fits { IfSome kept.new (IsOfClass self.new.classes) }
     {
+        kept_law(kept);
         exchange(&mut self.features, handle, kept);
     }
 

@@ -1,6 +1,6 @@
 ghost use Rattle.std.specs.Prelude.{◌≡◌, ◌++◌, ◌∷◌, [], flat_map, OnOk};
 ghost use Rattle.plane_terms.specs.Lists.{Every};
-ghost use Rattle.plane_terms.specs.Segment.{segment_between};
+ghost use Rattle.plane_terms.specs.Segment.{segment_between, IsSegment};
 ghost use Rattle.plane_terms.specs.Shape.{AreUnlike, NextDiffer, path, closed_path};
 ghost use Rattle.shape.specs.Given.{rings_in, polygons_in, all_rings};
 ghost use Rattle.shape.specs.Kept.{IsClosing};
@@ -78,4 +78,13 @@ pub(crate) fn push_polygons(
         push_rings(segs, part)?;
     }
     Ok(())
+}
+
+/// The law of the segments of a list: the lower end of each comes before its upper end.
+pub(crate) fn segments_law(segs: &[Seg])
+    ensures { Every IsSegment segs.now }
+{
+    for seg in segs {
+        seg.lo();
+    }
 }

@@ -1,5 +1,6 @@
 ghost use Rattle.std.specs.Prelude.{◌≡◌, ◌↔◌, ◌<◌, length, map, slice_get, Some, IsTrue, IfOk, IfErr};
 ghost use Rattle.plane_terms.specs.Point.{IsInReach};
+ghost use Rattle.plane_terms.specs.Polygon.{IsSimpleList};
 ghost use Rattle.plane_terms.specs.Shape.{point_shape, shape_of, place_of, segments_of, ends_of, envelope_of, IsShape};
 ghost use Rattle.plane_terms.specs.declared.kind.Kind.TheVariants as kind;
 ghost use Rattle.shape.specs.Given.{lines_in, polygons_in, IsCountable};
@@ -10,6 +11,7 @@ use crate::form::Form;
 use crate::line::Line;
 use crate::polygon::Polygon;
 use crate::same::{are_same_parts, are_same_rings};
+use crate::segments::segments_law;
 use grid_plane::{GridPoint, NoMemory, Rect, Seg};
 use plane_terms::Kind;
 use std::alloc::Global;
@@ -151,6 +153,13 @@ impl Shape {
             Form::Line(line) => &line.segs,
             Form::Polygon(polygon) => &polygon.segs,
         }
+    }
+
+    /// The law of a polygon: its segments meet at ends alone, as a cutting into columns wants them.
+    pub fn simple_law(&self)
+        ensures { self.now.kind ≡ kind.Polygon → IsSimpleList (segments_of self.now) }
+    {
+        segments_law(self.segs());
     }
 
     /// The number of segments; of a point it is 0.

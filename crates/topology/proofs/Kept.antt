@@ -6,7 +6,7 @@ use Rattle.plane_terms.specs.Lists.{Every}
 use Rattle.plane_terms.specs.Rectangle.{Rectangle, IsRectangle}
 use Rattle.plane_terms.specs.declared.kind.Kind.{Kind}
 use Rattle.topology_terms.specs.Feature.{Class, Feature, env}
-use Rattle.topology_terms.specs.Broken.{origin_kind, dest_kind}
+use Rattle.rule_core.specs.Table.{origin_of, dest_of}
 use Rattle.topology_terms.specs.Meaning.{Meaning, Laws, CutsRight}
 use Rattle.topology_terms.specs.Entry.{Entry, entry_at}
 use Rattle.topology_terms.specs.Entry as entries
@@ -78,7 +78,7 @@ dest_end cs d n (Some k) h = kind_end cs d n k h
 kinds_end : (cs : List Class) (d : Class) (rules : List InForce) → Every (λ (q : InForce). HasKinds cs q.row) rules → Every (λ (q : InForce). HasKinds (cs ++ d ∷ []) q.row) rules
 kinds_end cs d [] h = tt
 kinds_end cs d (q ∷ rules) h = (
-  record { origin = kind_end cs d q.row.origin.class (origin_kind q.row.kind) h.0.origin; dest = dest_end cs d q.row.dest.class (dest_kind q.row.kind) h.0.dest },
+  record { origin = kind_end cs d q.row.origin.class (origin_of q.row.kind) h.0.origin; dest = dest_end cs d q.row.dest.class (dest_of q.row.kind) h.0.dest },
   kinds_end cs d rules h.1,
 )
 

@@ -5,13 +5,14 @@ use Rattle.std.proofs.lemmas.Bool.Decides.{eqb_tells}
 use Rattle.plane_terms.specs.Lists.{Every}
 use Rattle.plane_terms.specs.declared.kind.Kind.{Kind}
 use Rattle.topology_terms.specs.Feature.{Class, Feature, feature_at}
-use Rattle.topology_terms.specs.Broken.{Row, Fits, origin_kind, dest_kind}
+use Rattle.rule_core.specs.Table.{origin_of, dest_of}
+use Rattle.topology_terms.specs.Broken.{Row, Fits}
 use Rattle.topology_terms.specs.Meaning.{Meaning}
 use Rattle.topology_terms.specs.Entry.{entry_at}
 use Rattle.topology_terms.specs.Project.{Project, InForce, IsProject, IsOrdered, rule_at, empty_project}
 use Rattle.sound_steps.proofs.FeatureLists.{past_handle}
 use Rattle.feature_store.specs.Stored.{class_at}
-use Rattle.feature_store.specs.Keeps.{IsOfClass, IsGiven}
+use Rattle.feature_store.specs.Keeps.{IsOfClass, IsGiven, HasSimpleSides, IsStore}
 use Rattle.feature_store.specs.Changes.{HasKind}
 use Rattle.feature_store.proofs.Keeping.{live_each}
 use Rattle.topology.specs.Kinds.{HasKinds, TakesKinds}
@@ -54,17 +55,21 @@ dest_fits : (cs : List Class) (f : Feature) (n : ℕ) (o : Option Kind) → IsOf
 dest_fits cs f n None c e h = tt
 dest_fits cs f n (Some k) c e h = kind_agrees cs f n k c e h
 
-row_fits : (cs : List Class) (F : List Feature) (row : Row) → Every (IsOfClass cs) F → HasKinds cs row → Fits row F
-row_fits cs F row all h = record {
-  origin = λ a f o. kind_agrees cs f row.origin.class (origin_kind row.kind) (live_class cs F a f all o.live) o.on_side.class h.origin;
-  dest = λ a f o. dest_fits cs f row.dest.class (dest_kind row.kind) (live_class cs F a f all o.live) o.on_side.class h.dest;
+live_simple : (F : List Feature) (h : ℕ) (f : Feature) → Every HasSimpleSides F → feature_at F h ≡ Some f → HasSimpleSides f
+live_simple F h f all e = let o = live_each HasSimpleSides F h all in rw e at o
+
+row_fits : (cs : List Class) (F : List Feature) (next : ℕ) (row : Row) → IsStore cs F next → HasKinds cs row → Fits row F
+row_fits cs F next row s h = record {
+  origin = λ a f o. kind_agrees cs f row.origin.class (origin_of row.kind) (live_class cs F a f s.kinds o.live) o.on_side.class h.origin;
+  dest = λ a f o. dest_fits cs f row.dest.class (dest_of row.kind) (live_class cs F a f s.kinds o.live) o.on_side.class h.dest;
+  simple = λ a f e. (live_simple F a f s.simple e).polygon;
 }
 
 pub fitting : (M : Meaning) → TakesKinds M → (p : Project) → IsTopology p → (n : ℕ) (row : Row) → rule_at p.rules n ≡ Some row → M.Fits row p.features
-fitting M K p t n row e = K.fits row p.features (row_fits p.classes p.features row t.store.kinds (rule_each (HasKinds p.classes) p.rules n row t.kinds e))
+fitting M K p t n row e = K.fits row p.features (row_fits p.classes p.features p.next row t.store (rule_each (HasKinds p.classes) p.rules n row t.kinds e))
 
 pub row_fitting : (M : Meaning) → TakesKinds M → (p : Project) → IsTopology p → (row : Row) → HasKinds p.classes row → M.Fits row p.features
-row_fitting M K p t row h = K.fits row p.features (row_fits p.classes p.features row t.store.kinds h)
+row_fitting M K p t row h = K.fits row p.features (row_fits p.classes p.features p.next row t.store h)
 
 pub valid : (M : Meaning) → TakesKinds M → (p : Project) → IsTopology p → IsProject M p
 valid M K p t = record { fits = fitting M K p t; envelopes = t.envelopes; frames = t.frames; bare = t.bare; ruled = t.ruled }
@@ -73,7 +78,7 @@ valid M K p t = record { fits = fitting M K p t; envelopes = t.envelopes; frames
 pub empty_topology : IsTopology empty_project
 unfolding feature_at rule_at entry_at
 empty_topology = record {
-  store = record { few = omega arith; names = tt; ascending = tt; given = tt; kinds = tt; from_1 = omega arith };
+  store = record { few = omega arith; names = tt; ascending = tt; given = tt; kinds = tt; simple = tt; from_1 = omega arith };
   rules = tt;
   kinds = tt;
   order = tt;

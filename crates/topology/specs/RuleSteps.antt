@@ -9,7 +9,8 @@
 use Rattle.std.specs.Prelude.{◌≡◌, ◌≢◌, ◌⊎◌, ℕ, ◌<◌, ◌≤◌, List, length, Option, Some, None}
 use Rattle.plane_terms.specs.declared.kind.Kind.{Kind}
 use Rattle.topology_terms.specs.Feature.{Class}
-use Rattle.topology_terms.specs.Broken.{Row, origin_kind, dest_kind}
+use Rattle.rule_core.specs.Table.{origin_of, dest_of}
+use Rattle.topology_terms.specs.Broken.{Row}
 use Rattle.topology_terms.specs.Project.{Project, rule_at}
 use Rattle.feature_store.specs.Stored.{class_at}
 use Rattle.feature_store.specs.Changes.{HasOtherKind}
@@ -23,7 +24,7 @@ DestMissing cs n None = ⊥
 DestMissing cs n (Some k) = class_at cs n ≡ None
 
 abbrev pub IsMissing : List Class → Row → Type 0
-IsMissing cs row = (class_at cs row.origin.class ≡ None) ⊎ DestMissing cs row.dest.class (dest_kind row.kind)
+IsMissing cs row = (class_at cs row.origin.class ≡ None) ⊎ DestMissing cs row.dest.class (dest_of row.kind)
 
 abbrev pub DestUnfit : List Class → Row → Option Kind → Type 0
 DestUnfit cs row None = row.dest.class ≢ 0
@@ -31,7 +32,7 @@ DestUnfit cs row (Some k) = HasOtherKind cs row.dest.class k ⊎ (row.dest.class
 
 pub record IsUnfit (cs : List Class) (row : Row) : Type 0 where
   pub there : ¬ (IsMissing cs row)
-  pub unfit : HasOtherKind cs row.origin.class (origin_kind row.kind) ⊎ DestUnfit cs row (dest_kind row.kind)
+  pub unfit : HasOtherKind cs row.origin.class (origin_of row.kind) ⊎ DestUnfit cs row (dest_of row.kind)
 
 abbrev pub DestApart : Row → Option Kind → Type 0
 DestApart row None = row.dest.class ≡ 0
@@ -39,7 +40,7 @@ DestApart row (Some k) = row.dest.class ≢ row.origin.class
 
 pub record DoesFit (cs : List Class) (row : Row) : Type 0 where
   pub kinds : HasKinds cs row
-  pub apart : DestApart row (dest_kind row.kind)
+  pub apart : DestApart row (dest_of row.kind)
 
 pub record MayAdd (p : Project) (row : Row) : Type 0 where
   pub fits : DoesFit p.classes row

@@ -2,7 +2,7 @@ use Rattle.std.proofs.Common.{subst, List, [], ◌∷◌}
 use Rattle.plane_terms.specs.Lists.{Every, EveryPair}
 use Rattle.plane_terms.specs.Segment.{Segment, IsSegment, MeetAtEnds}
 use Rattle.plane_terms.specs.Shape.{AreSimple, IsSimple, segments_of}
-use Rattle.plain_shapes.proofs.simple.simple_law.Goals as goal
+use Rattle.shape.proofs.shape.Shape.simple_law.Goals as goal
 
 with_one : (s : Segment) (ts : List Segment) → Every (AreSimple s) ts → Every (MeetAtEnds s) ts
 with_one s [] h = tt
@@ -15,5 +15,5 @@ each_pair (s ∷ ss) h = (with_one s ss h.0, each_pair ss h.1)
 pub returns : goal.returns
 returns c = λ e. record {
   proper = subst (Every IsSegment) c.segs.ensures.value c.segments_law.ensures;
-  simple = each_pair (segments_of c.args.shape.now) (subst (λ k. IsSimple k (segments_of c.args.shape.now)) e c.segs.ensures.valid.simple);
+  simple = each_pair (segments_of c.args.self.now) (subst (λ k. IsSimple k (segments_of c.args.self.now)) e c.segs.ensures.valid.simple);
 }
