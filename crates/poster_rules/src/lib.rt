@@ -1,0 +1,8 @@
+// The rules of the poster that are built, taken together.
+#![tactic(auto)]
+
+mod built;
+mod poster;
+
+pub use built::is_built;
+pub use poster::PosterRules;
