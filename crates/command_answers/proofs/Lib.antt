@@ -1,5 +1,5 @@
 pub mod Tests
-pub mod Classes
+pub mod ClassLookups
 pub mod Counts
 pub mod RuleRefusals
 pub mod EditRefusals
