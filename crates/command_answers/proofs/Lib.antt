@@ -5,3 +5,4 @@ pub mod RuleRefusals
 pub mod EditRefusals
 pub mod Answering
 pub mod Headlines
+pub mod Replying
