@@ -39,7 +39,7 @@ pairs_alone : (n m l : ℕ) (F : List Feature) (f : Feature) (gs : List Feature)
 pairs_alone n m l F f gs xs h = record {
   chosen = h.chosen;
   those = those_same (λ (g : Feature). BreaksAt (row_of kind.PointMustBeDisjoint n m) F f.handle g.handle (place f)) (λ (g : Feature). BreaksAt (row_of kind.PointMustBeDisjoint n l) F f.handle g.handle (place f))
-  (λ g. (breaks_alone n m l F f g, breaks_alone n l m F f g)) gs h.chosen h.those;
+      (λ g. (breaks_alone n m l F f g, breaks_alone n l m F f g)) gs h.chosen h.those;
   findings = h.findings;
 }
 

@@ -3,6 +3,8 @@
 
 mod built;
 mod poster;
+#[cfg(test)]
+mod tests;
 
 pub use built::is_built;
 pub use poster::PosterRules;

@@ -9,6 +9,7 @@ use rule_core::RuleKind;
 use rule_findings::{Findings, RuleRow};
 use rule_judging::{RuleSet, View, Work, judge};
 use std::alloc::Global;
+use topology::KindRules;
 
 /// The rules of the topology rules poster, each by the rule of its row's kind. A row of a kind that is not built has no
 /// findings.
@@ -51,4 +52,8 @@ impl RuleSet for PosterRules {
     ghost right = { poster_cuts };
 
     ghost views = { poster_views };
+}
+
+impl KindRules for PosterRules {
+    ghost kinds = { record { fits = λ row F fits. fits } };
 }
