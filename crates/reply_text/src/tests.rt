@@ -5,6 +5,7 @@ use crate::errors::push_entry_line;
 use crate::features::push_feature_list;
 use crate::numbers::push_text;
 use crate::refusal::push_refusal;
+use crate::reply::{push_given, push_judged, push_refused};
 use convex_cell::{Cell, Cells};
 use dirty_area::Dirt;
 use error_entries::{Entry, Key};
@@ -14,6 +15,7 @@ use script_text::LineRefusal;
 use shape::ShapeFault;
 use std::alloc::Global;
 use std::test::Fail;
+use topology::Summary;
 
 fn rect(x0: i64, y0: i64, x1: i64, y1: i64) -> Result<Rect, Fail> {
     let Ok(rect) = Rect::of(x0, y0, x1, y1) else {
@@ -94,6 +96,22 @@ fn dirt_and_features(rt: HostRuntime) -> Result<(), Fail> {
     push_dirty_list(&mut out, &dirt)?;
     push_feature_list(&mut out, &store)?;
     let text = b"dirty 0 -5 7 0\ntotal 1\nfeature 1 wells POINT (3 -4)\ntotal 1\n";
+    assert_eq!(rt; out.as_slice(), text.as_slice());
+    Ok(())
+}
+
+#[test]
+fn a_handle_a_validation_and_a_refusal(rt: HostRuntime) -> Result<(), Fail> {
+    let mut out = Vec::new(rt.alloc());
+    let summary = Summary {
+        judged: 2,
+        errors: 1,
+        dirty: 0,
+    };
+    push_given(&mut out, 12)?;
+    push_judged(&mut out, summary)?;
+    push_refused(&mut out, Refusal::NoSession)?;
+    let text = b"ok 12\nok judged 2 errors 1 dirty 0\nrefused E12\n";
     assert_eq!(rt; out.as_slice(), text.as_slice());
     Ok(())
 }
