@@ -1,1 +1,1 @@
-mod Stub
+mod Cuts

@@ -5,7 +5,7 @@ ghost use Rattle.topology_terms.specs.Poster.{poster};
 ghost use Rattle.rule_core.specs.declared.rule_kind.RuleKind.TheVariants as kind;
 ghost use Rattle.rule_laws.proofs.Posters.{poster_laws, poster_cuts};
 ghost use Rattle.rule_laws.proofs.Views.{poster_views};
-ghost use Rattle.point_rules.specs.Doubles.{is_double, double_findings};
+ghost use Rattle.point_rules.specs.Doubles.{is_double, doubles};
 
 use convex_cell::{Cell, Cells};
 use grid_plane::{GridPoint, NoMemory};
@@ -68,7 +68,7 @@ fn doubles(
     view: &View<'_>,
 ) -> Result<Findings, NoMemory>
     requires { IsAscending view.now }
-    ensures { IfOk result (λ xs. xs ≡ double_findings class subject.now view.now) }
+    ensures { IfOk result (λ xs. xs ≡ doubles class subject.now view.now) }
 {
     let place = subject.shape().place();
     let mut findings = Findings::new(alloc);

@@ -1,9 +1,14 @@
 -- What the values of replies stand for.
 --
 -- refusal_of r     the refusal
+-- said_of p r      the reply, said of the project p; a listing lists it
+use Rattle.topology_terms.specs.Project.{Project}
 use Rattle.script_terms.specs.Refusal as refusals
+use Rattle.script_terms.specs.Reply as replies
 use Rattle.reply_text.specs.declared.refusal.Refusal.{Refusal}
 use Rattle.reply_text.specs.declared.refusal.Refusal.TheVariants as refusal
+use Rattle.reply_text.specs.declared.reply.Reply.{Reply}
+use Rattle.reply_text.specs.declared.reply.Reply.TheVariants as reply
 
 abbrev pub refusal_of : Refusal → refusals.Refusal
 refusal_of (refusal.Line r) = refusals.Line r
@@ -18,3 +23,14 @@ refusal_of refusal.NoSession = refusals.NoSession
 refusal_of refusal.WrongKind = refusals.WrongKind
 refusal_of refusal.NoFeature = refusals.NoFeature
 refusal_of refusal.HandlesSpent = refusals.HandlesSpent
+
+abbrev pub said_of : Project → Reply → replies.Reply
+said_of p reply.Nothing = replies.Nothing
+said_of p reply.Done = replies.Done
+said_of p (reply.Number n) = replies.Number n
+said_of p (reply.Judged s) = replies.Judged s.judged s.errors s.dirty
+said_of p (reply.Refused r) = replies.Refused (refusal_of r)
+said_of p reply.DirtyList = replies.DirtyList p
+said_of p reply.ErrorList = replies.ErrorList p
+said_of p reply.CellList = replies.CellList p
+said_of p reply.FeatureList = replies.FeatureList p

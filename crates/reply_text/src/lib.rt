@@ -7,7 +7,9 @@ mod errors;
 mod features;
 mod numbers;
 mod refusal;
+mod reply;
 #[cfg(test)]
 mod tests;
 
 pub use refusal::Refusal;
+pub use reply::{Reply, push_reply};

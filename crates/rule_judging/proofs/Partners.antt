@@ -119,9 +119,13 @@ more cells test F i g b e t =
     ap (pair_findings cells) (filter_more test F i g (within F i g e) ∙ ap (λ gs. filter test (take i F) ++ gs) one) ∙ flat_map-append (λ (x : Feature). finding_of x.handle (cells x)) (filter test (take i F)) (cond b (g ∷ []) [])
 
 -- with a partner more
-pub found_more : (cells : Feature → List Cell) (test : Feature → Bool) (F : List Feature) (i : ℕ) (g : Feature) → slice_get F i ≡ Some g → test g ≡ true → pair_findings cells (filter test (take (i + 1) F)) ≡ pair_findings cells (filter test (take i F)) ++ finding_of g.handle (cells g)
-found_more cells test F i g e t = more cells test F i g true e t ∙ ap (λ xs. pair_findings cells (filter test (take i F)) ++ xs) (append-nil (finding_of g.handle (cells g)))
+pub found_more : (cells : Feature → List Cell) (test : Feature → Bool) (F : List Feature) (i : ℕ) (g : Feature) (found part new : List Finding) → slice_get F i ≡ Some g → test g ≡ true
+    → found ≡ pair_findings cells (filter test (take i F)) → part ≡ finding_of g.handle (cells g) → new ≡ found ++ part → new ≡ pair_findings cells (filter test (take (i + 1) F))
+found_more cells test F i g found part new e t h k n =
+    let m = more cells test F i g true e t ∙ ap (λ xs. pair_findings cells (filter test (take i F)) ++ xs) (append-nil (finding_of g.handle (cells g))) in
+    n ∙ (rw (h, k) refl ∙ sym m)
 
 -- with a feature more that is none
-pub found_same : (cells : Feature → List Cell) (test : Feature → Bool) (F : List Feature) (i : ℕ) (g : Feature) → slice_get F i ≡ Some g → test g ≡ false → pair_findings cells (filter test (take (i + 1) F)) ≡ pair_findings cells (filter test (take i F))
-found_same cells test F i g e t = more cells test F i g false e t ∙ append-nil (pair_findings cells (filter test (take i F)))
+pub found_same : (cells : Feature → List Cell) (test : Feature → Bool) (F : List Feature) (i : ℕ) (g : Feature) (found : List Finding) → slice_get F i ≡ Some g → test g ≡ false
+    → found ≡ pair_findings cells (filter test (take i F)) → found ≡ pair_findings cells (filter test (take (i + 1) F))
+found_same cells test F i g found e t h = h ∙ sym (more cells test F i g false e t ∙ append-nil (pair_findings cells (filter test (take i F))))

@@ -1,7 +1,6 @@
 -- The vertices of a shape, and the ends of a polygon's segments, lie in its envelope.
-use Rattle.std.proofs.Common.{◌≡◌, ℤ, ◌≤ℤ◌, arith, Bool, true, false, List, [], ◌∷◌, ◌++◌}
+use Rattle.std.proofs.Common.{◌≡◌, arith, Bool, true, false, List, [], ◌∷◌, ◌++◌}
 use Rattle.std.specs.Prelude.{flat_map, if◌then◌else◌}
-use Rattle.std.specs.Int.{int_max, int_min}
 use Rattle.std.proofs.lemmas.Int.{ints}
 use Rattle.plane_terms.specs.Lists.{Every}
 use Rattle.plane_terms.specs.Point.{Place}
@@ -11,35 +10,16 @@ use Rattle.plane_terms.specs.Shape.{Shape, box_from, box_of_places, vertices_of,
 use Rattle.plane_terms.specs.declared.kind.Kind.{Kind}
 use Rattle.plane_terms.specs.declared.kind.Kind.TheVariants as shapes
 use Rattle.cell_steps.proofs.Lists.{all_append}
-
-le_max : (a b : ℤ) → a ≤ℤ int_max a b
-le_max a b = grind (arith, ints)
-
-max_other : (a b : ℤ) → b ≤ℤ int_max a b
-max_other a b = grind (arith, ints)
-
-min_le : (a b : ℤ) → int_min a b ≤ℤ a
-min_le a b = grind (arith, ints)
-
-min_other : (a b : ℤ) → int_min a b ≤ℤ b
-min_other a b = grind (arith, ints)
-
-within_join : (r s : Rectangle) → IsWithin r (join_of r s)
-within_join r s = record { left = min_le r.x0 s.x0; right = le_max r.x1 s.x1; below = min_le r.y0 s.y0; above = le_max r.y1 s.y1 }
-
-within_join_other : (r s : Rectangle) → IsWithin s (join_of r s)
-within_join_other r s = record { left = min_other r.x0 s.x0; right = max_other r.x1 s.x1; below = min_other r.y0 s.y0; above = max_other r.y1 s.y1 }
+use Rattle.sound_steps.proofs.Planes.{within_self}
+use Rattle.validation_steps.proofs.Frames.{within_join_left, within_join_right}
 
 within_trans : (r s t : Rectangle) → IsWithin r s → IsWithin s t → IsWithin r t
 within_trans r s t i j = record { left = omega (arith, ints, i.left, j.left); right = omega (arith, ints, i.right, j.right); below = omega (arith, ints, i.below, j.below); above = omega (arith, ints, i.above, j.above) }
 
-within_same : (r : Rectangle) → IsWithin r r
-within_same r = record { left = omega (arith, ints); right = omega (arith, ints); below = omega (arith, ints); above = omega (arith, ints) }
-
 -- a box only grows
 pub box_grows : (r : Rectangle) (ps : List Place) → IsWithin r (box_from r ps)
-box_grows r [] = within_same r
-box_grows r (p ∷ ps) = within_trans r (join_of r (rect_at p)) (box_from (join_of r (rect_at p)) ps) (within_join r (rect_at p)) (box_grows (join_of r (rect_at p)) ps)
+box_grows r [] = within_self r
+box_grows r (p ∷ ps) = within_trans r (join_of r (rect_at p)) (box_from (join_of r (rect_at p)) ps) (within_join_left r (rect_at p)) (box_grows (join_of r (rect_at p)) ps)
 
 -- the place lies in the rectangle
 abbrev pub LiesIn : Rectangle → Place → Type 0
@@ -49,7 +29,7 @@ box_has : (r : Rectangle) (ps : List Place) → Every (LiesIn (box_from r ps)) p
 box_has r [] = tt
 box_has r (p ∷ ps) =
     let s = join_of r (rect_at p) in
-    (within_trans (rect_at p) s (box_from s ps) (within_join_other r (rect_at p)) (box_grows s ps), box_has s ps)
+    (within_trans (rect_at p) s (box_from s ps) (within_join_right r (rect_at p)) (box_grows s ps), box_has s ps)
 
 places_in : (ps : List Place) → Every (LiesIn (box_of_places ps)) ps
 places_in [] = tt

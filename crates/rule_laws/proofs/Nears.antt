@@ -7,7 +7,7 @@ use Rattle.plane_terms.specs.Rectangle.{RectsMeet, rects_meet}
 use Rattle.topology_terms.specs.Feature.{Feature, Side, IsOf, is_on_side, feature_at, env, Agree, IsAscending}
 use Rattle.topology_terms.specs.Cutting.{near, near_after}
 use Rattle.sound_steps.proofs.Dirts.{bool_cases}
-use Rattle.sound_steps.proofs.FeatureLists.{passing, handle_of, feature_at-filter, ascending_filter, same_features, at_handle, past_handle, past_pick}
+use Rattle.sound_steps.proofs.FeatureLists.{passing, of_filter, handle_of, feature_at-filter, ascending_filter, same_features, at_handle, past_handle, past_pick}
 use Rattle.sound_steps.proofs.Meetings.{meets_from_test, envelope_proper}
 
 -- the test by which a feature is near, and that by which it comes after
@@ -81,17 +81,6 @@ kept_at test (f ∷ F) h g e t = elim (bool_cases (f.handle == h)) [
   | inr k ↦ past_pick (test f) f (filter test F) h k ∙ kept_at test F h g (sym (past_handle f F h k) ∙ e) t
 ]
 
--- what passes a filter of an ascending list is there, and passes
-of_passing : (test : Feature → Bool) (o : Option Feature) (g : Feature) → passing test o ≡ Some g → (o ≡ Some g) × (test g ≡ true)
-of_passing test None g e = cc
-of_passing test (Some f) g e = elim (bool_cases (test f)) [
-  | inl t ↦ let l : Some f ≡ Some g = sym (passed test f t) ∙ e in let same : f ≡ g = cc in (l, rw same at t)
-  | inr t ↦ let l : None ≡ Some g = sym (stopped test f t) ∙ e in cc
-]
-
-of_kept : (test : Feature → Bool) (F : List Feature) (h : ℕ) (g : Feature) → IsAscending F → feature_at (filter test F) h ≡ Some g → (feature_at F h ≡ Some g) × (test g ≡ true)
-of_kept test F h g u e = of_passing test (feature_at F h) g (sym (feature_at-filter test F h u) ∙ e)
-
 -- a feature of the side whose envelope meets the subject's is near it
 pub near_has : (A : Side) (f : Feature) (F : List Feature) (b : ℕ) (g : Feature) → IsOf F A b g → rects_meet (env f) (env g) ≡ true → feature_at (near A f F) b ≡ Some g
 near_has A f F b g i m = kept_at (is_near A f) F b g i.live (both (is_on_side A g) (rects_meet (env f) (env g)) (on_side_test g.class A.class i.on_side.class) m)
@@ -105,7 +94,7 @@ near_has A f F b g i m = kept_at (is_near A f) F b g i.live (both (is_on_side A 
 -- and what is near is of the side
 pub near_of : (A : Side) (f : Feature) (F : List Feature) (b : ℕ) (g : Feature) → IsAscending F → feature_at (near A f F) b ≡ Some g → IsOf F A b g
 near_of A f F b g u e =
-    let k = of_kept (is_near A f) F b g u e in
+    let k = of_filter (is_near A f) F b g u e in
     record { live = k.0; on_side = record { class = class_of g.class A.class (rects_meet (env f) (env g)) k.1 } }
   where
     class_of : (m n : ℕ) (b : Bool) → ((m == n) && b) ≡ true → m ≡ n
@@ -120,7 +109,7 @@ near_after_has A f F b g i m l = kept_at (is_after f) (near A f F) b g (near_has
 
 pub near_after_of : (A : Side) (f : Feature) (F : List Feature) (b : ℕ) (g : Feature) → IsAscending F → feature_at (near_after A f F) b ≡ Some g → IsOf F A b g × (f.handle < b)
 near_after_of A f F b g u e =
-    let k = of_kept (is_after f) (near A f F) b g (near_ascends A f F u) e in
+    let k = of_filter (is_after f) (near A f F) b g (near_ascends A f F u) e in
     let i = near_of A f F b g u k.0 in
     (i, rw (handle_of F b g i.live) at (above f.handle g.handle k.1))
   where

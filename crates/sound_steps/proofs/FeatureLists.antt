@@ -125,3 +125,14 @@ feature_at-filter test (f ∷ F) h u = elim (bool_cases (f.handle == h)) [
       here_pick (test f) f (filter test F) h t m ∙ sym (ap (passing test) (at_handle f F h t))
   | inr t ↦ past_pick (test f) f (filter test F) h t ∙ (feature_at-filter test F h u.1 ∙ sym (ap (passing test) (past_handle f F h t)))
 ]
+
+pub of_passing : (test : Feature → Bool) (o : Option Feature) (f : Feature) → passing test o ≡ Some f → (o ≡ Some f) × (test f ≡ true)
+of_passing test None f e = cc
+of_passing test (Some g) f e = elim (bool_cases (test g)) [
+  | inl t ↦ let l : Some g ≡ Some f = rw t at e in let same : g ≡ f = cc in (l, rw same at t)
+  | inr t ↦ let l : None ≡ Some f = rw t at e in cc
+]
+
+-- and no others
+pub of_filter : (test : Feature → Bool) (F : List Feature) (h : ℕ) (f : Feature) → IsAscending F → feature_at (filter test F) h ≡ Some f → (feature_at F h ≡ Some f) × (test f ≡ true)
+of_filter test F h f u e = of_passing test (feature_at F h) f (sym (feature_at-filter test F h u) ∙ e)

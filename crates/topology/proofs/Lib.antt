@@ -3,3 +3,4 @@ mod Kept
 mod Exchanges
 mod RuleLists
 mod RulesMore
+mod RulesLess

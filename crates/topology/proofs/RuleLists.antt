@@ -18,7 +18,7 @@ past_number q qs n e = rw e refl
 own_number : (n m : ℕ) → n ≡ m → eqb n m ≡ true
 own_number n m e = grind (arith, nat_tests)
 
-other_number : (n m : ℕ) → n ≢ m → eqb n m ≡ false
+pub other_number : (n m : ℕ) → n ≢ m → eqb n m ≡ false
 other_number n m e = grind (arith, nat_tests)
 
 -- ---- the least free number: the first from n on that no rule of the ascending list has

@@ -1,9 +1,10 @@
--- A list of rules in force that ascends by number, and a rule more.
+-- A list of rules in force that ascends by number, and a rule more or less.
 --
 -- lower_from i n rs    i, and one more for each rule whose number is below n
 -- with_rule rs q       the list with the rule q before the first of a higher number
+-- without_rule rs n   the list without the rule of the number n, in its order
 -- IsNowhere rs row     no rule in force has this row
-use Rattle.std.specs.Prelude.{◌≢◌, ℕ, ◌+◌, ltb, List, [], ◌∷◌, if◌then◌else◌}
+use Rattle.std.specs.Prelude.{◌≢◌, ℕ, ◌+◌, ltb, ◌==◌, not, filter, List, [], ◌∷◌, if◌then◌else◌}
 use Rattle.plane_terms.specs.Lists.{Every}
 use Rattle.topology_terms.specs.Broken.{Row}
 use Rattle.topology_terms.specs.Project.{InForce}
@@ -15,6 +16,9 @@ lower_from i n (q ∷ qs) = if ltb q.number n then lower_from (i + 1) n qs else 
 abbrev pub with_rule : List InForce → InForce → List InForce
 with_rule [] r = r ∷ []
 with_rule (q ∷ qs) r = if ltb q.number r.number then q ∷ with_rule qs r else r ∷ q ∷ qs
+
+abbrev pub without_rule : List InForce → ℕ → List InForce
+without_rule rs n = filter (λ (q : InForce). not (q.number == n)) rs
 
 abbrev pub IsNowhere : List InForce → Row → Type 0
 IsNowhere rs row = Every (λ (q : InForce). q.row ≢ row) rs

@@ -1,7 +1,7 @@
-ghost use Rattle.std.specs.Prelude.{◌≡◌, ◌≢◌, ◌≤◌, ◌<◌, true, false, length, None, Some, MatchOption, OnOk, OnErr};
+ghost use Rattle.std.specs.Prelude.{◌≡◌, ◌≢◌, ◌≤◌, ◌<◌, ◌==◌, not, true, false, length, None, Some, MatchOption, OnOk, OnErr};
 ghost use Rattle.topology_terms.specs.Project.{AreAscending, rule_at};
 ghost use Rattle.topology_terms.specs.Lookups.{least_free};
-ghost use Rattle.topology.specs.RuleLists.{lower_from, with_rule, IsNowhere};
+ghost use Rattle.topology.specs.RuleLists.{lower_from, with_rule, without_rule, IsNowhere};
 
 use grid_plane::NoMemory;
 use rule_findings::{InForce, RuleRow};
@@ -65,4 +65,31 @@ pub fn put_rule(rules: &mut Vec<InForce>, rule: InForce) -> Result<(), NoMemory>
     let place = place_of(rules, rule.number);
     rules.insert(place, rule)?;
     Ok(())
+}
+
+/// Whether a rule in force has this number.
+#[tactic(auto, unfolding(topology_terms::specs::Project::rule_at))]
+pub fn has_number(rules: &[InForce], number: u16) -> bool
+    ensures there { result ≡ true → rule_at rules.now number ≢ None }
+    ensures nowhere { result ≡ false → rule_at rules.now number ≡ None }
+{
+    for rule in rules {
+        if rule.number == number {
+            return true;
+        }
+    }
+    false
+}
+
+fn has_other_number(rule: &InForce, number: u16) -> bool
+    ensures { result ≡ not (rule.now.number == number) }
+{
+    rule.number != number
+}
+
+/// Takes the rule of this number out of the list.
+pub fn drop_from(rules: &mut Vec<InForce>, number: u16)
+    ensures { rules.new.items ≡ without_rule rules.old.items number }
+{
+    rules.retain(|rule| has_other_number(rule, number));
 }

@@ -1,8 +1,8 @@
-ghost use Rattle.std.specs.Prelude.{◌≡◌, ◌≤◌, ◌<◌, ◌-◌, length, IfSome, IfOk, IfErr, OnOk, OnErr};
-ghost use Rattle.topology_terms.specs.Project.{empty_project, IsOrdered};
+ghost use Rattle.std.specs.Prelude.{◌≡◌, ◌≢◌, ◌≤◌, ◌<◌, ◌-◌, length, None, IfSome, IfOk, IfErr, OnOk, OnErr};
+ghost use Rattle.topology_terms.specs.Project.{empty_project, rule_at, IsOrdered};
 ghost use Rattle.topology_terms.specs.Settled.{IsValidatedBy};
 ghost use Rattle.topology_terms.specs.Lookups.{class_number, least_free};
-ghost use Rattle.topology_terms.specs.Changes.{IsRuleAdded};
+ghost use Rattle.topology_terms.specs.Changes.{IsRuleAdded, IsRuleDropped};
 ghost use Rattle.topology.specs.RuleSteps.{MayAdd, IsRuleRefusal};
 ghost use Rattle.feature_store.specs.Keeps.{IsOfClass, IsStore};
 ghost use Rattle.topology.specs.Topologies.{IsKeptUnder, IsTopology};
@@ -12,8 +12,9 @@ use crate::fault::ChangeFault;
 use crate::fitting::fit;
 use crate::growth::{dirt_and, dirt_with, envelope_law, has_other_kind};
 use crate::kinds::KindRules;
+use crate::no_rule::NoRule;
 use crate::rule_fault::RuleFault;
-use crate::rules::{free_number, number_of_row, put_rule};
+use crate::rules::{drop_from, free_number, has_number, number_of_row, put_rule};
 use dirty_area::Dirt;
 use error_entries::Errors;
 use feature_store::{Store, StoreFault};
@@ -153,6 +154,23 @@ impl<R: KindRules> Topology<R> {
         put_rule(&mut self.rules, InForce { number, row })?;
         self.dirt = dirt;
         Ok(number)
+    }
+
+    /// Puts the rule of this number out of force. It goes with its errors, and nothing becomes dirty. Refused where no rule in
+    /// force has this number. Takes no memory.
+    pub fn drop_rule(&mut self, number: u16) -> Result<(), NoRule>
+        ensures ok { OnOk result ((rule_at self.old.rules number ≢ None) × IsRuleDropped number self.old self.new) }
+        ensures refused { IfErr result (λ _. rule_at self.old.rules number ≡ None) }
+        ensures kept { IsKeptUnder R.meaning self.old → IsKeptUnder R.meaning self.new }
+        ensures ordered { IsOrdered self.new }
+        ensures err { OnErr result (self.new ≡ self.old) }
+    {
+        if !has_number(&self.rules, number) {
+            return Err(NoRule);
+        }
+        drop_from(&mut self.rules, number);
+        self.entries.drop_rule(number);
+        Ok(())
     }
 
     /// Exchanges the live feature of this handle, or its absence, with the kept one. The envelope of what stood there is dirty

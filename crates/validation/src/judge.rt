@@ -11,8 +11,7 @@ ghost use Rattle.validation_steps.specs.Framed.{IsFramable};
 ghost use Rattle.validation_steps.specs.Counts.{raised, judged_of};
 
 use crate::frame::frame_of;
-use crate::lookup::find;
-use crate::near::view_of;
+use crate::near::FeatureIndex;
 use error_entries::{Entry, Key};
 use grid_plane::{Handles, NoMemory, Rect};
 use rule_findings::{Finding, InForce};
@@ -66,7 +65,7 @@ fn judge_live<R: RuleSet>(
     rules: &R,
     alloc: Global,
     rule: &InForce,
-    features: &[Feature],
+    features: &FeatureIndex<'_>,
     f: &Feature,
     out: &mut Vec<Entry>,
     work: &mut Work,
@@ -81,7 +80,7 @@ fn judge_live<R: RuleSet>(
     if !rule.row.judges(f.class()) {
         return Ok(());
     }
-    let view = view_of(alloc, features, f)?;
+    let view = features.view_of(alloc, f)?;
     let findings = rules.judge_row(alloc, &rule.row, &view, f.handle(), work)?;
     add_findings(rule.number, f, findings.into_list(), out)
 }
@@ -90,7 +89,7 @@ fn judge_subject<R: RuleSet>(
     rules: &R,
     alloc: Global,
     rule: &InForce,
-    features: &[Feature],
+    features: &FeatureIndex<'_>,
     subject: u32,
     out: &mut Vec<Entry>,
     work: &mut Work,
@@ -100,7 +99,7 @@ fn judge_subject<R: RuleSet>(
     ensures part { OnOk result ((es : List terms.Entry) × (out.new.items ≡ out.old.items ++ es) × IsSubjectPart R.meaning features.now rule.now.number rule.now.row subject es) }
     ensures judged { OnOk result (work.new ≡ raised work.old (how_many (judges_test rule.now.row) (option_to_list (feature_at features.now subject)))) }
 {
-    match find(features, subject) {
+    match features.find(subject) {
         Some(f) => judge_live(rules, alloc, rule, features, f, out, work),
         None => Ok(()),
     }
@@ -110,7 +109,7 @@ fn judge_rule<R: RuleSet>(
     rules: &R,
     alloc: Global,
     rule: &InForce,
-    features: &[Feature],
+    features: &FeatureIndex<'_>,
     selected: &Handles,
     out: &mut Vec<Entry>,
     work: &mut Work,
@@ -131,7 +130,7 @@ pub fn judge_all<R: RuleSet>(
     rules: &R,
     alloc: Global,
     in_force: &[InForce],
-    features: &[Feature],
+    features: &FeatureIndex<'_>,
     selected: &Handles,
     out: &mut Vec<Entry>,
     work: &mut Work,

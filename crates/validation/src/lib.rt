@@ -1,10 +1,13 @@
 // A validation of a window: the subjects that it selects are judged anew by every rule in force.
 #![tactic(auto)]
 
+mod dirty;
 mod frame;
+mod index;
 mod judge;
 mod lookup;
 mod near;
+mod once;
 mod selection;
 mod window;
 

@@ -5,10 +5,12 @@ ghost use Rattle.topology_terms.specs.Feature as features_of;
 ghost use Rattle.topology_terms.specs.Entry as entries_of;
 ghost use Rattle.topology_terms.specs.Project.{Project};
 ghost use Rattle.topology_terms.specs.Changes.{IsSelected};
-ghost use Rattle.dirty_area.specs.Parts.{MeetsPart};
+ghost use Rattle.plane_terms.specs.Dirt.{MeetsDirt};
 ghost use Rattle.validation_steps.specs.Parts.{IsRising};
 ghost use Rattle.validation_steps.specs.Picked.{ArePicked};
 
+use crate::dirty::DirtyParts;
+use crate::once::once_each;
 use dirty_area::Dirt;
 use error_entries::{Entry, Errors};
 use grid_plane::{Handles, NoMemory, Rect};
@@ -27,29 +29,23 @@ fn push_if(found: &mut Vec<u32>, test: bool, handle: u32) -> Result<(), NoMemory
 // The features whose envelope meets what is dirty of the window.
 fn add_features(
     features: &[Feature],
-    dirt: &Dirt,
-    window: &Rect,
+    dirty: &DirtyParts,
     found: &mut Vec<u32>,
 ) -> Result<(), NoMemory>
-    ensures { OnOk result (ArePicked (λ (f : features_of.Feature). MeetsPart dirt.now window.now (env f)) (λ (f : features_of.Feature). f.handle) features.now found.old.items found.new.items) }
+    ensures { OnOk result (ArePicked (λ (f : features_of.Feature). MeetsDirt dirty.now (env f)) (λ (f : features_of.Feature). f.handle) features.now found.old.items found.new.items) }
 {
     for f in features {
-        push_if(found, dirt.meets_part(window, &f.shape().env()), f.handle())?;
+        push_if(found, dirty.meets(&f.shape().env()), f.handle())?;
     }
     Ok(())
 }
 
 // The subjects of the errors whose frame does.
-fn add_subjects(
-    entries: &[Entry],
-    dirt: &Dirt,
-    window: &Rect,
-    found: &mut Vec<u32>,
-) -> Result<(), NoMemory>
-    ensures { OnOk result (ArePicked (λ (e : entries_of.Entry). MeetsPart dirt.now window.now e.frame) (λ (e : entries_of.Entry). e.subject) entries.now found.old.items found.new.items) }
+fn add_subjects(entries: &[Entry], dirty: &DirtyParts, found: &mut Vec<u32>) -> Result<(), NoMemory>
+    ensures { OnOk result (ArePicked (λ (e : entries_of.Entry). MeetsDirt dirty.now e.frame) (λ (e : entries_of.Entry). e.subject) entries.now found.old.items found.new.items) }
 {
     for e in entries {
-        push_if(found, dirt.meets_part(window, &e.frame()), e.key().subject)?;
+        push_if(found, dirty.meets(&e.frame()), e.key().subject)?;
     }
     Ok(())
 }
@@ -66,14 +62,6 @@ fn handles_of(alloc: Global, found: &[u32]) -> Result<Handles, NoMemory>
     Ok(handles)
 }
 
-fn once_each(found: &mut Vec<u32>)
-    ensures ascending { IsStrictlyIncreasing found.new.items }
-    ensures same { (a : ℕ) → Contains found.new.items a ↔ Contains found.old.items a }
-{
-    found.sort_unstable();
-    found.dedup();
-}
-
 /// The handles that the window and the dirt select: of live features by their envelope, and of subjects of errors by the
 /// error's frame.
 pub fn select(
@@ -87,9 +75,10 @@ pub fn select(
     ensures rising { IfOk result IsRising }
     ensures chosen { IfOk result (λ s. (p : Project) → p.features ≡ features.now → p.dirt ≡ dirt.now → p.entries ≡ errors.now → (a : ℕ) → Contains s a ↔ IsSelected p window.now a) }
 {
+    let dirty = DirtyParts::of(alloc, dirt, window)?;
     let mut found = Vec::new(alloc);
-    add_features(features, dirt, window, &mut found)?;
-    add_subjects(errors.entries(), dirt, window, &mut found)?;
+    add_features(features, &dirty, &mut found)?;
+    add_subjects(errors.entries(), &dirty, &mut found)?;
     once_each(&mut found);
     handles_of(alloc, &found)
 }

@@ -13,6 +13,7 @@ ghost use Rattle.validation_steps.specs.Counts.{raised, judged_of};
 ghost use Rattle.validation.specs.Projects.{HasParts, with_parts};
 
 use crate::judge::judge_all;
+use crate::near::FeatureIndex;
 use crate::selection::select;
 use dirty_area::Dirt;
 use error_entries::{Entry, Errors};
@@ -39,8 +40,9 @@ fn rejudge<R: RuleSet>(
     ensures ascending { IfOk result (λ es. entries_of.IsAscending es.items) }
     ensures judged { IfOk result (λ _. work.new ≡ raised work.old (judged_of in_force.now (live_of features.now selected.now))) }
 {
+    let indexed = FeatureIndex::of(alloc, features)?;
     let mut found = Vec::new(alloc);
-    judge_all(rules, alloc, in_force, features, selected, &mut found, work)?;
+    judge_all(rules, alloc, in_force, &indexed, selected, &mut found, work)?;
     Ok(found)
 }
 

@@ -59,10 +59,10 @@ framable M L C row F a f xs u fits e r cut order =
     })
 
 -- ---- frames
-within_join_left : (r s : Rectangle) → IsWithin r (join_of r s)
+pub within_join_left : (r s : Rectangle) → IsWithin r (join_of r s)
 within_join_left r s = omega (arith, ints, clamps)
 
-within_join_right : (r s : Rectangle) → IsWithin s (join_of r s)
+pub within_join_right : (r s : Rectangle) → IsWithin s (join_of r s)
 within_join_right r s = omega (arith, ints, clamps)
 
 join_within : (r s t : Rectangle) → IsWithin r t → IsWithin s t → IsWithin (join_of r s) t

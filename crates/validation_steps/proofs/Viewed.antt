@@ -1,7 +1,6 @@
 -- A rule judges a subject by its view as it does by all features.
-use Rattle.std.proofs.Common.{◌≡◌, ◌↔◌, inl, inr, ℕ, List, Option, Some, None, true, Bool, sym, ◌∙◌, refl}
+use Rattle.std.proofs.Common.{◌≡◌, ◌↔◌, ℕ, List, Option, Some, true, Bool, ◌∙◌, refl}
 use Rattle.std.specs.List.{filter}
-use Rattle.std.proofs.lemmas.Bool.{cases_Bool}
 use Rattle.plane_terms.specs.Point.{Point}
 use Rattle.plane_terms.specs.Rectangle.{RectHolds, RectsMeet, rects_meet}
 use Rattle.topology_terms.specs.Feature.{Feature, feature_at, env, Agree, IsAscending}
@@ -10,7 +9,7 @@ use Rattle.topology_terms.specs.Meaning.{Meaning, Laws, Finding}
 use Rattle.sound_steps.proofs.Planes.{corner, holds_corner}
 use Rattle.sound_steps.proofs.Edits.{agree_back}
 use Rattle.sound_steps.proofs.Meetings.{envelope_proper, meets_test, meets_from_test}
-use Rattle.sound_steps.proofs.FeatureLists.{passing, ascending_filter, feature_at-filter}
+use Rattle.sound_steps.proofs.FeatureLists.{passing, of_filter, ascending_filter, feature_at-filter}
 use Rattle.validation_steps.specs.Views.{IsView, ViewLaws}
 
 near : (F V : List Feature) (f : Feature) → IsView F f V → Agree (λ g. RectsMeet (env f) (env g)) V F
@@ -54,13 +53,6 @@ module _ (M : Meaning) (L : Laws M) (row : Row) (F V : List Feature) (a : ℕ) (
   view_cut r xs h = L.cutting row V F a f v.ascending r w u (subject_seen F V a f e v) e (near F V f v) xs h
 
 -- ---- a view that was looked for among all features
-passed : (test : Feature → Bool) (o : Option Feature) (g : Feature) → passing test o ≡ Some g → (o ≡ Some g) × (test g ≡ true)
-passed test None g e = cc
-passed test (Some f) g e = elim (cases_Bool (test f)) [
-  | inl t ↦ let l : Some f ≡ Some g = rw t at e in let same : f ≡ g = cc in (l, rw same at t)
-  | inr t ↦ let l : None ≡ Some g = rw t at e in cc
-]
-
 passes : (test : Feature → Bool) (o : Option Feature) (g : Feature) → o ≡ Some g → test g ≡ true → passing test o ≡ Some g
 passes test o g e t = rw (e, t) refl
 
@@ -69,8 +61,7 @@ view_filtered F V f u e =
     let test : Feature → Bool = λ (g : Feature). rects_meet (env f) (env g) in
     record {
       forth = λ h g k.
-          let found : passing test (feature_at F h) ≡ Some g = sym (feature_at-filter test F h u) ∙ (rw e at k) in
-          let y = passed test (feature_at F h) g found in
+          let y = of_filter test F h g u (rw e at k) in
           (y.0, meets_from_test (env f) (env g) (envelope_proper f.shape) (envelope_proper g.shape) y.1);
       back = λ h g k m. rw e (feature_at-filter test F h u ∙ passes test (feature_at F h) g k (meets_test (env f) (env g) m));
       ascending = rw e (ascending_filter test F u);

@@ -1,8 +1,8 @@
 use Rattle.std.proofs.Common.{take}
 use Rattle.topology_terms.specs.Feature.{Feature, env}
-use Rattle.dirty_area.specs.Parts.{MeetsPart}
+use Rattle.plane_terms.specs.Dirt.{MeetsDirt}
 use Rattle.validation_steps.specs.Picked.{ArePicked}
 use Rattle.validation.proofs.selection.add_features.Given as goal
 
 abbrev pub invariant-loop-f : goal.invariant-loop-f
-invariant-loop-f l = ArePicked (λ (f : Feature). MeetsPart l.dirt l.window (env f)) (λ (f : Feature). f.handle) (take l.f-index l.features) l.initial.found.items l.found.items
+invariant-loop-f l = ArePicked (λ (f : Feature). MeetsDirt l.dirty (env f)) (λ (f : Feature). f.handle) (take l.f-index l.features) l.initial.found.items l.found.items

@@ -1,8 +1,8 @@
 use Rattle.std.proofs.Common.{take}
 use Rattle.topology_terms.specs.Entry.{Entry}
-use Rattle.dirty_area.specs.Parts.{MeetsPart}
+use Rattle.plane_terms.specs.Dirt.{MeetsDirt}
 use Rattle.validation_steps.specs.Picked.{ArePicked}
 use Rattle.validation.proofs.selection.add_subjects.Given as goal
 
 abbrev pub invariant-loop-e : goal.invariant-loop-e
-invariant-loop-e l = ArePicked (λ (e : Entry). MeetsPart l.dirt l.window e.frame) (λ (e : Entry). e.subject) (take l.e-index l.entries) l.initial.found.items l.found.items
+invariant-loop-e l = ArePicked (λ (e : Entry). MeetsDirt l.dirty e.frame) (λ (e : Entry). e.subject) (take l.e-index l.entries) l.initial.found.items l.found.items

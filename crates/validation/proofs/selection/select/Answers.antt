@@ -9,6 +9,7 @@ use Rattle.validation_steps.specs.Parts.{IsRising}
 use Rattle.validation_steps.specs.Picked.{ArePicked}
 use Rattle.validation_steps.proofs.Handles.{rising}
 use Rattle.validation_steps.proofs.Selecting.{selected_picked}
+use Rattle.validation.proofs.Dirtied.{meets_parts, picked_as}
 use Rattle.validation.proofs.selection.select.Goals as goal
 
 pub returns-clause-rising : goal.returns-clause-rising
@@ -21,8 +22,9 @@ returns-clause-chosen c = IfOk-weaker c.handles_of.result _
     let w = c.args.window.now in
     let early = c.add_features.new.found.items in
     let late = c.add_subjects.new.found.items in
-    let first : ArePicked (λ (f : Feature). MeetsPart p.dirt w (env f)) (λ (f : Feature). f.handle) p.features [] early = rw (ef, ed) (rw c.new-found.ensures.items at c.in_ok-add_features.ensures) in
-    let second : ArePicked (λ (e : Entry). MeetsPart p.dirt w e.frame) (λ (e : Entry). e.subject) p.entries early late = rw (ee, ed) (rw c.entries.ensures.value at c.in_ok-add_subjects.ensures) in
+    let meets = meets_parts c.in_ok-dirty.dirty c.args.dirt.now w c.in_ok-dirty.ensures in
+    let first : ArePicked (λ (f : Feature). MeetsPart p.dirt w (env f)) (λ (f : Feature). f.handle) p.features [] early = rw (ef, ed) (picked_as _ (λ (f : Feature). MeetsPart c.args.dirt.now w (env f)) (λ (f : Feature). f.handle) c.args.features.now [] early (λ f. meets (env f)) (rw c.new-found.ensures.items at c.in_ok-add_features.ensures)) in
+    let second : ArePicked (λ (e : Entry). MeetsPart p.dirt w e.frame) (λ (e : Entry). e.subject) p.entries early late = rw (ee, ed) (picked_as _ (λ (e : Entry). MeetsPart c.args.dirt.now w e.frame) (λ (e : Entry). e.subject) c.args.errors.now early late (λ e. meets e.frame) (rw c.entries.ensures.value at c.in_ok-add_subjects.ensures)) in
     let chosen = selected_picked p w early late (rw ef c.requires) (rw ee c.entries.ensures.ascending) first second a in
     let once = c.once_each.ensures.same a in
     subst (λ t. Contains t a ↔ IsSelected p w a) (sym (h ∙ c.deref.ensures.value)) ((λ k. chosen.0 (once.0 k)), (λ k. once.1 (chosen.1 k)))) c.handles_of.ensures

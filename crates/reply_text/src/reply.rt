@@ -1,0 +1,85 @@
+ghost use Rattle.std.specs.Prelude.{◌≡◌, ◌++◌, OnOk};
+ghost use Rattle.script_terms.specs.Reply.{Number, Judged, Refused, reply_text};
+ghost use Rattle.reply_text.specs.Replies.{refusal_of, said_of};
+
+use crate::cells::push_cell_list;
+use crate::dirt::push_dirty_list;
+use crate::errors::push_error_list;
+use crate::features::push_feature_list;
+use crate::numbers::{push_number, push_text};
+use crate::refusal::{Refusal, push_refusal};
+use grid_plane::NoMemory;
+use topology::{KindRules, Summary, Topology};
+
+/// What a line is answered. A listing lists the topology that it is said of.
+#[derive(Clone, Copy)]
+pub enum Reply {
+    /// The line is skipped.
+    Nothing,
+    /// The command is done.
+    Done,
+    /// The command is done, and this is the number or the handle that it gave.
+    Number(u32),
+    /// A validation is done.
+    Judged(Summary),
+    /// The line is refused.
+    Refused(Refusal),
+    /// The dirty areas.
+    DirtyList,
+    /// The errors, without their cells.
+    ErrorList,
+    /// The errors, each with its cells.
+    CellList,
+    /// The live features.
+    FeatureList,
+}
+
+fn push_given(out: &mut Vec<u8>, number: u32) -> Result<(), NoMemory>
+    ensures { OnOk result (out.new.items ≡ out.old.items ++ reply_text (Number number)) }
+{
+    push_text(out, b"ok ")?;
+    push_number(out, number)?;
+    push_text(out, b"\n")
+}
+
+fn push_judged(out: &mut Vec<u8>, summary: Summary) -> Result<(), NoMemory>
+    ensures { OnOk result (out.new.items ≡ out.old.items ++ reply_text (Judged summary.judged summary.errors summary.dirty)) }
+{
+    push_text(out, b"ok judged ")?;
+    push_number(out, summary.judged)?;
+    push_text(out, b" errors ")?;
+    push_number(out, summary.errors)?;
+    push_text(out, b" dirty ")?;
+    push_number(out, summary.dirty)?;
+    push_text(out, b"\n")
+}
+
+fn push_refused(out: &mut Vec<u8>, refusal: Refusal) -> Result<(), NoMemory>
+    ensures { OnOk result (out.new.items ≡ out.old.items ++ reply_text (Refused (refusal_of refusal))) }
+{
+    push_text(out, b"refused ")?;
+    push_refusal(out, refusal)?;
+    push_text(out, b"\n")
+}
+
+/// Appends the text of a reply, each line with one LF at its end; a listing lists this topology. `NoMemory` comes where memory
+/// runs out: what then stands behind the old text is not specified.
+pub fn push_reply<R: KindRules>(
+    out: &mut Vec<u8>,
+    topology: &Topology<R>,
+    reply: Reply,
+) -> Result<(), NoMemory>
+    ensures { OnOk result (out.new.items ≡ out.old.items ++ reply_text (said_of topology.now reply)) }
+{
+    match reply {
+        Reply::Nothing => Ok(()),
+        Reply::Done => push_text(out, b"ok\n"),
+        Reply::Number(number) => push_given(out, number),
+        Reply::Judged(summary) => push_judged(out, summary),
+        Reply::Refused(refusal) => push_refused(out, refusal),
+        Reply::DirtyList => push_dirty_list(out, topology.dirt()),
+        Reply::ErrorList => push_error_list(out, topology.errors()),
+        Reply::CellList => push_cell_list(out, topology.errors()),
+        Reply::FeatureList => push_feature_list(out, topology.store()),
+    }
+}

@@ -1,0 +1,169 @@
+-- The features whose handles an index gives for a rectangle are those whose envelope meets it.
+use Rattle.std.proofs.Common.{◌≡◌, ◌↔◌, ◌⊎◌, inl, inr, ℕ, ◌<◌, ◌+◌, zero, suc, Bool, true, false, List, [], ◌∷◌, ◌++◌, Option, Some, None, cond, map, refl, sym, ◌∙◌, ap, subst, arith, take, length, get_or, Contains}
+use Rattle.std.specs.Prelude.{◌==◌}
+use Rattle.std.specs.Option.{option_to_list}
+use Rattle.std.specs.List.{filter}
+use Rattle.std.specs.List.Sorted.{IsPermutation, IsStrictlyIncreasing}
+use Rattle.std.proofs.lemmas.Bool.{cases_Bool}
+use Rattle.std.proofs.lemmas.Bool.Decides.{nat_tests}
+use Rattle.std.proofs.lemmas.List.{take_more}
+use Rattle.std.proofs.lemmas.List.Elements.{recursion_from_All}
+use Rattle.std.proofs.lemmas.List.Sorted.{Contains-permutation, IsPermutation-sym}
+use Rattle.std.proofs.lemmas.Grind.{flat_map-append}
+use Rattle.plane_terms.specs.Lists.{Every, SomeOf, IsThose}
+use Rattle.plane_terms.specs.Rectangle.{Rectangle, rects_meet}
+use Rattle.topology_terms.specs.Feature.{Feature, feature_at, env, IsAscending}
+use Rattle.sound_steps.proofs.FeatureLists.{at_handle, past_handle, handle_of}
+use Rattle.validation_steps.specs.Parts.{live_of}
+use Rattle.validation_steps.specs.Views.{IsView}
+use Rattle.validation_steps.proofs.Handles.{IsAmong, among, contained, rising}
+use Rattle.validation_steps.proofs.Selecting.{some_feature, feature_some}
+use Rattle.validation_steps.proofs.Counting.{live_those}
+use Rattle.validation_steps.proofs.Viewed.{view_filtered}
+use Rattle.validation.specs.Index.{spot_of, meets_spot, IsNear}
+use Rattle.validation.specs.declared.index.Spot.{Spot}
+use Rattle.validation.proofs.Elements.{all_before}
+
+-- ---- the handles that are found
+picked_among : (t : Bool) (s : Spot) (rest : List Spot) (a : ℕ) → IsAmong a (map (λ (s : Spot). s.handle) (cond t (s ∷ rest) rest)) → ((t ≡ true) × (s.handle ≡ a)) ⊎ IsAmong a (map (λ (s : Spot). s.handle) rest)
+picked_among true s rest a h = elim h [ inl e ↦ inl (refl, sym e) | inr k ↦ inr k ]
+picked_among false s rest a h = inr h
+
+picked_here : (t : Bool) (s : Spot) (rest : List Spot) (a : ℕ) → t ≡ true → s.handle ≡ a → IsAmong a (map (λ (s : Spot). s.handle) (cond t (s ∷ rest) rest))
+picked_here true s rest a t e = inl (sym e)
+picked_here false s rest a t e = cc
+
+picked_later : (t : Bool) (s : Spot) (rest : List Spot) (a : ℕ) → IsAmong a (map (λ (s : Spot). s.handle) rest) → IsAmong a (map (λ (s : Spot). s.handle) (cond t (s ∷ rest) rest))
+picked_later true s rest a k = inr k
+picked_later false s rest a k = k
+
+near_found : (r : Rectangle) (ss : List Spot) (a : ℕ) → IsAmong a (map (λ (s : Spot). s.handle) (filter (meets_spot r) ss)) → IsNear r ss a
+near_found r [] a h = absurd h
+near_found r (s ∷ ss) a h = elim (picked_among (meets_spot r s) s (filter (meets_spot r) ss) a h) [
+  | inl k ↦ inl (k.1, k.0)
+  | inr k ↦ inr (near_found r ss a k)
+]
+
+found_near : (r : Rectangle) (ss : List Spot) (a : ℕ) → IsNear r ss a → IsAmong a (map (λ (s : Spot). s.handle) (filter (meets_spot r) ss))
+found_near r [] a h = absurd h
+found_near r (s ∷ ss) a h = elim h [
+  | inl k ↦ picked_here (meets_spot r s) s (filter (meets_spot r) ss) a k.1 k.0
+  | inr k ↦ picked_later (meets_spot r s) s (filter (meets_spot r) ss) a (found_near r ss a k)
+]
+
+-- the handles of the candidates that meet the rectangle
+pub handles_near : (r : Rectangle) (some all : List Spot) (handles : List ℕ) → filter (meets_spot r) some ≡ filter (meets_spot r) all → handles ≡ map (λ (s : Spot). s.handle) (filter (meets_spot r) some)
+    → (a : ℕ) → Contains handles a ↔ IsNear r all a
+handles_near r some all handles same is a =
+    let e : handles ≡ map (λ (s : Spot). s.handle) (filter (meets_spot r) all) = is ∙ ap (λ (ss : List Spot). map (λ (s : Spot). s.handle) ss) same in (
+      (λ h. near_found r all a (rw e at (among a handles h))),
+      (λ h. contained a handles (rw e (found_near r all a h))),
+    )
+
+-- ---- in another order
+some_place : {X : Type 0} (P : X → Type 0) (xs : List X) → SomeOf P xs → (x : X) × Contains xs x × P x
+some_place P [] h = absurd h
+some_place P (x ∷ xs) h = elim h [
+  | inl p ↦ (x, (0, omega arith, refl), p)
+  | inr k ↦ let y = some_place P xs k in (y.0, (suc y.1.0, omega (arith, y.1.1), y.1.2), y.2)
+]
+
+place_some : {X : Type 0} (P : X → Type 0) (xs : List X) (x : X) (k : ℕ) → k < length xs → get_or xs k x ≡ x → P x → SomeOf P xs
+place_some P [] x k l e p = absurd (omega arith)
+place_some P (y ∷ ys) x zero l e p = inl (subst P (sym e) p)
+place_some P (y ∷ ys) x (suc k) l e p = inr (place_some P ys x k (omega arith) e p)
+
+pub some_moved : {X : Type 0} (P : X → Type 0) (xs ys : List X) → IsPermutation xs ys → SomeOf P xs → SomeOf P ys
+some_moved P xs ys m h =
+    let y = some_place P xs h in
+    let c = Contains-permutation xs ys y.0 m y.1 in
+    place_some P ys y.0 c.0 c.1 c.2 y.2
+
+-- ---- of features
+MeetsAt : Rectangle → ℕ → Feature → Type 0
+MeetsAt r a f = (f.handle ≡ a) × (rects_meet r (env f) ≡ true)
+
+spot_feature : (r : Rectangle) (F : List Feature) (a : ℕ) → IsNear r (map spot_of F) a → SomeOf (MeetsAt r a) F
+unfolding MeetsAt
+spot_feature r [] a h = absurd h
+spot_feature r (f ∷ F) a h = elim h [ inl k ↦ inl k | inr k ↦ inr (spot_feature r F a k) ]
+
+feature_spot : (r : Rectangle) (F : List Feature) (a : ℕ) → SomeOf (MeetsAt r a) F → IsNear r (map spot_of F) a
+unfolding MeetsAt
+feature_spot r [] a h = absurd h
+feature_spot r (f ∷ F) a h = elim h [ inl k ↦ inl k | inr k ↦ inr (feature_spot r F a k) ]
+
+-- each feature of an ascending list is looked up under its own handle
+later_live : (f : Feature) (F xs : List Feature) → Every (λ (g : Feature). f.handle < g.handle) xs → Every (λ (g : Feature). feature_at F g.handle ≡ Some g) xs → Every (λ (g : Feature). feature_at (f ∷ F) g.handle ≡ Some g) xs
+later_live f F [] u v = tt
+later_live f F (g ∷ xs) u v = (past_handle f F g.handle (other f.handle g.handle u.0) ∙ v.0, later_live f F xs u.1 v.1)
+  where
+    other : (m n : ℕ) → m < n → (m == n) ≡ false
+    other m n l = grind (arith, nat_tests)
+
+each_live : (F : List Feature) → IsAscending F → Every (λ (f : Feature). feature_at F f.handle ≡ Some f) F
+each_live [] u = tt
+each_live (f ∷ F) u = (at_handle f F f.handle (own f.handle), later_live f F F u.0 (each_live F u.1))
+  where
+    own : (m : ℕ) → (m == m) ≡ true
+    own m = grind (arith, nat_tests)
+
+those_passing : (Q : Feature → Type 0) (test : Feature → Bool) (xs V : List Feature) → Every (λ (f : Feature). Q f ↔ (test f ≡ true)) xs → IsThose Q xs V → V ≡ filter test xs
+those_passing Q test [] V u h = h
+those_passing Q test (x ∷ xs) V u h = elim h [
+  | inl k ↦ k.1.1 ∙ (ap (λ l. x ∷ l) (those_passing Q test xs k.1.0 u.1 k.1.2) ∙ sym (taken (test x) x (filter test xs) (u.0.0 k.0)))
+  | inr k ↦ those_passing Q test xs V u.1 k.1 ∙ sym (passed (test x) x (filter test xs) (elim (cases_Bool (test x)) [ inl t ↦ absurd (k.0 (u.0.1 t)) | inr t ↦ t ]))
+]
+  where
+    taken : (b : Bool) (x : Feature) (ys : List Feature) → b ≡ true → cond b (x ∷ ys) ys ≡ x ∷ ys
+    taken b x ys e = rw e refl
+
+    passed : (b : Bool) (x : Feature) (ys : List Feature) → b ≡ false → cond b (x ∷ ys) ys ≡ ys
+    passed b x ys e = rw e refl
+
+told_by : (r : Rectangle) (F xs : List Feature) → IsAscending F → Every (λ (f : Feature). feature_at F f.handle ≡ Some f) xs → Every (λ (f : Feature). SomeOf (MeetsAt r f.handle) F ↔ (rects_meet r (env f) ≡ true)) xs
+unfolding MeetsAt
+told_by r F [] u v = tt
+told_by r F (f ∷ xs) u v = ((forth, λ t. feature_some (λ (g : Feature). rects_meet r (env g) ≡ true) F f.handle f v.0 t), told_by r F xs u v.1)
+  where
+    forth : SomeOf (λ (g : Feature). (g.handle ≡ f.handle) × (rects_meet r (env g) ≡ true)) F → rects_meet r (env f) ≡ true
+    forth h =
+        let y = some_feature (λ (g : Feature). rects_meet r (env g) ≡ true) F f.handle u h in
+        let l : Some y.0 ≡ Some f = sym y.1 ∙ v.0 in
+        let same : y.0 ≡ f = cc in
+        subst (λ (g : Feature). rects_meet r (env g) ≡ true) same y.2
+
+pub view_near : (F V : List Feature) (f : Feature) (ss : List Spot) (handles : List ℕ) → IsAscending F → IsPermutation (map spot_of F) ss → IsStrictlyIncreasing handles
+    → ((a : ℕ) → Contains handles a ↔ IsNear (env f) ss a) → V ≡ live_of F handles → IsView F f V
+view_near F V f ss handles u moved v near is =
+    let r = env f in
+    let P : ℕ → Type 0 = λ a. SomeOf (MeetsAt r a) F in
+    let test : Feature → Bool = λ (g : Feature). rects_meet r (env g) in
+    let those : IsThose (λ (g : Feature). P g.handle) F (live_of F handles) = live_those P F handles u (rising handles v) (λ a. (
+      (λ h. spot_feature r F a (some_moved (λ (s : Spot). (s.handle ≡ a) × (meets_spot r s ≡ true)) ss (map spot_of F) (IsPermutation-sym (map spot_of F) ss moved) ((near a).0 h))),
+      (λ h. (near a).1 (some_moved (λ (s : Spot). (s.handle ≡ a) × (meets_spot r s ≡ true)) (map spot_of F) ss moved (feature_spot r F a h))),
+    )) in
+    view_filtered F V f u (is ∙ those_passing (λ (g : Feature). P g.handle) test F (live_of F handles) (told_by r F F u (each_live F u)) those)
+
+-- ---- put together one handle after another
+pub live_more : (F : List Feature) (ns : List ℕ) (i a : ℕ) (o : Option Feature) → i < length ns → a ≡ get_or ns i a → feature_at F a ≡ o → live_of F (take (i + 1) ns) ≡ live_of F (take i ns) ++ option_to_list o
+live_more F ns i a o l e k =
+    let one : ℕ → List Feature = λ n. option_to_list (feature_at F n) in
+    let more : take (i + 1) ns ≡ take i ns ++ a ∷ [] = take_more ns i a l ∙ ap (λ y. take i ns ++ y ∷ []) (sym e) in
+    rw (more, flat_map-append one (take i ns) (a ∷ []), k) (ap (λ l. live_of F (take i ns) ++ l) (alone o))
+  where
+    alone : (o : Option Feature) → option_to_list o ++ [] ≡ option_to_list o
+    alone None = refl
+    alone (Some f) = refl
+
+one_below : (o : Option Feature) (rest : List Feature) (n x : ℕ) → ((f : Feature) → o ≡ Some f → f.handle ≡ n) → n < x → Every (λ (g : Feature). g.handle < x) rest → Every (λ (g : Feature). g.handle < x) (option_to_list o ++ rest)
+one_below None rest n x own l h = h
+one_below (Some f) rest n x own l h = (let e = own f refl in omega arith, h)
+
+live_below : (F : List Feature) (ns : List ℕ) (x : ℕ) → Every (λ (n : ℕ). n < x) ns → Every (λ (g : Feature). g.handle < x) (live_of F ns)
+live_below F [] x u = tt
+live_below F (n ∷ ns) x u = one_below (feature_at F n) (live_of F ns) n x (λ f e. handle_of F n f e) u.0 (live_below F ns x u.1)
+
+-- the features of the handles before this one stand below it
+pub below_next : (F : List Feature) (ns : List ℕ) (i a : ℕ) (f : Feature) → IsStrictlyIncreasing ns → i < length ns → a ≡ get_or ns i a → feature_at F a ≡ Some f → Every (λ (g : Feature). g.handle < f.handle) (live_of F (take i ns))
+below_next F ns i a f u l e k = rw (handle_of F a f k) (live_below F (take i ns) a (recursion_from_All (λ (n : ℕ). n < a) (take i ns) (all_before ns i a u l e)))
