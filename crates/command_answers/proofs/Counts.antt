@@ -43,5 +43,6 @@ few_judged (r ∷ rules) fs n b =
   where
     once_more : (m : ℕ) → suc m * n ≡ n + m * n
     once_more m = grind arith
+
     by : (one rest : ℕ) → one ≤ length fs → rest ≤ length rules * n → one + rest ≤ suc (length rules) * n
     by one rest h k = rw (once_more (length rules)) (omega (arith, h, k, b))

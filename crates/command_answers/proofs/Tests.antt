@@ -50,7 +50,7 @@ side_by : (A B : Side) → A.class ≡ B.class → A ≡ B
 side_by A B e = ap (λ (n : ℕ). record { class = n }) e
 
 row_by : (q r : Row) → q.kind ≡ r.kind → q.origin.class ≡ r.origin.class → q.dest.class ≡ r.dest.class → q ≡ r
-row_by q r kinds origins dests = 
+row_by q r kinds origins dests =
     ap (λ (k : RuleKind). record { kind = k; origin = q.origin; dest = q.dest }) kinds
     ∙ (ap (λ (A : Side). record { kind = r.kind; origin = A; dest = q.dest }) (side_by q.origin r.origin origins)
     ∙ ap (λ (B : Side). record { kind = r.kind; origin = r.origin; dest = B }) (side_by q.dest r.dest dests))

@@ -2,8 +2,8 @@ ghost use Rattle.std.specs.Prelude.{◌≡◌};
 ghost use Rattle.topology_terms.specs.Feature as terms;
 ghost use Rattle.topology_terms.specs.Broken.{judges_test};
 
-use std::marker::Model;
 use rule_core::RuleKind;
+use std::marker::Model;
 
 /// What a rule in force speaks of: its kind, the number of the class of its subjects, and the number of its second class,
 /// or 0 where it has none.

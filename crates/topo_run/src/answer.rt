@@ -37,7 +37,11 @@ pub fn answer_line(
             Ok(is_refusal(reply))
         }
         Err(LineFault::Refused(refusal)) => {
-            push_reply(out, world.topology(), Reply::Refused(Refusal::Line(refusal)))?;
+            push_reply(
+                out,
+                world.topology(),
+                Reply::Refused(Refusal::Line(refusal)),
+            )?;
             Ok(true)
         }
         Err(LineFault::NoMemory) => Err(NoMemory),
