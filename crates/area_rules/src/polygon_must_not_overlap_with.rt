@@ -41,6 +41,12 @@ impl PolygonMustNotOverlapWith {
     }
 }
 
+fn is_of(class: u16, other: &Feature) -> bool
+    ensures { result ≡ is_of class other.now }
+{
+    other.class() == class
+}
+
 fn overlaps_with(
     alloc: Global,
     class: u16,
@@ -54,7 +60,7 @@ fn overlaps_with(
     let mut findings = Findings::new(alloc);
     for i in 0..view.len() {
         let other = view.feature(i);
-        if other.class() == class {
+        if is_of(class, other) {
             push_overlap(alloc, &mut findings, &cells, other)?;
         }
     }

@@ -17,7 +17,7 @@ use Rattle.script_terms.specs.State.{State, is_open}
 use Rattle.script_terms.specs.Refusing.{refusal_of, number_or_0, kind_of_class, kind_at, is_kind, same_kind}
 use Rattle.command_answers.specs.Refusals.{class_refusal, change_refusal}
 use Rattle.command_answers.proofs.Tests.{own_kind, other_kind, other_number, own_number}
-use Rattle.command_answers.proofs.Classes.{not_absent, kind_told, other_told}
+use Rattle.command_answers.proofs.ClassLookups.{not_absent, kind_told, other_told}
 
 -- ---- classes
 pub refused_class : (s : State) (name : List ℕ) (k : Kind) (e : StoreFault) → IsClassRefusal s.project name e → e ≢ store_fault.NoMemory → refusal_of s (Class name k) ≡ Some (class_refusal e)

@@ -1,7 +1,8 @@
 pub mod Tests
-pub mod Classes
+pub mod ClassLookups
 pub mod Counts
 pub mod RuleRefusals
 pub mod EditRefusals
 pub mod Answering
 pub mod Headlines
+pub mod Replying

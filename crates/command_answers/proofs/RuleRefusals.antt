@@ -23,7 +23,7 @@ use Rattle.script_terms.specs.State.{State}
 use Rattle.script_terms.specs.Refusing.{row_of, lacks_class, lacks_second, named_number, number_or_0, is_fit, fits_dest, is_kind, kind_of_class, is_row, refusal_of}
 use Rattle.command_answers.specs.Refusals.{rule_refusal}
 use Rattle.command_answers.proofs.Tests.{other_number, own_number, same_row, own_row}
-use Rattle.command_answers.proofs.Classes.{not_absent, kind_told, other_told}
+use Rattle.command_answers.proofs.ClassLookups.{not_absent, kind_told, other_told}
 
 false_last : (t : Bool) → (t && false) ≡ false
 false_last true = refl

@@ -4,7 +4,7 @@ ghost use Rattle.script_terms.specs.Answer.{Answers};
 ghost use Rattle.reply_text.specs.Replies.{said_of};
 
 use crate::classes::NOT_BUILT;
-use crate::refused::refused_change;
+use crate::refused::{reply_to_add, reply_to_change};
 use crate::world::World;
 use grid_plane::{Name, NoMemory, Rect};
 use reply_text::{Refusal, Reply};
@@ -24,7 +24,7 @@ impl World {
     }
 
     /// `by EDITOR add CLASS SHAPE`
-    #[tactic(auto, using(crate::proofs::Answering::feature_added, crate::proofs::Answering::add_refused))]
+    #[tactic(auto, using(crate::proofs::Replying::add_replied))]
     pub(crate) fn answer_add(
         &mut self,
         editor: &Name,
@@ -40,14 +40,11 @@ impl World {
         let Some(class) = self.topology.store().class_by_name(class) else {
             return Ok(Reply::Refused(Refusal::NoClass));
         };
-        match self.topology.add(class, shape) {
-            Ok(handle) => Ok(Reply::Number(handle)),
-            Err(fault) => refused_change(fault),
-        }
+        reply_to_add(self.topology.add(class, shape))
     }
 
     /// `by EDITOR change H SHAPE`
-    #[tactic(auto, using(crate::proofs::Answering::feature_changed, crate::proofs::Answering::change_refused))]
+    #[tactic(auto, using(crate::proofs::Replying::change_replied))]
     pub(crate) fn answer_change(
         &mut self,
         editor: &Name,
@@ -60,14 +57,11 @@ impl World {
         if !self.is_open(editor) {
             return Ok(Reply::Refused(Refusal::NoSession));
         }
-        match self.topology.change(handle, shape) {
-            Ok(_) => Ok(Reply::Done),
-            Err(fault) => refused_change(fault),
-        }
+        reply_to_change(self.topology.change(handle, shape))
     }
 
     /// `by EDITOR delete H`
-    #[tactic(auto, using(crate::proofs::Answering::feature_deleted, crate::proofs::Answering::delete_refused))]
+    #[tactic(auto, using(crate::proofs::Replying::delete_replied))]
     pub(crate) fn answer_delete(&mut self, editor: &Name, handle: u32) -> Result<Reply, NoMemory>
         ensures answers { IfOk result (λ r. Answers self.old (Delete editor.now handle) (said_of self.new.project r) self.new) }
         ensures err { OnErr result (self.new ≡ self.old) }
@@ -75,10 +69,7 @@ impl World {
         if !self.is_open(editor) {
             return Ok(Reply::Refused(Refusal::NoSession));
         }
-        match self.topology.delete(handle) {
-            Ok(_) => Ok(Reply::Done),
-            Err(fault) => refused_change(fault),
-        }
+        reply_to_change(self.topology.delete(handle))
     }
 
     /// `validate X0 Y0 X1 Y1`, and `validate all`
@@ -88,6 +79,8 @@ impl World {
         ensures err { OnErr result (self.new ≡ self.old) }
     {
         let mut work = Work::new();
+        self.topology.topology_law();
+        self.topology.store().next_handle();
         Ok(Reply::Judged(self.topology.validate(window, &mut work)?))
     }
 }

@@ -1,13 +1,15 @@
-ghost use Rattle.std.specs.Prelude.{◌≡◌, ◌≢◌, IfOk};
+ghost use Rattle.std.specs.Prelude.{◌≡◌, ◌≢◌, Err, IfOk, OnErr, MatchResult};
 ghost use Rattle.topology_terms.specs.Project.{Project};
-ghost use Rattle.script_terms.specs.Reply.{Refused};
+ghost use Rattle.script_terms.specs.Reply.{Done, Number, Refused};
+ghost use Rattle.topology.specs.declared.fault.ChangeFault.{ChangeFault};
+ghost use Rattle.topology.specs.declared.fault.ChangeFault.TheVariants as change_fault;
 ghost use Rattle.reply_text.specs.Replies.{said_of};
 ghost use Rattle.command_answers.specs.Refusals.{class_refusal, change_refusal, rule_refusal};
 
 use feature_store::StoreFault;
 use grid_plane::NoMemory;
 use reply_text::{Refusal, Reply};
-use topology::{ChangeFault, RuleFault};
+use topology::{ChangeFault, Feature, RuleFault};
 
 /// What is answered where no class was added.
 pub fn refused_class(fault: StoreFault) -> Result<Reply, NoMemory>
@@ -23,9 +25,9 @@ pub fn refused_class(fault: StoreFault) -> Result<Reply, NoMemory>
     }
 }
 
-/// What is answered where no feature was added, changed or deleted.
-pub fn refused_change(fault: ChangeFault) -> Result<Reply, NoMemory>
-    ensures { IfOk result (λ r. (fault ≢ ChangeFault.NoMemory) × ((p : Project) → said_of p r ≡ Refused (change_refusal fault))) }
+// What is answered where no feature was added, changed or deleted.
+fn refused_change(fault: ChangeFault) -> Result<Reply, NoMemory>
+    ensures { IfOk result (λ r. (fault ≢ change_fault.NoMemory) × ((p : Project) → said_of p r ≡ Refused (change_refusal fault))) }
 {
     match fault {
         ChangeFault::NoClass => Ok(Reply::Refused(Refusal::NoClass)),
@@ -33,6 +35,32 @@ pub fn refused_change(fault: ChangeFault) -> Result<Reply, NoMemory>
         ChangeFault::WrongKind => Ok(Reply::Refused(Refusal::WrongKind)),
         ChangeFault::HandlesSpent => Ok(Reply::Refused(Refusal::HandlesSpent)),
         ChangeFault::NoMemory => Err(NoMemory),
+    }
+}
+
+/// What is answered to a feature that was added, or to why none was.
+pub fn reply_to_add(added: Result<u32, ChangeFault>) -> Result<Reply, NoMemory>
+    ensures spent { OnErr result ((e : ChangeFault) × (added ≡ Err e)) }
+    ensures said { IfOk result (λ r. MatchResult added
+        (λ h. (p : Project) → said_of p r ≡ Number h)
+        (λ e. (e ≢ change_fault.NoMemory) × ((p : Project) → said_of p r ≡ Refused (change_refusal e)))) }
+{
+    match added {
+        Ok(handle) => Ok(Reply::Number(handle)),
+        Err(fault) => refused_change(fault),
+    }
+}
+
+/// What is answered to a feature that was changed or deleted, or to why none was.
+pub fn reply_to_change(changed: Result<Feature, ChangeFault>) -> Result<Reply, NoMemory>
+    ensures spent { OnErr result ((e : ChangeFault) × (changed ≡ Err e)) }
+    ensures said { IfOk result (λ r. MatchResult changed
+        (λ f. (p : Project) → said_of p r ≡ Done)
+        (λ e. (e ≢ change_fault.NoMemory) × ((p : Project) → said_of p r ≡ Refused (change_refusal e)))) }
+{
+    match changed {
+        Ok(_) => Ok(Reply::Done),
+        Err(fault) => refused_change(fault),
     }
 }
 

@@ -73,14 +73,16 @@ doubles_cut n V a f shown e xs h =
     let P : Feature → Type 0 = λ g. BreaksAt (row_of n) V f.handle g.handle (place f) in
     let each : Every (λ (g : Feature). (test g ≡ true → P g) × (P g → test g ≡ true)) gs =
     each_live (λ (g : Feature). (test g ≡ true → P g) × (P g → test g ≡ true)) gs (near_after_ascends A f V shown.ascending) (λ b g k.
-        let o = near_after_of A f V b g shown.ascending k in
-        let own : b ≡ g.handle = sym (handle_of V b g o.0.live) in
-        (
-          (λ t. subst (λ m. BreaksAt (row_of n) V f.handle m (place f)) own (breaks n V b f g subject o.0 o.1 (same_from_test (place f) (place g) t))),
-          (λ p. test_of_same (place f) (place g) (there n V g.handle f g (subst (λ m. feature_at V m ≡ Some g) own o.0.live) p)),
-        )) in
-    (f, e, rw judged (record {
-      chosen = filter test gs;
-      those = those_kept P test gs each;
-      findings = h ∙ ap (pair_findings (λ g. place_cells (place f ∷ []))) (sym (kept_twice test (λ g. is_on_side A g && nat_lt f.handle g.handle) V) ∙ ap (filter test) (sym seen));
-    }))
+    let o = near_after_of A f V b g shown.ascending k in
+    let own : b ≡ g.handle = sym (handle_of V b g o.0.live) in (
+      (λ t. subst (λ m. BreaksAt (row_of n) V f.handle m (place f)) own (breaks n V b f g subject o.0 o.1 (same_from_test (place f) (place g) t))),
+      (λ p. test_of_same (place f) (place g) (there n V g.handle f g (subst (λ m. feature_at V m ≡ Some g) own o.0.live) p)),
+    )) in (
+      f,
+      e,
+      rw judged (record {
+        chosen = filter test gs;
+        those = those_kept P test gs each;
+        findings = h ∙ ap (pair_findings (λ g. place_cells (place f ∷ []))) (sym (kept_twice test (λ g. is_on_side A g && nat_lt f.handle g.handle) V) ∙ ap (filter test) (sym seen));
+      }),
+    )

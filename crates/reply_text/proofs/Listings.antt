@@ -1,5 +1,5 @@
 -- The lines of a listing, and half-planes with commas between them, one item more at a time.
-use Rattle.std.proofs.Common.{ℕ, zero, suc, ◌≡◌, ◌+◌, List, [], ◌∷◌, ◌++◌, take, drop, map, refl, sym, ◌∙◌, ap, append_assoc, append-nil, add-one, Some}
+use Rattle.std.proofs.Common.{ℕ, zero, suc, ◌≡◌, ◌+◌, List, [], ◌∷◌, ◌++◌, take, drop, map, sym, ◌∙◌, ap, append_assoc, append-nil, add-one, Some}
 use Rattle.std.specs.Prelude.{flat_map, slice_get}
 use Rattle.text_terms.specs.Wkt.{listed}
 use Rattle.wkt_steps.specs.Commas.{comma_texts}

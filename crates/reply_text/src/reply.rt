@@ -34,7 +34,7 @@ pub enum Reply {
     FeatureList,
 }
 
-fn push_given(out: &mut Vec<u8>, number: u32) -> Result<(), NoMemory>
+pub fn push_given(out: &mut Vec<u8>, number: u32) -> Result<(), NoMemory>
     ensures { OnOk result (out.new.items ≡ out.old.items ++ reply_text (Number number)) }
 {
     push_text(out, b"ok ")?;
@@ -42,7 +42,7 @@ fn push_given(out: &mut Vec<u8>, number: u32) -> Result<(), NoMemory>
     push_text(out, b"\n")
 }
 
-fn push_judged(out: &mut Vec<u8>, summary: Summary) -> Result<(), NoMemory>
+pub fn push_judged(out: &mut Vec<u8>, summary: Summary) -> Result<(), NoMemory>
     ensures { OnOk result (out.new.items ≡ out.old.items ++ reply_text (Judged summary.judged summary.errors summary.dirty)) }
 {
     push_text(out, b"ok judged ")?;
@@ -54,7 +54,7 @@ fn push_judged(out: &mut Vec<u8>, summary: Summary) -> Result<(), NoMemory>
     push_text(out, b"\n")
 }
 
-fn push_refused(out: &mut Vec<u8>, refusal: Refusal) -> Result<(), NoMemory>
+pub fn push_refused(out: &mut Vec<u8>, refusal: Refusal) -> Result<(), NoMemory>
     ensures { OnOk result (out.new.items ≡ out.old.items ++ reply_text (Refused (refusal_of refusal))) }
 {
     push_text(out, b"refused ")?;

@@ -1,5 +1,5 @@
 -- Worked rows: replies and refusals, computed from the definitions.
-use Rattle.std.proofs.Common.{◌≡◌, ℕ, ℤ, pos, false, List, [], ◌∷◌, ◌++◌, Some, None, refl}
+use Rattle.std.proofs.Common.{◌≡◌, ℤ, pos, false, [], ◌∷◌, ◌++◌, Some, None, refl}
 use Rattle.std.specs.Prelude.{codes}
 use Rattle.std.specs.Fmt.{digits}
 use Rattle.plane_terms.specs.Point.{Place}
@@ -13,7 +13,7 @@ use Rattle.topology_terms.specs.Feature.{feature_at}
 use Rattle.topology_terms.specs.Project.{Project, rule_at}
 use Rattle.shape.specs.declared.fault.ShapeFault.TheVariants as fault
 use Rattle.script_text.specs.declared.fault.LineRefusal.TheVariants as line
-use Rattle.script_text.specs.Commands.{Class, Rule, DropRule, Begin, End, Add, Change, Delete, Undo}
+use Rattle.script_text.specs.Commands.{Class, Rule, DropRule, Begin, Add, Change, Delete, Undo}
 use Rattle.script_terms.specs.Refusal.{Line, ClassTaken, NoSession, NoClass, Unfit, RuleThere, NoRule, WrongKind, NoFeature}
 use Rattle.script_terms.specs.Reply.{Judged, Refused, CellList, DirtyList, ErrorList, FeatureList, reply_text}
 use Rattle.script_terms.specs.State.{State}

@@ -30,6 +30,7 @@ pub edit_keeps : (h : ℕ) (after : Option Feature) (old new : Project) → IsTo
 edit_keeps h after old new t i s r = record {
   store = s;
   rules = rw i.rules t.rules;
+  few = rw i.rules t.few;
   kinds = rw (i.rules, i.classes) t.kinds;
   order = rw i.entries t.order;
   envelopes = λ a f k. elim (same_or_not a h) [
@@ -86,6 +87,7 @@ pub class_keeps : (d : Class) (old new : Project) → IsTopology old → IsClass
 class_keeps d old new t i s = record {
   store = s;
   rules = rw i.rules t.rules;
+  few = rw i.rules t.few;
   kinds = rw (i.rules, i.classes) (kinds_end old.classes d old.rules t.kinds);
   order = rw i.entries t.order;
   envelopes = λ a f k. t.envelopes a f (rw i.features at k);
@@ -122,6 +124,7 @@ validated_keeps M C K w old new t i order =
     record {
       store = rw (i.classes, i.features, i.next) t.store;
       rules = rw i.rules t.rules;
+      few = rw i.rules t.few;
       kinds = rw (i.rules, i.classes) t.kinds;
       order = order;
       envelopes = v.envelopes;

@@ -162,6 +162,13 @@ with_others (q ∷ qs) r k n = elim (lower_or_not q.number r.number) [
   | inr t ↦ rw t.0 (past_number r (q ∷ qs) k (other_number r.number k (λ e. n (sym e))))
 ]
 
+pub with_length : (rs : List InForce) (r : InForce) → length (with_rule rs r) ≡ length rs + 1
+with_length [] r = omega arith
+with_length (q ∷ qs) r = elim (lower_or_not q.number r.number) [
+  | inl t ↦ let l = with_length qs r in rw t.0 (omega (arith, l))
+  | inr t ↦ rw t.0 (omega arith)
+]
+
 pub with_every : (P : InForce → Type 0) (rs : List InForce) (r : InForce) → Every P rs → P r → Every P (with_rule rs r)
 with_every P [] r h p = (p, tt)
 with_every P (q ∷ qs) r h p = elim (lower_or_not q.number r.number) [

@@ -1,7 +1,6 @@
 -- A rule less keeps what every topology keeps, and what it keeps of the rules' meaning.
-use Rattle.std.proofs.Common.{◌≡◌, ◌≢◌, ◌<◌, inl, inr, ℕ, Bool, true, false, List, [], ◌∷◌, None, Some, refl, sym, ◌∙◌}
+use Rattle.std.proofs.Common.{◌≡◌, ◌≢◌, ◌<◌, ◌≤◌, arith, length, inl, inr, ℕ, Bool, true, false, List, [], ◌∷◌, None, Some, refl, sym, ◌∙◌}
 use Rattle.std.specs.Prelude.{cond, not, ◌==◌}
-use Rattle.std.specs.List.{filter}
 use Rattle.std.proofs.lemmas.Bool.Decides.{eqb_tells}
 use Rattle.plane_terms.specs.Lists.{Every}
 use Rattle.plane_terms.specs.Rectangle.{Rectangle}
@@ -10,7 +9,6 @@ use Rattle.topology_terms.specs.Entry.{Entry, entry_at}
 use Rattle.topology_terms.specs.Entry as entries
 use Rattle.topology_terms.specs.Project.{Project, InForce, AreAscending, rule_at}
 use Rattle.topology_terms.specs.Changes.{IsRuleDropped}
-use Rattle.sound_steps.proofs.Edits.{same_or_not}
 use Rattle.sound_steps.proofs.RuleChanges.{drop_rule_sound}
 use Rattle.sound_steps.proofs.Settling.{drop_rule_settled}
 use Rattle.feature_store.specs.Stored.{Stored}
@@ -58,6 +56,13 @@ without_ascending (q ∷ qs) n a = pick (is_other n q) (without_rule qs n) (ever
     pick true l h k = (h, k)
     pick false l h k = k
 
+without_length : (rs : List InForce) (n : ℕ) → length (without_rule rs n) ≤ length rs
+without_length [] n = omega arith
+without_length (q ∷ qs) n = let l = without_length qs n in elim (eqb_tells q.number n) [
+  | inl t ↦ rw t.0 (omega (arith, l))
+  | inr t ↦ rw t.0 (omega (arith, l))
+]
+
 -- the entries that are left: those of the other rules
 pub record AreLeft (n : ℕ) (old new : List Entry) : Type 0 where
   pub gone : (a b : ℕ) → entry_at new n a b ≡ None
@@ -81,6 +86,7 @@ pub rule_leaves : (n : ℕ) (s : Stored) (rules less : List InForce) (d : List R
 rule_leaves n s rules less d es fs l left order t = record {
   store = t.store;
   rules = rw l (without_ascending rules n t.rules);
+  few = let short = without_length rules n in let few = t.few in rw l (omega (arith, short, few));
   kinds = rw l (every_without (λ (q : InForce). HasKinds s.classes q.row) rules n t.kinds);
   order = order;
   envelopes = t.envelopes;

@@ -1,5 +1,5 @@
 -- A rule more keeps what every topology keeps, and what it keeps of the rules' meaning.
-use Rattle.std.proofs.Common.{◌≡◌, inl, inr, ℕ, List, None, refl, ◌∙◌}
+use Rattle.std.proofs.Common.{◌≡◌, ◌<◌, inl, inr, ℕ, List, None, length, refl, ◌∙◌, arith}
 use Rattle.plane_terms.specs.Rectangle.{Rectangle, whole_grid}
 use Rattle.plane_terms.specs.Dirt.{add_dirt}
 use Rattle.topology_terms.specs.Broken.{Row}
@@ -14,7 +14,7 @@ use Rattle.feature_store.specs.Stored.{Stored}
 use Rattle.topology.specs.Kinds.{HasKinds, TakesKinds}
 use Rattle.topology.specs.RuleLists.{with_rule}
 use Rattle.topology.specs.Topologies.{IsTopology, IsKeptUnder, project_of}
-use Rattle.topology.proofs.RuleLists.{with_here, with_others, with_every, with_ascending}
+use Rattle.topology.proofs.RuleLists.{with_here, with_others, with_length, with_every, with_ascending}
 use Rattle.topology.proofs.Whole.{valid}
 
 pub rule_added : (n : ℕ) (row : Row) (s : Stored) (rules more : List InForce) (d e : List Rectangle) (es : List Entry)
@@ -34,13 +34,14 @@ rule_added n row s rules more d e es free m dirt =
     }
 
 pub rule_keeps : (n : ℕ) (row : Row) (s : Stored) (rules more : List InForce) (d e : List Rectangle) (es : List Entry)
-    → rule_at rules n ≡ None → more ≡ with_rule rules (record { number = n; row = row })
+    → rule_at rules n ≡ None → length rules < 256 → more ≡ with_rule rules (record { number = n; row = row })
     → IsTopology (project_of s rules d es) → HasKinds s.classes row → IsTopology (project_of s more e es)
-rule_keeps n row s rules more d e es free m t kinds =
+rule_keeps n row s rules more d e es free left m t kinds =
     let q : InForce = record { number = n; row = row } in
     record {
       store = t.store;
       rules = rw m (with_ascending rules q free t.rules);
+      few = let one = with_length rules q in rw m (omega (arith, one, left));
       kinds = rw m (with_every (λ (x : InForce). HasKinds s.classes x.row) rules q t.kinds kinds);
       order = t.order;
       envelopes = t.envelopes;

@@ -80,6 +80,7 @@ unfolding feature_at rule_at entry_at
 empty_topology = record {
   store = record { few = omega arith; names = tt; ascending = tt; given = tt; kinds = tt; simple = tt; from_1 = omega arith };
   rules = tt;
+  few = omega arith;
   kinds = tt;
   order = tt;
   envelopes = λ a f e. absurd cc;

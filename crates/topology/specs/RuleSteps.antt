@@ -6,7 +6,7 @@
 -- IsFitFault cs row e  why the classes do not serve the rule
 -- MayAdd p row         they fit, no rule in force is equal, and there are fewer than 256
 -- IsRuleRefusal p row e    why the rule is not added: the first cause that there is
-use Rattle.std.specs.Prelude.{◌≡◌, ◌≢◌, ◌⊎◌, ℕ, ◌<◌, ◌≤◌, List, length, Option, Some, None}
+use Rattle.std.specs.Prelude.{◌≡◌, ◌≢◌, ◌⊎◌, ℕ, ◌<◌, List, length, Option, Some, None}
 use Rattle.plane_terms.specs.declared.kind.Kind.{Kind}
 use Rattle.topology_terms.specs.Feature.{Class}
 use Rattle.rule_core.specs.Table.{origin_of, dest_of}
@@ -54,7 +54,7 @@ pub record IsThere (p : Project) (row : Row) (n : ℕ) : Type 0 where
 pub record IsFullOfRules (p : Project) (row : Row) : Type 0 where
   pub fits : DoesFit p.classes row
   pub nowhere : IsNowhere p.rules row
-  pub full : 256 ≤ length p.rules
+  pub full : length p.rules ≡ 256
 
 abbrev pub IsRuleRefusal : Project → Row → RuleFault → Type 0
 IsRuleRefusal p row fault.NoClass = IsMissing p.classes row

@@ -1,9 +1,9 @@
 -- What every topology keeps, and what it keeps of the rules' meaning.
 --
 -- project_of s rules d es     the project of the store s, these rules in force, this dirt and these entries
--- IsTopology p         classes and features as a store keeps them; rules by number, each of classes of its kinds; entries by key, each of a rule in force
+-- IsTopology p         classes and features as a store keeps them; at most 256 rules, by number, each of classes of its kinds; entries by key, each of a rule in force
 -- IsKeptUnder M p      by the meaning M, the entries off the dirt are exactly what is broken, cut as the rules cut
-use Rattle.std.specs.Prelude.{◌≡◌, ℕ, true, List, [], Some}
+use Rattle.std.specs.Prelude.{◌≡◌, ◌≤◌, ℕ, true, List, [], Some, length}
 use Rattle.plane_terms.specs.Lists.{Every}
 use Rattle.plane_terms.specs.Rectangle.{Rectangle, IsProper, IsRectangle}
 use Rattle.topology_terms.specs.Feature.{Feature, feature_at, env}
@@ -24,6 +24,7 @@ project_of s rules d es = record { classes = s.classes; rules = rules; features 
 pub record IsTopology (p : Project) : Type 0 where
   pub store : IsStore p.classes p.features p.next
   pub rules : AreAscending p.rules
+  pub few : length p.rules ≤ 256
   pub kinds : Every (λ (q : InForce). HasKinds p.classes q.row) p.rules
   pub order : entries.IsAscending p.entries
   pub envelopes : (a : ℕ) (f : Feature) → feature_at p.features a ≡ Some f → IsRectangle (env f)

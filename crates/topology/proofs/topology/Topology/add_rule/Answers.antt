@@ -1,11 +1,13 @@
-use Rattle.std.proofs.Common.{subst, sym}
+use Rattle.std.proofs.Common.{◌<◌, length, rules, subst, sym}
 use Rattle.topology.specs.Topologies.{IsKeptUnder}
 use Rattle.topology.proofs.Whole.{ordered}
 use Rattle.topology.proofs.RulesMore.{rule_added, rule_keeps, rule_kept}
 use Rattle.topology.proofs.topology.Topology.add_rule.Goals as goal
 
 pub invariant_of-self-2 : goal.invariant_of-self-2
-invariant_of-self-2 g c = rule_keeps c.free_number-number.result c.args.row c.self.inside.store c.self.inside.rules.items c.put_rule.new.rules.items c.self.inside.dirt c.in_ok-dirt.dirt c.self.inside.entries (rw c.deref-2.ensures.value at c.free_number-number.ensures.free) c.in_ok-put_rule.ensures.ok c.self.invariant c.in_ok-fit.ensures.ok.kinds
+invariant_of-self-2 g c =
+    let few : length c.deref-2.result.now < 256 = search rules in
+    rule_keeps c.free_number-number.result c.args.row c.self.inside.store c.self.inside.rules.items c.put_rule.new.rules.items c.self.inside.dirt c.in_ok-dirt.dirt c.self.inside.entries (rw c.deref-2.ensures.value at c.free_number-number.ensures.free) (rw c.deref-2.ensures.value at few) c.in_ok-put_rule.ensures.ok c.self.invariant c.in_ok-fit.ensures.ok.kinds
 
 pub returns-clause-ok : goal.returns-clause-ok
 returns-clause-ok g c = rw (← c.self.view_is) (

@@ -1,8 +1,7 @@
-use Rattle.std.proofs.Common.{subst, sym, ◌≡◌, None}
-use Rattle.topology_terms.specs.Project.{Project, rule_at}
+use Rattle.std.proofs.Common.{subst, sym}
 use Rattle.topology.specs.Topologies.{IsKeptUnder}
 use Rattle.topology.proofs.Whole.{ordered}
-use Rattle.topology.proofs.RulesLess.{AreLeft, rule_dropped, rule_leaves, rule_less_kept}
+use Rattle.topology.proofs.RulesLess.{rule_dropped, rule_leaves, rule_less_kept}
 use Rattle.topology.proofs.topology.Topology.drop_rule.Goals as goal
 
 pub invariant_of-self : goal.invariant_of-self
