@@ -56,12 +56,14 @@ def print_kind(table, folder, kind, programs, given):
     take = lambda lines: measure_lines(folder, head + lines, programs, given)
     none, all_added = take(['# ' + line for line in adds]), take(adds)
     some_changed, some_deleted = take(adds + changed(kind, count)), take(adds + deleted(count))
-    each = lambda after, before, times: lambda i: (after[i].seconds - before[i].seconds) * 1e6 / times
+    each = lambda after, times: lambda i: (after[i].seconds - all_added[i].seconds) * 1e6 / times
     name = '%s %s' % (format(count, ','), kind)
+    some = count // 10
     table.row(name + ', added: time of each', 'µs', [all_added], lambda i: all_added[i].seconds * 1e6 / count)
-    table.row(name + ', a tenth changed: time of each change', 'µs', [all_added, some_changed], each(some_changed, all_added, count // 10))
-    table.row(name + ', a tenth deleted: time of each deletion', 'µs', [all_added, some_deleted], each(some_deleted, all_added, count // 10))
-    table.row(name + ': memory of each', 'bytes', [none, all_added], lambda i: (all_added[i].kilobytes - none[i].kilobytes) * 1024 / count)
+    table.row(name + ', a tenth changed: time of each change', 'µs', [all_added, some_changed], each(some_changed, some))
+    table.row(name + ', a tenth deleted: time of each deletion', 'µs', [all_added, some_deleted], each(some_deleted, some))
+    bytes_of = lambda i: (all_added[i].kilobytes - none[i].kilobytes) * 1024 / count
+    table.row(name + ': memory of each', 'bytes', [none, all_added], bytes_of)
 
 
 def main():

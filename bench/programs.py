@@ -122,8 +122,8 @@ class Table:
             figures, ratio = ['stopped'] * len(measures[0]), ''
         else:
             values = [figure_of(i) for i in range(len(measures[0]))]
-            figures = ['%.3f %s' % (value, unit) for value in values]
-            ratio = '%.2f' % (values[0] / values[-1]) if values[-1] > 0 else ''
+            figures = ['%.3f %s' % (value, unit) if value > 0 else 'below the noise' for value in values]
+            ratio = '%.2f' % (values[0] / values[-1]) if min(values) > 0 else ''
         cells = [name] + figures
         if self.has_other:
             cells += [ratio, 'yes' if all(are_same(runs) for runs in measures) else 'NO']
