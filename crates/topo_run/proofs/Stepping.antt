@@ -3,6 +3,9 @@ use Rattle.std.proofs.Common.{◌≡◌, ℕ, Bool, true, List, ◌++◌, refl}
 use Rattle.topology_terms.specs.Project.{IsOrdered}
 use Rattle.script_text.specs.Commands.{Command}
 use Rattle.script_text.specs.Lines.{IsCommandLine, IsLineFault}
+use Rattle.script_text.specs.Faults.{IsFault}
+use Rattle.script_text.specs.declared.fault.LineFault.{LineFault}
+use Rattle.script_text.specs.declared.fault.LineFault.TheVariants as fault
 use Rattle.script_text.specs.declared.fault.LineRefusal.{LineRefusal}
 use Rattle.script_terms.specs.Refusal.{Line}
 use Rattle.script_terms.specs.Reply.{Reply, Refused, reply_text}
@@ -22,3 +25,7 @@ answers s t line old new c reply refused reads answer ordered headline grown is 
 pub refuses : (s : State) (line old new : List ℕ) (r : LineRefusal) → IsOrdered s.project → Headline s.project → ((c : Command) → ¬ (IsCommandLine line c)) → IsLineFault line r → new ≡ old ++ reply_text (Refused (Line r)) → Takes s line old new true s
 refuses s line old new r ordered headline none fault grown =
     (reply_text (Refused (Line r)), grown, record { reading = Faulty r; reads = (none, fault); comes = (refl, record { text = refl; refused = refl }); ordered = ordered }, headline)
+
+-- the fault of a line that is refused
+pub refusal_of : (line : List ℕ) (e : LineFault) (r : LineRefusal) → e ≡ fault.Refused r → IsFault line e → IsLineFault line r
+refusal_of line e r is h = rw is at h

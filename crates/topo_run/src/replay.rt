@@ -86,7 +86,7 @@ fn answer_all<K: Sink>(alloc: Global, text: &[u8], whole: bool, sink: &mut K) ->
         refused = either(refused, bad);
         rest = after;
     }
-    write_all(sink, gathered)?;
+    write_all(sink, &gathered)?;
     Ok(refused)
 }
 

@@ -1,10 +1,11 @@
 use Rattle.std.proofs.Common.{arith, rules, sym, ◌∙◌}
+use Rattle.script_terms.specs.State.{empty_state}
 use Rattle.topo_run.proofs.Runs.{begins, takes, flushed, ends, stops, at_err}
 use Rattle.topo_run.proofs.replay.answer_all.Goals as goal
 
 pub loop-line-init : goal.loop-line-init
 loop-line-init g c = record {
-  far = rw (c.new-world.ensures, c.new-gathered.ensures.bytes) (begins _ _ _ c.headline_law.ensures.headline);
+  far = rw (c.new-world.ensures, c.new-gathered.ensures.items) (begins empty_state _ _ (rw c.new-world.ensures at c.headline_law.ensures.headline));
   later = omega arith;
 }
 
@@ -25,7 +26,7 @@ loop-line-preserved g c = record {
 pub returns-in_err-write_all-clause-err : goal.returns-in_err-write_all-clause-err
 returns-in_err-write_all-clause-err g c =
     let part = c.in_err-write_all.ensures.err in
-    at_err c.from_residual-in_err-write_all.result (stops (flushed part.0 c.loop-line.invariant.far (sym c.as_bytes.ensures.value ∙ part.1.1) part.2))
+    at_err c.from_residual-in_err-write_all.result (stops (flushed part.0 c.loop-line.invariant.far (sym c.deref.ensures.value ∙ part.1.1) part.2))
 
 pub returns-clause-ok : goal.returns-clause-ok
-returns-clause-ok g c = ends c.loop-line.invariant.far c.in_default.ensures c.as_bytes.ensures.value c.in_ok-write_all.ensures.ok
+returns-clause-ok g c = ends c.loop-line.invariant.far c.in_default.ensures c.deref.ensures.value c.in_ok-write_all.ensures.ok
