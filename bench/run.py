@@ -17,26 +17,13 @@ memory; the system tells both when the process has ended (measured.c). The outpu
 equal: where they are not, the row says so and the status is 1.
 """
 import argparse
-import hashlib
-import math
 import os
-import shlex
-import shutil
-import subprocess
 import sys
 import tempfile
 
-HERE = os.path.dirname(os.path.abspath(__file__))
-ROOT = os.path.dirname(HERE)
+from programs import add_program_words, are_same, make_measured, measure_script, programs_of, stride_of
+
 KINDS = ['apart', 'shared', 'windows']
-
-
-def stride_of(count):
-    """A step that visits all numbers below `count`, in no plain order."""
-    stride = int(count * 0.618) | 1
-    while math.gcd(stride, count) != 1:
-        stride += 2
-    return stride
 
 
 def place_of(number):
@@ -75,37 +62,10 @@ def write_script(path, count, kind):
         out.write('\n'.join(validations(count, kind)) + '\ncells\ndirty\n')
 
 
-class Measure:
-    """The least time and memory of a program's runs on one input, and how it ended and what it wrote."""
-
-    def __init__(self, words):
-        self.words = words
-        self.seconds = self.kilobytes = math.inf
-        self.status = self.digest = None
-
-    def take(self, folder, limit):
-        """One run over the script in the folder."""
-        if self.status is not None and self.status < 0:
-            return
-        report, written = os.path.join(folder, 'report'), os.path.join(folder, 'written')
-        words = [os.path.join(folder, 'measured'), report, str(limit)] + self.words + ['replay']
-        with open(os.path.join(folder, 'script'), 'rb') as source, open(written, 'wb') as out:
-            subprocess.run(words, stdin=source, stdout=out, check=True)
-        with open(report) as told:
-            self.status, microseconds, kilobytes = map(int, told.read().split())
-        self.seconds = min(self.seconds, microseconds / 1e6)
-        self.kilobytes = min(self.kilobytes, kilobytes)
-        with open(written, 'rb') as out:
-            self.digest = hashlib.sha256(out.read()).digest()
-
-    def cells(self):
-        if self.status < 0:
-            return ['stopped', 'stopped']
-        return ['%.3f' % self.seconds, '%.1f' % (self.kilobytes / 1024)]
-
-
-def is_same(own, other):
-    return (own.status, own.digest) == (other.status, other.digest)
+def figures(measure):
+    if measure.status < 0:
+        return ['stopped', 'stopped']
+    return ['%.3f' % measure.seconds, '%.1f' % (measure.kilobytes / 1024)]
 
 
 def ratios(own, other):
@@ -115,9 +75,9 @@ def ratios(own, other):
 
 
 def row(name, own, other):
-    cells = [name] + own.cells()
+    cells = [name] + figures(own)
     if other:
-        cells += other.cells() + ratios(own, other) + ['yes' if is_same(own, other) else 'NO']
+        cells += figures(other) + ratios(own, other) + ['yes' if are_same([own, other]) else 'NO']
     return '| ' + ' | '.join(cells) + ' |'
 
 
@@ -128,39 +88,18 @@ def head(has_other):
     return '| ' + ' | '.join(names) + ' |\n|' + '---|' * len(names)
 
 
-def program_of(text):
-    """The words of a program, the first of them its full path."""
-    words = shlex.split(text)
-    return [os.path.abspath(shutil.which(words[0]) or words[0])] + words[1:]
-
-
-def programs_of(given):
-    if given.program:
-        own = program_of(given.program)
-    else:
-        subprocess.run([os.path.join(ROOT, 'topo'), 'replay'], stdin=subprocess.DEVNULL, check=True)
-        own = [os.path.join(ROOT, '.build', 'topo')]
-    return [own] + ([program_of(given.baseline)] if given.baseline else [])
-
-
 def measure_input(folder, count, kind, programs, given):
     """Lets the programs take turns on one input."""
     write_script(os.path.join(folder, 'script'), count, kind)
-    measures = [Measure(words) for words in programs]
-    for _ in range(given.turns):
-        for measure in measures:
-            measure.take(folder, given.seconds)
+    measures = measure_script(folder, programs, given)
     return measures[0], measures[1] if len(measures) == 2 else None
 
 
 def given_words():
     parser = argparse.ArgumentParser(usage=__doc__.split('\n\n')[1][7:])
-    parser.add_argument('--baseline')
-    parser.add_argument('--program')
+    add_program_words(parser)
     parser.add_argument('--sizes', default='1000,10000,100000')
     parser.add_argument('--kinds', default=','.join(KINDS))
-    parser.add_argument('--turns', type=int, default=3)
-    parser.add_argument('--seconds', type=int, default=600)
     given = parser.parse_args()
     if not set(given.kinds.split(',')) <= set(KINDS):
         parser.error('the kinds are ' + ', '.join(KINDS))
@@ -172,13 +111,12 @@ def main():
     programs = programs_of(given)
     good = True
     with tempfile.TemporaryDirectory() as folder:
-        measured = os.path.join(folder, 'measured')
-        subprocess.run(['cc', '-O2', '-o', measured, os.path.join(HERE, 'measured.c')], check=True)
+        make_measured(folder)
         print(head(len(programs) == 2))
         for kind in given.kinds.split(','):
             for count in map(int, given.sizes.split(',')):
                 own, other = measure_input(folder, count, kind, programs, given)
-                good = good and own.status == 0 and (other is None or is_same(own, other))
+                good = good and own.status == 0 and (other is None or are_same([own, other]))
                 print(row('%s points, %s' % (format(count, ','), kind), own, other), flush=True)
     return 0 if good else 1
 

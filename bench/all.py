@@ -1,0 +1,66 @@
+#!/usr/bin/env python3
+"""Takes all figures in one run: a heading that says when, where and of what, and then the table of each measuring command.
+
+usage: bench/all.py [--baseline WORDS]
+
+  --baseline WORDS   another program of the same words and texts, as in bench/run.py; without it the ratios are left out
+
+Run it on an idle machine, in a clean clone. The output is Markdown, as it stands in docs/testing.md. The status is 1 where a
+command failed; those whose timing program is not built are named and left out.
+"""
+import argparse
+import datetime
+import os
+import shlex
+import subprocess
+import sys
+
+from programs import HERE, ROOT
+
+COMMANDS = ['run.py', 'features.py', 'late.py', 'town.py', 'shapes.py', 'columns.py', 'cells.py']
+TIMING = {'shapes.py': 'shape_timing', 'columns.py': 'column_timing', 'cells.py': 'cell_timing'}
+WITHOUT_BASELINE = {'cells.py'}
+
+
+def line_with(path, word):
+    """What stands behind the colon in the first line of this file that begins with the word."""
+    with open(path) as lines:
+        return next((line.split(':', 1)[1].strip() for line in lines if line.startswith(word)), 'unknown')
+
+
+def heading():
+    commit = subprocess.run(['git', '-C', ROOT, 'describe', '--always', '--dirty'], capture_output=True, text=True).stdout.strip()
+    memory = int(line_with('/proc/meminfo', 'MemTotal').split()[0]) / 1024 ** 2
+    machine = '%d processors, %s, %.0f GiB' % (os.cpu_count(), line_with('/proc/cpuinfo', 'model name'), memory)
+    busy = 'load %.1f when it began' % os.getloadavg()[0]
+    return '%s, %s, %s; commit %s' % (datetime.date.today(), machine, busy, commit)
+
+
+def is_built(command):
+    name = TIMING.get(command)
+    return name is None or os.path.isfile(os.path.join(ROOT, 'crates', name, 'out', name))
+
+
+def run(command, baseline):
+    """Prints the table of a command, and answers whether it went well."""
+    words = ['--baseline', baseline] if baseline and command not in WITHOUT_BASELINE else []
+    print('\n`%s`\n' % ' '.join(['bench/' + command] + (['--baseline ..'] if words else [])), flush=True)
+    if not is_built(command):
+        print('not taken: `crates/%s` is not built' % TIMING[command], flush=True)
+        return True
+    return subprocess.run([os.path.join(HERE, command)] + words).returncode == 0
+
+
+def main():
+    parser = argparse.ArgumentParser(usage=__doc__.split('\n\n')[1][7:])
+    parser.add_argument('--baseline')
+    given = parser.parse_args()
+    if given.baseline and not shlex.split(given.baseline):
+        parser.error('the baseline has no words')
+    print(heading(), flush=True)
+    results = [run(command, given.baseline) for command in COMMANDS]
+    return 0 if all(results) else 1
+
+
+if __name__ == '__main__':
+    sys.exit(main())

@@ -1,0 +1,87 @@
+#!/usr/bin/env python3
+"""How long a feature takes to be added, changed and deleted, and the memory that it takes.
+
+usage: bench/features.py [--baseline WORDS] [--count N] [--kinds KIND,..] [--turns N] [--seconds N] [--program WORDS]
+
+  --count N          how many features (100,000); a tenth of them is changed or deleted
+  --kinds KIND,..    points, each at a place of its own; polygons, octagons beside one another. Both where it is left out
+  the others         as in bench/run.py
+
+A rule is in force first, so the whole grid is dirty all along, and nothing is validated. Three scripts begin with the same
+lines: one ends there, one changes a tenth of the features, one deletes as many; their handles are spread over all that were
+given, in no plain order. The time of a change and of a deletion is what these take beyond the first. A fourth script has the
+same lines as the first as remarks, so that no feature is made; the memory of a feature is what the first takes beyond that.
+"""
+import argparse
+import sys
+import tempfile
+
+from programs import Table, add_program_words, make_measured, measure_lines, programs_of, spread
+
+KINDS = ['points', 'polygons']
+OCTAGON = [(2, 0), (4, 0), (6, 2), (6, 4), (4, 6), (2, 6), (0, 4), (0, 2)]
+HEADS = {
+    'points': ['class wells point', 'rule point_must_be_disjoint wells', 'begin ann'],
+    'polygons': ['class lots polygon', 'rule polygon_must_not_overlap lots', 'begin ann'],
+}
+CLASSES = {'points': 'wells', 'polygons': 'lots'}
+
+
+def shape_of(kind, number, shift):
+    """The shape of this number on a lattice, moved to the right."""
+    x, y = number % 1000 * 7 - 3500 + shift, number // 1000 * 7 - 350
+    if kind == 'points':
+        return 'POINT (%d %d)' % (x, y)
+    ring = ['%d %d' % (x + dx, y + dy) for dx, dy in OCTAGON]
+    return 'POLYGON ((%s))' % ', '.join(ring + ring[:1])
+
+
+def added(kind, count):
+    return ['by ann add %s %s' % (CLASSES[kind], shape_of(kind, number, 0)) for number in spread(count, count)]
+
+
+def changed(kind, count):
+    places = spread(count, count)
+    return ['by ann change %d %s' % (i + 1, shape_of(kind, places[i], 1)) for i in spread(count, count // 10)]
+
+
+def deleted(count):
+    return ['by ann delete %d' % (i + 1) for i in spread(count, count // 10)]
+
+
+def print_kind(table, folder, kind, programs, given):
+    """The four rows of a kind of shape."""
+    count = given.count
+    head, adds = HEADS[kind], added(kind, count)
+    take = lambda lines: measure_lines(folder, head + lines, programs, given)
+    none, all_added = take(['# ' + line for line in adds]), take(adds)
+    some_changed, some_deleted = take(adds + changed(kind, count)), take(adds + deleted(count))
+    each = lambda after, times: lambda i: (after[i].seconds - all_added[i].seconds) * 1e6 / times
+    name = '%s %s' % (format(count, ','), kind)
+    some = count // 10
+    table.row(name + ', added: time of each', 'µs', [all_added], lambda i: all_added[i].seconds * 1e6 / count)
+    table.row(name + ', a tenth changed: time of each change', 'µs', [all_added, some_changed], each(some_changed, some))
+    table.row(name + ', a tenth deleted: time of each deletion', 'µs', [all_added, some_deleted], each(some_deleted, some))
+    bytes_of = lambda i: (all_added[i].kilobytes - none[i].kilobytes) * 1024 / count
+    table.row(name + ': memory of each', 'bytes', [none, all_added], bytes_of)
+
+
+def main():
+    parser = argparse.ArgumentParser(usage=__doc__.split('\n\n')[1][7:])
+    add_program_words(parser)
+    parser.add_argument('--count', type=int, default=100000)
+    parser.add_argument('--kinds', default=','.join(KINDS))
+    given = parser.parse_args()
+    if not set(given.kinds.split(',')) <= set(KINDS):
+        parser.error('the kinds are ' + ', '.join(KINDS))
+    programs = programs_of(given)
+    table = Table('features', len(programs) == 2)
+    with tempfile.TemporaryDirectory() as folder:
+        make_measured(folder)
+        for kind in given.kinds.split(','):
+            print_kind(table, folder, kind, programs, given)
+    return 0 if table.good else 1
+
+
+if __name__ == '__main__':
+    sys.exit(main())

@@ -1,0 +1,69 @@
+#!/usr/bin/env python3
+"""How long points take that come late, after a validation: their places are a long list of dirty rectangles.
+
+usage: bench/late.py [--baseline WORDS] [--sizes N,N,..] [--turns N] [--seconds N] [--program WORDS]
+
+  --sizes N,..    how many points come late: 3000,10000,30000 where it is left out
+  the others      as in bench/run.py
+
+So many points are added and validated; as many more are added at other places of the same lattice. Then the whole grid is
+validated, or in its place a hundred small windows, each of which finds a few of the late points; and the dirty rectangles
+are listed. Each figure is what a script takes beyond one that ends earlier.
+"""
+import argparse
+import sys
+import tempfile
+
+from programs import Table, add_program_words, make_measured, measure_lines, programs_of, spread
+
+HEAD = ['class wells point', 'rule point_must_be_disjoint wells', 'begin ann']
+SIDE = 200
+
+
+def place_of(number):
+    """The place of this number on a lattice of so many columns."""
+    return number % SIDE * 7 - 700, number // SIDE * 7 - 700
+
+
+def added(count, shift):
+    places = [place_of(number) for number in spread(count, count)]
+    return ['by ann add wells POINT (%d %d)' % (x + shift, y + shift) for x, y in places]
+
+
+def windows(count):
+    """A hundred windows, each round a place of the lattice and some beside it."""
+    places = [place_of(number) for number in spread(count, 100)]
+    return ['validate %d %d %d %d' % (x - 10, y - 10, x + 10, y + 10) for x, y in places]
+
+
+def print_size(table, folder, count, programs, given):
+    """The four rows of a number of late points."""
+    early = HEAD + added(count, 0) + ['validate all']
+    late = early + added(count, 3)
+    take = lambda lines: measure_lines(folder, lines, programs, given)
+    before, after = take(early), take(late)
+    whole, small, listed = take(late + ['validate all']), take(late + windows(count)), take(late + ['dirty'])
+    beyond = lambda of, base, factor: lambda i: (of[i].seconds - base[i].seconds) * factor
+    name = '%s points late' % format(count, ',')
+    table.row(name + ': time of each', 'µs', [before, after], beyond(after, before, 1e6 / count))
+    table.row(name + ', validated whole: time', 'ms', [after, whole], beyond(whole, after, 1e3))
+    table.row(name + ', a hundred windows: time of each', 'ms', [after, small], beyond(small, after, 10))
+    table.row(name + ', dirty rectangles listed: time', 'ms', [after, listed], beyond(listed, after, 1e3))
+
+
+def main():
+    parser = argparse.ArgumentParser(usage=__doc__.split('\n\n')[1][7:])
+    add_program_words(parser)
+    parser.add_argument('--sizes', default='3000,10000,30000')
+    given = parser.parse_args()
+    programs = programs_of(given)
+    table = Table('late points', len(programs) == 2)
+    with tempfile.TemporaryDirectory() as folder:
+        make_measured(folder)
+        for count in map(int, given.sizes.split(',')):
+            print_size(table, folder, count, programs, given)
+    return 0 if table.good else 1
+
+
+if __name__ == '__main__':
+    sys.exit(main())

@@ -1,0 +1,130 @@
+"""Programs that are measured over scripts: the built one, and another beside it where one is named."""
+import hashlib
+import math
+import os
+import shlex
+import shutil
+import subprocess
+
+HERE = os.path.dirname(os.path.abspath(__file__))
+ROOT = os.path.dirname(HERE)
+
+
+class Measure:
+    """The least time and memory of a program's runs on one script, and how it ended and what it wrote."""
+
+    def __init__(self, words):
+        self.words = words
+        self.seconds = self.kilobytes = math.inf
+        self.status = self.digest = None
+
+    def take(self, folder, limit):
+        """One run over the script in the folder; none where an earlier one was stopped at the limit, in s."""
+        if self.status is not None and self.status < 0:
+            return
+        report, written = os.path.join(folder, 'report'), os.path.join(folder, 'written')
+        words = [os.path.join(folder, 'measured'), report, str(limit)] + self.words + ['replay']
+        with open(os.path.join(folder, 'script'), 'rb') as source, open(written, 'wb') as out:
+            subprocess.run(words, stdin=source, stdout=out, check=True)
+        with open(report) as told:
+            self.status, microseconds, kilobytes = map(int, told.read().split())
+        self.seconds = min(self.seconds, microseconds / 1e6)
+        self.kilobytes = min(self.kilobytes, kilobytes)
+        with open(written, 'rb') as out:
+            self.digest = hashlib.sha256(out.read()).digest()
+
+
+def program_of(text):
+    """The words of a program, the first of them its full path."""
+    words = shlex.split(text)
+    return [os.path.abspath(shutil.which(words[0]) or words[0])] + words[1:]
+
+
+def programs_of(given):
+    """The words of the measured program, and of the baseline where one is given."""
+    if given.program:
+        own = program_of(given.program)
+    else:
+        subprocess.run([os.path.join(ROOT, 'topo'), 'replay'], stdin=subprocess.DEVNULL, check=True)
+        own = [os.path.join(ROOT, '.build', 'topo')]
+    return [own] + ([program_of(given.baseline)] if given.baseline else [])
+
+
+def add_program_words(parser):
+    """The words that each of these commands takes."""
+    parser.add_argument('--baseline')
+    parser.add_argument('--program')
+    parser.add_argument('--turns', type=int, default=3)
+    parser.add_argument('--seconds', type=int, default=600)
+
+
+def make_measured(folder):
+    """Puts into the folder the program that runs another and tells what it used."""
+    measured = os.path.join(folder, 'measured')
+    subprocess.run(['cc', '-O2', '-o', measured, os.path.join(HERE, 'measured.c')], check=True)
+
+
+def measure_script(folder, programs, given):
+    """Lets the programs take turns on the script in the folder; one measure for each."""
+    measures = [Measure(words) for words in programs]
+    for _ in range(given.turns):
+        for measure in measures:
+            measure.take(folder, given.seconds)
+    return measures
+
+
+def measure_lines(folder, lines, programs, given):
+    """The same on a script of these lines."""
+    with open(os.path.join(folder, 'script'), 'w') as out:
+        out.writelines(line + '\n' for line in lines)
+    return measure_script(folder, programs, given)
+
+
+def has_ended(measures):
+    return all(measure.status >= 0 for measure in measures)
+
+
+def are_same(measures):
+    """Whether the programs wrote the same and ended alike."""
+    return len({(measure.status, measure.digest) for measure in measures}) == 1
+
+
+def stride_of(count):
+    """A step that visits all numbers below `count`, in no plain order."""
+    stride = int(count * 0.618) | 1
+    while math.gcd(stride, count) != 1:
+        stride += 2
+    return stride
+
+
+def spread(count, some):
+    """So many of the numbers below `count`, each once, over the whole range and in no plain order."""
+    stride = stride_of(count)
+    return [i * stride % count for i in range(some)]
+
+
+class Table:
+    """A table of figures: what the program takes, what the baseline takes, the ratio, and whether their outputs are equal."""
+
+    def __init__(self, first, has_other):
+        self.has_other = has_other
+        self.good = True
+        names = [first, 'of the program']
+        if has_other:
+            names += ['of the baseline', 'ratio', 'equal output']
+        print('| ' + ' | '.join(names) + ' |\n|' + '---|' * len(names), flush=True)
+
+    def row(self, name, unit, measures, figure_of):
+        """A row: `figure_of` is asked for the figure of each program, by its place; `measures` hold the runs of all scripts."""
+        good = all(are_same(runs) and has_ended(runs) and runs[0].status == 0 for runs in measures)
+        self.good = self.good and good
+        if not all(has_ended(runs) for runs in measures):
+            figures, ratio = ['stopped'] * len(measures[0]), ''
+        else:
+            values = [figure_of(i) for i in range(len(measures[0]))]
+            figures = ['%.3f %s' % (value, unit) if value > 0 else 'below the noise' for value in values]
+            ratio = '%.2f' % (values[0] / values[-1]) if min(values) > 0 else ''
+        cells = [name] + figures
+        if self.has_other:
+            cells += [ratio, 'yes' if all(are_same(runs) for runs in measures) else 'NO']
+        print('| ' + ' | '.join(cells) + ' |', flush=True)

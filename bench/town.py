@@ -1,0 +1,132 @@
+#!/usr/bin/env python3
+"""How long the parcels of a made town take, validated whole and then after each of many small edits.
+
+usage: bench/town.py [--baseline WORDS] [--rows N,N,..] [--edits N] [--turns N] [--seconds N] [--program WORDS]
+
+  --rows N,..    how many rows of as many parcels: 30,60,100 where it is left out
+  --edits N      how many small edits, each with a validation of a small window (1,000)
+  the others     as in bench/run.py
+
+A corner of the town is shared by the parcels round it, and lies somewhat off its place on the lattice, as in a cadastre;
+between two corners a shared side has a vertex more. A street runs after each second row. Of each twenty parcels one has a
+corner of its own that reaches into the next, so that the two overlap. One easement for each five parcels lies along the front,
+in the street; each fourth of them reaches into the parcel. Two rules are in force: parcels must not overlap, and must not
+overlap with easements. An edit moves a corner of one parcel alone, and the window round that parcel is validated.
+"""
+import argparse
+import random
+import sys
+import tempfile
+
+from programs import Table, add_program_words, make_measured, measure_lines, programs_of, spread
+
+HEAD = ['class parcels polygon', 'class easements polygon', 'rule polygon_must_not_overlap parcels',
+        'rule polygon_must_not_overlap_with parcels easements', 'begin ann']
+WIDTH, DEPTH, STREET = 100, 160, 60
+
+
+class Town:
+    """A town of so many rows of as many parcels; the corners of a row stand on its two lines, front and back."""
+
+    def __init__(self, rows):
+        self.rows = rows
+        lot = random.Random(rows)
+        self.jitter = {}
+        for line in range(2 * rows):
+            for place in range(2 * rows + 1):
+                self.jitter[line, place] = lot.randint(-6, 6), lot.randint(-6, 6)
+
+    def line(self, row, is_upper):
+        """The number of the lower or the upper line of a row: the two rows of a block share the one between them."""
+        block, second = divmod(row, 2)
+        return 3 * block + second + is_upper
+
+    def corner(self, line, place):
+        """The corner at this half place of a line; what lies at an odd half place is the vertex between two corners."""
+        block, of_block = divmod(line, 3)
+        y = block * (2 * DEPTH + STREET) + of_block * DEPTH
+        dx, dy = self.jitter[line % (2 * self.rows), place]
+        return place * WIDTH // 2 + dx, y + dy
+
+    def ring(self, row, column):
+        """The vertices of a parcel: three below and three above."""
+        lower, upper = self.line(row, 0), self.line(row, 1)
+        first = 2 * column
+        return [self.corner(lower, first + k) for k in range(3)] + [self.corner(upper, first + k) for k in (2, 1, 0)]
+
+    def parcel(self, number):
+        row, column = divmod(number, self.rows)
+        ring = self.ring(row, column)
+        if number % 20 == 7:
+            ring[2] = ring[2][0] + 15, ring[2][1] + 10
+        return ring
+
+    def easement(self, number):
+        """A strip along the front of this parcel, on the street's side of it."""
+        row, column = divmod(number, self.rows)
+        is_upper = row % 2
+        y = self.corner(self.line(row, is_upper), 2 * column)[1]
+        reach = 12 if number % 20 else -12
+        low, high = sorted((y + (reach if is_upper else -reach), y + (24 if is_upper else -24)))
+        x = column * WIDTH
+        return [(x + 10, low), (x + 90, low), (x + 90, high), (x + 10, high)]
+
+
+def polygon(ring):
+    return 'POLYGON ((%s))' % ', '.join('%d %d' % place for place in ring + ring[:1])
+
+
+def founding(town):
+    """The lines that add the parcels, from handle 1 on in the order of their numbers, and the easements."""
+    count = town.rows ** 2
+    return (['by ann add parcels ' + polygon(town.parcel(number)) for number in range(count)] +
+            ['by ann add easements ' + polygon(town.easement(number)) for number in range(0, count, 5)])
+
+
+def edits(town, times):
+    """So many edits of parcels over the whole town, each with a validation of the window round the parcel."""
+    lot, lines = random.Random(times), []
+    for number in spread(town.rows ** 2, min(times, town.rows ** 2)) * -(-times // town.rows ** 2):
+        ring = town.parcel(number)
+        k = lot.randrange(len(ring))
+        ring[k] = ring[k][0] + lot.randint(-5, 5), ring[k][1] + lot.randint(-5, 5)
+        (x0, x1), (y0, y1) = [(min(part) - 10, max(part) + 10) for part in zip(*ring)]
+        lines += ['by ann change %d %s' % (number + 1, polygon(ring)), 'validate %d %d %d %d' % (x0 - 30, y0 - 30, x1 + 30, y1 + 30)]
+    return lines[:2 * times]
+
+
+def print_rows(table, folder, rows, programs, given):
+    """The rows of the table on a town of so many rows."""
+    town = Town(rows)
+    take = lambda lines: measure_lines(folder, HEAD + lines, programs, given)
+    founded = founding(town)
+    added = take(founded)
+    validated = take(founded + ['validate all'])
+    edited = take(founded + ['validate all'] + edits(town, given.edits))
+    listed = take(founded + ['validate all', 'cells'])
+    beyond = lambda of, base, factor: lambda i: (of[i].seconds - base[i].seconds) * factor
+    name = '%s parcels' % format(rows ** 2, ',')
+    table.row(name + ', added: time', 'ms', [added], lambda i: added[i].seconds * 1e3)
+    table.row(name + ', validated whole: time', 'ms', [added, validated], beyond(validated, added, 1e3))
+    table.row(name + ', validated whole: memory', 'MiB', [validated], lambda i: validated[i].kilobytes / 1024)
+    table.row(name + ', an edit with its window', 'µs', [validated, edited], beyond(edited, validated, 1e6 / given.edits))
+    table.row(name + ', all errors listed: time', 'ms', [validated, listed], beyond(listed, validated, 1e3))
+
+
+def main():
+    parser = argparse.ArgumentParser(usage=__doc__.split('\n\n')[1][7:])
+    add_program_words(parser)
+    parser.add_argument('--rows', default='30,60,100')
+    parser.add_argument('--edits', type=int, default=1000)
+    given = parser.parse_args()
+    programs = programs_of(given)
+    table = Table('town', len(programs) == 2)
+    with tempfile.TemporaryDirectory() as folder:
+        make_measured(folder)
+        for rows in map(int, given.rows.split(',')):
+            print_rows(table, folder, rows, programs, given)
+    return 0 if table.good else 1
+
+
+if __name__ == '__main__':
+    sys.exit(main())
