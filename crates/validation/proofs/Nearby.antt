@@ -1,17 +1,19 @@
 -- The features whose handles an index gives for a rectangle are those whose envelope meets it.
-use Rattle.std.proofs.Common.{◌≡◌, ◌↔◌, ◌⊎◌, inl, inr, ℕ, ◌<◌, ◌+◌, zero, suc, Bool, true, false, List, [], ◌∷◌, ◌++◌, Option, Some, None, cond, map, refl, sym, ◌∙◌, ap, subst, arith, take, length, get_or, Contains}
-use Rattle.std.specs.Prelude.{◌==◌}
+use Rattle.std.proofs.Common.{◌≡◌, ◌↔◌, ◌⊎◌, inl, inr, ℕ, ◌<◌, ◌+◌, zero, suc, Bool, true, false, List, [], ◌∷◌, ◌++◌, ◌&&◌, ℤ, Option, Some, None, cond, map, refl, sym, ◌∙◌, ap, subst, arith, take, length, get_or, Contains}
+use Rattle.std.specs.Prelude.{◌==◌, int_le}
+use Rattle.std.specs.Int.{int_min, int_max}
 use Rattle.std.specs.Option.{option_to_list}
 use Rattle.std.specs.List.{filter}
 use Rattle.std.specs.List.Sorted.{IsPermutation, IsStrictlyIncreasing}
 use Rattle.std.proofs.lemmas.Bool.{cases_Bool}
 use Rattle.std.proofs.lemmas.Bool.Decides.{nat_tests}
+use Rattle.std.proofs.lemmas.Int.{ints}
 use Rattle.std.proofs.lemmas.List.{take_more}
 use Rattle.std.proofs.lemmas.List.Elements.{recursion_from_All}
 use Rattle.std.proofs.lemmas.List.Sorted.{Contains-permutation, IsPermutation-sym}
 use Rattle.std.proofs.lemmas.Grind.{flat_map-append}
 use Rattle.plane_terms.specs.Lists.{Every, SomeOf, IsThose}
-use Rattle.plane_terms.specs.Rectangle.{Rectangle, rects_meet}
+use Rattle.plane_terms.specs.Rectangle.{Rectangle, rects_meet, is_within, join_of}
 use Rattle.topology_terms.specs.Feature.{Feature, feature_at, env, IsAscending}
 use Rattle.sound_steps.proofs.FeatureLists.{at_handle, past_handle, handle_of}
 use Rattle.validation_steps.specs.Parts.{live_of}
@@ -133,17 +135,76 @@ told_by r F (f ∷ xs) u v = ((forth, λ t. feature_some (λ (g : Feature). rect
         let same : y.0 ≡ f = cc in
         subst (λ (g : Feature). rects_meet r (env g) ≡ true) same y.2
 
-pub view_near : (F V : List Feature) (f : Feature) (ss : List Spot) (handles : List ℕ) → IsAscending F → IsPermutation (map spot_of F) ss → IsStrictlyIncreasing handles
+-- what meets a part meets the whole
+wider : (r box e : Rectangle) → is_within r box ≡ true → rects_meet r e ≡ true → rects_meet box e ≡ true
+wider r box e w m = grind (arith, ints)
+
+-- among the features that meet the reach are those that meet a part of it
+kept_in : (box r : Rectangle) (F : List Feature) (a : ℕ) → is_within r box ≡ true → SomeOf (MeetsAt r a) F → SomeOf (MeetsAt r a) (filter (λ (g : Feature). rects_meet box (env g)) F)
+unfolding MeetsAt
+kept_in box r [] a w h = absurd h
+kept_in box r (f ∷ F) a w h = elim h [
+  | inl k ↦ taken (rects_meet box (env f)) (wider r box (env f) w k.1) k
+  | inr k ↦ later (rects_meet box (env f)) (kept_in box r F a w k)
+]
+  where
+    Rest : List Feature
+    Rest = filter (λ (g : Feature). rects_meet box (env g)) F
+
+    taken : (t : Bool) → t ≡ true → MeetsAt r a f → SomeOf (MeetsAt r a) (cond t (f ∷ Rest) Rest)
+    taken true e k = inl k
+    taken false e k = absurd cc
+
+    later : (t : Bool) → SomeOf (MeetsAt r a) Rest → SomeOf (MeetsAt r a) (cond t (f ∷ Rest) Rest)
+    later true k = inr k
+    later false k = k
+
+kept_from : (box r : Rectangle) (F : List Feature) (a : ℕ) → SomeOf (MeetsAt r a) (filter (λ (g : Feature). rects_meet box (env g)) F) → SomeOf (MeetsAt r a) F
+kept_from box r [] a h = absurd h
+kept_from box r (f ∷ F) a h = by (rects_meet box (env f)) h (kept_from box r F a)
+  where
+    Rest : List Feature
+    Rest = filter (λ (g : Feature). rects_meet box (env g)) F
+
+    by : (t : Bool) → SomeOf (MeetsAt r a) (cond t (f ∷ Rest) Rest) → (SomeOf (MeetsAt r a) Rest → SomeOf (MeetsAt r a) F) → SomeOf (MeetsAt r a) (f ∷ F)
+    by true (inl k) rest = inl k
+    by true (inr k) rest = inr (rest k)
+    by false k rest = inr (rest k)
+
+pub view_near : (F V : List Feature) (f : Feature) (box : Rectangle) (ss : List Spot) (handles : List ℕ) → IsAscending F → IsPermutation (map spot_of (filter (λ (g : Feature). rects_meet box (env g)) F)) ss → is_within (env f) box ≡ true → IsStrictlyIncreasing handles
     → ((a : ℕ) → Contains handles a ↔ IsNear (env f) ss a) → V ≡ live_of F handles → IsView F f V
-view_near F V f ss handles u moved v near is =
+view_near F V f box ss handles u moved w v near is =
     let r = env f in
+    let G = filter (λ (g : Feature). rects_meet box (env g)) F in
     let P : ℕ → Type 0 = λ a. SomeOf (MeetsAt r a) F in
     let test : Feature → Bool = λ (g : Feature). rects_meet r (env g) in
     let those : IsThose (λ (g : Feature). P g.handle) F (live_of F handles) = live_those P F handles u (rising handles v) (λ a. (
-      (λ h. spot_feature r F a (some_moved (λ (s : Spot). (s.handle ≡ a) × (meets_spot r s ≡ true)) ss (map spot_of F) (IsPermutation-sym (map spot_of F) ss moved) ((near a).0 h))),
-      (λ h. (near a).1 (some_moved (λ (s : Spot). (s.handle ≡ a) × (meets_spot r s ≡ true)) (map spot_of F) ss moved (feature_spot r F a h))),
+      (λ h. kept_from box r F a (spot_feature r G a (some_moved (λ (s : Spot). (s.handle ≡ a) × (meets_spot r s ≡ true)) ss (map spot_of G) (IsPermutation-sym (map spot_of G) ss moved) ((near a).0 h)))),
+      (λ h. (near a).1 (some_moved (λ (s : Spot). (s.handle ≡ a) × (meets_spot r s ≡ true)) (map spot_of G) ss moved (feature_spot r G a (kept_in box r F a w h)))),
     )) in
     view_filtered F V f u (is ∙ those_passing (λ (g : Feature). P g.handle) test F (live_of F handles) (told_by r F F u (each_live F u)) those)
+
+-- ---- the reach
+pub own_part : (r : Rectangle) → is_within r r ≡ true
+own_part r = grind (arith, ints)
+
+all_four : (p q r s : Bool) → (p && (q && (r && s))) ≡ true → (p ≡ true) × (q ≡ true) × (r ≡ true) × (s ≡ true)
+all_four true true true true e = (refl, refl, refl, refl)
+all_four true true true false e = absurd cc
+all_four true true false s e = absurd cc
+all_four true false r s e = absurd cc
+all_four false q r s e = absurd cc
+
+lower : (a b x : ℤ) → int_le a x ≡ true → int_le (int_min a b) x ≡ true
+lower a b x h = grind (arith, ints)
+
+upper : (a b x : ℤ) → int_le x a ≡ true → int_le x (int_max a b) ≡ true
+upper a b x h = grind (arith, ints)
+
+pub wider_join : (w r e : Rectangle) → is_within w r ≡ true → is_within w (join_of r e) ≡ true
+wider_join w r e h =
+    let four = all_four (int_le r.x0 w.x0) (int_le w.x1 r.x1) (int_le r.y0 w.y0) (int_le w.y1 r.y1) h in
+    rw (lower r.x0 e.x0 w.x0 four.0, upper r.x1 e.x1 w.x1 four.1, lower r.y0 e.y0 w.y0 four.2, upper r.y1 e.y1 w.y1 four.3) refl
 
 -- ---- put together one handle after another
 pub live_more : (F : List Feature) (ns : List ℕ) (i a : ℕ) (o : Option Feature) → i < length ns → a ≡ get_or ns i a → feature_at F a ≡ o → live_of F (take (i + 1) ns) ≡ live_of F (take i ns) ++ option_to_list o

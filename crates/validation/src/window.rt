@@ -13,7 +13,7 @@ ghost use Rattle.validation_steps.specs.Counts.{raised, judged_of};
 ghost use Rattle.validation.specs.Projects.{HasParts, with_parts};
 
 use crate::judge::judge_all;
-use crate::near::FeatureIndex;
+use crate::near::{FeatureIndex, reach_of};
 use crate::selection::select;
 use dirty_area::Dirt;
 use error_entries::{Entry, Errors};
@@ -30,6 +30,7 @@ fn rejudge<R: RuleSet>(
     in_force: &[InForce],
     features: &[Feature],
     selected: &Handles,
+    window: &Rect,
     work: &mut Work,
 ) -> Result<Vec<Entry>, NoMemory>
     requires rules { AreAscending in_force.now }
@@ -40,7 +41,8 @@ fn rejudge<R: RuleSet>(
     ensures ascending { IfOk result (λ es. entries_of.IsAscending es.items) }
     ensures judged { IfOk result (λ _. work.new ≡ raised work.old (judged_of in_force.now (live_of features.now selected.now))) }
 {
-    let indexed = FeatureIndex::of(alloc, features)?;
+    let reach = reach_of(features, selected, window);
+    let indexed = FeatureIndex::of(alloc, features, reach)?;
     let mut found = Vec::new(alloc);
     judge_all(rules, alloc, in_force, &indexed, selected, &mut found, work)?;
     Ok(found)
@@ -74,7 +76,7 @@ pub fn validate<R: RuleSet>(
     ensures dirt_kept { OnErr result (dirt.new ≡ dirt.old) }
 {
     let selected = select(alloc, features, errors, dirt, window)?;
-    let fresh = rejudge(rules, alloc, in_force, features, &selected, work)?;
+    let fresh = rejudge(rules, alloc, in_force, features, &selected, window, work)?;
     let mut left = dirt.try_copy(alloc)?;
     left.cut(alloc, window)?;
     errors.replace(alloc, &selected, fresh)?;
