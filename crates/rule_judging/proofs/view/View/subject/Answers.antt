@@ -1,4 +1,4 @@
-use Rattle.std.proofs.Common.{◌≡◌, Bor, Option, Some, rules, sym, ◌∙◌, ap, map}
+use Rattle.std.proofs.Common.{Bor, rules, sym, ◌∙◌, ap, map}
 use borrow.Author.Tests.{tests}
 use Rattle.std.specs.Option.{option_map}
 use Rattle.std.proofs.lemmas.Iterator.{YieldsList-from_slice}
