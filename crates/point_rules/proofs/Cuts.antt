@@ -1,11 +1,10 @@
 -- What is found at the subject's place is the cutting of Must Be Disjoint.
-use Rattle.std.proofs.Common.{◌≡◌, ℕ, ◌<◌, Bool, true, List, [], ◌∷◌, Some, refl, sym, ◌∙◌, ap, arith, subst}
+use Rattle.std.proofs.Common.{◌≡◌, ℕ, ◌<◌, Bool, true, List, [], ◌∷◌, Some, sym, ◌∙◌, ap, arith, subst}
 use Rattle.std.specs.List.{filter}
-use Rattle.std.specs.Prelude.{◌==◌, ◌&&◌, nat_lt}
+use Rattle.std.specs.Prelude.{◌&&◌, nat_lt}
 use Rattle.std.proofs.lemmas.Int.{ints}
-use Rattle.std.proofs.lemmas.Bool.Decides.{nat_tests}
 use Rattle.plane_terms.specs.Lists.{Every}
-use Rattle.plane_terms.specs.Point.{Place, Point, IsAt, same_place}
+use Rattle.plane_terms.specs.Point.{Place, IsAt, same_place}
 use Rattle.plane_terms.proofs.Points.{point_at}
 use Rattle.topology_terms.specs.Feature.{Feature, Side, IsOf, feature_at, is_on_side, place}
 use Rattle.topology_terms.specs.Broken.{Row, BrokenAt}

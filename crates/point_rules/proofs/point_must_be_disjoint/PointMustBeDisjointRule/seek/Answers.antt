@@ -1,4 +1,4 @@
-use Rattle.std.proofs.Common.{sym, subst, ℕ}
+use Rattle.std.proofs.Common.{sym, subst}
 use Rattle.std.proofs.lemmas.Result.{IfOk-weaker}
 use Rattle.topology_terms.specs.Broken.{Row}
 use Rattle.topology_terms.specs.Cutting.{IsCutting}
