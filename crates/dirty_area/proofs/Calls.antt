@@ -1,6 +1,7 @@
 -- What the calls cite: one rectangle more, and a window less, step by step.
 use Rattle.std.proofs.Common.{◌≡◌, ℕ, ◌+◌, ◌<◌, ◌≤ℤ◌, arith, Bool, true, false, not, refl, sym, ap, ◌∙◌, inl, inr, List, [], ◌∷◌, ◌++◌, length, take, get_or}
-use Rattle.std.specs.Prelude.{◌↔◌, IsTrue, int_lt, Result, Ok, Err, OnOk, OnErr}
+use Rattle.std.specs.Prelude.{◌↔◌, IsTrue, int_lt, Option, Some, None, IfSome, Result, Ok, Err, OnOk, OnErr}
+use Rattle.std.specs.Option.{option_to_list}
 use Rattle.std.specs.Int.{int_max, int_min}
 use Rattle.std.proofs.lemmas.Bool.{or_cases, or_left, or_right}
 use Rattle.std.proofs.lemmas.Int.{ints, clamps}
@@ -136,6 +137,15 @@ meets_part_by d w r m t same meets = (
 pub dirt_added : (d e : List Rectangle) (r : Rectangle) (o : Result (Unit {0}) NoMemory) → OnOk o (e ≡ add_dirt d r) → OnErr o (e ≡ d) → IsDirt d → IsRectangle r → IsDirt e
 dirt_added d e r (Ok u) h k i j = rw h (record { loose = add_loose d r i.loose; on_grid = every_added IsRectangle d r i.on_grid j })
 dirt_added d e r (Err u) h k i j = rw k i
+
+one_added : (d : List Rectangle) (o : Option Rectangle) → IfSome o IsRectangle → IsDirt d → IsDirt (add_all d (option_to_list o))
+one_added d None h i = rw (add_all-none d) i
+one_added d (Some r) h i = rw (add_all-one d r) (record { loose = add_loose d r i.loose; on_grid = every_added IsRectangle d r i.on_grid h })
+
+pub dirt_two : (d e : List Rectangle) (a b : Option Rectangle) (o : Result (Unit {0}) NoMemory) → OnOk o (e ≡ add_all (add_all d (option_to_list a)) (option_to_list b)) → OnErr o (e ≡ d)
+    → IsDirt d → IfSome a IsRectangle → IfSome b IsRectangle → IsDirt e
+dirt_two d e a b (Ok u) h k i ha hb = rw h (one_added (add_all d (option_to_list a)) b hb (one_added d a ha i))
+dirt_two d e a b (Err u) h k i ha hb = rw k i
 
 pub dirt_cut : (d e : List Rectangle) (w : Rectangle) → e ≡ cut_dirt d w → IsDirt d → IsRectangle w → IsDirt e
 dirt_cut d e w h i j = rw h (record { loose = cut_loose d w; on_grid = cut_rectangles d w i.on_grid j })

@@ -1,12 +1,13 @@
-ghost use Rattle.std.specs.Prelude.{◌≡◌, ◌↔◌, ◌<◌, [], length, slice_get, Some, IsTrue, IfOk, OnOk, OnErr};
+ghost use Rattle.std.specs.Prelude.{◌≡◌, ◌↔◌, ◌<◌, [], length, slice_get, Some, IsTrue, IfSome, IfOk, OnOk, OnErr};
 ghost use Rattle.std.specs.List.{list_any};
+ghost use Rattle.std.specs.Option.{option_to_list};
 ghost use Rattle.plane_terms.specs.Point.{Point};
-ghost use Rattle.plane_terms.specs.Rectangle.{RectHolds, rects_meet};
-ghost use Rattle.plane_terms.specs.Dirt.{Covers, MeetsDirt, add_dirt, cut_dirt};
+ghost use Rattle.plane_terms.specs.Rectangle.{RectHolds, IsRectangle, rects_meet};
+ghost use Rattle.plane_terms.specs.Dirt.{Covers, MeetsDirt, add_dirt, add_all, cut_dirt};
 ghost use Rattle.dirty_area.specs.Parts.{IsDirt, MeetsPart};
 
 use crate::cut::{copy_of, cut_of};
-use crate::list::{add_to, meets_any};
+use crate::list::{add_to, add_two_to, meets_any};
 use grid_plane::{NoMemory, Rect};
 use std::alloc::Global;
 use std::marker::Model;
@@ -28,6 +29,15 @@ impl Model for Dirt {
     ghost view = { λ d. d.rects.items };
 
     ghost invariant = { λ d. IsDirt d.rects.items };
+}
+
+// The law that a rectangle is one of the grid.
+fn corner_laws(r: &Option<Rect>)
+    ensures { IfSome r.now IsRectangle }
+{
+    if let Some(r) = r {
+        r.corner_law();
+    }
 }
 
 impl Dirt {
@@ -90,6 +100,17 @@ impl Dirt {
     {
         r.corner_law();
         add_to(&mut self.rects, r)
+    }
+
+    /// Makes the first rectangle dirty, then the second, each where it is there, as `add` does. After an `Err`, want of memory,
+    /// nothing has changed.
+    pub fn add_two(&mut self, first: Option<Rect>, second: Option<Rect>) -> Result<(), NoMemory>
+        ensures ok { OnOk result (self.new ≡ add_all (add_all self.old (option_to_list first)) (option_to_list second)) }
+        ensures err { OnErr result (self.new ≡ self.old) }
+    {
+        corner_laws(&first);
+        corner_laws(&second);
+        add_two_to(&mut self.rects, first, second)
     }
 
     /// Takes the window out: of each rectangle, in order, the pieces that lie outside the window are added to what is left

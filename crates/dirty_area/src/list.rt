@@ -1,7 +1,8 @@
-ghost use Rattle.std.specs.Prelude.{◌≡◌, ◌≤◌, not, filter, OnOk, OnErr, vec_len, vec_capacity};
+ghost use Rattle.std.specs.Prelude.{◌≡◌, ◌<◌, ◌≤◌, ◌+◌, [], ◌∷◌, ◌++◌, not, filter, OnOk, OnErr, vec_len, vec_capacity};
 ghost use Rattle.std.specs.List.{list_any};
+ghost use Rattle.std.specs.Option.{option_to_list};
 ghost use Rattle.plane_terms.specs.Rectangle.{is_within, rects_meet};
-ghost use Rattle.plane_terms.specs.Dirt.{add_dirt};
+ghost use Rattle.plane_terms.specs.Dirt.{add_dirt, add_all};
 
 use grid_plane::{NoMemory, Rect};
 
@@ -34,6 +35,42 @@ fn drop_held(rects: &mut Vec<Rect>, r: &Rect)
     rects.retain(|s| is_loose(r, s));
 }
 
+// Puts the rectangle last, in place of those that it holds. There is room.
+fn put_last(rects: &mut Vec<Rect>, r: Rect)
+    requires { vec_len rects.old < vec_capacity rects.old }
+    ensures put { rects.new.items ≡ filter (λ s. not (is_within s r)) rects.old.items ++ r ∷ [] }
+    ensures len { vec_len rects.new ≤ vec_len rects.old + 1 }
+    ensures capacity { vec_capacity rects.new ≡ vec_capacity rects.old }
+{
+    drop_held(rects, &r);
+    rects.push_reserved(r);
+}
+
+// Adds the rectangle to a list of dirt that has room for it.
+fn add_in(rects: &mut Vec<Rect>, r: Rect)
+    requires { vec_len rects.old < vec_capacity rects.old }
+    ensures added { rects.new.items ≡ add_dirt rects.old.items r }
+    ensures len { vec_len rects.new ≤ vec_len rects.old + 1 }
+    ensures capacity { vec_capacity rects.new ≡ vec_capacity rects.old }
+{
+    if !is_held(rects, &r) {
+        put_last(rects, r);
+    }
+}
+
+// Adds the rectangle, where it is there, to a list of dirt that has room for it.
+fn add_some(rects: &mut Vec<Rect>, some: Option<Rect>)
+    requires { vec_len rects.old < vec_capacity rects.old }
+    ensures added { rects.new.items ≡ add_all rects.old.items (option_to_list some) }
+    ensures len { vec_len rects.new ≤ vec_len rects.old + 1 }
+    ensures capacity { vec_capacity rects.new ≡ vec_capacity rects.old }
+{
+    match some {
+        Some(r) => add_in(rects, r),
+        None => {}
+    }
+}
+
 /// Adds the rectangle to a list of dirt.
 pub fn add_to(rects: &mut Vec<Rect>, r: Rect) -> Result<(), NoMemory>
     ensures ok { OnOk result (rects.new.items ≡ add_dirt rects.old.items r) }
@@ -43,7 +80,21 @@ pub fn add_to(rects: &mut Vec<Rect>, r: Rect) -> Result<(), NoMemory>
         return Ok(());
     }
     rects.reserve(1)?;
-    drop_held(rects, &r);
-    rects.push_reserved(r);
+    put_last(rects, r);
+    Ok(())
+}
+
+/// Adds the first rectangle to a list of dirt, then the second, each where it is there; or neither, where memory runs out.
+pub fn add_two_to(
+    rects: &mut Vec<Rect>,
+    first: Option<Rect>,
+    second: Option<Rect>,
+) -> Result<(), NoMemory>
+    ensures ok { OnOk result (rects.new.items ≡ add_all (add_all rects.old.items (option_to_list first)) (option_to_list second)) }
+    ensures err { OnErr result (rects.new.items ≡ rects.old.items) }
+{
+    rects.reserve(2)?;
+    add_some(rects, first);
+    add_some(rects, second);
     Ok(())
 }

@@ -1,11 +1,11 @@
-ghost use Rattle.std.specs.Prelude.{◌≡◌, ◌≤◌, ◌<◌, ℕ, [], length, slice_get, Some, None, Option, MatchOption, IfSome, IfOk, IfErr, OnOk, OnErr};
+ghost use Rattle.std.specs.Prelude.{◌≡◌, ◌≢◌, ◌≤◌, ◌<◌, ℕ, [], length, slice_get, Some, None, Option, MatchOption, IfSome, IfOk, IfErr, OnOk, OnErr};
 ghost use Rattle.std.specs.Option.{option_map};
 ghost use Rattle.topology_terms.specs.Feature.{feature_at};
 ghost use Rattle.topology_terms.specs.Feature as terms;
 ghost use Rattle.topology_terms.specs.Lookups.{number_from};
 ghost use Rattle.feature_store.specs.Stored.{class_at, IsSame};
 ghost use Rattle.feature_store.specs.Keeps.{IsOfClass, IsStore};
-ghost use Rattle.feature_store.specs.Changes.{IsClassAdded, IsClassFault, IsAdded, IsAddFault, IsSwapped};
+ghost use Rattle.feature_store.specs.Changes.{IsClassAdded, IsClassFault, HasKind, IsAdded, IsAddFault, IsSwapped};
 
 use crate::class::{Class, class_number, copy_classes};
 use crate::fault::StoreFault;
@@ -109,6 +109,41 @@ impl Store {
         Some(self.class(class)?.kind())
     }
 
+    /// Whether a feature of this class and shape may be added. Refused where there is no such class, then where the kinds
+    /// differ, then where the next handle is 4,294,967,295.
+    pub fn check_add(&self, class: u16, shape: &Shape) -> Result<(), StoreFault>
+        ensures fits { OnOk result (HasKind self.now.classes class shape.now.kind) }
+        ensures left { OnOk result (self.now.next ≢ 4294967295) }
+        ensures refused { IfErr result (IsAddFault self.now class shape.now) }
+    {
+        let Some(kind) = self.class_kind(class) else {
+            return Err(StoreFault::NoClass);
+        };
+        if shape.kind() != kind {
+            return Err(StoreFault::WrongKind);
+        }
+        if self.next == u32::MAX {
+            return Err(StoreFault::HandlesSpent);
+        }
+        Ok(())
+    }
+
+    /// Adds a feature of the class of this number and answers its handle, the next one, which then rises by one. Takes no
+    /// memory: there is room.
+    pub fn add_in(&mut self, class: u16, shape: Shape) -> u32
+        requires fits { HasKind self.old.classes class shape.kind }
+        requires left { self.old.next ≢ 4294967295 }
+        requires room { 1 ≤ self.old.room }
+        ensures { IsAdded class shape result self.old self.new }
+    {
+        shape.simple_law();
+        let handle = self.next;
+        self.features
+            .push_reserved(Feature::new(handle, class, shape));
+        self.next = handle + 1;
+        handle
+    }
+
     /// Adds a feature of the class of this number and answers its handle, the next one, which then rises by one. Refused
     /// where there is no such class, then where the kinds differ, then where the next handle is 4,294,967,295; after a
     /// refusal nothing has changed.
@@ -117,20 +152,9 @@ impl Store {
         ensures refused { IfErr result (IsAddFault self.old class shape) }
         ensures kept { OnErr result (IsSame self.old self.new) }
     {
-        let Some(kind) = self.class_kind(class) else {
-            return Err(StoreFault::NoClass);
-        };
-        if shape.kind() != kind {
-            return Err(StoreFault::WrongKind);
-        }
-        let handle = self.next;
-        if handle == u32::MAX {
-            return Err(StoreFault::HandlesSpent);
-        }
-        shape.simple_law();
-        self.features.push(Feature::new(handle, class, shape))?;
-        self.next = handle + 1;
-        Ok(handle)
+        self.check_add(class, &shape)?;
+        self.room()?;
+        Ok(self.add_in(class, shape))
     }
 
     /// The live feature of this handle. Takes steps for the logarithm of their number.
@@ -182,7 +206,7 @@ impl Store {
         self.next = next;
     }
 
-    /// Makes room for a feature more, so that the next exchange wants no memory.
+    /// Makes room for a feature more, so that the next addition or exchange wants no memory.
     pub fn room(&mut self) -> Result<(), NoMemory>
         ensures room { OnOk result (1 ≤ self.new.room) }
         ensures same { IsSame self.old self.new }

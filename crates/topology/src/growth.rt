@@ -1,6 +1,6 @@
-ghost use Rattle.std.specs.Prelude.{◌≡◌, ◌≢◌, true, false, IfSome, OnOk, OnErr, IfOk};
+ghost use Rattle.std.specs.Prelude.{◌≡◌, ◌≢◌, true, false, IfSome, OnOk, OnErr};
+ghost use Rattle.std.specs.Option.{option_map};
 ghost use Rattle.plane_terms.specs.Rectangle.{IsRectangle};
-ghost use Rattle.plane_terms.specs.Dirt.{add_dirt};
 ghost use Rattle.topology_terms.specs.Feature.{env, feature_at};
 ghost use Rattle.topology_terms.specs.Changes as changes;
 
@@ -8,58 +8,37 @@ use dirty_area::Dirt;
 use feature_store::Store;
 use grid_plane::{NoMemory, Rect};
 use shape::{Feature, Shape};
-use std::alloc::Global;
 
-// The envelope of the feature is dirty.
-fn add_env(dirt: &mut Dirt, feature: &Feature) -> Result<(), NoMemory>
-    ensures ok { OnOk result (dirt.new ≡ add_dirt dirt.old (env feature.now)) }
-    ensures err { OnErr result (dirt.new ≡ dirt.old) }
-{
-    dirt.add(feature.shape().env())
-}
-
-// So is that of the live feature of this handle.
-fn add_live(dirt: &mut Dirt, store: &Store, handle: u32) -> Result<(), NoMemory>
-    ensures { OnOk result (dirt.new ≡ changes.add_envelope dirt.old (feature_at store.now.features handle)) }
+// The envelope of the live feature of this handle.
+fn live_env(store: &Store, handle: u32) -> Option<Rect>
+    ensures { result ≡ option_map env (feature_at store.now.features handle) }
 {
     match store.get(handle) {
-        Some(feature) => add_env(dirt, feature),
-        None => Ok(()),
+        Some(feature) => Some(feature.shape().env()),
+        None => None,
     }
 }
 
-fn add_kept(dirt: &mut Dirt, kept: &Option<Feature>) -> Result<(), NoMemory>
-    ensures { OnOk result (dirt.new ≡ changes.add_envelope dirt.old kept.now) }
+fn kept_env(kept: &Option<Feature>) -> Option<Rect>
+    ensures { result ≡ option_map env kept.now }
 {
     match kept {
-        Some(feature) => add_env(dirt, feature),
-        None => Ok(()),
+        Some(feature) => Some(feature.shape().env()),
+        None => None,
     }
 }
 
-/// The dirt with the envelope of what stands at the handle, then with that of what comes.
-pub fn dirt_with(
-    alloc: Global,
-    dirt: &Dirt,
+/// Makes the envelope of what stands at the handle dirty, then that of what comes. After an `Err`, nothing has changed.
+pub fn dirty_both(
+    dirt: &mut Dirt,
     store: &Store,
     handle: u32,
     kept: &Option<Feature>,
-) -> Result<Dirt, NoMemory>
-    ensures { IfOk result (λ d. d ≡ changes.add_envelope (changes.add_envelope dirt.now (feature_at store.now.features handle)) kept.now) }
+) -> Result<(), NoMemory>
+    ensures ok { OnOk result (dirt.new ≡ changes.add_envelope (changes.add_envelope dirt.old (feature_at store.now.features handle)) kept.now) }
+    ensures err { OnErr result (dirt.new ≡ dirt.old) }
 {
-    let mut grown = dirt.try_copy(alloc)?;
-    add_live(&mut grown, store, handle)?;
-    add_kept(&mut grown, kept)?;
-    Ok(grown)
-}
-
-/// The dirt with a rectangle more.
-pub fn dirt_and(alloc: Global, dirt: &Dirt, r: Rect) -> Result<Dirt, NoMemory>
-    ensures { IfOk result (λ d. d ≡ add_dirt dirt.now r) }
-{
-    let mut grown = dirt.try_copy(alloc)?;
-    grown.add(r)?;
-    Ok(grown)
+    dirt.add_two(live_env(store, handle), kept_env(kept))
 }
 
 /// Whether the shape is of another kind than the feature's.

@@ -2,6 +2,7 @@ ghost use Rattle.std.specs.Prelude.{◌≡◌};
 ghost use Rattle.topology.specs.declared.rule_fault.RuleFault.TheVariants as fault;
 
 use grid_plane::NoMemory;
+use std::alloc::AllocError;
 use thiserror::Error;
 
 /// Why a rule was not added: the first of these that applies.
@@ -31,6 +32,14 @@ impl From<NoMemory> for RuleFault {
     ghost from_gives = { λ _ e. e ≡ fault.NoMemory };
 
     fn from(_: NoMemory) -> Self {
+        RuleFault::NoMemory
+    }
+}
+
+impl From<AllocError> for RuleFault {
+    ghost from_gives = { λ _ e. e ≡ fault.NoMemory };
+
+    fn from(_: AllocError) -> Self {
         RuleFault::NoMemory
     }
 }

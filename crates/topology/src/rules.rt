@@ -1,9 +1,8 @@
-ghost use Rattle.std.specs.Prelude.{◌≡◌, ◌≢◌, ◌≤◌, ◌<◌, ◌==◌, not, true, false, length, None, Some, MatchOption, OnOk, OnErr};
+ghost use Rattle.std.specs.Prelude.{◌≡◌, ◌≢◌, ◌≤◌, ◌<◌, ◌==◌, not, true, false, length, None, Some, MatchOption, vec_len, vec_capacity};
 ghost use Rattle.topology_terms.specs.Project.{AreAscending, rule_at};
 ghost use Rattle.topology_terms.specs.Lookups.{least_free};
 ghost use Rattle.topology.specs.RuleLists.{lower_from, with_rule, without_rule, IsNowhere};
 
-use grid_plane::NoMemory;
 use rule_findings::{InForce, RuleRow};
 
 fn is_row(a: &RuleRow, b: &RuleRow) -> bool
@@ -56,15 +55,14 @@ fn place_of(rules: &[InForce], number: u16) -> usize
     place
 }
 
-/// Puts the rule into the list at its place.
-pub fn put_rule(rules: &mut Vec<InForce>, rule: InForce) -> Result<(), NoMemory>
-    requires { AreAscending rules.old.items }
-    ensures ok { OnOk result (rules.new.items ≡ with_rule rules.old.items rule) }
-    ensures err { OnErr result (rules.new.items ≡ rules.old.items) }
+/// Puts the rule into the list at its place. There is room.
+pub fn put_rule(rules: &mut Vec<InForce>, rule: InForce)
+    requires ascending { AreAscending rules.old.items }
+    requires room { vec_len rules.old < vec_capacity rules.old }
+    ensures { rules.new.items ≡ with_rule rules.old.items rule }
 {
     let place = place_of(rules, rule.number);
-    rules.insert(place, rule)?;
-    Ok(())
+    rules.insert(place, rule).unwrap();
 }
 
 /// Whether a rule in force has this number.

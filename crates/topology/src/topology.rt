@@ -10,7 +10,7 @@ ghost use Rattle.topology.specs.Steps.{IsClassMore, IsClassRefusal, IsFeatureMor
 
 use crate::fault::ChangeFault;
 use crate::fitting::fit;
-use crate::growth::{dirt_and, dirt_with, envelope_law, has_other_kind};
+use crate::growth::{dirty_both, envelope_law, has_other_kind};
 use crate::kinds::KindRules;
 use crate::no_rule::NoRule;
 use crate::rule_fault::RuleFault;
@@ -124,9 +124,10 @@ impl<R: KindRules> Topology<R> {
     {
         let env = shape.env();
         env.corner_law();
-        let dirt = dirt_and(self.alloc, &self.dirt, env)?;
-        let handle = self.store.add(class, shape)?;
-        self.dirt = dirt;
+        self.store.check_add(class, &shape)?;
+        self.store.room()?;
+        self.dirt.add(env)?;
+        let handle = self.store.add_in(class, shape);
         store_law(&self.store);
         Ok(handle)
     }
@@ -150,9 +151,9 @@ impl<R: KindRules> Topology<R> {
             return Err(RuleFault::Full);
         }
         let number = free_number(&self.rules);
-        let dirt = dirt_and(self.alloc, &self.dirt, Rect::whole())?;
-        put_rule(&mut self.rules, InForce { number, row })?;
-        self.dirt = dirt;
+        self.rules.reserve(1)?;
+        self.dirt.add(Rect::whole())?;
+        put_rule(&mut self.rules, InForce { number, row });
         Ok(number)
     }
 
@@ -189,9 +190,9 @@ impl<R: KindRules> Topology<R> {
         ensures same { OnErr result (kept.new ≡ kept.old) }
     {
         envelope_law(kept);
-        let dirt = dirt_with(self.alloc, &self.dirt, &self.store, handle, kept)?;
-        self.store.swap(handle, kept)?;
-        self.dirt = dirt;
+        self.store.room()?;
+        dirty_both(&mut self.dirt, &self.store, handle, kept)?;
+        self.store.swap_in(handle, kept);
         store_law(&self.store);
         Ok(())
     }

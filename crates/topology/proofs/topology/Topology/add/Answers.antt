@@ -8,19 +8,19 @@ use Rattle.topology.specs.Steps.{IsAddRefusal}
 use Rattle.topology.specs.Faults.{change_fault}
 use Rattle.topology.proofs.topology.Topology.add.Goals as goal
 
-pub returns-in_err-handle-clause-refused : goal.returns-in_err-handle-clause-refused
-returns-in_err-handle-clause-refused g c =
-    told c.from_residual-in_err-handle.result (change_fault c.in_err-handle.field-0.0) (IsAddRefusal c.args.self.now c.args.class c.args.shape) c.from_residual-in_err-handle.ensures.1
-    (subst (λ (q : Project). IsAddRefusal q c.args.class c.args.shape (change_fault c.in_err-handle.field-0.0)) c.self.view_is (not_added c.self.inside.store c.self.inside.rules.items c.self.inside.dirt c.self.inside.entries c.args.class c.args.shape c.in_err-handle.field-0.0 c.in_err-handle.ensures.refused))
+pub returns-in_err-check_add-clause-refused : goal.returns-in_err-check_add-clause-refused
+returns-in_err-check_add-clause-refused g c =
+    told c.from_residual.result (change_fault c.in_err-check_add.field-0.0) (IsAddRefusal c.args.self.now c.args.class c.args.shape) c.from_residual.ensures.1
+    (subst (λ (q : Project). IsAddRefusal q c.args.class c.args.shape (change_fault c.in_err-check_add.field-0.0)) c.self.view_is (not_added c.self.inside.store c.self.inside.rules.items c.self.inside.dirt c.self.inside.entries c.args.class c.args.shape c.in_err-check_add.field-0.0 c.in_err-check_add.ensures.refused))
 
 pub invariant_of-self-2 : goal.invariant_of-self-2
-invariant_of-self-2 g c = edit_keeps c.in_ok-handle.handle _ _ _ c.self.invariant (added c.args.class c.args.shape c.in_ok-handle.handle c.self.inside.store c.add.new.self c.self.inside.rules.items c.self.inside.dirt c.in_ok-dirt.dirt c.self.inside.entries c.self.invariant c.in_ok-handle.ensures.done (rw c.env-env.ensures at c.in_ok-dirt.ensures)).edit c.store_law.ensures (rw c.env-env.ensures at c.corner_law.ensures)
+invariant_of-self-2 g c = edit_keeps c.add_in-handle.result _ _ _ c.self.invariant (added c.args.class c.args.shape c.add_in-handle.result c.self.inside.store c.room.new.self c.add_in-handle.new.self c.self.inside.rules.items c.self.inside.dirt c.add.new.self c.self.inside.entries c.self.invariant c.room.ensures.same c.add_in-handle.ensures (rw c.env-env.ensures at c.in_ok-add.ensures.ok)).edit c.store_law.ensures (rw c.env-env.ensures at c.corner_law.ensures)
 
 pub returns-clause-ok : goal.returns-clause-ok
-returns-clause-ok g c = rw (← c.self.view_is) (added c.args.class c.args.shape c.in_ok-handle.handle c.self.inside.store c.add.new.self c.self.inside.rules.items c.self.inside.dirt c.in_ok-dirt.dirt c.self.inside.entries c.self.invariant c.in_ok-handle.ensures.done (rw c.env-env.ensures at c.in_ok-dirt.ensures))
+returns-clause-ok g c = rw (← c.self.view_is) (added c.args.class c.args.shape c.add_in-handle.result c.self.inside.store c.room.new.self c.add_in-handle.new.self c.self.inside.rules.items c.self.inside.dirt c.add.new.self c.self.inside.entries c.self.invariant c.room.ensures.same c.add_in-handle.ensures (rw c.env-env.ensures at c.in_ok-add.ensures.ok))
 
 pub returns-clause-kept : goal.returns-clause-kept
-returns-clause-kept g c = λ k. edit_kept g.R.RuleSet.meaning g.met.R.RuleSet.laws g.met.R.KindRules.kinds c.in_ok-handle.handle _ _ _ c.self.invariant (invariant_of-self-2 g c) (added c.args.class c.args.shape c.in_ok-handle.handle c.self.inside.store c.add.new.self c.self.inside.rules.items c.self.inside.dirt c.in_ok-dirt.dirt c.self.inside.entries c.self.invariant c.in_ok-handle.ensures.done (rw c.env-env.ensures at c.in_ok-dirt.ensures)).edit (subst (IsKeptUnder g.R.RuleSet.meaning) (sym c.self.view_is) k)
+returns-clause-kept g c = λ k. edit_kept g.R.RuleSet.meaning g.met.R.RuleSet.laws g.met.R.KindRules.kinds c.add_in-handle.result _ _ _ c.self.invariant (invariant_of-self-2 g c) (added c.args.class c.args.shape c.add_in-handle.result c.self.inside.store c.room.new.self c.add_in-handle.new.self c.self.inside.rules.items c.self.inside.dirt c.add.new.self c.self.inside.entries c.self.invariant c.room.ensures.same c.add_in-handle.ensures (rw c.env-env.ensures at c.in_ok-add.ensures.ok)).edit (subst (IsKeptUnder g.R.RuleSet.meaning) (sym c.self.view_is) k)
 
 pub returns-clause-ordered : goal.returns-clause-ordered
 returns-clause-ordered g c = ordered _ (invariant_of-self-2 g c)

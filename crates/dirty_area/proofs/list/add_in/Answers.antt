@@ -1,0 +1,15 @@
+use Rattle.std.proofs.Common.{◌≡◌, true, false, sym, ◌∙◌}
+use Rattle.std.specs.List.{list_any}
+use Rattle.plane_terms.specs.Rectangle.{is_within}
+use Rattle.dirty_area.proofs.Calls.{add_dirt-held, add_dirt-loose}
+use Rattle.dirty_area.proofs.list.add_in.Goals as goal
+
+pub returns-then-not-is_held-clause-added : goal.returns-then-not-is_held-clause-added
+returns-then-not-is_held-clause-added c =
+    let loose : list_any (λ s. is_within c.args.r s) c.args.rects.now.items ≡ false = cc in
+    c.put_last.ensures.put ∙ sym (add_dirt-loose c.args.rects.now.items c.args.r loose)
+
+pub returns-else-not-is_held-clause-added : goal.returns-else-not-is_held-clause-added
+returns-else-not-is_held-clause-added c =
+    let held : list_any (λ s. is_within c.args.r s) c.args.rects.now.items ≡ true = cc in
+    sym (add_dirt-held c.args.rects.now.items c.args.r held)
