@@ -1,0 +1,2 @@
+pub mod Somewhere
+pub mod Insides

@@ -1,8 +1,10 @@
-// The first bad pair of a list of segments by the definition: a plain slow search, for comparison.
+// The first bad pair of a list of segments, and what lies inside it, by the definitions: plain and slow, for comparison.
 #![tactic(auto)]
 
+mod inside;
 mod search;
 #[cfg(test)]
 mod tests;
 
+pub use inside::is_inside;
 pub use search::first_bad_pair;

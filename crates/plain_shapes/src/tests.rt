@@ -1,4 +1,4 @@
-use crate::first_bad_pair;
+use crate::{first_bad_pair, is_inside};
 use grid_plane::{GridPoint, NoMemory, Seg};
 use shape::{Shape, ShapeFault};
 use std::alloc::Global;
@@ -53,6 +53,41 @@ fn a_polygon_is_refused_for_the_same_pair(rt: HostRuntime) -> Result<(), Fail> {
             first_bad_pair(&segs),
             "at {seed}"
         );
+    }
+    Ok(())
+}
+
+fn place(x: i64, y: i64) -> Result<GridPoint, Fail> {
+    Ok(GridPoint::at(x, y).ok_or("in reach")?)
+}
+
+// The square of this ring's low and high coordinate.
+fn square(alloc: Global, low: i64, high: i64) -> Result<Vec<Seg>, Fail> {
+    let ring = vec![in alloc;
+        place(low, low)?,
+        place(high, low)?,
+        place(high, high)?,
+        place(low, high)?,
+    ]?;
+    Ok(segments_round(alloc, &ring)?)
+}
+
+// A square from 0 to 10 with a hole from 3 to 7, both drawn the same way round.
+#[test]
+fn inside_is_between_a_square_and_its_hole(rt: HostRuntime) -> Result<(), Fail> {
+    let alloc = rt.alloc();
+    let mut segs = square(alloc, 0, 10)?;
+    for seg in square(alloc, 3, 7)? {
+        segs.push(seg)?;
+    }
+    for (x, y) in [(1, 5), (5, 1), (3, 1), (8, 8), (5, 9)] {
+        assert!(rt; is_inside(&segs, place(x, y)?), "{x} {y}");
+    }
+    for (x, y) in [(5, 5), (11, 5), (5, 11), (5, -1), (-1, 0)] {
+        assert!(rt; !is_inside(&segs, place(x, y)?), "{x} {y}");
+    }
+    for (x, y) in [(0, 5), (10, 5), (5, 0), (5, 10), (10, 10), (3, 3), (7, 5), (5, 7)] {
+        assert!(rt; !is_inside(&segs, place(x, y)?), "{x} {y}");
     }
     Ok(())
 }
