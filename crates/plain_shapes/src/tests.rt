@@ -86,7 +86,16 @@ fn inside_is_between_a_square_and_its_hole(rt: HostRuntime) -> Result<(), Fail> 
     for (x, y) in [(5, 5), (11, 5), (5, 11), (5, -1), (-1, 0)] {
         assert!(rt; !is_inside(&segs, place(x, y)?), "{x} {y}");
     }
-    for (x, y) in [(0, 5), (10, 5), (5, 0), (5, 10), (10, 10), (3, 3), (7, 5), (5, 7)] {
+    for (x, y) in [
+        (0, 5),
+        (10, 5),
+        (5, 0),
+        (5, 10),
+        (10, 10),
+        (3, 3),
+        (7, 5),
+        (5, 7),
+    ] {
         assert!(rt; !is_inside(&segs, place(x, y)?), "{x} {y}");
     }
     Ok(())

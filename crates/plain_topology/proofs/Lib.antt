@@ -3,3 +3,4 @@ pub mod PointFacts
 pub mod EntryFacts
 pub mod HeadlineFacts
 pub mod PairFacts
+pub mod OverlapFacts

@@ -42,22 +42,3 @@ cells_points q p = (
   (λ h. elim h [ inl c ↦ (at_place_points q p).0 c | inr n ↦ absurd n ]),
   (λ i. inl ((at_place_points q p).1 i)),
 )
-
--- what an element has, some element has
-pub some_at : {A : Type 0} (P : A → Type 0) (xs : List A) (k : ℕ) → k < length xs → HoldsAt P xs k → SomeOf P xs
-some_at P [] k l h = absurd (omega arith)
-some_at P (x ∷ xs) zero l h = inl (h x)
-some_at P (x ∷ xs) (suc k) l h = inr (some_at P xs k (omega arith) h)
-
--- where no element has it, none does
-pub none_of : {A : Type 0} (P : A → Type 0) (xs : List A) → ((k : ℕ) (d : A) → k < length xs → ¬ (P (get_or xs k d))) → ¬ (SomeOf P xs)
-none_of P [] n h = h
-none_of P (x ∷ xs) n h = elim h [
-  | inl a ↦ n 0 x (omega arith) a
-  | inr a ↦ none_of P xs (λ k d l. n (suc k) d (omega arith)) a
-]
-
--- what `any` answered, over the elements
-pub some_is : {A : Type 0} (P : A → Type 0) (r : Bool) (xs : List A) → MatchBool r ((k : ℕ) × (k < length xs) × HoldsAt P xs k) (AllWithin (λ x. ¬ (P x)) xs 0 (length xs)) → IsTrue r ↔ SomeOf P xs
-some_is P true xs h = ((λ _. some_at P xs h.0 h.1 h.2), (λ _. refl))
-some_is P false xs h = ((λ t. absurd (false≢true t)), (λ s. absurd (none_of P xs (λ k d l. h k d (omega arith) l) s)))

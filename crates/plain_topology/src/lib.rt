@@ -4,6 +4,7 @@
 mod dirt;
 mod entries;
 mod headline;
+mod overlaps;
 mod pairs;
 mod points;
 #[cfg(test)]
@@ -12,5 +13,6 @@ mod tests;
 pub use dirt::{covers, holds_place};
 pub use entries::{PlainEntry, has_cells_at};
 pub use headline::{headline_holds, says_headline_at};
+pub use overlaps::{is_overlap_at, is_overlap_with_at};
 pub use pairs::{broken_pairs, partners_of};
 pub use points::{PlainPoint, is_broken_at};

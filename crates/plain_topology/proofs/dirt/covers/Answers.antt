@@ -2,7 +2,7 @@ use Rattle.std.proofs.Common.{rules}
 use borrow.Author.Tests.{tests}
 use Rattle.std.proofs.lemmas.Iterator.{YieldsList-from_slice, cases_from_any}
 use Rattle.plane_terms.specs.Rectangle.{Rectangle, RectHolds}
-use Rattle.plain_topology.proofs.PlaceFacts.{some_is}
+use Rattle.plain_shapes.proofs.Somewhere.{some_is}
 use Rattle.plain_topology.proofs.dirt.covers.Goals as goal
 
 pub returns : goal.returns

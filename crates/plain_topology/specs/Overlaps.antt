@@ -1,0 +1,22 @@
+-- The rules on polygons that overlap, for the plain functions.
+--
+-- overlap_row class                Must Not Overlap for the class of this number
+-- overlap_with_row class other     Must Not Overlap With, for the class and the other one
+-- IsInsideOf F class h p           the live feature of the handle h is of the class, and p is inside its segments
+use Rattle.std.specs.Prelude.{ℕ, List}
+use Rattle.plane_terms.specs.Point.{Point}
+use Rattle.plane_terms.specs.Polygon.{IsInside}
+use Rattle.rule_core.specs.declared.rule_kind.RuleKind.TheVariants as kind
+use Rattle.topology_terms.specs.Feature.{Feature, IsOf, sides}
+use Rattle.topology_terms.specs.Broken.{Row}
+
+abbrev pub overlap_row : ℕ → Row
+overlap_row class = record { kind = kind.PolygonMustNotOverlap; origin = record { class = class }; dest = record { class = 0 } }
+
+abbrev pub overlap_with_row : ℕ → ℕ → Row
+overlap_with_row class other = record { kind = kind.PolygonMustNotOverlapWith; origin = record { class = class }; dest = record { class = other } }
+
+pub record IsInsideOf (F : List Feature) (class h : ℕ) (p : Point) : Type 0 where
+  pub f : Feature
+  pub live : IsOf F (record { class = class }) h f
+  pub inside : IsInside (sides f) p
