@@ -10,11 +10,9 @@ So many points are added and validated; as many more are added at other places o
 validated, or in its place a hundred small windows, each of which finds a few of the late points; and the dirty rectangles
 are listed. Each figure is what a script takes beyond one that ends earlier.
 """
-import argparse
 import sys
-import tempfile
 
-from programs import Table, add_program_words, make_measured, measure_lines, programs_of, spread
+from programs import measure_lines, print_sizes, spread
 
 HEAD = ['class wells point', 'rule point_must_be_disjoint wells', 'begin ann']
 SIDE = 200
@@ -53,17 +51,7 @@ def print_size(table, folder, count, programs, given):
 
 
 def main():
-    parser = argparse.ArgumentParser(usage=__doc__.split('\n\n')[1][7:])
-    add_program_words(parser)
-    parser.add_argument('--sizes', default='3000,10000,30000')
-    given = parser.parse_args()
-    programs = programs_of(given)
-    table = Table('late points', len(programs) == 2)
-    with tempfile.TemporaryDirectory() as folder:
-        make_measured(folder)
-        for count in map(int, given.sizes.split(',')):
-            print_size(table, folder, count, programs, given)
-    return 0 if table.good else 1
+    return print_sizes(__doc__, 'late points', '--sizes', '3000,10000,30000', print_size)
 
 
 if __name__ == '__main__':

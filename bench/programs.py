@@ -1,10 +1,12 @@
 """Programs that are measured over scripts: the built one, and another beside it where one is named."""
+import argparse
 import hashlib
 import math
 import os
 import shlex
 import shutil
 import subprocess
+import tempfile
 
 HERE = os.path.dirname(os.path.abspath(__file__))
 ROOT = os.path.dirname(HERE)
@@ -128,3 +130,19 @@ class Table:
         if self.has_other:
             cells += [ratio, 'yes' if all(are_same(runs) for runs in measures) else 'NO']
         print('| ' + ' | '.join(cells) + ' |', flush=True)
+
+
+def print_sizes(usage, title, option, sizes, print_one, add_words=lambda parser: None):
+    """The whole of a command that takes sizes: reads its words, and has each size print its rows. Answers the status."""
+    parser = argparse.ArgumentParser(usage=usage.split('\n\n')[1][7:])
+    add_program_words(parser)
+    parser.add_argument(option, dest='sizes', default=sizes)
+    add_words(parser)
+    given = parser.parse_args()
+    programs = programs_of(given)
+    table = Table(title, len(programs) == 2)
+    with tempfile.TemporaryDirectory() as folder:
+        make_measured(folder)
+        for size in map(int, given.sizes.split(',')):
+            print_one(table, folder, size, programs, given)
+    return 0 if table.good else 1

@@ -13,12 +13,10 @@ corner of its own that reaches into the next, so that the two overlap. One easem
 in the street; each fourth of them reaches into the parcel. Two rules are in force: parcels must not overlap, and must not
 overlap with easements. An edit moves a corner of one parcel alone, and the window round that parcel is validated.
 """
-import argparse
 import random
 import sys
-import tempfile
 
-from programs import Table, add_program_words, make_measured, measure_lines, programs_of, spread
+from programs import measure_lines, print_sizes, spread
 
 HEAD = ['class parcels polygon', 'class easements polygon', 'rule polygon_must_not_overlap parcels',
         'rule polygon_must_not_overlap_with parcels easements', 'begin ann']
@@ -115,18 +113,7 @@ def print_rows(table, folder, rows, programs, given):
 
 
 def main():
-    parser = argparse.ArgumentParser(usage=__doc__.split('\n\n')[1][7:])
-    add_program_words(parser)
-    parser.add_argument('--rows', default='30,60,100')
-    parser.add_argument('--edits', type=int, default=1000)
-    given = parser.parse_args()
-    programs = programs_of(given)
-    table = Table('town', len(programs) == 2)
-    with tempfile.TemporaryDirectory() as folder:
-        make_measured(folder)
-        for rows in map(int, given.rows.split(',')):
-            print_rows(table, folder, rows, programs, given)
-    return 0 if table.good else 1
+    return print_sizes(__doc__, 'town', '--rows', '30,60,100', print_rows, lambda parser: parser.add_argument('--edits', type=int, default=1000))
 
 
 if __name__ == '__main__':

@@ -2,9 +2,11 @@
 #![tactic(auto)]
 
 mod built;
+mod law;
 mod poster;
 #[cfg(test)]
 mod tests;
 
 pub use built::is_built;
+pub use law::poster_law;
 pub use poster::PosterRules;
