@@ -18,7 +18,7 @@ import sys
 from programs import HERE, ROOT
 
 COMMANDS = ['run.py', 'features.py', 'late.py', 'town.py', 'shapes.py', 'columns.py', 'cells.py']
-TIMING = {'shapes.py': 'shape_timing', 'columns.py': 'column_timing', 'cells.py': 'cell_timing'}
+TIMING = {'shapes.py': 'bench_shapes', 'columns.py': 'bench_columns', 'cells.py': 'bench_cells'}
 WITHOUT_BASELINE = {'cells.py'}
 
 

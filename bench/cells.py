@@ -53,9 +53,9 @@ def main():
     parser = argparse.ArgumentParser()
     parser.add_argument('--times', type=int, default=400)
     times = parser.parse_args().times
-    mine = os.path.join(HERE, '..', 'crates', 'cell_timing', 'out', 'cell_timing')
+    mine = os.path.join(HERE, '..', 'crates', 'bench_cells', 'out', 'bench_cells')
     if not os.path.isfile(mine):
-        sys.exit('build crates/cell_timing first: `rt run -- 1 < stdin` in its folder')
+        sys.exit('build crates/bench_cells first: `rt run -- 1 < stdin` in its folder')
     plain = os.path.join(tempfile.mkdtemp(), 'plain_cells')
     subprocess.run(['cc', '-O2', '-o', plain, os.path.join(HERE, 'plain_cells.c')], check=True)
     print('| cells | half-planes | ns a call | in C: ns a call | ratio | equal answers |')

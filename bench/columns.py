@@ -4,7 +4,7 @@
     bench/columns.py [--sizes N,..] [--baseline WORDS]
 
 A ring lies between two parabolas; a comb has slanted teeth that lie above one another; a spiral goes out and comes back beside itself;
-a zigzag goes from side to side and comes back beside itself. Build `crates/column_timing` first: `rt run -- 1 < stdin` in its folder.
+a zigzag goes from side to side and comes back beside itself. Build `crates/bench_columns` first: `rt run -- 1 < stdin` in its folder.
 
 Beside another program of the same words and texts, where one is given, two questions are asked of both: the cells inside, and
 the inside of a rectangle round the polygon carved by the cells outside. The other program is asked by a script with the rule
@@ -20,7 +20,7 @@ import tempfile
 from polygons import comb, ring, spiral, zigzag
 
 HERE = os.path.dirname(os.path.abspath(__file__))
-PROGRAM = os.path.join(HERE, '..', 'crates', 'column_timing', 'out', 'column_timing')
+PROGRAM = os.path.join(HERE, '..', 'crates', 'bench_columns', 'out', 'bench_columns')
 SCRIPT = """class zones polygon
 class covers polygon
 rule polygon_must_be_covered_by_feature_class_of zones covers
@@ -89,7 +89,7 @@ def main():
     parser.add_argument('--baseline', type=shlex.split)
     options = parser.parse_args()
     if not os.path.isfile(PROGRAM):
-        sys.exit('build crates/column_timing first: `rt run -- 1 < stdin` in its folder')
+        sys.exit('build crates/bench_columns first: `rt run -- 1 < stdin` in its folder')
     heads = ['polygon', 'vertices', 'inside', 'outside', 'carved by outside']
     if options.baseline:
         options.baseline += ['replay']

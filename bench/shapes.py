@@ -5,7 +5,7 @@
 
 A ring lies between two parabolas; a comb has slanted teeth that lie above one another; a spiral goes out and comes back beside itself;
 a star has spikes, and its last pair of segments crosses, and that alone; in a rosette nearly all pairs cross. Build
-`crates/shape_timing` first: `rt run -- 1 < stdin` in its folder.
+`crates/bench_shapes` first: `rt run -- 1 < stdin` in its folder.
 
 The polygon is made once and then many times over, and the difference counts: processor time for one. Of the baseline, another
 program of the same words and texts, a script with many `add` lines of the polygon is timed in the same way, minus one with a
@@ -23,7 +23,7 @@ import tempfile
 from polygons import comb, ring, spiral
 
 HERE = os.path.dirname(os.path.abspath(__file__))
-PROGRAM = os.path.join(HERE, '..', 'crates', 'shape_timing', 'out', 'shape_timing')
+PROGRAM = os.path.join(HERE, '..', 'crates', 'bench_shapes', 'out', 'bench_shapes')
 TURNS = 3
 
 
@@ -79,7 +79,7 @@ def main():
     parser.add_argument('--baseline')
     given = parser.parse_args()
     if not os.path.isfile(PROGRAM):
-        sys.exit('build crates/shape_timing first: `rt run -- 1 < stdin` in its folder')
+        sys.exit('build crates/bench_shapes first: `rt run -- 1 < stdin` in its folder')
     other = shlex.split(given.baseline) if given.baseline else None
     if other:
         other[0] = os.path.abspath(shutil.which(other[0]) or other[0])

@@ -4,9 +4,9 @@ use Rattle.topology_terms.specs.Feature.{Feature, Side, feature_at, is_on_side}
 use Rattle.topology_terms.specs.Broken.{Row}
 use Rattle.topology_terms.specs.Meaning.{Finding}
 use Rattle.topology_terms.specs.Cutting.{IsCutting, near, near_after, pair_findings, overlap_cells}
-use Rattle.rule_core.specs.declared.rule_kind.RuleKind.TheVariants as kind
-use Rattle.rule_judging.specs.Shown.{IsShown}
-use Rattle.rule_judging.proofs.Partners.{near_shown, near_after_shown}
+use Rattle.rule_words.specs.declared.rule_kind.RuleKind.TheVariants as kind
+use Rattle.rule_core.specs.Shown.{IsShown}
+use Rattle.rule_core.proofs.Partners.{near_shown, near_after_shown}
 use Rattle.area_rules.specs.Overlaps.{is_later, is_of, overlaps}
 
 abbrev pub side_of : ℕ → Side

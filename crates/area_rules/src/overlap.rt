@@ -7,7 +7,7 @@ ghost use Rattle.topology_terms.specs.Cutting as cutting;
 use column_cut::inside;
 use convex_cell::Cells;
 use grid_plane::NoMemory;
-use rule_findings::{Finding, Findings};
+use rule_core::{Finding, Findings};
 use shape::Feature;
 use std::alloc::Global;
 

@@ -1,7 +1,7 @@
 ghost use Rattle.std.specs.Prelude.{◌≡◌, IfOk};
 ghost use Rattle.topology_terms.specs.Feature.{IsAscending};
 ghost use Rattle.topology_terms.specs.Poster.{poster};
-ghost use Rattle.rule_core.specs.declared.rule_kind.RuleKind.TheVariants as kind;
+ghost use Rattle.rule_words.specs.declared.rule_kind.RuleKind.TheVariants as kind;
 ghost use Rattle.rule_laws.proofs.Posters.{poster_laws, poster_cuts};
 ghost use Rattle.rule_laws.proofs.Views.{poster_views};
 ghost use Rattle.area_rules.specs.Overlaps.{is_of, overlaps};
@@ -9,9 +9,8 @@ ghost use Rattle.area_rules.specs.Overlaps.{is_of, overlaps};
 use crate::overlap::push_overlap;
 use column_cut::inside;
 use grid_plane::NoMemory;
-use rule_core::RuleKind;
-use rule_findings::{Findings, RuleRow};
-use rule_judging::{Rule, View, Work};
+use rule_words::RuleKind;
+use rule_core::{Findings, Rule, RuleRow, View, Work};
 use shape::Feature;
 use std::alloc::Global;
 use std::marker::Model;
@@ -25,7 +24,7 @@ pub struct PolygonMustNotOverlapWith {
 
 impl Model for PolygonMustNotOverlapWith {
     ghost use Rattle.topology_terms.specs.Broken.{Row};
-    ghost use Rattle.rule_core.specs.declared.rule_kind.RuleKind.TheVariants as kind;
+    ghost use Rattle.rule_words.specs.declared.rule_kind.RuleKind.TheVariants as kind;
 
     ghost Value = { Row };
 

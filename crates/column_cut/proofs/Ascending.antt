@@ -12,9 +12,9 @@ use Rattle.std.proofs.lemmas.List.Kept.{Contains-dedup, Contains-from_dedup, IsS
 use Rattle.plane_terms.specs.Lists.{Every}
 use Rattle.plane_terms.specs.Segment.{Segment}
 use Rattle.plane_terms.specs.Columns.{put, abscissas, ordinates}
-use Rattle.column_steps.specs.Rising.{IsRising}
-use Rattle.column_steps.proofs.Every.{every_map}
-use Rattle.column_steps.proofs.Numbers.{every-put, IsRising-put, among-put, among-put_other, from-put}
+use Rattle.column_laws.specs.Rising.{IsRising}
+use Rattle.column_laws.proofs.Every.{every_map}
+use Rattle.column_laws.proofs.Numbers.{every-put, IsRising-put, among-put, among-put_other, from-put}
 use Rattle.column_cut.specs.Vertices.{ascending, xs_of, ys_at, is_at}
 use Rattle.column_cut.proofs.Unique.{IsAmong, same_by_members}
 

@@ -9,9 +9,9 @@ use Rattle.column_cut.specs.Ranks.{is_under}
 use Rattle.std.proofs.lemmas.Int.{fits_signed_from_abs, unsigned_abs-mul}
 use Rattle.std.proofs.Math.Nat.{mul-le-mul, lt_of_le_of_lt}
 use Rattle.std.proofs.Common.{refl, ◌∙◌}
-use Rattle.number_steps.proofs.Ring.{num, ◌⊖◌, ◌⊗◌, le_by, le_read, same_by}
+use Rattle.number_laws.proofs.Ring.{num, ◌⊖◌, ◌⊗◌, le_by, le_read, same_by}
 use Rattle.plane_terms.specs.Point.{InReach}
-use Rattle.number_steps.proofs.Order.{product_at_least, least_unscaled}
+use Rattle.number_laws.proofs.Order.{product_at_least, least_unscaled}
 
 pub product_back : (w : Width) (a b : ℤ) → SFits w a → SFits w b → SFits w (a *ℤ b) → to_z w (of_z w (to_z w (of_z w a) *ℤ to_z w (of_z w b))) ≡ a *ℤ b
 product_back w a b f g h = rw (to_z-of_z w a f, to_z-of_z w b g) (to_z-of_z w (a *ℤ b) h)

@@ -8,7 +8,7 @@ use Rattle.column_cut.specs.declared.ranked.Ranked.{Ranked}
 use Rattle.plane_terms.specs.Segment.{Segment, left_of}
 use Rattle.plane_terms.specs.Columns.{is_lower, place, column, gap_at}
 use Rattle.column_cut.specs.Ranks.{is_under, IsRank, IsRankOf, segment_of, passes}
-use Rattle.number_steps.proofs.Ring.{num, neg, ◌⊕◌, ◌⊖◌, ◌⊗◌, same_by}
+use Rattle.number_laws.proofs.Ring.{num, neg, ◌⊕◌, ◌⊖◌, ◌⊗◌, same_by}
 use Rattle.plane_terms.specs.Lists.{Every}
 use Rattle.column_cut.proofs.Stable.{put_in, put_all, sorted_is_put_all}
 use Rattle.column_cut.proofs.Ranking.{is_under-ranks}

@@ -6,7 +6,7 @@ use Rattle.std.specs.List.Sorted.{IsSortedBy, IsStableBy, ties}
 use Rattle.std.proofs.lemmas.List.Sorted.{sorted_far}
 use Rattle.std.proofs.lemmas.Bool.{false≢true, and_parts, and_from, not-true, not_from_false, cases_Bool}
 use Rattle.plane_terms.specs.Lists.{Every, EveryPair}
-use Rattle.column_steps.proofs.Every.{every_map}
+use Rattle.column_laws.proofs.Every.{every_map}
 use Rattle.column_cut.proofs.Unique.{IsAmong, every_among}
 
 member_filter : {X : Type 0} (p : X → Bool) (xs : List X) (z : X) → IsAmong z (filter p xs) → IsAmong z xs

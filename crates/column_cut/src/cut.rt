@@ -5,7 +5,7 @@ ghost use Rattle.plane_terms.specs.Cell.{InCells};
 ghost use Rattle.plane_terms.specs.HalfPlane.{x_over, x_under};
 ghost use Rattle.plane_terms.specs.Carve.{kept};
 ghost use Rattle.plane_terms.specs.Columns.{column, slots, wall, in_column, cells_from, last, inside_cells, outside_cells};
-ghost use Rattle.column_steps.specs.Rising.{IsRising};
+ghost use Rattle.column_laws.specs.Rising.{IsRising};
 ghost use Rattle.column_cut.specs.Parity.{is_even};
 
 use crate::column::column_of;

@@ -1,5 +1,5 @@
 //! What the columns of a polygon rest on, as laws of their own. The functions do nothing: their clauses are the laws.
-ghost use Rattle.column_steps.specs.Slots.{ColumnsHaveOneOrder, SlotsAreClear, SlotsAreEnough, NoneCountsBeside};
+ghost use Rattle.column_laws.specs.Slots.{ColumnsHaveOneOrder, SlotsAreClear, SlotsAreEnough, NoneCountsBeside};
 
 /// The segments of a column stand in one order over the whole strip between its walls, both walls included.
 pub fn columns_have_one_order()

@@ -5,7 +5,7 @@ use Rattle.plane_terms.specs.Lists.{Every}
 use Rattle.plane_terms.specs.Rectangle.{Rectangle}
 use Rattle.plane_terms.specs.Shape.{Shape}
 use Rattle.plane_terms.specs.declared.kind.Kind.{Kind}
-use Rattle.rule_core.specs.declared.rule_kind.RuleKind.{RuleKind}
+use Rattle.rule_words.specs.declared.rule_kind.RuleKind.{RuleKind}
 use Rattle.topology_terms.specs.Changes.{IsRuleAdded, IsRuleDropped}
 use Rattle.topology_terms.specs.Feature.{Feature, feature_at}
 use Rattle.topology_terms.specs.Lookups.{class_number, least_free}
@@ -13,24 +13,24 @@ use Rattle.topology_terms.specs.Poster.{poster}
 use Rattle.topology_terms.specs.Project.{Project, rule_at}
 use Rattle.topology_terms.specs.Sentences.{is_built}
 use Rattle.topology_terms.specs.Settled.{IsValidatedBy}
-use Rattle.validation_steps.specs.Counts.{raised, judged_of}
+use Rattle.validation_laws.specs.Counts.{raised, judged_of}
 use Rattle.feature_store.specs.Keeps.{IsGiven}
 use Rattle.feature_store.specs.declared.fault.StoreFault.{StoreFault}
 use Rattle.feature_store.specs.declared.fault.StoreFault.TheVariants as store_fault
-use Rattle.topology.specs.RuleSteps.{MayAdd, IsRuleRefusal}
-use Rattle.topology.specs.Steps.{IsClassMore, IsClassRefusal, IsFeatureMore, IsAddRefusal, IsChanged, IsChangeRefusal, IsDeleted, IsDeleteRefusal, IsCounted}
-use Rattle.topology.specs.Topologies.{IsTopology}
-use Rattle.topology.specs.declared.fault.ChangeFault.{ChangeFault}
-use Rattle.topology.specs.declared.fault.ChangeFault.TheVariants as change_fault
-use Rattle.topology.specs.declared.rule_fault.RuleFault.{RuleFault}
-use Rattle.topology.specs.declared.rule_fault.RuleFault.TheVariants as rule_fault
+use Rattle.topo_core.specs.RuleSteps.{MayAdd, IsRuleRefusal}
+use Rattle.topo_core.specs.Steps.{IsClassMore, IsClassRefusal, IsFeatureMore, IsAddRefusal, IsChanged, IsChangeRefusal, IsDeleted, IsDeleteRefusal, IsCounted}
+use Rattle.topo_core.specs.Topologies.{IsTopology}
+use Rattle.topo_core.specs.declared.fault.ChangeFault.{ChangeFault}
+use Rattle.topo_core.specs.declared.fault.ChangeFault.TheVariants as change_fault
+use Rattle.topo_core.specs.declared.rule_fault.RuleFault.{RuleFault}
+use Rattle.topo_core.specs.declared.rule_fault.RuleFault.TheVariants as rule_fault
 use Rattle.script_text.specs.Commands.{Command, Class, Rule, DropRule, Begin, Add, Change, Delete, Validate}
 use Rattle.script_terms.specs.Refusal.{Refusal, NoClass, NoRule, NoSession}
 use Rattle.script_terms.specs.Reply.{Reply, Done, Number, Judged, Refused}
 use Rattle.script_terms.specs.State.{State, is_open}
 use Rattle.script_terms.specs.Refusing.{refusal_of, number_or_0, row_of, lacks_class, not_built}
 use Rattle.script_terms.specs.Answer.{Answers, IsDone, answers_by, reshaped}
-use Rattle.sound_steps.proofs.FeatureLists.{handle_of}
+use Rattle.sound_laws.proofs.FeatureLists.{handle_of}
 use Rattle.command_answers.specs.Refusals.{class_refusal, change_refusal, rule_refusal}
 use Rattle.command_answers.proofs.Counts.{fewer_chosen, few_handles, few_judged}
 use Rattle.command_answers.proofs.EditRefusals.{may_class, may_add, may_change, may_delete, refused_class, refused_add, refused_change, refused_delete}

@@ -8,9 +8,9 @@ use Rattle.topology_terms.specs.Lookups.{class_number}
 use Rattle.topology_terms.specs.Project.{Project}
 use Rattle.feature_store.specs.declared.fault.StoreFault.{StoreFault}
 use Rattle.feature_store.specs.declared.fault.StoreFault.TheVariants as store_fault
-use Rattle.topology.specs.Steps.{IsClassMore, IsClassRefusal, IsFeatureMore, IsAddRefusal, IsChanged, IsChangeRefusal, IsDeleted, IsDeleteRefusal}
-use Rattle.topology.specs.declared.fault.ChangeFault.{ChangeFault}
-use Rattle.topology.specs.declared.fault.ChangeFault.TheVariants as fault
+use Rattle.topo_core.specs.Steps.{IsClassMore, IsClassRefusal, IsFeatureMore, IsAddRefusal, IsChanged, IsChangeRefusal, IsDeleted, IsDeleteRefusal}
+use Rattle.topo_core.specs.declared.fault.ChangeFault.{ChangeFault}
+use Rattle.topo_core.specs.declared.fault.ChangeFault.TheVariants as fault
 use Rattle.script_text.specs.Commands.{Class, Add, Change, Delete}
 use Rattle.script_terms.specs.Refusal.{WrongKind}
 use Rattle.script_terms.specs.State.{State, is_open}

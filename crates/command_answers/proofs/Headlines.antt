@@ -4,7 +4,7 @@ use Rattle.topology_terms.specs.Entry.{Entry, entry_at}
 use Rattle.topology_terms.specs.Feature.{Feature}
 use Rattle.topology_terms.specs.Poster.{poster}
 use Rattle.topology_terms.specs.Project.{Project, rule_at}
-use Rattle.topology.specs.Topologies.{IsTopology, IsKeptUnder}
+use Rattle.topo_core.specs.Topologies.{IsTopology, IsKeptUnder}
 use Rattle.script_terms.specs.Headline.{Headline}
 
 pub headline : (p : Project) → IsTopology p → IsKeptUnder poster p → Headline p

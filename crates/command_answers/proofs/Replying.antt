@@ -5,9 +5,9 @@ use Rattle.plane_terms.specs.Shape.{Shape}
 use Rattle.topology_terms.specs.Feature.{Feature}
 use Rattle.topology_terms.specs.Lookups.{class_number}
 use Rattle.topology_terms.specs.Project.{Project}
-use Rattle.topology.specs.Steps.{IsFeatureMore, IsAddRefusal, IsChanged, IsChangeRefusal, IsDeleted, IsDeleteRefusal}
-use Rattle.topology.specs.declared.fault.ChangeFault.{ChangeFault}
-use Rattle.topology.specs.declared.fault.ChangeFault.TheVariants as change_fault
+use Rattle.topo_core.specs.Steps.{IsFeatureMore, IsAddRefusal, IsChanged, IsChangeRefusal, IsDeleted, IsDeleteRefusal}
+use Rattle.topo_core.specs.declared.fault.ChangeFault.{ChangeFault}
+use Rattle.topo_core.specs.declared.fault.ChangeFault.TheVariants as change_fault
 use Rattle.script_text.specs.Commands.{Add, Change, Delete}
 use Rattle.script_terms.specs.Answer.{Answers}
 use Rattle.script_terms.specs.Reply.{Done, Number, Refused}

@@ -4,8 +4,8 @@ use Rattle.std.specs.Prelude.{◌==◌, is_none, IfSome}
 use Rattle.std.specs.List.{list_any}
 use Rattle.plane_terms.specs.Lists.{Every}
 use Rattle.plane_terms.specs.declared.kind.Kind.{Kind}
-use Rattle.rule_core.specs.Table.{origin_of, dest_of}
-use Rattle.rule_core.specs.declared.rule_kind.RuleKind.{RuleKind}
+use Rattle.rule_words.specs.Table.{origin_of, dest_of}
+use Rattle.rule_words.specs.declared.rule_kind.RuleKind.{RuleKind}
 use Rattle.topology_terms.specs.Broken.{Row}
 use Rattle.topology_terms.specs.Feature.{Class}
 use Rattle.topology_terms.specs.Project.{Project, InForce, rule_at}
@@ -13,11 +13,11 @@ use Rattle.topology_terms.specs.Lookups.{class_number, number_from}
 use Rattle.topology_terms.specs.Sentences.{is_built}
 use Rattle.feature_store.specs.Stored.{class_at}
 use Rattle.feature_store.specs.Changes.{HasKind, HasOtherKind}
-use Rattle.topology.specs.Kinds.{HasKinds}
-use Rattle.topology.specs.RuleLists.{IsNowhere}
-use Rattle.topology.specs.RuleSteps.{IsMissing, DestMissing, DestUnfit, DestApart, IsUnfit, DoesFit, MayAdd, IsThere, IsFullOfRules, IsRuleRefusal}
-use Rattle.topology.specs.declared.rule_fault.RuleFault.{RuleFault}
-use Rattle.topology.specs.declared.rule_fault.RuleFault.TheVariants as fault
+use Rattle.topo_core.specs.Kinds.{HasKinds}
+use Rattle.topo_core.specs.RuleLists.{IsNowhere}
+use Rattle.topo_core.specs.RuleSteps.{IsMissing, DestMissing, DestUnfit, DestApart, IsUnfit, DoesFit, MayAdd, IsThere, IsFullOfRules, IsRuleRefusal}
+use Rattle.topo_core.specs.declared.rule_fault.RuleFault.{RuleFault}
+use Rattle.topo_core.specs.declared.rule_fault.RuleFault.TheVariants as fault
 use Rattle.script_text.specs.Commands.{Rule}
 use Rattle.script_terms.specs.State.{State}
 use Rattle.script_terms.specs.Refusing.{row_of, lacks_class, lacks_second, named_number, number_or_0, is_fit, fits_dest, is_kind, kind_of_class, is_row, refusal_of}

@@ -7,9 +7,9 @@ use Rattle.std.proofs.lemmas.Slice.Eq.{bytes_eq-Decides}
 use Rattle.plane_terms.specs.Lists.{Every}
 use Rattle.plane_terms.specs.declared.kind.Kind.{Kind}
 use Rattle.plane_terms.specs.declared.kind.Kind.TheVariants as kind
-use Rattle.rule_core.specs.Table.{word_of}
-use Rattle.rule_core.specs.declared.rule_kind.RuleKind.{RuleKind}
-use Rattle.rule_core.proofs.OneWord.{one_word}
+use Rattle.rule_words.specs.Table.{word_of}
+use Rattle.rule_words.specs.declared.rule_kind.RuleKind.{RuleKind}
+use Rattle.rule_words.proofs.OneWord.{one_word}
 use Rattle.topology_terms.specs.Feature.{Side}
 use Rattle.topology_terms.specs.Broken.{Row}
 use Rattle.topology_terms.specs.Project.{InForce, rule_at}

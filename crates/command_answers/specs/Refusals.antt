@@ -3,10 +3,10 @@
 -- class_refusal e, change_refusal e, rule_refusal e     the same cause; of want of memory, which is no refusal, any
 use Rattle.feature_store.specs.declared.fault.StoreFault.{StoreFault}
 use Rattle.feature_store.specs.declared.fault.StoreFault.TheVariants as store_fault
-use Rattle.topology.specs.declared.fault.ChangeFault.{ChangeFault}
-use Rattle.topology.specs.declared.fault.ChangeFault.TheVariants as change_fault
-use Rattle.topology.specs.declared.rule_fault.RuleFault.{RuleFault}
-use Rattle.topology.specs.declared.rule_fault.RuleFault.TheVariants as rule_fault
+use Rattle.topo_core.specs.declared.fault.ChangeFault.{ChangeFault}
+use Rattle.topo_core.specs.declared.fault.ChangeFault.TheVariants as change_fault
+use Rattle.topo_core.specs.declared.rule_fault.RuleFault.{RuleFault}
+use Rattle.topo_core.specs.declared.rule_fault.RuleFault.TheVariants as rule_fault
 use Rattle.script_terms.specs.Refusal.{Refusal, ClassTaken, ClassesFull, NoClass, Unfit, RuleThere, RulesFull, WrongKind, NoFeature, HandlesSpent}
 
 abbrev pub class_refusal : StoreFault → Refusal

@@ -8,10 +8,10 @@ ghost use Rattle.reply_text.specs.Replies.{said_of};
 use crate::refused::{refused_class, refused_rule};
 use crate::world::World;
 use grid_plane::{Name, NoMemory};
-use poster_rules::is_built;
+use rule_set::is_built;
 use reply_text::{Refusal, Reply};
-use rule_core::{Kind, RuleKind};
-use rule_findings::RuleRow;
+use rule_words::{Kind, RuleKind};
+use rule_core::RuleRow;
 use script_text::LineRefusal;
 
 /// What is answered to a command or a rule that is not built yet.

@@ -8,7 +8,7 @@ use crate::refused::{reply_to_add, reply_to_change};
 use crate::world::World;
 use grid_plane::{Name, NoMemory, Rect};
 use reply_text::{Refusal, Reply};
-use rule_judging::Work;
+use rule_core::Work;
 use shape::Shape;
 
 impl World {

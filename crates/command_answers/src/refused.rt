@@ -1,15 +1,15 @@
 ghost use Rattle.std.specs.Prelude.{◌≡◌, ◌≢◌, Err, IfOk, OnErr, MatchResult};
 ghost use Rattle.topology_terms.specs.Project.{Project};
 ghost use Rattle.script_terms.specs.Reply.{Done, Number, Refused};
-ghost use Rattle.topology.specs.declared.fault.ChangeFault.{ChangeFault};
-ghost use Rattle.topology.specs.declared.fault.ChangeFault.TheVariants as change_fault;
+ghost use Rattle.topo_core.specs.declared.fault.ChangeFault.{ChangeFault};
+ghost use Rattle.topo_core.specs.declared.fault.ChangeFault.TheVariants as change_fault;
 ghost use Rattle.reply_text.specs.Replies.{said_of};
 ghost use Rattle.command_answers.specs.Refusals.{class_refusal, change_refusal, rule_refusal};
 
 use feature_store::StoreFault;
 use grid_plane::NoMemory;
 use reply_text::{Refusal, Reply};
-use topology::{ChangeFault, Feature, RuleFault};
+use topo_core::{ChangeFault, Feature, RuleFault};
 
 /// What is answered where no class was added.
 pub fn refused_class(fault: StoreFault) -> Result<Reply, NoMemory>

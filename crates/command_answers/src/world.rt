@@ -4,10 +4,10 @@ ghost use Rattle.script_terms.specs.State.{empty_state, is_open};
 ghost use Rattle.script_terms.specs.Headline.{Headline};
 
 use grid_plane::Name;
-use poster_rules::PosterRules;
+use rule_set::PosterRules;
 use std::alloc::Global;
 use std::marker::Model;
-use topology::Topology;
+use topo_core::Topology;
 
 /// The state of a run: the topology, and the editor of the open session. In every state the printed errors are exactly what
 /// is broken off the printed dirty areas.
@@ -20,7 +20,7 @@ pub struct World {
 impl Model for World {
     ghost use Rattle.script_terms.specs.State.{State};
     ghost use Rattle.topology_terms.specs.Poster.{poster};
-    ghost use Rattle.topology.specs.Topologies.{IsKeptUnder};
+    ghost use Rattle.topo_core.specs.Topologies.{IsKeptUnder};
 
     ghost Value = { State };
 

@@ -11,13 +11,13 @@ use Rattle.plane_terms.specs.Point.{Point}
 use Rattle.plane_terms.specs.HalfPlane.{HalfPlane}
 use Rattle.plane_terms.specs.Cell.{InCell, HasPoint}
 use Rattle.plane_terms.specs.Decide.{Bound}
-use Rattle.number_steps.proofs.Ring.{num, neg, ◌⊕◌, ◌⊖◌, ◌⊗◌, le_by, lt_by, le_read, lt_read}
-use Rattle.number_steps.proofs.Order.{product_at_least, product_over}
-use Rattle.cell_steps.specs.Bounds.{Allows, either, FlatHolds, PairsHold}
-use Rattle.cell_steps.proofs.Lines.{Above-weak, Above-unscaled, Above-any, compatible_at}
-use Rattle.cell_steps.proofs.LineLists.{IsRising, AllowedBy, AreCompatible, helly}
-use Rattle.cell_steps.proofs.Elimination.{over, OverAbscissa, PairHolds, eliminated}
-use Rattle.cell_steps.proofs.Empty.{all_pairs, by_recursion}
+use Rattle.number_laws.proofs.Ring.{num, neg, ◌⊕◌, ◌⊖◌, ◌⊗◌, le_by, lt_by, le_read, lt_read}
+use Rattle.number_laws.proofs.Order.{product_at_least, product_over}
+use Rattle.cell_laws.specs.Bounds.{Allows, either, FlatHolds, PairsHold}
+use Rattle.cell_laws.proofs.Lines.{Above-weak, Above-unscaled, Above-any, compatible_at}
+use Rattle.cell_laws.proofs.LineLists.{IsRising, AllowedBy, AreCompatible, helly}
+use Rattle.cell_laws.proofs.Elimination.{over, OverAbscissa, PairHolds, eliminated}
+use Rattle.cell_laws.proofs.Empty.{all_pairs, by_recursion}
 use Rattle.convex_cell.specs.declared.range.Limit.{Limit}
 use Rattle.convex_cell.specs.declared.range.Range.{Range}
 use Rattle.convex_cell.specs.Range.{InRange, IsRange, IsLimit, AllowsLimit}

@@ -1,6 +1,6 @@
 ghost use Rattle.std.specs.Prelude.{◌≡◌, ℕ, ℤ, pos, ◌<◌, ◌↔◌, ◌≤◌, ◌^◌, ◌+ℤ◌, ◌*ℤ◌, unsigned_abs, IfSome, All};
 ghost use Rattle.plane_terms.specs.Decide.{high_of};
-ghost use Rattle.cell_steps.specs.Bounds.{either, Compatible, FlatHolds};
+ghost use Rattle.cell_laws.specs.Bounds.{either, Compatible, FlatHolds};
 ghost use Rattle.convex_cell.specs.Range.{IsRange, InRange};
 ghost use Rattle.convex_cell.specs.Seen.{seen, PairsSeen};
 

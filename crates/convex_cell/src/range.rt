@@ -1,6 +1,6 @@
 ghost use Rattle.std.specs.Prelude.{◌≡◌, ℕ, ℤ, pos, neg_ℤ, ◌<◌, ◌≤◌, ◌^◌, ◌<ℤ◌, ◌+ℤ◌, ◌*ℤ◌, ◌↔◌, IsTrue, IfSome, unsigned_abs};
 ghost use Rattle.std.specs.Bool.{OnTrue, OnFalse};
-ghost use Rattle.cell_steps.specs.Bounds.{Above, Allows, either};
+ghost use Rattle.cell_laws.specs.Bounds.{Above, Allows, either};
 ghost use Rattle.convex_cell.specs.Range.{AllowsLimit, IsLimit, IsRange, InRange};
 
 /// A bound on t: `m*t + k` is above 0, or at least 0.

@@ -7,8 +7,8 @@ use Rattle.std.proofs.lemmas.Int.{ints, clamps}
 use Rattle.plane_terms.specs.Lists.{Every}
 use Rattle.plane_terms.specs.Rectangle.{Rectangle, IsProper, IsWithin, is_within, rects_meet, rect_of, part_of}
 use Rattle.plane_terms.specs.Dirt.{AreLoose, IsLoose, add_dirt, add_all, cut_from, pieces, piece_if}
-use Rattle.sound_steps.proofs.Planes.{within_from_test}
-use Rattle.sound_steps.proofs.Pieces.{meeting, every_added}
+use Rattle.sound_laws.proofs.Planes.{within_from_test}
+use Rattle.sound_laws.proofs.Pieces.{meeting, every_added}
 use Rattle.dirty_area.proofs.Calls.{add_dirt-loose, add_all-one, add_all-four, pieces-apart, pieces_round, cut_more}
 
 -- ---- one piece

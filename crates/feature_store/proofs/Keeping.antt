@@ -6,7 +6,7 @@ use Rattle.std.specs.Option.{option_map, IfSome}
 use Rattle.plane_terms.specs.Lists.{Every, EveryPair}
 use Rattle.plane_terms.specs.declared.kind.Kind.{Kind}
 use Rattle.topology_terms.specs.Feature.{Class, Feature, feature_at}
-use Rattle.sound_steps.proofs.FeatureLists.{at_handle, past_handle, handle_of}
+use Rattle.sound_laws.proofs.FeatureLists.{at_handle, past_handle, handle_of}
 use Rattle.topology_terms.specs.Lookups.{number_from}
 use Rattle.feature_store.specs.Stored.{class_at}
 use Rattle.feature_store.specs.Keeps.{IsOfClass, IsGiven, HasSimpleSides, AreUnlike, IsStore}

@@ -8,7 +8,7 @@ use Rattle.std.specs.List.Sorted.{IsNonDecreasingBy, IsPartitionPoint}
 use Rattle.plane_terms.specs.Lists.{Every}
 use Rattle.topology_terms.specs.Feature.{Feature, feature_at, IsSetAt, IsAscending}
 use Rattle.std.proofs.lemmas.List.{take-append-drop}
-use Rattle.sound_steps.proofs.FeatureLists.{at_handle, past_handle}
+use Rattle.sound_laws.proofs.FeatureLists.{at_handle, past_handle}
 use Rattle.std.specs.Option.{option_to_list, IfSome}
 use Rattle.feature_store.specs.Places.{IsPlace, IsHere, IsGap}
 

@@ -8,9 +8,9 @@ use Rattle.std.proofs.lemmas.Bool.{false≢true, cases_Bool}
 use Rattle.plane_terms.specs.Point.{Place, Point, IsAt}
 use Rattle.plane_terms.specs.Segment.{Segment, IsSegment, OnSegment, IsEndOf, SharePoint, Overlap, IsBetween, comes_before}
 use Rattle.plane_terms.proofs.Points.{point_at}
-use Rattle.number_steps.proofs.Ring.{num, ◌⊖◌, ◌⊗◌, same_by}
-use Rattle.number_steps.proofs.Order.{zero_unscaled, scaled_le, cases_order_ℤ}
-use Rattle.number_steps.proofs.Tests.{Decides-int_lt}
+use Rattle.number_laws.proofs.Ring.{num, ◌⊖◌, ◌⊗◌, same_by}
+use Rattle.number_laws.proofs.Order.{zero_unscaled, scaled_le, cases_order_ℤ}
+use Rattle.number_laws.proofs.Tests.{Decides-int_lt}
 use Rattle.grid_plane.specs.Rectangles.{HoldsAt}
 use Rattle.grid_plane.specs.Share.{AreSame, MeetOnce, CrossOnce, TouchOnce, turn, one_side, share_on_line, is_beside, is_parallel, has_end_on, share_of}
 use Rattle.grid_plane.specs.declared.share.Share.{Share}

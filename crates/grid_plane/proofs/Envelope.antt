@@ -6,7 +6,7 @@ use Rattle.plane_terms.specs.Point.{Point}
 use Rattle.plane_terms.specs.Rectangle.{RectHolds, RectsMeet}
 use Rattle.plane_terms.specs.Segment.{Segment, IsSegment, IsBetween, OnSegment, box_of}
 use Rattle.grid_plane.proofs.Meeting.{NoneShared}
-use Rattle.number_steps.proofs.Order.{scaled_le}
+use Rattle.number_laws.proofs.Order.{scaled_le}
 
 pub ends_rise : (s : Segment) → IsSegment s → s.lo.x ≤ℤ s.hi.x
 ends_rise s g = elim g.ordered [ inl h ↦ omega (arith, ints) | inr h ↦ omega (arith, ints, h.0) ]

@@ -7,8 +7,8 @@ use Rattle.std.specs.Int.{int_max, int_min}
 use Rattle.plane_terms.specs.Point.{Place, Point, IsAt}
 use Rattle.plane_terms.specs.Rectangle.{Rectangle, RectHolds, RectsMeet, IsWithin, IsProper, is_within, rects_meet, rect_at, join_of, part_of}
 use Rattle.plane_terms.proofs.Points.{point, point_at}
-use Rattle.number_steps.proofs.Order.{le_from_scaled, scaled_le}
-use Rattle.number_steps.proofs.Tests.{Decides-int_le}
+use Rattle.number_laws.proofs.Order.{le_from_scaled, scaled_le}
+use Rattle.number_laws.proofs.Tests.{Decides-int_le}
 use Rattle.grid_plane.specs.Rectangles.{HoldsAt, IsJoin, IsPart}
 
 -- ---- meeting

@@ -3,8 +3,8 @@ use Rattle.std.proofs.Common.{◌≡◌, ℕ, ◌<◌, ℤ, pos, ◌+ℤ◌, ◌
 use Rattle.std.proofs.lemmas.Int.{ints}
 use Rattle.plane_terms.specs.Point.{Point, IsAt}
 use Rattle.plane_terms.specs.Segment.{Segment, IsSegment, cross, IsBetween, OnSegment}
-use Rattle.number_steps.proofs.Ring.{num, ◌⊕◌, ◌⊖◌, ◌⊗◌, same_by, le_by, le_read}
-use Rattle.number_steps.proofs.Order.{product_at_least, least_under, square_least, product_over, le_from_scaled, cases_order_ℤ}
+use Rattle.number_laws.proofs.Ring.{num, ◌⊕◌, ◌⊖◌, ◌⊗◌, same_by, le_by, le_read}
+use Rattle.number_laws.proofs.Order.{product_at_least, least_under, square_least, product_over, le_from_scaled, cases_order_ℤ}
 
 -- k times the point is n times the low end and m times the high one
 pub record Weights (s : Segment) (p : Point) : Type 0 where

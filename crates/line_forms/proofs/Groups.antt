@@ -4,7 +4,7 @@ use Rattle.std.specs.Prelude.{codes}
 use Rattle.plane_terms.specs.declared.kind.Kind.{Kind}
 use Rattle.plane_terms.specs.declared.kind.Kind.TheVariants as shapes
 use Rattle.text_terms.specs.Fields.{is_skipped}
-use Rattle.rule_core.specs.declared.rule_kind.RuleKind.{RuleKind}
+use Rattle.rule_words.specs.declared.rule_kind.RuleKind.{RuleKind}
 use Rattle.line_forms.specs.declared.window_number.WindowNumber.{WindowNumber}
 use Rattle.line_forms.specs.Forms.{Form, Piece, Word, Name, Rest, HasForm, IsLine, kind_word, second_class, rule_number, handle, partner}
 use Rattle.line_forms.specs.Forms as form

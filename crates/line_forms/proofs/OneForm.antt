@@ -5,8 +5,8 @@ use Rattle.std.proofs.lemmas.Slice.Eq.{bytes_eq-Decides}
 use Rattle.plane_terms.specs.declared.kind.Kind.{Kind}
 use Rattle.plane_terms.specs.declared.kind.Kind.TheVariants as shapes
 use Rattle.text_terms.specs.Fields.{is_remark, skip_blanks, front_field, behind_field}
-use Rattle.rule_core.specs.Table.{dest_of}
-use Rattle.rule_core.proofs.OneWord.{one_word}
+use Rattle.rule_words.specs.Table.{dest_of}
+use Rattle.rule_words.proofs.OneWord.{one_word}
 use Rattle.line_forms.specs.declared.window_number.WindowNumber.{WindowNumber}
 use Rattle.line_forms.specs.WindowNumbers.{IsWindowNumber}
 use Rattle.line_forms.specs.Forms.{Form, HasForm, IsLine, kind_word, second_class}

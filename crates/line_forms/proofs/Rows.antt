@@ -4,7 +4,7 @@ use Rattle.std.proofs.lemmas.Int.{ints}
 use Rattle.std.specs.Prelude.{codes}
 use Rattle.plane_terms.specs.declared.kind.Kind.TheVariants as shapes
 use Rattle.text_terms.specs.Numbers.{IsNumeral, IsWithinText}
-use Rattle.rule_core.specs.declared.rule_kind.RuleKind.TheVariants as rule
+use Rattle.rule_words.specs.declared.rule_kind.RuleKind.TheVariants as rule
 use Rattle.line_forms.specs.declared.window_number.WindowNumber.TheVariants.{Within, Beyond}
 use Rattle.line_forms.specs.WindowNumbers.{IsWindowNumber}
 use Rattle.line_forms.specs.Forms.{HasForm, Blank, Class, Rule, Add, Delete, ValidateAll, Window, Rules}

@@ -16,8 +16,8 @@ use Rattle.plane_terms.specs.declared.kind.Kind.{Kind}
 use Rattle.plane_terms.specs.declared.kind.Kind.TheVariants as shapes
 use Rattle.text_terms.specs.Fields.{is_name, skip_blanks, front_field, behind_field, skip_end_blanks, is_skipped}
 use Rattle.text_terms.specs.Numbers.{IsWithinText}
-use Rattle.rule_core.specs.declared.rule_kind.RuleKind.{RuleKind}
-use Rattle.rule_core.specs.Table.{word_of, dest_of}
+use Rattle.rule_words.specs.declared.rule_kind.RuleKind.{RuleKind}
+use Rattle.rule_words.specs.Table.{word_of, dest_of}
 use Rattle.line_forms.specs.declared.window_number.WindowNumber.{WindowNumber}
 use Rattle.line_forms.specs.WindowNumbers.{IsWindowNumber}
 

@@ -7,8 +7,8 @@ ghost use Rattle.line_forms.specs.Seen.{form_of};
 use crate::fields::{next_name, next_rule};
 use crate::form::Form;
 use grid_plane::Name;
-use rule_core::{Kind, RuleKind};
-use text_numbers::{behind_word, is_only, is_over, next_field};
+use rule_words::{Kind, RuleKind};
+use text_fields::{behind_word, is_only, is_over, next_field};
 
 // The kind of shape whose word is all that is left.
 #[tactic(auto, using(crate::proofs::Groups::no_kind))]

@@ -7,7 +7,7 @@ ghost use Rattle.line_forms.specs.Seen.{form_of};
 use crate::fields::{next_handle, next_name, rest_of};
 use crate::form::Form;
 use grid_plane::Name;
-use text_numbers::{behind_word, is_only, is_over};
+use text_fields::{behind_word, is_only, is_over};
 
 fn read_add(line: &[u8]) -> Option<(Name, Name, &[u8])>
     ensures { MatchOption result ((e c s : List ℕ) → HasForm line.now (form.Add e c s) → ⊥)

@@ -6,7 +6,7 @@ ghost use Rattle.line_forms.specs.WindowNumbers.{IsWindowNumber};
 use crate::number::number_within;
 use crate::window_number::{WindowNumber, read_window_number};
 use grid_plane::Name;
-use text_numbers::{next_field, skip_blanks, skip_end_blanks};
+use text_fields::{next_field, skip_blanks, skip_end_blanks};
 
 /// The name that comes next, and what follows it.
 pub fn next_name(text: &[u8]) -> Option<(Name, &[u8])>

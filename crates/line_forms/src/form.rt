@@ -1,6 +1,6 @@
 use crate::window_number::WindowNumber;
 use grid_plane::Name;
-use rule_core::{Kind, RuleKind};
+use rule_words::{Kind, RuleKind};
 
 /// What a line says: one variant a form, with the values of its fields in their order. The text of a shape is unread; its
 /// bytes are those of the line from its first byte that is no blank to its last.

@@ -16,7 +16,7 @@ mod window_number;
 pub use form::Form;
 pub use grid_plane::Name;
 pub use read::{FormFault, LINE_LIMIT, one_form_law, read_form};
-pub use rule_core::{Kind, RuleKind};
+pub use rule_words::{Kind, RuleKind};
 pub use window_number::WindowNumber;
 
 #[cfg(test)]

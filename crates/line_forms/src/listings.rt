@@ -4,7 +4,7 @@ ghost use Rattle.line_forms.specs.Groups.{NoneOf, Listings};
 ghost use Rattle.line_forms.specs.Seen.{form_of};
 
 use crate::form::Form;
-use text_numbers::is_only;
+use text_fields::is_only;
 
 /// The form of a line that lists.
 #[tactic(auto, using(crate::proofs::Groups::no_listing))]

@@ -6,7 +6,7 @@ ghost use Rattle.line_forms.specs.Seen.{form_of};
 
 use crate::fields::{next_handle, next_number, next_rule};
 use crate::form::Form;
-use text_numbers::{behind_word, is_over};
+use text_fields::{behind_word, is_over};
 
 // The rule, the subject and the partner behind this word, of a line that has just these.
 fn key_behind(line: &[u8], word: &[u8]) -> Option<(u16, u32, u32)>

@@ -2,7 +2,7 @@ ghost use Rattle.std.specs.Prelude.{◌≡◌, ℕ, MatchOption};
 ghost use Rattle.text_terms.specs.Numbers.{IsWithinText};
 ghost use Rattle.line_forms.specs.WindowNumbers.{is_digits};
 
-use text_numbers::{are_digits, value_up_to};
+use text_fields::{are_digits, value_up_to};
 
 /// Whether a text is digits alone, at least one.
 pub fn is_digits(text: &[u8]) -> bool

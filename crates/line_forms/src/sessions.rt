@@ -7,7 +7,7 @@ ghost use Rattle.line_forms.specs.Seen.{form_of};
 use crate::fields::next_name;
 use crate::form::Form;
 use grid_plane::Name;
-use text_numbers::{behind_word, is_over};
+use text_fields::{behind_word, is_over};
 
 // The name behind this word, of a line that has just these.
 fn name_behind(line: &[u8], word: &[u8]) -> Option<Name>

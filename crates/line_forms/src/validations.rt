@@ -7,7 +7,7 @@ ghost use Rattle.line_forms.specs.Seen.{form_of};
 use crate::fields::next_window_number;
 use crate::form::Form;
 use crate::window_number::WindowNumber;
-use text_numbers::{behind_word, is_only, is_over};
+use text_fields::{behind_word, is_only, is_over};
 
 fn is_validate_all(line: &[u8]) -> bool
     ensures { IsTrue result ↔ HasForm line.now form.ValidateAll }

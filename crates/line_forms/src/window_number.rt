@@ -5,7 +5,7 @@ ghost use Rattle.wkt_terms.specs.Numerals.{value_of, is_negative};
 ghost use Rattle.line_forms.specs.WindowNumbers.{IsWindowNumber, behind_minus, number_by};
 
 use crate::number::is_digits;
-use text_numbers::value_up_to;
+use text_fields::value_up_to;
 
 // The greatest coordinate, in grid units.
 const REACH: u64 = 4_194_304;

@@ -9,9 +9,9 @@ use Rattle.plane_terms.specs.Lists.{how_many, is_odd}
 use Rattle.plane_terms.specs.Point.{Place, Point, IsAt}
 use Rattle.plane_terms.specs.Segment.{Segment, cross, IsBetween, OnSegment}
 use Rattle.plane_terms.specs.Polygon.{counts}
-use Rattle.number_steps.proofs.Order.{le_from_scaled, scaled_le, product_over, over_unscaled, cases_order_ℤ}
-use Rattle.number_steps.proofs.Ring.{int_tests}
-use Rattle.number_steps.proofs.Tests.{Decides-int_le, Decides-int_lt}
+use Rattle.number_laws.proofs.Order.{le_from_scaled, scaled_le, product_over, over_unscaled, cases_order_ℤ}
+use Rattle.number_laws.proofs.Ring.{int_tests}
+use Rattle.number_laws.proofs.Tests.{Decides-int_le, Decides-int_lt}
 use Rattle.grid_plane.specs.Rectangles.{HoldsAt}
 use Rattle.grid_plane.specs.Share.{turn}
 use Rattle.grid_plane.proofs.Meeting.{at_turn, times_zero, turn_zero}

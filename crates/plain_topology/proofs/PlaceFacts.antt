@@ -8,7 +8,7 @@ use Rattle.plane_terms.specs.Point.{Place, Point, IsAt}
 use Rattle.plane_terms.specs.Rectangle.{Rectangle, RectHolds}
 use Rattle.plane_terms.specs.Cell.{InCells, at_place}
 use Rattle.rule_laws.proofs.Places.{at_place_points}
-use Rattle.sound_steps.proofs.Planes.{le_from_scaled, scaled_le}
+use Rattle.sound_laws.proofs.Planes.{le_from_scaled, scaled_le}
 
 -- by the place's own coordinates
 pub record IsHeld (r : Rectangle) (q : Place) : Type 0 where

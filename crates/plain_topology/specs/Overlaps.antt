@@ -6,7 +6,7 @@
 use Rattle.std.specs.Prelude.{ℕ, List}
 use Rattle.plane_terms.specs.Point.{Point}
 use Rattle.plane_terms.specs.Polygon.{IsInside}
-use Rattle.rule_core.specs.declared.rule_kind.RuleKind.TheVariants as kind
+use Rattle.rule_words.specs.declared.rule_kind.RuleKind.TheVariants as kind
 use Rattle.topology_terms.specs.Feature.{Feature, IsOf, sides}
 use Rattle.topology_terms.specs.Broken.{Row}
 

@@ -24,7 +24,7 @@ use Rattle.topology_terms.specs.Feature.{Feature, IsOf, place}
 use Rattle.topology_terms.specs.Broken.{Row, BrokenAt}
 use Rattle.topology_terms.specs.Entry.{Entry, HasCellsAt}
 use Rattle.topology_terms.specs.Project.{Project}
-use Rattle.rule_core.specs.declared.rule_kind.RuleKind.TheVariants as kind
+use Rattle.rule_words.specs.declared.rule_kind.RuleKind.TheVariants as kind
 use Rattle.plain_topology.specs.declared.points.PlainPoint.{PlainPoint}
 use Rattle.plain_topology.specs.declared.entries.PlainEntry.{PlainEntry}
 

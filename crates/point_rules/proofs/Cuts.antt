@@ -10,12 +10,12 @@ use Rattle.topology_terms.specs.Feature.{Feature, Side, IsOf, feature_at, is_on_
 use Rattle.topology_terms.specs.Broken.{Row, BrokenAt}
 use Rattle.topology_terms.specs.Meaning.{Finding}
 use Rattle.topology_terms.specs.Cutting.{IsCutting, BreaksAt, near_after, pair_findings, place_cells}
-use Rattle.rule_core.specs.declared.rule_kind.RuleKind.TheVariants as kind
-use Rattle.sound_steps.proofs.FeatureLists.{handle_of, same_handle}
+use Rattle.rule_words.specs.declared.rule_kind.RuleKind.TheVariants as kind
+use Rattle.sound_laws.proofs.FeatureLists.{handle_of, same_handle}
 use Rattle.rule_laws.proofs.Places.{place_one}
 use Rattle.rule_laws.proofs.Nears.{near_after_ascends, near_after_of}
-use Rattle.rule_judging.specs.Shown.{IsShown}
-use Rattle.rule_judging.proofs.Partners.{each_live, kept_twice, those_kept, near_after_shown}
+use Rattle.rule_core.specs.Shown.{IsShown}
+use Rattle.rule_core.proofs.Partners.{each_live, kept_twice, those_kept, near_after_shown}
 use Rattle.point_rules.specs.Doubles.{doubles}
 
 abbrev pub side_of : ℕ → Side

@@ -2,16 +2,15 @@ ghost use Rattle.std.specs.Prelude.{◌≡◌, false, [], ◌∷◌, IfOk};
 ghost use Rattle.plane_terms.specs.Cell.{at_place};
 ghost use Rattle.topology_terms.specs.Feature.{IsAscending};
 ghost use Rattle.topology_terms.specs.Poster.{poster};
-ghost use Rattle.rule_core.specs.declared.rule_kind.RuleKind.TheVariants as kind;
+ghost use Rattle.rule_words.specs.declared.rule_kind.RuleKind.TheVariants as kind;
 ghost use Rattle.rule_laws.proofs.Posters.{poster_laws, poster_cuts};
 ghost use Rattle.rule_laws.proofs.Views.{poster_views};
 ghost use Rattle.point_rules.specs.Doubles.{is_double, doubles};
 
 use convex_cell::{Cell, Cells};
 use grid_plane::{GridPoint, NoMemory};
-use rule_core::RuleKind;
-use rule_findings::{Finding, Findings, RuleRow};
-use rule_judging::{Rule, View, Work};
+use rule_words::RuleKind;
+use rule_core::{Finding, Findings, Rule, RuleRow, View, Work};
 use shape::Feature;
 use std::alloc::Global;
 use std::marker::Model;
@@ -24,7 +23,7 @@ pub struct PointMustBeDisjoint {
 
 impl Model for PointMustBeDisjoint {
     ghost use Rattle.topology_terms.specs.Broken.{Row};
-    ghost use Rattle.rule_core.specs.declared.rule_kind.RuleKind.TheVariants as kind;
+    ghost use Rattle.rule_words.specs.declared.rule_kind.RuleKind.TheVariants as kind;
 
     ghost Value = { Row };
 

@@ -2,8 +2,8 @@
 use Rattle.std.proofs.Common.{ℕ, zero, suc, ◌≡◌, ◌+◌, List, [], ◌∷◌, ◌++◌, take, drop, map, sym, ◌∙◌, ap, append_assoc, append-nil, add-one, Some}
 use Rattle.std.specs.Prelude.{flat_map, slice_get}
 use Rattle.text_terms.specs.Wkt.{listed}
-use Rattle.wkt_steps.specs.Commas.{comma_texts}
-use Rattle.wkt_steps.proofs.Written.{listed_items}
+use Rattle.wkt_laws.specs.Commas.{comma_texts}
+use Rattle.wkt_laws.proofs.Written.{listed_items}
 
 -- ---- lines
 

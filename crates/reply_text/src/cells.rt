@@ -1,13 +1,13 @@
 ghost use Rattle.std.specs.Prelude.{◌≡◌, ◌≤◌, ◌<◌, ◌++◌, map, flat_map, length, drop, OnOk};
 ghost use Rattle.plane_terms.specs.HalfPlane.{HalfPlane};
 ghost use Rattle.text_terms.specs.Wkt.{listed};
-ghost use Rattle.wkt_steps.specs.Commas.{comma_texts};
+ghost use Rattle.wkt_laws.specs.Commas.{comma_texts};
 ghost use Rattle.script_terms.specs.Reply.{half_text, op_text, cell_line, entry_lines, total_line};
 
 use crate::errors::push_entry_line;
 use crate::numbers::{push_number, push_text, push_total};
 use convex_cell::{Cell, Cells};
-use error_entries::{Entry, Errors};
+use error_store::{Entry, Errors};
 use grid_plane::{Half, NoMemory, Op};
 
 fn op_word(op: Op) -> &'static [u8]

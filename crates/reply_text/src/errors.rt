@@ -2,7 +2,7 @@ ghost use Rattle.std.specs.Prelude.{◌≡◌, ◌++◌, flat_map, length, OnOk}
 ghost use Rattle.script_terms.specs.Reply.{mark_text, key_text, extent_text, entry_line, total_line};
 
 use crate::numbers::{push_number, push_rect, push_text, push_total};
-use error_entries::{Entry, Errors};
+use error_store::{Entry, Errors};
 use grid_plane::NoMemory;
 
 fn mark_word(marked: bool) -> &'static [u8]

@@ -9,7 +9,7 @@ use crate::features::push_feature_list;
 use crate::numbers::{push_number, push_text};
 use crate::refusal::{Refusal, push_refusal};
 use grid_plane::NoMemory;
-use topology::{KindRules, Summary, Topology};
+use topo_core::{KindRules, Summary, Topology};
 
 /// What a line is answered. A listing lists the topology that it is said of.
 #[derive(Clone, Copy)]

@@ -8,14 +8,14 @@ use crate::refusal::push_refusal;
 use crate::reply::{push_given, push_judged, push_refused};
 use convex_cell::{Cell, Cells};
 use dirty_area::Dirt;
-use error_entries::{Entry, Key};
+use error_store::{Entry, Key};
 use feature_store::{Kind, Name, Shape, Store};
 use grid_plane::{GridPoint, Half, Op, Rect};
 use script_text::LineRefusal;
 use shape::ShapeFault;
 use std::alloc::Global;
 use std::test::Fail;
-use topology::Summary;
+use topo_core::Summary;
 
 fn rect(x0: i64, y0: i64, x1: i64, y1: i64) -> Result<Rect, Fail> {
     let Ok(rect) = Rect::of(x0, y0, x1, y1) else {

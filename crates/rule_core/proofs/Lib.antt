@@ -1,1 +1,4 @@
-pub mod OneWord
+mod FindingOrders
+mod Orders
+mod Lookups
+pub mod Partners

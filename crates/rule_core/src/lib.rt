@@ -1,7 +1,16 @@
-// The rules of a topology: their words, and the kinds of shape that they take.
+// What a rule answers for a subject, and how it judges a subject by what lies near it.
 #![tactic(auto)]
 
-mod rule_kind;
+mod finding;
+mod findings;
+mod row;
+mod rule;
+mod view;
+mod work;
 
-pub use plane_terms::Kind;
-pub use rule_kind::RuleKind;
+pub use finding::Finding;
+pub use findings::Findings;
+pub use row::{InForce, RuleRow};
+pub use rule::{Rule, RuleSet, judge};
+pub use view::View;
+pub use work::Work;

@@ -12,9 +12,9 @@ use Rattle.plane_terms.specs.Segment.{Segment, cross, comes_before, segment_betw
 use Rattle.plane_terms.specs.Polygon.{counts, IsInside}
 use Rattle.plane_terms.specs.Shape.{Shape, envelope_of, path, closed_path, last_of, segments_of, rings_of}
 use Rattle.plane_terms.specs.declared.kind.Kind.TheVariants as shapes
-use Rattle.number_steps.proofs.Ring.{num, neg, ◌⊖◌, ◌⊗◌, lt_by, lt_read, le_by, le_read}
-use Rattle.number_steps.proofs.Order.{scaled_le, product_at_least, product_over, over_unscaled, least_unscaled, cases_order_ℤ}
-use Rattle.column_steps.proofs.Every.{every_map}
+use Rattle.number_laws.proofs.Ring.{num, neg, ◌⊖◌, ◌⊗◌, lt_by, lt_read, le_by, le_read}
+use Rattle.number_laws.proofs.Order.{scaled_le, product_at_least, product_over, over_unscaled, least_unscaled, cases_order_ℤ}
+use Rattle.column_laws.proofs.Every.{every_map}
 use Rattle.rule_laws.proofs.Envelopes.{LiesIn, BothEnds, polygon_ends}
 
 -- ---- parity

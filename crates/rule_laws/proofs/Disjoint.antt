@@ -7,11 +7,11 @@ use Rattle.plane_terms.specs.Shape.{box_from, box_of_places, vertices_of, first_
 use Rattle.topology_terms.specs.Feature.{Feature, Side, feature_at, env, place, Agree}
 use Rattle.topology_terms.specs.Rules.PointMustBeDisjoint.{BrokenAt}
 use Rattle.topology_terms.specs.Cutting.{near_after}
-use Rattle.sound_steps.proofs.Planes.{within_Holds}
+use Rattle.sound_laws.proofs.Planes.{within_Holds}
 use Rattle.rule_laws.proofs.Envelopes.{box_grows}
 use Rattle.rule_laws.proofs.Places.{place_one}
-use Rattle.sound_steps.proofs.Meetings.{meets_test}
-use Rattle.sound_steps.proofs.FeatureLists.{handle_of}
+use Rattle.sound_laws.proofs.Meetings.{meets_test}
+use Rattle.sound_laws.proofs.FeatureLists.{handle_of}
 use Rattle.rule_laws.proofs.Nears.{near_after_has}
 
 pub at_held : (q : Place) (p : Point) → IsAt q p → RectHolds (rect_at q) p

@@ -9,9 +9,9 @@ use Rattle.plane_terms.specs.Segment.{Segment, comes_before, segment_between}
 use Rattle.plane_terms.specs.Shape.{Shape, box_from, box_of_places, vertices_of, envelope_of, path, closed_path, segments_by, segments_of, rings_of}
 use Rattle.plane_terms.specs.declared.kind.Kind.{Kind}
 use Rattle.plane_terms.specs.declared.kind.Kind.TheVariants as shapes
-use Rattle.cell_steps.proofs.Lists.{all_append}
-use Rattle.sound_steps.proofs.Planes.{within_self}
-use Rattle.validation_steps.proofs.Frames.{within_join_left, within_join_right}
+use Rattle.cell_laws.proofs.Lists.{all_append}
+use Rattle.sound_laws.proofs.Planes.{within_self}
+use Rattle.validation_laws.proofs.Frames.{within_join_left, within_join_right}
 
 within_trans : (r s t : Rectangle) → IsWithin r s → IsWithin s t → IsWithin r t
 within_trans r s t i j = record { left = omega (arith, ints, i.left, j.left); right = omega (arith, ints, i.right, j.right); below = omega (arith, ints, i.below, j.below); above = omega (arith, ints, i.above, j.above) }

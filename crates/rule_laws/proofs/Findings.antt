@@ -7,8 +7,8 @@ use Rattle.plane_terms.specs.Cell.{Cell, at_place}
 use Rattle.topology_terms.specs.Feature.{Feature, feature_at, IsAscending}
 use Rattle.topology_terms.specs.Meaning.{Finding, finding_at}
 use Rattle.topology_terms.specs.Cutting.{finding_of, pair_findings, place_cells}
-use Rattle.sound_steps.proofs.Dirts.{bool_cases}
-use Rattle.sound_steps.proofs.FeatureLists.{AllAbove, none_below, at_handle, past_handle, same_handle, own_handle}
+use Rattle.sound_laws.proofs.Dirts.{bool_cases}
+use Rattle.sound_laws.proofs.FeatureLists.{AllAbove, none_below, at_handle, past_handle, same_handle, own_handle}
 
 -- the finding at this place with this partner
 abbrev pub found_at : Place → ℕ → Finding

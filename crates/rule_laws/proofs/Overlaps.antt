@@ -11,10 +11,10 @@ use Rattle.topology_terms.specs.Rules.PolygonMustNotOverlap as one_class
 use Rattle.topology_terms.specs.Rules.PolygonMustNotOverlapWith.{BrokenAt}
 use Rattle.topology_terms.specs.Meaning.{Finding, finding_at}
 use Rattle.topology_terms.specs.Cutting.{near, near_after, inside, overlap_cells, pair_findings}
-use Rattle.cell_steps.proofs.Meets.{carve_points, kept_have_points}
-use Rattle.column_steps.proofs.Exact.{inside_is_exact}
-use Rattle.sound_steps.proofs.FeatureLists.{handle_of}
-use Rattle.sound_steps.proofs.Meetings.{meets_test}
+use Rattle.cell_laws.proofs.Meets.{carve_points, kept_have_points}
+use Rattle.column_laws.proofs.Exact.{inside_is_exact}
+use Rattle.sound_laws.proofs.FeatureLists.{handle_of}
+use Rattle.sound_laws.proofs.Meetings.{meets_test}
 use Rattle.rule_laws.proofs.Crossings.{inside_held}
 use Rattle.rule_laws.proofs.Findings.{found_cells, pair_found, found_pair}
 use Rattle.rule_laws.proofs.Nears.{near_has, near_of, near_after_has, near_after_of}

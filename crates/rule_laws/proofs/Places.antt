@@ -6,7 +6,7 @@ use borrow.Author.Differences.{same_in, neg_is, product_is}
 use Rattle.plane_terms.specs.Point.{Place, Point, IsAt}
 use Rattle.plane_terms.specs.HalfPlane.{value_at, x_is, y_is}
 use Rattle.plane_terms.specs.Cell.{InCell, at_place}
-use Rattle.sound_steps.proofs.Planes.{le_from_scaled}
+use Rattle.sound_laws.proofs.Planes.{le_from_scaled}
 
 neg_times : (v : ℤ) (w : ℕ) → (neg_ℤ v *ℤ pos w) ≡ neg_ℤ (v *ℤ pos w)
 neg_times v w = same_in (neg_ℤ v *ℤ pos w) (neg_ℤ (v *ℤ pos w)) (omega (arith, product_is (neg_ℤ v) (pos w), product_is v (pos w), neg_is (v *ℤ pos w), ap (λ x. x * w) (neg_is v).0, ap (λ x. x * w) (neg_is v).1))

@@ -14,12 +14,12 @@ use Rattle.topology_terms.specs.Cutting.{near, near_after, overlap_cells, pair_f
 use Rattle.topology_terms.specs.Poster.{poster}
 use Rattle.topology_terms.specs.Sentences.{Sentence, sentence_of}
 use Rattle.topology_terms.specs.Sentences as sentence
-use Rattle.rule_core.specs.declared.rule_kind.RuleKind.{RuleKind}
-use Rattle.rule_core.specs.declared.rule_kind.RuleKind.TheVariants as kind
+use Rattle.rule_words.specs.declared.rule_kind.RuleKind.{RuleKind}
+use Rattle.rule_words.specs.declared.rule_kind.RuleKind.TheVariants as kind
 use Rattle.rule_laws.proofs.Disjoint.{place_held, disjoint_inside, disjoint_point, disjoint_at, disjoint_there, disjoint_near}
 use Rattle.rule_laws.proofs.Overlaps.{ArePolygons, overlap_inside, overlap_point, of_one, to_one, IsInPair, overlap_near, overlap_near_after, pair_points, pair_each, pair_cells}
-use Rattle.sound_steps.proofs.Edits.{agree_back}
-use Rattle.sound_steps.proofs.FeatureLists.{handle_of}
+use Rattle.sound_laws.proofs.Edits.{agree_back}
+use Rattle.sound_laws.proofs.FeatureLists.{handle_of}
 use Rattle.rule_laws.proofs.Findings.{found_at, finding_those, those_found}
 use Rattle.rule_laws.proofs.Nears.{near_same, near_after_same, near_ascends, near_after_ascends, near_of, near_after_of}
 use Rattle.rule_laws.proofs.Places.{at_place_points}

@@ -4,7 +4,7 @@ use Rattle.topology_terms.specs.Feature.{Feature}
 use Rattle.topology_terms.specs.Broken.{Row, judges_test}
 use Rattle.topology_terms.specs.Cutting.{cutting_if, IsCutting}
 use Rattle.topology_terms.specs.Poster.{poster}
-use Rattle.validation_steps.specs.Views.{ViewLaws}
+use Rattle.validation_laws.specs.Views.{ViewLaws}
 
 idle : (row : Row) (F : List Feature) (f : Feature) → judges_test row f ≡ false → cutting_if (judges_test row f) row F f []
 idle row F f t = rw t refl

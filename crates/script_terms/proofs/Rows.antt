@@ -8,7 +8,7 @@ use Rattle.plane_terms.specs.Dirt.{add_dirt, add_all, pieces, cut_from, cut_dirt
 use Rattle.plane_terms.specs.HalfPlane.{x_is, y_is}
 use Rattle.plane_terms.specs.Shape.{Shape}
 use Rattle.plane_terms.specs.declared.kind.Kind.TheVariants as shapes
-use Rattle.rule_core.specs.declared.rule_kind.RuleKind.TheVariants as kind
+use Rattle.rule_words.specs.declared.rule_kind.RuleKind.TheVariants as kind
 use Rattle.topology_terms.specs.Feature.{feature_at}
 use Rattle.topology_terms.specs.Project.{Project, rule_at}
 use Rattle.shape.specs.declared.fault.ShapeFault.TheVariants as fault

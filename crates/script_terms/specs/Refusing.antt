@@ -18,8 +18,8 @@ use Rattle.std.specs.Option.{option_map}
 use Rattle.std.specs.List.{list_any}
 use Rattle.plane_terms.specs.declared.kind.Kind.{Kind}
 use Rattle.plane_terms.specs.declared.kind.Kind.TheVariants as kind
-use Rattle.rule_core.specs.Table.{word_of, origin_of, dest_of}
-use Rattle.rule_core.specs.declared.rule_kind.RuleKind.{RuleKind}
+use Rattle.rule_words.specs.Table.{word_of, origin_of, dest_of}
+use Rattle.rule_words.specs.declared.rule_kind.RuleKind.{RuleKind}
 use Rattle.topology_terms.specs.Feature.{Class, Feature, feature_at}
 use Rattle.topology_terms.specs.Sentences.{is_built}
 use Rattle.topology_terms.specs.Broken.{Row}

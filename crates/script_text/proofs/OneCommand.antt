@@ -2,8 +2,8 @@
 use Rattle.std.proofs.Common.{ℕ, ◌≡◌, List, sym, ◌∙◌, ap, subst}
 use Rattle.plane_terms.specs.Rectangle.{Rectangle}
 use Rattle.plane_terms.specs.Shape.{Shape}
-use Rattle.wkt_steps.specs.Shapes.{IsShapeText, shape_in}
-use Rattle.wkt_steps.proofs.Reading.{one_value}
+use Rattle.wkt_laws.specs.Shapes.{IsShapeText, shape_in}
+use Rattle.wkt_laws.proofs.Reading.{one_value}
 use Rattle.line_forms.specs.declared.window_number.WindowNumber.{WindowNumber}
 use Rattle.line_forms.specs.declared.window_number.WindowNumber.TheVariants.{Within}
 use Rattle.line_forms.specs.Forms.{Form}

@@ -7,7 +7,7 @@ use Rattle.std.specs.Prelude.{ℕ, List, Option}
 use Rattle.plane_terms.specs.Rectangle.{Rectangle}
 use Rattle.plane_terms.specs.Shape.{Shape}
 use Rattle.plane_terms.specs.declared.kind.Kind.{Kind}
-use Rattle.rule_core.specs.declared.rule_kind.RuleKind.{RuleKind}
+use Rattle.rule_words.specs.declared.rule_kind.RuleKind.{RuleKind}
 
 pub data Command : Type 0 where
   Blank : Command

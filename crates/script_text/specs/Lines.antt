@@ -13,7 +13,7 @@ use Rattle.plane_terms.specs.Shape.{Shape}
 use Rattle.line_forms.specs.Forms.{Form, HasForm}
 use Rattle.line_forms.specs.Forms as form
 use Rattle.line_forms.specs.declared.window_number.WindowNumber.{WindowNumber}
-use Rattle.wkt_steps.specs.Shapes.{IsShapeText}
+use Rattle.wkt_laws.specs.Shapes.{IsShapeText}
 use Rattle.wkt_text.specs.Faults.{IsWktFault}
 use Rattle.wkt_text.specs.declared.fault.WktFault.TheVariants as text
 use Rattle.script_text.specs.declared.fault.LineRefusal.{LineRefusal}

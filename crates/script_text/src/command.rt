@@ -1,5 +1,5 @@
 use grid_plane::{Name, Rect};
-use rule_core::{Kind, RuleKind};
+use rule_words::{Kind, RuleKind};
 use shape::Shape;
 
 /// What a line asks for: one variant a command, with the values of the line's fields in their order.

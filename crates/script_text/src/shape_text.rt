@@ -1,6 +1,6 @@
 ghost use Rattle.std.specs.Prelude.{◌≡◌, ◌≤◌, length, MatchResult};
 ghost use Rattle.plane_terms.specs.Shape as terms;
-ghost use Rattle.wkt_steps.specs.Shapes.{IsShapeText};
+ghost use Rattle.wkt_laws.specs.Shapes.{IsShapeText};
 ghost use Rattle.script_text.specs.Faults.{IsTextFault, fault_of};
 ghost use Rattle.script_text.specs.declared.fault.LineFault.TheVariants as line_fault;
 

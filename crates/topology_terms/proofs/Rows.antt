@@ -13,7 +13,7 @@ use Rattle.plane_terms.proofs.Points.{point}
 use Rattle.topology_terms.specs.Feature.{Feature, Side, feature_at, sides, env}
 use Rattle.topology_terms.specs.Broken.{Row, BrokenAt}
 use Rattle.topology_terms.specs.Cutting.{IsCutting}
-use Rattle.rule_core.specs.declared.rule_kind.RuleKind.TheVariants as kind
+use Rattle.rule_words.specs.declared.rule_kind.RuleKind.TheVariants as kind
 
 abbrev at : ℤ → ℤ → Place
 at x y = record { x = x; y = y }

@@ -12,8 +12,8 @@ use Rattle.std.specs.Prelude.{◌≡◌, ℕ, Bool, List, Option, None, Some, If
 use Rattle.plane_terms.specs.Point.{Point}
 use Rattle.plane_terms.specs.Polygon.{IsSimpleList}
 use Rattle.plane_terms.specs.declared.kind.Kind.TheVariants as shapes
-use Rattle.rule_core.specs.Table.{origin_of, dest_of}
-use Rattle.rule_core.specs.declared.rule_kind.RuleKind.{RuleKind}
+use Rattle.rule_words.specs.Table.{origin_of, dest_of}
+use Rattle.rule_words.specs.declared.rule_kind.RuleKind.{RuleKind}
 use Rattle.topology_terms.specs.Feature.{Feature, Side, IsOnSide, is_on_side, IsOf, feature_at, sides}
 use Rattle.topology_terms.specs.Sentences.{Sentence, sentence_of}
 use Rattle.topology_terms.specs.Sentences as sentence

@@ -4,8 +4,8 @@
 -- sentence_of k    the sentence of the rule; None where there is none yet
 -- is_built k       there is one; a line puts no other rule in force
 use Rattle.std.specs.Prelude.{Bool, Option, Some, None, is_some}
-use Rattle.rule_core.specs.declared.rule_kind.RuleKind.{RuleKind}
-use Rattle.rule_core.specs.declared.rule_kind.RuleKind.TheVariants as rule
+use Rattle.rule_words.specs.declared.rule_kind.RuleKind.{RuleKind}
+use Rattle.rule_words.specs.declared.rule_kind.RuleKind.TheVariants as rule
 
 pub data Sentence : Type 0 where
   PolygonMustNotOverlap : Sentence

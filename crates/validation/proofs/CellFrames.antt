@@ -5,7 +5,7 @@ use Rattle.std.proofs.lemmas.List.{take_more}
 use Rattle.std.proofs.lemmas.Option.{slice_get-get_or}
 use Rattle.plane_terms.specs.Rectangle.{Rectangle, join_of}
 use Rattle.plane_terms.specs.Cell.{Cell, IsLeastFrame}
-use Rattle.validation_steps.proofs.Frames.{frame_joined}
+use Rattle.validation_laws.proofs.Frames.{frame_joined}
 
 pub some_cell : (cs : List Cell) → cs ≢ [] → 0 < length cs
 some_cell [] n = absurd (n refl)

@@ -13,7 +13,7 @@ use Rattle.plane_terms.specs.Rectangle.{Rectangle, IsRectangle, RectHolds, Rects
 use Rattle.plane_terms.specs.Dirt.{Covers, MeetsDirt}
 use Rattle.dirty_area.specs.Parts.{MeetsPart}
 use Rattle.dirty_area.proofs.Calls.{meets_dirt}
-use Rattle.validation_steps.specs.Picked.{ArePicked}
+use Rattle.validation_laws.specs.Picked.{ArePicked}
 use Rattle.validation.specs.Index.{envs_of, meets_spot}
 use Rattle.validation.specs.declared.index.Spot.{Spot}
 use Rattle.validation.proofs.Nearby.{some_moved}

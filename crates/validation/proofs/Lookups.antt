@@ -6,7 +6,7 @@ use Rattle.std.proofs.lemmas.Bool.Decides.{nat_tests}
 use Rattle.std.proofs.lemmas.Option.{slice_get-get_or}
 use Rattle.plane_terms.specs.Lists.{Every}
 use Rattle.topology_terms.specs.Feature.{Feature, feature_at, IsAscending}
-use Rattle.sound_steps.proofs.FeatureLists.{at_handle, past_handle}
+use Rattle.sound_laws.proofs.FeatureLists.{at_handle, past_handle}
 
 -- the handle is below this one
 abbrev pub is_early : ℕ → Feature → Bool

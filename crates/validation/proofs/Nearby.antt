@@ -15,13 +15,13 @@ use Rattle.std.proofs.lemmas.Grind.{flat_map-append}
 use Rattle.plane_terms.specs.Lists.{Every, SomeOf, IsThose}
 use Rattle.plane_terms.specs.Rectangle.{Rectangle, rects_meet, is_within, join_of}
 use Rattle.topology_terms.specs.Feature.{Feature, feature_at, env, IsAscending}
-use Rattle.sound_steps.proofs.FeatureLists.{at_handle, past_handle, handle_of}
-use Rattle.validation_steps.specs.Parts.{live_of}
-use Rattle.validation_steps.specs.Views.{IsView}
-use Rattle.validation_steps.proofs.Handles.{IsAmong, among, contained, rising}
-use Rattle.validation_steps.proofs.Selecting.{some_feature, feature_some}
-use Rattle.validation_steps.proofs.Counting.{live_those}
-use Rattle.validation_steps.proofs.Viewed.{view_filtered}
+use Rattle.sound_laws.proofs.FeatureLists.{at_handle, past_handle, handle_of}
+use Rattle.validation_laws.specs.Parts.{live_of}
+use Rattle.validation_laws.specs.Views.{IsView}
+use Rattle.validation_laws.proofs.Handles.{IsAmong, among, contained, rising}
+use Rattle.validation_laws.proofs.Selecting.{some_feature, feature_some}
+use Rattle.validation_laws.proofs.Counting.{live_those}
+use Rattle.validation_laws.proofs.Viewed.{view_filtered}
 use Rattle.validation.specs.Index.{spot_of, meets_spot, IsNear}
 use Rattle.validation.specs.declared.index.Spot.{Spot}
 use Rattle.validation.proofs.Elements.{all_before}

@@ -12,10 +12,10 @@ use Rattle.topology_terms.specs.Entry.{Entry}
 use Rattle.topology_terms.specs.Project.{Project, InForce, AreAscending, rule_at}
 use Rattle.topology_terms.specs.Changes.{IsSelected}
 use Rattle.topology_terms.specs.Settled.{IsValidatedBy}
-use Rattle.validation_steps.specs.Parts.{IsRising, IsJudging, live_of}
-use Rattle.validation_steps.specs.Replaced.{IsReplaced}
-use Rattle.validation_steps.proofs.Validating.{validated_by_parts}
-use Rattle.validation_steps.proofs.Counting.{live_those}
+use Rattle.validation_laws.specs.Parts.{IsRising, IsJudging, live_of}
+use Rattle.validation_laws.specs.Replaced.{IsReplaced}
+use Rattle.validation_laws.proofs.Validating.{validated_by_parts}
+use Rattle.validation_laws.proofs.Counting.{live_those}
 use Rattle.validation.specs.Projects.{HasParts, with_parts}
 
 -- no rule has a number below all

@@ -6,16 +6,15 @@ ghost use Rattle.topology_terms.specs.Feature.{feature_at, env, IsAscending};
 ghost use Rattle.topology_terms.specs.Broken.{judges_test};
 ghost use Rattle.topology_terms.specs.Entry as terms;
 ghost use Rattle.topology_terms.specs.Project as projects;
-ghost use Rattle.validation_steps.specs.Parts.{IsNewEntry, IsSubjectPart, IsRulePart, IsJudging, live_of};
-ghost use Rattle.validation_steps.specs.Framed.{IsFramable};
-ghost use Rattle.validation_steps.specs.Counts.{raised, judged_of};
+ghost use Rattle.validation_laws.specs.Parts.{IsNewEntry, IsSubjectPart, IsRulePart, IsJudging, live_of};
+ghost use Rattle.validation_laws.specs.Framed.{IsFramable};
+ghost use Rattle.validation_laws.specs.Counts.{raised, judged_of};
 
 use crate::frame::frame_of;
 use crate::near::FeatureIndex;
-use error_entries::{Entry, Key};
+use error_store::{Entry, Key};
 use grid_plane::{Handles, NoMemory, Rect};
-use rule_findings::{Finding, InForce};
-use rule_judging::{RuleSet, Work};
+use rule_core::{Finding, InForce, RuleSet, Work};
 use shape::Feature;
 use std::alloc::Global;
 

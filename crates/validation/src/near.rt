@@ -3,14 +3,14 @@ ghost use Rattle.std.specs.List.Sorted.{IsPermutation, IsStrictlyIncreasing};
 ghost use Rattle.plane_terms.specs.Rectangle.{Rectangle, rects_meet, is_within};
 ghost use Rattle.topology_terms.specs.Feature.{feature_at, env, IsAscending};
 ghost use Rattle.topology_terms.specs.Feature as terms;
-ghost use Rattle.validation_steps.specs.Parts.{live_of};
-ghost use Rattle.validation_steps.specs.Views.{IsView};
+ghost use Rattle.validation_laws.specs.Parts.{live_of};
+ghost use Rattle.validation_laws.specs.Views.{IsView};
 ghost use Rattle.validation.specs.Index.{spot_of};
 
 use crate::index::{Index, Spot};
 use crate::lookup::find;
 use grid_plane::{Handles, NoMemory, Rect};
-use rule_judging::View;
+use rule_core::View;
 use shape::Feature;
 use std::alloc::Global;
 use std::marker::Model;

@@ -6,13 +6,13 @@ ghost use Rattle.topology_terms.specs.Entry as entries_of;
 ghost use Rattle.topology_terms.specs.Project.{Project};
 ghost use Rattle.topology_terms.specs.Changes.{IsSelected};
 ghost use Rattle.plane_terms.specs.Dirt.{MeetsDirt};
-ghost use Rattle.validation_steps.specs.Parts.{IsRising};
-ghost use Rattle.validation_steps.specs.Picked.{ArePicked};
+ghost use Rattle.validation_laws.specs.Parts.{IsRising};
+ghost use Rattle.validation_laws.specs.Picked.{ArePicked};
 
 use crate::dirty::DirtyParts;
 use crate::once::once_each;
 use dirty_area::Dirt;
-use error_entries::{Entry, Errors};
+use error_store::{Entry, Errors};
 use grid_plane::{Handles, NoMemory, Rect};
 use shape::Feature;
 use std::alloc::Global;

@@ -8,18 +8,17 @@ ghost use Rattle.topology_terms.specs.Project.{Project, IsProject, AreAscending,
 ghost use Rattle.topology_terms.specs.Sound.{IsSoundUnder};
 ghost use Rattle.topology_terms.specs.Settled.{IsSettledUnder, IsValidatedBy};
 ghost use Rattle.topology_terms.specs.Changes.{IsSelected};
-ghost use Rattle.validation_steps.specs.Parts.{IsRising, IsJudging, live_of};
-ghost use Rattle.validation_steps.specs.Counts.{raised, judged_of};
+ghost use Rattle.validation_laws.specs.Parts.{IsRising, IsJudging, live_of};
+ghost use Rattle.validation_laws.specs.Counts.{raised, judged_of};
 ghost use Rattle.validation.specs.Projects.{HasParts, with_parts};
 
 use crate::judge::judge_all;
 use crate::near::{FeatureIndex, reach_of};
 use crate::selection::select;
 use dirty_area::Dirt;
-use error_entries::{Entry, Errors};
+use error_store::{Entry, Errors};
 use grid_plane::{Handles, NoMemory, Rect};
-use rule_findings::InForce;
-use rule_judging::{RuleSet, Work};
+use rule_core::{InForce, RuleSet, Work};
 use shape::Feature;
 use std::alloc::Global;
 

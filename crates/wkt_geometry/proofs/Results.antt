@@ -6,8 +6,8 @@ use Rattle.text_terms.specs.Fields.{skip_blanks}
 use Rattle.wkt_terms.specs.Grammar as grammar
 use Rattle.wkt_terms.specs.Grammar.{IsWkt}
 use Rattle.wkt_terms.specs.Tokens.{End, token_at, behind_token}
-use Rattle.wkt_steps.specs.Steps.{Cause, State, Start, Over, step}
-use Rattle.wkt_steps.proofs.Reading.{Read, begins, goes_on, stopped, completed, no_fault, one_value, skip_blanks-le, not_end, shorter}
+use Rattle.wkt_laws.specs.Steps.{Cause, State, Start, Over, step}
+use Rattle.wkt_laws.proofs.Reading.{Read, begins, goes_on, stopped, completed, no_fault, one_value, skip_blanks-le, not_end, shorter}
 use Rattle.wkt_geometry.specs.States.{geometry_of}
 use Rattle.wkt_geometry.specs.Faults.{Refuses, HasStopped, place_of}
 use Rattle.wkt_geometry.specs.declared.geometry.Geometry.{Geometry}

@@ -6,7 +6,7 @@
 -- HasStopped r at f    a step was not done, for this cause and at this place
 use Rattle.std.specs.Prelude.{ℕ, ◌≡◌, List, Option, Some, None, Result, Err}
 use Rattle.wkt_terms.specs.Faults.{Cause, FirstFault}
-use Rattle.wkt_steps.specs.Steps as steps
+use Rattle.wkt_laws.specs.Steps as steps
 use Rattle.wkt_geometry.specs.declared.fault.Stop.{Stop}
 use Rattle.wkt_geometry.specs.declared.fault.Stop.TheVariants as stop
 use Rattle.wkt_geometry.specs.declared.fault.TextFault.{TextFault}

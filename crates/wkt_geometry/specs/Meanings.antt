@@ -1,7 +1,7 @@
 -- What the tokens of the code stand for.
 --
 -- word_meant w, token_meant t     the meaning of the code's value
-use Rattle.text_numbers.specs.Numbers.{meant}
+use Rattle.text_fields.specs.Numbers.{meant}
 use Rattle.wkt_terms.specs.Tokens as tokens
 use Rattle.wkt_geometry.specs.declared.token.Word.{Word}
 use Rattle.wkt_geometry.specs.declared.token.Word.TheVariants as word

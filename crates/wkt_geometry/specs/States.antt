@@ -7,8 +7,8 @@ use Rattle.std.specs.Prelude.{ℤ, ◌≡◌, Result, Ok, Err}
 use Rattle.wkt_terms.specs.Grammar as grammar
 use Rattle.wkt_terms.specs.Numerals as numerals
 use Rattle.wkt_terms.specs.Tokens as tokens
-use Rattle.wkt_steps.specs.Seen.{lists_of, parts_of}
-use Rattle.wkt_steps.specs.Steps as steps
+use Rattle.wkt_laws.specs.Seen.{lists_of, parts_of}
+use Rattle.wkt_laws.specs.Steps as steps
 use Rattle.wkt_geometry.specs.declared.fault.Cause.{Cause}
 use Rattle.wkt_geometry.specs.declared.fault.Cause.TheVariants as cause
 use Rattle.wkt_geometry.specs.declared.fault.Stop.{Stop}

@@ -4,8 +4,8 @@ ghost use Rattle.wkt_terms.specs.Grammar as grammar;
 ghost use Rattle.wkt_terms.specs.Grammar.{IsWkt};
 ghost use Rattle.wkt_terms.specs.Tokens as tokens;
 ghost use Rattle.wkt_terms.specs.Tokens.{token_at, behind_token};
-ghost use Rattle.wkt_steps.specs.Steps as steps;
-ghost use Rattle.wkt_steps.specs.Steps.{step};
+ghost use Rattle.wkt_laws.specs.Steps as steps;
+ghost use Rattle.wkt_laws.specs.Steps.{step};
 ghost use Rattle.wkt_geometry.specs.States.{geometry_of, state_of};
 ghost use Rattle.wkt_geometry.specs.Faults.{place_of, Refuses, HasStopped};
 
@@ -14,7 +14,7 @@ use crate::geometry::Geometry;
 use crate::state::{State, step};
 use crate::token::{Token, next_token};
 use std::alloc::Global;
-use text_numbers::skip_blanks;
+use text_fields::skip_blanks;
 
 // Takes the token at the front of what is left, which is not empty.
 fn advance<'a>(

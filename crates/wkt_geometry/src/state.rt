@@ -1,10 +1,10 @@
 ghost use Rattle.std.specs.Prelude.{◌≡◌, Ok, Err};
-ghost use Rattle.wkt_steps.specs.Steps.{at_open, closed, ended, after_comma, step};
-ghost use Rattle.text_numbers.specs.Numbers.{meant};
+ghost use Rattle.wkt_laws.specs.Steps.{at_open, closed, ended, after_comma, step};
+ghost use Rattle.text_fields.specs.Numbers.{meant};
 ghost use Rattle.wkt_terms.specs.Tokens as tokens;
-ghost use Rattle.wkt_steps.specs.Steps as steps;
+ghost use Rattle.wkt_laws.specs.Steps as steps;
 ghost use Rattle.wkt_geometry.specs.Meanings.{token_meant};
-ghost use Rattle.wkt_steps.specs.Seen.{lists_of, parts_of};
+ghost use Rattle.wkt_laws.specs.Seen.{lists_of, parts_of};
 ghost use Rattle.wkt_geometry.specs.States.{Gives, IsNumberAt, group_of, owner_of, state_of};
 
 use crate::fault::{Cause, Stop};
@@ -12,7 +12,7 @@ use crate::geometry::Geometry;
 use crate::token::{Token, Word};
 use grid_plane::GridPoint;
 use std::alloc::Global;
-use text_numbers::{Coordinate, Number};
+use text_fields::{Coordinate, Number};
 
 /// Whose lists are read.
 #[derive(Drop)]

@@ -2,7 +2,7 @@ ghost use Rattle.std.specs.Prelude.{◌≡◌};
 ghost use Rattle.wkt_terms.specs.Tokens.{is_modifier, word_of, token_at, behind_token};
 ghost use Rattle.wkt_geometry.specs.Meanings.{word_meant, token_meant};
 
-use text_numbers::{Class, Number, is_letter, is_number_byte, read_number, spells, split_run};
+use text_fields::{Class, Number, is_letter, is_number_byte, read_number, spells, split_run};
 
 /// A word of well-known text.
 #[derive(Clone, Copy)]

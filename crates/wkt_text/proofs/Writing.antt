@@ -8,9 +8,9 @@ use Rattle.plane_terms.specs.declared.kind.Kind.TheVariants as kind
 use Rattle.plane_terms.specs.Point.{Place}
 use Rattle.shape.specs.Given.{lines_in, polygons_in}
 use Rattle.wkt_terms.specs.Grammar.{APoint}
-use Rattle.wkt_steps.specs.Shapes.{of_lines, of_polygons, geometry_by, shape_text}
+use Rattle.wkt_laws.specs.Shapes.{of_lines, of_polygons, geometry_by, shape_text}
 use Rattle.wkt_terms.specs.Written.{written}
-use Rattle.wkt_steps.specs.Seen.{Ring, lists_of, parts_of}
+use Rattle.wkt_laws.specs.Seen.{Ring, lists_of, parts_of}
 
 alone : (lists : List Ring) → flat_map (λ part. part) (lines_in lists) ≡ lists_of lists
 alone [] = refl

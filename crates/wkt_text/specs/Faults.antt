@@ -14,7 +14,7 @@ use Rattle.shape.specs.Given.{all_rings}
 use Rattle.shape.specs.declared.fault.ShapeFault.TheVariants as shape
 use Rattle.wkt_terms.specs.Faults.{FirstFault, IsSyntax, IsOffGrid, IsOutOfReach, IsUnsupported}
 use Rattle.wkt_terms.specs.Grammar.{Geometry, IsWkt}
-use Rattle.wkt_steps.specs.Shapes.{is_closed, without_last, rings_in, shape_in, AreClosed, IsFirstOpen}
+use Rattle.wkt_laws.specs.Shapes.{is_closed, without_last, rings_in, shape_in, AreClosed, IsFirstOpen}
 use Rattle.wkt_text.specs.declared.fault.WktFault.{WktFault}
 use Rattle.wkt_text.specs.declared.fault.WktFault.TheVariants.{Syntax, OffGrid, OutOfReach, Unsupported, NotClosed, Invalid, NoMemory}
 

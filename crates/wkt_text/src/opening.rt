@@ -1,6 +1,6 @@
 ghost use Rattle.std.specs.Prelude.{◌≡◌, map};
-ghost use Rattle.wkt_steps.specs.Shapes.{without_last};
-ghost use Rattle.wkt_steps.specs.Seen.{lists_of, parts_of};
+ghost use Rattle.wkt_laws.specs.Shapes.{without_last};
+ghost use Rattle.wkt_laws.specs.Seen.{lists_of, parts_of};
 
 use grid_plane::GridPoint;
 

@@ -13,11 +13,11 @@ use Rattle.std.specs.Global.{Global}
 use Rattle.plane_terms.specs.Point.{Place, InReach}
 use Rattle.text_terms.specs.Wkt.{listed}
 use Rattle.wkt_terms.specs.Grammar.{APoint}
-use Rattle.wkt_steps.specs.Shapes.{closed, of_lines, of_polygons}
+use Rattle.wkt_laws.specs.Shapes.{closed, of_lines, of_polygons}
 use Rattle.wkt_terms.specs.Written.{place_text, bracketed, list_text, lists_text, written}
-use Rattle.wkt_steps.specs.Commas.{comma_texts}
-use Rattle.wkt_steps.specs.Seen.{Ring, lists_of, parts_of}
-use Rattle.wkt_steps.proofs.Written.{listed_items}
+use Rattle.wkt_laws.specs.Commas.{comma_texts}
+use Rattle.wkt_laws.specs.Seen.{Ring, lists_of, parts_of}
+use Rattle.wkt_laws.proofs.Written.{listed_items}
 use Rattle.wkt_writer.specs.Appended.{Pushed, Appends}
 use Rattle.wkt_writer.specs.Closed.{ring_text, rings_text}
 

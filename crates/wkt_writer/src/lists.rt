@@ -1,9 +1,9 @@
 ghost use Rattle.std.specs.Prelude.{◌++◌, map, codes};
 ghost use Rattle.text_terms.specs.Wkt.{listed};
-ghost use Rattle.wkt_steps.specs.Shapes.{of_lines};
+ghost use Rattle.wkt_laws.specs.Shapes.{of_lines};
 ghost use Rattle.wkt_terms.specs.Written.{place_text, list_text, lists_text, written};
-ghost use Rattle.wkt_steps.specs.Commas.{comma_texts};
-ghost use Rattle.wkt_steps.specs.Seen.{lists_of};
+ghost use Rattle.wkt_laws.specs.Commas.{comma_texts};
+ghost use Rattle.wkt_laws.specs.Seen.{lists_of};
 ghost use Rattle.wkt_writer.specs.Appended.{Appends};
 
 use crate::place::{push_place, push_text};

@@ -2,7 +2,7 @@ use Rattle.std.proofs.Common.{◌≡◌, ap, sym, ◌∙◌, Bool, refl}
 use Rattle.plane_terms.specs.Carve.{carve_of}
 use Rattle.topology_terms.specs.Feature.{Feature}
 use Rattle.topology_terms.specs.Cutting.{overlap_cells, finding_of, inside}
-use Rattle.rule_judging.proofs.Partners.{found_below, found_more, found_same}
+use Rattle.rule_core.proofs.Partners.{found_below, found_more, found_same}
 use Rattle.area_rules.specs.Overlaps.{is_of}
 use Rattle.area_rules.proofs.polygon_must_not_overlap_with.overlaps_with.Goals.{then-is_of+in_ok-push_overlap, else-is_of}
 use Rattle.area_rules.proofs.polygon_must_not_overlap_with.overlaps_with.Goals as goal

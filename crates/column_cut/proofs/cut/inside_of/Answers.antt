@@ -1,6 +1,6 @@
 use Rattle.std.proofs.Common.{◌∙◌, sym, subst}
-use Rattle.column_steps.specs.Rising.{IsRising}
-use Rattle.column_steps.proofs.Exact.{abscissas-rising}
+use Rattle.column_laws.specs.Rising.{IsRising}
+use Rattle.column_laws.proofs.Exact.{abscissas-rising}
 use Rattle.column_cut.proofs.cut.inside_of.Goals as goal
 
 pub push_strips-requires : goal.push_strips-requires

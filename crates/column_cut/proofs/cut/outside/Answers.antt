@@ -3,7 +3,7 @@ use Rattle.plane_terms.specs.Point.{Point}
 use Rattle.plane_terms.specs.Polygon.{IsSimpleList, IsOutside}
 use Rattle.plane_terms.specs.Cell.{Cell, InCells}
 use Rattle.plane_terms.specs.Columns.{outside_cells}
-use Rattle.column_steps.proofs.Exact.{outside_is_exact}
+use Rattle.column_laws.proofs.Exact.{outside_is_exact}
 use Rattle.convex_cell.proofs.Results.{if_ok}
 use Rattle.column_cut.proofs.cut.outside.Goals as goal
 

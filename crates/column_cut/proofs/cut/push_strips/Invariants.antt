@@ -1,7 +1,7 @@
 use Rattle.std.proofs.Common.{◌≡◌, ◌++◌, ◌∷◌, drop}
 use Rattle.plane_terms.specs.Carve.{kept}
 use Rattle.plane_terms.specs.Columns.{cells_from}
-use Rattle.column_steps.specs.Rising.{IsRising}
+use Rattle.column_laws.specs.Rising.{IsRising}
 use Rattle.column_cut.specs.Parity.{is_even}
 use Rattle.column_cut.proofs.cut.push_strips.Given as goal
 

@@ -1,4 +1,4 @@
-use Rattle.column_steps.proofs.Laws as laws
+use Rattle.column_laws.proofs.Laws as laws
 use Rattle.column_cut.proofs.laws.columns_have_one_order.Goals as goal
 
 pub returns : goal.returns

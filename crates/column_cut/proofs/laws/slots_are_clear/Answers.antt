@@ -1,4 +1,4 @@
-use Rattle.column_steps.proofs.Laws as laws
+use Rattle.column_laws.proofs.Laws as laws
 use Rattle.column_cut.proofs.laws.slots_are_clear.Goals as goal
 
 pub returns : goal.returns

@@ -1,4 +1,4 @@
-use Rattle.column_steps.proofs.Laws as laws
+use Rattle.column_laws.proofs.Laws as laws
 use Rattle.column_cut.proofs.laws.slots_are_enough.Goals as goal
 
 pub returns-clause-enough : goal.returns-clause-enough

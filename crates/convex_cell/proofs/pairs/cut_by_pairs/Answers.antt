@@ -1,6 +1,6 @@
 use Rattle.std.proofs.Common.{IfSome, arith}
 use Rattle.std.proofs.lemmas.List.{take_all}
-use Rattle.cell_steps.specs.Bounds.{Compatible}
+use Rattle.cell_laws.specs.Bounds.{Compatible}
 use Rattle.plane_terms.specs.Decide.{high_of}
 use Rattle.convex_cell.specs.Seen.{seen}
 use Rattle.convex_cell.proofs.Loops.{all_step, all_end}

@@ -1,6 +1,6 @@
 use Rattle.std.proofs.Common.{arith}
 use Rattle.std.proofs.lemmas.List.{take_all}
-use Rattle.cell_steps.specs.Bounds.{FlatHolds}
+use Rattle.cell_laws.specs.Bounds.{FlatHolds}
 use Rattle.convex_cell.specs.Seen.{seen, PairsSeen}
 use Rattle.convex_cell.proofs.Loops.{all_step, all_end, all_kept}
 use Rattle.convex_cell.proofs.pairs.range_of.Goals as goal

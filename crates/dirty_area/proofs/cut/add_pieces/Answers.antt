@@ -1,4 +1,4 @@
-use Rattle.sound_steps.proofs.Meetings.{meets_test, meets_from_test}
+use Rattle.sound_laws.proofs.Meetings.{meets_test, meets_from_test}
 use Rattle.dirty_area.proofs.cut.add_pieces.Goals as goal
 
 pub returns-in-Some-clause-beside : goal.returns-in-Some-clause-beside

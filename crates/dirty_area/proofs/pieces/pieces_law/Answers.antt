@@ -1,5 +1,5 @@
-use Rattle.sound_steps.proofs.Dirts.{pieces_cover}
-use Rattle.sound_steps.proofs.Pieces.{pieces_within}
+use Rattle.sound_laws.proofs.Dirts.{pieces_cover}
+use Rattle.sound_laws.proofs.Pieces.{pieces_within}
 use Rattle.dirty_area.proofs.pieces.pieces_law.Goals as goal
 
 pub returns-clause-hold : goal.returns-clause-hold

@@ -3,7 +3,7 @@ use borrow.Author.Tests.{tests}
 use Rattle.std.proofs.lemmas.Iterator.{YieldsList-from_slice, cases_from_any}
 use Rattle.plane_terms.specs.Lists.{SomeOf}
 use Rattle.plane_terms.specs.Segment.{Segment, OnSegment}
-use Rattle.cell_steps.proofs.Lists.{some_same}
+use Rattle.cell_laws.proofs.Lists.{some_same}
 use Rattle.grid_plane.specs.Rectangles.{HoldsAt}
 use Rattle.plain_shapes.proofs.Somewhere.{some_is}
 use Rattle.plain_shapes.proofs.Insides.{on_place}

@@ -3,7 +3,7 @@ use Rattle.plane_terms.specs.Cell.{Cell, at_place}
 use Rattle.topology_terms.specs.Feature.{Feature, place}
 use Rattle.topology_terms.specs.Meaning.{Finding}
 use Rattle.topology_terms.specs.Cutting.{place_cells}
-use Rattle.rule_judging.proofs.Partners.{found_below, found_more, found_same}
+use Rattle.rule_core.proofs.Partners.{found_below, found_more, found_same}
 use Rattle.point_rules.specs.Doubles.{is_double}
 use Rattle.point_rules.proofs.point_must_be_disjoint.doubles.Goals.{then-is_double+in_ok-found_at+in_ok-push, else-is_double}
 use Rattle.point_rules.proofs.point_must_be_disjoint.doubles.Goals as goal

@@ -1,5 +1,5 @@
 use Rattle.std.proofs.Common.{◌≡◌, ◌++◌, drop}
-use Rattle.wkt_steps.specs.Commas.{comma_texts}
+use Rattle.wkt_laws.specs.Commas.{comma_texts}
 use Rattle.script_terms.specs.Reply.{half_text}
 use Rattle.reply_text.proofs.cells.push_more_halves.Given as goal
 

@@ -1,4 +1,4 @@
-use Rattle.number_steps.proofs.Tests.{says}
+use Rattle.number_laws.proofs.Tests.{says}
 use Rattle.shape.proofs.Places.{same_lists}
 use Rattle.shape.proofs.same.are_same_vertices.Goals as goal
 

@@ -1,6 +1,6 @@
 use Rattle.std.proofs.Common.{◌∙◌, ap, ◌++◌, [], ◌∷◌, append_assoc}
-use Rattle.validation_steps.specs.Parts.{IsNewEntry}
-use Rattle.validation_steps.proofs.Joining.{paired_more}
+use Rattle.validation_laws.specs.Parts.{IsNewEntry}
+use Rattle.validation_laws.proofs.Joining.{paired_more}
 use Rattle.validation.proofs.judge.add_findings.Goals as goal
 
 pub loop-x-preserved : goal.loop-x-preserved

@@ -1,6 +1,6 @@
-use Rattle.validation_steps.specs.Parts.{IsRulePart, live_of}
-use Rattle.validation_steps.proofs.Joining.{part_more}
-use Rattle.validation_steps.proofs.Counting.{judged_rule_more}
+use Rattle.validation_laws.specs.Parts.{IsRulePart, live_of}
+use Rattle.validation_laws.proofs.Joining.{part_more}
+use Rattle.validation_laws.proofs.Counting.{judged_rule_more}
 use Rattle.validation.proofs.judge.judge_all.Goals as goal
 
 pub loop-rule-preserved : goal.loop-rule-preserved

@@ -4,9 +4,9 @@ use Rattle.topology_terms.specs.Project.{InForce}
 use Rattle.topology_terms.specs.Broken.{judges_test}
 use Rattle.plane_terms.specs.Rectangle.{IsRectangle}
 use Rattle.topology_terms.specs.Feature.{env}
-use Rattle.validation_steps.proofs.Parts.{part_idle, part_judged}
-use Rattle.validation_steps.proofs.Viewed.{subject_seen, view_fits}
-use Rattle.validation_steps.proofs.Frames.{framable}
+use Rattle.validation_laws.proofs.Parts.{part_idle, part_judged}
+use Rattle.validation_laws.proofs.Viewed.{subject_seen, view_fits}
+use Rattle.validation_laws.proofs.Frames.{framable}
 use Rattle.validation.proofs.judge.judge_live.Goals as goal
 
 pub returns-then-not-judges-clause-part : goal.returns-then-not-judges-clause-part

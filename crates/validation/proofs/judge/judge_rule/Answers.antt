@@ -1,8 +1,8 @@
 use Rattle.std.proofs.Common.{◌≡◌, ◌<◌, ◌∙◌, length, get_or, arith}
 use Rattle.std.proofs.lemmas.List.{get_or_default}
-use Rattle.validation_steps.specs.Parts.{IsSubjectPart}
-use Rattle.validation_steps.proofs.Joining.{part_more}
-use Rattle.validation_steps.proofs.Counting.{judged_more}
+use Rattle.validation_laws.specs.Parts.{IsSubjectPart}
+use Rattle.validation_laws.proofs.Joining.{part_more}
+use Rattle.validation_laws.proofs.Counting.{judged_more}
 use Rattle.validation.proofs.judge.judge_rule.Goals as goal
 
 pub loop-i-preserved : goal.loop-i-preserved

@@ -1,8 +1,8 @@
 use Rattle.std.proofs.Common.{◌≡◌, sym, subst, Some}
 use Rattle.std.proofs.lemmas.Result.{on_ok_weaker}
 use Rattle.topology_terms.specs.Feature.{feature_at}
-use Rattle.sound_steps.proofs.FeatureLists.{handle_of}
-use Rattle.validation_steps.specs.Parts.{IsSubjectPart}
+use Rattle.sound_laws.proofs.FeatureLists.{handle_of}
+use Rattle.validation_laws.specs.Parts.{IsSubjectPart}
 use Rattle.validation.proofs.judge.judge_subject.Goals as goal
 
 pub judge_live-requires-clause-live : goal.judge_live-requires-clause-live

@@ -1,5 +1,5 @@
 use Rattle.std.proofs.Common.{◌≡◌, take}
-use Rattle.validation_steps.specs.Parts.{live_of}
+use Rattle.validation_laws.specs.Parts.{live_of}
 use Rattle.validation.proofs.near.view_among.Given as goal
 
 abbrev pub invariant-loop-handle : goal.invariant-loop-handle

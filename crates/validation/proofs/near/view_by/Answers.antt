@@ -1,5 +1,5 @@
 use Rattle.std.proofs.lemmas.Result.{IfOk-weaker}
-use Rattle.validation_steps.specs.Views.{IsView}
+use Rattle.validation_laws.specs.Views.{IsView}
 use Rattle.validation.proofs.Nearby.{view_near}
 use Rattle.validation.proofs.near.view_by.Goals as goal
 

@@ -1,7 +1,7 @@
 use Rattle.std.proofs.lemmas.List.{take_all}
 use Rattle.topology_terms.specs.Feature.{Feature, env}
 use Rattle.plane_terms.specs.Dirt.{MeetsDirt}
-use Rattle.validation_steps.proofs.Selecting.{picked_more}
+use Rattle.validation_laws.proofs.Selecting.{picked_more}
 use Rattle.validation.proofs.selection.add_features.Goals as goal
 
 pub loop-f-preserved : goal.loop-f-preserved

@@ -2,8 +2,8 @@ use Rattle.std.proofs.Common.{ap}
 use Rattle.std.proofs.lemmas.List.{take_all}
 use Rattle.topology_terms.specs.Entry.{Entry}
 use Rattle.plane_terms.specs.Dirt.{MeetsDirt}
-use Rattle.error_entries.specs.declared.key.Key.{Key}
-use Rattle.validation_steps.proofs.Selecting.{picked_more}
+use Rattle.error_store.specs.declared.key.Key.{Key}
+use Rattle.validation_laws.proofs.Selecting.{picked_more}
 use Rattle.validation.proofs.selection.add_subjects.Goals as goal
 
 pub loop-e-preserved : goal.loop-e-preserved

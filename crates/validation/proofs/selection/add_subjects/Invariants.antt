@@ -1,7 +1,7 @@
 use Rattle.std.proofs.Common.{take}
 use Rattle.topology_terms.specs.Entry.{Entry}
 use Rattle.plane_terms.specs.Dirt.{MeetsDirt}
-use Rattle.validation_steps.specs.Picked.{ArePicked}
+use Rattle.validation_laws.specs.Picked.{ArePicked}
 use Rattle.validation.proofs.selection.add_subjects.Given as goal
 
 abbrev pub invariant-loop-e : goal.invariant-loop-e

@@ -5,10 +5,10 @@ use Rattle.topology_terms.specs.Entry.{Entry}
 use Rattle.topology_terms.specs.Project.{Project}
 use Rattle.topology_terms.specs.Changes.{IsSelected}
 use Rattle.dirty_area.specs.Parts.{MeetsPart}
-use Rattle.validation_steps.specs.Parts.{IsRising}
-use Rattle.validation_steps.specs.Picked.{ArePicked}
-use Rattle.validation_steps.proofs.Handles.{rising}
-use Rattle.validation_steps.proofs.Selecting.{selected_picked}
+use Rattle.validation_laws.specs.Parts.{IsRising}
+use Rattle.validation_laws.specs.Picked.{ArePicked}
+use Rattle.validation_laws.proofs.Handles.{rising}
+use Rattle.validation_laws.proofs.Selecting.{selected_picked}
 use Rattle.validation.proofs.Dirtied.{meets_parts, picked_as}
 use Rattle.validation.proofs.selection.select.Goals as goal
 

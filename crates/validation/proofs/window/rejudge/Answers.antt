@@ -1,5 +1,5 @@
 use Rattle.std.proofs.Common.{◌≡◌}
-use Rattle.validation_steps.proofs.Judging.{judging_ascends}
+use Rattle.validation_laws.proofs.Judging.{judging_ascends}
 use Rattle.validation.proofs.Settled.{fits_each}
 use Rattle.validation.proofs.window.rejudge.Goals as goal
 

@@ -1,6 +1,6 @@
-use Rattle.validation_steps.specs.Parts.{live_of}
-use Rattle.validation_steps.proofs.Judging.{judging_fresh}
-use Rattle.validation_steps.proofs.Validating.{parts_kept_valid, parts_kept_sound, parts_kept_settled}
+use Rattle.validation_laws.specs.Parts.{live_of}
+use Rattle.validation_laws.proofs.Judging.{judging_fresh}
+use Rattle.validation_laws.proofs.Validating.{parts_kept_valid, parts_kept_sound, parts_kept_settled}
 use Rattle.validation.specs.Projects.{with_parts}
 use Rattle.validation.proofs.Settled.{validated, selected_live}
 use Rattle.validation.proofs.window.validate.Goals as goal

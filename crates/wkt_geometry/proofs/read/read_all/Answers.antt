@@ -2,7 +2,7 @@ use Rattle.std.proofs.Common.{arith}
 use Rattle.std.proofs.lemmas.Result.{err_from_is_err_and}
 use Rattle.wkt_geometry.specs.States.{state_of}
 use Rattle.wkt_geometry.specs.Faults.{place_of}
-use Rattle.wkt_steps.proofs.Reading.{shorter}
+use Rattle.wkt_laws.proofs.Reading.{shorter}
 use Rattle.wkt_geometry.proofs.Results.{starts, keeps, refuses, found}
 use Rattle.wkt_geometry.proofs.read.read_all.Goals as goal
 

@@ -1,5 +1,5 @@
 use Rattle.std.proofs.Common.{◌∙◌, sym, ap, arith, ◌+◌, ℕ}
-use Rattle.wkt_steps.specs.Seen.{lists_of}
+use Rattle.wkt_laws.specs.Seen.{lists_of}
 use Rattle.wkt_text.specs.Open.{first_open}
 use Rattle.wkt_text.proofs.FirstOpen.{left, in_part, past_part, counted}
 use Rattle.wkt_text.proofs.closing.first_open.Goals as goal

@@ -1,5 +1,5 @@
 use Rattle.std.proofs.Common.{◌≡◌, ◌+◌, drop}
-use Rattle.wkt_steps.specs.Seen.{lists_of}
+use Rattle.wkt_laws.specs.Seen.{lists_of}
 use Rattle.wkt_text.specs.Open.{first_open}
 use Rattle.wkt_text.proofs.closing.first_open_ring.Given as goal
 

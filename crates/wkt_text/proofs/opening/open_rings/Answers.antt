@@ -1,6 +1,6 @@
 use Rattle.std.proofs.Common.{◌∙◌, ap, sym, arith}
-use Rattle.wkt_steps.specs.Shapes.{without_last}
-use Rattle.wkt_steps.specs.Seen.{Ring}
+use Rattle.wkt_laws.specs.Shapes.{without_last}
+use Rattle.wkt_laws.specs.Seen.{Ring}
 use Rattle.shape.proofs.Changed.{changed_more, changed_all}
 use Rattle.wkt_text.proofs.opening.open_rings.Goals as goal
 

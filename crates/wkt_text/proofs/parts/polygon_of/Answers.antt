@@ -2,7 +2,7 @@ use Rattle.std.proofs.Common.{◌∙◌, ap, sym, arith, List, Vec, subst}
 use Rattle.std.specs.Global.{Global}
 use Rattle.plane_terms.specs.Point.{Place}
 use Rattle.shape.specs.Given.{all_rings, IsCountable}
-use Rattle.wkt_steps.specs.Seen.{Ring, parts_of}
+use Rattle.wkt_laws.specs.Seen.{Ring, parts_of}
 use Rattle.wkt_text.specs.Open.{first_open}
 use Rattle.wkt_text.proofs.Counted.{countable_opened}
 use Rattle.wkt_text.proofs.FirstOpen.{open_at, none_open}

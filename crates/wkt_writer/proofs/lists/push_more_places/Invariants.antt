@@ -1,6 +1,6 @@
 use Rattle.std.proofs.Common.{drop}
 use Rattle.wkt_terms.specs.Written.{place_text}
-use Rattle.wkt_steps.specs.Commas.{comma_texts}
+use Rattle.wkt_laws.specs.Commas.{comma_texts}
 use Rattle.wkt_writer.specs.Appended.{Pushed}
 use Rattle.wkt_writer.proofs.lists.push_more_places.Given as goal
 

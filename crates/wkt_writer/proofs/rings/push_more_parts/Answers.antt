@@ -1,6 +1,6 @@
 use Rattle.std.proofs.Common.{refl}
 use Rattle.std.proofs.Common.{ap}
-use Rattle.wkt_steps.specs.Seen.{lists_of}
+use Rattle.wkt_laws.specs.Seen.{lists_of}
 use Rattle.wkt_writer.specs.Closed.{rings_text}
 use Rattle.wkt_writer.proofs.Pushing.{failed, commas_by, comma_cut, item_cut}
 use Rattle.wkt_writer.proofs.rings.push_more_parts.Goals as goal

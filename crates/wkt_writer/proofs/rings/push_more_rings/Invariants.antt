@@ -1,7 +1,7 @@
 use Rattle.std.proofs.Common.{drop}
 use Rattle.wkt_writer.specs.Closed.{ring_text}
-use Rattle.wkt_steps.specs.Seen.{lists_of}
-use Rattle.wkt_steps.specs.Commas.{comma_texts}
+use Rattle.wkt_laws.specs.Seen.{lists_of}
+use Rattle.wkt_laws.specs.Commas.{comma_texts}
 use Rattle.wkt_writer.specs.Appended.{Pushed}
 use Rattle.wkt_writer.proofs.rings.push_more_rings.Given as goal
 

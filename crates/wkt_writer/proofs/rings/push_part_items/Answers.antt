@@ -1,5 +1,5 @@
 use Rattle.std.proofs.Common.{ap}
-use Rattle.wkt_steps.specs.Seen.{lists_of}
+use Rattle.wkt_laws.specs.Seen.{lists_of}
 use Rattle.wkt_writer.specs.Closed.{rings_text}
 use Rattle.wkt_writer.proofs.Pushing.{cut, then_cut, failed, listed_by, both}
 use Rattle.wkt_writer.proofs.rings.push_part_items.Goals as goal

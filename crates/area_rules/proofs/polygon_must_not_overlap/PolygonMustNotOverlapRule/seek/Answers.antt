@@ -2,7 +2,7 @@ use Rattle.std.proofs.Common.{sym, subst}
 use Rattle.std.proofs.lemmas.Result.{IfOk-weaker}
 use Rattle.topology_terms.specs.Broken.{Row}
 use Rattle.topology_terms.specs.Cutting.{IsCutting}
-use Rattle.rule_judging.specs.Shown.{IsShown}
+use Rattle.rule_core.specs.Shown.{IsShown}
 use Rattle.area_rules.proofs.Cuts.{later_cut, one_class}
 use Rattle.area_rules.proofs.polygon_must_not_overlap.PolygonMustNotOverlapRule.seek.Goals as goal
 

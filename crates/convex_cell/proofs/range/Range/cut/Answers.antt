@@ -1,6 +1,6 @@
 use Rattle.std.proofs.Common.{arith, ◌≡◌, ◌≤◌, ◌^◌, pos, neg_ℤ, unsigned_abs}
 use Rattle.std.proofs.lemmas.Int.{ints}
-use Rattle.cell_steps.proofs.Ranges.{level_allows}
+use Rattle.cell_laws.proofs.Ranges.{level_allows}
 use Rattle.convex_cell.proofs.Ranges.{turned_back, above_back}
 use Rattle.convex_cell.proofs.range.Range.cut.Goals as goal
 

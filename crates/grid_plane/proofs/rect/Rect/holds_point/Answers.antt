@@ -1,6 +1,6 @@
 use Rattle.std.proofs.Common.{◌≡◌, ◌∙◌, ap}
 use Rattle.plane_terms.specs.Rectangle.{is_within, rect_at}
-use Rattle.number_steps.proofs.Tests.{says}
+use Rattle.number_laws.proofs.Tests.{says}
 use Rattle.grid_plane.proofs.Rectangles.{held_place, Decides-is_within}
 use Rattle.grid_plane.proofs.rect.Rect.holds_point.Goals as goal
 

@@ -1,4 +1,4 @@
-use Rattle.number_steps.proofs.Tests.{says}
+use Rattle.number_laws.proofs.Tests.{says}
 use Rattle.grid_plane.proofs.Rectangles.{Decides-is_within}
 use Rattle.grid_plane.proofs.rect.Rect.holds_rect.Goals as goal
 

@@ -1,4 +1,4 @@
-use Rattle.number_steps.proofs.Tests.{says}
+use Rattle.number_laws.proofs.Tests.{says}
 use Rattle.grid_plane.proofs.Rectangles.{Decides-rects_meet}
 use Rattle.grid_plane.proofs.rect.Rect.meets.Goals as goal
 

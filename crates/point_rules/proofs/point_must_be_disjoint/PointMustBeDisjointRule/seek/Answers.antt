@@ -2,7 +2,7 @@ use Rattle.std.proofs.Common.{sym, subst}
 use Rattle.std.proofs.lemmas.Result.{IfOk-weaker}
 use Rattle.topology_terms.specs.Broken.{Row}
 use Rattle.topology_terms.specs.Cutting.{IsCutting}
-use Rattle.rule_judging.specs.Shown.{IsShown}
+use Rattle.rule_core.specs.Shown.{IsShown}
 use Rattle.point_rules.proofs.Cuts.{doubles_cut, row_of}
 use Rattle.point_rules.proofs.point_must_be_disjoint.PointMustBeDisjointRule.seek.Goals as goal
 

@@ -1,6 +1,6 @@
 use Rattle.std.proofs.lemmas.Result.{IfOk-weaker}
-use Rattle.validation_steps.specs.Views.{IsView}
-use Rattle.validation_steps.proofs.Viewed.{view_filtered}
+use Rattle.validation_laws.specs.Views.{IsView}
+use Rattle.validation_laws.proofs.Viewed.{view_filtered}
 use Rattle.validation.proofs.near.FeatureIndex.view_of.Goals as goal
 
 pub returns : goal.returns

@@ -1,0 +1,14 @@
+use Rattle.error_store.proofs.Dropping.{is_other, filter_ascends, none_left, others_left}
+use Rattle.error_store.proofs.errors.Errors.drop_rule.Goals as goal
+
+pub invariant_of-self : goal.invariant_of-self
+invariant_of-self c = rw c.drop_from.ensures (filter_ascends (is_other c.args.rule) c.self.inside.entries.items c.self.invariant)
+
+pub returns-clause-gone : goal.returns-clause-gone
+returns-clause-gone c = λ a b. rw c.drop_from.ensures (none_left c.args.rule c.self.inside.entries.items a b)
+
+pub returns-clause-kept : goal.returns-clause-kept
+returns-clause-kept c = λ k a b d. rw (c.drop_from.ensures, ← c.self.view_is) (others_left c.args.rule c.self.inside.entries.items k a b d)
+
+pub returns-clause-ascending : goal.returns-clause-ascending
+returns-clause-ascending c = invariant_of-self c

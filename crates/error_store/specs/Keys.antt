@@ -1,0 +1,13 @@
+-- Keys of errors.
+--
+-- key_of e             the key of an entry
+-- IsBefore j k         j stands before k
+use Rattle.std.specs.Prelude.{◌≡◌, ◌⊎◌, ◌<◌}
+use Rattle.topology_terms.specs.Entry.{Entry}
+use Rattle.error_store.specs.declared.key.Key.{Key}
+
+abbrev pub key_of : Entry → Key
+key_of e = record { rule = e.rule; subject = e.subject; other = e.other }
+
+abbrev pub IsBefore : Key → Key → Type 0
+IsBefore j k = (j.rule < k.rule) ⊎ ((j.rule ≡ k.rule) × ((j.subject < k.subject) ⊎ ((j.subject ≡ k.subject) × (j.other < k.other))))

@@ -1,0 +1,122 @@
+ghost use Rattle.std.specs.Prelude.{◌≡◌, ◌↔◌, IsTrue, Some, IfOk};
+ghost use Rattle.topology_terms.specs.Changes.{IsUnchanged};
+ghost use Rattle.topology_terms.specs.Entry as terms;
+ghost use Rattle.validation_laws.specs.Replaced.{IsRemarked};
+ghost use Rattle.error_store.specs.Keys.{key_of};
+
+use crate::key::Key;
+use convex_cell::Cells;
+use grid_plane::{NoMemory, Rect};
+use std::alloc::Global;
+use std::marker::Model;
+
+/// An error of a rule. Error features and exceptions of a geodatabase topology (Esri).
+#[derive(Drop)]
+pub struct Entry {
+    key: Key,
+    whole: bool,
+    marked: bool,
+    frame: Rect,
+    cells: Cells,
+}
+
+impl Model for Entry {
+    ghost use Rattle.topology_terms.specs.Entry as terms;
+
+    ghost Value = { terms.Entry };
+
+    ghost view = { λ e. record { rule = e.key.rule; subject = e.key.subject; other = e.key.other; whole = e.whole; marked = e.marked; frame = e.frame; cells = e.cells } };
+}
+
+fn is_same_rect(a: &Rect, b: &Rect) -> bool
+    ensures { IsTrue result ↔ (a.now ≡ b.now) }
+{
+    a.holds_rect(b) && b.holds_rect(a)
+}
+
+impl Entry {
+    /// The error of this key, of the whole subject or of the cells, with its mark and its frame.
+    pub fn new(key: Key, whole: bool, marked: bool, frame: Rect, cells: Cells) -> Entry
+        ensures { result ≡ record { rule = key.rule; subject = key.subject; other = key.other; whole = whole; marked = marked; frame = frame; cells = cells } }
+    {
+        Entry {
+            key,
+            whole,
+            marked,
+            frame,
+            cells,
+        }
+    }
+
+    /// By what it is known.
+    pub fn key(&self) -> Key
+        ensures { result ≡ key_of self.now }
+    {
+        self.key
+    }
+
+    /// Whether the whole subject breaks the rule; there are no cells then.
+    pub fn whole(&self) -> bool
+        ensures { result ≡ self.now.whole }
+    {
+        self.whole
+    }
+
+    /// Whether it is an exception.
+    pub fn marked(&self) -> bool
+        ensures { result ≡ self.now.marked }
+    {
+        self.marked
+    }
+
+    /// The least rectangle of the grid that holds all its points, in grid units; of a whole entry the subject's envelope.
+    pub fn frame(&self) -> Rect
+        ensures { result ≡ self.now.frame }
+    {
+        self.frame
+    }
+
+    /// Where the rule is broken.
+    pub fn cells(&self) -> &Cells
+        ensures { result.now ≡ self.now.cells }
+    {
+        &self.cells
+    }
+
+    fn is_unchanged(&self, other: &Entry) -> bool
+        ensures { IsTrue result ↔ IsUnchanged self.now other.now }
+    {
+        self.whole == other.whole
+            && is_same_rect(&self.frame, &other.frame)
+            && self.cells.same(&other.cells)
+    }
+
+    fn with_mark(self, on: bool) -> Entry
+        ensures { result ≡ record self { marked = on } }
+    {
+        let mut entry = self;
+        entry.marked = on;
+        entry
+    }
+
+    /// The fresh entry of this key, with this one's mark where its extent, frame and cells are the same.
+    pub(crate) fn remarked(&self, fresh: Entry) -> Entry
+        ensures { IsRemarked (Some self.now) fresh result }
+    {
+        let on = self.marked && self.is_unchanged(&fresh);
+        fresh.with_mark(on)
+    }
+
+    /// An equal value.
+    pub fn try_copy(&self, alloc: Global) -> Result<Entry, NoMemory>
+        ensures { IfOk result (λ e. e ≡ self.now) }
+    {
+        Ok(Entry {
+            key: self.key,
+            whole: self.whole,
+            marked: self.marked,
+            frame: self.frame,
+            cells: self.cells.try_copy(alloc)?,
+        })
+    }
+}

@@ -1,0 +1,125 @@
+ghost use Rattle.std.specs.Prelude.{◌≡◌, ◌≢◌, ◌==◌, ◌<◌, ◌≤◌, ◌+◌, ℕ, [], not, filter, length, slice_get, None, Some, MatchOption, IfOk, OnOk, OnErr, vec_len, vec_capacity};
+ghost use Rattle.topology_terms.specs.Entry.{entry_at, IsAscending};
+ghost use Rattle.topology_terms.specs.Entry as terms;
+ghost use Rattle.validation_laws.specs.Replaced.{IsReplaced, AreFresh};
+
+use crate::entry::Entry;
+use crate::key::Key;
+use crate::list::{copy_of, drop_from, find_in};
+use crate::merge::merge;
+use grid_plane::{Handles, NoMemory};
+use std::alloc::{AllocError, Global};
+use std::marker::Model;
+use std::mem;
+
+/// Errors, each of a key of its own, in the order of their keys.
+#[derive(Drop)]
+pub struct Errors {
+    entries: Vec<Entry>,
+}
+
+impl Model for Errors {
+    ghost use Rattle.std.specs.Prelude.{List};
+    ghost use Rattle.topology_terms.specs.Entry as terms;
+
+    ghost Value = { List terms.Entry };
+
+    ghost view = { λ e. e.entries.items };
+
+    ghost invariant = { λ e. terms.IsAscending e.entries.items };
+}
+
+// Room for the entries of both lists; the list stays as it is.
+fn make_room(out: &mut Vec<Entry>, a: usize, b: usize) -> Result<(), AllocError>
+    ensures room { IfOk result (λ _. vec_len out.old + a + b ≤ vec_capacity out.new) }
+    ensures same { out.new.items ≡ out.old.items }
+    ensures len { vec_len out.new ≡ vec_len out.old }
+{
+    match a.checked_add(b) {
+        Some(n) => out.reserve(n),
+        None => Err(AllocError),
+    }
+}
+
+impl Errors {
+    /// No error.
+    pub fn new(alloc: Global) -> Errors
+        ensures { result ≡ [] }
+    {
+        Errors {
+            entries: Vec::new(alloc),
+        }
+    }
+
+    /// How many errors there are.
+    pub fn len(&self) -> usize
+        ensures { result ≡ length self.now }
+    {
+        self.entries.len()
+    }
+
+    /// The error at this place of the list, from 0.
+    pub fn entry(&self, i: usize) -> &Entry
+        requires { i < length self.now }
+        ensures { slice_get self.now i ≡ Some result.now }
+    {
+        &self.entries[i]
+    }
+
+    /// The errors in their order.
+    pub fn entries(&self) -> &[Entry]
+        ensures value { result.now ≡ self.now }
+        ensures ascending { IsAscending self.now }
+    {
+        &self.entries
+    }
+
+    /// The error of this key. Takes steps by the logarithm of their number.
+    pub fn find(&self, key: Key) -> Option<&Entry>
+        ensures { MatchOption result (entry_at self.now key.rule key.subject key.other ≡ None) (λ e. entry_at self.now key.rule key.subject key.other ≡ Some e.now) }
+    {
+        find_in(&self.entries, key)
+    }
+
+    /// The errors of the selected subjects give way to the fresh ones, and all others stay. A fresh error is marked exactly
+    /// where the old one of its key was, and had the same extent, frame and cells. After an `Err`, want of memory, nothing
+    /// has changed. Goes over both lists once.
+    pub fn replace(
+        &mut self,
+        alloc: Global,
+        selected: &Handles,
+        fresh: Vec<Entry>,
+    ) -> Result<(), NoMemory>
+        requires ascending { IsAscending fresh.items }
+        requires new { AreFresh selected.now fresh.items }
+        ensures replaced { OnOk result (IsReplaced selected.now self.old fresh.items self.new) }
+        ensures ascending { IsAscending self.new }
+        ensures err { OnErr result (self.new ≡ self.old) }
+    {
+        let mut out = Vec::new(alloc);
+        make_room(&mut out, self.entries.len(), fresh.len())?;
+        let old = mem::replace(&mut self.entries, Vec::new(alloc));
+        merge(old, selected, fresh, &mut out);
+        self.entries = out;
+        Ok(())
+    }
+
+    /// The errors of the rule of this number go, and all others stay in their order. Takes no memory.
+    pub fn drop_rule(&mut self, rule: u16)
+        ensures left { self.new ≡ filter (λ (e : terms.Entry). not (e.rule == rule)) self.old }
+        ensures gone { (a b : ℕ) → entry_at self.new rule a b ≡ None }
+        ensures kept { (k a b : ℕ) → k ≢ rule → entry_at self.new k a b ≡ entry_at self.old k a b }
+        ensures ascending { IsAscending self.new }
+    {
+        drop_from(&mut self.entries, rule);
+    }
+
+    /// An equal value.
+    pub fn try_copy(&self, alloc: Global) -> Result<Errors, NoMemory>
+        ensures { IfOk result (λ e. e ≡ self.now) }
+    {
+        Ok(Errors {
+            entries: copy_of(alloc, &self.entries)?,
+        })
+    }
+}

@@ -1,6 +1,0 @@
-use Rattle.std.proofs.Common.{◌≡◌, drop}
-use Rattle.rule_core.specs.Table.{first_of_word}
-use Rattle.rule_core.proofs.rule_kind.first_of_word.Given as goal
-
-abbrev pub invariant-loop-rule : goal.invariant-loop-rule
-invariant-loop-rule l = first_of_word l.word (drop l.rule-index l.rules) ≡ first_of_word l.word l.rules

@@ -1,3 +1,0 @@
-mod Orders
-mod Lookups
-pub mod Partners

@@ -1,0 +1,58 @@
+ghost use Rattle.topology_terms.specs.Poster.{poster};
+ghost use Rattle.rule_laws.proofs.Posters.{poster_laws, poster_cuts};
+ghost use Rattle.rule_laws.proofs.Views.{poster_views};
+
+use area_rules::{PolygonMustNotOverlap, PolygonMustNotOverlapWith};
+use grid_plane::NoMemory;
+use point_rules::PointMustBeDisjoint;
+use rule_words::RuleKind;
+use rule_core::{Findings, RuleRow, RuleSet, View, Work, judge};
+use std::alloc::Global;
+use topo_core::KindRules;
+
+/// The rules of the topology rules poster, each by the rule of its row's kind. A row of a kind that is not built has no
+/// findings.
+#[derive(Clone, Copy)]
+pub struct PosterRules;
+
+impl RuleSet for PosterRules {
+    ghost meaning = { poster };
+
+    fn judge_row(
+        &self,
+        alloc: Global,
+        row: &RuleRow,
+        view: &View<'_>,
+        subject: u32,
+        work: &mut Work,
+    ) -> Result<Findings, NoMemory> {
+        match row.kind {
+            RuleKind::PolygonMustNotOverlap => {
+                let rule = PolygonMustNotOverlap::new(row.origin);
+                judge(&rule, alloc, view, subject, work)
+            }
+            RuleKind::PolygonMustNotOverlapWith => {
+                let rule = PolygonMustNotOverlapWith::new(row.origin, row.dest);
+                judge(&rule, alloc, view, subject, work)
+            }
+            RuleKind::PointMustBeDisjoint => {
+                let rule = PointMustBeDisjoint::new(row.origin);
+                judge(&rule, alloc, view, subject, work)
+            }
+            _ => {
+                work.raise();
+                Ok(Findings::new(alloc))
+            }
+        }
+    }
+
+    ghost laws = { poster_laws };
+
+    ghost right = { poster_cuts };
+
+    ghost views = { poster_views };
+}
+
+impl KindRules for PosterRules {
+    ghost kinds = { record { fits = λ row F fits. fits } };
+}

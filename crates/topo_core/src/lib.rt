@@ -1,0 +1,19 @@
+// A topology of any classes and any rules: each change is the one that the definitions name, and keeps it sound.
+#![tactic(auto)]
+
+mod fault;
+mod fitting;
+mod growth;
+mod kinds;
+mod no_rule;
+mod rule_fault;
+mod rules;
+mod topology;
+
+pub use fault::ChangeFault;
+pub use feature_store::{Feature, Kind, Name, NoMemory, Shape, StoreFault};
+pub use kinds::KindRules;
+pub use no_rule::NoRule;
+pub use rule_fault::RuleFault;
+pub use rule_core::RuleRow;
+pub use topology::{Summary, Topology};

@@ -1,0 +1,294 @@
+ghost use Rattle.std.specs.Prelude.{◌≡◌, ◌≢◌, ◌≤◌, ◌<◌, ◌-◌, length, None, IfSome, IfOk, IfErr, OnOk, OnErr};
+ghost use Rattle.topology_terms.specs.Project.{empty_project, rule_at, IsOrdered};
+ghost use Rattle.topology_terms.specs.Settled.{IsValidatedBy};
+ghost use Rattle.topology_terms.specs.Lookups.{class_number, least_free};
+ghost use Rattle.topology_terms.specs.Changes.{IsRuleAdded, IsRuleDropped};
+ghost use Rattle.topo_core.specs.RuleSteps.{MayAdd, IsRuleRefusal};
+ghost use Rattle.feature_store.specs.Keeps.{IsOfClass, IsStore};
+ghost use Rattle.topo_core.specs.Topologies.{IsKeptUnder, IsTopology};
+ghost use Rattle.topo_core.specs.Steps.{IsClassMore, IsClassRefusal, IsFeatureMore, IsAddRefusal, IsExchanged, IsChanged, IsChangeRefusal, IsDeleted, IsDeleteRefusal, IsCounted};
+
+use crate::fault::ChangeFault;
+use crate::fitting::fit;
+use crate::growth::{dirty_both, envelope_law, has_other_kind};
+use crate::kinds::KindRules;
+use crate::no_rule::NoRule;
+use crate::rule_fault::RuleFault;
+use crate::rules::{drop_from, free_number, has_number, number_of_row, put_rule};
+use dirty_area::Dirt;
+use error_store::Errors;
+use feature_store::{Store, StoreFault};
+use grid_plane::{Name, NoMemory, Rect};
+use rule_core::{InForce, RuleRow, Work};
+use shape::{Feature, Kind, Shape};
+use std::alloc::Global;
+use std::marker::Model;
+use validation::validate;
+
+// The most rules there may be.
+const RULE_LIMIT: usize = 256;
+
+/// What a validation did: how often a rule was tried on a subject, how many errors and how many dirty rectangles there are now.
+#[derive(Clone, Copy)]
+pub struct Summary {
+    pub judged: u64,
+    pub errors: u64,
+    pub dirty: u64,
+}
+
+/// A topology: classes and features, rules in force, what is dirty, and the errors that were found.
+///
+/// A call that answers an error leaves everything as it was. `NoMemory` may come of any call that may answer it.
+#[derive(Drop)]
+pub struct Topology<R> {
+    alloc: Global,
+    judging: R,
+    store: Store,
+    rules: Vec<InForce>,
+    dirt: Dirt,
+    entries: Errors,
+}
+
+impl<R> Model for Topology<R> {
+    ghost use Rattle.topology_terms.specs.Project.{Project};
+    ghost use Rattle.topo_core.specs.Topologies.{project_of, IsTopology};
+
+    ghost Value = { Project };
+
+    ghost view = { λ t. project_of t.store t.rules.items t.dirt t.entries };
+
+    ghost invariant = { λ t. IsTopology (project_of t.store t.rules.items t.dirt t.entries) };
+}
+
+// The law of what a store keeps.
+fn store_law(store: &Store)
+    ensures { IsStore store.now.classes store.now.features store.now.next }
+{
+    store.features();
+}
+
+impl<R: KindRules> Topology<R> {
+    /// Nothing, judged by these rules; the next handle is 1.
+    pub fn new(alloc: Global, judging: R) -> Topology<R>
+        ensures empty { result ≡ empty_project }
+        ensures kept { IsKeptUnder R.meaning result }
+    {
+        Topology {
+            alloc,
+            judging,
+            store: Store::new(alloc),
+            rules: Vec::new(alloc),
+            dirt: Dirt::new(alloc),
+            entries: Errors::new(alloc),
+        }
+    }
+
+    /// The law that rules, features and entries stand in the order of their keys, below the next handle.
+    pub fn order_law(&self)
+        ensures { IsOrdered self.now }
+    {
+        let _ = &self.store;
+    }
+
+    /// The law of what every topology keeps: classes and features as a store keeps them, rules by number and at most 256,
+    /// errors by key, each of a rule in force.
+    pub fn topology_law(&self)
+        ensures { IsTopology self.now }
+    {
+        let _ = &self.store;
+    }
+
+    /// Adds a class of this name and kind and answers its number, from 1 up. Refused where the name is taken, then where
+    /// there are 64 classes.
+    pub fn add_class(&mut self, name: Name, kind: Kind) -> Result<u16, StoreFault>
+        ensures ok { IfOk result (λ n. IsClassMore name kind n self.old self.new) }
+        ensures refused { IfErr result (IsClassRefusal self.old name) }
+        ensures kept { IsKeptUnder R.meaning self.old → IsKeptUnder R.meaning self.new }
+        ensures ordered { IsOrdered self.new }
+        ensures err { OnErr result (self.new ≡ self.old) }
+    {
+        let number = self.store.add_class(name, kind)?;
+        store_law(&self.store);
+        Ok(number)
+    }
+
+    /// Adds a feature of the class of this number under the next handle, and answers the handle; its envelope is dirty then.
+    /// Refused where there is no such class, then where the kinds differ, then where the next handle is 4,294,967,295.
+    pub fn add(&mut self, class: u16, shape: Shape) -> Result<u32, ChangeFault>
+        ensures ok { IfOk result (λ h. IsFeatureMore class shape h self.old self.new) }
+        ensures refused { IfErr result (IsAddRefusal self.old class shape) }
+        ensures kept { IsKeptUnder R.meaning self.old → IsKeptUnder R.meaning self.new }
+        ensures ordered { IsOrdered self.new }
+        ensures err { OnErr result (self.new ≡ self.old) }
+    {
+        let env = shape.env();
+        env.corner_law();
+        self.store.check_add(class, &shape)?;
+        self.store.room()?;
+        self.dirt.add(env)?;
+        let handle = self.store.add_in(class, shape);
+        store_law(&self.store);
+        Ok(handle)
+    }
+
+    /// Puts a rule in force under the least number from 1 that is free, and answers the number; the whole grid is dirty then.
+    /// Refused where a class is missing, then where the classes do not fit the rule, then where an equal rule is in force, then
+    /// where there are 256 rules.
+    pub fn add_rule(&mut self, row: RuleRow) -> Result<u16, RuleFault>
+        ensures ok { IfOk result (λ n. (n ≡ least_free self.old.rules) × IsRuleAdded n row self.old self.new) }
+        ensures may { OnOk result (MayAdd self.old row) }
+        ensures refused { IfErr result (IsRuleRefusal self.old row) }
+        ensures kept { IsKeptUnder R.meaning self.old → IsKeptUnder R.meaning self.new }
+        ensures ordered { IsOrdered self.new }
+        ensures err { OnErr result (self.new ≡ self.old) }
+    {
+        fit(&self.store, &row)?;
+        if let Some(number) = number_of_row(&self.rules, &row) {
+            return Err(RuleFault::There { number });
+        }
+        if self.rules.len() >= RULE_LIMIT {
+            return Err(RuleFault::Full);
+        }
+        let number = free_number(&self.rules);
+        self.rules.reserve(1)?;
+        self.dirt.add(Rect::whole())?;
+        put_rule(&mut self.rules, InForce { number, row });
+        Ok(number)
+    }
+
+    /// Puts the rule of this number out of force. It goes with its errors, and nothing becomes dirty. Refused where no rule in
+    /// force has this number. Takes no memory.
+    pub fn drop_rule(&mut self, number: u16) -> Result<(), NoRule>
+        ensures ok { OnOk result ((rule_at self.old.rules number ≢ None) × IsRuleDropped number self.old self.new) }
+        ensures refused { IfErr result (λ _. rule_at self.old.rules number ≡ None) }
+        ensures kept { IsKeptUnder R.meaning self.old → IsKeptUnder R.meaning self.new }
+        ensures ordered { IsOrdered self.new }
+        ensures err { OnErr result (self.new ≡ self.old) }
+    {
+        if !has_number(&self.rules, number) {
+            return Err(NoRule);
+        }
+        drop_from(&mut self.rules, number);
+        self.entries.drop_rule(number);
+        Ok(())
+    }
+
+    /// Exchanges the live feature of this handle, or its absence, with the kept one. The envelope of what stood there is dirty
+    /// then, and that of what stands there. After a refusal, want of memory, nothing has changed.
+    pub fn swap(&mut self, handle: u32, kept: &mut Option<Feature>) -> Result<(), NoMemory>
+        requires from_1 { 1 ≤ handle }
+        requires given { handle < self.old.next }
+        requires own { IfSome kept.old (λ f. f.handle ≡ handle) }
+        requires fits { IfSome kept.old (IsOfClass self.old.classes) }
+        ensures ok { OnOk result (IsExchanged handle kept.new kept.old self.old self.new) }
+        ensures own { IfSome kept.new (λ f. f.handle ≡ handle) }
+        ensures fits { IfSome kept.new (IsOfClass self.new.classes) }
+        ensures kept { IsKeptUnder R.meaning self.old → IsKeptUnder R.meaning self.new }
+        ensures ordered { IsOrdered self.new }
+        ensures err { OnErr result (self.new ≡ self.old) }
+        ensures same { OnErr result (kept.new ≡ kept.old) }
+    {
+        envelope_law(kept);
+        self.store.room()?;
+        dirty_both(&mut self.dirt, &self.store, handle, kept)?;
+        self.store.swap_in(handle, kept);
+        store_law(&self.store);
+        Ok(())
+    }
+
+    /// Gives the live feature of this handle another shape, and answers the feature as it was. Both envelopes are dirty then.
+    /// Refused where there is no such feature, then where the kinds differ.
+    pub fn change(&mut self, handle: u32, shape: Shape) -> Result<Feature, ChangeFault>
+        ensures ok { IfOk result (λ f. IsChanged handle shape f self.old self.new) }
+        ensures refused { IfErr result (IsChangeRefusal self.old handle shape) }
+        ensures kept { IsKeptUnder R.meaning self.old → IsKeptUnder R.meaning self.new }
+        ensures ordered { IsOrdered self.new }
+        ensures err { OnErr result (self.new ≡ self.old) }
+    {
+        let Some(feature) = self.store.get(handle) else {
+            return Err(ChangeFault::NoFeature);
+        };
+        if has_other_kind(&shape, feature) {
+            return Err(ChangeFault::WrongKind);
+        }
+        let class = feature.class();
+        let mut kept = Some(Feature::new(handle, class, shape));
+        self.swap(handle, &mut kept)?;
+        kept.ok_or(ChangeFault::NoFeature)
+    }
+
+    /// Takes the live feature of this handle away, and answers it. Its envelope is dirty then. Refused where there is no such
+    /// feature.
+    pub fn delete(&mut self, handle: u32) -> Result<Feature, ChangeFault>
+        ensures ok { IfOk result (λ f. IsDeleted handle f self.old self.new) }
+        ensures refused { IfErr result (IsDeleteRefusal self.old handle) }
+        ensures kept { IsKeptUnder R.meaning self.old → IsKeptUnder R.meaning self.new }
+        ensures ordered { IsOrdered self.new }
+        ensures err { OnErr result (self.new ≡ self.old) }
+    {
+        if self.store.get(handle).is_none() {
+            return Err(ChangeFault::NoFeature);
+        }
+        let mut kept = None;
+        self.swap(handle, &mut kept)?;
+        kept.ok_or(ChangeFault::NoFeature)
+    }
+
+    /// Validates the window: every rule in force judges each live feature of its subjects that the window and the dirt select,
+    /// the errors of the selected subjects give way to what is found, and the window is cut out of the dirt.
+    pub fn validate(&mut self, window: Rect, work: &mut Work) -> Result<Summary, NoMemory>
+        ensures ok { OnOk result (IsValidatedBy R.meaning window self.old self.new) }
+        ensures judged { OnOk result (IsCounted window self.old work.old work.new) }
+        ensures summary { IfOk result (λ s. (s.judged ≡ work.new - work.old) × (s.errors ≡ length self.new.entries) × (s.dirty ≡ length self.new.dirt)) }
+        ensures kept { IsKeptUnder R.meaning self.old → IsKeptUnder R.meaning self.new }
+        ensures ordered { IsOrdered self.new }
+        ensures err { OnErr result (self.new ≡ self.old) }
+    {
+        let before = work.judged();
+        validate(
+            &self.judging,
+            self.alloc,
+            &self.rules,
+            self.store.features(),
+            &mut self.entries,
+            &mut self.dirt,
+            &window,
+            work,
+        )?;
+        Ok(Summary {
+            judged: work.judged().saturating_sub(before),
+            errors: self.entries.len() as u64,
+            dirty: self.dirt.len() as u64,
+        })
+    }
+
+    /// The classes and the live features.
+    pub fn store(&self) -> &Store
+        ensures classes { result.now.classes ≡ self.now.classes }
+        ensures features { result.now.features ≡ self.now.features }
+        ensures next { result.now.next ≡ self.now.next }
+    {
+        &self.store
+    }
+
+    /// The rules in force, in the order of their numbers.
+    pub fn rules(&self) -> &[InForce]
+        ensures { result.now ≡ self.now.rules }
+    {
+        &self.rules
+    }
+
+    /// The dirty areas.
+    pub fn dirt(&self) -> &Dirt
+        ensures { result.now ≡ self.now.dirt }
+    {
+        &self.dirt
+    }
+
+    /// The errors.
+    pub fn errors(&self) -> &Errors
+        ensures { result.now ≡ self.now.entries }
+    {
+        &self.entries
+    }
+}

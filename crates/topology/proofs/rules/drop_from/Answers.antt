@@ -1,7 +1,0 @@
-use Rattle.std.proofs.Common.{rules}
-use Rattle.std.proofs.lemmas.Fn.{filter_same}
-use Rattle.topology.proofs.RulesLess.{is_other}
-use Rattle.topology.proofs.rules.drop_from.Goals as goal
-
-pub returns : goal.returns
-returns c = filter_same _ (is_other c.args.number) _ (λ x b q h. search rules) _ _ c.retain.ensures.filtered

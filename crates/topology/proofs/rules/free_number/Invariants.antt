@@ -1,9 +1,0 @@
-use Rattle.std.proofs.Common.{◌≡◌, ◌≤◌, ◌+◌, drop}
-use Rattle.topology.proofs.RuleLists.{run_on}
-use Rattle.topology.proofs.rules.free_number.Given as goal
-
-abbrev pub invariant-loop-rule : goal.invariant-loop-rule
-invariant-loop-rule l = record {
-  few : l.number ≤ l.rule-index + 1;
-  run : run_on l.number (drop l.rule-index l.rules) ≡ run_on 1 l.rules;
-}

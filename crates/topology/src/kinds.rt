@@ -1,9 +1,0 @@
-ghost use Rattle.topology.specs.Kinds.{TakesKinds};
-
-use rule_judging::RuleSet;
-
-/// All rules, each of which fits where the features of both sides have the kinds that it takes, and the segments of each
-/// polygon meet at ends alone.
-pub trait KindRules: RuleSet {
-    ghost kinds: { TakesKinds Self.meaning };
-}

@@ -1,0 +1,51 @@
+-- Ascending lists of handles, and which are among them.
+use Rattle.std.proofs.Common.{◌≡◌, ◌≢◌, ◌⊎◌, inl, inr, ℕ, ◌<◌, zero, suc, arith, List, [], ◌∷◌, sym, Contains, length, get_or}
+use Rattle.std.specs.List.Sorted.{IsStrictlyIncreasing}
+use Rattle.std.proofs.lemmas.List.Kept.{AllPairs-from_increasing}
+use Rattle.plane_terms.specs.Lists.{Every, SomeOf}
+use Rattle.validation_laws.specs.Parts.{IsRising}
+
+-- the number is among them
+abbrev pub IsAmong : ℕ → List ℕ → Type 0
+IsAmong a ns = SomeOf (λ (n : ℕ). a ≡ n) ns
+
+same_or_not : (m n : ℕ) → (m ≡ n) ⊎ (m ≢ n)
+same_or_not m n = grind arith
+
+pub among_or_not : (a : ℕ) (ns : List ℕ) → IsAmong a ns ⊎ ¬ (IsAmong a ns)
+among_or_not a [] = inr (λ h. h)
+among_or_not a (n ∷ ns) = elim (same_or_not a n) [
+  | inl e ↦ inl (inl e)
+  | inr d ↦ elim (among_or_not a ns) [ inl h ↦ inl (inr h) | inr m ↦ inr (λ h. elim h [ inl e ↦ d e | inr k ↦ m k ]) ]
+]
+
+pub among : (a : ℕ) (ns : List ℕ) → Contains ns a → IsAmong a ns
+among a ns h = at_index a ns h.0 h.1 h.2
+  where
+    at_index : (a : ℕ) (ns : List ℕ) (k : ℕ) → k < length ns → get_or ns k a ≡ a → IsAmong a ns
+    at_index a [] k l e = absurd (omega arith)
+    at_index a (n ∷ ns) zero l e = inl (sym e)
+    at_index a (n ∷ ns) (suc k) l e = inr (at_index a ns k (omega arith) e)
+
+pub contained : (a : ℕ) (ns : List ℕ) → IsAmong a ns → Contains ns a
+contained a [] h = absurd h
+contained a (n ∷ ns) h = elim h [
+  | inl e ↦ (0, omega arith, sym e)
+  | inr k ↦ let r = contained a ns k in (suc r.0, omega (arith, r.1), r.2)
+]
+
+-- a number below all is below each
+pub below_each : (a b : ℕ) (ns : List ℕ) → Every (λ (n : ℕ). a < n) ns → IsAmong b ns → a < b
+below_each a b [] h k = absurd k
+below_each a b (n ∷ ns) h k = elim k [ inl e ↦ omega (arith, h.0) | inr m ↦ below_each a b ns h.1 m ]
+
+all_above : (a : ℕ) (ns : List ℕ) → ((k : ℕ) → k < length ns → a < get_or ns k 0) → Every (λ (n : ℕ). a < n) ns
+all_above a [] h = tt
+all_above a (n ∷ ns) h = (h 0 (omega arith), all_above a ns (λ k l. h (suc k) (omega arith)))
+
+rising_pairs : (ns : List ℕ) → ((i j : ℕ) (d : ℕ) → i < j → j < length ns → get_or ns i d < get_or ns j d) → IsRising ns
+rising_pairs [] h = tt
+rising_pairs (n ∷ ns) h = (all_above n ns (λ k l. h 0 (suc k) 0 (omega arith) (omega arith)), rising_pairs ns (λ i j d l m. h (suc i) (suc j) d (omega arith) (omega arith)))
+
+pub rising : (ns : List ℕ) → IsStrictlyIncreasing ns → IsRising ns
+rising ns u = rising_pairs ns (AllPairs-from_increasing ns u)
