@@ -119,6 +119,23 @@ def wrong_aims():
             yield '%s: no public function %s::%s has a clause %s' % (path, aim[0], '::'.join(aim[1]), aim[2])
 
 
+def wrong_texts():
+    """A line for each wrong body that cannot be put in: its old text does not stand there once."""
+    for path, _ in edits():
+        crate, source, text, old = os.path.join(ROOT, os.path.dirname(os.path.dirname(path))), None, '', None
+        for line in text_of(os.path.join(ROOT, path)).split('\n'):
+            word, _, rest = line.partition(': ')
+            if word == 'file':
+                source = os.path.join(crate, rest)
+                text = text_of(source) if os.path.exists(source) else ''
+            elif word == 'old':
+                old = rest
+            elif word == 'new':
+                if text.count(old) != 1:
+                    yield '%s: %r stands %d times in its file' % (path, old, text.count(old))
+                text = text.replace(old, rest)
+
+
 def counts():
     """Each public clause with the number of wrong bodies that are aimed at it."""
     aims = [aim for _, aim in edits() if aim]
