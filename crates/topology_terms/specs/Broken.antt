@@ -9,13 +9,13 @@
 --                  proper, those of a polygon meet at ends alone, and a polygon has some
 --
 -- Each rule's sentence stands in a file of its own in `Rules/`. Source: the ArcGIS topology rules poster, read point by point (own).
-use Rattle.std.specs.Prelude.{◌≡◌, ◌≢◌, ℕ, Bool, true, false, ◌&&◌, ◌||◌, List, [], Some, IfSome}
+use Rattle.std.specs.Prelude.{◌≡◌, ◌≢◌, ℕ, Bool, ◌&&◌, ◌||◌, List, [], Some, IfSome}
 use Rattle.plane_terms.specs.Lists.{Every}
 use Rattle.plane_terms.specs.Point.{Point}
 use Rattle.plane_terms.specs.Segment.{IsSegment}
 use Rattle.plane_terms.specs.Polygon.{IsSimpleList}
 use Rattle.plane_terms.specs.declared.kind.Kind.TheVariants as shapes
-use Rattle.rule_words.specs.Table.{origin_of, dest_of}
+use Rattle.rule_words.specs.Table.{origin_of, dest_of, judges_either}
 use Rattle.rule_words.specs.declared.rule_kind.RuleKind.{RuleKind}
 use Rattle.rule_words.specs.declared.rule_kind.RuleKind.TheVariants as rule
 use Rattle.topology_terms.specs.Feature.{Feature, Side, is_on_side, IsOf, feature_at, sides, IsAscending}
@@ -92,11 +92,6 @@ BrokenAt row F a b p = broken_at row.kind row.origin row.dest F a b p
 
 unfoldable pub BrokenWhole : Row → List Feature → ℕ → Type 0
 BrokenWhole row F a = broken_whole row.kind row.origin row.dest F a
-
--- the rule judges the features of both its classes
-abbrev pub judges_either : RuleKind → Bool
-judges_either rule.PolygonMustCoverEachOther = true
-judges_either other = false
 
 abbrev pub judged : Row → Feature → Bool
 judged row f = is_on_side row.origin f || (judges_either row.kind && is_on_side row.dest f)
