@@ -1,3 +1,5 @@
+pub mod Keyed
+pub mod Searches
 pub mod Planes
 pub mod Dirts
 pub mod Edits
