@@ -37,14 +37,21 @@ pub run_free : (qs : List InForce) (n : ℕ) → AreAscending qs → rule_at qs 
 unfolding rule_at
 run_free [] n a = refl
 run_free (q ∷ qs) n a = elim (eqb_tells q.number n) [
-  | inl t ↦ let l = run_from qs (n + 1) in rw t.0 (past_number q qs (run_on (n + 1) qs) (ne_eqb q.number (run_on (n + 1) qs) (λ e. let k = t.1 in omega arith)) ∙ run_free qs (n + 1) a.1)
-  | inr t ↦ rw t.0 (elim (eqb_tells q.number (run_on n qs)) [
-    | inl s ↦
-        let l = run_from qs n in
-        let below : n ≤ q.number = (let k = s.1 in omega arith) in
-        absurd (t.1 (s.1 ∙ run_above qs n q.number below a.0))
-    | inr s ↦ past_number q qs (run_on n qs) s.0 ∙ run_free qs n a.1
-  ])
+  | inl t ↦
+      let m = run_on (n + 1) qs in
+      let l = run_from qs (n + 1) in
+      let on : m ≡ run_on n (q ∷ qs) = rw t.0 refl in
+      subst (λ k. rule_at (q ∷ qs) k ≡ None) on (past_number q qs m (ne_eqb q.number m (λ e. let k = t.1 in omega arith)) ∙ run_free qs (n + 1) a.1)
+  | inr t ↦
+      let m = run_on n qs in
+      let on : m ≡ run_on n (q ∷ qs) = rw t.0 refl in
+      subst (λ k. rule_at (q ∷ qs) k ≡ None) on (elim (eqb_tells q.number m) [
+        | inl s ↦
+            let l = run_from qs n in
+            let below : n ≤ q.number = (let k = s.1 in omega arith) in
+            absurd (t.1 (s.1 ∙ run_above qs n q.number below a.0))
+        | inr s ↦ past_number q qs m s.0 ∙ run_free qs n a.1
+      ])
 ]
 
 run_taken : (qs : List InForce) (n k : ℕ) → n ≤ k → k < run_on n qs → is_some (rule_at qs k) ≡ true
