@@ -1,5 +1,5 @@
 -- Findings of one place, and of cells, a partner each.
-use Rattle.std.proofs.Common.{◌≡◌, ◌≢◌, inl, inr, ℕ, true, false, refl, sym, ap, ◌∙◌, List, [], ◌∷◌, ◌++◌, Some, None}
+use Rattle.std.proofs.Common.{◌≡◌, ◌≢◌, inl, inr, ℕ, true, false, refl, sym, ap, subst, ◌∙◌, List, [], ◌∷◌, ◌++◌, Some, None}
 use Rattle.std.specs.Prelude.{◌==◌}
 use Rattle.plane_terms.specs.Point.{Place}
 use Rattle.plane_terms.specs.Lists.{IsThose}
@@ -54,7 +54,7 @@ those_found P q (f ∷ gs) chosen h b g e p = elim h [
   | inl a ↦
       let zs = a.1.0 in
       rw a.1.1 (elim (bool_cases (f.handle == b)) [
-        | inl t ↦ let n : f.handle ≡ b = same_handle f.handle b t in rw (← n) (at_other (found_at q f.handle) (place_findings q zs) f.handle (own_handle f.handle))
+        | inl t ↦ subst (λ h. finding_at (found_at q f.handle ∷ place_findings q zs) h ≡ Some (found_at q h)) (same_handle f.handle b t) (at_other (found_at q f.handle) (place_findings q zs) f.handle (own_handle f.handle))
         | inr t ↦ past_other (found_at q f.handle) (place_findings q zs) b t ∙ those_found P q gs zs a.1.2 b g (sym (past_handle f gs b t) ∙ e) p
       ])
   | inr a ↦ elim (bool_cases (f.handle == b)) [
