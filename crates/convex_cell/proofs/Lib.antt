@@ -3,7 +3,6 @@ pub mod Ranges
 pub mod PairCuts
 pub mod Empty
 pub mod Sums
-pub mod Segments
 pub mod Results
 pub mod Same
 pub mod Codes

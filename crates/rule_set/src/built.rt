@@ -1,5 +1,5 @@
 ghost use Rattle.std.specs.Prelude.{◌≡◌};
-ghost use Rattle.topology_terms.specs.Sentences.{is_built};
+ghost use Rattle.topology_terms.specs.Built.{is_built};
 
 use rule_words::RuleKind;
 

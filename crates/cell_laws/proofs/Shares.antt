@@ -6,17 +6,15 @@ use Rattle.std.proofs.lemmas.Bool.Decides.{Decides-and, Decides-or, Decides-int_
 use Rattle.std.proofs.lemmas.Int.{ints}
 use Rattle.std.proofs.lemmas.Bool.{false≢true, cases_Bool}
 use Rattle.plane_terms.specs.Point.{Place, Point, IsAt}
-use Rattle.plane_terms.specs.Segment.{Segment, IsSegment, OnSegment, IsEndOf, SharePoint, Overlap, IsBetween, comes_before}
-use Rattle.plane_terms.proofs.Points.{point_at}
+use Rattle.plane_terms.specs.Segment.{Segment, IsSegment, IsEndOf, SharePoint, Overlap, comes_before}
 use Rattle.number_laws.proofs.Ring.{num, ◌⊖◌, ◌⊗◌, same_by}
-use Rattle.number_laws.proofs.Order.{zero_unscaled, scaled_le, cases_order_ℤ}
+use Rattle.number_laws.proofs.Order.{zero_unscaled, cases_order_ℤ}
 use Rattle.number_laws.proofs.Tests.{Decides-int_lt}
-use Rattle.grid_plane.specs.Rectangles.{HoldsAt}
-use Rattle.grid_plane.specs.Share.{AreSame, MeetOnce, CrossOnce, TouchOnce, turn, one_side, share_on_line, is_beside, is_parallel, has_end_on, share_of}
-use Rattle.grid_plane.specs.declared.share.Share.{Share}
-use Rattle.grid_plane.specs.declared.share.Share.TheVariants.{Nothing, Along, Cross, Touch}
-use Rattle.grid_plane.proofs.Meeting.{NoneShared, apart_over, apart_under, apart_sym, turns_differ, Straddle, NoEnds, SomeEnd, cross_once, touch_once, cross_sym, touch_sym, turn_zero, at_turn, times_zero}
-use Rattle.grid_plane.proofs.OnLine.{Before, Upto, cases_before, not_before, apart_before, touch_at, overlap, OnOneLine, both_upto, from_lo, to_hi, on_from_order, at_itself}
+use Rattle.plane_terms.specs.Share.{AreSame, MeetOnce, CrossOnce, TouchOnce, turn, one_side, share_on_line, is_beside, is_parallel, has_end_on, share_of}
+use Rattle.plane_terms.specs.declared.share.Share.{Share}
+use Rattle.plane_terms.specs.declared.share.Share.TheVariants.{Nothing, Along, Cross, Touch}
+use Rattle.cell_laws.proofs.Meeting.{NoneShared, apart_over, apart_under, apart_sym, turns_differ, Straddle, NoEnds, SomeEnd, cross_once, touch_once, cross_sym, touch_sym}
+use Rattle.cell_laws.proofs.OnLine.{Before, Upto, cases_before, not_before, apart_before, touch_at, overlap, OnOneLine, both_upto}
 
 abbrev pub Means : Share → Segment → Segment → Type 0
 Means Nothing s t = NoneShared s t
@@ -31,7 +29,7 @@ Decides-before p q = Decides-or _ _ (Decides-int_lt p.x q.x) (Decides-and _ _ (D
 pub read_before : (p q : Place) → comes_before p q ≡ true → Before p.x p.y q.x q.y
 read_before p q e = (Decides-before p q).0 e
 
-before_not : (p q : Place) → Upto q.x q.y p.x p.y → comes_before p q ≡ false
+pub before_not : (p q : Place) → Upto q.x q.y p.x p.y → comes_before p q ≡ false
 before_not p q u = elim (cases_Bool (comes_before p q)) [ inl e ↦ absurd (not_before p.x p.y q.x q.y (read_before p q e) u) | inr e ↦ e ]
 
 pub read_not_before : (p q : Place) → comes_before p q ≡ false → Upto q.x q.y p.x p.y
@@ -268,38 +266,3 @@ exactly r s t h k = (λ e. subst (λ x. Means x s t) e h, λ m. means_one r k s 
 -- ---- in the words of the plane
 pub none_shared : (r : Share) (s t : Segment) → (r ≡ Nothing) ↔ NoneShared s t → (r ≡ Nothing) ↔ ¬ (SharePoint s t)
 none_shared r s t e = (λ h p. (e.0 h).never p.0 p.1 p.2, λ n. e.1 (record { never = λ p o q. n (p, o, q) }))
-
--- ---- a place on a segment
-unit : (v : ℤ) → v *ℤ pos 1 ≡ v
-unit v = omega (arith, ints)
-
-pub off_before : (s : Segment) (q : Place) → IsSegment s → comes_before q s.lo ≡ true → ¬ (OnSegment s (point_at q))
-off_before s q g e = λ o.
-    let u : Upto s.lo.x s.lo.y q.x q.y = rw (unit s.lo.x, unit s.lo.y) at (from_lo s (point_at q) g o) in
-    false≢true (sym (before_not q s.lo u) ∙ e)
-
-pub off_after : (s : Segment) (q : Place) → IsSegment s → comes_before s.hi q ≡ true → ¬ (OnSegment s (point_at q))
-off_after s q g e = λ o.
-    let u : Upto q.x q.y s.hi.x s.hi.y = rw (unit s.hi.x, unit s.hi.y) at (to_hi s (point_at q) g o) in
-    false≢true (sym (before_not s.hi q u) ∙ e)
-
-pub turn_on : (s : Segment) (q : Place) → OnSegment s (point_at q) → turn s q ≡ pos 0
-turn_on s q o = turn_zero s q (point_at q) (at_itself q) o
-
-between_scaled : (a b v x : ℤ) (w : ℕ) → x ≡ v *ℤ pos w → IsBetween (a *ℤ pos 1) (b *ℤ pos 1) v → IsBetween (a *ℤ pos w) (b *ℤ pos w) x
-between_scaled a b v x w e (inl h) = inl (omega (arith, ints, e, scaled_le a v w (omega (arith, ints, h.0))), omega (arith, ints, e, scaled_le v b w (omega (arith, ints, h.1))))
-between_scaled a b v x w e (inr h) = inr (omega (arith, ints, e, scaled_le b v w (omega (arith, ints, h.0))), omega (arith, ints, e, scaled_le v a w (omega (arith, ints, h.1))))
-
--- all points at a place are on the segment where one is
-pub on_at : (s : Segment) (q : Place) → OnSegment s (point_at q) ↔ HoldsAt q (OnSegment s)
-on_at s q = (
-  λ o p a. record {
-    straight = rw (a.x, a.y) (at_turn s.lo.x s.lo.y s.hi.x s.hi.y q.x q.y (pos p.w) ∙ times_zero (pos p.w) (turn s q) (turn_on s q o));
-    across = between_scaled s.lo.x s.hi.x q.x p.x p.w a.x o.across;
-    along = between_scaled s.lo.y s.hi.y q.y p.y p.w a.y o.along;
-  },
-  λ h. h (point_at q) (at_itself q),
-)
-
-pub on_within : (s : Segment) (q : Place) → IsSegment s → comes_before q s.lo ≡ false → comes_before s.hi q ≡ false → turn s q ≡ pos 0 → OnSegment s (point_at q)
-on_within s q g e f z = on_from_order s q g z (read_not_before q s.lo e) (read_not_before s.hi q f)

@@ -5,7 +5,7 @@ use Rattle.std.specs.Int.{int_min, int_max}
 use Rattle.plane_terms.specs.Point.{Point}
 use Rattle.plane_terms.specs.Rectangle.{RectHolds, RectsMeet}
 use Rattle.plane_terms.specs.Segment.{Segment, IsSegment, IsBetween, OnSegment, box_of}
-use Rattle.grid_plane.proofs.Meeting.{NoneShared}
+use Rattle.cell_laws.proofs.Meeting.{NoneShared}
 use Rattle.number_laws.proofs.Order.{scaled_le}
 
 pub ends_rise : (s : Segment) → IsSegment s → s.lo.x ≤ℤ s.hi.x

@@ -5,7 +5,7 @@ use Rattle.plane_terms.specs.Point.{Point}
 use Rattle.plane_terms.specs.HalfPlane.{Holds, value_at}
 use Rattle.plane_terms.specs.Segment.{Segment, cross, left_of, right_of, on_line}
 use Rattle.number_laws.proofs.Ring.{num, neg, ◌⊕◌, ◌⊖◌, ◌⊗◌, same_by}
-use Rattle.grid_plane.proofs.Meeting.{form_xy}
+use Rattle.cell_laws.proofs.Meeting.{form_xy}
 
 left_value : (s : Segment) (p : Point) → value_at (left_of s) p ≡ cross s p
 left_value s p = form_xy s.lo.x s.lo.y s.hi.x s.hi.y p.x p.y (pos p.w)
