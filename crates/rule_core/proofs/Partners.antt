@@ -50,7 +50,7 @@ at_place P [] i g k e = cc
 at_place P (f ∷ F) zero g k e = let s : f ≡ g = cc in subst P s k.0
 at_place P (f ∷ F) (suc i) g k e = at_place P F i g k.1 e
 
-within : (F : List Feature) (i : ℕ) (g : Feature) → slice_get F i ≡ Some g → i < length F
+pub within : (F : List Feature) (i : ℕ) (g : Feature) → slice_get F i ≡ Some g → i < length F
 within [] i g e = cc
 within (f ∷ F) zero g e = omega arith
 within (f ∷ F) (suc i) g e = let l = within F i g e in omega arith

@@ -1,7 +1,7 @@
 ghost use Rattle.std.specs.Prelude.{◌≡◌, ◌==◌, List, filter, IfOk};
 ghost use Rattle.plane_terms.specs.Cell as planes;
 ghost use Rattle.topology_terms.specs.Feature.{Feature, IsAscending};
-ghost use Rattle.topology_terms.specs.Cutting as cutting;
+ghost use Rattle.topology_terms.specs.Plans as plans;
 ghost use Rattle.rule_loops.specs.Views.{of_class, later_of};
 
 use crate::single::push_cells;
@@ -42,7 +42,7 @@ pub fn with_later<C: Common>(
     work: &mut Work,
 ) -> Result<Findings, NoMemory>
     requires { IsAscending view.now }
-    ensures found { IfOk result (λ xs. xs ≡ cutting.pair_findings (C.common common.now) (filter (later_of class subject.now) view.now)) }
+    ensures found { IfOk result (λ xs. xs ≡ plans.pair_findings (C.common common.now) (filter (later_of class subject.now) view.now)) }
     ensures uncounted { work.new ≡ work.old }
 {
     let mut findings = Findings::new(alloc);
@@ -65,7 +65,7 @@ pub fn with_class<C: Common>(
     work: &mut Work,
 ) -> Result<Findings, NoMemory>
     requires { IsAscending view.now }
-    ensures found { IfOk result (λ xs. xs ≡ cutting.pair_findings (C.common common.now) (of_class class view.now)) }
+    ensures found { IfOk result (λ xs. xs ≡ plans.pair_findings (C.common common.now) (of_class class view.now)) }
     ensures uncounted { work.new ≡ work.old }
 {
     let mut findings = Findings::new(alloc);
