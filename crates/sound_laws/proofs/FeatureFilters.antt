@@ -41,6 +41,14 @@ pub same_kept : (s t : Feature → Bool) (F : List Feature) → Every (λ (g : F
 same_kept s t [] k = refl
 same_kept s t (f ∷ F) k = same_pick (s f) (t f) f (filter s F) (filter t F) k.0 (same_kept s t F k.1)
 
+-- so do tests that are one
+pub filter_same : (s t : Feature → Bool) (F : List Feature) → ((g : Feature) → s g ≡ t g) → filter s F ≡ filter t F
+filter_same s t F e = same_kept s t F (each F)
+  where
+    each : (G : List Feature) → Every (λ (g : Feature). s g ≡ t g) G
+    each [] = tt
+    each (g ∷ G) = (e g, each G)
+
 -- of what passes one test, what passes another
 pub kept_twice : (s t : Feature → Bool) (F : List Feature) → filter s (filter t F) ≡ filter (λ g. t g && s g) F
 kept_twice s t [] = refl
