@@ -1,8 +1,9 @@
 -- Of a view, those around its subject are those of the class, and what is found among them is the rule's cutting.
-use Rattle.std.proofs.Common.{◌≡◌, ℕ, Bool, true, false, List, Some, refl, sym, ◌∙◌, ap}
+use Rattle.std.proofs.Common.{◌≡◌, ℕ, Bool, true, false, List, [], Some, refl, sym, ◌∙◌, ap}
 use Rattle.std.specs.Prelude.{if◌then◌else◌}
 use Rattle.topology_terms.specs.Feature.{Feature, Side, feature_at, is_on_side}
 use Rattle.topology_terms.specs.Broken.{Row, judged}
+use Rattle.topology_terms.specs.Built.{is_built}
 use Rattle.topology_terms.specs.Meaning.{Finding}
 use Rattle.topology_terms.specs.Plans.{Around, Later, Own, Second, Other, around, side_by, Plan, WithEach, Alone, Whole, plan_of, cut_by, IsCutting}
 use Rattle.rule_core.specs.Shown.{IsShown}
@@ -38,4 +39,4 @@ seen_cut row V a f shown e xs h =
     let l = shown.live in
     let same : shown.subject ≡ f = cc in
     let j : judged row f ≡ true = rw same at shown.judged in
-    (f, e, rw j (h ∙ sym (plan_seen (plan_of row.kind) row V f (λ who. around_seen who row V a f shown e))))
+    (f, e, rw j (h ∙ sym (ap (λ (xs : List Finding). if is_built row.kind then xs else []) (plan_seen (plan_of row.kind) row V f (λ who. around_seen who row V a f shown e)))))

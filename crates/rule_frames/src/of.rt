@@ -1,7 +1,6 @@
 ghost use Rattle.std.specs.Prelude.{◌≡◌, IfOk};
 ghost use Rattle.topology_terms.specs.Poster.{poster};
-ghost use Rattle.rule_laws.proofs.Posters.{poster_laws, poster_cuts};
-ghost use Rattle.rule_laws.proofs.Views.{poster_views};
+ghost use Rattle.rule_laws.proofs.Posters.{poster_laws, poster_cuts, poster_views};
 
 use crate::kinded::Kinded;
 use grid_plane::NoMemory;
