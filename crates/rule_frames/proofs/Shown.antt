@@ -1,6 +1,6 @@
 -- Of a view, those around its subject are those of the class, and what is found among them is the rule's cutting.
 use Rattle.std.proofs.Common.{◌≡◌, ℕ, Bool, true, false, List, [], Some, refl, sym, ◌∙◌, ap}
-use Rattle.std.specs.Prelude.{if◌then◌else◌}
+use Rattle.std.specs.Prelude.{◌&&◌, if◌then◌else◌}
 use Rattle.topology_terms.specs.Feature.{Feature, Side, feature_at, is_on_side}
 use Rattle.topology_terms.specs.Broken.{Row, judged}
 use Rattle.topology_terms.specs.Built.{is_built}
@@ -32,6 +32,10 @@ plan_seen (WithEach who cells) row V f e = rw (e who) refl
 plan_seen (Alone who cells) row V f e = rw (e who) refl
 plan_seen (Whole who test) row V f e = rw (e who) refl
 
+if_both : (b : Bool) (xs : List Finding) → (if b && true then xs else []) ≡ (if b then xs else [])
+if_both true xs = refl
+if_both false xs = refl
+
 -- what is found among those seen is the rule's cutting, whatever the rule
 pub seen_cut : (row : Row) (V : List Feature) (a : ℕ) (f : Feature) → IsShown row V a → feature_at V a ≡ Some f → (xs : List Finding) → xs ≡ cut_seen row V f → IsCutting row V a xs
 unfolding IsCutting
@@ -39,4 +43,6 @@ seen_cut row V a f shown e xs h =
     let l = shown.live in
     let same : shown.subject ≡ f = cc in
     let j : judged row f ≡ true = rw same at shown.judged in
-    (f, e, rw j (h ∙ sym (ap (λ (xs : List Finding). if is_built row.kind then xs else []) (plan_seen (plan_of row.kind) row V f (λ who. around_seen who row V a f shown e)))))
+    let ys = cut_by (plan_of row.kind) row V f in
+    let same_plan : ys ≡ cut_plan (plan_of row.kind) row V f = plan_seen (plan_of row.kind) row V f (λ who. around_seen who row V a f shown e) in
+    (f, e, rw j (h ∙ sym (if_both (is_built row.kind) ys ∙ ap (λ (zs : List Finding). if is_built row.kind then zs else []) same_plan)))

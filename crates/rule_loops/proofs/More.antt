@@ -1,5 +1,5 @@
 -- A loop over a view or over segments: what has been made with one feature more, and where nothing is left to carve.
-use Rattle.std.proofs.Common.{◌≡◌, ℕ, ◌+◌, ◌<◌, Bool, true, false, List, [], ◌∷◌, ◌++◌, Some, refl, sym, ◌∙◌, ap, take, drop, length, get_or, cond, map, append-nil}
+use Rattle.std.proofs.Common.{◌≡◌, ℕ, ◌+◌, ◌<◌, Bool, true, false, List, [], ◌∷◌, ◌++◌, Some, refl, sym, ◌∙◌, ap, take, drop, length, get_or, cond, map, append-nil, arith}
 use Rattle.std.specs.Prelude.{slice_get, not, ◌==◌, flat_map}
 use Rattle.std.specs.List.{filter}
 use Rattle.std.proofs.lemmas.Grind.{flat_map-append}

@@ -1,12 +1,11 @@
 ghost use Rattle.std.specs.Prelude.{◌≡◌, [], IfOk, map};
 ghost use Rattle.plane_terms.specs.Cell as planes;
-ghost use Rattle.plane_terms.specs.Segment.{Segment};
 ghost use Rattle.topology_terms.specs.Plans as plans;
 ghost use Rattle.rule_loops.specs.Views.{of_class, other_of};
 
-use crate::polygon::outside_of;
+use crate::polygon::{boundary_of, outside_of};
 use convex_cell::{Cell, Cells};
-use grid_plane::{NoMemory, Seg};
+use grid_plane::NoMemory;
 use rule_core::{View, Work};
 use shape::Feature;
 use std::alloc::Global;
@@ -22,17 +21,6 @@ fn weakened(alloc: Global, cells: &Cells) -> Result<Cells, NoMemory>
         weak.push(cell)?;
     }
     Ok(weak)
-}
-
-// The cells of these segments.
-fn on_segments(alloc: Global, segments: &[Seg]) -> Result<Cells, NoMemory>
-    ensures { IfOk result (λ cells. cells ≡ map {A = Segment} planes.on_segment segments.now) }
-{
-    let mut cells = Cells::new(alloc);
-    for segment in segments {
-        cells.push(Cell::on_seg(alloc, segment)?)?;
-    }
-    Ok(cells)
 }
 
 fn is_other(class: u16, subject: &Feature, other: &Feature) -> bool
@@ -87,6 +75,6 @@ pub fn gap_cells(
     ensures uncounted { work.new ≡ work.old }
 {
     let ground = open_ground(alloc, class, subject, view, work)?;
-    let boundary = on_segments(alloc, subject.shape().segs())?;
+    let boundary = boundary_of(alloc, subject)?;
     boundary.carve(alloc, &weakened(alloc, &ground)?)
 }

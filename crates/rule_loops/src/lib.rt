@@ -11,6 +11,6 @@ mod single;
 pub use area::area_left;
 pub use common::{Common, with_class, with_later};
 pub use gaps::gap_cells;
-pub use polygon::{inside_of, outside_of};
+pub use polygon::{boundary_of, inside_of, outside_of};
 pub use sides::sides_left;
 pub use single::found;

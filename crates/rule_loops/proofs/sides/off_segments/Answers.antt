@@ -1,9 +1,12 @@
 use Rattle.std.proofs.Common.{◌≡◌, sym, ◌∙◌, ap, refl}
 use Rattle.plane_terms.specs.Carve.{carve_of}
 use Rattle.topology_terms.specs.Cells.{box_meets}
-use Rattle.rule_loops.proofs.More.{off_more, off_same}
+use Rattle.rule_loops.proofs.More.{off_more, off_same, off_none}
 use Rattle.rule_loops.proofs.sides.off_segments.Goals.{then-meets+in_ok-out_of_seg+in_ok-left, else-meets}
 use Rattle.rule_loops.proofs.sides.off_segments.Goals as goal
+
+pub returns-then-len-eq0 : goal.returns-then-len-eq0
+returns-then-len-eq0 c = off_none c.args.segment.now c.args.others.now c.loop-other.other-index c.args.cells c.loop-other.left c.loop-other.invariant (sym c.len.ensures ∙ c.if-len-eq0.true)
 
 pub loop-other-preserved : goal.loop-other-preserved
 loop-other-preserved c =

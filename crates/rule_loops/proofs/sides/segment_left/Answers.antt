@@ -1,9 +1,12 @@
-use Rattle.std.proofs.Common.{◌≡◌, ◌∙◌, ap, refl}
+use Rattle.std.proofs.Common.{◌≡◌, sym, ◌∙◌, ap, refl}
 use Rattle.topology_terms.specs.Feature.{sides}
 use Rattle.topology_terms.specs.Cells.{uncovered, out_of_segments}
-use Rattle.rule_loops.proofs.More.{segment_more, segment_same, class_is, class_is_not}
+use Rattle.rule_loops.proofs.More.{segment_more, segment_same, segment_none, class_is, class_is_not}
 use Rattle.rule_loops.proofs.sides.segment_left.Goals.{then-class+in_ok-left, else-class}
 use Rattle.rule_loops.proofs.sides.segment_left.Goals as goal
+
+pub returns-then-len-eq0 : goal.returns-then-len-eq0
+returns-then-len-eq0 c = segment_none c.args.segment.now c.args.class c.args.view.now c.loop-i.i c.loop-i.left c.loop-i.invariant (sym c.len.ensures ∙ c.if-len-eq0.true)
 
 pub loop-i-preserved : goal.loop-i-preserved
 loop-i-preserved c =
