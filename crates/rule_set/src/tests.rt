@@ -151,8 +151,8 @@ fn wells_are_at_one_place_or_side_by_side(rt: HostRuntime) -> Result<(), Fail> {
 #[test]
 fn a_rule_that_is_not_built_finds_nothing(rt: HostRuntime) -> Result<(), Fail> {
     let alloc = rt.alloc();
-    assert!(rt; !is_built(RuleKind::PolygonMustNotHaveGaps));
-    let mut city = city(alloc, RuleKind::PolygonMustNotHaveGaps, LOTS, 0)?;
+    assert!(rt; !is_built(RuleKind::LineMustBeSinglePart));
+    let mut city = city(alloc, RuleKind::LineMustBeSinglePart, LOTS, 0)?;
     city.add(LOTS, square(alloc, 0, 0)?)?;
     let summary = city.validate(Rect::whole(), &mut Work::new())?;
     assert_eq!(rt; summary.judged, 1);
