@@ -17,7 +17,7 @@ use Rattle.topology_terms.specs.Plans.{near, finding_of, Around, Later, side_by,
 use Rattle.topology_terms.specs.Together.{of_side}
 use Rattle.sound_laws.proofs.Dirts.{bool_cases}
 use Rattle.sound_laws.proofs.FeatureLists.{handle_of, same_handle}
-use Rattle.sound_laws.proofs.FeatureFilters.{each_live}
+use Rattle.sound_laws.proofs.FeatureLists.{each_live}
 use Rattle.rule_laws.proofs.Nears.{near_ascends, near_of}
 use Rattle.rule_laws.proofs.Families.{IsFit, AreFit, AreExact, AloneBreaks}
 use Rattle.rule_laws.proofs.Lists.{side_each}

@@ -8,7 +8,7 @@ use Rattle.topology_terms.specs.Feature.{Feature, Side, IsOf, is_on_side, featur
 use Rattle.topology_terms.specs.Together.{of_side}
 use Rattle.sound_laws.proofs.Dirts.{bool_cases}
 use Rattle.sound_laws.proofs.FeatureLists.{of_filter, same_handle, feature_at-filter, ascending_filter, same_features, at_handle, past_handle}
-use Rattle.sound_laws.proofs.FeatureFilters.{each_live}
+use Rattle.sound_laws.proofs.FeatureLists.{each_live}
 use Rattle.rule_laws.proofs.Nears.{kept_at, passing_same}
 
 -- maps that have the same features among those that pass, have the same list of them

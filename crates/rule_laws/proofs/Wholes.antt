@@ -15,7 +15,7 @@ use Rattle.topology_terms.specs.Plans.{near, Around, Later, side_by, around, who
 use Rattle.topology_terms.specs.Together.{of_side}
 use Rattle.sound_laws.proofs.Dirts.{bool_cases}
 use Rattle.sound_laws.proofs.FeatureLists.{same_handle}
-use Rattle.sound_laws.proofs.FeatureFilters.{each_live}
+use Rattle.sound_laws.proofs.FeatureLists.{each_live}
 use Rattle.rule_laws.proofs.Nears.{near_same, near_ascends, near_of}
 use Rattle.rule_laws.proofs.Families.{IsFit, AreFit, AreExact, WholeBreaks}
 use Rattle.rule_laws.proofs.Lists.{side_each}

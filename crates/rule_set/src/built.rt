@@ -11,6 +11,13 @@ pub fn is_built(kind: RuleKind) -> bool
         kind,
         RuleKind::PolygonMustNotOverlap
             | RuleKind::PolygonMustNotOverlapWith
+            | RuleKind::PolygonMustNotHaveGaps
+            | RuleKind::PolygonMustBeCoveredByFeatureClassOf
+            | RuleKind::PolygonMustCoverEachOther
+            | RuleKind::PolygonBoundaryMustBeCoveredBy
+            | RuleKind::PolygonAreaBoundaryMustBeCoveredByBoundaryOf
+            | RuleKind::LineMustBeCoveredByFeatureClassOf
+            | RuleKind::LineMustBeCoveredByBoundaryOf
             | RuleKind::PointMustBeDisjoint
     )
 }
