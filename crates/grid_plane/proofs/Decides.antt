@@ -12,9 +12,9 @@ use Rattle.number_laws.proofs.Ring.{num, ◌⊖◌, ◌⊗◌, same_by}
 use Rattle.number_laws.proofs.Order.{zero_unscaled, scaled_le, cases_order_ℤ}
 use Rattle.number_laws.proofs.Tests.{Decides-int_lt}
 use Rattle.grid_plane.specs.Rectangles.{HoldsAt}
-use Rattle.grid_plane.specs.Share.{AreSame, MeetOnce, CrossOnce, TouchOnce, turn, one_side, share_on_line, is_beside, is_parallel, has_end_on, share_of}
-use Rattle.grid_plane.specs.declared.share.Share.{Share}
-use Rattle.grid_plane.specs.declared.share.Share.TheVariants.{Nothing, Along, Cross, Touch}
+use Rattle.plane_terms.specs.Share.{AreSame, MeetOnce, CrossOnce, TouchOnce, turn, one_side, share_on_line, is_beside, is_parallel, has_end_on, share_of}
+use Rattle.plane_terms.specs.declared.share.Share.{Share}
+use Rattle.plane_terms.specs.declared.share.Share.TheVariants.{Nothing, Along, Cross, Touch}
 use Rattle.grid_plane.proofs.Meeting.{NoneShared, apart_over, apart_under, apart_sym, turns_differ, Straddle, NoEnds, SomeEnd, cross_once, touch_once, cross_sym, touch_sym, turn_zero, at_turn, times_zero}
 use Rattle.grid_plane.proofs.OnLine.{Before, Upto, cases_before, not_before, apart_before, touch_at, overlap, OnOneLine, both_upto, from_lo, to_hi, on_from_order, at_itself}
 

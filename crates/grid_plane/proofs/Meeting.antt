@@ -3,7 +3,7 @@ use Rattle.std.proofs.Common.{◌≡◌, ℤ, pos, ◌+ℤ◌, ◌-ℤ◌, ◌*�
 use Rattle.std.proofs.lemmas.Int.{ints}
 use Rattle.plane_terms.specs.Point.{Place, Point, IsAt}
 use Rattle.plane_terms.specs.Segment.{Segment, IsSegment, cross, OnSegment}
-use Rattle.grid_plane.specs.Share.{AreSame, MeetOnce, CrossOnce, TouchOnce, turn}
+use Rattle.plane_terms.specs.Share.{AreSame, MeetOnce, CrossOnce, TouchOnce, turn}
 use Rattle.number_laws.proofs.Ring.{num, neg, ◌⊕◌, ◌⊖◌, ◌⊗◌, same_by, lt_by, le_read, lt_read}
 use Rattle.number_laws.proofs.Order.{product_at_least, product_over, zero_unscaled, natural}
 use Rattle.grid_plane.proofs.Weights.{Weights, weights, Mixed, on_mixed, low_mixed, high_mixed}

@@ -4,7 +4,7 @@ use Rattle.std.proofs.lemmas.Int.{ints}
 use Rattle.plane_terms.specs.Point.{Place, Point, IsAt}
 use Rattle.plane_terms.proofs.Points.{point_at}
 use Rattle.plane_terms.specs.Segment.{Segment, IsSegment, cross, IsBetween, OnSegment, Overlap}
-use Rattle.grid_plane.specs.Share.{AreSame, TouchOnce, turn}
+use Rattle.plane_terms.specs.Share.{AreSame, TouchOnce, turn}
 use Rattle.grid_plane.proofs.Meeting.{NoneShared}
 use Rattle.number_laws.proofs.Ring.{num, neg, ◌⊕◌, ◌⊖◌, ◌⊗◌, same_by, le_by, le_read, same_read}
 use Rattle.number_laws.proofs.Order.{product_at_least, least_unscaled, zero_unscaled, lt_scaled, scaled_le, cases_order_ℤ}

@@ -5,9 +5,9 @@ use Rattle.plane_terms.specs.declared.kind.Kind.{Kind}
 use Rattle.plane_terms.specs.declared.kind.Kind.TheVariants as shapes
 use Rattle.text_terms.specs.Fields.{is_skipped}
 use Rattle.rule_words.specs.declared.rule_kind.RuleKind.{RuleKind}
-use Rattle.line_forms.specs.declared.window_number.WindowNumber.{WindowNumber}
-use Rattle.line_forms.specs.Forms.{Form, Piece, Word, Name, Rest, HasForm, IsLine, kind_word, second_class, rule_number, handle, partner}
-use Rattle.line_forms.specs.Forms as form
+use Rattle.line_terms.specs.declared.window_number.WindowNumber.{WindowNumber}
+use Rattle.line_terms.specs.Forms.{Form, Piece, Word, Name, Rest, HasForm, IsLine, kind_word, second_class, rule_number, handle, partner}
+use Rattle.line_terms.specs.Forms as form
 use Rattle.line_forms.specs.Groups.{Group, group_of, NoneOf, Skipped, Classes, Sessions, Edits, Validations, Marks, Listings}
 
 pub no_kind : (text : List ℕ) → (IsLine text (Word (codes "point") ∷ []) → ⊥) → (IsLine text (Word (codes "line") ∷ []) → ⊥) → (IsLine text (Word (codes "polygon") ∷ []) → ⊥)

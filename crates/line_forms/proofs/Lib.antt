@@ -2,4 +2,3 @@ pub mod WindowNumbers
 pub mod Groups
 pub mod Numbers
 pub mod OneForm
-mod Rows

@@ -7,10 +7,10 @@ use Rattle.plane_terms.specs.declared.kind.Kind.TheVariants as shapes
 use Rattle.text_terms.specs.Fields.{is_remark, skip_blanks, front_field, behind_field}
 use Rattle.rule_words.specs.Table.{dest_of}
 use Rattle.rule_words.proofs.OneWord.{one_word}
-use Rattle.line_forms.specs.declared.window_number.WindowNumber.{WindowNumber}
-use Rattle.line_forms.specs.WindowNumbers.{IsWindowNumber}
-use Rattle.line_forms.specs.Forms.{Form, HasForm, IsLine, kind_word, second_class}
-use Rattle.line_forms.specs.Forms as form
+use Rattle.line_terms.specs.declared.window_number.WindowNumber.{WindowNumber}
+use Rattle.line_terms.specs.WindowNumbers.{IsWindowNumber}
+use Rattle.line_terms.specs.Forms.{Form, HasForm, IsLine, kind_word, second_class}
+use Rattle.line_terms.specs.Forms as form
 use Rattle.line_forms.proofs.Numbers.{one_number}
 use Rattle.line_forms.proofs.WindowNumbers.{one_window_number, all_is_none}
 

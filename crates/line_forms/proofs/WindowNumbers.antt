@@ -6,9 +6,10 @@ use Rattle.std.specs.Prelude.{codes, nat_le, ◌==◌, neg_ℤ, if◌then◌else
 use Rattle.plane_terms.specs.Point.{InReach}
 use Rattle.text_terms.specs.Numbers.{IsSigned}
 use Rattle.wkt_terms.specs.Numerals.{value_of, is_negative, signed}
-use Rattle.line_forms.specs.declared.window_number.WindowNumber.{WindowNumber}
-use Rattle.line_forms.specs.declared.window_number.WindowNumber.TheVariants.{Within, Beyond}
-use Rattle.line_forms.specs.WindowNumbers.{Means, IsWindowNumber, behind_minus, is_digits, number_by}
+use Rattle.line_terms.specs.declared.window_number.WindowNumber.{WindowNumber}
+use Rattle.line_terms.specs.declared.window_number.WindowNumber.TheVariants.{Within, Beyond}
+use Rattle.line_terms.specs.WindowNumbers.{Means, IsWindowNumber}
+use Rattle.line_forms.specs.WindowNumbers.{behind_minus, is_digits, number_by}
 use Rattle.line_forms.proofs.Numbers.{numeral, digits_of}
 
 -- what a whole number's text is made of

@@ -2,7 +2,7 @@
 --
 -- IsFormFault line e     the line is too long, whatever it holds; or it is not, and has no form
 use Rattle.std.specs.Prelude.{ℕ, ◌<◌, ◌≤◌, List, length}
-use Rattle.line_forms.specs.Forms.{Form, HasForm}
+use Rattle.line_terms.specs.Forms.{Form, HasForm}
 use Rattle.line_forms.specs.declared.read.FormFault.{FormFault}
 use Rattle.line_forms.specs.declared.read.FormFault.TheVariants.{TooLong, NoForm}
 

@@ -3,8 +3,8 @@
 -- group_of f         the group of the form
 -- NoneOf g line      the line has no form of the group
 use Rattle.std.specs.Prelude.{◌≡◌, ℕ, List}
-use Rattle.line_forms.specs.Forms.{Form, HasForm}
-use Rattle.line_forms.specs.Forms as form
+use Rattle.line_terms.specs.Forms.{Form, HasForm}
+use Rattle.line_terms.specs.Forms as form
 
 pub data Group : Type 0 where
   Skipped : Group

@@ -1,7 +1,7 @@
 -- What the code's forms stand for.
 --
 -- form_of f     the form that the code's value is
-use Rattle.line_forms.specs.Forms as forms
+use Rattle.line_terms.specs.Forms as forms
 use Rattle.line_forms.specs.declared.form.Form.{Form}
 use Rattle.line_forms.specs.declared.form.Form.TheVariants as form
 

@@ -1,6 +1,6 @@
 ghost use Rattle.std.specs.Prelude.{◌≡◌, ℕ, List, [], ◌∷◌, Option, is_some, MatchOption};
-ghost use Rattle.line_forms.specs.Forms.{IsLine, HasForm, kind_word, second_class};
-ghost use Rattle.line_forms.specs.Forms as form;
+ghost use Rattle.line_terms.specs.Forms.{IsLine, HasForm, kind_word, second_class};
+ghost use Rattle.line_terms.specs.Forms as form;
 ghost use Rattle.line_forms.specs.Groups.{NoneOf, Classes};
 ghost use Rattle.line_forms.specs.Seen.{form_of};
 

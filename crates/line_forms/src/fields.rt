@@ -1,10 +1,11 @@
 ghost use Rattle.std.specs.Prelude.{◌≡◌, ℕ, IsTrue, MatchOption};
 ghost use Rattle.text_terms.specs.Fields.{is_name, skip_blanks, front_field, behind_field, skip_end_blanks, is_skipped};
 ghost use Rattle.text_terms.specs.Numbers.{IsWithinText};
-ghost use Rattle.line_forms.specs.WindowNumbers.{IsWindowNumber};
+ghost use Rattle.line_terms.specs.WindowNumbers.{IsWindowNumber};
 
 use crate::number::number_within;
-use crate::window_number::{WindowNumber, read_window_number};
+use crate::window_number::read_window_number;
+use line_terms::WindowNumber;
 use grid_plane::Name;
 use text_fields::{next_field, skip_blanks, skip_end_blanks};
 

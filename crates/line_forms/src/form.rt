@@ -1,4 +1,4 @@
-use crate::window_number::WindowNumber;
+use line_terms::WindowNumber;
 use grid_plane::Name;
 use rule_words::{Kind, RuleKind};
 

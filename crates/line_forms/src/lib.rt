@@ -17,7 +17,7 @@ pub use form::Form;
 pub use grid_plane::Name;
 pub use read::{FormFault, LINE_LIMIT, one_form_law, read_form};
 pub use rule_words::{Kind, RuleKind};
-pub use window_number::WindowNumber;
+pub use line_terms::WindowNumber;
 
 #[cfg(test)]
 mod tests;

@@ -1,5 +1,5 @@
 ghost use Rattle.std.specs.Prelude.{◌≡◌, MatchOption};
-ghost use Rattle.line_forms.specs.Forms.{HasForm};
+ghost use Rattle.line_terms.specs.Forms.{HasForm};
 ghost use Rattle.line_forms.specs.Groups.{NoneOf, Listings};
 ghost use Rattle.line_forms.specs.Seen.{form_of};
 

@@ -1,8 +1,8 @@
 ghost use Rattle.std.specs.Prelude.{◌≡◌, ◌≢◌, ◌≤◌, ℕ, false, length, MatchOption, MatchResult, IfOk, IfErr};
 ghost use Rattle.text_terms.specs.Fields.{is_skipped};
 ghost use Rattle.line_forms.specs.Faults.{IsFormFault};
-ghost use Rattle.line_forms.specs.Forms.{HasForm};
-ghost use Rattle.line_forms.specs.Forms as forms;
+ghost use Rattle.line_terms.specs.Forms.{HasForm};
+ghost use Rattle.line_terms.specs.Forms as forms;
 ghost use Rattle.line_forms.specs.Groups.{group_of, Skipped};
 ghost use Rattle.line_forms.specs.Seen.{form_of};
 

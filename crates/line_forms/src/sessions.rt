@@ -1,6 +1,6 @@
 ghost use Rattle.std.specs.Prelude.{◌≡◌, ℕ, List, [], ◌∷◌, codes, MatchOption};
-ghost use Rattle.line_forms.specs.Forms.{IsLine, HasForm};
-ghost use Rattle.line_forms.specs.Forms as form;
+ghost use Rattle.line_terms.specs.Forms.{IsLine, HasForm};
+ghost use Rattle.line_terms.specs.Forms as form;
 ghost use Rattle.line_forms.specs.Groups.{NoneOf, Sessions};
 ghost use Rattle.line_forms.specs.Seen.{form_of};
 

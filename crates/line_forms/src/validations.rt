@@ -1,12 +1,12 @@
 ghost use Rattle.std.specs.Prelude.{◌≡◌, ◌↔◌, IsTrue, MatchOption};
-ghost use Rattle.line_forms.specs.Forms.{HasForm};
-ghost use Rattle.line_forms.specs.Forms as form;
+ghost use Rattle.line_terms.specs.Forms.{HasForm};
+ghost use Rattle.line_terms.specs.Forms as form;
 ghost use Rattle.line_forms.specs.Groups.{NoneOf, Validations};
 ghost use Rattle.line_forms.specs.Seen.{form_of};
 
 use crate::fields::next_window_number;
 use crate::form::Form;
-use crate::window_number::WindowNumber;
+use line_terms::WindowNumber;
 use text_fields::{behind_word, is_only, is_over};
 
 fn is_validate_all(line: &[u8]) -> bool

@@ -2,22 +2,15 @@ ghost use Rattle.std.specs.Prelude.{◌≡◌, MatchOption, IsTrue};
 ghost use Rattle.std.specs.List.{list_all};
 ghost use Rattle.text_terms.specs.Fields.{is_digit};
 ghost use Rattle.wkt_terms.specs.Numerals.{value_of, is_negative};
-ghost use Rattle.line_forms.specs.WindowNumbers.{IsWindowNumber, behind_minus, number_by};
+ghost use Rattle.line_forms.specs.WindowNumbers.{behind_minus, number_by};
+ghost use Rattle.line_terms.specs.WindowNumbers.{IsWindowNumber};
 
 use crate::number::is_digits;
+use line_terms::WindowNumber;
 use text_fields::value_up_to;
 
 // The greatest coordinate, in grid units.
 const REACH: u64 = 4_194_304;
-
-/// What a number of a window means.
-#[derive(Clone, Copy, PartialEq, Eq, Debug)]
-pub enum WindowNumber {
-    /// A coordinate within the reach, in grid units.
-    Within(i32),
-    /// A whole number beyond the reach, however large.
-    Beyond,
-}
 
 // Whether a `-` stands in front, and what stands behind it.
 fn split_minus(field: &[u8]) -> (bool, &[u8])

@@ -3,11 +3,13 @@ pub mod Point
 pub mod Rectangle
 pub mod HalfPlane
 pub mod Segment
+pub mod Share
 pub mod Cell
 pub mod Decide
 pub mod Carve
 pub mod Dirt
 pub mod Shape
+pub mod ShapeFaults
 pub mod Polygon
 pub mod Line
 pub mod Columns

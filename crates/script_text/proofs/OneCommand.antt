@@ -2,17 +2,17 @@
 use Rattle.std.proofs.Common.{ℕ, ◌≡◌, List, sym, ◌∙◌, ap, subst}
 use Rattle.plane_terms.specs.Rectangle.{Rectangle}
 use Rattle.plane_terms.specs.Shape.{Shape}
-use Rattle.wkt_laws.specs.Shapes.{IsShapeText, shape_in}
+use Rattle.wkt_terms.specs.Shapes.{IsShapeText, shape_in}
 use Rattle.wkt_laws.proofs.Reading.{one_value}
-use Rattle.line_forms.specs.declared.window_number.WindowNumber.{WindowNumber}
-use Rattle.line_forms.specs.declared.window_number.WindowNumber.TheVariants.{Within}
-use Rattle.line_forms.specs.Forms.{Form}
-use Rattle.line_forms.specs.Forms as form
+use Rattle.line_terms.specs.declared.window_number.WindowNumber.{WindowNumber}
+use Rattle.line_terms.specs.declared.window_number.WindowNumber.TheVariants.{Within}
+use Rattle.line_terms.specs.Forms.{Form}
+use Rattle.line_terms.specs.Forms as form
 use Rattle.line_forms.proofs.OneForm.{one_form}
-use Rattle.script_text.specs.Commands.{Command}
-use Rattle.script_text.specs.Commands as command
-use Rattle.script_text.specs.Windows.{IsWindow}
-use Rattle.script_text.specs.Lines.{IsCommandOf, IsCommandLine}
+use Rattle.line_terms.specs.Commands.{Command}
+use Rattle.line_terms.specs.Commands as command
+use Rattle.line_terms.specs.Windows.{IsWindow}
+use Rattle.line_terms.specs.Lines.{IsCommandOf, IsCommandLine}
 
 one_shape : (t : List ℕ) (s u : Shape) → IsShapeText t s → IsShapeText t u → s ≡ u
 one_shape t s u p q = p.shape ∙ (ap shape_in (one_value t p.geometry q.geometry p.spelled q.spelled) ∙ sym q.shape)

@@ -4,10 +4,10 @@ use Rattle.std.proofs.lemmas.Int.{ints}
 use Rattle.plane_terms.specs.Lists.{Every}
 use Rattle.plane_terms.specs.Point.{InReach}
 use Rattle.plane_terms.specs.Rectangle.{Rectangle, IsRectangle, IsProper, rect_of, numbers_of, IsFirstOut}
-use Rattle.line_forms.specs.declared.window_number.WindowNumber.{WindowNumber}
-use Rattle.line_forms.specs.declared.window_number.WindowNumber.TheVariants.{Within, Beyond}
+use Rattle.line_terms.specs.declared.window_number.WindowNumber.{WindowNumber}
+use Rattle.line_terms.specs.declared.window_number.WindowNumber.TheVariants.{Within, Beyond}
 use Rattle.script_text.specs.Numbers.{side_of}
-use Rattle.script_text.specs.Windows.{IsNear, AreSides, IsWindow, IsFirstBeyond, IsReversed}
+use Rattle.line_terms.specs.Windows.{IsNear, AreSides, IsWindow, IsFirstBeyond, IsReversed}
 
 -- a number within the reach is the one that was handed on
 within : (n : WindowNumber) (z : ℤ) → z ≡ side_of n → InReach z → n ≡ Within z

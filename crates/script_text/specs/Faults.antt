@@ -5,13 +5,13 @@
 -- IsFormFault f e       what the form says is no command, and e says why
 -- IsFault line e        the line is no command's, and e says why
 use Rattle.std.specs.Prelude.{ℕ, List}
-use Rattle.line_forms.specs.Forms.{Form}
-use Rattle.wkt_text.specs.declared.fault.WktFault.{WktFault}
-use Rattle.wkt_text.specs.declared.fault.WktFault.TheVariants as text
+use Rattle.line_terms.specs.Forms.{Form}
+use Rattle.wkt_terms.specs.declared.wkt_fault.WktFault.{WktFault}
+use Rattle.wkt_terms.specs.declared.wkt_fault.WktFault.TheVariants as text
 use Rattle.script_text.specs.declared.fault.LineFault.{LineFault}
 use Rattle.script_text.specs.declared.fault.LineFault.TheVariants.{Refused, NoMemory}
-use Rattle.script_text.specs.declared.fault.LineRefusal.TheVariants as refusal
-use Rattle.script_text.specs.Lines.{IsTextRefusal, IsFaultOf, IsLineFault}
+use Rattle.line_terms.specs.declared.line_refusal.LineRefusal.TheVariants as refusal
+use Rattle.line_terms.specs.Lines.{IsTextRefusal, IsFaultOf, IsLineFault}
 
 abbrev pub fault_of : WktFault → LineFault
 fault_of (text.Syntax at) = Refused refusal.NotALine

@@ -2,8 +2,8 @@
 --
 -- side_of n     the number; one beyond the reach in place of each that is beyond it
 use Rattle.std.specs.Prelude.{ℤ, pos}
-use Rattle.line_forms.specs.declared.window_number.WindowNumber.{WindowNumber}
-use Rattle.line_forms.specs.declared.window_number.WindowNumber.TheVariants.{Within, Beyond}
+use Rattle.line_terms.specs.declared.window_number.WindowNumber.{WindowNumber}
+use Rattle.line_terms.specs.declared.window_number.WindowNumber.TheVariants.{Within, Beyond}
 
 abbrev pub side_of : WindowNumber → ℤ
 side_of (Within z) = z

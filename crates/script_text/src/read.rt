@@ -1,15 +1,16 @@
 ghost use Rattle.std.specs.Prelude.{◌≡◌, ◌≤◌, ℕ, List, length, MatchResult, IfOk, IfErr};
-ghost use Rattle.line_forms.specs.Forms as forms;
+ghost use Rattle.line_terms.specs.Forms as forms;
 ghost use Rattle.line_forms.specs.Seen.{form_of};
-ghost use Rattle.script_text.specs.Commands as commands;
-ghost use Rattle.script_text.specs.Lines.{IsCommandOf, IsCommandLine};
+ghost use Rattle.line_terms.specs.Commands as commands;
+ghost use Rattle.line_terms.specs.Lines.{IsCommandOf, IsCommandLine};
 ghost use Rattle.script_text.specs.Faults.{IsFormFault, IsFault};
 ghost use Rattle.script_text.specs.Seen.{command_of};
 ghost use Rattle.script_text.specs.TextLengths.{IsTextWithin};
 ghost use Rattle.script_text.specs.declared.fault.LineFault.TheVariants as line_fault;
 
 use crate::command::Command;
-use crate::fault::{LineFault, LineRefusal};
+use crate::fault::LineFault;
+use line_terms::LineRefusal;
 use crate::shape_text::read_shape;
 use crate::window::window_of;
 use grid_plane::Rect;

@@ -1,10 +1,11 @@
 ghost use Rattle.std.specs.Prelude.{◌≡◌, ◌≤◌, length, MatchResult};
 ghost use Rattle.plane_terms.specs.Shape as terms;
-ghost use Rattle.wkt_laws.specs.Shapes.{IsShapeText};
+ghost use Rattle.wkt_terms.specs.Shapes.{IsShapeText};
 ghost use Rattle.script_text.specs.Faults.{IsTextFault, fault_of};
 ghost use Rattle.script_text.specs.declared.fault.LineFault.TheVariants as line_fault;
 
-use crate::fault::{LineFault, LineRefusal};
+use crate::fault::LineFault;
+use line_terms::LineRefusal;
 use shape::Shape;
 use std::alloc::Global;
 use wkt_text::{WktFault, read_wkt};

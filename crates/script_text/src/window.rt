@@ -1,9 +1,9 @@
 ghost use Rattle.std.specs.Prelude.{◌≡◌, MatchResult};
 ghost use Rattle.script_text.specs.Numbers.{side_of};
-ghost use Rattle.script_text.specs.Windows.{IsWindow};
-ghost use Rattle.script_text.specs.Lines.{IsWindowRefusal};
+ghost use Rattle.line_terms.specs.Windows.{IsWindow};
+ghost use Rattle.line_terms.specs.Lines.{IsWindowRefusal};
 
-use crate::fault::LineRefusal;
+use line_terms::LineRefusal;
 use grid_plane::{REACH, Rect, RectFault};
 use line_forms::WindowNumber;
 

@@ -3,7 +3,6 @@
 
 mod counts;
 mod envelope;
-mod fault;
 mod feature;
 mod form;
 mod line;
@@ -18,7 +17,6 @@ mod sweep;
 mod tests;
 mod vertices;
 
-pub use fault::ShapeFault;
 pub use feature::Feature;
-pub use plane_terms::Kind;
+pub use plane_terms::{Kind, ShapeFault};
 pub use shape::Shape;

@@ -1,5 +1,5 @@
 use Rattle.std.proofs.Common.{◌∙◌, ap, sym}
-use Rattle.script_text.specs.Commands as commands
+use Rattle.line_terms.specs.Commands as commands
 use Rattle.script_text.proofs.read.change_of.Goals as goal
 
 pub returns-in-Ok-clause-only : goal.returns-in-Ok-clause-only

@@ -3,7 +3,7 @@ use Rattle.std.proofs.lemmas.Bool.{false≢true}
 use Rattle.plane_terms.specs.Rectangle.{RectsMeet}
 use Rattle.plane_terms.specs.Segment.{box_of}
 use Rattle.grid_plane.proofs.Meeting.{NoneShared}
-use Rattle.grid_plane.specs.declared.share.Share.TheVariants.{Nothing, Along, Cross, Touch}
+use Rattle.plane_terms.specs.declared.share.Share.TheVariants.{Nothing, Along, Cross, Touch}
 use Rattle.grid_plane.proofs.Envelope.{apart_by_box}
 use Rattle.grid_plane.proofs.Decides.{Means, share_of-means, means_one, exactly, none_shared}
 use Rattle.grid_plane.proofs.seg.Seg.shares.Goals as goal

@@ -11,8 +11,8 @@ use Rattle.std.specs.Prelude.{◌≡◌, ℤ, pos, ◌-ℤ◌, ◌*ℤ◌, ◌�
 use Rattle.std.specs.Ordering.{int_eq}
 use Rattle.plane_terms.specs.Point.{Place, Point, right_by, up_by}
 use Rattle.plane_terms.specs.Segment.{Segment, OnSegment, IsEndOf, comes_before}
-use Rattle.grid_plane.specs.declared.share.Share.{Share}
-use Rattle.grid_plane.specs.declared.share.Share.TheVariants.{Nothing, Along, Cross, Touch}
+use Rattle.plane_terms.specs.declared.share.Share.{Share}
+use Rattle.plane_terms.specs.declared.share.Share.TheVariants.{Nothing, Along, Cross, Touch}
 
 abbrev pub AreSame : Point → Point → Type 0
 AreSame p q = (right_by p q ≡ pos 0) × (up_by p q ≡ pos 0)

@@ -1,6 +1,3 @@
-ghost use Rattle.std.specs.Prelude.{◌≡◌};
-ghost use Rattle.shape.specs.declared.fault.ShapeFault.TheVariants as shape_fault;
-
 /// Why parts are no shape: the first of these that applies.
 #[derive(Clone, Copy, PartialEq, Eq, Debug)]
 pub enum ShapeFault {
@@ -16,12 +13,4 @@ pub enum ShapeFault {
     Along { i: u32, j: u32 },
     /// Memory ran out, which says nothing of the parts.
     NoMemory,
-}
-
-impl From<grid_plane::NoMemory> for ShapeFault {
-    ghost from_gives = { λ _ e. e ≡ shape_fault.NoMemory };
-
-    fn from(_: grid_plane::NoMemory) -> Self {
-        ShapeFault::NoMemory
-    }
 }

@@ -5,9 +5,9 @@ use Rattle.std.specs.Prelude.{codes}
 use Rattle.plane_terms.specs.declared.kind.Kind.TheVariants as shapes
 use Rattle.text_terms.specs.Numbers.{IsNumeral, IsWithinText}
 use Rattle.rule_words.specs.declared.rule_kind.RuleKind.TheVariants as rule
-use Rattle.line_forms.specs.declared.window_number.WindowNumber.TheVariants.{Within, Beyond}
-use Rattle.line_forms.specs.WindowNumbers.{IsWindowNumber}
-use Rattle.line_forms.specs.Forms.{HasForm, Blank, Class, Rule, Add, Delete, ValidateAll, Window, Rules}
+use Rattle.line_terms.specs.declared.window_number.WindowNumber.TheVariants.{Within, Beyond}
+use Rattle.line_terms.specs.WindowNumbers.{IsWindowNumber}
+use Rattle.line_terms.specs.Forms.{HasForm, Blank, Class, Rule, Add, Delete, ValidateAll, Window, Rules}
 
 skipped : HasForm (codes " # class wells point") Blank
 skipped = (refl, refl)

@@ -7,8 +7,8 @@
 use Rattle.std.specs.Prelude.{◌≡◌, ℕ, zero, suc, List, [], ◌∷◌}
 use Rattle.plane_terms.specs.Point.{InReach}
 use Rattle.plane_terms.specs.Rectangle.{Rectangle, IsRectangle, IsProper}
-use Rattle.line_forms.specs.declared.window_number.WindowNumber.{WindowNumber}
-use Rattle.line_forms.specs.declared.window_number.WindowNumber.TheVariants.{Within, Beyond}
+use Rattle.line_terms.specs.declared.window_number.WindowNumber.{WindowNumber}
+use Rattle.line_terms.specs.declared.window_number.WindowNumber.TheVariants.{Within, Beyond}
 
 abbrev pub IsNear : WindowNumber → Type 0
 IsNear (Within z) = InReach z

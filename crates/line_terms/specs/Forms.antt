@@ -18,8 +18,8 @@ use Rattle.text_terms.specs.Fields.{is_name, skip_blanks, front_field, behind_fi
 use Rattle.text_terms.specs.Numbers.{IsWithinText}
 use Rattle.rule_words.specs.declared.rule_kind.RuleKind.{RuleKind}
 use Rattle.rule_words.specs.Table.{word_of, dest_of}
-use Rattle.line_forms.specs.declared.window_number.WindowNumber.{WindowNumber}
-use Rattle.line_forms.specs.WindowNumbers.{IsWindowNumber}
+use Rattle.line_terms.specs.declared.window_number.WindowNumber.{WindowNumber}
+use Rattle.line_terms.specs.WindowNumbers.{IsWindowNumber}
 
 pub data Form : Type 0 where
   Blank : Form

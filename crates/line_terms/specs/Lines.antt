@@ -10,17 +10,17 @@
 use Rattle.std.specs.Prelude.{◌≡◌, ◌⊎◌, ◌<◌, ◌≤◌, ℕ, List, [], ◌∷◌, length}
 use Rattle.plane_terms.specs.Rectangle.{Rectangle, whole_grid}
 use Rattle.plane_terms.specs.Shape.{Shape}
-use Rattle.line_forms.specs.Forms.{Form, HasForm}
-use Rattle.line_forms.specs.Forms as form
-use Rattle.line_forms.specs.declared.window_number.WindowNumber.{WindowNumber}
-use Rattle.wkt_laws.specs.Shapes.{IsShapeText}
-use Rattle.wkt_text.specs.Faults.{IsWktFault}
-use Rattle.wkt_text.specs.declared.fault.WktFault.TheVariants as text
-use Rattle.script_text.specs.declared.fault.LineRefusal.{LineRefusal}
-use Rattle.script_text.specs.declared.fault.LineRefusal.TheVariants.{NotALine, TooLong, OffGrid, OutOfReach, Unsupported, NotClosed, Invalid, Reversed}
-use Rattle.script_text.specs.Commands.{Command}
-use Rattle.script_text.specs.Commands as command
-use Rattle.script_text.specs.Windows.{IsWindow, IsFirstBeyond, IsReversed}
+use Rattle.line_terms.specs.Forms.{Form, HasForm}
+use Rattle.line_terms.specs.Forms as form
+use Rattle.line_terms.specs.declared.window_number.WindowNumber.{WindowNumber}
+use Rattle.wkt_terms.specs.Shapes.{IsShapeText}
+use Rattle.wkt_terms.specs.WktFaults.{IsWktFault}
+use Rattle.wkt_terms.specs.declared.wkt_fault.WktFault.TheVariants as text
+use Rattle.line_terms.specs.declared.line_refusal.LineRefusal.{LineRefusal}
+use Rattle.line_terms.specs.declared.line_refusal.LineRefusal.TheVariants.{NotALine, TooLong, OffGrid, OutOfReach, Unsupported, NotClosed, Invalid, Reversed}
+use Rattle.line_terms.specs.Commands.{Command}
+use Rattle.line_terms.specs.Commands as command
+use Rattle.line_terms.specs.Windows.{IsWindow, IsFirstBeyond, IsReversed}
 
 pub record IsAdd (e c t : List ℕ) (d : Command) : Type 0 where
   pub shape : Shape

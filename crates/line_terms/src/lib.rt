@@ -1,0 +1,8 @@
+// The words of a script's lines: their forms, the commands that they spell, and why a line is refused.
+#![tactic(auto)]
+
+mod line_refusal;
+mod window_number;
+
+pub use line_refusal::LineRefusal;
+pub use window_number::WindowNumber;
