@@ -12,7 +12,7 @@ use rule_set::is_built;
 use reply_text::{Refusal, Reply};
 use rule_words::{Kind, RuleKind};
 use rule_core::RuleRow;
-use script_text::LineRefusal;
+use line_terms::LineRefusal;
 
 /// What is answered to a command or a rule that is not built yet.
 pub const NOT_BUILT: Reply = Reply::Refused(Refusal::Line(LineRefusal::NotALine));

@@ -5,8 +5,8 @@ ghost use Rattle.reply_text.specs.Replies.{refusal_of};
 
 use crate::numbers::{push_number, push_text};
 use grid_plane::NoMemory;
-use script_text::LineRefusal;
-use shape::ShapeFault;
+use line_terms::LineRefusal;
+use plane_terms::ShapeFault;
 
 /// Why a line is refused.
 #[derive(Clone, Copy, PartialEq, Eq, Debug)]

@@ -9,7 +9,6 @@ mod window;
 
 pub use command::Command;
 pub use fault::LineFault;
-pub use line_terms::LineRefusal;
 pub use line_forms::{Kind, LINE_LIMIT, Name, RuleKind};
 pub use read::{one_command_law, read_line};
 

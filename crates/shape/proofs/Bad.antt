@@ -10,9 +10,9 @@ use Rattle.plane_terms.specs.Shape.{AreSimple}
 use Rattle.plane_terms.specs.Share.{share_of, AreSame}
 use Rattle.plane_terms.specs.declared.share.Share.{Share}
 use Rattle.plane_terms.specs.declared.share.Share.TheVariants.{Nothing, Along, Cross, Touch}
-use Rattle.grid_plane.proofs.Decides.{Means, share_of-means, means_one, end_same}
-use Rattle.grid_plane.proofs.Envelope.{box_holds}
-use Rattle.grid_plane.proofs.Meeting.{cross_sym}
+use Rattle.cell_laws.proofs.Shares.{Means, share_of-means, means_one, end_same}
+use Rattle.cell_laws.proofs.Envelope.{box_holds}
+use Rattle.cell_laws.proofs.Meeting.{cross_sym}
 use Rattle.grid_plane.proofs.Rectangles.{crossing}
 use Rattle.plane_terms.specs.ShapeFaults.{AreBad, IsPair}
 use Rattle.shape.specs.Sweep.{is_bad, is_bad_share}
