@@ -1,4 +1,5 @@
 use super::*;
+use line_terms::LineRefusal;
 
 fn refusal(line: &[u8], rt: &HostRuntime) -> Option<LineRefusal> {
     match read_line(rt.alloc(), line) {
