@@ -1,13 +1,12 @@
 -- Lines that are written out, and their forms.
 use Rattle.std.proofs.Common.{pos, [], refl, inl, inr, arith, Some, None}
-use Rattle.std.proofs.lemmas.Int.{ints}
 use Rattle.std.specs.Prelude.{codes}
 use Rattle.plane_terms.specs.declared.kind.Kind.TheVariants as shapes
-use Rattle.text_terms.specs.Numbers.{IsNumeral, IsWithinText}
+use Rattle.text_terms.specs.Numbers.{IsNumeral, IsSigned, IsWithinText}
 use Rattle.rule_words.specs.declared.rule_kind.RuleKind.TheVariants as rule
-use Rattle.line_terms.specs.declared.window_number.WindowNumber.TheVariants.{Within, Beyond}
-use Rattle.line_terms.specs.WindowNumbers.{IsWindowNumber}
-use Rattle.line_terms.specs.Forms.{HasForm, Blank, Class, Rule, Add, Delete, ValidateAll, Window, Rules}
+use Rattle.plane_terms.specs.Rectangle.{rect_of}
+use Rattle.line_terms.specs.Commands.{Blank, Class, Rule, Add, Delete, Validate, All, Numbers, Rules}
+use Rattle.line_terms.specs.Forms.{HasForm}
 
 skipped : HasForm (codes " # class wells point") Blank
 skipped = (refl, refl)
@@ -36,20 +35,20 @@ seven = record { numeral = record { some = λ e. cc; digits = refl; value = refl
 delete_line : HasForm (codes "by ann delete 007") (Delete (codes "ann") 7)
 delete_line = (refl, ((refl, refl), (refl, (seven, refl))))
 
-whole_line : HasForm (codes "validate all") ValidateAll
+whole_line : HasForm (codes "validate all") (Validate All)
 whole_line = (refl, (refl, refl))
 
 numeral_0 : IsNumeral (codes "0") 0
 numeral_0 = record { some = λ e. cc; digits = refl; value = refl }
 
 -- a `-` with a zero, and a number beyond the reach
-zero_is : IsWindowNumber (codes "-0") (Within (pos 0))
-zero_is = record { number = pos 0; written = inr (codes "0", 0, refl, numeral_0, refl); means = (refl, record { low = omega (arith, ints); high = omega (arith, ints) }) }
+zero_is : IsSigned (codes "-0") (pos 0)
+zero_is = inr (codes "0", 0, refl, numeral_0, refl)
 
-far_is : IsWindowNumber (codes "4194305") Beyond
-far_is = record { number = pos 4194305; written = inl (4194305, record { some = λ e. cc; digits = refl; value = refl }, refl); means = λ i. omega (arith, ints, i.high) }
+far_is : IsSigned (codes "4194305") (pos 4194305)
+far_is = inl (4194305, record { some = λ e. cc; digits = refl; value = refl }, refl)
 
-window_line : HasForm (codes "validate -0 4194305 -0 -0") (Window (Within (pos 0)) Beyond (Within (pos 0)) (Within (pos 0)))
+window_line : HasForm (codes "validate -0 4194305 -0 -0") (Validate (Numbers (rect_of (pos 0) (pos 4194305) (pos 0) (pos 0))))
 window_line = (refl, (zero_is, (far_is, (zero_is, (zero_is, refl)))))
 
 listing_line : HasForm (codes "rules") Rules

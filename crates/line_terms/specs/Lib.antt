@@ -1,5 +1,4 @@
-pub mod WindowNumbers
-pub mod Forms
 pub mod Commands
+pub mod Forms
 pub mod Windows
 pub mod Lines

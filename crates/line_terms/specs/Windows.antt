@@ -1,39 +1,21 @@
--- The window of four numbers, and why four numbers are none.
+-- The rectangle of a window, and why a window has none.
 --
--- IsNear n                the number is within the reach
--- IsWindow a b c d w      w is the rectangle of the grid with these numbers
--- IsFirstBeyond k ns      the k-th number, from 0, is beyond the reach, and those before it are not
--- IsReversed a b c d      all four are within the reach, and a greatest coordinate is below its least one
-use Rattle.std.specs.Prelude.{◌≡◌, ℕ, zero, suc, List, [], ◌∷◌}
+-- IsWindow v w           w is the rectangle of the window v: the whole grid, or the rectangle of the grid that has its four numbers
+-- IsWindowFault v r      r says why v has none: the first of its numbers that is beyond the reach, counted from 0; or, where all are within
+--                        it, that a greatest coordinate is below its least one
+use Rattle.std.specs.Prelude.{◌≡◌}
+use Rattle.plane_terms.specs.Lists.{Every}
 use Rattle.plane_terms.specs.Point.{InReach}
-use Rattle.plane_terms.specs.Rectangle.{Rectangle, IsRectangle, IsProper}
-use Rattle.line_terms.specs.declared.window_number.WindowNumber.{WindowNumber}
-use Rattle.line_terms.specs.declared.window_number.WindowNumber.TheVariants.{Within, Beyond}
+use Rattle.plane_terms.specs.Rectangle.{Rectangle, IsRectangle, IsProper, IsFirstOut, numbers_of, whole_grid}
+use Rattle.line_terms.specs.Commands.{Window, All, Numbers}
+use Rattle.line_terms.specs.declared.line_refusal.LineRefusal.{LineRefusal}
+use Rattle.line_terms.specs.declared.line_refusal.LineRefusal.TheVariants.{OutOfReach, Reversed}
 
-abbrev pub IsNear : WindowNumber → Type 0
-IsNear (Within z) = InReach z
-IsNear Beyond = ⊥
+abbrev pub IsWindow : Window → Rectangle → Type 0
+IsWindow All w = w ≡ whole_grid
+IsWindow (Numbers r) w = (w ≡ r) × IsRectangle r
 
-pub record AreSides (a b c d : WindowNumber) (w : Rectangle) : Type 0 where
-  pub left : a ≡ Within w.x0
-  pub below : b ≡ Within w.y0
-  pub right : c ≡ Within w.x1
-  pub above : d ≡ Within w.y1
-
-pub record IsWindow (a b c d : WindowNumber) (w : Rectangle) : Type 0 where
-  pub sides : AreSides a b c d w
-  pub rectangle : IsRectangle w
-
-abbrev pub IsFirstBeyond : ℕ → List WindowNumber → Type 0
-IsFirstBeyond k [] = ⊥
-IsFirstBeyond zero (n ∷ ns) = ¬ (IsNear n)
-IsFirstBeyond (suc k) (n ∷ ns) = IsNear n × IsFirstBeyond k ns
-
-pub record IsReversed (a b c d : WindowNumber) : Type 0 where
-  pub numbers : Rectangle
-  pub sides : AreSides a b c d numbers
-  pub left : InReach numbers.x0
-  pub below : InReach numbers.y0
-  pub right : InReach numbers.x1
-  pub above : InReach numbers.y1
-  pub improper : ¬ (IsProper numbers)
+abbrev pub IsWindowFault : Window → LineRefusal → Type 0
+IsWindowFault (Numbers r) (OutOfReach at) = IsFirstOut at (numbers_of r)
+IsWindowFault (Numbers r) Reversed = Every InReach (numbers_of r) × ¬ (IsProper r)
+IsWindowFault v other = ⊥

@@ -2,7 +2,5 @@
 #![tactic(auto)]
 
 mod line_refusal;
-mod window_number;
 
 pub use line_refusal::LineRefusal;
-pub use window_number::WindowNumber;

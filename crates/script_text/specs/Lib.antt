@@ -1,4 +1,6 @@
-pub mod Numbers
-pub mod Faults
+pub mod Wholes
+pub mod Groups
 pub mod Seen
-pub mod TextLengths
+pub mod Faults
+pub mod Edits
+pub mod Windows

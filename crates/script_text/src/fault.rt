@@ -1,4 +1,9 @@
+ghost use Rattle.std.specs.Prelude.{◌≡◌};
+ghost use Rattle.script_text.specs.Faults.{fault_of, window_fault};
+
+use grid_plane::RectFault;
 use line_terms::LineRefusal;
+use wkt_terms::WktFault;
 
 /// Why a line was not read.
 #[derive(Clone, Copy, PartialEq, Eq, Debug)]
@@ -7,4 +12,33 @@ pub enum LineFault {
     Refused(LineRefusal),
     /// Memory ran out, which says nothing of the line.
     NoMemory,
+}
+
+impl From<WktFault> for LineFault {
+    ghost from_gives = { λ fault e. e ≡ fault_of fault };
+
+    fn from(fault: WktFault) -> Self {
+        match fault {
+            WktFault::Syntax { at: _ } => LineFault::Refused(LineRefusal::NotALine),
+            WktFault::OffGrid { at } => LineFault::Refused(LineRefusal::OffGrid { at }),
+            WktFault::OutOfReach { at } => LineFault::Refused(LineRefusal::OutOfReach { at }),
+            WktFault::Unsupported { at } => LineFault::Refused(LineRefusal::Unsupported { at }),
+            WktFault::NotClosed { ring } => LineFault::Refused(LineRefusal::NotClosed { ring }),
+            WktFault::Invalid(fault) => LineFault::Refused(LineRefusal::Invalid(fault)),
+            WktFault::NoMemory => LineFault::NoMemory,
+        }
+    }
+}
+
+impl From<RectFault> for LineFault {
+    ghost from_gives = { λ fault e. e ≡ window_fault fault };
+
+    fn from(fault: RectFault) -> Self {
+        match fault {
+            RectFault::OutOfReach { at } => {
+                LineFault::Refused(LineRefusal::OutOfReach { at: u32::from(at) })
+            }
+            RectFault::Reversed => LineFault::Refused(LineRefusal::Reversed),
+        }
+    }
 }

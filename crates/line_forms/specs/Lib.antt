@@ -1,4 +1,0 @@
-pub mod WindowNumbers
-pub mod Groups
-pub mod Seen
-pub mod Faults
