@@ -11,7 +11,7 @@ use Rattle.topology_terms.specs.Feature.{Feature, feature_at}
 use Rattle.topology_terms.specs.Lookups.{class_number, least_free}
 use Rattle.topology_terms.specs.Poster.{poster}
 use Rattle.topology_terms.specs.Project.{Project, rule_at}
-use Rattle.topology_terms.specs.Sentences.{is_built}
+use Rattle.topology_terms.specs.Built.{is_built}
 use Rattle.topology_terms.specs.Settled.{IsValidatedBy}
 use Rattle.validation_laws.specs.Counts.{raised, judged_of}
 use Rattle.feature_store.specs.Keeps.{IsGiven}

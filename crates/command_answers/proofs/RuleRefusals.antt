@@ -10,7 +10,7 @@ use Rattle.topology_terms.specs.Broken.{Row}
 use Rattle.topology_terms.specs.Feature.{Class}
 use Rattle.topology_terms.specs.Project.{Project, InForce, rule_at}
 use Rattle.topology_terms.specs.Lookups.{class_number, number_from}
-use Rattle.topology_terms.specs.Sentences.{is_built}
+use Rattle.topology_terms.specs.Built.{is_built}
 use Rattle.feature_store.specs.Stored.{class_at}
 use Rattle.feature_store.specs.Changes.{HasKind, HasOtherKind}
 use Rattle.topo_core.specs.Kinds.{HasKinds}

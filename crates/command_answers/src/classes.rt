@@ -1,5 +1,5 @@
 ghost use Rattle.std.specs.Prelude.{◌≡◌, true, false, MatchOption, IfOk, OnErr};
-ghost use Rattle.topology_terms.specs.Sentences.{is_built};
+ghost use Rattle.topology_terms.specs.Built.{is_built};
 ghost use Rattle.line_terms.specs.Commands.{Class, Rule, DropRule};
 ghost use Rattle.script_terms.specs.Answer.{Answers};
 ghost use Rattle.script_terms.specs.Refusing.{row_of, lacks_class};

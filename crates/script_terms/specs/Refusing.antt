@@ -21,7 +21,7 @@ use Rattle.plane_terms.specs.declared.kind.Kind.TheVariants as kind
 use Rattle.rule_words.specs.Table.{word_of, origin_of, dest_of}
 use Rattle.rule_words.specs.declared.rule_kind.RuleKind.{RuleKind}
 use Rattle.topology_terms.specs.Feature.{Class, Feature, feature_at}
-use Rattle.topology_terms.specs.Sentences.{is_built}
+use Rattle.topology_terms.specs.Built.{is_built}
 use Rattle.topology_terms.specs.Broken.{Row}
 use Rattle.topology_terms.specs.Project.{Project, InForce, rule_at}
 use Rattle.topology_terms.specs.Lookups.{class_number}

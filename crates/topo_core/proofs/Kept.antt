@@ -1,8 +1,8 @@
 -- Each change keeps what every topology keeps, and what it keeps of the rules' meaning.
-use Rattle.std.proofs.Common.{◌≡◌, inl, inr, ℕ, zero, suc, ◌-◌, Bool, true, false, List, [], ◌∷◌, ◌++◌, Option, Some, None, sym, ◌∙◌, eqb}
-use Rattle.std.specs.Prelude.{slice_get, if◌then◌else◌}
+use Rattle.std.proofs.Common.{◌≡◌, inl, inr, ℕ, List, [], ◌∷◌, ◌++◌, Option, Some, None, sym, ◌∙◌}
 use Rattle.std.specs.Option.{IfSome}
 use Rattle.plane_terms.specs.Lists.{Every}
+use Rattle.plane_terms.proofs.ListLemmas.{every_map}
 use Rattle.plane_terms.specs.Rectangle.{Rectangle, IsRectangle}
 use Rattle.plane_terms.specs.declared.kind.Kind.{Kind}
 use Rattle.topology_terms.specs.Feature.{Class, Feature, env}
@@ -17,9 +17,9 @@ use Rattle.topology_terms.specs.Changes.{IsEdit}
 use Rattle.sound_laws.proofs.Edits.{same_or_not, edit_sound}
 use Rattle.sound_laws.proofs.Settling.{edit_settled}
 use Rattle.validation_laws.proofs.Validating.{parts_kept_valid, parts_kept_sound, parts_kept_settled}
-use Rattle.feature_store.specs.Stored.{class_at}
 use Rattle.feature_store.specs.Keeps.{IsStore}
 use Rattle.feature_store.specs.Changes.{HasKind}
+use Rattle.feature_store.proofs.Keeping.{class_end}
 use Rattle.topo_core.specs.Kinds.{HasKinds, TakesKinds}
 use Rattle.topo_core.specs.Topologies.{IsTopology, IsKeptUnder}
 use Rattle.topo_core.proofs.Whole.{valid}
@@ -57,18 +57,6 @@ pub record IsClassesAlone (d : Class) (old new : Project) : Type 0 where
   pub dirt : new.dirt ≡ old.dirt
   pub entries : new.entries ≡ old.entries
 
-get_end : (cs : List Class) (d c : Class) (i : ℕ) → slice_get cs i ≡ Some c → slice_get (cs ++ d ∷ []) i ≡ Some c
-get_end [] d c i e = cc
-get_end (b ∷ cs) d c zero e = e
-get_end (b ∷ cs) d c (suc i) e = get_end cs d c i e
-
-class_end : (cs : List Class) (d c : Class) (n : ℕ) → class_at cs n ≡ Some c → class_at (cs ++ d ∷ []) n ≡ Some c
-class_end cs d c n e = by (eqb n 0) e
-  where
-    by : (t : Bool) → (if t then None else slice_get cs (n - 1)) ≡ Some c → (if t then None else slice_get (cs ++ d ∷ []) (n - 1)) ≡ Some c
-    by true h = h
-    by false h = get_end cs d c (n - 1) h
-
 kind_end : (cs : List Class) (d : Class) (n : ℕ) (k : Kind) → HasKind cs n k → HasKind (cs ++ d ∷ []) n k
 kind_end cs d n k h = record { class = h.class; there = class_end cs d h.class n h.there; kind = h.kind }
 
@@ -77,11 +65,8 @@ dest_end cs d n None h = tt
 dest_end cs d n (Some k) h = kind_end cs d n k h
 
 kinds_end : (cs : List Class) (d : Class) (rules : List InForce) → Every (λ (q : InForce). HasKinds cs q.row) rules → Every (λ (q : InForce). HasKinds (cs ++ d ∷ []) q.row) rules
-kinds_end cs d [] h = tt
-kinds_end cs d (q ∷ rules) h = (
-  record { origin = kind_end cs d q.row.origin.class (origin_of q.row.kind) h.0.origin; dest = dest_end cs d q.row.dest.class (dest_of q.row.kind) h.0.dest },
-  kinds_end cs d rules h.1,
-)
+kinds_end cs d rules h = every_map (λ (q : InForce). HasKinds cs q.row) (λ (q : InForce). HasKinds (cs ++ d ∷ []) q.row)
+    (λ q k. record { origin = kind_end cs d q.row.origin.class (origin_of q.row.kind) k.origin; dest = dest_end cs d q.row.dest.class (dest_of q.row.kind) k.dest }) rules h
 
 pub class_keeps : (d : Class) (old new : Project) → IsTopology old → IsClassesAlone d old new → IsStore new.classes new.features new.next → IsTopology new
 class_keeps d old new t i s = record {
