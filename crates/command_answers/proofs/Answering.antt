@@ -24,7 +24,7 @@ use Rattle.topo_core.specs.declared.fault.ChangeFault.{ChangeFault}
 use Rattle.topo_core.specs.declared.fault.ChangeFault.TheVariants as change_fault
 use Rattle.topo_core.specs.declared.rule_fault.RuleFault.{RuleFault}
 use Rattle.topo_core.specs.declared.rule_fault.RuleFault.TheVariants as rule_fault
-use Rattle.script_text.specs.Commands.{Command, Class, Rule, DropRule, Begin, Add, Change, Delete, Validate}
+use Rattle.line_terms.specs.Commands.{Command, Class, Rule, DropRule, Begin, Add, Change, Delete, Validate}
 use Rattle.script_terms.specs.Refusal.{Refusal, NoClass, NoRule, NoSession}
 use Rattle.script_terms.specs.Reply.{Reply, Done, Number, Judged, Refused}
 use Rattle.script_terms.specs.State.{State, is_open}

@@ -11,7 +11,7 @@ use Rattle.feature_store.specs.declared.fault.StoreFault.TheVariants as store_fa
 use Rattle.topo_core.specs.Steps.{IsClassMore, IsClassRefusal, IsFeatureMore, IsAddRefusal, IsChanged, IsChangeRefusal, IsDeleted, IsDeleteRefusal}
 use Rattle.topo_core.specs.declared.fault.ChangeFault.{ChangeFault}
 use Rattle.topo_core.specs.declared.fault.ChangeFault.TheVariants as fault
-use Rattle.script_text.specs.Commands.{Class, Add, Change, Delete}
+use Rattle.line_terms.specs.Commands.{Class, Add, Change, Delete}
 use Rattle.script_terms.specs.Refusal.{WrongKind}
 use Rattle.script_terms.specs.State.{State, is_open}
 use Rattle.script_terms.specs.Refusing.{refusal_of, number_or_0, kind_of_class, kind_at, is_kind, same_kind}

@@ -8,7 +8,7 @@ use Rattle.topology_terms.specs.Project.{Project}
 use Rattle.topo_core.specs.Steps.{IsFeatureMore, IsAddRefusal, IsChanged, IsChangeRefusal, IsDeleted, IsDeleteRefusal}
 use Rattle.topo_core.specs.declared.fault.ChangeFault.{ChangeFault}
 use Rattle.topo_core.specs.declared.fault.ChangeFault.TheVariants as change_fault
-use Rattle.script_text.specs.Commands.{Add, Change, Delete}
+use Rattle.line_terms.specs.Commands.{Add, Change, Delete}
 use Rattle.script_terms.specs.Answer.{Answers}
 use Rattle.script_terms.specs.Reply.{Done, Number, Refused}
 use Rattle.script_terms.specs.State.{State, is_open}

@@ -18,7 +18,7 @@ use Rattle.topo_core.specs.RuleLists.{IsNowhere}
 use Rattle.topo_core.specs.RuleSteps.{IsMissing, DestMissing, DestUnfit, DestApart, IsUnfit, DoesFit, MayAdd, IsThere, IsFullOfRules, IsRuleRefusal}
 use Rattle.topo_core.specs.declared.rule_fault.RuleFault.{RuleFault}
 use Rattle.topo_core.specs.declared.rule_fault.RuleFault.TheVariants as fault
-use Rattle.script_text.specs.Commands.{Rule}
+use Rattle.line_terms.specs.Commands.{Rule}
 use Rattle.script_terms.specs.State.{State}
 use Rattle.script_terms.specs.Refusing.{row_of, lacks_class, lacks_second, named_number, number_or_0, is_fit, fits_dest, is_kind, kind_of_class, is_row, refusal_of}
 use Rattle.command_answers.specs.Refusals.{rule_refusal}

@@ -11,9 +11,9 @@ use Rattle.plane_terms.specs.declared.kind.Kind.TheVariants as shapes
 use Rattle.rule_words.specs.declared.rule_kind.RuleKind.TheVariants as kind
 use Rattle.topology_terms.specs.Feature.{feature_at}
 use Rattle.topology_terms.specs.Project.{Project, rule_at}
-use Rattle.shape.specs.declared.fault.ShapeFault.TheVariants as fault
-use Rattle.script_text.specs.declared.fault.LineRefusal.TheVariants as line
-use Rattle.script_text.specs.Commands.{Class, Rule, DropRule, Begin, Add, Change, Delete, Undo}
+use Rattle.plane_terms.specs.declared.shape_fault.ShapeFault.TheVariants as fault
+use Rattle.line_terms.specs.declared.line_refusal.LineRefusal.TheVariants as line
+use Rattle.line_terms.specs.Commands.{Class, Rule, DropRule, Begin, Add, Change, Delete, Undo}
 use Rattle.script_terms.specs.Refusal.{Line, ClassTaken, NoSession, NoClass, Unfit, RuleThere, NoRule, WrongKind, NoFeature}
 use Rattle.script_terms.specs.Reply.{Judged, Refused, CellList, DirtyList, ErrorList, FeatureList, reply_text}
 use Rattle.script_terms.specs.State.{State}

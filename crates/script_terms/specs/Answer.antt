@@ -19,7 +19,7 @@ use Rattle.topology_terms.specs.Lookups.{class_number, least_free}
 use Rattle.topology_terms.specs.Changes.{IsEdit, IsRuleAdded, IsRuleDropped, IsSelected}
 use Rattle.topology_terms.specs.Settled.{IsValidatedBy}
 use Rattle.validation_laws.specs.Counts.{judged_of}
-use Rattle.script_text.specs.Commands.{Command, Blank, Class as AClass, Rule, DropRule, Begin, End, Discard, Add, Change, Delete, Undo, Redo, Validate, Mark, Unmark, Dirty, Errors, Cells, Features, Rules}
+use Rattle.line_terms.specs.Commands.{Command, Blank, Class as AClass, Rule, DropRule, Begin, End, Discard, Add, Change, Delete, Undo, Redo, Validate, Mark, Unmark, Dirty, Errors, Cells, Features, Rules}
 use Rattle.script_terms.specs.Refusal.{Refusal}
 use Rattle.script_terms.specs.Reply.{Reply, Nothing, Done, Number, Judged, Refused, DirtyList, ErrorList, CellList, FeatureList}
 use Rattle.script_terms.specs.State.{State}

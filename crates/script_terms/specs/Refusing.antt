@@ -26,8 +26,8 @@ use Rattle.topology_terms.specs.Broken.{Row}
 use Rattle.topology_terms.specs.Project.{Project, InForce, rule_at}
 use Rattle.topology_terms.specs.Lookups.{class_number}
 use Rattle.feature_store.specs.Stored.{class_at}
-use Rattle.script_text.specs.declared.fault.LineRefusal.TheVariants.{NotALine}
-use Rattle.script_text.specs.Commands.{Command, Blank, Class as AClass, Rule, DropRule, Begin, End, Discard, Add, Change, Delete, Undo, Redo, Validate, Mark, Unmark, Dirty, Errors, Cells, Features, Rules}
+use Rattle.line_terms.specs.declared.line_refusal.LineRefusal.TheVariants.{NotALine}
+use Rattle.line_terms.specs.Commands.{Command, Blank, Class as AClass, Rule, DropRule, Begin, End, Discard, Add, Change, Delete, Undo, Redo, Validate, Mark, Unmark, Dirty, Errors, Cells, Features, Rules}
 use Rattle.script_terms.specs.Refusal.{Refusal, when, first_of, Line, ClassTaken, ClassesFull, NoClass, Unfit, RuleThere, RulesFull, NoRule, NoSession, WrongKind, NoFeature, HandlesSpent}
 use Rattle.script_terms.specs.State.{State, is_open, is_live}
 
