@@ -8,6 +8,7 @@ pub mod Poster
 pub mod Entry
 pub mod Project
 pub mod Lookups
+pub mod Causes
 pub mod Sound
 pub mod Changes
 pub mod Settled
