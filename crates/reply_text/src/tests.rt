@@ -12,6 +12,7 @@ use error_store::{Entry, Key};
 use feature_store::{Kind, Name, Shape, Store};
 use grid_plane::{GridPoint, Half, Op, Rect};
 use script_text::LineRefusal;
+use topology_terms::Cause;
 use shape::ShapeFault;
 use std::alloc::Global;
 use std::test::Fail;
@@ -122,15 +123,15 @@ fn each_refusal_once(rt: HostRuntime) -> Result<(), Fail> {
     for refusal in [
         Refusal::Line(LineRefusal::NotALine),
         Refusal::Line(LineRefusal::TooLong),
-        Refusal::ClassTaken,
-        Refusal::ClassesFull,
-        Refusal::NoClass,
-        Refusal::Unfit,
-        Refusal::RuleThere,
-        Refusal::RulesFull,
-        Refusal::NoRule,
+        Refusal::Change(Cause::ClassTaken),
+        Refusal::Change(Cause::ClassesFull),
+        Refusal::Change(Cause::NoClass),
+        Refusal::Change(Cause::Unfit),
+        Refusal::Change(Cause::RuleThere),
+        Refusal::Change(Cause::RulesFull),
+        Refusal::Change(Cause::NoRule),
         Refusal::NoSession,
-        Refusal::WrongKind,
+        Refusal::Change(Cause::WrongKind),
         Refusal::Line(LineRefusal::OffGrid { at: 7 }),
         Refusal::Line(LineRefusal::OutOfReach { at: 3 }),
         Refusal::Line(LineRefusal::Unsupported { at: 0 }),
@@ -139,8 +140,8 @@ fn each_refusal_once(rt: HostRuntime) -> Result<(), Fail> {
         Refusal::Line(LineRefusal::Invalid(ShapeFault::TooMany { count: 2001 })),
         Refusal::Line(LineRefusal::Invalid(ShapeFault::Cross { i: 0, j: 2 })),
         Refusal::Line(LineRefusal::Invalid(ShapeFault::Along { i: 1, j: 3 })),
-        Refusal::NoFeature,
-        Refusal::HandlesSpent,
+        Refusal::Change(Cause::NoFeature),
+        Refusal::Change(Cause::HandlesSpent),
         Refusal::Line(LineRefusal::Reversed),
     ] {
         push_refusal(&mut out, refusal)?;

@@ -11,3 +11,4 @@ pub mod Pieces
 pub mod Cuts
 pub mod Meetings
 pub mod FeatureLists
+pub mod Scratch

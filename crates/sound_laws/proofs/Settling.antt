@@ -187,7 +187,7 @@ entry_same f x d e i j k u v =
     ] in
     cc
 
-alike_same : (f : Feature) (o : Option Finding) (d e : Option Entry) (r a b : ℕ)
+pub alike_same : (f : Feature) (o : Option Finding) (d e : Option Entry) (r a b : ℕ)
     → ((x : Entry) → d ≡ Some x → (x.rule ≡ r) × (x.subject ≡ a) × (x.other ≡ b))
     → ((x : Entry) → e ≡ Some x → (x.rule ≡ r) × (x.subject ≡ a) × (x.other ≡ b))
     → AreAlike f o d → AreAlike f o e → unmark_option d ≡ unmark_option e

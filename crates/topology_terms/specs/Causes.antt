@@ -5,7 +5,8 @@
 -- add_cause cs next n k    why a feature of the class n and a shape of the kind k is not added: no such class; another kind; the next handle is the last
 -- change_cause F h k       why the feature h does not get a shape of the kind k: no such feature; another kind
 -- delete_cause F h         why the feature h is not taken away: no such feature
--- rule_cause p row         why the row is not put in force: a class is missing; the classes do not fit; it is in force already; there are 256 rules
+-- fit_cause cs row         why the classes do not serve the row: one is missing; they do not fit
+-- rule_cause p row         why the row is not put in force: that; it is in force already; there are 256 rules
 -- drop_cause rs n          why the rule n is not dropped: no such rule
 -- is_kind o k              there is a kind, and it is k
 -- is_missing cs row        the class of the subjects is not there, or the second one where the rule takes one
@@ -78,8 +79,11 @@ is_row q r = bytes_eq (word_of q.kind) (word_of r.kind) && ((q.origin.class == r
 abbrev pub is_there : List InForce → Row → Bool
 is_there rs row = list_any (λ (q : InForce). is_row q.row row) rs
 
+abbrev pub fit_cause : List Class → Row → Option Cause
+fit_cause cs row = first_of (when (is_missing cs row) NoClass ∷ when (not (is_fit cs row)) Unfit ∷ [])
+
 abbrev pub rule_cause : Project → Row → Option Cause
-rule_cause p row = first_of (when (is_missing p.classes row) NoClass ∷ when (not (is_fit p.classes row)) Unfit ∷ when (is_there p.rules row) RuleThere ∷ when (length p.rules == 256) RulesFull ∷ [])
+rule_cause p row = first_of (fit_cause p.classes row ∷ when (is_there p.rules row) RuleThere ∷ when (length p.rules == 256) RulesFull ∷ [])
 
 abbrev pub drop_cause : List InForce → ℕ → Option Cause
 drop_cause rs n = when (is_none (rule_at rs n)) NoRule

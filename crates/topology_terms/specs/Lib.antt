@@ -12,4 +12,6 @@ pub mod Causes
 pub mod Sound
 pub mod Changes
 pub mod Settled
+pub mod Scratch
+pub mod Counts
 pub mod Session

@@ -13,7 +13,7 @@ use Rattle.topology_terms.specs.Broken.{Row, judges_test}
 use Rattle.topology_terms.specs.Project.{InForce}
 use Rattle.sound_laws.proofs.FeatureLists.{at_handle, past_handle, handle_of, same_features}
 use Rattle.validation_laws.specs.Parts.{IsRising, live_of}
-use Rattle.validation_laws.specs.Counts.{raised, judged_of}
+use Rattle.topology_terms.specs.Counts.{raised, judged_of}
 use Rattle.validation_laws.proofs.Handles.{IsAmong, below_each, among, contained, among_or_not}
 use Rattle.validation_laws.proofs.Joining.{every_mapped}
 
