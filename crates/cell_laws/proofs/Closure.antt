@@ -1,5 +1,5 @@
 -- A weakened cell holds exactly the points with points of the cell round them at every distance.
-use Rattle.std.proofs.Common.{◌≡◌, ◌↔◌, ℕ, ◌+◌, ◌*◌, ◌<◌, ◌≤◌, [], ◌∷◌, ℤ, pos, negsuc, suc, ◌+ℤ◌, ◌-ℤ◌, ◌*ℤ◌, neg_ℤ, ◌≤ℤ◌, ◌<ℤ◌, arith, refl, sym, subst, ap, unsigned_abs}
+use Rattle.std.proofs.Common.{◌≡◌, ◌↔◌, inl, inr, ℕ, ◌+◌, ◌*◌, ◌<◌, ◌≤◌, List, [], ◌∷◌, ℤ, pos, negsuc, suc, ◌+ℤ◌, ◌-ℤ◌, ◌*ℤ◌, neg_ℤ, ◌≤ℤ◌, ◌<ℤ◌, arith, refl, sym, subst, ap, unsigned_abs}
 use Rattle.std.proofs.lemmas.Int.{ints, by_lt_z}
 use Rattle.std.proofs.Math.Nat.{mul-pos, mul-le-mul_left, mul-le-mul_right, lt_of_mul-lt-mul_left, lt_of_mul-lt-mul_right}
 use lib.Signed.{clash_ℤ}
@@ -8,8 +8,9 @@ use Rattle.plane_terms.specs.Point.{Point, IsNear, right_by, up_by}
 use Rattle.plane_terms.specs.HalfPlane.{HalfPlane, Holds, Says, value_at, weak, weak_op}
 use Rattle.plane_terms.specs.declared.op.Op.{Op}
 use Rattle.plane_terms.specs.declared.op.Op.TheVariants.{Over, AtLeast, Zero}
-use Rattle.plane_terms.specs.Cell.{Cell, InCell, HasPoint, weak_of}
-use Rattle.number_laws.proofs.Ring.{num, neg, ◌⊕◌, ◌⊖◌, ◌⊗◌, same_by, le_by, le_read, lt_read, same_read}
+use Rattle.plane_terms.specs.Cell.{Cell, InCell, InCells, HasPoint, weak_of}
+use Rattle.plane_terms.specs.Lists.{SomeOf}
+use Rattle.number_laws.proofs.Ring.{num, neg, ◌⊕◌, ◌⊖◌, ◌⊗◌, same_by, le_by, le_read, lt_read, lt_by, same_read}
 use Rattle.number_laws.proofs.Order.{product_at_least}
 
 -- ---- a point moved a little toward another one
@@ -135,16 +136,29 @@ value_stays a b c p q r h =
         let n : up v < down v = lt_of_mul-lt-mul_right w m in
         omega (arith, ints)
 
--- a half that holds at points near p at every distance holds weakly at p
-limit_at_least : (a b c : ℤ) (p : Point) → ((k : ℕ) → 1 ≤ k → (q : Point) × (pos 0 ≤ℤ (a *ℤ q.x +ℤ b *ℤ q.y +ℤ c *ℤ pos q.w)) × IsNear k p q) → pos 0 ≤ℤ (a *ℤ p.x +ℤ b *ℤ p.y +ℤ c *ℤ pos p.w)
-limit_at_least a b c p f =
-    by_lt_z (a *ℤ p.x +ℤ b *ℤ p.y +ℤ c *ℤ pos p.w) (pos 0) (λ less.
-    let q = f (nearness a b p.w) (omega arith) in
-    let n = value_stays a b c p q.0 q.2 less in
-    absurd (clash_ℤ n q.1)) (λ le. le)
+-- ---- one distance for all
+near_one : (a b c : ℤ) (p q : Point) → IsNear (nearness a b p.w) p q → pos 0 ≤ℤ (a *ℤ q.x +ℤ b *ℤ q.y +ℤ c *ℤ pos q.w) → pos 0 ≤ℤ (a *ℤ p.x +ℤ b *ℤ p.y +ℤ c *ℤ pos p.w)
+near_one a b c p q r h =
+    by_lt_z (a *ℤ p.x +ℤ b *ℤ p.y +ℤ c *ℤ pos p.w) (pos 0) (λ less. absurd (clash_ℤ (value_stays a b c p q r less) h)) (λ le. le)
 
-limit_holds : (h : HalfPlane) (p : Point) → ((k : ℕ) → 1 ≤ k → (q : Point) × Holds h q × IsNear k p q) → Holds (weak h) p
-limit_holds h p f = limit_by h.a h.b h.c h.op p f
+less_scaled : (k m n : ℕ) (d : ℤ) → k ≤ m → 0 < n → (d *ℤ pos m) <ℤ pos n → (d *ℤ pos k) <ℤ pos n
+less_scaled k m n (pos d) l o h =
+    let a : d * k ≤ d * m = mul-le-mul_left d l in
+    let b = lt_read (num (pos d) ⊗ num (pos m)) (num (pos n)) h in
+    lt_by (num (pos d) ⊗ num (pos k)) (num (pos n)) (omega (arith, a, b))
+less_scaled k m n (negsuc d) l o h = lt_by (num (negsuc d) ⊗ num (pos k)) (num (pos n)) (omega (arith, o))
+
+-- what is nearer is near
+pub near_weaker : (k m : ℕ) (p q : Point) → k ≤ m → IsNear m p q → IsNear k p q
+near_weaker k m p q l n =
+    let o = mul-pos p.positive q.positive in
+    record { right = less_scaled k m (p.w * q.w) (right_by p q) l o n.right; left = less_scaled k m (p.w * q.w) (right_by q p) l o n.left; up = less_scaled k m (p.w * q.w) (up_by p q) l o n.up; down = less_scaled k m (p.w * q.w) (up_by q p) l o n.down }
+
+abbrev pub near_half : HalfPlane → Point → ℕ
+near_half h p = nearness h.a h.b p.w + nearness (neg_ℤ h.a) (neg_ℤ h.b) p.w
+
+half_at : (h : HalfPlane) (p q : Point) → IsNear (near_half h p) p q → Holds h q → Holds (weak h) p
+half_at h p q n = by_op h.a h.b h.c h.op p q n
   where
     negate : (a b c : ℤ) (q : Point) → neg_ℤ a *ℤ q.x +ℤ neg_ℤ b *ℤ q.y +ℤ neg_ℤ c *ℤ pos q.w ≡ neg_ℤ (a *ℤ q.x +ℤ b *ℤ q.y +ℤ c *ℤ pos q.w)
     negate a b c q = same_by (neg (num a) ⊗ num q.x ⊕ neg (num b) ⊗ num q.y ⊕ neg (num c) ⊗ num (pos q.w)) (neg (num a ⊗ num q.x ⊕ num b ⊗ num q.y ⊕ num c ⊗ num (pos q.w))) (omega arith)
@@ -161,11 +175,21 @@ limit_holds h p f = limit_by h.a h.b h.c h.op p f
     both_zero : (v : ℤ) → pos 0 ≤ℤ v → pos 0 ≤ℤ neg_ℤ v → v ≡ pos 0
     both_zero v h k = omega (arith, ints)
 
-    limit_by : (a b c : ℤ) (o : Op) (p : Point) → ((k : ℕ) → 1 ≤ k → (q : Point) × Holds (record { a = a; b = b; c = c; op = o }) q × IsNear k p q) → Says (weak_op o) (a *ℤ p.x +ℤ b *ℤ p.y +ℤ c *ℤ pos p.w)
-    limit_by a b c Over p f = limit_at_least a b c p (λ k l. let q = f k l in (q.0, weak_over _ q.1, q.2))
-    limit_by a b c AtLeast p f = limit_at_least a b c p (λ k l. let q = f k l in (q.0, q.1, q.2))
-    limit_by a b c Zero p f =
-        both_zero _ (limit_at_least a b c p (λ k l. let q = f k l in (q.0, zero_over _ q.1, q.2))) (rw (← negate a b c p) (limit_at_least (neg_ℤ a) (neg_ℤ b) (neg_ℤ c) p (λ k l. let q = f k l in (q.0, rw (negate a b c q.0) (zero_under _ q.1), q.2))))
+    first : (a b : ℤ) (p q : Point) → IsNear (nearness a b p.w + nearness (neg_ℤ a) (neg_ℤ b) p.w) p q → IsNear (nearness a b p.w) p q
+    first a b p q n = near_weaker (nearness a b p.w) _ p q (omega arith) n
+
+    other : (a b : ℤ) (p q : Point) → IsNear (nearness a b p.w + nearness (neg_ℤ a) (neg_ℤ b) p.w) p q → IsNear (nearness (neg_ℤ a) (neg_ℤ b) p.w) p q
+    other a b p q n = near_weaker (nearness (neg_ℤ a) (neg_ℤ b) p.w) _ p q (omega arith) n
+
+    by_op : (a b c : ℤ) (o : Op) (p q : Point) → IsNear (nearness a b p.w + nearness (neg_ℤ a) (neg_ℤ b) p.w) p q → Holds (record { a = a; b = b; c = c; op = o }) q → Says (weak_op o) (a *ℤ p.x +ℤ b *ℤ p.y +ℤ c *ℤ pos p.w)
+    by_op a b c Over p q n h = near_one a b c p q (first a b p q n) (weak_over _ h)
+    by_op a b c AtLeast p q n h = near_one a b c p q (first a b p q n) h
+    by_op a b c Zero p q n h =
+        both_zero _ (near_one a b c p q (first a b p q n) (zero_over _ h)) (rw (← negate a b c p) (near_one (neg_ℤ a) (neg_ℤ b) (neg_ℤ c) p q (other a b p q n) (rw (negate a b c q) (zero_under _ h))))
+
+-- a half-plane that holds at points near p at every distance holds weakly at p
+limit_holds : (h : HalfPlane) (p : Point) → ((k : ℕ) → 1 ≤ k → (q : Point) × Holds h q × IsNear k p q) → Holds (weak h) p
+limit_holds h p f = let q = f (near_half h p) (omega arith) in half_at h p q.0 q.2 q.1
 
 limit_in : (c : Cell) (p : Point) → ((k : ℕ) → 1 ≤ k → (q : Point) × InCell c q × IsNear k p q) → InCell (weak_of c) p
 limit_in [] p f = tt
@@ -173,3 +197,26 @@ limit_in (h ∷ hs) p f = (limit_holds h p (λ k j. let q = f k j in (q.0, q.1.0
 
 pub closure : (c : Cell) → HasPoint c → (p : Point) → InCell (weak_of c) p ↔ ((k : ℕ) → 1 ≤ k → (q : Point) × InCell c q × IsNear k p q)
 closure c some p = (λ a k l. reached c some.0 p some.1 a k, limit_in c p)
+
+-- ---- of a list of cells
+abbrev pub near_cell : Cell → Point → ℕ
+near_cell [] p = 1
+near_cell (h ∷ hs) p = near_half h p + near_cell hs p
+
+cell_at : (c : Cell) (p q : Point) → IsNear (near_cell c p) p q → InCell c q → InCell (weak_of c) p
+cell_at [] p q n i = tt
+cell_at (h ∷ hs) p q n i = (half_at h p q (near_weaker (near_half h p) _ p q (omega arith) n) i.0, cell_at hs p q (near_weaker (near_cell hs p) _ p q (omega arith) n) i.1)
+
+abbrev pub near_cells : List Cell → Point → ℕ
+near_cells [] p = 1
+near_cells (c ∷ cs) p = near_cell c p + near_cells cs p
+
+-- one point of the cells near enough to p, and p is in a weakened cell
+pub cells_at : (cs : List Cell) (p q : Point) → IsNear (near_cells cs p) p q → InCells cs q → SomeOf (λ c. InCell (weak_of c) p) cs
+cells_at [] p q n i = i
+cells_at (c ∷ cs) p q n (inl i) = inl (cell_at c p q (near_weaker (near_cell c p) _ p q (omega arith) n) i)
+cells_at (c ∷ cs) p q n (inr i) = inr (cells_at cs p q (near_weaker (near_cells cs p) _ p q (omega arith) n) i)
+
+pub near_cells-some : (cs : List Cell) (p : Point) → 1 ≤ near_cells cs p
+near_cells-some [] p = omega arith
+near_cells-some (c ∷ cs) p = omega (arith, near_cells-some cs p)

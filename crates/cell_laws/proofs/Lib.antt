@@ -10,3 +10,10 @@ pub mod Meets
 pub mod GridLines
 pub mod Outside
 pub mod Closure
+pub mod Weights
+pub mod Meeting
+pub mod OnLine
+pub mod Shares
+pub mod Envelope
+pub mod HalfPlanes
+pub mod SegmentCells

@@ -1,10 +1,5 @@
 pub mod Tests
 pub mod Rectangles
 pub mod Numbers
-pub mod Weights
-pub mod Meeting
-pub mod OnLine
-pub mod Decides
-pub mod Envelope
-pub mod HalfPlanes
 pub mod Found
+pub mod PlacesOn

@@ -10,7 +10,6 @@ mod name;
 mod point;
 mod rect;
 mod seg;
-mod share;
 
 pub use fault::RectFault;
 pub use half::{CONSTANT, Half, SLOPE};
@@ -18,8 +17,7 @@ pub use handles::Handles;
 pub use makers::{left_of, on_line, right_of, x_is, x_over, x_under, y_is, y_over, y_under};
 pub use memory::NoMemory;
 pub use name::Name;
-pub use plane_terms::Op;
+pub use plane_terms::{Op, Share};
 pub use point::{GridPoint, REACH};
 pub use rect::Rect;
 pub use seg::Seg;
-pub use share::Share;

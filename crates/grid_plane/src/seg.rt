@@ -3,12 +3,12 @@ ghost use Rattle.std.specs.Int.{int_signum};
 ghost use Rattle.plane_terms.specs.Point.{InReach};
 ghost use Rattle.plane_terms.specs.Segment.{IsGridSegment, OnSegment, SharePoint, Overlap, comes_before, segment_between, first_of, second_of, box_of};
 ghost use Rattle.grid_plane.specs.Rectangles.{HoldsAt};
-ghost use Rattle.grid_plane.specs.Share.{turn, one_side, one_zero, is_beside, is_parallel, has_end_on, share_of, share_on_line, CrossOnce, TouchOnce};
-ghost use Rattle.grid_plane.specs.declared.share.Share.TheVariants.{Nothing, Along, Cross, Touch};
+ghost use Rattle.plane_terms.specs.Share.{turn, one_side, one_zero, is_beside, is_parallel, has_end_on, share_of, share_on_line, CrossOnce, TouchOnce};
+ghost use Rattle.plane_terms.specs.declared.share.Share.TheVariants.{Nothing, Along, Cross, Touch};
 
 use crate::point::GridPoint;
 use crate::rect::Rect;
-use crate::share::Share;
+use plane_terms::Share;
 use std::marker::Model;
 
 /// A segment between two different places of the grid. LineString segments in OGC 06-103r4.
@@ -245,7 +245,7 @@ impl Seg {
         is_one_zero(line.turn(&self.lo()), line.turn(&self.hi()))
     }
 
-    #[tactic(auto, unfolding(crate::specs::Share::share_of))]
+    #[tactic(auto, unfolding(plane_terms::specs::Share::share_of))]
     fn decide(&self, other: &Seg) -> Share
         ensures value { result ≡ share_of self.now other.now }
     {

@@ -13,8 +13,8 @@ use Rattle.number_laws.proofs.Order.{le_from_scaled, scaled_le, product_over, ov
 use Rattle.number_laws.proofs.Ring.{int_tests}
 use Rattle.number_laws.proofs.Tests.{Decides-int_le, Decides-int_lt}
 use Rattle.grid_plane.specs.Rectangles.{HoldsAt}
-use Rattle.grid_plane.specs.Share.{turn}
-use Rattle.grid_plane.proofs.Meeting.{at_turn, times_zero, turn_zero}
+use Rattle.plane_terms.specs.Share.{turn}
+use Rattle.cell_laws.proofs.Meeting.{at_turn, times_zero, turn_zero}
 
 -- ---- the tests of the definition, by the place's own coordinates
 from_left : (a x v : ℤ) (w : ℕ) → 0 < w → v ≡ x *ℤ pos w → int_le (a *ℤ pos w) v ≡ int_le a x

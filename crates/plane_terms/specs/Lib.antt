@@ -3,6 +3,7 @@ pub mod Point
 pub mod Rectangle
 pub mod HalfPlane
 pub mod Segment
+pub mod Share
 pub mod Cell
 pub mod Decide
 pub mod Carve

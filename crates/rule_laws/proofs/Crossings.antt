@@ -15,7 +15,7 @@ use Rattle.plane_terms.specs.declared.kind.Kind.TheVariants as shapes
 use Rattle.number_laws.proofs.Ring.{num, neg, ◌⊖◌, ◌⊗◌, lt_by, lt_read, le_by, le_read}
 use Rattle.number_laws.proofs.Order.{scaled_le, product_at_least, product_over, over_unscaled, least_unscaled, cases_order_ℤ}
 use Rattle.column_laws.proofs.Every.{every_map}
-use Rattle.rule_laws.proofs.Envelopes.{LiesIn, BothEnds, polygon_ends}
+use Rattle.rule_laws.proofs.Envelopes.{LiesIn, BothEnds, segments_ends}
 
 -- ---- parity
 differ : Bool → Bool → Bool
@@ -224,7 +224,7 @@ module _ (s : Shape) (e : s.kind ≡ shapes.Polygon) (p : Point) (i : IsInside (
 
   -- where each segment with both ends in the envelope does not count
   outside : ((t : Segment) → BothEnds (LiesIn box) t → counts t p ≡ false) → ⊥
-  outside f = never (none_odd p (segments_of s) (every_map (BothEnds (LiesIn box)) (λ t. counts t p ≡ false) f (segments_of s) (polygon_ends s e)))
+  outside f = never (none_odd p (segments_of s) (every_map (BothEnds (LiesIn box)) (λ t. counts t p ≡ false) f (segments_of s) (segments_ends s)))
 
   left_held : (box.x0 *ℤ pos p.w) ≤ℤ p.x
   left_held = elim (cases_order_ℤ p.x (box.x0 *ℤ pos p.w)) [
@@ -248,7 +248,7 @@ module _ (s : Shape) (e : s.kind ≡ shapes.Polygon) (p : Point) (i : IsInside (
   above_held = elim (cases_order_ℤ (box.y1 *ℤ pos p.w) p.y) [
     | inl l ↦
         let same = same_number (λ t. counts t p) (spans p) (segments_of s) (every_map (BothEnds (LiesIn box)) (λ t. counts t p ≡ spans p t)
-        (λ t h. counts_above p t (omega (arith, ints, l, scaled_le t.lo.y box.y1 p.w h.0.above), omega (arith, ints, l, scaled_le t.hi.y box.y1 p.w h.1.above))) (segments_of s) (polygon_ends s e)) in
+        (λ t h. counts_above p t (omega (arith, ints, l, scaled_le t.lo.y box.y1 p.w h.0.above), omega (arith, ints, l, scaled_le t.hi.y box.y1 p.w h.1.above))) (segments_of s) (segments_ends s)) in
         absurd (never (ap is_odd same ∙ polygon_even p s e))
     | inr k ↦ k
   ]

@@ -1,4 +1,4 @@
--- The vertices of a shape, and the ends of a polygon's segments, lie in its envelope.
+-- The vertices of a shape, and the ends of its segments, lie in its envelope.
 use Rattle.std.proofs.Common.{◌≡◌, arith, Bool, true, false, List, [], ◌∷◌, ◌++◌}
 use Rattle.std.specs.Prelude.{flat_map, if◌then◌else◌}
 use Rattle.std.proofs.lemmas.Int.{ints}
@@ -35,7 +35,7 @@ places_in : (ps : List Place) → Every (LiesIn (box_of_places ps)) ps
 places_in [] = tt
 places_in (p ∷ ps) = (box_grows (rect_at p) ps, box_has (rect_at p) ps)
 
-vertices_in : (s : Shape) → Every (LiesIn (envelope_of s)) (vertices_of s)
+pub vertices_in : (s : Shape) → Every (LiesIn (envelope_of s)) (vertices_of s)
 unfolding envelope_of
 vertices_in s = places_in (vertices_of s)
 
@@ -65,8 +65,18 @@ rings_ends P (ring ∷ rings) h =
     let k = (all_append P ring (flat_map (λ ring. ring) rings)).0 h in
     (all_append (BothEnds P) (closed_path ring) (flat_map closed_path rings)).1 (closed_ends P ring k.0, rings_ends P rings k.1)
 
-pub polygon_ends : (s : Shape) → s.kind ≡ shapes.Polygon → Every (BothEnds (LiesIn (envelope_of s))) (segments_of s)
-polygon_ends s e = by_kind (LiesIn (envelope_of s)) s.kind (rings_of s) e (vertices_in s)
+-- those of a line's
+paths_ends : (P : Place → Type 0) (rings : List (List Place)) → Every P (flat_map (λ ring. ring) rings) → Every (BothEnds P) (flat_map path rings)
+paths_ends P [] h = tt
+paths_ends P (ring ∷ rings) h =
+    let k = (all_append P ring (flat_map (λ ring. ring) rings)).0 h in
+    (all_append (BothEnds P) (path ring) (flat_map path rings)).1 (path_ends P ring k.0, paths_ends P rings k.1)
+
+-- those of any shape's
+pub segments_ends : (s : Shape) → Every (BothEnds (LiesIn (envelope_of s))) (segments_of s)
+segments_ends s = by_kind (LiesIn (envelope_of s)) s.kind (rings_of s) (vertices_in s)
   where
-    by_kind : (P : Place → Type 0) (k : Kind) (rings : List (List Place)) → k ≡ shapes.Polygon → Every P (flat_map (λ ring. ring) rings) → Every (BothEnds P) (segments_by k rings)
-    by_kind P k rings e h = rw e (rings_ends P rings h)
+    by_kind : (P : Place → Type 0) (k : Kind) (rings : List (List Place)) → Every P (flat_map (λ ring. ring) rings) → Every (BothEnds P) (segments_by k rings)
+    by_kind P shapes.Point rings h = tt
+    by_kind P shapes.Line rings h = paths_ends P rings h
+    by_kind P shapes.Polygon rings h = rings_ends P rings h

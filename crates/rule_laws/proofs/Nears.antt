@@ -31,7 +31,7 @@ none_passes test (Some f) n = elim (bool_cases (test f)) [
 ]
 
 -- what passes on one side is on the other
-passing_same : (test : Feature → Bool) (o q : Option Feature) → ((f : Feature) → o ≡ Some f → test f ≡ true → q ≡ Some f) → ((f : Feature) → q ≡ Some f → test f ≡ true → o ≡ Some f) → passing test o ≡ passing test q
+pub passing_same : (test : Feature → Bool) (o q : Option Feature) → ((f : Feature) → o ≡ Some f → test f ≡ true → q ≡ Some f) → ((f : Feature) → q ≡ Some f → test f ≡ true → o ≡ Some f) → passing test o ≡ passing test q
 passing_same test None q m n = sym (none_passes test q (λ f e t. let k = n f e t in cc))
 passing_same test (Some f) q m n = elim (bool_cases (test f)) [
   | inl t ↦ ap (passing test) (sym (m f refl t))

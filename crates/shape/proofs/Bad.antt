@@ -7,12 +7,12 @@ use Rattle.plane_terms.specs.Point.{Point}
 use Rattle.plane_terms.specs.Rectangle.{Rectangle, RectHolds, RectsMeet, rects_meet}
 use Rattle.plane_terms.specs.Segment.{Segment, IsSegment, SharePoint, Overlap, OnSegment, IsEndOf, box_of}
 use Rattle.plane_terms.specs.Shape.{AreSimple}
-use Rattle.grid_plane.specs.Share.{share_of, AreSame}
-use Rattle.grid_plane.specs.declared.share.Share.{Share}
-use Rattle.grid_plane.specs.declared.share.Share.TheVariants.{Nothing, Along, Cross, Touch}
-use Rattle.grid_plane.proofs.Decides.{Means, share_of-means, means_one, end_same}
-use Rattle.grid_plane.proofs.Envelope.{box_holds}
-use Rattle.grid_plane.proofs.Meeting.{cross_sym}
+use Rattle.plane_terms.specs.Share.{share_of, AreSame}
+use Rattle.plane_terms.specs.declared.share.Share.{Share}
+use Rattle.plane_terms.specs.declared.share.Share.TheVariants.{Nothing, Along, Cross, Touch}
+use Rattle.cell_laws.proofs.Shares.{Means, share_of-means, means_one, end_same}
+use Rattle.cell_laws.proofs.Envelope.{box_holds}
+use Rattle.cell_laws.proofs.Meeting.{cross_sym}
 use Rattle.grid_plane.proofs.Rectangles.{crossing}
 use Rattle.shape.specs.Faults.{AreBad, IsPair}
 use Rattle.shape.specs.Sweep.{is_bad, is_bad_share}

@@ -7,7 +7,7 @@ use Rattle.std.specs.List.Sorted.{IsPermutation}
 use Rattle.plane_terms.specs.Lists.{Every, EveryPair, SomeOf}
 use Rattle.plane_terms.specs.Rectangle.{Rectangle, rects_meet}
 use Rattle.plane_terms.specs.Segment.{Segment, IsSegment, Overlap, box_of}
-use Rattle.grid_plane.specs.Share.{CrossOnce}
+use Rattle.plane_terms.specs.Share.{CrossOnce}
 use Rattle.shape.specs.Faults.{AreBad, IsPair, IsFirstPair, IsBefore}
 use Rattle.shape.specs.declared.numbered.Numbered.{Numbered}
 use Rattle.shape.specs.declared.pair.Pair.{Pair}

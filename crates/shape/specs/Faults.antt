@@ -25,7 +25,7 @@ use Rattle.plane_terms.specs.Segment.{Segment, Overlap}
 use Rattle.plane_terms.specs.Shape.{Shape, rings_of, vertices_of, segments_of}
 use Rattle.plane_terms.specs.declared.kind.Kind.{Kind}
 use Rattle.plane_terms.specs.declared.kind.Kind.TheVariants as kind
-use Rattle.grid_plane.specs.Share.{CrossOnce}
+use Rattle.plane_terms.specs.Share.{CrossOnce}
 use Rattle.shape.specs.declared.fault.ShapeFault.{ShapeFault}
 use Rattle.shape.specs.declared.fault.ShapeFault.TheVariants.{TooFew, TooMany, Cross, Along, NoMemory}
 

@@ -15,9 +15,9 @@
 use Rattle.std.specs.Prelude.{◌≡◌, ℕ, ◌+◌, ◌==◌, nat_lt, Bool, true, false, not, cond, ◌&&◌, ◌||◌, List, [], ◌∷◌, Option, Some, None, ◌≤ℤ◌}
 use Rattle.plane_terms.specs.Lists.{EveryPair}
 use Rattle.plane_terms.specs.Segment.{Segment, IsSegment, Overlap, box_of}
-use Rattle.grid_plane.specs.Share.{share_of, CrossOnce}
-use Rattle.grid_plane.specs.declared.share.Share.{Share}
-use Rattle.grid_plane.specs.declared.share.Share.TheVariants as share
+use Rattle.plane_terms.specs.Share.{share_of, CrossOnce}
+use Rattle.plane_terms.specs.declared.share.Share.{Share}
+use Rattle.plane_terms.specs.declared.share.Share.TheVariants as share
 use Rattle.shape.specs.Faults.{AreBad, IsPair, IsFirstPair}
 use Rattle.shape.specs.declared.fault.ShapeFault.{ShapeFault}
 use Rattle.shape.specs.declared.fault.ShapeFault.TheVariants.{TooFew, TooMany, Cross, Along, NoMemory}

@@ -1,3 +1,5 @@
+pub mod Keyed
+pub mod Searches
 pub mod Planes
 pub mod Dirts
 pub mod Edits
@@ -11,4 +13,5 @@ pub mod Pieces
 pub mod Cuts
 pub mod Meetings
 pub mod FeatureLists
+pub mod RuleLists
 pub mod Scratch

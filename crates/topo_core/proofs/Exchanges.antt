@@ -3,17 +3,17 @@ use Rattle.std.proofs.Common.{◌≡◌, ◌≢◌, inl, inr, ℕ, ◌+◌, ◌<
 use Rattle.std.specs.Prelude.{is_some, MatchOption}
 use Rattle.std.specs.Option.{option_map, option_to_list}
 use Rattle.std.specs.Result.{IsErrAnd, IfErr}
-use Rattle.std.proofs.lemmas.Bool.Decides.{eqb_tells}
 use Rattle.plane_terms.specs.Rectangle.{Rectangle}
 use Rattle.plane_terms.specs.Shape.{Shape, envelope_of}
 use Rattle.plane_terms.specs.Dirt.{add_dirt, add_all}
 use Rattle.plane_terms.specs.declared.kind.Kind.{Kind}
-use Rattle.topology_terms.specs.Feature.{Class, Feature, feature_at, env, IsSetAt}
+use Rattle.topology_terms.specs.Feature.{Class, Feature, by_handle, feature_at, env, IsSetAt}
 use Rattle.topology_terms.specs.Changes.{add_envelope, IsFeatureAdded, IsFeatureSet}
 use Rattle.topology_terms.specs.Causes.{Tells, add_cause}
 use Rattle.topology_terms.specs.Entry.{Entry}
 use Rattle.topology_terms.specs.Project.{Project, InForce, empty_project}
-use Rattle.sound_laws.proofs.FeatureLists.{at_handle, past_handle, own_handle, handle_of}
+use Rattle.sound_laws.proofs.Keyed.{last_here, last_other, differ}
+use Rattle.sound_laws.proofs.FeatureLists.{handles, handle_of}
 use Rattle.feature_store.specs.Stored.{Stored, IsSame}
 use Rattle.feature_store.specs.Keeps.{IsOfClass, IsGiven}
 use Rattle.feature_store.specs.Faults.{store_cause}
@@ -26,25 +26,12 @@ use Rattle.topo_core.specs.Faults.{change_fault, edit_cause}
 use Rattle.topo_core.specs.declared.fault.ChangeFault.{ChangeFault}
 use Rattle.topo_core.proofs.Whole.{none_given}
 
-end_here : (F : List Feature) (f : Feature) → feature_at F f.handle ≡ None → feature_at (F ++ f ∷ []) f.handle ≡ Some f
-end_here [] f e = at_handle f [] f.handle (own_handle f.handle)
-end_here (g ∷ F) f e = elim (eqb_tells g.handle f.handle) [
-  | inl t ↦ absurd (let k = at_handle g F f.handle t.0 in cc)
-  | inr t ↦ past_handle g (F ++ f ∷ []) f.handle t.0 ∙ end_here F f (sym (past_handle g F f.handle t.0) ∙ e)
-]
-
-end_other : (F : List Feature) (f : Feature) (k : ℕ) → k ≢ f.handle → feature_at (F ++ f ∷ []) k ≡ feature_at F k
-end_other [] f k n = elim (eqb_tells f.handle k) [
-  | inl t ↦ absurd (n (sym t.1))
-  | inr t ↦ past_handle f [] k t.0
-]
-end_other (g ∷ F) f k n = elim (eqb_tells g.handle k) [
-  | inl t ↦ at_handle g (F ++ f ∷ []) k t.0 ∙ sym (at_handle g F k t.0)
-  | inr t ↦ past_handle g (F ++ f ∷ []) k t.0 ∙ (end_other F f k n ∙ sym (past_handle g F k t.0))
-]
-
 set_end : (F : List Feature) (f : Feature) → feature_at F f.handle ≡ None → IsSetAt f.handle (Some f) F (F ++ f ∷ [])
-set_end F f e = record { here = end_here F f e; others = λ k n. end_other F f k n }
+unfolding feature_at
+set_end F f e = record {
+  here = last_here by_handle handles F f f.handle (handles.own f.handle) e;
+  others = λ k n. last_other by_handle handles F f k (differ by_handle handles f.handle k (λ e. n (sym e)));
+}
 
 -- what a store keeps as its features change
 pub record ChangesFeatures (next : ℕ) (F : List Feature) (s t : Stored) : Type 0 where

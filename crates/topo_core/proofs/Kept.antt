@@ -2,6 +2,7 @@
 use Rattle.std.proofs.Common.{◌≡◌, inl, inr, ℕ, List, [], ◌∷◌, ◌++◌, Option, Some, None, sym, ◌∙◌}
 use Rattle.std.specs.Option.{IfSome}
 use Rattle.plane_terms.specs.Lists.{Every}
+use Rattle.plane_terms.proofs.ListLemmas.{every_map}
 use Rattle.plane_terms.specs.Rectangle.{Rectangle, IsRectangle}
 use Rattle.plane_terms.specs.declared.kind.Kind.{Kind}
 use Rattle.topology_terms.specs.Feature.{Class, Feature, env}
@@ -56,11 +57,8 @@ dest_end cs d n None h = tt
 dest_end cs d n (Some k) h = kind_end cs d n k h
 
 kinds_end : (cs : List Class) (d : Class) (rules : List InForce) → Every (λ (q : InForce). HasKinds cs q.row) rules → Every (λ (q : InForce). HasKinds (cs ++ d ∷ []) q.row) rules
-kinds_end cs d [] h = tt
-kinds_end cs d (q ∷ rules) h = (
-  record { origin = kind_end cs d q.row.origin.class (origin_of q.row.kind) h.0.origin; dest = dest_end cs d q.row.dest.class (dest_of q.row.kind) h.0.dest },
-  kinds_end cs d rules h.1,
-)
+kinds_end cs d rules h = every_map (λ (q : InForce). HasKinds cs q.row) (λ (q : InForce). HasKinds (cs ++ d ∷ []) q.row)
+    (λ q k. record { origin = kind_end cs d q.row.origin.class (origin_of q.row.kind) k.origin; dest = dest_end cs d q.row.dest.class (dest_of q.row.kind) k.dest }) rules h
 
 pub class_keeps : (name : List ℕ) (k : Kind) (old new : Project) → IsTopology old → IsClassAdded name k old new → IsStore new.classes new.features new.next → IsTopology new
 class_keeps name k old new t i s = record {

@@ -1,10 +1,9 @@
 -- What every topology keeps: it is ordered, its rules fit, and it is a project by any meaning that asks for kinds alone.
 use Rattle.std.proofs.Common.{◌≡◌, inl, inr, ℕ, ◌<◌, List, [], ◌∷◌, Option, Some, None, refl, sym, ◌∙◌, ap, arith}
 use Rattle.std.specs.Option.{IfSome}
-use Rattle.std.proofs.lemmas.Bool.Decides.{eqb_tells}
 use Rattle.plane_terms.specs.Lists.{Every}
 use Rattle.plane_terms.specs.declared.kind.Kind.{Kind}
-use Rattle.topology_terms.specs.Feature.{Class, Feature, feature_at}
+use Rattle.topology_terms.specs.Feature.{Class, Feature, by_handle, feature_at}
 use Rattle.rule_words.specs.Table.{origin_of, dest_of}
 use Rattle.topology_terms.specs.Broken.{Row, Fits}
 use Rattle.topology_terms.specs.Meaning.{Meaning}
@@ -13,15 +12,13 @@ use Rattle.topology_terms.specs.Lookups.{kind_of_class}
 use Rattle.topology_terms.specs.Sound.{IsSoundUnder}
 use Rattle.topology_terms.specs.Settled.{IsSettledUnder}
 use Rattle.topology_terms.specs.Project.{Project, InForce, IsProject, IsOrdered, rule_at, empty_project}
-use Rattle.sound_laws.proofs.FeatureLists.{past_handle}
+use Rattle.sound_laws.proofs.Keyed.{none_lacks, lacks_before}
+use Rattle.sound_laws.proofs.FeatureLists.{handles}
+use Rattle.sound_laws.proofs.RuleLists.{rule_each}
 use Rattle.feature_store.specs.Keeps.{IsOfClass, IsGiven, HasSimpleSides, IsStore}
-use Rattle.feature_store.proofs.Keeping.{live_each}
+use Rattle.feature_store.proofs.Keeping.{live_each, below_next}
 use Rattle.topo_core.specs.Kinds.{HasKinds, TakesKinds}
 use Rattle.topo_core.specs.Topologies.{IsTopology}
-
-below_next : (next : ℕ) (F : List Feature) → Every (IsGiven next) F → Every (λ (f : Feature). f.handle < next) F
-below_next next [] h = tt
-below_next next (f ∷ F) h = (h.0.before, below_next next F h.1)
 
 pub ordered : (p : Project) → IsTopology p → IsOrdered p
 ordered p t = record { rules = t.rules; features = t.store.ascending; next = below_next p.next p.features t.store.given; entries = t.order }
@@ -29,19 +26,7 @@ ordered p t = record { rules = t.rules; features = t.store.ascending; next = bel
 -- no feature has the next handle
 pub none_given : (h : ℕ) (F : List Feature) → Every (IsGiven h) F → feature_at F h ≡ None
 unfolding feature_at
-none_given h [] g = refl
-none_given h (f ∷ F) g = elim (eqb_tells f.handle h) [
-  | inl t ↦ absurd (let l = g.0.before in let e = t.1 in omega arith)
-  | inr t ↦ past_handle f F h t.0 ∙ none_given h F g.1
-]
-
-rule_each : (P : Row → Type 0) (rules : List InForce) (n : ℕ) (row : Row) → Every (λ (q : InForce). P q.row) rules → rule_at rules n ≡ Some row → P row
-unfolding rule_at
-rule_each P [] n row h e = absurd cc
-rule_each P (q ∷ rules) n row h e = elim (eqb_tells q.number n) [
-  | inl t ↦ let k : Some q.row ≡ Some row = rw t.0 at e in let same : q.row ≡ row = cc in rw (← same) h.0
-  | inr t ↦ rule_each P rules n row h.1 (rw t.0 at e)
-]
+none_given h F g = none_lacks by_handle handles h F (lacks_before by_handle handles h F (below_next h F g))
 
 kind_agrees : (cs : List Class) (f : Feature) (n : ℕ) (k : Kind) → IsOfClass cs f → f.class ≡ n → kind_of_class cs n ≡ Some k → f.shape.kind ≡ k
 kind_agrees cs f n k o e h =

@@ -1,3 +1,4 @@
+pub mod Keyed
 pub mod Feature
 pub mod Sentences
 pub mod Rules

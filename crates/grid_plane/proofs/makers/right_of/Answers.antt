@@ -3,7 +3,7 @@ use Rattle.plane_terms.specs.HalfPlane.{HalfPlane, Holds}
 use Rattle.plane_terms.specs.Segment.{cross}
 use Rattle.plane_terms.specs.declared.op.Op.TheVariants.{Over}
 use Rattle.grid_plane.proofs.Numbers.{read_back, neg_back, more_fits, same_half, neg_turned}
-use Rattle.grid_plane.proofs.HalfPlanes.{right_holds}
+use Rattle.cell_laws.proofs.HalfPlanes.{right_holds}
 use Rattle.grid_plane.proofs.makers.right_of.Goals as goal
 
 pub returns-clause-meaning : goal.returns-clause-meaning

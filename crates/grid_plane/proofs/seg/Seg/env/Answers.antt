@@ -1,6 +1,6 @@
 use Rattle.std.proofs.Common.{arith}
 use Rattle.std.proofs.lemmas.Int.{ints, clamps}
-use Rattle.grid_plane.proofs.Envelope.{ends_rise}
+use Rattle.cell_laws.proofs.Envelope.{ends_rise}
 use Rattle.grid_plane.proofs.seg.Seg.env.Goals as goal
 
 pub invariant_of-result : goal.invariant_of-result

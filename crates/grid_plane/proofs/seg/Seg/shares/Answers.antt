@@ -2,10 +2,10 @@ use Rattle.std.proofs.Common.{sym, ◌∙◌, subst}
 use Rattle.std.proofs.lemmas.Bool.{false≢true}
 use Rattle.plane_terms.specs.Rectangle.{RectsMeet}
 use Rattle.plane_terms.specs.Segment.{box_of}
-use Rattle.grid_plane.proofs.Meeting.{NoneShared}
-use Rattle.grid_plane.specs.declared.share.Share.TheVariants.{Nothing, Along, Cross, Touch}
-use Rattle.grid_plane.proofs.Envelope.{apart_by_box}
-use Rattle.grid_plane.proofs.Decides.{Means, share_of-means, means_one, exactly, none_shared}
+use Rattle.cell_laws.proofs.Meeting.{NoneShared}
+use Rattle.plane_terms.specs.declared.share.Share.TheVariants.{Nothing, Along, Cross, Touch}
+use Rattle.cell_laws.proofs.Envelope.{apart_by_box}
+use Rattle.cell_laws.proofs.Shares.{Means, share_of-means, means_one, exactly, none_shared}
 use Rattle.grid_plane.proofs.seg.Seg.shares.Goals as goal
 
 -- where the envelopes are apart
