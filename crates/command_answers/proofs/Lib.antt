@@ -1,4 +1,5 @@
 pub mod Counts
 pub mod Answering
 pub mod Headlines
+pub mod OneAnswer
 pub mod Replying

@@ -74,7 +74,7 @@ bare_at es r a b h = sym (entry_at-unmark es r a b) ∙ ap (λ fs. entry_at fs r
   where
     all_bare : (es : List Entry) → Every (λ (e : Entry). e.marked ≡ false) es → map unmarked es ≡ es
     all_bare [] h = refl
-    all_bare (e ∷ es) h = let rest = all_bare es h.1 in let here : unmarked e ≡ e = (let m = h.0 in cc) in rw (here, rest) refl
+    all_bare (e ∷ es) h = ap (λ m. record e { marked = m } ∷ map unmarked es) (sym h.0) ∙ ap (λ fs. e ∷ fs) (all_bare es h.1)
 
 pub one_scratch : (M : Meaning) → CutsRight M → (p : Project) (es fs : List Entry) → IsFromScratch M p es → IsFromScratch M p fs → es ≡ fs
 one_scratch M C p es fs u v = same_entries es fs u.ascending v.ascending (λ r a b.
