@@ -2,6 +2,7 @@
 """The public clauses of the repository, and the wrong bodies that are aimed at them, read from the sources.
 
 usage: tools/contracts.py [CRATE..]        of these crates; of all where none is named
+       tools/contracts.py --without        the clauses that none is aimed at, by why, as docs/testing.md has them
 
 It prints a line for each clause of a public function: how many wrong bodies of crates/*/must-fail are aimed at it, the
 function, the clause. A clause without a name of its own is called `ensures`. A wrong body says in its first line what it is
@@ -24,7 +25,26 @@ ITEM = re.compile(r'^(?P<indent> *)(?:(?P<public>pub) )?(?:const )?(?:unsafe )?(
                   r'|trait (?P<declared>\w+)|fn (?P<function>\w+))', re.M)
 CLAUSE = re.compile(r'^ *ensures\*? *(\w*) *\{', re.M)
 
-Function = collections.namedtuple('Function', 'crate owner name clauses')
+Function = collections.namedtuple('Function', 'crate owner name clauses is_declared body')
+
+# Why no wrong body is aimed at a clause: the first of these that holds of its function and its name.
+WHYS = [
+    ('of a comparison program or of the tests', lambda f, clause: re.match('plain_|test_|bench_', f.crate)),
+    ('a law: its body is empty or only calls others, so that no other body means anything', lambda f, clause: f.name.endswith('_law')),
+    ('of a trait: its bodies are those of the types that have it', lambda f, clause: f.is_declared),
+    ('of the streams in memory, which only the tests use', lambda f, clause: re.match('Mem|Sure', f.owner or '')),
+    ('after a refusal nothing has changed: `topo_core/a_refused_change_dirties` stands for all',
+     lambda f, clause: clause in ('err', 'kept', 'same', 'uncounted', 'no_memory', 'errors_kept', 'dirt_kept')),
+    ('a copy is equal: `error_store/a_copy_loses_its_mark` stands for all', lambda f, clause: f.name == 'try_copy'),
+    ('a bound or a shape of the value that another clause of the function says in full',
+     lambda f, clause: clause in ('bound', 'valid', 'reach', 'in_reach', 'few', 'points', 'loose', 'named', 'whole', 'ends', 'from_1', 'room', 'keeps')),
+    ('what every state keeps: a body that breaks it breaks what the call says of the new state too',
+     lambda f, clause: clause in ('ordered', 'ascending', 'own', 'fits', 'sound', 'settled', 'rising', 'on_grid')),
+    ('its body is one line, which hands out or makes a value: whoever calls it could not be proved with another',
+     lambda f, clause: f.body.count('\n') <= 2 or not re.search(r'\b(if|match|for|while|let)\b|\?', f.body)),
+    ('another clause of the function has one', lambda f, clause: False),
+    ('not yet: a caller above could not be proved with another value', lambda f, clause: True),
+]
 
 
 def crates():
@@ -64,6 +84,16 @@ def head_of(text, start):
     return text[start:]
 
 
+def body_of(text, start):
+    """The body that begins here, with its braces; nothing where there is none."""
+    depth = 0
+    for i in range(start, len(text)):
+        depth += {'{': 1, '}': -1}.get(text[i], 0)
+        if depth == 0:
+            return text[start:i + 1]
+    return ''
+
+
 def functions_of(crate):
     """The public functions of a crate with their clauses, those of a trait's method where it has none."""
     names = handed_out(crate)
@@ -81,7 +111,9 @@ def functions_of(crate):
                 continue
             head = head_of(text, item.start())
             clauses = [name or 'ensures' for name in CLAUSE.findall(head)]
-            yield Function(crate, owner if inner else None, item['function'], clauses), trait if inner else None
+            body = body_of(text, item.start() + len(head))
+            function = Function(crate, owner if inner else None, item['function'], clauses, inner and is_trait, body)
+            yield function, trait if inner else None
 
 
 def all_functions():
@@ -119,6 +151,23 @@ def wrong_aims():
             yield '%s: no public function %s::%s has a clause %s' % (path, aim[0], '::'.join(aim[1]), aim[2])
 
 
+def wrong_texts():
+    """A line for each wrong body that cannot be put in: its old text does not stand there once."""
+    for path, _ in edits():
+        crate, source, text, old = os.path.join(ROOT, os.path.dirname(os.path.dirname(path))), None, '', None
+        for line in text_of(os.path.join(ROOT, path)).split('\n'):
+            word, _, rest = line.partition(': ')
+            if word == 'file':
+                source = os.path.join(crate, rest)
+                text = text_of(source) if os.path.exists(source) else ''
+            elif word == 'old':
+                old = rest
+            elif word == 'new':
+                if text.count(old) != 1:
+                    yield '%s: %r stands %d times in its file' % (path, old, text.count(old))
+                text = text.replace(old, rest)
+
+
 def counts():
     """Each public clause with the number of wrong bodies that are aimed at it."""
     aims = [aim for _, aim in edits() if aim]
@@ -127,7 +176,30 @@ def counts():
             yield function, clause, sum(is_aimed(aim, function) and aim[2] == clause for aim in aims)
 
 
+def without():
+    """The clauses that no wrong body is aimed at, by why."""
+    aimed = {(function.crate, function.owner, function.name) for function, _, count in counts() if count}
+    rows = {why: collections.defaultdict(list) for why, _ in WHYS}
+    for function, clause, count in counts():
+        if not count:
+            why = next(why for why, holds in WHYS if holds(function, clause))
+            if why.startswith('not yet') and (function.crate, function.owner, function.name) in aimed:
+                why = WHYS[-2][0]
+            rows[why][shown(function)].append(clause)
+    return rows
+
+
+def print_without():
+    print('| Why | Clauses | Which |\n|---|---|---|')
+    for why, functions in without().items():
+        texts = ['%s (%s)' % (name, ', '.join(clauses)) for name, clauses in functions.items()]
+        if texts:
+            print('| %s | %d | %s |' % (why, sum(map(len, functions.values())), '; '.join(texts)))
+
+
 def main():
+    if sys.argv[1:] == ['--without']:
+        return print_without()
     chosen = set(sys.argv[1:])
     for function, clause, count in counts():
         if not chosen or function.crate in chosen:

@@ -10,8 +10,6 @@ mod parity;
 mod push;
 mod ranked;
 mod slots;
-#[cfg(test)]
-mod tests;
 mod vertices;
 
 pub use cut::{inside, outside};

@@ -12,7 +12,7 @@ use Rattle.topology_terms.specs.Feature.{Feature, feature_at}
 use Rattle.topology_terms.specs.Lookups.{class_number}
 use Rattle.topology_terms.specs.Poster.{poster}
 use Rattle.topology_terms.specs.Project.{Project}
-use Rattle.topology_terms.specs.Sentences.{is_built}
+use Rattle.topology_terms.specs.Built.{is_built}
 use Rattle.topology_terms.specs.Settled.{IsValidatedBy}
 use Rattle.topology_terms.specs.declared.cause.Cause.{Cause}
 use Rattle.topology_terms.specs.declared.cause.Cause.TheVariants as cause

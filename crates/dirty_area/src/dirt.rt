@@ -136,6 +136,3 @@ impl Dirt {
         })
     }
 }
-
-#[cfg(test)]
-mod tests;

@@ -2,10 +2,11 @@
 --
 -- IsOfClass cs f   the class of the feature is one of these, and has the kind of its shape
 -- IsGiven n f      the handle of the feature was given before the handle n
--- HasSimpleSides f the segments of the feature, where it is a polygon, meet at ends alone
--- IsStore cs F n   at most 64 classes, no two of one name; features ascend by handle, each of a class of its kind, under a handle that was given; each polygon is simple
-use Rattle.std.specs.Prelude.{◌≡◌, ◌≢◌, ℕ, ◌<◌, ◌≤◌, List, length, Some}
+-- HasSimpleSides f the segments of the feature are proper; those of a polygon meet at ends alone, and there are some
+-- IsStore cs F n   at most 64 classes, no two of one name; features ascend by handle, each of a class of its kind, under a handle that was given; each with simple sides
+use Rattle.std.specs.Prelude.{◌≡◌, ◌≢◌, ℕ, ◌<◌, ◌≤◌, List, [], length, Some}
 use Rattle.plane_terms.specs.Lists.{Every, EveryPair}
+use Rattle.plane_terms.specs.Segment.{IsSegment}
 use Rattle.plane_terms.specs.Polygon.{IsSimpleList}
 use Rattle.plane_terms.specs.declared.kind.Kind.TheVariants as shapes
 use Rattle.topology_terms.specs.Feature.{Class, Feature, IsAscending, sides}
@@ -19,7 +20,9 @@ pub record IsGiven (n : ℕ) (f : Feature) : Type 0 where
   pub before : f.handle < n
 
 pub record HasSimpleSides (f : Feature) : Type 0 where
+  pub proper : Every IsSegment (sides f)
   pub polygon : f.shape.kind ≡ shapes.Polygon → IsSimpleList (sides f)
+  pub boundary : f.shape.kind ≡ shapes.Polygon → sides f ≢ []
 
 abbrev pub AreUnlike : Class → Class → Type 0
 AreUnlike c d = c.name ≢ d.name

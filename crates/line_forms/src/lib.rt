@@ -18,6 +18,3 @@ pub use grid_plane::Name;
 pub use read::{FormFault, LINE_LIMIT, one_form_law, read_form};
 pub use rule_words::{Kind, RuleKind};
 pub use window_number::WindowNumber;
-
-#[cfg(test)]
-mod tests;

@@ -1,6 +1,6 @@
 -- Going over a view for the partners of its subject: all that it holds are near, and what is found stands in the order of handles.
 use Rattle.std.proofs.Common.{◌≡◌, inl, inr, ℕ, ◌<◌, ◌+◌, zero, suc, Bool, true, false, List, [], ◌∷◌, ◌++◌, Some, refl, sym, ◌∙◌, ap, subst, arith, take, length, get_or, cond, append-nil}
-use Rattle.std.specs.Prelude.{◌==◌, ◌&&◌, nat_lt, slice_get}
+use Rattle.std.specs.Prelude.{◌&&◌, nat_lt, slice_get}
 use Rattle.std.specs.List.{filter}
 use Rattle.std.proofs.lemmas.List.Elements.{filter_more}
 use Rattle.std.proofs.lemmas.Grind.{flat_map-append}
@@ -8,33 +8,17 @@ use Rattle.std.proofs.lemmas.Option.{get_or_from_slice_get, slice_get_within}
 use Rattle.plane_terms.specs.Lists.{Every, IsThose}
 use Rattle.plane_terms.specs.Cell.{Cell}
 use Rattle.plane_terms.specs.Rectangle.{rects_meet}
-use Rattle.topology_terms.specs.Feature.{Feature, Side, is_on_side, feature_at, env, IsAscending}
+use Rattle.topology_terms.specs.Feature.{Feature, Side, is_on_side, env, IsAscending}
 use Rattle.topology_terms.specs.Broken.{Row}
 use Rattle.topology_terms.specs.Meaning.{Finding}
-use Rattle.topology_terms.specs.Cutting.{near, near_after, finding_of, pair_findings}
+use Rattle.topology_terms.specs.Plans.{near, near_after, finding_of, pair_findings}
 use Rattle.plane_terms.proofs.ListLemmas.{every_got}
+use Rattle.sound_laws.proofs.FeatureFilters.{same_kept, kept_twice}
 pub use Rattle.sound_laws.proofs.FeatureLists.{each_live}
 use Rattle.sound_laws.proofs.Meetings.{meets_test}
 use Rattle.rule_core.specs.Shown.{IsShown}
 
 -- ---- filters
-same_pick : (b d : Bool) (f : Feature) (F G : List Feature) → b ≡ d → F ≡ G → cond b (f ∷ F) F ≡ cond d (f ∷ G) G
-same_pick b d f F G e k = rw (e, k) refl
-
--- tests that agree on each feature keep the same
-same_kept : (s t : Feature → Bool) (F : List Feature) → Every (λ (g : Feature). s g ≡ t g) F → filter s F ≡ filter t F
-same_kept s t [] k = refl
-same_kept s t (f ∷ F) k = same_pick (s f) (t f) f (filter s F) (filter t F) k.0 (same_kept s t F k.1)
-
--- of what passes one test, what passes another
-pub kept_twice : (s t : Feature → Bool) (F : List Feature) → filter s (filter t F) ≡ filter (λ g. t g && s g) F
-kept_twice s t [] = refl
-kept_twice s t (f ∷ F) = both (t f) (kept_twice s t F)
-  where
-    both : (b : Bool) → filter s (filter t F) ≡ filter (λ g. t g && s g) F → filter s (cond b (f ∷ filter t F) (filter t F)) ≡ cond (b && s f) (f ∷ filter (λ g. t g && s g) F) (filter (λ g. t g && s g) F)
-    both true e = same_pick (s f) (s f) f (filter s (filter t F)) (filter (λ g. t g && s g) F) refl e
-    both false e = e
-
 -- where a test decides, what it keeps are those
 those_pick : (P : Feature → Type 0) (b : Bool) (f : Feature) (F G : List Feature) → (b ≡ true → P f) → (P f → b ≡ true) → IsThose P F G → IsThose P (f ∷ F) (cond b (f ∷ G) G)
 those_pick P true f F G y n h = inl (y refl, (G, refl, h))

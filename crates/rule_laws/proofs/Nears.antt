@@ -5,7 +5,7 @@ use Rattle.std.specs.List.{filter}
 use Rattle.std.proofs.lemmas.Bool.Decides.{nat_tests}
 use Rattle.plane_terms.specs.Rectangle.{RectsMeet, rects_meet}
 use Rattle.topology_terms.specs.Feature.{Feature, Side, IsOf, is_on_side, feature_at, env, Agree, IsAscending}
-use Rattle.topology_terms.specs.Cutting.{near, near_after}
+use Rattle.topology_terms.specs.Plans.{near, near_after}
 use Rattle.sound_laws.proofs.Dirts.{bool_cases}
 use Rattle.sound_laws.proofs.FeatureLists.{passing, of_filter, handle_of, feature_at-filter, ascending_filter, same_features, at_handle, past_handle, past_pick}
 use Rattle.sound_laws.proofs.Meetings.{meets_from_test, envelope_proper}

@@ -12,7 +12,7 @@
 use Rattle.std.specs.Prelude.{ℕ, Bool, false, not, List, [], ◌∷◌, Option, Some, None, is_some, is_none}
 use Rattle.std.specs.Option.{option_map}
 use Rattle.rule_words.specs.declared.rule_kind.RuleKind.{RuleKind}
-use Rattle.topology_terms.specs.Sentences.{is_built}
+use Rattle.topology_terms.specs.Built.{is_built}
 use Rattle.topology_terms.specs.Broken.{Row}
 use Rattle.topology_terms.specs.Project.{Project}
 use Rattle.topology_terms.specs.Lookups.{class_number}

@@ -11,6 +11,3 @@ pub use command::Command;
 pub use fault::{LineFault, LineRefusal};
 pub use line_forms::{Kind, LINE_LIMIT, Name, RuleKind};
 pub use read::{one_command_law, read_line};
-
-#[cfg(test)]
-mod tests;

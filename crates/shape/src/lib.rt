@@ -14,8 +14,6 @@ mod same;
 mod segments;
 mod shape;
 mod sweep;
-#[cfg(test)]
-mod tests;
 mod vertices;
 
 pub use fault::ShapeFault;

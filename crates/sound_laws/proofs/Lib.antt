@@ -13,5 +13,6 @@ pub mod Pieces
 pub mod Cuts
 pub mod Meetings
 pub mod FeatureLists
+pub mod FeatureFilters
 pub mod RuleLists
 pub mod Scratch

@@ -45,9 +45,12 @@ live_simple F h f all e = let o = live_each HasSimpleSides F h all in rw e at o
 
 row_fits : (cs : List Class) (F : List Feature) (next : ℕ) (row : Row) → IsStore cs F next → HasKinds cs row → Fits row F
 row_fits cs F next row s h = record {
+  ascending = s.ascending;
   origin = λ a f o. kind_agrees cs f row.origin.class (origin_of row.kind) (live_class cs F a f s.kinds o.live) o.on_side.class h.origin;
   dest = λ a f o. dest_fits cs f row.dest.class (dest_of row.kind) (live_class cs F a f s.kinds o.live) o.on_side.class h.dest;
+  proper = λ a f e. (live_simple F a f s.simple e).proper;
   simple = λ a f e. (live_simple F a f s.simple e).polygon;
+  boundary = λ a f e. (live_simple F a f s.simple e).boundary;
 }
 
 pub fitting : (M : Meaning) → TakesKinds M → (p : Project) → IsTopology p → (n : ℕ) (row : Row) → rule_at p.rules n ≡ Some row → M.Fits row p.features

@@ -12,7 +12,7 @@ use Rattle.plane_terms.specs.declared.kind.Kind.TheVariants as shapes
 use Rattle.plane_terms.proofs.Points.{point}
 use Rattle.topology_terms.specs.Feature.{Feature, Side, feature_at, sides, env}
 use Rattle.topology_terms.specs.Broken.{Row, BrokenAt}
-use Rattle.topology_terms.specs.Cutting.{IsCutting}
+use Rattle.topology_terms.specs.Plans.{IsCutting}
 use Rattle.rule_words.specs.declared.rule_kind.RuleKind.TheVariants as kind
 
 abbrev at : ℤ → ℤ → Place
@@ -53,16 +53,8 @@ not_2_1 p h = omega (arith, h.first)
 
 -- the finding of the subject 1 is one cell at 3 4
 cut_3_4 : IsCutting disjoint wells 1 (record { other = 2; whole = false; cells = (x_is (pos 3) ∷ y_is (pos 4) ∷ []) ∷ [] } ∷ [])
-unfolding IsCutting BrokenAt feature_at envelope_of
-cut_3_4 = (
-  well 1 (pos 3) (pos 4),
-  refl,
-  record {
-    chosen = well 2 (pos 3) (pos 4) ∷ [];
-    those = inl ((point (pos 3) (pos 4), record { x = refl; y = refl }, at_3_4), ([], refl, refl));
-    findings = refl;
-  },
-)
+unfolding IsCutting feature_at envelope_of
+cut_3_4 = (well 1 (pos 3) (pos 4), refl, refl)
 
 -- ---- two squares that overlap
 abbrev lot : ℕ → ℤ → ℤ → Feature

@@ -6,11 +6,11 @@ use Rattle.std.specs.Prelude.{ℕ, ◌+◌, List, min, max}
 use Rattle.std.specs.List.{sum_by}
 use Rattle.plane_terms.specs.Lists.{how_many}
 use Rattle.topology_terms.specs.Feature.{Feature}
-use Rattle.topology_terms.specs.Broken.{judges_test}
+use Rattle.topology_terms.specs.Broken.{judged}
 use Rattle.topology_terms.specs.Project.{InForce}
 
 abbrev pub raised : ℕ → ℕ → ℕ
 raised n k = max n (min (n + k) 18446744073709551615)
 
 abbrev pub judged_of : List InForce → List Feature → ℕ
-judged_of rules fs = sum_by (λ (rule : InForce). how_many (judges_test rule.row) fs) rules
+judged_of rules fs = sum_by (λ (rule : InForce). how_many (judged rule.row) fs) rules

@@ -1,10 +1,14 @@
 pub mod Keyed
 pub mod Feature
-pub mod Sentences
+pub mod Together
+pub mod Crossings
 pub mod Rules
 pub mod Broken
+pub mod Built
 pub mod Meaning
-pub mod Cutting
+pub mod Cells
+pub mod Tests
+pub mod Plans
 pub mod Poster
 pub mod Entry
 pub mod Project

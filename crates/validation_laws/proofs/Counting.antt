@@ -11,7 +11,7 @@ use Rattle.std.proofs.lemmas.Grind.{flat_map-append}
 use Rattle.plane_terms.specs.Lists.{Every, IsThose, how_many}
 use Rattle.plane_terms.proofs.ListLemmas.{every_map}
 use Rattle.topology_terms.specs.Feature.{Feature, by_handle, feature_at, IsAscending}
-use Rattle.topology_terms.specs.Broken.{Row, judges_test}
+use Rattle.topology_terms.specs.Broken.{Row, judged}
 use Rattle.topology_terms.specs.Project.{InForce}
 use Rattle.sound_laws.proofs.Keyed.{at_own, after_later}
 use Rattle.sound_laws.proofs.FeatureLists.{handles, at_handle, past_handle, none_below, handle_of, same_features}
@@ -37,10 +37,10 @@ how_many_joined test (x ∷ xs) ys = one_more (test x) (how_many test (xs ++ ys)
 
 -- one subject more
 pub judged_more : (row : Row) (F : List Feature) (selected : List ℕ) (i a before work new : ℕ) → i < length selected → a ≡ get_or selected i a
-    → work ≡ raised before (how_many (judges_test row) (live_of F (take i selected))) → new ≡ raised work (how_many (judges_test row) (option_to_list (feature_at F a)))
-    → new ≡ raised before (how_many (judges_test row) (live_of F (take (i + 1) selected)))
+    → work ≡ raised before (how_many (judged row) (live_of F (take i selected))) → new ≡ raised work (how_many (judged row) (option_to_list (feature_at F a)))
+    → new ≡ raised before (how_many (judged row) (live_of F (take (i + 1) selected)))
 judged_more row F selected i a before work new l e h k =
-    let test = judges_test row in
+    let test = judged row in
     let one : ℕ → List Feature = λ n. option_to_list (feature_at F n) in
     let more : take (i + 1) selected ≡ take i selected ++ a ∷ [] = take_more selected i a l ∙ ap (λ y. take i selected ++ y ∷ []) (sym e) in
     let split : live_of F (take i selected ++ a ∷ []) ≡ live_of F (take i selected) ++ live_of F (a ∷ []) = flat_map-append one (take i selected) (a ∷ []) in
@@ -50,9 +50,9 @@ judged_more row F selected i a before work new l e h k =
 
 -- one rule more
 pub judged_rule_more : (fs : List Feature) (rules : List InForce) (i : ℕ) (rule : InForce) (before work new : ℕ) → i < length rules → rule ≡ get_or rules i rule
-    → work ≡ raised before (judged_of (take i rules) fs) → new ≡ raised work (how_many (judges_test rule.row) fs) → new ≡ raised before (judged_of (take (i + 1) rules) fs)
+    → work ≡ raised before (judged_of (take i rules) fs) → new ≡ raised work (how_many (judged rule.row) fs) → new ≡ raised before (judged_of (take (i + 1) rules) fs)
 judged_rule_more fs rules i rule before work new l e h k =
-    let count : InForce → ℕ = λ (q : InForce). how_many (judges_test q.row) fs in
+    let count : InForce → ℕ = λ (q : InForce). how_many (judged q.row) fs in
     let more : judged_of (take (i + 1) rules) fs ≡ judged_of (take i rules) fs + count rule = sum_by_more count rules i rule l ∙ ap (λ q. sum_by count (take i rules) + count q) (sym e) in
     rw more (k ∙ (ap (λ y. raised y (count rule)) h ∙ raised_more before (judged_of (take i rules) fs) (count rule)))
 
