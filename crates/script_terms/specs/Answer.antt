@@ -1,6 +1,6 @@
 -- What each command does when it is not refused.
 --
--- IsDone old c reply new  the command is done: this is the reply, and this is what it leaves
+-- IsDone old c reply new  the command is done: this is the reply, and this is what it leaves; one that is not built is never done
 -- Answers old c reply new     refused with the state as it was, or done
 -- Leaves P old new        the project becomes what P says, and the open session stays
 -- IsBegun name old new     the session of this editor is open
@@ -16,7 +16,7 @@ use Rattle.topology_terms.specs.Lookups.{class_number}
 use Rattle.topology_terms.specs.Changes.{IsClassAdded, IsFeatureAdded, IsFeatureSet, IsRuleAdded, IsRuleDropped, IsSelected, reshaped}
 use Rattle.topology_terms.specs.Settled.{IsValidatedBy}
 use Rattle.topology_terms.specs.Counts.{judged_of}
-use Rattle.script_text.specs.Commands.{Command, Blank, Class as AClass, Rule, DropRule, Begin, End, Discard, Add, Change, Delete, Undo, Redo, Validate, Mark, Unmark, Dirty, Errors, Cells, Features, Rules}
+use Rattle.script_text.specs.Commands.{Command, Blank, Class as AClass, Rule, DropRule, Begin, Add, Change, Delete, Validate, Dirty, Errors, Cells, Features}
 use Rattle.script_terms.specs.Refusal.{Refusal}
 use Rattle.script_terms.specs.Reply.{Reply, Nothing, Done, Number, Judged, Refused, DirtyList, ErrorList, CellList, FeatureList}
 use Rattle.script_terms.specs.State.{State}
@@ -48,21 +48,15 @@ IsDone old (AClass name k) reply new = (reply ≡ Number (length old.project.cla
 IsDone old (Rule k origin dest) reply new = (n : ℕ) × (reply ≡ Number n) × Leaves (IsRuleAdded n (row_of old.project k origin dest)) old new
 IsDone old (DropRule r) reply new = (reply ≡ Done) × Leaves (IsRuleDropped r) old new
 IsDone old (Begin editor) reply new = (reply ≡ Done) × IsBegun editor old new
-IsDone old (End editor) reply new = ⊥
-IsDone old (Discard editor) reply new = ⊥
 IsDone old (Add editor class shape) reply new = (h : ℕ) × (reply ≡ Number h) × Leaves (IsFeatureAdded (number_or_0 (class_number old.project class)) shape h) old new
 IsDone old (Change editor h shape) reply new = (reply ≡ Done) × Leaves (IsFeatureSet h (reshaped (feature_at old.project.features h) shape)) old new
 IsDone old (Delete editor h) reply new = (reply ≡ Done) × Leaves (IsFeatureSet h None) old new
-IsDone old (Undo editor) reply new = ⊥
-IsDone old (Redo editor) reply new = ⊥
 IsDone old (Validate w) reply new = (j e d : ℕ) × (reply ≡ Judged j e d) × Leaves (λ p q. IsValidation w p q j e d) old new
-IsDone old (Mark r h g) reply new = ⊥
-IsDone old (Unmark r h g) reply new = ⊥
 IsDone old Dirty reply new = (reply ≡ DirtyList old.project) × IsSame old new
 IsDone old Errors reply new = (reply ≡ ErrorList old.project) × IsSame old new
 IsDone old Cells reply new = (reply ≡ CellList old.project) × IsSame old new
 IsDone old Features reply new = (reply ≡ FeatureList old.project) × IsSame old new
-IsDone old Rules reply new = ⊥
+IsDone old other reply new = ⊥
 
 -- refused, with the state as it was, or done
 abbrev pub answers_by : Option Refusal → State → Command → Reply → State → Type 0

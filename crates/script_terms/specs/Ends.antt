@@ -52,10 +52,7 @@ abbrev pub EndsAsUsage : Passage → Status → Type 0
 EndsAsUsage k status.Usage = Appends k.old k.new usage_text
 EndsAsUsage k status.WriteFault = Rose k.before k.now × ((text : List ℕ) × IsPrefix text usage_text × Appends k.old k.new text)
 EndsAsUsage k status.NoMemory = (text : List ℕ) × IsPrefix text usage_text × Appends k.old k.new text
-EndsAsUsage k status.Done = ⊥
-EndsAsUsage k status.Refused = ⊥
-EndsAsUsage k status.ReadFault = ⊥
-EndsAsUsage k status.TooLong = ⊥
+EndsAsUsage k other = ⊥
 
 -- the whole script was read, and the whole text of a run over its lines was written
 pub record WritesWhole (s k : Passage) (script : List ℕ) (refused : Bool) : Type 0 where

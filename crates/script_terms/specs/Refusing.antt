@@ -20,7 +20,7 @@ use Rattle.topology_terms.specs.Causes.{when, first_of, class_cause, add_cause, 
 use Rattle.topology_terms.specs.declared.cause.Cause.{Cause}
 use Rattle.topology_terms.specs.declared.cause.Cause.TheVariants as cause
 use Rattle.script_text.specs.declared.fault.LineRefusal.TheVariants.{NotALine}
-use Rattle.script_text.specs.Commands.{Command, Blank, Class as AClass, Rule, DropRule, Begin, End, Discard, Add, Change as AChange, Delete, Undo, Redo, Validate, Mark, Unmark, Dirty, Errors, Cells, Features, Rules}
+use Rattle.script_text.specs.Commands.{Command, Blank, Class as AClass, Rule, DropRule, Begin, Add, Change as AChange, Delete, Validate, Dirty, Errors, Cells, Features}
 use Rattle.script_terms.specs.Refusal.{Refusal, Line, NoSession, Change}
 use Rattle.script_terms.specs.State.{State, is_open}
 
@@ -51,18 +51,12 @@ refusal_of s (AClass name k) = changes (class_cause s.project.classes name)
 refusal_of s (Rule k origin dest) = first_of (when (not (is_built k)) not_built ∷ when (is_nowhere s.project dest) (Change cause.NoClass) ∷ changes (rule_cause s.project (row_of s.project k origin dest)) ∷ [])
 refusal_of s (DropRule r) = changes (drop_cause s.project.rules r)
 refusal_of s (Begin editor) = when (is_some s.editor) not_built
-refusal_of s (End editor) = Some not_built
-refusal_of s (Discard editor) = Some not_built
 refusal_of s (Add editor class shape) = first_of (when (not (is_open s editor)) NoSession ∷ changes (add_cause s.project.classes s.project.next (number_or_0 (class_number s.project class)) shape.kind) ∷ [])
 refusal_of s (AChange editor h shape) = first_of (when (not (is_open s editor)) NoSession ∷ changes (change_cause s.project.features h shape.kind) ∷ [])
 refusal_of s (Delete editor h) = first_of (when (not (is_open s editor)) NoSession ∷ changes (delete_cause s.project.features h) ∷ [])
-refusal_of s (Undo editor) = Some not_built
-refusal_of s (Redo editor) = Some not_built
 refusal_of s (Validate w) = None
-refusal_of s (Mark r h g) = Some not_built
-refusal_of s (Unmark r h g) = Some not_built
 refusal_of s Dirty = None
 refusal_of s Errors = None
 refusal_of s Cells = None
 refusal_of s Features = None
-refusal_of s Rules = Some not_built
+refusal_of s other = Some not_built
