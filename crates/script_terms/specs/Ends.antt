@@ -6,37 +6,23 @@
 --   WriteFault          the sink's count of faults rose; a prefix of the text of a run over first lines was written
 --   NoMemory            want of memory: the same, or nothing was read that is told of
 --   Usage               never
--- EndsAsUsage k usage status     the usage line was written, or a prefix of it
+-- usage_text            the usage line
+-- EndsAsUsage k status  it was written, or a prefix of it
 -- IsComplete s k status code     with no fault counted and a script within the limit the whole text is written and the status is 0 or 1, or it is 5
 --
--- In every state of a run that is spoken of the headline holds (`WritesRun`, `WritesPrefix`). Source: own.
-use Rattle.std.specs.Prelude.{ℕ, ◌≡◌, ◌≤◌, ◌⊎◌, Bool, true, false, List, [], ◌∷◌, codes, map, length, Some, String, string_bytes, if◌then◌else◌}
+-- In every state of a run that is spoken of the invariant holds (`WritesRun`, `WritesPrefix`). Source: own.
+use Rattle.std.specs.Prelude.{ℕ, ◌≡◌, ◌≤◌, ◌⊎◌, Bool, true, false, List, [], ◌∷◌, ◌++◌, codes, map, length, Some, String, string_bytes}
 use Rattle.std.specs.Io.KnownBytes.{Appends}
 use Rattle.std.specs.declared.alloc.Global.{Global}
 use Rattle.text_terms.specs.Lines.{lines_of}
 use Rattle.script_terms.specs.State.{empty_state}
 use Rattle.script_terms.specs.Run.{IsPrefix, WritesRun, WritesPrefix}
-use Rattle.topo_outside.specs.Causes.{Rose}
-use Rattle.topo_run.specs.Reads.{Passage, Read, is_at_end, script_limit}
-use Rattle.topo_run.specs.declared.read.End.{End}
-use Rattle.topo_run.specs.declared.read.End.TheVariants.{AtEnd, Failed, TooLong}
-use Rattle.topo_run.specs.declared.status.Status.{Status}
-use Rattle.topo_run.specs.declared.status.Status.TheVariants as status
-
-abbrev pub code_of : Status → ℕ
-code_of status.Done = 0
-code_of status.Refused = 1
-code_of status.Usage = 2
-code_of status.ReadFault = 3
-code_of status.WriteFault = 4
-code_of status.NoMemory = 5
-code_of status.TooLong = 10
-
--- the status after all lines were answered
-abbrev pub status_of : End → Bool → Status
-status_of AtEnd refused = if refused then status.Refused else status.Done
-status_of Failed refused = status.ReadFault
-status_of TooLong refused = status.TooLong
+use Rattle.outside_terms.specs.Faults.{Rose}
+use Rattle.outside_terms.specs.Reads.{Passage, Read, is_at_end, script_limit}
+use Rattle.outside_terms.specs.declared.end.End.{End}
+use Rattle.outside_terms.specs.declared.end.End.TheVariants.{AtEnd, Failed, TooLong}
+use Rattle.outside_terms.specs.declared.status.Status.{Status}
+use Rattle.outside_terms.specs.declared.status.Status.TheVariants as status
 
 -- all that a run over these lines replies was written, and whether one was refused
 abbrev pub WritesAll : Passage → List (List ℕ) → Bool → Type 0
@@ -59,14 +45,14 @@ EndsAs s k status.Usage = ⊥
 abbrev pub IsReplay : List (String Global) → Type 0
 IsReplay words = map (λ w. string_bytes w) words ≡ codes "replay" ∷ []
 
-abbrev pub EndsAsUsage : Passage → List ℕ → Status → Type 0
-EndsAsUsage k usage status.Usage = Appends k.old k.new usage
-EndsAsUsage k usage status.WriteFault = Rose k.before k.now × ((text : List ℕ) × IsPrefix text usage × Appends k.old k.new text)
-EndsAsUsage k usage status.NoMemory = (text : List ℕ) × IsPrefix text usage × Appends k.old k.new text
-EndsAsUsage k usage status.Done = ⊥
-EndsAsUsage k usage status.Refused = ⊥
-EndsAsUsage k usage status.ReadFault = ⊥
-EndsAsUsage k usage status.TooLong = ⊥
+abbrev pub usage_text : List ℕ
+usage_text = codes "usage: topo replay [PROJECT [TARGET]] | check PROJECT | report PROJECT | town SEED N" ++ 10 ∷ []
+
+abbrev pub EndsAsUsage : Passage → Status → Type 0
+EndsAsUsage k status.Usage = Appends k.old k.new usage_text
+EndsAsUsage k status.WriteFault = Rose k.before k.now × ((text : List ℕ) × IsPrefix text usage_text × Appends k.old k.new text)
+EndsAsUsage k status.NoMemory = (text : List ℕ) × IsPrefix text usage_text × Appends k.old k.new text
+EndsAsUsage k other = ⊥
 
 -- the whole script was read, and the whole text of a run over its lines was written
 pub record WritesWhole (s k : Passage) (script : List ℕ) (refused : Bool) : Type 0 where

@@ -9,9 +9,9 @@
 -- is_at_end end         the script was read to its end
 use Rattle.std.specs.Prelude.{ℕ, ◌≡◌, ◌≤◌, ◌<◌, Bool, true, false, List, length, take, Option}
 use Rattle.std.specs.Io.KnownBytes.{Consumes, IsAtEnd}
-use Rattle.topo_outside.specs.Causes.{Rose}
-use Rattle.topo_run.specs.declared.read.End.{End}
-use Rattle.topo_run.specs.declared.read.End.TheVariants.{AtEnd, Failed, TooLong}
+use Rattle.outside_terms.specs.Faults.{Rose}
+use Rattle.outside_terms.specs.declared.end.End.{End}
+use Rattle.outside_terms.specs.declared.end.End.TheVariants.{AtEnd, Failed, TooLong}
 
 abbrev pub script_limit : ℕ
 script_limit = 268435456
