@@ -1,5 +1,5 @@
 ghost use Rattle.std.specs.Prelude.{◌≡◌, ◌↔◌, IsTrue, IfSome, Some, is_some, bytes_eq};
-ghost use Rattle.rule_words.specs.Table.{word_of, origin_of, dest_of, first_of_word};
+ghost use Rattle.rule_words.specs.Table.{word_of, origin_of, dest_of, judges_either, first_of_word};
 
 use plane_terms::Kind;
 
@@ -237,6 +237,13 @@ impl RuleKind {
         ensures { result ≡ is_some (dest_of self) }
     {
         self.dest().is_some()
+    }
+
+    /// Whether the features of both classes are subjects of the rule, and not those of the first alone.
+    pub fn judges_either(self) -> bool
+        ensures { result ≡ judges_either self }
+    {
+        matches!(self, RuleKind::PolygonMustCoverEachOther)
     }
 
     /// Whether the rule can be put in force for classes of these kinds, the second where one is named.
