@@ -2,6 +2,7 @@
 from __future__ import annotations
 
 import csv
+import os
 import sys
 import time
 from fractions import Fraction
@@ -59,6 +60,17 @@ def classes_of(layers: list[Layer]) -> list[Class]:
     if not classes:
         raise SourceError('there is no layer to read')
     return classes
+
+
+def source_name(source: str) -> str:
+    """The name of a file; of a connection nothing but its sort, since there may be a password in it."""
+    return os.path.basename(os.path.normpath(source)) if os.path.exists(source) else source.partition(':')[0]
+
+
+def head_of(classes: list[Class]) -> list[str]:
+    """The remark lines of the classes, and the lines that make them."""
+    remarks = ['# grid class %s %s %s %s' % (of.name, of.kind, of.layer.name, source_name(of.layer.source)) for of in classes]
+    return remarks + ['class %s %s' % (of.name, of.kind) for of in classes]
 
 
 def common_crs(classes: list[Class]) -> str:
