@@ -2,13 +2,16 @@
 """The public clauses of the repository, and the wrong bodies that are aimed at them, read from the sources.
 
 usage: tools/contracts.py [CRATE..]        of these crates; of all where none is named
+       tools/contracts.py --without        the clauses that none is aimed at, by why, as docs/testing.md has them
 
 It prints a line for each clause of a public function: how many wrong bodies of crates/*/must-fail are aimed at it, the
 function, the clause. A clause without a name of its own is called `ensures`. A wrong body says in its first line what it is
-aimed at, as `# aimed at: crate::function, clause`; the function may have its type before it, as `crate::Type::function`.
+aimed at, as `# aimed at: crate::function, clause`; the function may have its module and its type before it, as in
+`crate::module::Type::function` and, of a trait's method, `crate::module::TypeTrait::function`, as the prover writes it.
 
 A function is public where its crate's root file hands it out: by a `pub use`, or as a method of a type or a trait that is
-handed out so; of a program, where it is `pub`. A method of a trait that has no clauses of its own has the trait's.
+handed out so; of a program, where it is `pub`. So is a type's method of a trait that some crate hands out. One that has no clauses of
+its own has the trait's.
 """
 import collections
 import glob
@@ -24,7 +27,26 @@ ITEM = re.compile(r'^(?P<indent> *)(?:(?P<public>pub) )?(?:const )?(?:unsafe )?(
                   r'|trait (?P<declared>\w+)|fn (?P<function>\w+))', re.M)
 CLAUSE = re.compile(r'^ *ensures\*? *(\w*) *\{', re.M)
 
-Function = collections.namedtuple('Function', 'crate owner name clauses')
+Function = collections.namedtuple('Function', 'crate module owner trait name clauses is_declared body')
+
+# Why no wrong body is aimed at a clause: the first of these that holds of its function and its name.
+WHYS = [
+    ('of a comparison program or of the tests', lambda f, clause: re.match('plain_|test_|bench_', f.crate)),
+    ('a law: its body is empty or only calls others, so that no other body means anything', lambda f, clause: f.name.endswith('_law')),
+    ('of a trait: its bodies are those of the types that have it', lambda f, clause: f.is_declared),
+    ('of the streams in memory, which only the tests use', lambda f, clause: re.match('Mem|Sure', f.owner or '')),
+    ('after a refusal nothing has changed: `topo_core/a_refused_change_dirties` stands for all',
+     lambda f, clause: clause in ('err', 'kept', 'same', 'uncounted', 'no_memory', 'errors_kept', 'dirt_kept')),
+    ('a copy is equal: `error_store/a_copy_loses_its_mark` stands for all', lambda f, clause: f.name == 'try_copy'),
+    ('a bound or a shape of the value that another clause of the function says in full',
+     lambda f, clause: clause in ('bound', 'valid', 'reach', 'in_reach', 'few', 'points', 'loose', 'named', 'whole', 'ends', 'from_1', 'room', 'keeps')),
+    ('what every state keeps: a body that breaks it breaks what the call says of the new state too',
+     lambda f, clause: clause in ('ordered', 'ascending', 'own', 'fits', 'sound', 'settled', 'rising', 'on_grid')),
+    ('its body is one line, which hands out or makes a value: whoever calls it could not be proved with another',
+     lambda f, clause: f.body.count('\n') <= 2 or not re.search(r'\b(if|match|for|while|let)\b|\?', f.body)),
+    ('another clause of the function has one', lambda f, clause: False),
+    ('not yet: a caller above could not be proved with another value', lambda f, clause: True),
+]
 
 
 def crates():
@@ -64,8 +86,27 @@ def head_of(text, start):
     return text[start:]
 
 
-def functions_of(crate):
-    """The public functions of a crate with their clauses, those of a trait's method where it has none."""
+def body_of(text, start):
+    """The body that begins here, with its braces; nothing where there is none."""
+    depth = 0
+    for i in range(start, len(text)):
+        depth += {'{': 1, '}': -1}.get(text[i], 0)
+        if depth == 0:
+            return text[start:i + 1]
+    return ''
+
+
+def handed_out_traits():
+    """The traits that some crate hands out."""
+    traits = set()
+    for crate in crates():
+        texts = map(text_of, glob.glob(os.path.join(CRATES, crate, 'src', '**', '*.rt'), recursive=True))
+        traits |= handed_out(crate) & {name for text in texts for name in re.findall(r'^pub trait (\w+)', text, re.M)}
+    return traits
+
+
+def functions_of(crate, traits):
+    """The public functions of a crate with the clauses that each has written on it."""
     names = handed_out(crate)
     for path in sorted(glob.glob(os.path.join(CRATES, crate, 'src', '**', '*.rt'), recursive=True)):
         text, owner, trait, is_trait = text_of(path), None, None, False
@@ -75,20 +116,24 @@ def functions_of(crate):
                 is_trait = item['declared'] is not None
                 continue
             inner = item['indent'] != ''
-            if inner and owner not in names or not inner and item['function'] not in names:
+            if inner and trait not in traits and owner not in names or not inner and item['function'] not in names:
                 continue
             if not item['public'] and not (inner and (is_trait or trait)):
                 continue
             head = head_of(text, item.start())
             clauses = [name or 'ensures' for name in CLAUSE.findall(head)]
-            yield Function(crate, owner if inner else None, item['function'], clauses), trait if inner else None
+            body = body_of(text, item.start() + len(head))
+            module = os.path.splitext(os.path.relpath(path, os.path.join(CRATES, crate, 'src')))[0].split(os.sep)
+            of = (owner, trait) if inner else (None, None)
+            yield Function(crate, module, *of, item['function'], clauses, inner and is_trait, body)
 
 
 def all_functions():
-    """The public functions of all crates."""
-    found = [pair for crate in crates() for pair in functions_of(crate)]
-    of_traits = {(f.owner, f.name): f.clauses for f, _ in found}
-    return [f._replace(clauses=f.clauses or of_traits.get((trait, f.name), [])) for f, trait in found]
+    """The public functions of all crates with their clauses, those of the trait where a method has none."""
+    traits = handed_out_traits()
+    found = [function for crate in crates() for function in functions_of(crate, traits)]
+    of_traits = {(f.owner, f.name): f.clauses for f in found if f.is_declared}
+    return [f._replace(clauses=f.clauses or of_traits.get((f.trait, f.name), [])) for f in found]
 
 
 def edits():
@@ -102,7 +147,11 @@ def edits():
 def is_aimed(aim, function):
     """Whether what an edit names is this function."""
     crate, path, _ = aim
-    return crate == function.crate and path[-1] == function.name and (len(path) == 1 or path[-2] == function.owner)
+    rest = path[:-1]
+    if rest[:len(function.module)] == function.module:
+        rest = rest[len(function.module):]
+    of = [[], [function.owner], [(function.owner or '') + (function.trait or '')]]
+    return crate == function.crate and path[-1] == function.name and rest in of
 
 
 def shown(function):
@@ -119,6 +168,23 @@ def wrong_aims():
             yield '%s: no public function %s::%s has a clause %s' % (path, aim[0], '::'.join(aim[1]), aim[2])
 
 
+def wrong_texts():
+    """A line for each wrong body that cannot be put in: its old text does not stand there once."""
+    for path, _ in edits():
+        crate, source, text, old = os.path.join(ROOT, os.path.dirname(os.path.dirname(path))), None, '', None
+        for line in text_of(os.path.join(ROOT, path)).split('\n'):
+            word, _, rest = line.partition(': ')
+            if word == 'file':
+                source = os.path.join(crate, rest)
+                text = text_of(source) if os.path.exists(source) else ''
+            elif word == 'old':
+                old = rest
+            elif word == 'new':
+                if text.count(old) != 1:
+                    yield '%s: %r stands %d times in its file' % (path, old, text.count(old))
+                text = text.replace(old, rest)
+
+
 def counts():
     """Each public clause with the number of wrong bodies that are aimed at it."""
     aims = [aim for _, aim in edits() if aim]
@@ -127,7 +193,30 @@ def counts():
             yield function, clause, sum(is_aimed(aim, function) and aim[2] == clause for aim in aims)
 
 
+def without():
+    """The clauses that no wrong body is aimed at, by why."""
+    aimed = {(function.crate, function.owner, function.name) for function, _, count in counts() if count}
+    rows = {why: collections.defaultdict(list) for why, _ in WHYS}
+    for function, clause, count in counts():
+        if not count:
+            why = next(why for why, holds in WHYS if holds(function, clause))
+            if why.startswith('not yet') and (function.crate, function.owner, function.name) in aimed:
+                why = WHYS[-2][0]
+            rows[why][shown(function)].append(clause)
+    return rows
+
+
+def print_without():
+    print('| Why | Clauses | Which |\n|---|---|---|')
+    for why, functions in without().items():
+        texts = ['%s (%s)' % (name, ', '.join(clauses)) for name, clauses in functions.items()]
+        if texts:
+            print('| %s | %d | %s |' % (why, sum(map(len, functions.values())), '; '.join(texts)))
+
+
 def main():
+    if sys.argv[1:] == ['--without']:
+        return print_without()
     chosen = set(sys.argv[1:])
     for function, clause, count in counts():
         if not chosen or function.crate in chosen:

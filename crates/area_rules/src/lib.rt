@@ -1,4 +1,4 @@
-// The rules whose subjects are polygons and that are broken over areas.
+// The rules of polygons that are broken over what two have in common.
 #![tactic(auto)]
 
 mod overlap;

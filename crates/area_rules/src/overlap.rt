@@ -1,49 +1,51 @@
-ghost use Rattle.std.specs.Prelude.{◌≡◌, ◌<◌, ◌++◌, IfOk, OnOk};
-ghost use Rattle.plane_terms.specs.Lists.{Every};
+ghost use Rattle.std.specs.Prelude.{◌≡◌, IfOk};
 ghost use Rattle.plane_terms.specs.Carve.{carve_of};
-ghost use Rattle.topology_terms.specs.Meaning as terms;
-ghost use Rattle.topology_terms.specs.Cutting as cutting;
+ghost use Rattle.topology_terms.specs.Cells as terms;
 
-use column_cut::inside;
 use convex_cell::Cells;
 use grid_plane::NoMemory;
-use rule_core::{Finding, Findings};
+use rule_core::Work;
+use rule_loops::{Common, inside_of};
 use shape::Feature;
 use std::alloc::Global;
+use std::marker::Model;
 
-// The cells of what the partner's inside and these cells have in common.
-fn common_cells(alloc: Global, cells: &Cells, partner: &Feature) -> Result<Cells, NoMemory>
-    ensures { IfOk result (λ common. common ≡ carve_of cells.now (cutting.inside partner.now)) }
-{
-    cells.carve(alloc, &inside(alloc, partner.shape().segs())?)
+/// The inside of a polygon, for what others have in common with it.
+#[derive(Drop)]
+pub struct Overlap {
+    inside: Cells,
 }
 
-// Puts a finding of these cells last, where there are any.
-fn push_cells(findings: &mut Findings, other: u32, cells: Cells) -> Result<(), NoMemory>
-    requires { Every (λ (x : terms.Finding). x.other < other) findings.old }
-    ensures { OnOk result (findings.new ≡ findings.old ++ cutting.finding_of other cells) }
-{
-    if cells.len() == 0 {
-        return Ok(());
+impl Model for Overlap {
+    ghost use Rattle.std.specs.Prelude.{List};
+    ghost use Rattle.plane_terms.specs.Cell.{Cell};
+
+    ghost Value = { List Cell };
+
+    ghost view = { λ o. o.inside };
+}
+
+impl Overlap {
+    /// That of this polygon.
+    pub fn of(alloc: Global, subject: &Feature, work: &mut Work) -> Result<Overlap, NoMemory>
+        ensures inside { IfOk result (λ o. o ≡ terms.inside subject.now) }
+        ensures uncounted { work.new ≡ work.old }
+    {
+        Ok(Overlap {
+            inside: inside_of(alloc, subject, work)?,
+        })
     }
-    findings.push(Finding {
-        other,
-        whole: false,
-        cells,
-    })
 }
 
-/// Where the partner's inside has points in common with these cells, puts a finding of them last. The partner's handle is
-/// above those of the findings before.
-pub fn push_overlap(
-    alloc: Global,
-    findings: &mut Findings,
-    cells: &Cells,
-    partner: &Feature,
-) -> Result<(), NoMemory>
-    requires { Every (λ (x : terms.Finding). x.other < partner.now.handle) findings.old }
-    ensures { OnOk result (findings.new ≡ findings.old ++ cutting.finding_of partner.now.handle (carve_of cells.now (cutting.inside partner.now))) }
-{
-    let common = common_cells(alloc, cells, partner)?;
-    push_cells(findings, partner.handle(), common)
+impl Common for Overlap {
+    ghost common = { λ cells g. carve_of cells (terms.inside g) };
+
+    fn cells(
+        &self,
+        alloc: Global,
+        partner: &Feature,
+        work: &mut Work,
+    ) -> Result<Cells, NoMemory> {
+        self.inside.carve(alloc, &inside_of(alloc, partner, work)?)
+    }
 }

@@ -17,3 +17,4 @@ pub mod Shares
 pub mod Envelope
 pub mod HalfPlanes
 pub mod SegmentCells
+pub mod AtPlaces

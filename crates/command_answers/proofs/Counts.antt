@@ -5,8 +5,8 @@ use Rattle.std.proofs.lemmas.List.Sums.{sum_by-cons}
 use Rattle.plane_terms.specs.Lists.{Every, IsThose, how_many}
 use Rattle.topology_terms.specs.Feature.{Feature, IsAscending}
 use Rattle.topology_terms.specs.Project.{InForce}
-use Rattle.topology_terms.specs.Broken.{judges_test}
-use Rattle.validation_laws.specs.Counts.{judged_of}
+use Rattle.topology_terms.specs.Broken.{judged}
+use Rattle.topology_terms.specs.Counts.{judged_of}
 
 pub few_of : {A : Type 0} (test : A → Bool) (xs : List A) → how_many test xs ≤ length xs
 few_of test [] = omega arith
@@ -38,8 +38,8 @@ few_handles low next (f ∷ F) l a from below =
 pub few_judged : (rules : List InForce) (fs : List Feature) (n : ℕ) → length fs ≤ n → judged_of rules fs ≤ length rules * n
 few_judged [] fs n b = omega arith
 few_judged (r ∷ rules) fs n b =
-    let count : InForce → ℕ = λ (rule : InForce). how_many (judges_test rule.row) fs in
-    rw (sum_by-cons count r rules) (by (how_many (judges_test r.row) fs) (judged_of rules fs) (few_of (judges_test r.row) fs) (few_judged rules fs n b))
+    let count : InForce → ℕ = λ (rule : InForce). how_many (judged rule.row) fs in
+    rw (sum_by-cons count r rules) (by (how_many (judged r.row) fs) (judged_of rules fs) (few_of (judged r.row) fs) (few_judged rules fs n b))
   where
     once_more : (m : ℕ) → suc m * n ≡ n + m * n
     once_more m = grind arith

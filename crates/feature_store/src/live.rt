@@ -84,7 +84,7 @@ pub fn exchange(features: &mut Vec<Feature>, handle: u32, kept: &mut Option<Feat
     }
 }
 
-/// The law that the segments of a kept polygon meet at ends alone.
+/// The law that the segments of a kept feature are proper, and of a polygon meet at ends alone and are some.
 pub fn kept_law(kept: &Option<Feature>)
     ensures { IfSome kept.now HasSimpleSides }
 {

@@ -2,5 +2,6 @@
 #![tactic(auto)]
 
 mod point_must_be_disjoint;
+mod same_place;
 
 pub use point_must_be_disjoint::PointMustBeDisjoint;

@@ -1,65 +1,24 @@
 -- Going over a view for the partners of its subject: all that it holds are near, and what is found stands in the order of handles.
 use Rattle.std.proofs.Common.{◌≡◌, inl, inr, ℕ, ◌<◌, ◌+◌, zero, suc, Bool, true, false, List, [], ◌∷◌, ◌++◌, Some, refl, sym, ◌∙◌, ap, subst, arith, take, length, get_or, cond, append-nil}
-use Rattle.std.specs.Prelude.{◌==◌, ◌&&◌, nat_lt, slice_get}
+use Rattle.std.specs.Prelude.{◌&&◌, nat_lt, slice_get}
 use Rattle.std.specs.List.{filter}
 use Rattle.std.proofs.lemmas.List.Elements.{filter_more}
 use Rattle.std.proofs.lemmas.Grind.{flat_map-append}
-use Rattle.std.proofs.lemmas.Option.{get_or_from_slice_get}
+use Rattle.std.proofs.lemmas.Option.{get_or_from_slice_get, slice_get_within}
 use Rattle.plane_terms.specs.Lists.{Every, IsThose}
 use Rattle.plane_terms.specs.Cell.{Cell}
 use Rattle.plane_terms.specs.Rectangle.{rects_meet}
-use Rattle.topology_terms.specs.Feature.{Feature, Side, is_on_side, feature_at, env, IsAscending}
+use Rattle.topology_terms.specs.Feature.{Feature, Side, is_on_side, env, IsAscending}
 use Rattle.topology_terms.specs.Broken.{Row}
 use Rattle.topology_terms.specs.Meaning.{Finding}
-use Rattle.topology_terms.specs.Cutting.{near, near_after, finding_of, pair_findings}
-use Rattle.sound_laws.proofs.Dirts.{bool_cases}
-use Rattle.sound_laws.proofs.FeatureLists.{at_handle, past_handle, same_handle, own_handle}
+use Rattle.topology_terms.specs.Plans.{near, near_after, finding_of, pair_findings}
+use Rattle.plane_terms.proofs.ListLemmas.{every_got}
+use Rattle.sound_laws.proofs.FeatureFilters.{same_kept, kept_twice}
+pub use Rattle.sound_laws.proofs.FeatureLists.{each_live}
 use Rattle.sound_laws.proofs.Meetings.{meets_test}
 use Rattle.rule_core.specs.Shown.{IsShown}
 
--- ---- each of the features
--- the features behind have higher handles
-later : (n h : ℕ) (F : List Feature) (g : Feature) → Every (λ (x : Feature). n < x.handle) F → feature_at F h ≡ Some g → n < h
-unfolding feature_at
-later n h [] g k e = cc
-later n h (x ∷ F) g k e = elim (bool_cases (x.handle == h)) [
-  | inl t ↦ let q = same_handle x.handle h t in omega (arith, k.0)
-  | inr t ↦ later n h F g k.1 (sym (past_handle x F h t) ∙ e)
-]
-
-apart : (m n : ℕ) → m < n → (m == n) ≡ false
-apart m n l = elim (bool_cases (m == n)) [
-  | inl t ↦ let q = same_handle m n t in absurd (omega arith)
-  | inr t ↦ t
-]
-
--- what is behind is there
-behind : (f : Feature) (F : List Feature) (h : ℕ) (g : Feature) → Every (λ (x : Feature). f.handle < x.handle) F → feature_at F h ≡ Some g → feature_at (f ∷ F) h ≡ Some g
-behind f F h g k e = past_handle f F h (apart f.handle h (later f.handle h F g k e)) ∙ e
-
--- what holds of each live feature holds of each of the list
-pub each_live : (P : Feature → Type 0) (F : List Feature) → IsAscending F → ((h : ℕ) (g : Feature) → feature_at F h ≡ Some g → P g) → Every P F
-each_live P [] u n = tt
-each_live P (f ∷ F) u n = (n f.handle f (at_handle f F f.handle (own_handle f.handle)), each_live P F u.1 (λ h g e. n h g (behind f F h g u.0 e)))
-
 -- ---- filters
-same_pick : (b d : Bool) (f : Feature) (F G : List Feature) → b ≡ d → F ≡ G → cond b (f ∷ F) F ≡ cond d (f ∷ G) G
-same_pick b d f F G e k = rw (e, k) refl
-
--- tests that agree on each feature keep the same
-same_kept : (s t : Feature → Bool) (F : List Feature) → Every (λ (g : Feature). s g ≡ t g) F → filter s F ≡ filter t F
-same_kept s t [] k = refl
-same_kept s t (f ∷ F) k = same_pick (s f) (t f) f (filter s F) (filter t F) k.0 (same_kept s t F k.1)
-
--- of what passes one test, what passes another
-pub kept_twice : (s t : Feature → Bool) (F : List Feature) → filter s (filter t F) ≡ filter (λ g. t g && s g) F
-kept_twice s t [] = refl
-kept_twice s t (f ∷ F) = both (t f) (kept_twice s t F)
-  where
-    both : (b : Bool) → filter s (filter t F) ≡ filter (λ g. t g && s g) F → filter s (cond b (f ∷ filter t F) (filter t F)) ≡ cond (b && s f) (f ∷ filter (λ g. t g && s g) F) (filter (λ g. t g && s g) F)
-    both true e = same_pick (s f) (s f) f (filter s (filter t F)) (filter (λ g. t g && s g) F) refl e
-    both false e = e
-
 -- where a test decides, what it keeps are those
 those_pick : (P : Feature → Type 0) (b : Bool) (f : Feature) (F G : List Feature) → (b ≡ true → P f) → (P f → b ≡ true) → IsThose P F G → IsThose P (f ∷ F) (cond b (f ∷ G) G)
 those_pick P true f F G y n h = inl (y refl, (G, refl, h))
@@ -88,16 +47,6 @@ module _ (row : Row) (V : List Feature) (a : ℕ) (shown : IsShown row V a) wher
   near_after_shown A = ap (filter (λ (g : Feature). nat_lt shown.subject.handle g.handle)) (near_shown A) ∙ kept_twice (λ g. nat_lt shown.subject.handle g.handle) (is_on_side A) V
 
 -- ---- one feature after the other
-at_place : (P : Feature → Type 0) (F : List Feature) (i : ℕ) (g : Feature) → Every P F → slice_get F i ≡ Some g → P g
-at_place P [] i g k e = cc
-at_place P (f ∷ F) zero g k e = let s : f ≡ g = cc in subst P s k.0
-at_place P (f ∷ F) (suc i) g k e = at_place P F i g k.1 e
-
-within : (F : List Feature) (i : ℕ) (g : Feature) → slice_get F i ≡ Some g → i < length F
-within [] i g e = cc
-within (f ∷ F) zero g e = omega arith
-within (f ∷ F) (suc i) g e = let l = within F i g e in omega arith
-
 finding_below : (n b : ℕ) (cs : List Cell) (xs : List Finding) → b < n → Every (λ (x : Finding). x.other < n) xs → Every (λ (x : Finding). x.other < n) (finding_of b cs ++ xs)
 finding_below n b [] xs l k = k
 finding_below n b (c ∷ cs) xs l k = (l, k)
@@ -109,14 +58,14 @@ found_below cells test (f ∷ F) zero g u e = tt
 found_below cells test (f ∷ F) (suc i) g u e = pick (test f) (found_below cells test F i g u.1 e)
   where
     pick : (b : Bool) → Every (λ (x : Finding). x.other < g.handle) (pair_findings cells (filter test (take i F))) → Every (λ (x : Finding). x.other < g.handle) (pair_findings cells (cond b (f ∷ filter test (take i F)) (filter test (take i F))))
-    pick true k = finding_below g.handle f.handle (cells f) (pair_findings cells (filter test (take i F))) (at_place (λ (x : Feature). f.handle < x.handle) F i g u.0 e) k
+    pick true k = finding_below g.handle f.handle (cells f) (pair_findings cells (filter test (take i F))) (every_got (λ (x : Feature). f.handle < x.handle) F i g u.0 e) k
     pick false k = k
 
 more : (cells : Feature → List Cell) (test : Feature → Bool) (F : List Feature) (i : ℕ) (g : Feature) (b : Bool) → slice_get F i ≡ Some g → test g ≡ b → pair_findings cells (filter test (take (i + 1) F)) ≡ pair_findings cells (filter test (take i F)) ++ pair_findings cells (cond b (g ∷ []) [])
 more cells test F i g b e t =
     let there : get_or F i g ≡ g = get_or_from_slice_get F i g g e in
     let one : cond (test (get_or F i g)) (get_or F i g ∷ []) [] ≡ cond b (g ∷ []) [] = rw (there, t) refl in
-    ap (pair_findings cells) (filter_more test F i g (within F i g e) ∙ ap (λ gs. filter test (take i F) ++ gs) one) ∙ flat_map-append (λ (x : Feature). finding_of x.handle (cells x)) (filter test (take i F)) (cond b (g ∷ []) [])
+    ap (pair_findings cells) (filter_more test F i g (slice_get_within F i g e) ∙ ap (λ gs. filter test (take i F) ++ gs) one) ∙ flat_map-append (λ (x : Feature). finding_of x.handle (cells x)) (filter test (take i F)) (cond b (g ∷ []) [])
 
 -- with a partner more
 pub found_more : (cells : Feature → List Cell) (test : Feature → Bool) (F : List Feature) (i : ℕ) (g : Feature) (found part new : List Finding) → slice_get F i ≡ Some g → test g ≡ true

@@ -1,6 +1,6 @@
 ghost use Rattle.std.specs.Prelude.{◌≡◌};
 ghost use Rattle.topology_terms.specs.Feature as terms;
-ghost use Rattle.topology_terms.specs.Broken.{judges_test};
+ghost use Rattle.topology_terms.specs.Broken.{judged};
 
 use rule_words::RuleKind;
 use std::marker::Model;
@@ -27,9 +27,9 @@ impl Model for RuleRow {
 impl RuleRow {
     /// Whether the features of this class are subjects of the rule.
     pub fn judges(&self, class: u16) -> bool
-        ensures { (f : terms.Feature) → f.class ≡ class → result ≡ judges_test self.now f }
+        ensures { (f : terms.Feature) → f.class ≡ class → result ≡ judged self.now f }
     {
-        class == self.origin
+        class == self.origin || (self.kind.judges_either() && class == self.dest)
     }
 }
 

@@ -1,5 +1,5 @@
 ghost use Rattle.std.specs.Prelude.{◌≡◌};
-ghost use Rattle.topology_terms.specs.Sentences.{is_built};
+ghost use Rattle.topology_terms.specs.Built.{is_built};
 
 use rule_words::RuleKind;
 
@@ -11,6 +11,13 @@ pub fn is_built(kind: RuleKind) -> bool
         kind,
         RuleKind::PolygonMustNotOverlap
             | RuleKind::PolygonMustNotOverlapWith
+            | RuleKind::PolygonMustNotHaveGaps
+            | RuleKind::PolygonMustBeCoveredByFeatureClassOf
+            | RuleKind::PolygonMustCoverEachOther
+            | RuleKind::PolygonBoundaryMustBeCoveredBy
+            | RuleKind::PolygonAreaBoundaryMustBeCoveredByBoundaryOf
+            | RuleKind::LineMustBeCoveredByFeatureClassOf
+            | RuleKind::LineMustBeCoveredByBoundaryOf
             | RuleKind::PointMustBeDisjoint
     )
 }

@@ -1,12 +1,16 @@
 ghost use Rattle.topology_terms.specs.Poster.{poster};
-ghost use Rattle.rule_laws.proofs.Posters.{poster_laws, poster_cuts};
-ghost use Rattle.rule_laws.proofs.Views.{poster_views};
+ghost use Rattle.rule_laws.proofs.Posters.{poster_laws, poster_cuts, poster_views};
 
 use area_rules::{PolygonMustNotOverlap, PolygonMustNotOverlapWith};
+use cover_rules::{
+    LineMustBeCoveredByBoundaryOf, LineMustBeCoveredByFeatureClassOf,
+    PolygonAreaBoundaryMustBeCoveredByBoundaryOf, PolygonBoundaryMustBeCoveredBy,
+    PolygonMustBeCoveredByFeatureClassOf, PolygonMustCoverEachOther, PolygonMustNotHaveGaps,
+};
 use grid_plane::NoMemory;
 use point_rules::PointMustBeDisjoint;
-use rule_words::RuleKind;
 use rule_core::{Findings, RuleRow, RuleSet, View, Work, judge};
+use rule_words::RuleKind;
 use std::alloc::Global;
 use topo_core::KindRules;
 
@@ -27,18 +31,16 @@ impl RuleSet for PosterRules {
         work: &mut Work,
     ) -> Result<Findings, NoMemory> {
         match row.kind {
-            RuleKind::PolygonMustNotOverlap => {
-                let rule = PolygonMustNotOverlap::new(row.origin);
-                judge(&rule, alloc, view, subject, work)
-            }
-            RuleKind::PolygonMustNotOverlapWith => {
-                let rule = PolygonMustNotOverlapWith::new(row.origin, row.dest);
-                judge(&rule, alloc, view, subject, work)
-            }
-            RuleKind::PointMustBeDisjoint => {
-                let rule = PointMustBeDisjoint::new(row.origin);
-                judge(&rule, alloc, view, subject, work)
-            }
+            RuleKind::PolygonMustNotOverlap => judge(&PolygonMustNotOverlap::new(*row), alloc, view, subject, work),
+            RuleKind::PolygonMustNotOverlapWith => judge(&PolygonMustNotOverlapWith::new(*row), alloc, view, subject, work),
+            RuleKind::PolygonMustNotHaveGaps => judge(&PolygonMustNotHaveGaps::new(*row), alloc, view, subject, work),
+            RuleKind::PolygonMustBeCoveredByFeatureClassOf => judge(&PolygonMustBeCoveredByFeatureClassOf::new(*row), alloc, view, subject, work),
+            RuleKind::PolygonMustCoverEachOther => judge(&PolygonMustCoverEachOther::new(*row), alloc, view, subject, work),
+            RuleKind::PolygonBoundaryMustBeCoveredBy => judge(&PolygonBoundaryMustBeCoveredBy::new(*row), alloc, view, subject, work),
+            RuleKind::PolygonAreaBoundaryMustBeCoveredByBoundaryOf => judge(&PolygonAreaBoundaryMustBeCoveredByBoundaryOf::new(*row), alloc, view, subject, work),
+            RuleKind::LineMustBeCoveredByFeatureClassOf => judge(&LineMustBeCoveredByFeatureClassOf::new(*row), alloc, view, subject, work),
+            RuleKind::LineMustBeCoveredByBoundaryOf => judge(&LineMustBeCoveredByBoundaryOf::new(*row), alloc, view, subject, work),
+            RuleKind::PointMustBeDisjoint => judge(&PointMustBeDisjoint::new(*row), alloc, view, subject, work),
             _ => {
                 work.raise();
                 Ok(Findings::new(alloc))

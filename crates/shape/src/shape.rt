@@ -1,12 +1,14 @@
-ghost use Rattle.std.specs.Prelude.{◌≡◌, ◌↔◌, ◌<◌, length, map, slice_get, Some, IsTrue, IfOk, IfErr};
+ghost use Rattle.std.specs.Prelude.{◌≡◌, ◌≢◌, ◌↔◌, ◌<◌, [], length, map, slice_get, Some, IsTrue, IfOk, IfErr};
+ghost use Rattle.plane_terms.specs.Lists.{Every};
 ghost use Rattle.plane_terms.specs.Point.{IsInReach};
+ghost use Rattle.plane_terms.specs.Segment.{IsSegment};
 ghost use Rattle.plane_terms.specs.Polygon.{IsSimpleList};
 ghost use Rattle.plane_terms.specs.Shape.{point_shape, shape_of, place_of, segments_of, ends_of, envelope_of, IsShape};
 ghost use Rattle.plane_terms.specs.declared.kind.Kind.TheVariants as kind;
 ghost use Rattle.shape.specs.Given.{lines_in, polygons_in, IsCountable};
-ghost use Rattle.shape.specs.Faults.{IsFault, IsFlawless};
+ghost use Rattle.plane_terms.specs.ShapeFaults.{IsFault, IsFlawless};
 
-use crate::fault::ShapeFault;
+use plane_terms::ShapeFault;
 use crate::form::Form;
 use crate::line::Line;
 use crate::polygon::Polygon;
@@ -155,9 +157,12 @@ impl Shape {
         }
     }
 
-    /// The law of a polygon: its segments meet at ends alone, as a cutting into columns wants them.
+    /// The law of the segments: the lower end of each comes before its upper one; those of a polygon meet at ends alone, as a
+    /// cutting into columns wants them, and there are some.
     pub fn simple_law(&self)
-        ensures { self.now.kind ≡ kind.Polygon → IsSimpleList (segments_of self.now) }
+        ensures proper { Every IsSegment (segments_of self.now) }
+        ensures simple { self.now.kind ≡ kind.Polygon → IsSimpleList (segments_of self.now) }
+        ensures boundary { self.now.kind ≡ kind.Polygon → segments_of self.now ≢ [] }
     {
         segments_law(self.segs());
     }

@@ -1,3 +1,5 @@
+pub mod Keyed
+pub mod Searches
 pub mod Planes
 pub mod Dirts
 pub mod Edits
@@ -11,3 +13,6 @@ pub mod Pieces
 pub mod Cuts
 pub mod Meetings
 pub mod FeatureLists
+pub mod FeatureFilters
+pub mod RuleLists
+pub mod Scratch

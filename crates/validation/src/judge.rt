@@ -3,12 +3,12 @@ ghost use Rattle.std.specs.Option.{option_to_list};
 ghost use Rattle.plane_terms.specs.Lists.{Every, Paired, how_many};
 ghost use Rattle.plane_terms.specs.Cell.{IsLeastFrame};
 ghost use Rattle.topology_terms.specs.Feature.{feature_at, env, IsAscending};
-ghost use Rattle.topology_terms.specs.Broken.{judges_test};
+ghost use Rattle.topology_terms.specs.Broken.{judged};
 ghost use Rattle.topology_terms.specs.Entry as terms;
 ghost use Rattle.topology_terms.specs.Project as projects;
 ghost use Rattle.validation_laws.specs.Parts.{IsNewEntry, IsSubjectPart, IsRulePart, IsJudging, live_of};
 ghost use Rattle.validation_laws.specs.Framed.{IsFramable};
-ghost use Rattle.validation_laws.specs.Counts.{raised, judged_of};
+ghost use Rattle.topology_terms.specs.Counts.{raised, judged_of};
 
 use crate::frame::frame_of;
 use crate::near::FeatureIndex;
@@ -73,7 +73,7 @@ fn judge_live<R: RuleSet>(
     requires live { feature_at features.now f.now.handle ≡ Some f.now }
     requires fits { R.meaning.Fits rule.now.row features.now }
     ensures part { OnOk result ((es : List terms.Entry) × (out.new.items ≡ out.old.items ++ es) × IsSubjectPart R.meaning features.now rule.now.number rule.now.row f.now.handle es) }
-    ensures judged { OnOk result (work.new ≡ raised work.old (how_many (judges_test rule.now.row) (f.now ∷ []))) }
+    ensures judged { OnOk result (work.new ≡ raised work.old (how_many (judged rule.now.row) (f.now ∷ []))) }
 {
     f.shape().env().corner_law();
     if !rule.row.judges(f.class()) {
@@ -96,7 +96,7 @@ fn judge_subject<R: RuleSet>(
     requires ascending { IsAscending features.now }
     requires fits { R.meaning.Fits rule.now.row features.now }
     ensures part { OnOk result ((es : List terms.Entry) × (out.new.items ≡ out.old.items ++ es) × IsSubjectPart R.meaning features.now rule.now.number rule.now.row subject es) }
-    ensures judged { OnOk result (work.new ≡ raised work.old (how_many (judges_test rule.now.row) (option_to_list (feature_at features.now subject)))) }
+    ensures judged { OnOk result (work.new ≡ raised work.old (how_many (judged rule.now.row) (option_to_list (feature_at features.now subject)))) }
 {
     match features.find(subject) {
         Some(f) => judge_live(rules, alloc, rule, features, f, out, work),
@@ -116,7 +116,7 @@ fn judge_rule<R: RuleSet>(
     requires ascending { IsAscending features.now }
     requires fits { R.meaning.Fits rule.now.row features.now }
     ensures part { OnOk result ((es : List terms.Entry) × (out.new.items ≡ out.old.items ++ es) × IsRulePart R.meaning features.now selected.now rule.now es) }
-    ensures judged { OnOk result (work.new ≡ raised work.old (how_many (judges_test rule.now.row) (live_of features.now selected.now))) }
+    ensures judged { OnOk result (work.new ≡ raised work.old (how_many (judged rule.now.row) (live_of features.now selected.now))) }
 {
     for i in 0..selected.len() {
         judge_subject(rules, alloc, rule, features, selected.at(i), out, work)?;

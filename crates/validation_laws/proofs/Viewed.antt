@@ -30,7 +30,7 @@ in_envelope M L row F a b f p u e k =
 
 -- what fits all features fits the view
 pub view_fits : (M : Meaning) → ViewLaws M → (row : Row) (F V : List Feature) (f : Feature) → IsView F f V → M.Fits row F → M.Fits row V
-view_fits M W row F V f v u = W.fits row F V (λ h g e. (v.forth h g e).0) u
+view_fits M W row F V f v u = W.fits row F V v.ascending (λ h g e. (v.forth h g e).0) u
 
 module _ (M : Meaning) (L : Laws M) (row : Row) (F V : List Feature) (a : ℕ) (f : Feature) (u : M.Fits row F) (w : M.Fits row V) (e : feature_at F a ≡ Some f) (v : IsView F f V) where
   -- broken at the same points, with the same partners

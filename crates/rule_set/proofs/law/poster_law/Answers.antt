@@ -1,5 +1,4 @@
-use Rattle.rule_laws.proofs.Posters.{poster_laws, poster_cuts}
-use Rattle.rule_laws.proofs.Views.{poster_views}
+use Rattle.rule_laws.proofs.Posters.{poster_laws, poster_cuts, poster_views}
 use Rattle.rule_set.proofs.law.poster_law.Goals as goal
 
 pub returns-clause-laws : goal.returns-clause-laws

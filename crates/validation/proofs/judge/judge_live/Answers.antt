@@ -1,7 +1,7 @@
 use Rattle.std.proofs.Common.{◌≡◌, ◌∙◌, sym, ap, [], false, append-nil}
 use Rattle.std.proofs.lemmas.Result.{on_ok_weaker}
 use Rattle.topology_terms.specs.Project.{InForce}
-use Rattle.topology_terms.specs.Broken.{judges_test}
+use Rattle.topology_terms.specs.Broken.{judged}
 use Rattle.plane_terms.specs.Rectangle.{IsRectangle}
 use Rattle.topology_terms.specs.Feature.{env}
 use Rattle.validation_laws.proofs.Parts.{part_idle, part_judged}
@@ -12,7 +12,7 @@ use Rattle.validation.proofs.judge.judge_live.Goals as goal
 pub returns-then-not-judges-clause-part : goal.returns-then-not-judges-clause-part
 returns-then-not-judges-clause-part g c =
     let row = ap (λ (q : InForce). q.row) c.rule.view_is in
-    let t : judges_test c.args.rule.now.row c.args.f.now ≡ false = rw (← row) (sym (c.judges.ensures c.args.f.now (sym c.class.ensures)) ∙ c.if-not-judges.true) in
+    let t : judged c.args.rule.now.row c.args.f.now ≡ false = rw (← row) (sym (c.judges.ensures c.args.f.now (sym c.class.ensures)) ∙ c.if-not-judges.true) in
     ([], sym (append-nil _), part_idle g.R.RuleSet.meaning g.met.R.RuleSet.views c.args.features.now c.args.rule.now.number c.args.rule.now.row c.args.f.now.handle c.args.f.now c.requires.live t)
 
 pub judge_row-requires-clause-shown : goal.judge_row-requires-clause-shown

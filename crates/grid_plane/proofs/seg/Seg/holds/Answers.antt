@@ -4,7 +4,8 @@ use mir.Syntax.{w64}
 use mir.Val.{SFits}
 use Rattle.plane_terms.specs.Segment.{comes_before}
 use Rattle.grid_plane.proofs.Numbers.{bits_zero, zero_bits}
-use Rattle.grid_plane.proofs.PlacesOn.{off_before, off_after, on_within, turn_on, on_at}
+use Rattle.cell_laws.proofs.AtPlaces.{turn_on}
+use Rattle.grid_plane.proofs.PlacesOn.{off_before, off_after, on_within, on_at}
 use Rattle.grid_plane.proofs.seg.Seg.holds.Goals as goal
 
 pub returns-then-comes_before : goal.returns-then-comes_before

@@ -1,0 +1,48 @@
+-- Of a view, those around its subject are those of the class, and what is found among them is the rule's cutting.
+use Rattle.std.proofs.Common.{◌≡◌, ℕ, Bool, true, false, List, [], Some, refl, sym, ◌∙◌, ap}
+use Rattle.std.specs.Prelude.{◌&&◌, if◌then◌else◌}
+use Rattle.topology_terms.specs.Feature.{Feature, Side, feature_at, is_on_side}
+use Rattle.topology_terms.specs.Broken.{Row, judged}
+use Rattle.topology_terms.specs.Built.{is_built}
+use Rattle.topology_terms.specs.Meaning.{Finding}
+use Rattle.topology_terms.specs.Plans.{Around, Later, Own, Second, Other, around, side_by, Plan, WithEach, Alone, Whole, plan_of, cut_by, IsCutting}
+use Rattle.rule_core.specs.Shown.{IsShown}
+use Rattle.rule_core.proofs.Partners.{near_shown, near_after_shown}
+use Rattle.rule_loops.specs.Views.{of_class}
+use Rattle.rule_frames.specs.Seen.{seen, cut_plan, cut_seen}
+
+class_if : (b : Bool) (A B : Side) → (if b then A else B).class ≡ (if b then A.class else B.class)
+class_if true A B = refl
+class_if false A B = refl
+
+around_seen : (who : Around) (row : Row) (V : List Feature) (a : ℕ) (f : Feature) → IsShown row V a → feature_at V a ≡ Some f → around who row V f ≡ seen who row V f
+around_seen who row V a f shown e =
+    let l = shown.live in
+    let same : shown.subject ≡ f = cc in
+    by_who who same
+  where
+    by_who : (who : Around) → shown.subject ≡ f → around who row V f ≡ seen who row V f
+    by_who Later same = rw same at (near_after_shown row V a shown row.origin)
+    by_who Own same = rw same at (near_shown row V a shown row.origin)
+    by_who Second same = rw same at (near_shown row V a shown row.dest)
+    by_who Other same = (rw same at (near_shown row V a shown (side_by Other row f))) ∙ ap (λ n. of_class n V) (class_if (is_on_side row.origin f) row.dest row.origin)
+
+plan_seen : (plan : Plan) (row : Row) (V : List Feature) (f : Feature) → ((who : Around) → around who row V f ≡ seen who row V f) → cut_by plan row V f ≡ cut_plan plan row V f
+plan_seen (WithEach who cells) row V f e = rw (e who) refl
+plan_seen (Alone who cells) row V f e = rw (e who) refl
+plan_seen (Whole who test) row V f e = rw (e who) refl
+
+if_both : (b : Bool) (xs : List Finding) → (if b && true then xs else []) ≡ (if b then xs else [])
+if_both true xs = refl
+if_both false xs = refl
+
+-- what is found among those seen is the rule's cutting, whatever the rule
+pub seen_cut : (row : Row) (V : List Feature) (a : ℕ) (f : Feature) → IsShown row V a → feature_at V a ≡ Some f → (xs : List Finding) → xs ≡ cut_seen row V f → IsCutting row V a xs
+unfolding IsCutting
+seen_cut row V a f shown e xs h =
+    let l = shown.live in
+    let same : shown.subject ≡ f = cc in
+    let j : judged row f ≡ true = rw same at shown.judged in
+    let ys = cut_by (plan_of row.kind) row V f in
+    let same_plan : ys ≡ cut_plan (plan_of row.kind) row V f = plan_seen (plan_of row.kind) row V f (λ who. around_seen who row V a f shown e) in
+    (f, e, rw j (h ∙ sym (if_both (is_built row.kind) ys ∙ ap (λ (zs : List Finding). if is_built row.kind then zs else []) same_plan)))

@@ -1,0 +1,2 @@
+mod Carved
+mod More

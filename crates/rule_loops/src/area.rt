@@ -1,0 +1,34 @@
+ghost use Rattle.std.specs.Prelude.{◌≡◌, IfOk};
+ghost use Rattle.topology_terms.specs.Plans as plans;
+ghost use Rattle.rule_loops.specs.Views.{of_class};
+
+use crate::polygon::{inside_of, outside_of};
+use convex_cell::Cells;
+use grid_plane::NoMemory;
+use rule_core::{View, Work};
+use shape::Feature;
+use std::alloc::Global;
+
+/// What the polygons of the class that are shown leave of the subject's inside. Stops where nothing is left.
+pub fn area_left(
+    alloc: Global,
+    class: u16,
+    subject: &Feature,
+    view: &View<'_>,
+    work: &mut Work,
+) -> Result<Cells, NoMemory>
+    ensures left { IfOk result (λ cells. cells ≡ plans.area_left subject.now (of_class class view.now)) }
+    ensures uncounted { work.new ≡ work.old }
+{
+    let mut cells = inside_of(alloc, subject, work)?;
+    for i in 0..view.len() {
+        if cells.len() == 0 {
+            return Ok(cells);
+        }
+        let other = view.feature(i);
+        if other.class() == class {
+            cells = cells.carve(alloc, &outside_of(alloc, other, work)?)?;
+        }
+    }
+    Ok(cells)
+}

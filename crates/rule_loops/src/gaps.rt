@@ -1,0 +1,80 @@
+ghost use Rattle.std.specs.Prelude.{◌≡◌, [], IfOk, map};
+ghost use Rattle.plane_terms.specs.Cell as planes;
+ghost use Rattle.topology_terms.specs.Plans as plans;
+ghost use Rattle.rule_loops.specs.Views.{of_class, other_of};
+
+use crate::polygon::{boundary_of, outside_of};
+use convex_cell::{Cell, Cells};
+use grid_plane::NoMemory;
+use rule_core::{View, Work};
+use shape::Feature;
+use std::alloc::Global;
+
+// The cells, each made weak.
+fn weakened(alloc: Global, cells: &Cells) -> Result<Cells, NoMemory>
+    ensures { IfOk result (λ weak. weak ≡ map {A = planes.Cell} planes.weak_of cells.now) }
+{
+    let mut weak = Cells::new(alloc);
+    for i in 0..cells.len() {
+        let mut cell = cells.cell(i).try_copy(alloc)?;
+        cell.weaken();
+        weak.push(cell)?;
+    }
+    Ok(weak)
+}
+
+fn is_other(class: u16, subject: &Feature, other: &Feature) -> bool
+    ensures { result ≡ other_of class subject.now other.now }
+{
+    other.class() == class && other.handle() != subject.handle()
+}
+
+// What is out of the subject, within a box round it.
+fn ground_round(alloc: Global, subject: &Feature, work: &mut Work) -> Result<Cells, NoMemory>
+    ensures ground { IfOk result (λ cells. cells ≡ plans.open_ground subject.now []) }
+    ensures uncounted { work.new ≡ work.old }
+{
+    let mut ground = Cells::new(alloc);
+    ground.push(Cell::box_round(alloc, &subject.shape().env())?)?;
+    ground.carve(alloc, &outside_of(alloc, subject, work)?)
+}
+
+// What no polygon of the class that is shown covers round the subject. Stops where nothing is left.
+fn open_ground(
+    alloc: Global,
+    class: u16,
+    subject: &Feature,
+    view: &View<'_>,
+    work: &mut Work,
+) -> Result<Cells, NoMemory>
+    ensures ground { IfOk result (λ cells. cells ≡ plans.open_ground subject.now (of_class class view.now)) }
+    ensures uncounted { work.new ≡ work.old }
+{
+    let mut ground = ground_round(alloc, subject, work)?;
+    for i in 0..view.len() {
+        if ground.len() == 0 {
+            return Ok(ground);
+        }
+        let other = view.feature(i);
+        if is_other(class, subject, other) {
+            ground = ground.carve(alloc, &outside_of(alloc, other, work)?)?;
+        }
+    }
+    Ok(ground)
+}
+
+/// The boundary of the subject where open ground comes near.
+pub fn gap_cells(
+    alloc: Global,
+    class: u16,
+    subject: &Feature,
+    view: &View<'_>,
+    work: &mut Work,
+) -> Result<Cells, NoMemory>
+    ensures gaps { IfOk result (λ cells. cells ≡ plans.gap_cells subject.now (of_class class view.now)) }
+    ensures uncounted { work.new ≡ work.old }
+{
+    let ground = open_ground(alloc, class, subject, view, work)?;
+    let boundary = boundary_of(alloc, subject)?;
+    boundary.carve(alloc, &weakened(alloc, &ground)?)
+}

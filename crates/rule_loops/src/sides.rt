@@ -1,0 +1,70 @@
+ghost use Rattle.std.specs.Prelude.{◌≡◌, IfOk};
+ghost use Rattle.topology_terms.specs.Cells.{uncovered, out_of_segments};
+ghost use Rattle.topology_terms.specs.Plans as plans;
+ghost use Rattle.rule_loops.specs.Views.{of_class, left_of_segment};
+
+use convex_cell::{Cell, Cells};
+use grid_plane::{NoMemory, Seg};
+use rule_core::View;
+use shape::Feature;
+use std::alloc::Global;
+
+// What these segments leave of the cells of a segment. Stops where nothing is left.
+fn off_segments(
+    alloc: Global,
+    cells: Cells,
+    segment: &Seg,
+    others: &[Seg],
+) -> Result<Cells, NoMemory>
+    ensures { IfOk result (λ left. left ≡ uncovered cells (out_of_segments segment.now others.now)) }
+{
+    let mut left = cells;
+    for other in others {
+        if left.len() == 0 {
+            return Ok(left);
+        }
+        if segment.env().meets(&other.env()) {
+            left = left.carve(alloc, &Cells::out_of_seg(alloc, other)?)?;
+        }
+    }
+    Ok(left)
+}
+
+// What the features of the class that are shown leave of a segment. Stops where nothing is left.
+fn segment_left(
+    alloc: Global,
+    class: u16,
+    segment: &Seg,
+    view: &View<'_>,
+) -> Result<Cells, NoMemory>
+    ensures { IfOk result (λ left. left ≡ left_of_segment (of_class class view.now) segment.now) }
+{
+    let mut left = Cells::new(alloc);
+    left.push(Cell::on_seg(alloc, segment)?)?;
+    for i in 0..view.len() {
+        if left.len() == 0 {
+            return Ok(left);
+        }
+        let other = view.feature(i);
+        if other.class() == class {
+            left = off_segments(alloc, left, segment, other.shape().segs())?;
+        }
+    }
+    Ok(left)
+}
+
+/// What the features of the class that are shown leave of the subject's segments.
+pub fn sides_left(
+    alloc: Global,
+    class: u16,
+    subject: &Feature,
+    view: &View<'_>,
+) -> Result<Cells, NoMemory>
+    ensures { IfOk result (λ cells. cells ≡ plans.sides_left subject.now (of_class class view.now)) }
+{
+    let mut cells = Cells::new(alloc);
+    for segment in subject.shape().segs() {
+        cells.append(segment_left(alloc, class, segment, view)?)?;
+    }
+    Ok(cells)
+}
