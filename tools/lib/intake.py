@@ -12,7 +12,8 @@ from .grid import Extent, Grid, GridError, chosen_grid, decimal_text
 from .ogr import Feature, Layer, SourceError, features_of, layer_names, layer_of
 from .scripts import Converter, LeftOut, Taken, class_name, kind_of_layer, moved_text
 
-SHOWN = 10
+SHOWN = 3
+PAUSE = 5
 
 
 class Class(NamedTuple):
@@ -99,7 +100,7 @@ def grid_for(classes: list[Class], resolution: Fraction, origin: Optional[tuple[
     if origin:
         return Grid(resolution, *origin, crs)
     grid = chosen_grid(resolution, common_extent(classes), crs)
-    say('the origin is %s %s, in the middle of the extent' % (decimal_text(grid.x), decimal_text(grid.y)))
+    say('the origin is %s %s, near the middle of the extent' % (decimal_text(grid.x), decimal_text(grid.y)))
     return grid
 
 
@@ -113,7 +114,7 @@ class Report:
         self.of, self.read, self.added, self.left_out, self.moved = of, 0, 0, 0, 0
         self.most = Fraction(0)
         self.shown: dict[str, int] = {}
-        self.next_word = time.monotonic() + 2
+        self.next_word = time.monotonic() + PAUSE
 
     def name(self, of: Class, feature: Feature) -> str:
         return '%s %s%s' % (of.layer.name, feature.fid, ' (%s)' % feature.id if feature.id else '')
@@ -147,11 +148,11 @@ class Report:
         self.row(of, feature, str(handle), moved if taken.moved else '', '; '.join(taken.notes))
 
     def count(self) -> None:
-        """A feature has been read; every two seconds it is told how many."""
+        """A feature has been read; now and then it is told how many."""
         self.read += 1
         if time.monotonic() >= self.next_word:
             say('%s of %s features' % (format(self.read, ','), format(self.of, ',')))
-            self.next_word = time.monotonic() + 2
+            self.next_word = time.monotonic() + PAUSE
 
     def total(self) -> None:
         say('%s features read, %s added, %s left out; %s moved, by %s at most' %
