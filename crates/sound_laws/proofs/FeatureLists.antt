@@ -1,5 +1,5 @@
 -- Features by handle: the laws of a list that ascends by a key, for `feature_at`.
-use Rattle.std.proofs.Common.{◌≡◌, ◌<◌, ℕ, Bool, true, false, List, ◌∷◌, Some, None}
+use Rattle.std.proofs.Common.{◌≡◌, ◌<◌, ℕ, Bool, true, false, List, ◌∷◌, Option, Some, None}
 use Rattle.std.specs.Prelude.{cond, ◌==◌}
 use Rattle.std.specs.List.{filter}
 use Rattle.plane_terms.specs.Lists.{Every}
