@@ -35,7 +35,7 @@ pub Covers_append : (d e : List Rectangle) (p : Point) → Covers (d ++ e) p →
 Covers_append [] e p h = inr h
 Covers_append (r ∷ d) e p h = elim h [ inl k ↦ inl (inl k) | inr k ↦ elim (Covers_append d e p k) [ inl m ↦ inl (inr m) | inr m ↦ inr m ] ]
 
-or_cases : (a b : Bool) → (a || b) ≡ true → (a ≡ true) ⊎ (b ≡ true)
+pub or_cases : (a b : Bool) → (a || b) ≡ true → (a ≡ true) ⊎ (b ≡ true)
 or_cases a b e = grind arith
 
 by_test : (b : Bool) (d e : List Rectangle) (p : Point) → (b ≡ true → Covers d p) → (b ≡ false → Covers e p) → Covers (if b then d else e) p
