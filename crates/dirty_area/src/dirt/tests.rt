@@ -24,21 +24,20 @@ fn the_windows_border_stays_dirty(rt: HostRuntime) -> Result<(), Fail> {
     dirt.add(rect(5, 5, 15, 15)?)?;
     dirt.add(rect(6, 6, 7, 7)?)?;
     dirt.add(rect(105, 5, 115, 15)?)?;
-    let before = dirt.try_copy(alloc)?;
     let window = rect(0, 0, 10, 20)?;
-    dirt.cut(alloc, &window)?;
+    let left = dirt.cut(alloc, &window)?;
     assert_eq!(rt;
-        sides(alloc, &before)?.as_slice(),
+        sides(alloc, &dirt)?.as_slice(),
         [[5, 5, 15, 15], [105, 5, 115, 15]].as_slice()
     );
     assert_eq!(rt;
-        sides(alloc, &dirt)?.as_slice(),
+        sides(alloc, &left)?.as_slice(),
         [[10, 5, 15, 15], [105, 5, 115, 15]].as_slice()
     );
-    assert!(rt; dirt.meets(&rect(0, 0, 10, 5)?));
-    assert!(rt; !dirt.meets(&rect(0, 0, 9, 20)?));
-    assert!(rt; dirt.meets_part(&window, &rect(10, 15, 20, 20)?));
-    assert!(rt; !dirt.meets_part(&window, &rect(11, 15, 20, 20)?));
+    assert!(rt; left.meets(&rect(0, 0, 10, 5)?));
+    assert!(rt; !left.meets(&rect(0, 0, 9, 20)?));
+    assert!(rt; left.meets_part(&window, &rect(10, 15, 20, 20)?));
+    assert!(rt; !left.meets_part(&window, &rect(11, 15, 20, 20)?));
     Ok(())
 }
 
@@ -49,8 +48,8 @@ fn four_pieces_round_a_window(rt: HostRuntime) -> Result<(), Fail> {
     dirt.add(rect(1, 1, 2, 2)?)?;
     dirt.add(Rect::whole())?;
     assert_eq!(rt; dirt.len(), 1);
-    dirt.cut(alloc, &rect(0, 0, 5, 5)?)?;
-    assert_eq!(rt; dirt.len(), 4);
+    let left = dirt.cut(alloc, &rect(0, 0, 5, 5)?)?;
+    assert_eq!(rt; left.len(), 4);
     let reach = 4_194_304;
     let round = [
         [-reach, -reach, 0, reach],
@@ -58,6 +57,6 @@ fn four_pieces_round_a_window(rt: HostRuntime) -> Result<(), Fail> {
         [0, -reach, 5, 0],
         [0, 5, 5, reach],
     ];
-    assert_eq!(rt; sides(alloc, &dirt)?.as_slice(), round.as_slice());
+    assert_eq!(rt; sides(alloc, &left)?.as_slice(), round.as_slice());
     Ok(())
 }
