@@ -76,8 +76,7 @@ pub fn validate<R: RuleSet>(
 {
     let selected = select(alloc, features, errors, dirt, window)?;
     let fresh = rejudge(rules, alloc, in_force, features, &selected, window, work)?;
-    let mut left = dirt.try_copy(alloc)?;
-    left.cut(alloc, window)?;
+    let left = dirt.cut(alloc, window)?;
     errors.replace(alloc, &selected, fresh)?;
     *dirt = left;
     Ok(())

@@ -10,18 +10,17 @@ replace-requires-clause-new g c = judging_fresh g.R.RuleSet.meaning c.args.featu
 
 pub returns-clause-step : goal.returns-clause-step
 returns-clause-step g c = λ p h.
-    let cut = rw c.in_ok-left.ensures at c.in_ok-cut.ensures.ok in
-    validated g.R.RuleSet.meaning c.args.window.now p c.args.in_force.now c.args.features.now c.args.dirt.now c.cut.new.self c.args.errors.now c.replace.new.self c.in_ok-fresh.fresh.items c.in_ok-selected.selected
-    h c.requires.rules c.in_ok-selected.ensures.rising (λ a. c.in_ok-selected.ensures.chosen p h.features h.dirt h.entries a) c.in_ok-fresh.ensures.judging c.in_ok-replace.ensures.replaced cut
+    validated g.R.RuleSet.meaning c.args.window.now p c.args.in_force.now c.args.features.now c.args.dirt.now c.in_ok-left.left c.args.errors.now c.replace.new.self c.in_ok-fresh.fresh.items c.in_ok-selected.selected
+    h c.requires.rules c.in_ok-selected.ensures.rising (λ a. c.in_ok-selected.ensures.chosen p h.features h.dirt h.entries a) c.in_ok-fresh.ensures.judging c.in_ok-replace.ensures.replaced c.in_ok-left.ensures.ok
 
 pub returns-clause-valid : goal.returns-clause-valid
-returns-clause-valid g c = λ p h v. parts_kept_valid g.R.RuleSet.meaning g.met.R.RuleSet.right c.args.window.now p (with_parts p c.cut.new.self c.replace.new.self) (returns-clause-step g c p h) v (rw h.features c.requires.features)
+returns-clause-valid g c = λ p h v. parts_kept_valid g.R.RuleSet.meaning g.met.R.RuleSet.right c.args.window.now p (with_parts p c.in_ok-left.left c.replace.new.self) (returns-clause-step g c p h) v (rw h.features c.requires.features)
 
 pub returns-clause-sound : goal.returns-clause-sound
-returns-clause-sound g c = λ p h v s. parts_kept_sound g.R.RuleSet.meaning g.met.R.RuleSet.laws g.met.R.RuleSet.right c.args.window.now p (with_parts p c.cut.new.self c.replace.new.self) (returns-clause-step g c p h) v (rw h.features c.requires.features) s
+returns-clause-sound g c = λ p h v s. parts_kept_sound g.R.RuleSet.meaning g.met.R.RuleSet.laws g.met.R.RuleSet.right c.args.window.now p (with_parts p c.in_ok-left.left c.replace.new.self) (returns-clause-step g c p h) v (rw h.features c.requires.features) s
 
 pub returns-clause-settled : goal.returns-clause-settled
-returns-clause-settled g c = λ p h v s. parts_kept_settled g.R.RuleSet.meaning g.met.R.RuleSet.laws g.met.R.RuleSet.right c.args.window.now p (with_parts p c.cut.new.self c.replace.new.self) (returns-clause-step g c p h) v (rw h.features c.requires.features) s
+returns-clause-settled g c = λ p h v s. parts_kept_settled g.R.RuleSet.meaning g.met.R.RuleSet.laws g.met.R.RuleSet.right c.args.window.now p (with_parts p c.in_ok-left.left c.replace.new.self) (returns-clause-step g c p h) v (rw h.features c.requires.features) s
 
 pub returns-clause-judged : goal.returns-clause-judged
 returns-clause-judged g c = λ p h. (
