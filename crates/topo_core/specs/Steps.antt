@@ -9,8 +9,9 @@
 -- IsChangeRefusal old h s e        why it has not: the first cause that there is
 -- IsDeleted h f old new            the feature f of handle h is gone
 -- IsDeleteRefusal old h e          why it is not
--- IsCounted old done count fs      a count of judgements `old` became `done`, by the judgements of these subjects
-use Rattle.std.specs.Prelude.{◌≡◌, ◌≢◌, ℕ, ◌+◌, ◌<◌, List, [], ◌∷◌, ◌++◌, length, Option, Some, None}
+-- IsCounted w p old done           a count of judgements `old` became `done`, by the judgements of the selected subjects
+-- IsCountWithin w p old done       it rose by no more than those
+use Rattle.std.specs.Prelude.{◌≡◌, ◌≢◌, ℕ, ◌+◌, ◌<◌, ◌≤◌, List, [], ◌∷◌, ◌++◌, length, Option, Some, None}
 use Rattle.plane_terms.specs.Lists.{IsThose}
 use Rattle.plane_terms.specs.Rectangle.{Rectangle}
 use Rattle.plane_terms.specs.Shape.{Shape}
@@ -99,3 +100,6 @@ pub record IsCounted (w : Rectangle) (p : Project) (old done : ℕ) : Type 0 whe
   pub subjects : List Feature
   pub those : IsThose (λ (f : Feature). IsSelected p w f.handle) p.features subjects
   pub count : done ≡ raised old (judged_of p.rules subjects)
+
+abbrev pub IsCountWithin : Rectangle → Project → ℕ → ℕ → Type 0
+IsCountWithin w p old done = (subjects : List Feature) → IsThose (λ (f : Feature). IsSelected p w f.handle) p.features subjects → done ≤ raised old (judged_of p.rules subjects)

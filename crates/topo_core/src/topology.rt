@@ -6,7 +6,7 @@ ghost use Rattle.topology_terms.specs.Changes.{IsRuleAdded, IsRuleDropped};
 ghost use Rattle.topo_core.specs.RuleSteps.{MayAdd, IsRuleRefusal};
 ghost use Rattle.feature_store.specs.Keeps.{IsOfClass, IsStore};
 ghost use Rattle.topo_core.specs.Topologies.{IsKeptUnder, IsTopology};
-ghost use Rattle.topo_core.specs.Steps.{IsClassMore, IsClassRefusal, IsFeatureMore, IsAddRefusal, IsExchanged, IsChanged, IsChangeRefusal, IsDeleted, IsDeleteRefusal, IsCounted};
+ghost use Rattle.topo_core.specs.Steps.{IsClassMore, IsClassRefusal, IsFeatureMore, IsAddRefusal, IsExchanged, IsChanged, IsChangeRefusal, IsDeleted, IsDeleteRefusal, IsCounted, IsCountWithin};
 
 use crate::fault::ChangeFault;
 use crate::fitting::fit;
@@ -239,6 +239,7 @@ impl<R: KindRules> Topology<R> {
     pub fn validate(&mut self, window: Rect, work: &mut Work) -> Result<Summary, NoMemory>
         ensures ok { OnOk result (IsValidatedBy R.meaning window self.old self.new) }
         ensures judged { OnOk result (IsCounted window self.old work.old work.new) }
+        ensures stopped { OnErr result (IsCountWithin window self.old work.old work.new) }
         ensures summary { IfOk result (λ s. (s.judged ≡ work.new - work.old) × (s.errors ≡ length self.new.entries) × (s.dirty ≡ length self.new.dirt)) }
         ensures kept { IsKeptUnder R.meaning self.old → IsKeptUnder R.meaning self.new }
         ensures ordered { IsOrdered self.new }
