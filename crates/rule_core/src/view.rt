@@ -26,8 +26,8 @@ impl<'a> Model for View<'a> {
     ghost invariant = { λ v. terms.IsAscending (map (λ f. f.now) v.features.items) };
 }
 
-// How the first handle stands to the second.
-fn compare(m: u32, n: u32) -> Ordering
+/// How the first handle stands to the second.
+pub fn compare_handles(m: u32, n: u32) -> Ordering
     ensures { MatchOrdering result (m < n) (m ≡ n) (n < m) }
 {
     if m < n {
@@ -44,7 +44,7 @@ fn find_in<'a>(features: &[&'a Feature], handle: u32) -> Option<&'a Feature>
     requires { terms.IsAscending (map (λ f. f.now) features.now) }
     ensures { MatchOption result (terms.feature_at (map (λ f. f.now) features.now) handle ≡ None) (λ f. terms.feature_at (map (λ f. f.now) features.now) handle ≡ Some f.now) }
 {
-    match features.binary_search_by(|f| compare(f.handle(), handle)) {
+    match features.binary_search_by(|f| compare_handles(f.handle(), handle)) {
         Ok(i) => Some(features[i]),
         Err(_) => None,
     }
