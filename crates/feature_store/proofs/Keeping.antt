@@ -1,27 +1,54 @@
 -- What every store keeps is kept as a class or a feature comes.
 use Rattle.std.proofs.Common.{ℕ, zero, suc, ◌≡◌, ◌≢◌, ◌<◌, ◌≤◌, ◌+◌, ◌-◌, Bool, true, false, List, [], ◌∷◌, ◌++◌, length, refl, sym, ◌∙◌, ap, arith, Option, Some, None, length-append, eqb}
+use Rattle.std.proofs.lemmas.Bool.Decides.{nat_tests}
 use Rattle.std.proofs.lemmas.Slice.Eq.{bytes_eq-Decides}
-use Rattle.std.specs.Prelude.{bytes_eq, is_some, slice_get, if◌then◌else◌}
+use Rattle.std.specs.Prelude.{bytes_eq, is_none, is_some, not, slice_get, if◌then◌else◌}
 use Rattle.std.specs.Option.{option_map, IfSome}
 use Rattle.plane_terms.specs.Lists.{Every, EveryPair}
 use Rattle.plane_terms.specs.declared.kind.Kind.{Kind}
+use Rattle.plane_terms.specs.declared.kind.Kind.TheVariants as kind
 use Rattle.topology_terms.specs.Feature.{Class, Feature, by_handle, feature_at}
 use Rattle.plane_terms.proofs.ListLemmas.{every_append, every_map}
 use Rattle.sound_laws.proofs.Keyed.{ascending_last}
 use Rattle.sound_laws.proofs.FeatureLists.{handles, handle_of}
 use Rattle.sound_laws.proofs.FeatureLists.{live_each as each_live}
-use Rattle.topology_terms.specs.Lookups.{number_from}
-use Rattle.feature_store.specs.Stored.{class_at}
+use Rattle.topology_terms.specs.Lookups.{class_at, number_from, kind_of_class}
+use Rattle.topology_terms.specs.Causes.{when, first_of, same_kind, is_kind, class_cause, add_cause}
+use Rattle.topology_terms.specs.declared.cause.Cause.TheVariants as cause
 use Rattle.feature_store.specs.Keeps.{IsOfClass, IsGiven, HasSimpleSides, AreUnlike, IsStore}
-use Rattle.feature_store.specs.Changes.{IsTaken, HasKind}
 
-pub taken : (cs : List Class) (name : List ℕ) (r : Option ℕ) → r ≡ number_from 1 cs name → is_some r ≡ true → IsTaken cs name
-taken cs name None e t = cc
-taken cs name (Some n) e t = record { number = n; taken = sym e }
+-- ---- the tests of kinds
+pub kinds_same : (k l : Kind) → same_kind k l ≡ true → k ≡ l
+kinds_same kind.Point kind.Point e = refl
+kinds_same kind.Point kind.Line e = cc
+kinds_same kind.Point kind.Polygon e = cc
+kinds_same kind.Line kind.Point e = cc
+kinds_same kind.Line kind.Line e = refl
+kinds_same kind.Line kind.Polygon e = cc
+kinds_same kind.Polygon kind.Point e = cc
+kinds_same kind.Polygon kind.Line e = cc
+kinds_same kind.Polygon kind.Polygon e = refl
 
+-- ---- what may be added
 pub none_of : (o : Option ℕ) → is_some o ≡ false → o ≡ None
 none_of None e = refl
 none_of (Some n) e = cc
+
+-- what may be added fits its class, and has a handle
+pub fits_class : (cs : List Class) (next n : ℕ) (k : Kind) → add_cause cs next n k ≡ None → (kind_of_class cs n ≡ Some k) × (next ≢ 4294967295)
+fits_class cs next n k e = by (kind_of_class cs n) refl e
+  where
+    last : (t : Bool) → eqb next 4294967295 ≡ t → first_of (when t cause.HandlesSpent ∷ []) ≡ None → next ≢ 4294967295
+    last true w h = cc
+    last false w h = λ s. let t : eqb next 4294967295 ≡ true = grind (arith, nat_tests) in cc
+
+    same : (l : Kind) (t : Bool) → same_kind l k ≡ t → first_of (when (not t) cause.WrongKind ∷ when (eqb next 4294967295) cause.HandlesSpent ∷ []) ≡ None → (Some l ≡ Some k) × (next ≢ 4294967295)
+    same l true w h = (ap (λ m. Some m) (kinds_same l k w), last (eqb next 4294967295) refl h)
+    same l false w h = cc
+
+    by : (o : Option Kind) → kind_of_class cs n ≡ o → first_of (when (is_none o) cause.NoClass ∷ when (not (is_kind o k)) cause.WrongKind ∷ when (eqb next 4294967295) cause.HandlesSpent ∷ []) ≡ None → (o ≡ Some k) × (next ≢ 4294967295)
+    by None w h = cc
+    by (Some l) w h = same l (same_kind l k) refl h
 
 -- ---- a class more
 -- none of these classes has the name
@@ -49,8 +76,15 @@ class_end cs d c n e = by (eqb n 0) e
     by true h = h
     by false h = get_end cs d c (n - 1) h
 
+pub kind_end : (cs : List Class) (d : Class) (n : ℕ) (k : Kind) → kind_of_class cs n ≡ Some k → kind_of_class (cs ++ d ∷ []) n ≡ Some k
+kind_end cs d n k e = by (class_at cs n) refl e
+  where
+    by : (o : Option Class) → class_at cs n ≡ o → option_map (λ (c : Class). c.kind) o ≡ Some k → kind_of_class (cs ++ d ∷ []) n ≡ Some k
+    by None w h = cc
+    by (Some c) w h = rw (class_end cs d c n w) h
+
 kinds_end : (cs : List Class) (d : Class) (F : List Feature) → Every (IsOfClass cs) F → Every (IsOfClass (cs ++ d ∷ [])) F
-kinds_end cs d F h = every_map (IsOfClass cs) (IsOfClass (cs ++ d ∷ [])) (λ f k. record { class = k.class; there = class_end cs d k.class f.class k.there; kind = k.kind }) F h
+kinds_end cs d F h = every_map (IsOfClass cs) (IsOfClass (cs ++ d ∷ [])) (λ f k. kind_end cs d f.class f.shape.kind k) F h
 
 pub class_kept : (cs : List Class) (F : List Feature) (next : ℕ) (d : Class) (name : List ℕ) → d.name ≡ name → number_from 1 cs name ≡ None → length cs ≢ 64 → IsStore cs F next → IsStore (cs ++ d ∷ []) F next
 class_kept cs F next d name same free some_left s = record {
@@ -82,19 +116,6 @@ feature_kept cs F next f same of_class simple s =
       simple = every_append HasSimpleSides F (f ∷ []) s.simple (simple, tt);
       from_1 = omega arith;
     }
-
--- the class of the kind that was found
-pub of_kind : (cs : List Class) (n : ℕ) (k : Kind) → Some k ≡ option_map (λ (c : Class). c.kind) (class_at cs n) → HasKind cs n k
-of_kind cs n k e = by (class_at cs n) refl e
-  where
-    by : (o : Option Class) → class_at cs n ≡ o → Some k ≡ option_map (λ (c : Class). c.kind) o → HasKind cs n k
-    by None w h = cc
-    by (Some c) w h = record { class = c; there = w; kind = cc }
-
-pub of_class : (cs : List Class) (f : Feature) (n : ℕ) (k : Kind) → f.class ≡ n → f.shape.kind ≡ k → Some k ≡ option_map (λ (c : Class). c.kind) (class_at cs n) → IsOfClass cs f
-of_class cs f n k same kind e =
-    let h = of_kind cs n k e in
-    record { class = h.class; there = ap (class_at cs) same ∙ h.there; kind = kind ∙ h.kind }
 
 -- ---- a live feature
 pub live_own : (F : List Feature) (h : ℕ) → IfSome (feature_at F h) (λ (f : Feature). f.handle ≡ h)

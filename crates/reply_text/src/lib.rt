@@ -11,3 +11,4 @@ mod reply;
 
 pub use refusal::Refusal;
 pub use reply::{Reply, push_reply};
+pub use topology_terms::Cause;

@@ -15,3 +15,4 @@ pub mod Meetings
 pub mod FeatureLists
 pub mod FeatureFilters
 pub mod RuleLists
+pub mod Scratch

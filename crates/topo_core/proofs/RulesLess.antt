@@ -1,10 +1,9 @@
--- A rule less keeps what every topology keeps, and what it keeps of the rules' meaning.
+-- A rule less keeps what every topology keeps.
 use Rattle.std.proofs.Common.{◌≡◌, ◌≢◌, ◌<◌, ◌≤◌, arith, length, inl, inr, ℕ, Bool, true, false, List, [], ◌∷◌, None, Some, refl, sym, ◌∙◌}
 use Rattle.std.specs.Prelude.{cond, not, ◌==◌}
 use Rattle.std.proofs.lemmas.Bool.Decides.{eqb_tells}
 use Rattle.plane_terms.specs.Lists.{Every}
 use Rattle.plane_terms.specs.Rectangle.{Rectangle}
-use Rattle.topology_terms.specs.Meaning.{Meaning}
 use Rattle.topology_terms.specs.Entry.{Entry, entry_at}
 use Rattle.topology_terms.specs.Entry as entries
 use Rattle.topology_terms.specs.Project.{Project, InForce, by_number}
@@ -12,12 +11,10 @@ use Rattle.topology_terms.specs.Changes.{IsRuleDropped}
 use Rattle.plane_terms.proofs.ListLemmas.{every_filter}
 use Rattle.sound_laws.proofs.Keyed.{ascending_filter}
 use Rattle.sound_laws.proofs.RuleLists.{rule_numbers, without_here, without_others}
-use Rattle.sound_laws.proofs.RuleChanges.{drop_rule_sound}
-use Rattle.sound_laws.proofs.Settling.{drop_rule_settled}
 use Rattle.feature_store.specs.Stored.{Stored}
 use Rattle.topo_core.specs.Kinds.{HasKinds}
 use Rattle.topo_core.specs.RuleLists.{without_rule}
-use Rattle.topo_core.specs.Topologies.{IsTopology, IsKeptUnder, project_of}
+use Rattle.topo_core.specs.Topologies.{IsTopology, project_of}
 
 -- the rule has another number
 abbrev pub is_other : ℕ → InForce → Bool
@@ -56,19 +53,15 @@ rule_leaves n s rules less d es fs l left order t = record {
   few = let short = without_length rules n in let few = t.few in rw l (omega (arith, short, few));
   kinds = rw l (every_filter (λ (q : InForce). HasKinds s.classes q.row) (is_other n) rules t.kinds);
   order = order;
-  envelopes = t.envelopes;
-  frames = λ r a b e k. t.frames r a b e (sym (left.kept r a b (apart r a b e k)) ∙ k);
-  bare = λ r a b e k w. t.bare r a b e (sym (left.kept r a b (apart r a b e k)) ∙ k) w;
-  ruled = λ r a b e k.
-      let y = t.ruled r a b e (sym (left.kept r a b (apart r a b e k)) ∙ k) in
-      (y.0, rw l (without_others rules n r (apart r a b e k) ∙ y.1));
+  made = record {
+    envelopes = t.made.envelopes;
+    frames = λ r a b e k. t.made.frames r a b e (sym (left.kept r a b (apart r a b e k)) ∙ k);
+    bare = λ r a b e k w. t.made.bare r a b e (sym (left.kept r a b (apart r a b e k)) ∙ k) w;
+    ruled = λ r a b e k.
+        let y = t.made.ruled r a b e (sym (left.kept r a b (apart r a b e k)) ∙ k) in
+        (y.0, rw l (without_others rules n r (apart r a b e k) ∙ y.1));
+  };
 }
   where
     apart : (r a b : ℕ) (e : Entry) → entry_at fs r a b ≡ Some e → r ≢ n
     apart r a b e k same = let x : None ≡ Some e = sym (left.gone a b) ∙ (rw same at k) in absurd cc
-
-pub rule_less_kept : (M : Meaning) (n : ℕ) (old new : Project) → IsRuleDropped n old new → IsKeptUnder M old → IsKeptUnder M new
-rule_less_kept M n old new i k = record {
-  sound = drop_rule_sound M n old new i k.sound;
-  settled = drop_rule_settled M n old new i k.settled;
-}

@@ -3,10 +3,7 @@
 -- lower_from i n rs    i, and one more for each rule whose number is below n
 -- with_rule rs q       the list with the rule q before the first of a higher number
 -- without_rule rs n   the list without the rule of the number n, in its order
--- IsNowhere rs row     no rule in force has this row
-use Rattle.std.specs.Prelude.{◌≢◌, ℕ, ◌+◌, ltb, List, [], ◌∷◌, if◌then◌else◌}
-use Rattle.plane_terms.specs.Lists.{Every}
-use Rattle.topology_terms.specs.Broken.{Row}
+use Rattle.std.specs.Prelude.{ℕ, ◌+◌, ltb, List, [], ◌∷◌, if◌then◌else◌}
 use Rattle.topology_terms.specs.Keyed.{without}
 use Rattle.topology_terms.specs.Project.{InForce, by_number}
 
@@ -20,6 +17,3 @@ with_rule (q ∷ qs) r = if ltb q.number r.number then q ∷ with_rule qs r else
 
 abbrev pub without_rule : List InForce → ℕ → List InForce
 without_rule rs n = without by_number rs n
-
-abbrev pub IsNowhere : List InForce → Row → Type 0
-IsNowhere rs row = Every (λ (q : InForce). q.row ≢ row) rs

@@ -11,7 +11,7 @@ use Rattle.topology_terms.specs.Project.{Project, InForce, AreAscending}
 use Rattle.topology_terms.specs.Changes.{IsSelected}
 use Rattle.topology_terms.specs.Settled.{IsValidatedBy}
 use Rattle.validation_laws.specs.Parts.{IsRising, IsJudging, live_of}
-use Rattle.validation_laws.specs.Counts.{raised, judged_of}
+use Rattle.topology_terms.specs.Counts.{raised, judged_of}
 use Rattle.validation_laws.specs.Replaced.{IsReplaced}
 use Rattle.validation_laws.proofs.Validating.{validated_by_parts}
 use Rattle.validation_laws.proofs.Counting.{live_those}

@@ -16,7 +16,7 @@ use Rattle.topology_terms.specs.Project.{InForce}
 use Rattle.sound_laws.proofs.Keyed.{at_own, after_later}
 use Rattle.sound_laws.proofs.FeatureLists.{handles, at_handle, past_handle, none_below, handle_of, same_features}
 use Rattle.validation_laws.specs.Parts.{IsRising, live_of}
-use Rattle.validation_laws.specs.Counts.{raised, judged_of}
+use Rattle.topology_terms.specs.Counts.{raised, judged_of}
 use Rattle.validation_laws.proofs.Handles.{IsAmong, below_each, among, contained, among_or_not}
 
 -- ---- counts that stop

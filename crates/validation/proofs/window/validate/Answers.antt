@@ -2,7 +2,7 @@ use Rattle.validation_laws.specs.Parts.{live_of}
 use Rattle.validation_laws.proofs.Judging.{judging_fresh}
 use Rattle.validation_laws.proofs.Validating.{parts_kept_valid, parts_kept_sound, parts_kept_settled}
 use Rattle.validation.specs.Projects.{with_parts}
-use Rattle.validation_laws.specs.Counts.{judged_of}
+use Rattle.topology_terms.specs.Counts.{judged_of}
 use Rattle.validation_laws.proofs.Counting.{not_raised}
 use Rattle.validation.proofs.Settled.{validated, selected_live, judged_upto, le_of_eq}
 use Rattle.validation.proofs.window.validate.Goals as goal
