@@ -15,7 +15,7 @@ use Rattle.topology_terms.specs.Plans.{common_but_ends, common_place, bad_places
 use Rattle.topology_terms.specs.Plans.{has_side_at, ends_there, is_dangle, is_pseudo, own_stretches, own_crossings, none_covers}
 use Rattle.topology_terms.specs.Plans.{none_inside, has_parts}
 use Rattle.sound_laws.proofs.FeatureLists.{same_handle}
-use Rattle.sound_laws.proofs.Dirts.{or_cases}
+use Rattle.std.proofs.lemmas.Bool.{or_cases}
 use Rattle.rule_laws.proofs.Nears.{on_side_test}
 use Rattle.rule_laws.proofs.Words.{OnSides, AtEnd, AtPlace, Stretch, BothInner, BothNotEnds, Overlay, Crossing, BothInside, BothAt, IsLoose, IsJoint, IsCoveredBy, HasInside, HasParts}
 use Rattle.rule_laws.proofs.Families.{IsFit, AreFit}

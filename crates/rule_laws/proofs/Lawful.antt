@@ -16,7 +16,7 @@ use Rattle.topology_terms.specs.Broken.{Row, Fits, judged}
 use Rattle.topology_terms.specs.Meaning.{Finding}
 use Rattle.topology_terms.specs.Plans.{Around, Later, Own, Second, WithEach, Alone, Whole, plan_of, cut_by, side_by}
 use Rattle.sound_laws.proofs.FeatureLists.{same_handle}
-use Rattle.sound_laws.proofs.Dirts.{or_cases}
+use Rattle.std.proofs.lemmas.Bool.{or_cases}
 use Rattle.rule_laws.proofs.Nears.{on_side_test}
 use Rattle.rule_laws.proofs.Families.{IsFit, AreFit, AreExact, PairBreaks, AloneBreaks, WholeBreaks, IsNone, IsAmong, IsWithLater, IsWithSecond, IsWholeNone, IsWholeAlone}
 use Rattle.rule_laws.proofs.Pairs.{PairRule, pair_inside, pair_point, pair_exact}
