@@ -6,10 +6,12 @@ usage: tools/contracts.py [CRATE..]        of these crates; of all where none is
 
 It prints a line for each clause of a public function: how many wrong bodies of crates/*/must-fail are aimed at it, the
 function, the clause. A clause without a name of its own is called `ensures`. A wrong body says in its first line what it is
-aimed at, as `# aimed at: crate::function, clause`; the function may have its type before it, as `crate::Type::function`.
+aimed at, as `# aimed at: crate::function, clause`; the function may have its module and its type before it, as in
+`crate::module::Type::function` and, of a trait's method, `crate::module::TypeTrait::function`, as the prover writes it.
 
 A function is public where its crate's root file hands it out: by a `pub use`, or as a method of a type or a trait that is
-handed out so; of a program, where it is `pub`. A method of a trait that has no clauses of its own has the trait's.
+handed out so; of a program, where it is `pub`. So is a type's method of a trait that some crate hands out. One that has no clauses of
+its own has the trait's.
 """
 import collections
 import glob
@@ -25,7 +27,7 @@ ITEM = re.compile(r'^(?P<indent> *)(?:(?P<public>pub) )?(?:const )?(?:unsafe )?(
                   r'|trait (?P<declared>\w+)|fn (?P<function>\w+))', re.M)
 CLAUSE = re.compile(r'^ *ensures\*? *(\w*) *\{', re.M)
 
-Function = collections.namedtuple('Function', 'crate owner name clauses is_declared body')
+Function = collections.namedtuple('Function', 'crate module owner trait name clauses is_declared body')
 
 # Why no wrong body is aimed at a clause: the first of these that holds of its function and its name.
 WHYS = [
@@ -94,8 +96,17 @@ def body_of(text, start):
     return ''
 
 
-def functions_of(crate):
-    """The public functions of a crate with their clauses, those of a trait's method where it has none."""
+def handed_out_traits():
+    """The traits that some crate hands out."""
+    traits = set()
+    for crate in crates():
+        texts = map(text_of, glob.glob(os.path.join(CRATES, crate, 'src', '**', '*.rt'), recursive=True))
+        traits |= handed_out(crate) & {name for text in texts for name in re.findall(r'^pub trait (\w+)', text, re.M)}
+    return traits
+
+
+def functions_of(crate, traits):
+    """The public functions of a crate with the clauses that each has written on it."""
     names = handed_out(crate)
     for path in sorted(glob.glob(os.path.join(CRATES, crate, 'src', '**', '*.rt'), recursive=True)):
         text, owner, trait, is_trait = text_of(path), None, None, False
@@ -105,22 +116,24 @@ def functions_of(crate):
                 is_trait = item['declared'] is not None
                 continue
             inner = item['indent'] != ''
-            if inner and owner not in names or not inner and item['function'] not in names:
+            if inner and trait not in traits and owner not in names or not inner and item['function'] not in names:
                 continue
             if not item['public'] and not (inner and (is_trait or trait)):
                 continue
             head = head_of(text, item.start())
             clauses = [name or 'ensures' for name in CLAUSE.findall(head)]
             body = body_of(text, item.start() + len(head))
-            function = Function(crate, owner if inner else None, item['function'], clauses, inner and is_trait, body)
-            yield function, trait if inner else None
+            module = os.path.splitext(os.path.relpath(path, os.path.join(CRATES, crate, 'src')))[0].split(os.sep)
+            of = (owner, trait) if inner else (None, None)
+            yield Function(crate, module, *of, item['function'], clauses, inner and is_trait, body)
 
 
 def all_functions():
-    """The public functions of all crates."""
-    found = [pair for crate in crates() for pair in functions_of(crate)]
-    of_traits = {(f.owner, f.name): f.clauses for f, _ in found}
-    return [f._replace(clauses=f.clauses or of_traits.get((trait, f.name), [])) for f, trait in found]
+    """The public functions of all crates with their clauses, those of the trait where a method has none."""
+    traits = handed_out_traits()
+    found = [function for crate in crates() for function in functions_of(crate, traits)]
+    of_traits = {(f.owner, f.name): f.clauses for f in found if f.is_declared}
+    return [f._replace(clauses=f.clauses or of_traits.get((f.trait, f.name), [])) for f in found]
 
 
 def edits():
@@ -134,7 +147,11 @@ def edits():
 def is_aimed(aim, function):
     """Whether what an edit names is this function."""
     crate, path, _ = aim
-    return crate == function.crate and path[-1] == function.name and (len(path) == 1 or path[-2] == function.owner)
+    rest = path[:-1]
+    if rest[:len(function.module)] == function.module:
+        rest = rest[len(function.module):]
+    of = [[], [function.owner], [(function.owner or '') + (function.trait or '')]]
+    return crate == function.crate and path[-1] == function.name and rest in of
 
 
 def shown(function):

@@ -4,6 +4,7 @@
 mod column;
 mod coordinate;
 mod cut;
+mod heights;
 mod intervals;
 pub mod laws;
 mod parity;

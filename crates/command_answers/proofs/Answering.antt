@@ -20,7 +20,7 @@ use Rattle.topology_terms.specs.Counts.{raised, judged_of}
 use Rattle.feature_store.specs.Keeps.{IsGiven}
 use Rattle.topo_core.specs.Steps.{IsCounted}
 use Rattle.topo_core.specs.Topologies.{IsTopology}
-use Rattle.script_text.specs.Commands.{Command, Class, Rule, DropRule, Add, Change as AChange, Delete, Validate}
+use Rattle.line_terms.specs.Commands.{Command, Class, Rule, DropRule, Add, Change as AChange, Delete, Validate}
 use Rattle.script_terms.specs.Refusal.{Refusal, NoSession, Change}
 use Rattle.script_terms.specs.Reply.{Reply, Done, Number, Judged, Refused}
 use Rattle.script_terms.specs.State.{State, is_open}

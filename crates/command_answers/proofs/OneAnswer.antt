@@ -18,7 +18,7 @@ use Rattle.sound_laws.proofs.Lists.{unmark, unmark_option, same_entries, entry_k
 use Rattle.sound_laws.proofs.Edits.{same_or_not}
 use Rattle.sound_laws.proofs.RuleLists.{same_rules}
 use Rattle.sound_laws.proofs.Settling.{alike_same}
-use Rattle.script_text.specs.Commands.{Command, Blank, Class, Rule, DropRule, Begin, End, Discard, Add, Change, Delete, Undo, Redo, Validate, Mark, Unmark, Dirty, Errors, Cells, Features, Rules}
+use Rattle.line_terms.specs.Commands.{Command, Blank, Class, Rule, DropRule, Begin, End, Discard, Add, Change, Delete, Undo, Redo, Validate, Mark, Unmark, Dirty, Errors, Cells, Features, Rules}
 use Rattle.script_terms.specs.Refusal.{Refusal}
 use Rattle.script_terms.specs.Reply.{Reply, Number, Judged, Refused}
 use Rattle.script_terms.specs.State.{State}

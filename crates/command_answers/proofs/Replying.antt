@@ -10,7 +10,7 @@ use Rattle.topology_terms.specs.Project.{Project}
 use Rattle.topology_terms.specs.declared.cause.Cause.{Cause}
 use Rattle.topo_core.specs.Faults.{edit_cause}
 use Rattle.topo_core.specs.declared.fault.ChangeFault.{ChangeFault}
-use Rattle.script_text.specs.Commands.{Add, Change as AChange, Delete}
+use Rattle.line_terms.specs.Commands.{Add, Change as AChange, Delete}
 use Rattle.script_terms.specs.Answer.{Answers}
 use Rattle.script_terms.specs.Refusal.{Change}
 use Rattle.script_terms.specs.Reply.{Done, Number, Refused}

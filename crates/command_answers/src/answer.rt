@@ -1,6 +1,6 @@
 ghost use Rattle.std.specs.Prelude.{◌≡◌, IfOk, OnErr};
 ghost use Rattle.topology_terms.specs.Project.{IsOrdered};
-ghost use Rattle.script_text.specs.Commands as commands;
+ghost use Rattle.line_terms.specs.Commands as commands;
 ghost use Rattle.script_text.specs.Seen.{command_of};
 ghost use Rattle.script_terms.specs.Answer.{Answers};
 ghost use Rattle.script_terms.specs.Reply as replies;

@@ -1,6 +1,6 @@
 ghost use Rattle.std.specs.Prelude.{◌≡◌, ◌⊎◌, None, true, false, MatchOption, IfOk, OnErr};
 ghost use Rattle.topology_terms.specs.Lookups.{class_number};
-ghost use Rattle.script_text.specs.Commands.{Class, Rule, DropRule};
+ghost use Rattle.line_terms.specs.Commands.{Class, Rule, DropRule};
 ghost use Rattle.script_terms.specs.Answer.{Answers};
 ghost use Rattle.script_terms.specs.Refusing.{row_of, is_nowhere};
 ghost use Rattle.reply_text.specs.Replies.{said_of};
@@ -12,7 +12,7 @@ use rule_set::is_built;
 use reply_text::{Refusal, Reply};
 use rule_words::{Kind, RuleKind};
 use rule_core::RuleRow;
-use script_text::LineRefusal;
+use line_terms::LineRefusal;
 use topology_terms::Cause;
 
 /// What is answered to a command or a rule that is not built yet.

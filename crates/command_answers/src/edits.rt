@@ -1,5 +1,5 @@
 ghost use Rattle.std.specs.Prelude.{◌≡◌, IfOk, OnErr};
-ghost use Rattle.script_text.specs.Commands.{Begin, Add, Change, Delete, Validate};
+ghost use Rattle.line_terms.specs.Commands.{Begin, Add, Change, Delete, Validate};
 ghost use Rattle.script_terms.specs.Answer.{Answers};
 ghost use Rattle.reply_text.specs.Replies.{said_of};
 

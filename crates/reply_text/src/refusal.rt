@@ -1,12 +1,12 @@
 ghost use Rattle.std.specs.Prelude.{◌≡◌, ◌++◌, OnOk};
 ghost use Rattle.script_terms.specs.Refusal.{refusal_text, cause_code, line_refusal_text, shape_fault_text, with_number, with_pair};
-ghost use Rattle.script_text.specs.declared.fault.LineRefusal.TheVariants.{Invalid};
+ghost use Rattle.line_terms.specs.declared.line_refusal.LineRefusal.TheVariants.{Invalid};
 ghost use Rattle.reply_text.specs.Replies.{refusal_of};
 
 use crate::numbers::{push_number, push_text};
 use grid_plane::NoMemory;
-use script_text::LineRefusal;
-use shape::ShapeFault;
+use line_terms::LineRefusal;
+use plane_terms::ShapeFault;
 use topology_terms::Cause;
 
 /// Why a line is refused.

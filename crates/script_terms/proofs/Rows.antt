@@ -12,9 +12,9 @@ use Rattle.rule_words.specs.declared.rule_kind.RuleKind.TheVariants as kind
 use Rattle.topology_terms.specs.Feature.{feature_at}
 use Rattle.topology_terms.specs.declared.cause.Cause.TheVariants.{ClassTaken, NoClass, Unfit, RuleThere, NoRule, WrongKind, NoFeature}
 use Rattle.topology_terms.specs.Project.{Project, rule_at}
-use Rattle.shape.specs.declared.fault.ShapeFault.TheVariants as fault
-use Rattle.script_text.specs.declared.fault.LineRefusal.TheVariants as line
-use Rattle.script_text.specs.Commands.{Class, Rule, DropRule, Begin, Add, Change as AChange, Delete, Undo}
+use Rattle.plane_terms.specs.declared.shape_fault.ShapeFault.TheVariants as fault
+use Rattle.line_terms.specs.declared.line_refusal.LineRefusal.TheVariants as line
+use Rattle.line_terms.specs.Commands.{Class, Rule, DropRule, Begin, Add, Change as AChange, Delete, Undo}
 use Rattle.script_terms.specs.Refusal.{Line, NoSession, Change}
 use Rattle.script_terms.specs.Reply.{Judged, Refused, CellList, DirtyList, ErrorList, FeatureList, reply_text}
 use Rattle.script_terms.specs.State.{State}

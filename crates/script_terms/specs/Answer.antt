@@ -16,7 +16,7 @@ use Rattle.topology_terms.specs.Lookups.{class_number}
 use Rattle.topology_terms.specs.Changes.{IsClassAdded, IsFeatureAdded, IsFeatureSet, IsRuleAdded, IsRuleDropped, IsSelected, reshaped}
 use Rattle.topology_terms.specs.Settled.{IsValidatedBy}
 use Rattle.topology_terms.specs.Counts.{judged_of}
-use Rattle.script_text.specs.Commands.{Command, Blank, Class as AClass, Rule, DropRule, Begin, Add, Change, Delete, Validate, Dirty, Errors, Cells, Features}
+use Rattle.line_terms.specs.Commands.{Command, Blank, Class as AClass, Rule, DropRule, Begin, Add, Change, Delete, Validate, Dirty, Errors, Cells, Features}
 use Rattle.script_terms.specs.Refusal.{Refusal}
 use Rattle.script_terms.specs.Reply.{Reply, Nothing, Done, Number, Judged, Refused, DirtyList, ErrorList, CellList, FeatureList}
 use Rattle.script_terms.specs.State.{State}

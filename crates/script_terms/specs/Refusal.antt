@@ -10,10 +10,10 @@ use Rattle.std.specs.Prelude.{ℕ, List, [], ◌∷◌, codes, decimal}
 use Rattle.text_terms.specs.Wkt.{◌⧺◌}
 use Rattle.topology_terms.specs.declared.cause.Cause.{Cause}
 use Rattle.topology_terms.specs.declared.cause.Cause.TheVariants as cause
-use Rattle.shape.specs.declared.fault.ShapeFault.{ShapeFault}
-use Rattle.shape.specs.declared.fault.ShapeFault.TheVariants.{TooFew, TooMany, Cross, Along, NoMemory}
-use Rattle.script_text.specs.declared.fault.LineRefusal.{LineRefusal}
-use Rattle.script_text.specs.declared.fault.LineRefusal.TheVariants.{NotALine, TooLong, OffGrid, OutOfReach, Unsupported, NotClosed, Invalid, Reversed}
+use Rattle.plane_terms.specs.declared.shape_fault.ShapeFault.{ShapeFault}
+use Rattle.plane_terms.specs.declared.shape_fault.ShapeFault.TheVariants.{TooFew, TooMany, Cross, Along, NoMemory}
+use Rattle.line_terms.specs.declared.line_refusal.LineRefusal.{LineRefusal}
+use Rattle.line_terms.specs.declared.line_refusal.LineRefusal.TheVariants.{NotALine, TooLong, OffGrid, OutOfReach, Unsupported, NotClosed, Invalid, Reversed}
 
 pub data Refusal : Type 0 where
   Line : LineRefusal → Refusal

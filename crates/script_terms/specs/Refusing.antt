@@ -19,8 +19,8 @@ use Rattle.topology_terms.specs.Lookups.{class_number}
 use Rattle.topology_terms.specs.Causes.{when, first_of, class_cause, add_cause, change_cause, delete_cause, rule_cause, drop_cause}
 use Rattle.topology_terms.specs.declared.cause.Cause.{Cause}
 use Rattle.topology_terms.specs.declared.cause.Cause.TheVariants as cause
-use Rattle.script_text.specs.declared.fault.LineRefusal.TheVariants.{NotALine}
-use Rattle.script_text.specs.Commands.{Command, Blank, Class as AClass, Rule, DropRule, Begin, Add, Change as AChange, Delete, Validate, Dirty, Errors, Cells, Features}
+use Rattle.line_terms.specs.declared.line_refusal.LineRefusal.TheVariants.{NotALine}
+use Rattle.line_terms.specs.Commands.{Command, Blank, Class as AClass, Rule, DropRule, Begin, Add, Change as AChange, Delete, Validate, Dirty, Errors, Cells, Features}
 use Rattle.script_terms.specs.Refusal.{Refusal, Line, NoSession, Change}
 use Rattle.script_terms.specs.State.{State, is_open}
 

@@ -3,7 +3,6 @@
 
 mod counts;
 mod envelope;
-mod fault;
 mod feature;
 mod form;
 mod line;
@@ -16,7 +15,6 @@ mod shape;
 mod sweep;
 mod vertices;
 
-pub use fault::ShapeFault;
 pub use feature::Feature;
-pub use plane_terms::Kind;
+pub use plane_terms::{Kind, ShapeFault};
 pub use shape::Shape;

@@ -38,7 +38,6 @@ Covers_append (r ∷ d) e p h = elim h [ inl k ↦ inl (inl k) | inr k ↦ elim 
 or_cases : (a b : Bool) → (a || b) ≡ true → (a ≡ true) ⊎ (b ≡ true)
 or_cases a b e = grind arith
 
-
 by_test : (b : Bool) (d e : List Rectangle) (p : Point) → (b ≡ true → Covers d p) → (b ≡ false → Covers e p) → Covers (if b then d else e) p
 by_test true d e p h k = h refl
 by_test false d e p h k = k refl

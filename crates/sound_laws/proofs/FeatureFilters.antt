@@ -27,6 +27,7 @@ pub kept_twice : (s t : Feature → Bool) (F : List Feature) → filter s (filte
 kept_twice s t [] = refl
 kept_twice s t (f ∷ F) = both (t f) (kept_twice s t F)
   where
-    both : (b : Bool) → filter s (filter t F) ≡ filter (λ g. t g && s g) F → filter s (cond b (f ∷ filter t F) (filter t F)) ≡ cond (b && s f) (f ∷ filter (λ g. t g && s g) F) (filter (λ g. t g && s g) F)
+    both : (b : Bool) → filter s (filter t F) ≡ filter (λ g. t g && s g) F
+        → filter s (cond b (f ∷ filter t F) (filter t F)) ≡ cond (b && s f) (f ∷ filter (λ g. t g && s g) F) (filter (λ g. t g && s g) F)
     both true e = same_pick (s f) (s f) f (filter s (filter t F)) (filter (λ g. t g && s g) F) refl e
     both false e = e

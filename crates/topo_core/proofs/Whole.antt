@@ -36,7 +36,8 @@ kind_agrees cs f n k o e h =
 live_class : (cs : List Class) (F : List Feature) (h : ℕ) (f : Feature) → Every (IsOfClass cs) F → feature_at F h ≡ Some f → IsOfClass cs f
 live_class cs F h f all e = let o = live_each (IsOfClass cs) F h all in rw e at o
 
-dest_fits : (cs : List Class) (f : Feature) (n : ℕ) (o : Option Kind) → IsOfClass cs f → f.class ≡ n → IfSome o (λ k. kind_of_class cs n ≡ Some k) → IfSome o (λ k. f.shape.kind ≡ k)
+dest_fits : (cs : List Class) (f : Feature) (n : ℕ) (o : Option Kind) → IsOfClass cs f → f.class ≡ n
+    → IfSome o (λ k. kind_of_class cs n ≡ Some k) → IfSome o (λ k. f.shape.kind ≡ k)
 dest_fits cs f n None c e h = tt
 dest_fits cs f n (Some k) c e h = kind_agrees cs f n k c e h
 
@@ -53,8 +54,10 @@ row_fits cs F next row s h = record {
   boundary = λ a f e. (live_simple F a f s.simple e).boundary;
 }
 
-pub fitting : (M : Meaning) → TakesKinds M → (p : Project) → IsTopology p → (n : ℕ) (row : Row) → rule_at p.rules n ≡ Some row → M.Fits row p.features
-fitting M K p t n row e = K.fits row p.features (row_fits p.classes p.features p.next row t.store (rule_each (HasKinds p.classes) p.rules n row t.kinds e))
+pub fitting : (M : Meaning) → TakesKinds M → (p : Project) → IsTopology p → (n : ℕ) (row : Row) → rule_at p.rules n ≡ Some row
+    → M.Fits row p.features
+fitting M K p t n row e =
+    K.fits row p.features (row_fits p.classes p.features p.next row t.store (rule_each (HasKinds p.classes) p.rules n row t.kinds e))
 
 pub row_fitting : (M : Meaning) → TakesKinds M → (p : Project) → IsTopology p → (row : Row) → HasKinds p.classes row → M.Fits row p.features
 row_fitting M K p t row h = K.fits row p.features (row_fits p.classes p.features p.next row t.store h)

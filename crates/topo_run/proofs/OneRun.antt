@@ -3,8 +3,8 @@ use Rattle.std.proofs.Common.{◌≡◌, ℕ, Bool, List, [], ◌∷◌, refl, s
 use Rattle.plane_terms.specs.Lists.{Every}
 use Rattle.topology_terms.specs.Meaning.{CutsRight}
 use Rattle.topology_terms.specs.Poster.{poster}
-use Rattle.script_text.specs.Commands.{Command}
-use Rattle.script_text.specs.Lines.{IsCommandLine}
+use Rattle.line_terms.specs.Commands.{Command}
+use Rattle.line_terms.specs.Lines.{IsCommandLine}
 use Rattle.script_text.proofs.OneCommand.{one_command}
 use Rattle.script_terms.specs.Refusal.{Refusal, Line}
 use Rattle.script_terms.specs.Reply.{Reply, Refused, reply_text}

@@ -1,12 +1,12 @@
 -- A line that is read and answered is a step.
 use Rattle.std.proofs.Common.{◌≡◌, ℕ, Bool, true, List, ◌++◌, refl}
 use Rattle.topology_terms.specs.Project.{IsOrdered}
-use Rattle.script_text.specs.Commands.{Command}
-use Rattle.script_text.specs.Lines.{IsCommandLine, IsLineFault}
+use Rattle.line_terms.specs.Commands.{Command}
+use Rattle.line_terms.specs.Lines.{IsCommandLine, IsLineFault}
 use Rattle.script_text.specs.Faults.{IsFault}
 use Rattle.script_text.specs.declared.fault.LineFault.{LineFault}
 use Rattle.script_text.specs.declared.fault.LineFault.TheVariants as fault
-use Rattle.script_text.specs.declared.fault.LineRefusal.{LineRefusal}
+use Rattle.line_terms.specs.declared.line_refusal.LineRefusal.{LineRefusal}
 use Rattle.script_terms.specs.Refusal.{Line}
 use Rattle.script_terms.specs.Reply.{Reply, Refused, reply_text}
 use Rattle.script_terms.specs.State.{State}
