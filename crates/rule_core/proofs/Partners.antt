@@ -5,7 +5,7 @@ use Rattle.std.specs.List.{filter}
 use Rattle.std.proofs.lemmas.List.Elements.{filter_more}
 use Rattle.std.proofs.lemmas.Grind.{flat_map-append}
 use Rattle.std.proofs.lemmas.Option.{get_or_from_slice_get}
-use Rattle.plane_terms.specs.Lists.{Every, IsThose}
+use Rattle.plane_terms.specs.Lists.{Every}
 use Rattle.plane_terms.specs.Cell.{Cell}
 use Rattle.plane_terms.specs.Rectangle.{rects_meet}
 use Rattle.topology_terms.specs.Feature.{Feature, Side, is_on_side, env, IsAscending}
@@ -15,16 +15,6 @@ use Rattle.topology_terms.specs.Plans.{near, near_after, finding_of, pair_findin
 use Rattle.sound_laws.proofs.FeatureFilters.{each_live, same_kept, kept_twice}
 use Rattle.sound_laws.proofs.Meetings.{meets_test}
 use Rattle.rule_core.specs.Shown.{IsShown}
-
--- ---- filters
--- where a test decides, what it keeps are those
-those_pick : (P : Feature → Type 0) (b : Bool) (f : Feature) (F G : List Feature) → (b ≡ true → P f) → (P f → b ≡ true) → IsThose P F G → IsThose P (f ∷ F) (cond b (f ∷ G) G)
-those_pick P true f F G y n h = inl (y refl, (G, refl, h))
-those_pick P false f F G y n h = inr ((λ p. let t = n p in cc), h)
-
-pub those_kept : (P : Feature → Type 0) (t : Feature → Bool) (F : List Feature) → Every (λ (g : Feature). (t g ≡ true → P g) × (P g → t g ≡ true)) F → IsThose P F (filter t F)
-those_kept P t [] k = refl
-those_kept P t (f ∷ F) k = those_pick P (t f) f F (filter t F) k.0.0 k.0.1 (those_kept P t F k.1)
 
 -- ---- all of a view are near
 module _ (row : Row) (V : List Feature) (a : ℕ) (shown : IsShown row V a) where
@@ -50,7 +40,7 @@ at_place P [] i g k e = cc
 at_place P (f ∷ F) zero g k e = let s : f ≡ g = cc in subst P s k.0
 at_place P (f ∷ F) (suc i) g k e = at_place P F i g k.1 e
 
-pub within : (F : List Feature) (i : ℕ) (g : Feature) → slice_get F i ≡ Some g → i < length F
+within : (F : List Feature) (i : ℕ) (g : Feature) → slice_get F i ≡ Some g → i < length F
 within [] i g e = cc
 within (f ∷ F) zero g e = omega arith
 within (f ∷ F) (suc i) g e = let l = within F i g e in omega arith
@@ -69,11 +59,15 @@ found_below cells test (f ∷ F) (suc i) g u e = pick (test f) (found_below cell
     pick true k = finding_below g.handle f.handle (cells f) (pair_findings cells (filter test (take i F))) (at_place (λ (x : Feature). f.handle < x.handle) F i g u.0 e) k
     pick false k = k
 
-more : (cells : Feature → List Cell) (test : Feature → Bool) (F : List Feature) (i : ℕ) (g : Feature) (b : Bool) → slice_get F i ≡ Some g → test g ≡ b → pair_findings cells (filter test (take (i + 1) F)) ≡ pair_findings cells (filter test (take i F)) ++ pair_findings cells (cond b (g ∷ []) [])
-more cells test F i g b e t =
+-- the features that pass a test, with one feature more
+pub kept_more : (test : Feature → Bool) (F : List Feature) (i : ℕ) (g : Feature) (b : Bool) → slice_get F i ≡ Some g → test g ≡ b → filter test (take (i + 1) F) ≡ filter test (take i F) ++ cond b (g ∷ []) []
+kept_more test F i g b e t =
     let there : get_or F i g ≡ g = get_or_from_slice_get F i g g e in
     let one : cond (test (get_or F i g)) (get_or F i g ∷ []) [] ≡ cond b (g ∷ []) [] = rw (there, t) refl in
-    ap (pair_findings cells) (filter_more test F i g (within F i g e) ∙ ap (λ gs. filter test (take i F) ++ gs) one) ∙ flat_map-append (λ (x : Feature). finding_of x.handle (cells x)) (filter test (take i F)) (cond b (g ∷ []) [])
+    filter_more test F i g (within F i g e) ∙ ap (λ gs. filter test (take i F) ++ gs) one
+
+more : (cells : Feature → List Cell) (test : Feature → Bool) (F : List Feature) (i : ℕ) (g : Feature) (b : Bool) → slice_get F i ≡ Some g → test g ≡ b → pair_findings cells (filter test (take (i + 1) F)) ≡ pair_findings cells (filter test (take i F)) ++ pair_findings cells (cond b (g ∷ []) [])
+more cells test F i g b e t = ap (pair_findings cells) (kept_more test F i g b e t) ∙ flat_map-append (λ (x : Feature). finding_of x.handle (cells x)) (filter test (take i F)) (cond b (g ∷ []) [])
 
 -- with a partner more
 pub found_more : (cells : Feature → List Cell) (test : Feature → Bool) (F : List Feature) (i : ℕ) (g : Feature) (found part new : List Finding) → slice_get F i ≡ Some g → test g ≡ true

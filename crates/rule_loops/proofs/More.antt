@@ -1,30 +1,26 @@
 -- A loop over a view or over segments: what has been made with one feature more, and where nothing is left to carve.
 use Rattle.std.proofs.Common.{◌≡◌, ℕ, ◌+◌, ◌<◌, Bool, true, false, List, [], ◌∷◌, ◌++◌, Some, refl, sym, ◌∙◌, ap, take, drop, length, get_or, cond, map, append-nil, arith}
-use Rattle.std.specs.Prelude.{slice_get, not, ◌==◌, flat_map}
+use Rattle.std.specs.Prelude.{slice_get, not, ◌==◌, ◌&&◌, flat_map}
 use Rattle.std.specs.List.{filter}
 use Rattle.std.proofs.lemmas.Grind.{flat_map-append}
 use Rattle.std.proofs.lemmas.List.{map-append, map_more, take-append-drop}
 use Rattle.std.proofs.lemmas.List.Elements.{filter_more, filter-append}
 use Rattle.std.proofs.lemmas.Option.{get_or_from_slice_get}
 use Rattle.std.proofs.lemmas.Bool.Decides.{nat_tests}
-use Rattle.plane_terms.specs.Segment.{Segment}
+use Rattle.plane_terms.specs.Rectangle.{rects_meet}
+use Rattle.plane_terms.specs.Segment.{Segment, box_of}
 use Rattle.plane_terms.specs.Cell.{Cell, on_segment, out_of_segment, box_round, weak_of}
 use Rattle.plane_terms.specs.Carve.{carve_of}
 use Rattle.topology_terms.specs.Feature.{Feature, sides, env}
 use Rattle.topology_terms.specs.Cells.{uncovered, inside, outside, box_meets, out_of_segments}
 use Rattle.topology_terms.specs.Plans.{area_left, others, open_ground}
 use Rattle.sound_laws.proofs.FeatureFilters.{kept_twice}
-use Rattle.rule_core.proofs.Partners.{within}
-use Rattle.rule_loops.specs.Views.{of_class, other_of, left_of_segment}
+use Rattle.rule_core.proofs.Partners.{kept_more}
+use Rattle.rule_loops.specs.Views.{of_class, other_of, beside, left_of_segment}
+use Rattle.rule_loops.proofs.Boxes.{none_beside}
 use Rattle.rule_loops.proofs.Carved.{uncovered-append, stopped}
 
 -- ---- the features that pass a test
-kept_more : (test : Feature → Bool) (F : List Feature) (i : ℕ) (g : Feature) (b : Bool) → slice_get F i ≡ Some g → test g ≡ b → filter test (take (i + 1) F) ≡ filter test (take i F) ++ cond b (g ∷ []) []
-kept_more test F i g b e t =
-    let there : get_or F i g ≡ g = get_or_from_slice_get F i g g e in
-    let one : cond (test (get_or F i g)) (get_or F i g ∷ []) [] ≡ cond b (g ∷ []) [] = rw (there, t) refl in
-    filter_more test F i g (within F i g e) ∙ ap (λ gs. filter test (take i F) ++ gs) one
-
 kept_apart : {A : Type 0} (test : A → Bool) (F : List A) (i : ℕ) → filter test F ≡ filter test (take i F) ++ filter test (drop i F)
 kept_apart test F i = ap (filter test) (sym (take-append-drop i F)) ∙ filter-append test (take i F) (drop i F)
 
@@ -79,15 +75,31 @@ off_none s ts i cs left h z =
     stopped cs left (out_of_segments s ts) (map {A = Segment} out_of_segment us) (map {A = Segment} out_of_segment vs) (ap (map {A = Segment} out_of_segment) (kept_apart (box_meets s) ts i) ∙ map-append out_of_segment us vs) h z
 
 -- ---- what features leave of a segment
-pub segment_more : (s : Segment) (n : ℕ) (F : List Feature) (i : ℕ) (g : Feature) (left : List Cell) → slice_get F i ≡ Some g → (g.class == n) ≡ true → left ≡ left_of_segment (of_class n (take i F)) s
+by_class : (s : Segment) (n : ℕ) (F : List Feature) (i : ℕ) (g : Feature) (left : List Cell) → slice_get F i ≡ Some g → (g.class == n) ≡ true → left ≡ left_of_segment (of_class n (take i F)) s
     → uncovered left (out_of_segments s (sides g)) ≡ left_of_segment (of_class n (take (i + 1) F)) s
-segment_more s n F i g left e t h =
+by_class s n F i g left e t h =
     let outs : Feature → List (List Cell) = λ (g : Feature). out_of_segments s (sides g) in
     let gs = of_class n (take i F) in
     rw h (sym (ap (λ hs. left_of_segment hs s) (class_more n F i g true e t) ∙ (ap (uncovered (on_segment s ∷ [])) (flat_map-append outs gs (g ∷ []) ∙ ap (λ l. flat_map outs gs ++ l) (append-nil (outs g))) ∙ uncovered-append (on_segment s ∷ []) (flat_map outs gs) (outs g))))
 
-pub segment_same : (s : Segment) (n : ℕ) (F : List Feature) (i : ℕ) (g : Feature) (left : List Cell) → slice_get F i ≡ Some g → (g.class == n) ≡ false → left ≡ left_of_segment (of_class n (take i F)) s → left ≡ left_of_segment (of_class n (take (i + 1) F)) s
-segment_same s n F i g left e t h = h ∙ sym (ap (λ hs. left_of_segment hs s) (class_more n F i g false e t ∙ append-nil (of_class n (take i F))))
+of_beside : (n : ℕ) (s : Segment) (g : Feature) → beside n s g ≡ true → (g.class == n) ≡ true
+of_beside n s g e = both (g.class == n) (rects_meet (box_of s) (env g)) e
+  where
+    both : (b c : Bool) → (b && c) ≡ true → b ≡ true
+    both true c e = refl
+    both false c e = e
+
+pub segment_more : (s : Segment) (n : ℕ) (F : List Feature) (i : ℕ) (g : Feature) (left : List Cell) → slice_get F i ≡ Some g → beside n s g ≡ true → left ≡ left_of_segment (of_class n (take i F)) s
+    → uncovered left (out_of_segments s (sides g)) ≡ left_of_segment (of_class n (take (i + 1) F)) s
+segment_more s n F i g left e t h = by_class s n F i g left e (of_beside n s g t) h
+
+-- one that is not beside it is of another class, or has no segment that is
+pub segment_same : (s : Segment) (n : ℕ) (F : List Feature) (i : ℕ) (g : Feature) (left : List Cell) → slice_get F i ≡ Some g → beside n s g ≡ false → left ≡ left_of_segment (of_class n (take i F)) s → left ≡ left_of_segment (of_class n (take (i + 1) F)) s
+segment_same s n F i g left e t h = by_test (g.class == n) refl t
+  where
+    by_test : (b : Bool) → (g.class == n) ≡ b → (b && rects_meet (box_of s) (env g)) ≡ false → left ≡ left_of_segment (of_class n (take (i + 1) F)) s
+    by_test true c m = sym (ap (uncovered left) (none_beside s g m)) ∙ by_class s n F i g left e c h
+    by_test false c m = h ∙ sym (ap (λ hs. left_of_segment hs s) (class_more n F i g false e c ∙ append-nil (of_class n (take i F))))
 
 pub segment_none : (s : Segment) (n : ℕ) (F : List Feature) (i : ℕ) (left : List Cell) → left ≡ left_of_segment (of_class n (take i F)) s → length left ≡ 0 → left ≡ left_of_segment (of_class n F) s
 segment_none s n F i left h z =
