@@ -5,3 +5,4 @@ pub mod Stable
 pub mod Ranking
 pub mod SortedColumn
 pub mod RankLoop
+pub mod Fails

@@ -2,3 +2,4 @@ pub mod Parity
 pub mod Ranks
 pub mod Vertices
 pub mod Covering
+pub mod Pieces

@@ -3,8 +3,8 @@ ghost use Rattle.std.specs.List.{list_any};
 ghost use Rattle.std.specs.Option.{option_to_list};
 ghost use Rattle.plane_terms.specs.Point.{Point};
 ghost use Rattle.plane_terms.specs.Rectangle.{RectHolds, IsRectangle, rects_meet};
-ghost use Rattle.plane_terms.specs.Dirt.{Covers, MeetsDirt, add_dirt, add_all, cut_dirt};
-ghost use Rattle.dirty_area.specs.Parts.{IsDirt, MeetsPart};
+ghost use Rattle.plane_terms.specs.Dirt.{MeetsPart, Covers, MeetsDirt, add_dirt, add_all, cut_dirt};
+ghost use Rattle.dirty_area.specs.Parts.{IsDirt};
 
 use crate::cut::{copy_of, cut_of};
 use crate::list::{add_to, add_two_to, meets_any};
@@ -136,6 +136,3 @@ impl Dirt {
         })
     }
 }
-
-#[cfg(test)]
-mod tests;

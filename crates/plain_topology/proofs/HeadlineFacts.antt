@@ -17,7 +17,7 @@ use Rattle.topology_terms.specs.Project.{Project, InForce, rule_at}
 use Rattle.script_terms.specs.Headline.{Headline}
 use Rattle.sound_laws.proofs.FeatureLists.{same_handle, at_handle, past_handle}
 use Rattle.sound_laws.proofs.Lists.{at_key, past_key, entry_key}
-use Rattle.rule_laws.proofs.Places.{at_place_points}
+use Rattle.cell_laws.proofs.Outside.{at_place_points}
 use Rattle.sound_laws.proofs.Dirts.{bool_cases}
 use Rattle.plain_topology.specs.Plain.{feature_of, features_of, entry_of, entries_of, row_of, SaysAt, Shows}
 use Rattle.plain_topology.specs.declared.points.PlainPoint.{PlainPoint}

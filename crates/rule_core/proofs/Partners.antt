@@ -4,7 +4,7 @@ use Rattle.std.specs.Prelude.{◌&&◌, nat_lt, slice_get}
 use Rattle.std.specs.List.{filter}
 use Rattle.std.proofs.lemmas.List.Elements.{filter_more}
 use Rattle.std.proofs.lemmas.Grind.{flat_map-append}
-use Rattle.std.proofs.lemmas.Option.{get_or_from_slice_get}
+use Rattle.std.proofs.lemmas.Option.{get_or_from_slice_get, slice_get_within}
 use Rattle.plane_terms.specs.Lists.{Every}
 use Rattle.plane_terms.specs.Cell.{Cell}
 use Rattle.plane_terms.specs.Rectangle.{rects_meet}
@@ -12,7 +12,9 @@ use Rattle.topology_terms.specs.Feature.{Feature, Side, is_on_side, env, IsAscen
 use Rattle.topology_terms.specs.Broken.{Row}
 use Rattle.topology_terms.specs.Meaning.{Finding}
 use Rattle.topology_terms.specs.Plans.{near, near_after, finding_of, pair_findings}
-use Rattle.sound_laws.proofs.FeatureFilters.{each_live, same_kept, kept_twice}
+use Rattle.plane_terms.proofs.ListLemmas.{every_got}
+use Rattle.sound_laws.proofs.FeatureFilters.{same_kept, kept_twice}
+pub use Rattle.sound_laws.proofs.FeatureLists.{each_live}
 use Rattle.sound_laws.proofs.Meetings.{meets_test}
 use Rattle.rule_core.specs.Shown.{IsShown}
 
@@ -35,16 +37,6 @@ module _ (row : Row) (V : List Feature) (a : ℕ) (shown : IsShown row V a) wher
   near_after_shown A = ap (filter (λ (g : Feature). nat_lt shown.subject.handle g.handle)) (near_shown A) ∙ kept_twice (λ g. nat_lt shown.subject.handle g.handle) (is_on_side A) V
 
 -- ---- one feature after the other
-at_place : (P : Feature → Type 0) (F : List Feature) (i : ℕ) (g : Feature) → Every P F → slice_get F i ≡ Some g → P g
-at_place P [] i g k e = cc
-at_place P (f ∷ F) zero g k e = let s : f ≡ g = cc in subst P s k.0
-at_place P (f ∷ F) (suc i) g k e = at_place P F i g k.1 e
-
-within : (F : List Feature) (i : ℕ) (g : Feature) → slice_get F i ≡ Some g → i < length F
-within [] i g e = cc
-within (f ∷ F) zero g e = omega arith
-within (f ∷ F) (suc i) g e = let l = within F i g e in omega arith
-
 finding_below : (n b : ℕ) (cs : List Cell) (xs : List Finding) → b < n → Every (λ (x : Finding). x.other < n) xs → Every (λ (x : Finding). x.other < n) (finding_of b cs ++ xs)
 finding_below n b [] xs l k = k
 finding_below n b (c ∷ cs) xs l k = (l, k)
@@ -56,7 +48,7 @@ found_below cells test (f ∷ F) zero g u e = tt
 found_below cells test (f ∷ F) (suc i) g u e = pick (test f) (found_below cells test F i g u.1 e)
   where
     pick : (b : Bool) → Every (λ (x : Finding). x.other < g.handle) (pair_findings cells (filter test (take i F))) → Every (λ (x : Finding). x.other < g.handle) (pair_findings cells (cond b (f ∷ filter test (take i F)) (filter test (take i F))))
-    pick true k = finding_below g.handle f.handle (cells f) (pair_findings cells (filter test (take i F))) (at_place (λ (x : Feature). f.handle < x.handle) F i g u.0 e) k
+    pick true k = finding_below g.handle f.handle (cells f) (pair_findings cells (filter test (take i F))) (every_got (λ (x : Feature). f.handle < x.handle) F i g u.0 e) k
     pick false k = k
 
 -- the features that pass a test, with one feature more
@@ -64,7 +56,7 @@ pub kept_more : (test : Feature → Bool) (F : List Feature) (i : ℕ) (g : Feat
 kept_more test F i g b e t =
     let there : get_or F i g ≡ g = get_or_from_slice_get F i g g e in
     let one : cond (test (get_or F i g)) (get_or F i g ∷ []) [] ≡ cond b (g ∷ []) [] = rw (there, t) refl in
-    filter_more test F i g (within F i g e) ∙ ap (λ gs. filter test (take i F) ++ gs) one
+    filter_more test F i g (slice_get_within F i g e) ∙ ap (λ gs. filter test (take i F) ++ gs) one
 
 more : (cells : Feature → List Cell) (test : Feature → Bool) (F : List Feature) (i : ℕ) (g : Feature) (b : Bool) → slice_get F i ≡ Some g → test g ≡ b → pair_findings cells (filter test (take (i + 1) F)) ≡ pair_findings cells (filter test (take i F)) ++ pair_findings cells (cond b (g ∷ []) [])
 more cells test F i g b e t = ap (pair_findings cells) (kept_more test F i g b e t) ∙ flat_map-append (λ (x : Feature). finding_of x.handle (cells x)) (filter test (take i F)) (cond b (g ∷ []) [])

@@ -1,4 +1,5 @@
 -- What the dirt covers after a rectangle more, and after a window is cut out.
+pub use Rattle.std.proofs.lemmas.Bool.{cases_Bool as bool_cases}
 use Rattle.std.proofs.Common.{◌≡◌, ◌⊎◌, inl, inr, ℕ, ℤ, pos, ◌*ℤ◌, ◌≤ℤ◌, ◌<ℤ◌, Bool, true, false, not, arith, refl, List, [], ◌∷◌, ◌++◌}
 use Rattle.std.specs.Prelude.{int_lt, if◌then◌else◌}
 use Rattle.std.specs.Int.{int_max, int_min}
@@ -36,10 +37,6 @@ Covers_append (r ∷ d) e p h = elim h [ inl k ↦ inl (inl k) | inr k ↦ elim 
 
 or_cases : (a b : Bool) → (a || b) ≡ true → (a ≡ true) ⊎ (b ≡ true)
 or_cases a b e = grind arith
-
-pub bool_cases : (b : Bool) → (b ≡ true) ⊎ (b ≡ false)
-bool_cases true = inl refl
-bool_cases false = inr refl
 
 by_test : (b : Bool) (d e : List Rectangle) (p : Point) → (b ≡ true → Covers d p) → (b ≡ false → Covers e p) → Covers (if b then d else e) p
 by_test true d e p h k = h refl

@@ -18,30 +18,6 @@ use Rattle.validation_laws.proofs.Validating.{validated_by_parts}
 use Rattle.validation_laws.proofs.Counting.{live_those}
 use Rattle.validation.specs.Projects.{HasParts, with_parts}
 
--- no rule has a number below all
-rule_above : (n : ℕ) (rules : List InForce) → Every (λ (q : InForce). n < q.number) rules → rule_at rules n ≡ None
-unfolding rule_at
-rule_above n [] u = refl
-rule_above n (q ∷ rules) u = elim (eqb_tells q.number n) [
-  | inl t ↦ absurd (let l = u.0 in let e = t.1 in omega arith)
-  | inr t ↦ rw t.0 (rule_above n rules u.1)
-]
-
--- what fits under each number fits for each rule
-pub fits_each : (P : Row → Type 0) (rules : List InForce) → AreAscending rules → ((n : ℕ) (row : Row) → rule_at rules n ≡ Some row → P row) → Every (λ (q : InForce). P q.row) rules
-unfolding rule_at
-fits_each P [] u h = tt
-fits_each P (q ∷ rules) u h = (first (eqb_tells q.number q.number), fits_each P rules u.1 (λ n row e. later n row e (eqb_tells q.number n)))
-  where
-    first : ((q.number == q.number) ≡ true) × (q.number ≡ q.number) ⊎ ((q.number == q.number) ≡ false) × (q.number ≢ q.number) → P q.row
-    first t = elim t [ inl y ↦ h q.number q.row (rw y.0 refl) | inr y ↦ absurd (y.1 refl) ]
-
-    later : (n : ℕ) (row : Row) → rule_at rules n ≡ Some row → ((q.number == n) ≡ true) × (q.number ≡ n) ⊎ ((q.number == n) ≡ false) × (q.number ≢ n) → P row
-    later n row e t = elim t [
-      | inl y ↦ absurd (let l = rule_above q.number rules u.0 in let k = rw (← y.1) at e in cc)
-      | inr y ↦ h n row (rw y.0 e)
-    ]
-
 pub validated : (M : Meaning) (w : Rectangle) (p : Project) (rules : List InForce) (F : List Feature) (d new : List Rectangle) (es after fresh : List Entry) (selected : List ℕ)
     → HasParts p rules F d es → AreAscending rules → IsRising selected → ((a : ℕ) → Contains selected a ↔ IsSelected p w a)
     → IsJudging M F rules selected fresh → IsReplaced selected es fresh after → new ≡ cut_dirt d w → IsValidatedBy M w p (with_parts p new after)

@@ -8,7 +8,7 @@ ghost use Rattle.topology_terms.specs.Entry as terms;
 ghost use Rattle.topology_terms.specs.Project as projects;
 ghost use Rattle.validation_laws.specs.Parts.{IsNewEntry, IsSubjectPart, IsRulePart, IsJudging, live_of};
 ghost use Rattle.validation_laws.specs.Framed.{IsFramable};
-ghost use Rattle.validation_laws.specs.Counts.{raised, judged_of};
+ghost use Rattle.topology_terms.specs.Counts.{raised, judged_of};
 
 use crate::frame::frame_of;
 use crate::near::FeatureIndex;

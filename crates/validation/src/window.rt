@@ -9,7 +9,7 @@ ghost use Rattle.topology_terms.specs.Sound.{IsSoundUnder};
 ghost use Rattle.topology_terms.specs.Settled.{IsSettledUnder, IsValidatedBy};
 ghost use Rattle.topology_terms.specs.Changes.{IsSelected};
 ghost use Rattle.validation_laws.specs.Parts.{IsRising, IsJudging, live_of};
-ghost use Rattle.validation_laws.specs.Counts.{raised, judged_of};
+ghost use Rattle.topology_terms.specs.Counts.{raised, judged_of};
 ghost use Rattle.validation.specs.Projects.{HasParts, with_parts};
 
 use crate::judge::judge_all;
