@@ -28,7 +28,8 @@ off_box s t r h n = by_test (box_meets s t) refl
     by_test true e = let m = meets_wider (box_of s) (box_of t) r (box_within t r h) e in cc
     by_test false e = refl
 
-none_kept : (s : Segment) (r : Rectangle) (ts : List Segment) → Every (BothEnds (LiesIn r)) ts → rects_meet (box_of s) r ≡ false → filter (box_meets s) ts ≡ []
+none_kept : (s : Segment) (r : Rectangle) (ts : List Segment) → Every (BothEnds (LiesIn r)) ts → rects_meet (box_of s) r ≡ false
+    → filter (box_meets s) ts ≡ []
 none_kept s r [] h n = refl
 none_kept s r (t ∷ ts) h n = rw (off_box s t r h.0 n) (none_kept s r ts h.1 n)
 

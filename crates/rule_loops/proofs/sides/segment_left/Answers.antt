@@ -6,7 +6,8 @@ use Rattle.rule_loops.proofs.sides.segment_left.Goals.{then-is_beside+in_ok-left
 use Rattle.rule_loops.proofs.sides.segment_left.Goals as goal
 
 pub returns-then-len-eq0 : goal.returns-then-len-eq0
-returns-then-len-eq0 c = segment_none c.args.segment.now c.args.class c.args.view.now c.loop-i.i c.loop-i.left c.loop-i.invariant (sym c.len.ensures ∙ c.if-len-eq0.true)
+returns-then-len-eq0 c = segment_none c.args.segment.now c.args.class c.args.view.now c.loop-i.i c.loop-i.left c.loop-i.invariant
+    (sym c.len.ensures ∙ c.if-len-eq0.true)
 
 pub loop-i-preserved : goal.loop-i-preserved
 loop-i-preserved c =
@@ -18,6 +19,10 @@ loop-i-preserved c =
     elim c.if-is_beside.branch [
       | then-is_beside+in_ok-left w ↦
           let of : w.segs.result.now ≡ sides g = rw (w.segs.ensures.value, w.shape.ensures) refl in
-          w.left-is ∙ (w.in_ok-left.ensures ∙ (ap (λ ts. uncovered c.loop-i.left (out_of_segments s ts)) of ∙ segment_more s n V i g c.loop-i.left c.feature-other.ensures (sym c.is_beside.ensures ∙ w.if-is_beside.true) c.loop-i.invariant))
-      | else-is_beside w ↦ w.left-is ∙ segment_same s n V i g c.loop-i.left c.feature-other.ensures (sym c.is_beside.ensures ∙ w.if-is_beside.false) c.loop-i.invariant
+          w.left-is ∙ (w.in_ok-left.ensures
+              ∙ (ap (λ ts. uncovered c.loop-i.left (out_of_segments s ts)) of
+              ∙ segment_more s n V i g c.loop-i.left c.feature-other.ensures
+              (sym c.is_beside.ensures ∙ w.if-is_beside.true) c.loop-i.invariant))
+      | else-is_beside w ↦ w.left-is ∙ segment_same s n V i g c.loop-i.left c.feature-other.ensures
+          (sym c.is_beside.ensures ∙ w.if-is_beside.false) c.loop-i.invariant
     ]

@@ -11,12 +11,14 @@ pub unwrap-requires : goal.unwrap-requires
 unwrap-requires c =
     let rs = c.self.inside.features.items in
     let h = c.args.handle in
-    let e = find_from_yields_List (has_handle h) _ _ c.find.result c.find.ensures.ran (YieldsList-from_slice rs cc) (λ x b q k. search (rules, tests)) in
+    let e = find_from_yields_List (has_handle h) _ _ c.find.result c.find.ensures.ran (YieldsList-from_slice rs cc)
+        (λ x b q k. search (rules, tests)) in
     some_found c.find.result (feature_at (map (λ f. f.now) rs) h) (found_by rs h c.find.result e) (rw (← c.self.view_is) at c.requires)
 
 pub returns : goal.returns
 returns c =
     let rs = c.self.inside.features.items in
     let h = c.args.handle in
-    let e = find_from_yields_List (has_handle h) _ _ c.find.result c.find.ensures.ran (YieldsList-from_slice rs cc) (λ x b q k. search (rules, tests)) in
+    let e = find_from_yields_List (has_handle h) _ _ c.find.result c.find.ensures.ran (YieldsList-from_slice rs cc)
+        (λ x b q k. search (rules, tests)) in
     rw (← c.self.view_is) (sym (found_by rs h c.find.result e) ∙ ap (option_map (λ (y : Bor (Bor Feature)). y.now.now)) c.unwrap.ensures)
