@@ -13,8 +13,16 @@ pub turn_on : (s : Segment) (q : Place) → OnSegment s (point_at q) → turn s 
 turn_on s q o = turn_zero s q (point_at q) (at_itself q) o
 
 between_scaled : (a b v x : ℤ) (w : ℕ) → x ≡ v *ℤ pos w → IsBetween (a *ℤ pos 1) (b *ℤ pos 1) v → IsBetween (a *ℤ pos w) (b *ℤ pos w) x
-between_scaled a b v x w e (inl h) = inl (omega (arith, ints, e, scaled_le a v w (omega (arith, ints, h.0))), omega (arith, ints, e, scaled_le v b w (omega (arith, ints, h.1))))
-between_scaled a b v x w e (inr h) = inr (omega (arith, ints, e, scaled_le b v w (omega (arith, ints, h.0))), omega (arith, ints, e, scaled_le v a w (omega (arith, ints, h.1))))
+between_scaled a b v x w e (inl h) =
+    inl (
+      omega (arith, ints, e, scaled_le a v w (omega (arith, ints, h.0))),
+      omega (arith, ints, e, scaled_le v b w (omega (arith, ints, h.1))),
+    )
+between_scaled a b v x w e (inr h) =
+    inr (
+      omega (arith, ints, e, scaled_le b v w (omega (arith, ints, h.0))),
+      omega (arith, ints, e, scaled_le v a w (omega (arith, ints, h.1))),
+    )
 
 pub on_all_at : (s : Segment) (q : Place) → OnSegment s (point_at q) → (p : Point) → IsAt q p → OnSegment s p
 on_all_at s q o p a = record {

@@ -5,3 +5,5 @@ pub mod Stable
 pub mod Ranking
 pub mod SortedColumn
 pub mod RankLoop
+pub mod Fails
+pub mod Reached

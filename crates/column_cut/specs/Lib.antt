@@ -2,3 +2,5 @@ pub mod Parity
 pub mod Ranks
 pub mod Vertices
 pub mod Covering
+pub mod Pieces
+pub mod Strips

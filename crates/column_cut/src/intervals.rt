@@ -1,12 +1,12 @@
-ghost use Rattle.std.specs.Prelude.{◌≡◌, ◌++◌, ◌∷◌, [], ◌&&◌, cond, None, OnOk, IfOk, int_le};
+ghost use Rattle.std.specs.Prelude.{◌≡◌, ◌++◌, ◌∷◌, [], ◌&&◌, cond, map, None, OnOk, IfOk, int_le};
 ghost use Rattle.plane_terms.specs.HalfPlane.{y_over, y_under};
 ghost use Rattle.plane_terms.specs.Columns.{is_covered, intervals, ordinates};
 ghost use Rattle.column_cut.specs.Covering.{covers};
+ghost use Rattle.column_cut.specs.Pieces.{above, below, stretch_cell};
 
 use crate::coordinate::Coordinate;
 use crate::vertices::ordinates_of;
-use convex_cell::{Cell, Cells};
-use grid_plane::{Half, NoMemory, Seg, y_over, y_under};
+use grid_plane::{NoMemory, Seg};
 use std::alloc::Global;
 
 fn is_upright_at(segment: &Seg, x: &Coordinate) -> bool
@@ -32,32 +32,38 @@ fn is_covered(segments: &[Seg], x: &Coordinate, low: &Coordinate, high: &Coordin
     false
 }
 
-fn above(low: &Coordinate) -> Half
-    ensures { result ≡ y_over low.now }
-{
-    y_over(low.value())
+/// An open stretch of an upright line, from one ordinate to another. The lowest has no lower end, and the highest no upper one.
+#[derive(Clone, Copy)]
+pub(crate) struct Stretch {
+    pub(crate) low: Option<Coordinate>,
+    pub(crate) high: Option<Coordinate>,
 }
 
-fn below(high: &Coordinate) -> Half
-    ensures { result ≡ y_under high.now }
+fn push_stretch(
+    stretches: &mut Vec<Stretch>,
+    low: Option<Coordinate>,
+    high: Option<Coordinate>,
+) -> Result<(), NoMemory>
+    ensures { OnOk result (map stretch_cell stretches.new.items ≡ map stretch_cell stretches.old.items ++ (above low ++ below high) ∷ []) }
 {
-    y_under(high.value())
+    stretches.push(Stretch { low, high })?;
+    Ok(())
 }
 
 fn push_interval(
-    intervals: &mut Cells,
-    alloc: Global,
+    stretches: &mut Vec<Stretch>,
     segments: &[Seg],
     x: &Coordinate,
     low: &Coordinate,
     high: &Coordinate,
 ) -> Result<(), NoMemory>
-    ensures { OnOk result (intervals.new ≡ intervals.old ++ cond (is_covered x.now segments.now low.now high.now) [] ((y_over low.now ∷ y_under high.now ∷ []) ∷ [])) }
+    ensures { OnOk result (map stretch_cell stretches.new.items ≡ map stretch_cell stretches.old.items
+        ++ cond (is_covered x.now segments.now low.now high.now) [] ((y_over low.now ∷ y_under high.now ∷ []) ∷ [])) }
 {
     if is_covered(segments, x, low, high) {
         return Ok(());
     }
-    intervals.push(Cell::of(alloc, &[above(low), below(high)])?)
+    push_stretch(stretches, Some(*low), Some(*high))
 }
 
 fn intervals_from(
@@ -66,26 +72,26 @@ fn intervals_from(
     x: &Coordinate,
     first: &Coordinate,
     rest: &[Coordinate],
-) -> Result<Cells, NoMemory>
-    ensures { IfOk result (λ cells. cells ≡ intervals (is_covered x.now segments.now) None (first.now ∷ rest.now)) }
+) -> Result<Vec<Stretch>, NoMemory>
+    ensures { IfOk result (λ v. map stretch_cell v.items ≡ intervals (is_covered x.now segments.now) None (first.now ∷ rest.now)) }
 {
-    let mut intervals = Cells::new(alloc);
-    intervals.push(Cell::of(alloc, &[below(first)])?)?;
+    let mut stretches = Vec::new(alloc);
+    push_stretch(&mut stretches, None, Some(*first))?;
     let mut low = *first;
     for high in rest {
-        push_interval(&mut intervals, alloc, segments, x, &low, high)?;
+        push_interval(&mut stretches, segments, x, &low, high)?;
         low = *high;
     }
-    intervals.push(Cell::of(alloc, &[above(&low)])?)?;
-    Ok(intervals)
+    push_stretch(&mut stretches, Some(low), None)?;
+    Ok(stretches)
 }
 
-fn whole_wall(alloc: Global) -> Result<Cells, NoMemory>
-    ensures { IfOk result (λ cells. cells ≡ [] ∷ []) }
+fn whole_wall(alloc: Global) -> Result<Vec<Stretch>, NoMemory>
+    ensures { IfOk result (λ v. map stretch_cell v.items ≡ [] ∷ []) }
 {
-    let mut intervals = Cells::new(alloc);
-    intervals.push(Cell::of(alloc, &[])?)?;
-    Ok(intervals)
+    let mut stretches = Vec::new(alloc);
+    push_stretch(&mut stretches, None, None)?;
+    Ok(stretches)
 }
 
 /// The open stretches of a wall between its vertices, from below, without those that an upright segment covers.
@@ -93,8 +99,8 @@ pub(crate) fn intervals_of(
     alloc: Global,
     segments: &[Seg],
     x: &Coordinate,
-) -> Result<Cells, NoMemory>
-    ensures { IfOk result (λ cells. cells ≡ intervals (is_covered x.now segments.now) None (ordinates x.now segments.now)) }
+) -> Result<Vec<Stretch>, NoMemory>
+    ensures { IfOk result (λ v. map stretch_cell v.items ≡ intervals (is_covered x.now segments.now) None (ordinates x.now segments.now)) }
 {
     let ordinates = ordinates_of(alloc, segments, x)?;
     match ordinates.split_first() {

@@ -4,14 +4,14 @@
 mod column;
 mod coordinate;
 mod cut;
+mod heights;
 mod intervals;
 pub mod laws;
+mod near;
 mod parity;
 mod push;
 mod ranked;
 mod slots;
-#[cfg(test)]
-mod tests;
 mod vertices;
 
 pub use cut::{inside, outside};

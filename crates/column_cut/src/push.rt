@@ -1,12 +1,15 @@
-ghost use Rattle.std.specs.Prelude.{◌≡◌, ◌++◌, ◌∷◌, [], None, OnOk, IfOk};
+ghost use Rattle.std.specs.Prelude.{◌≡◌, ◌++◌, ◌∷◌, [], None, OnOk, IfOk, map};
 ghost use Rattle.plane_terms.specs.HalfPlane.{x_is, x_over, x_under};
 ghost use Rattle.plane_terms.specs.Carve.{kept};
 ghost use Rattle.plane_terms.specs.Columns.{at_wall, on_wall, in_column, intervals, is_covered, ordinates};
+ghost use Rattle.column_cut.specs.Pieces.{all_of, above, below, slot_cell, stretch_cell};
 
 use crate::coordinate::Coordinate;
-use crate::intervals::intervals_of;
+use crate::heights::are_apart;
+use crate::intervals::{Stretch, intervals_of};
+use crate::slots::Slot;
 use convex_cell::{Cell, Cells};
-use grid_plane::{Half, NoMemory, Seg, x_is, x_over, x_under};
+use grid_plane::{Half, NoMemory, Seg, x_is, x_over, x_under, y_over, y_under};
 use std::alloc::Global;
 
 /// Puts the cell at the end where it has a point.
@@ -17,15 +20,6 @@ pub(crate) fn push_kept(cells: &mut Cells, cell: Cell) -> Result<(), NoMemory>
         return Ok(());
     }
     cells.push(cell)
-}
-
-fn push_halves(halves: &mut Vec<Half>, cell: &Cell) -> Result<(), NoMemory>
-    ensures { OnOk result (halves.new.items ≡ halves.old.items ++ cell.now) }
-{
-    for i in 0..cell.len() {
-        halves.push(cell.half(i))?;
-    }
-    Ok(())
 }
 
 fn on(x: &Coordinate) -> Half
@@ -46,39 +40,112 @@ pub(crate) fn left_of(x: &Coordinate) -> Half
     x_under(x.value())
 }
 
-fn wall_cell(alloc: Global, x: &Coordinate, slot: &Cell, interval: &Cell) -> Result<Cell, NoMemory>
-    ensures { IfOk result (λ cell. cell ≡ x_is x.now ∷ slot.now ++ interval.now) }
+fn half_above(low: &Option<Coordinate>) -> Option<Half>
+    ensures { all_of result ≡ above low.now }
 {
-    let mut halves = Vec::from_slice(alloc, &[on(x)])?;
-    push_halves(&mut halves, slot)?;
-    push_halves(&mut halves, interval)?;
-    Cell::of(alloc, &halves)
+    match low {
+        Some(low) => Some(y_over(low.value())),
+        None => None,
+    }
+}
+
+fn half_below(high: &Option<Coordinate>) -> Option<Half>
+    ensures { all_of result ≡ below high.now }
+{
+    match high {
+        Some(high) => Some(y_under(high.value())),
+        None => None,
+    }
+}
+
+fn push_half(halves: &mut Vec<Half>, half: Option<Half>) -> Result<(), NoMemory>
+    ensures { OnOk result (halves.new.items ≡ halves.old.items ++ all_of half) }
+{
+    if let Some(half) = half {
+        halves.push(half)?;
+    }
+    Ok(())
+}
+
+fn push_halves(
+    halves: &mut Vec<Half>,
+    first: Option<Half>,
+    second: Option<Half>,
+) -> Result<(), NoMemory>
+    ensures { OnOk result (halves.new.items ≡ halves.old.items ++ (all_of first ++ all_of second)) }
+{
+    push_half(halves, first)?;
+    push_half(halves, second)
+}
+
+fn push_slot(halves: &mut Vec<Half>, slot: &Slot) -> Result<(), NoMemory>
+    ensures { OnOk result (halves.new.items ≡ halves.old.items ++ slot_cell slot.now) }
+{
+    push_halves(halves, slot.over, slot.under)
+}
+
+fn push_stretch(halves: &mut Vec<Half>, stretch: &Stretch) -> Result<(), NoMemory>
+    ensures { OnOk result (halves.new.items ≡ halves.old.items ++ stretch_cell stretch.now) }
+{
+    push_halves(halves, half_above(&stretch.low), half_below(&stretch.high))
+}
+
+fn wall_cell(
+    alloc: Global,
+    x: &Coordinate,
+    slot: &Slot,
+    stretch: &Stretch,
+) -> Result<Cell, NoMemory>
+    ensures { IfOk result (λ cell. cell ≡ x_is x.now ∷ slot_cell slot.now ++ stretch_cell stretch.now) }
+{
+    let mut halves = Vec::with_capacity(alloc, 5)?;
+    halves.push(on(x))?;
+    push_slot(&mut halves, slot)?;
+    push_stretch(&mut halves, stretch)?;
+    Ok(Cell::from_halves(halves))
 }
 
 fn column_cell(
     alloc: Global,
     left: &Coordinate,
     right: &Coordinate,
-    slot: &Cell,
+    slot: &Slot,
 ) -> Result<Cell, NoMemory>
-    ensures { IfOk result (λ cell. cell ≡ x_over left.now ∷ x_under right.now ∷ slot.now) }
+    ensures { IfOk result (λ cell. cell ≡ x_over left.now ∷ x_under right.now ∷ slot_cell slot.now) }
 {
-    let mut halves = Vec::from_slice(alloc, &[right_of(left), left_of(right)])?;
-    push_halves(&mut halves, slot)?;
-    Cell::of(alloc, &halves)
+    let mut halves = Vec::with_capacity(alloc, 4)?;
+    halves.push(right_of(left))?;
+    halves.push(left_of(right))?;
+    push_slot(&mut halves, slot)?;
+    Ok(Cell::from_halves(halves))
+}
+
+fn push_piece(
+    cells: &mut Cells,
+    alloc: Global,
+    x: &Coordinate,
+    slot: &Slot,
+    stretch: &Stretch,
+) -> Result<(), NoMemory>
+    ensures { OnOk result (cells.new ≡ cells.old ++ kept ((x_is x.now ∷ slot_cell slot.now ++ stretch_cell stretch.now) ∷ [])) }
+{
+    if are_apart(x, slot, stretch) {
+        return Ok(());
+    }
+    push_kept(cells, wall_cell(alloc, x, slot, stretch)?)
 }
 
 fn push_at_wall(
     cells: &mut Cells,
     alloc: Global,
     x: &Coordinate,
-    slot: &Cell,
-    intervals: &Cells,
+    slot: &Slot,
+    stretches: &[Stretch],
 ) -> Result<(), NoMemory>
-    ensures { OnOk result (cells.new ≡ cells.old ++ kept (at_wall x.now slot.now intervals.now)) }
+    ensures { OnOk result (cells.new ≡ cells.old ++ kept (at_wall x.now (slot_cell slot.now) (map stretch_cell stretches.now))) }
 {
-    for i in 0..intervals.len() {
-        push_kept(cells, wall_cell(alloc, x, slot, intervals.cell(i))?)?;
+    for stretch in stretches {
+        push_piece(cells, alloc, x, slot, stretch)?;
     }
     Ok(())
 }
@@ -87,13 +154,13 @@ fn push_on_wall(
     cells: &mut Cells,
     alloc: Global,
     x: &Coordinate,
-    slots: &Cells,
-    intervals: &Cells,
+    slots: &[Slot],
+    stretches: &[Stretch],
 ) -> Result<(), NoMemory>
-    ensures { OnOk result (cells.new ≡ cells.old ++ kept (on_wall x.now slots.now intervals.now)) }
+    ensures { OnOk result (cells.new ≡ cells.old ++ kept (on_wall x.now (map slot_cell slots.now) (map stretch_cell stretches.now))) }
 {
-    for i in 0..slots.len() {
-        push_at_wall(cells, alloc, x, slots.cell(i), intervals)?;
+    for slot in slots {
+        push_at_wall(cells, alloc, x, slot, stretches)?;
     }
     Ok(())
 }
@@ -104,11 +171,12 @@ pub(crate) fn push_wall(
     alloc: Global,
     segments: &[Seg],
     x: &Coordinate,
-    slots: &Cells,
+    slots: &[Slot],
 ) -> Result<(), NoMemory>
-    ensures { OnOk result (cells.new ≡ cells.old ++ kept (on_wall x.now slots.now (intervals (is_covered x.now segments.now) None (ordinates x.now segments.now)))) }
+    ensures { OnOk result (cells.new ≡ cells.old ++ kept (on_wall x.now (map slot_cell slots.now) (intervals (is_covered x.now segments.now) None (ordinates x.now segments.now)))) }
 {
-    push_on_wall(cells, alloc, x, slots, &intervals_of(alloc, segments, x)?)
+    let stretches = intervals_of(alloc, segments, x)?;
+    push_on_wall(cells, alloc, x, slots, &stretches)
 }
 
 /// The cells of a column: each slot between its two walls.
@@ -117,12 +185,12 @@ pub(crate) fn push_column(
     alloc: Global,
     left: &Coordinate,
     right: &Coordinate,
-    slots: &Cells,
+    slots: &[Slot],
 ) -> Result<(), NoMemory>
-    ensures { OnOk result (cells.new ≡ cells.old ++ kept (in_column left.now right.now slots.now)) }
+    ensures { OnOk result (cells.new ≡ cells.old ++ kept (in_column left.now right.now (map slot_cell slots.now))) }
 {
-    for i in 0..slots.len() {
-        push_kept(cells, column_cell(alloc, left, right, slots.cell(i))?)?;
+    for slot in slots {
+        push_kept(cells, column_cell(alloc, left, right, slot)?)?;
     }
     Ok(())
 }

@@ -1,40 +1,32 @@
 -- What is refused leaves the state, and what is done is the command's.
-use Rattle.std.proofs.Common.{◌≡◌, ◌≢◌, ℕ, ◌+◌, ◌-◌, ◌≤◌, ◌<◌, ap, ◌∙◌, true, false, List, [], ◌∷◌, ◌++◌, length, Option, Some, None, refl, sym, arith}
-use Rattle.std.specs.Prelude.{min, max, is_none}
+use Rattle.std.proofs.Common.{◌≡◌, ◌⊎◌, inl, inr, ℕ, ◌+◌, ◌-◌, ◌≤◌, ◌<◌, ap, ◌∙◌, Bool, true, false, List, [], ◌∷◌, length, Option, Some, None, refl, arith}
+use Rattle.std.specs.Prelude.{min, max, IsSomeAnd}
 use Rattle.plane_terms.specs.Lists.{Every}
 use Rattle.plane_terms.specs.Rectangle.{Rectangle}
 use Rattle.plane_terms.specs.Shape.{Shape}
 use Rattle.plane_terms.specs.declared.kind.Kind.{Kind}
 use Rattle.rule_words.specs.declared.rule_kind.RuleKind.{RuleKind}
-use Rattle.topology_terms.specs.Changes.{IsRuleAdded, IsRuleDropped}
+use Rattle.topology_terms.specs.Changes.{IsClassAdded, IsFeatureAdded, IsFeatureSet, IsRuleAdded, IsRuleDropped, reshaped}
+use Rattle.topology_terms.specs.Causes.{Tells, first_of, class_cause, add_cause, change_cause, delete_cause, rule_cause, drop_cause}
 use Rattle.topology_terms.specs.Feature.{Feature, feature_at}
-use Rattle.topology_terms.specs.Lookups.{class_number, least_free}
+use Rattle.topology_terms.specs.Lookups.{class_number}
 use Rattle.topology_terms.specs.Poster.{poster}
-use Rattle.topology_terms.specs.Project.{Project, rule_at}
+use Rattle.topology_terms.specs.Project.{Project}
 use Rattle.topology_terms.specs.Built.{is_built}
 use Rattle.topology_terms.specs.Settled.{IsValidatedBy}
-use Rattle.validation_laws.specs.Counts.{raised, judged_of}
+use Rattle.topology_terms.specs.declared.cause.Cause.{Cause}
+use Rattle.topology_terms.specs.declared.cause.Cause.TheVariants as cause
+use Rattle.topology_terms.specs.Counts.{raised, judged_of}
 use Rattle.feature_store.specs.Keeps.{IsGiven}
-use Rattle.feature_store.specs.declared.fault.StoreFault.{StoreFault}
-use Rattle.feature_store.specs.declared.fault.StoreFault.TheVariants as store_fault
-use Rattle.topo_core.specs.RuleSteps.{MayAdd, IsRuleRefusal}
-use Rattle.topo_core.specs.Steps.{IsClassMore, IsClassRefusal, IsFeatureMore, IsAddRefusal, IsChanged, IsChangeRefusal, IsDeleted, IsDeleteRefusal, IsCounted}
+use Rattle.topo_core.specs.Steps.{IsCounted}
 use Rattle.topo_core.specs.Topologies.{IsTopology}
-use Rattle.topo_core.specs.declared.fault.ChangeFault.{ChangeFault}
-use Rattle.topo_core.specs.declared.fault.ChangeFault.TheVariants as change_fault
-use Rattle.topo_core.specs.declared.rule_fault.RuleFault.{RuleFault}
-use Rattle.topo_core.specs.declared.rule_fault.RuleFault.TheVariants as rule_fault
-use Rattle.script_text.specs.Commands.{Command, Class, Rule, DropRule, Begin, Add, Change, Delete, Validate}
-use Rattle.script_terms.specs.Refusal.{Refusal, NoClass, NoRule, NoSession}
+use Rattle.line_terms.specs.Commands.{Command, Class, Rule, DropRule, Add, Change as AChange, Delete, Validate}
+use Rattle.script_terms.specs.Refusal.{Refusal, NoSession, Change}
 use Rattle.script_terms.specs.Reply.{Reply, Done, Number, Judged, Refused}
 use Rattle.script_terms.specs.State.{State, is_open}
-use Rattle.script_terms.specs.Refusing.{refusal_of, number_or_0, row_of, lacks_class, not_built}
-use Rattle.script_terms.specs.Answer.{Answers, IsDone, answers_by, reshaped}
-use Rattle.sound_laws.proofs.FeatureLists.{handle_of}
-use Rattle.command_answers.specs.Refusals.{class_refusal, change_refusal, rule_refusal}
+use Rattle.script_terms.specs.Refusing.{refusal_of, row_of, is_nowhere, changes}
+use Rattle.script_terms.specs.Answer.{Answers, IsDone}
 use Rattle.command_answers.proofs.Counts.{fewer_chosen, few_handles, few_judged}
-use Rattle.command_answers.proofs.EditRefusals.{may_class, may_add, may_change, may_delete, refused_class, refused_add, refused_change, refused_delete}
-use Rattle.command_answers.proofs.RuleRefusals.{may_rule, refused_rule}
 
 pub refused : (s t : State) (c : Command) (reply : Reply) (r : Refusal) → refusal_of s c ≡ Some r → reply ≡ Refused r → t ≡ s → Answers s c reply t
 refused s t c reply r e said same = rw e (said, record { same = same })
@@ -42,52 +34,111 @@ refused s t c reply r e said same = rw e (said, record { same = same })
 pub done : (s t : State) (c : Command) (reply : Reply) → refusal_of s c ≡ None → IsDone s c reply t → Answers s c reply t
 done s t c reply e d = rw e d
 
-pub class_added : (s t : State) (name : List ℕ) (k : Kind) (n : ℕ) → IsClassMore name k n s.project t.project → t.editor ≡ s.editor → Answers s (Class name k) (Number n) t
-class_added s t name k n h same =
-    done s t (Class name k) (Number n) (may_class s name k n t.project h)
-    (rw h.number refl, record { classes = h.classes; rules = h.rules; features = h.features; next = h.next; dirt = h.dirt; entries = h.entries; editor = same })
+-- a command that is refused for what the project is alone: for this cause, or for none
+pub told : (s t : State) (c : Command) (reply : Reply) (o there : Option Cause) → refusal_of s c ≡ changes there → Tells o there
+    → IsSomeAnd o (λ x. reply ≡ Refused (Change x)) → t ≡ s → Answers s c reply t
+told s t c reply None there e tells said same = absurd said
+told s t c reply (Some x) there e tells said same = refused s t c reply (Change x) (e ∙ ap changes tells) said same
 
-pub feature_added : (s t : State) (editor class : List ℕ) (shape : Shape) (n h : ℕ) → is_open s editor ≡ true → class_number s.project class ≡ Some n → IsFeatureMore n shape h s.project t.project → t.editor ≡ s.editor → Answers s (Add editor class shape) (Number h) t
-feature_added s t editor class shape n h opened named more same =
-    done s t (Add editor class shape) (Number h) (may_add s editor class shape n h t.project opened named more)
-    (h, refl, record { number = more.handle; absent = more.fresh; next = more.next; edit = rw named more.edit; editor = same })
+pub did : (s t : State) (c : Command) (reply : Reply) (there : Option Cause) → refusal_of s c ≡ changes there → there ≡ None → IsDone s c reply t → Answers s c reply t
+did s t c reply there e none d = done s t c reply (e ∙ ap changes none) d
 
-pub feature_changed : (s t : State) (editor : List ℕ) (h : ℕ) (shape : Shape) (f : Feature) → is_open s editor ≡ true → IsChanged h shape f s.project t.project → t.editor ≡ s.editor → Answers s (Change editor h shape) Done t
-feature_changed s t editor h shape f opened k same =
-    let own = handle_of s.project.features h f k.was in
-    done s t (Change editor h shape) Done (may_change s editor h shape f t.project opened k)
-    (refl, record { edit = rw (k.was, own) k.edit; next = k.next; editor = same })
+only : (o : Option Refusal) → first_of (o ∷ []) ≡ o
+only None = refl
+only (Some r) = refl
 
-pub feature_deleted : (s t : State) (editor : List ℕ) (h : ℕ) (f : Feature) → is_open s editor ≡ true → IsDeleted h f s.project t.project → t.editor ≡ s.editor → Answers s (Delete editor h) Done t
-feature_deleted s t editor h f opened k same =
-    done s t (Delete editor h) Done (may_delete s editor h f t.project opened k) (refl, record { edit = k.edit; next = k.next; editor = same })
+-- ---- a line that adds a feature, changes or deletes one, puts a rule in force
+add_refusal : (s : State) (editor class : List ℕ) (shape : Shape) (n : ℕ) → is_open s editor ≡ true → class_number s.project class ≡ Some n
+    → refusal_of s (Add editor class shape) ≡ changes (add_cause s.project.classes s.project.next n shape.kind)
+add_refusal s editor class shape n opened named = rw (opened, named) (only (changes (add_cause s.project.classes s.project.next n shape.kind)))
+
+change_refusal : (s : State) (editor : List ℕ) (h : ℕ) (shape : Shape) → is_open s editor ≡ true → refusal_of s (AChange editor h shape) ≡ changes (change_cause s.project.features h shape.kind)
+change_refusal s editor h shape opened = rw opened (only (changes (change_cause s.project.features h shape.kind)))
+
+delete_refusal : (s : State) (editor : List ℕ) (h : ℕ) → is_open s editor ≡ true → refusal_of s (Delete editor h) ≡ changes (delete_cause s.project.features h)
+delete_refusal s editor h opened = rw opened (only (changes (delete_cause s.project.features h)))
+
+rule_refusal : (s : State) (k : RuleKind) (origin : List ℕ) (dest : Option (List ℕ)) → is_built k ≡ true → is_nowhere s.project dest ≡ false
+    → refusal_of s (Rule k origin dest) ≡ changes (rule_cause s.project (row_of s.project k origin dest))
+rule_refusal s k origin dest built there = rw (built, there) (only (changes (rule_cause s.project (row_of s.project k origin dest))))
+
+-- ---- what is done
+pub class_added : (s t : State) (name : List ℕ) (k : Kind) (n : ℕ) → class_cause s.project.classes name ≡ None → n ≡ length s.project.classes + 1
+    → IsClassAdded name k s.project t.project → t.editor ≡ s.editor → Answers s (Class name k) (Number n) t
+class_added s t name k n may number h same = did s t (Class name k) (Number n) (class_cause s.project.classes name) refl may (ap Number number, record { project = h; editor = same })
+
+pub feature_added : (s t : State) (editor class : List ℕ) (shape : Shape) (n h : ℕ) → is_open s editor ≡ true → class_number s.project class ≡ Some n
+    → add_cause s.project.classes s.project.next n shape.kind ≡ None → IsFeatureAdded n shape h s.project t.project → t.editor ≡ s.editor
+    → Answers s (Add editor class shape) (Number h) t
+feature_added s t editor class shape n h opened named may more same =
+    did s t (Add editor class shape) (Number h) (add_cause s.project.classes s.project.next n shape.kind) (add_refusal s editor class shape n opened named) may
+    (h, refl, rw named (record { project = more; editor = same }))
+
+pub feature_changed : (s t : State) (editor : List ℕ) (h : ℕ) (shape : Shape) → is_open s editor ≡ true → change_cause s.project.features h shape.kind ≡ None
+    → IsFeatureSet h (reshaped (feature_at s.project.features h) shape) s.project t.project → t.editor ≡ s.editor → Answers s (AChange editor h shape) Done t
+feature_changed s t editor h shape opened may k same =
+    did s t (AChange editor h shape) Done (change_cause s.project.features h shape.kind) (change_refusal s editor h shape opened) may (refl, record { project = k; editor = same })
+
+pub feature_deleted : (s t : State) (editor : List ℕ) (h : ℕ) → is_open s editor ≡ true → delete_cause s.project.features h ≡ None
+    → IsFeatureSet h None s.project t.project → t.editor ≡ s.editor → Answers s (Delete editor h) Done t
+feature_deleted s t editor h opened may k same =
+    did s t (Delete editor h) Done (delete_cause s.project.features h) (delete_refusal s editor h opened) may (refl, record { project = k; editor = same })
+
+pub rule_added : (s t : State) (k : RuleKind) (origin : List ℕ) (dest : Option (List ℕ)) (n : ℕ) → is_built k ≡ true → is_nowhere s.project dest ≡ false
+    → rule_cause s.project (row_of s.project k origin dest) ≡ None → IsRuleAdded n (row_of s.project k origin dest) s.project t.project → t.editor ≡ s.editor
+    → Answers s (Rule k origin dest) (Number n) t
+rule_added s t k origin dest n built there may added same =
+    did s t (Rule k origin dest) (Number n) (rule_cause s.project (row_of s.project k origin dest)) (rule_refusal s k origin dest built there) may
+    (n, refl, record { project = added; editor = same })
 
 -- ---- what is refused
-pub class_refused : (s t : State) (name : List ℕ) (k : Kind) (e : StoreFault) (reply : Reply) → IsClassRefusal s.project name e → e ≢ store_fault.NoMemory → reply ≡ Refused (class_refusal e) → t ≡ s → Answers s (Class name k) reply t
-class_refused s t name k e reply h n said same = refused s t (Class name k) reply (class_refusal e) (refused_class s name k e h n) said same
+pub class_refused : (s t : State) (name : List ℕ) (k : Kind) (o : Option Cause) (reply : Reply) → Tells o (class_cause s.project.classes name)
+    → IsSomeAnd o (λ x. reply ≡ Refused (Change x)) → t ≡ s → Answers s (Class name k) reply t
+class_refused s t name k o reply tells said same = told s t (Class name k) reply o (class_cause s.project.classes name) refl tells said same
 
 pub no_session : (s t : State) (editor class : List ℕ) (shape : Shape) → is_open s editor ≡ false → t ≡ s → Answers s (Add editor class shape) (Refused NoSession) t
 no_session s t editor class shape opened same = refused s t (Add editor class shape) (Refused NoSession) NoSession (rw opened refl) refl same
 
-pub add_refused : (s t : State) (editor class : List ℕ) (shape : Shape) (n : ℕ) (e : ChangeFault) (reply : Reply) → is_open s editor ≡ true → class_number s.project class ≡ Some n → IsAddRefusal s.project n shape e → e ≢ change_fault.NoMemory → reply ≡ Refused (change_refusal e) → t ≡ s → Answers s (Add editor class shape) reply t
-add_refused s t editor class shape n e reply opened named h m said same = refused s t (Add editor class shape) reply (change_refusal e) (refused_add s editor class shape n e opened named h m) said same
+pub add_refused : (s t : State) (editor class : List ℕ) (shape : Shape) (n : ℕ) (o : Option Cause) (reply : Reply) → is_open s editor ≡ true
+    → class_number s.project class ≡ Some n → Tells o (add_cause s.project.classes s.project.next n shape.kind)
+    → IsSomeAnd o (λ x. reply ≡ Refused (Change x)) → t ≡ s → Answers s (Add editor class shape) reply t
+add_refused s t editor class shape n o reply opened named tells said same =
+    told s t (Add editor class shape) reply o (add_cause s.project.classes s.project.next n shape.kind) (add_refusal s editor class shape n opened named) tells said same
 
-pub change_refused : (s t : State) (editor : List ℕ) (h : ℕ) (shape : Shape) (e : ChangeFault) (reply : Reply) → is_open s editor ≡ true → IsChangeRefusal s.project h shape e → e ≢ change_fault.NoMemory → reply ≡ Refused (change_refusal e) → t ≡ s → Answers s (Change editor h shape) reply t
-change_refused s t editor h shape e reply opened k m said same = refused s t (Change editor h shape) reply (change_refusal e) (refused_change s editor h shape e opened k m) said same
+pub change_refused : (s t : State) (editor : List ℕ) (h : ℕ) (shape : Shape) (o : Option Cause) (reply : Reply) → is_open s editor ≡ true
+    → Tells o (change_cause s.project.features h shape.kind) → IsSomeAnd o (λ x. reply ≡ Refused (Change x)) → t ≡ s → Answers s (AChange editor h shape) reply t
+change_refused s t editor h shape o reply opened tells said same =
+    told s t (AChange editor h shape) reply o (change_cause s.project.features h shape.kind) (change_refusal s editor h shape opened) tells said same
 
-pub delete_refused : (s t : State) (editor : List ℕ) (h : ℕ) (e : ChangeFault) (reply : Reply) → is_open s editor ≡ true → IsDeleteRefusal s.project h e → e ≢ change_fault.NoMemory → reply ≡ Refused (change_refusal e) → t ≡ s → Answers s (Delete editor h) reply t
-delete_refused s t editor h e reply opened k m said same = refused s t (Delete editor h) reply (change_refusal e) (refused_delete s editor h e opened k m) said same
+pub delete_refused : (s t : State) (editor : List ℕ) (h : ℕ) (o : Option Cause) (reply : Reply) → is_open s editor ≡ true
+    → Tells o (delete_cause s.project.features h) → IsSomeAnd o (λ x. reply ≡ Refused (Change x)) → t ≡ s → Answers s (Delete editor h) reply t
+delete_refused s t editor h o reply opened tells said same =
+    told s t (Delete editor h) reply o (delete_cause s.project.features h) (delete_refusal s editor h opened) tells said same
 
--- ---- rules
-pub rule_added : (s t : State) (k : RuleKind) (origin : List ℕ) (dest : Option (List ℕ)) (n : ℕ) → is_built k ≡ true → lacks_class s.project k origin dest ≡ false → MayAdd s.project (row_of s.project k origin dest) → n ≡ least_free s.project.rules → IsRuleAdded n (row_of s.project k origin dest) s.project t.project → t.editor ≡ s.editor → Answers s (Rule k origin dest) (Number n) t
-rule_added s t k origin dest n built there may number added same =
-    done s t (Rule k origin dest) (Number n) (may_rule s k origin dest built there may) (n, refl, record { number = number; added = added; editor = same })
+pub rule_refused : (s t : State) (k : RuleKind) (origin : List ℕ) (dest : Option (List ℕ)) (o : Option Cause) (reply : Reply) → is_built k ≡ true
+    → is_nowhere s.project dest ≡ false → Tells o (rule_cause s.project (row_of s.project k origin dest))
+    → IsSomeAnd o (λ x. reply ≡ Refused (Change x)) → t ≡ s → Answers s (Rule k origin dest) reply t
+rule_refused s t k origin dest o reply built there tells said same =
+    told s t (Rule k origin dest) reply o (rule_cause s.project (row_of s.project k origin dest)) (rule_refusal s k origin dest built there) tells said same
 
-pub rule_refused : (s t : State) (k : RuleKind) (origin : List ℕ) (dest : Option (List ℕ)) (e : RuleFault) (reply : Reply) → is_built k ≡ true → lacks_class s.project k origin dest ≡ false → IsRuleRefusal s.project (row_of s.project k origin dest) e → e ≢ rule_fault.NoMemory → reply ≡ Refused (rule_refusal e) → t ≡ s → Answers s (Rule k origin dest) reply t
-rule_refused s t k origin dest e reply built there h n said same = refused s t (Rule k origin dest) reply (rule_refusal e) (refused_rule s k origin dest e built there h n) said same
+pub rule_dropped : (s t : State) (n : ℕ) → drop_cause s.project.rules n ≡ None → IsRuleDropped n s.project t.project → t.editor ≡ s.editor → Answers s (DropRule n) Done t
+rule_dropped s t n may dropped same = did s t (DropRule n) Done (drop_cause s.project.rules n) refl may (refl, record { project = dropped; editor = same })
 
-pub no_class : (s t : State) (k : RuleKind) (origin : List ℕ) (dest : Option (List ℕ)) → is_built k ≡ true → lacks_class s.project k origin dest ≡ true → t ≡ s → Answers s (Rule k origin dest) (Refused NoClass) t
-no_class s t k origin dest built lacks same = refused s t (Rule k origin dest) (Refused NoClass) NoClass (rw (built, lacks) refl) refl same
+pub no_rule : (s t : State) (n : ℕ) → drop_cause s.project.rules n ≡ Some cause.NoRule → t ≡ s → Answers s (DropRule n) (Refused (Change cause.NoRule)) t
+no_rule s t n none same = refused s t (DropRule n) (Refused (Change cause.NoRule)) (Change cause.NoRule) (ap changes none) refl same
+
+-- a class that a line names is not there: no class has the number 0
+pub no_class : (s t : State) (k : RuleKind) (origin : List ℕ) (dest : Option (List ℕ)) → is_built k ≡ true
+    → (class_number s.project origin ≡ None) ⊎ (is_nowhere s.project dest ≡ true) → t ≡ s → Answers s (Rule k origin dest) (Refused (Change cause.NoClass)) t
+no_class s t k origin dest built lacks same = by (is_nowhere s.project dest) refl lacks
+  where
+    says : refusal_of s (Rule k origin dest) ≡ Some (Change cause.NoClass) → Answers s (Rule k origin dest) (Refused (Change cause.NoClass)) t
+    says e = refused s t (Rule k origin dest) (Refused (Change cause.NoClass)) (Change cause.NoClass) e refl same
+
+    by : (b : Bool) → is_nowhere s.project dest ≡ b → (class_number s.project origin ≡ None) ⊎ (is_nowhere s.project dest ≡ true) → Answers s (Rule k origin dest) (Refused (Change cause.NoClass)) t
+    by true e l = says (rw (built, e) refl)
+    by false e (inl l) = says (rw (built, e, l) refl)
+    by false e (inr l) = cc
 
 -- ---- a validation
 -- a count from nothing stays far from its end
@@ -110,4 +161,4 @@ validated s t w judged errors dirty count law next v counted j e d same =
     let bound : judged_of s.project.rules counted.subjects ≤ 1099511627776 = (let r = law.few in omega (arith, most, r)) in
     let is : judged ≡ judged_of s.project.rules counted.subjects = (j ∙ (ap (λ n. n - 0) counted.count ∙ exact (judged_of s.project.rules counted.subjects) bound)) in
     done s t (Validate w) (Judged judged errors dirty) refl
-    (judged, errors, dirty, refl, record { validated = v; selected = counted.subjects; those = counted.those; judged_is = is; errors_is = e; dirty_is = d }, same)
+    (judged, errors, dirty, refl, record { project = record { validated = v; selected = counted.subjects; those = counted.those; judged_is = is; errors_is = e; dirty_is = d }; editor = same })

@@ -6,7 +6,7 @@ use Rattle.plane_terms.specs.Lists.{Every, IsThose, how_many}
 use Rattle.topology_terms.specs.Feature.{Feature, IsAscending}
 use Rattle.topology_terms.specs.Project.{InForce}
 use Rattle.topology_terms.specs.Broken.{judged}
-use Rattle.validation_laws.specs.Counts.{judged_of}
+use Rattle.topology_terms.specs.Counts.{judged_of}
 
 pub few_of : {A : Type 0} (test : A → Bool) (xs : List A) → how_many test xs ≤ length xs
 few_of test [] = omega arith

@@ -1,21 +1,44 @@
--- What every topology keeps is the headline.
-use Rattle.std.proofs.Common.{◌≡◌, ◌≢◌, ◌↔◌, ℕ, true, false, [], Some}
-use Rattle.topology_terms.specs.Entry.{Entry, entry_at}
-use Rattle.topology_terms.specs.Feature.{Feature}
+-- What every topology of the rules keeps is the invariant of a run's states; and with no dirt it is told exactly everywhere.
+use Rattle.std.proofs.Common.{◌≡◌, [], sym}
+use Rattle.topology_terms.specs.Meaning.{Laws}
 use Rattle.topology_terms.specs.Poster.{poster}
-use Rattle.topology_terms.specs.Project.{Project, rule_at}
-use Rattle.topo_core.specs.Topologies.{IsTopology, IsKeptUnder}
-use Rattle.script_terms.specs.Headline.{Headline}
+use Rattle.topology_terms.specs.Project.{Project}
+use Rattle.topology_terms.specs.Settled.{IsSettled}
+use Rattle.topology_terms.specs.Sound.{IsSound}
+use Rattle.sound_laws.proofs.Scratch.{settled_scratch}
+use Rattle.sound_laws.proofs.Settling.{clean_points, clean_live, clean_whole}
+use Rattle.topo_core.specs.Kinds.{TakesKinds}
+use Rattle.topo_core.specs.Topologies.{IsTopology}
+use Rattle.topo_core.proofs.Whole.{valid}
+use Rattle.script_terms.specs.Headline.{Headline, Invariant, IsExact}
 
-pub headline : (p : Project) → IsTopology p → IsKeptUnder poster p → Headline p
-headline p t k = record {
-  points = λ r row e q off a b. (k.sound.each r row e a).points q off b;
-  features = λ r row e a f live clear. (k.sound.each r row e a).whole f live clear;
+headline : (p : Project) → IsTopology p → IsSound p → Headline p
+headline p t s = record {
+  points = λ r row e q off a b. (s.each r row e a).points q off b;
+  features = λ r row e a f live clear. (s.each r row e a).whole f live clear;
   some = λ r a b e found cells.
-      let row = t.ruled r a b e found in
-      let framed = (k.sound.each r row.0 row.1 a).cells b e found cells in
+      let row = t.made.ruled r a b e found in
+      let framed = (s.each r row.0 row.1 a).cells b e found cells in
       (framed.some, framed.points);
-  whole = λ r a b e found whole. (t.bare r a b e found whole).0;
-  ruled = t.ruled;
+  whole = λ r a b e found whole. (t.made.bare r a b e found whole).0;
+  ruled = t.made.ruled;
   by_key = t.order;
+}
+
+kinds : TakesKinds poster
+kinds = record { fits = λ row F fits. fits }
+
+pub invariant : (p : Project) → IsTopology p → IsSound p → IsSettled p → Invariant p
+invariant p t s k = record {
+  sound = s;
+  settled = k;
+  headline = headline p t s;
+  scratch = λ clean. settled_scratch poster p (valid poster kinds p t) k t.order clean;
+}
+
+pub exact : (p : Project) → Laws poster → IsTopology p → IsSound p → p.dirt ≡ [] → IsExact p
+exact p L t s clean = record {
+  points = λ r row e a b q. clean_points poster p s clean r row e a b q;
+  features = λ r row e a. clean_whole poster L p s clean r row e a;
+  live = λ r a b x found. let row = t.made.ruled r a b x found in clean_live poster p s clean r row.0 row.1 a b x found;
 }

@@ -1,24 +1,30 @@
 -- What a call of the topology answers is what the command is answered.
-use Rattle.std.proofs.Common.{◌≡◌, ◌≢◌, ℕ, true, List, Option, Some, ap, ◌∙◌}
-use Rattle.std.specs.Prelude.{Result, Ok, Err, IfOk, IfErr, OnErr, MatchResult}
+use Rattle.std.proofs.Common.{◌≡◌, ℕ, true, List, Option, Some, None, ap, ◌∙◌}
+use Rattle.std.specs.Prelude.{Result, Ok, Err, IfOk, OnOk, IfErr, OnErr, IsSomeAnd, MatchResult}
 use Rattle.plane_terms.specs.Shape.{Shape}
-use Rattle.topology_terms.specs.Feature.{Feature}
+use Rattle.topology_terms.specs.Causes.{Tells, add_cause, change_cause, delete_cause}
+use Rattle.topology_terms.specs.Changes.{IsFeatureAdded, IsFeatureSet, reshaped}
+use Rattle.topology_terms.specs.Feature.{Feature, feature_at}
 use Rattle.topology_terms.specs.Lookups.{class_number}
 use Rattle.topology_terms.specs.Project.{Project}
-use Rattle.topo_core.specs.Steps.{IsFeatureMore, IsAddRefusal, IsChanged, IsChangeRefusal, IsDeleted, IsDeleteRefusal}
+use Rattle.topology_terms.specs.declared.cause.Cause.{Cause}
+use Rattle.topo_core.specs.Faults.{edit_cause}
 use Rattle.topo_core.specs.declared.fault.ChangeFault.{ChangeFault}
-use Rattle.topo_core.specs.declared.fault.ChangeFault.TheVariants as change_fault
-use Rattle.script_text.specs.Commands.{Add, Change, Delete}
+use Rattle.line_terms.specs.Commands.{Add, Change as AChange, Delete}
 use Rattle.script_terms.specs.Answer.{Answers}
+use Rattle.script_terms.specs.Refusal.{Change}
 use Rattle.script_terms.specs.Reply.{Done, Number, Refused}
 use Rattle.script_terms.specs.State.{State, is_open}
 use Rattle.reply_text.specs.Replies.{said_of}
 use Rattle.reply_text.specs.declared.reply.Reply.{Reply}
-use Rattle.command_answers.specs.Refusals.{change_refusal}
 use Rattle.command_answers.proofs.Answering.{feature_added, add_refused, feature_changed, change_refused, feature_deleted, delete_refused}
 
 abbrev Says : {T : Type 0} → Result T ChangeFault → (T → Reply → Type 0) → Reply → Type 0
-Says called done r = MatchResult called (λ x. done x r) (λ e. (e ≢ change_fault.NoMemory) × ((p : Project) → said_of p r ≡ Refused (change_refusal e)))
+Says called done r = MatchResult called (λ x. done x r) (λ e. IsSomeAnd (edit_cause e) (λ c. (p : Project) → said_of p r ≡ Refused (Change c)))
+
+said_at : (o : Option Cause) (p : Project) (r : Reply) → IsSomeAnd o (λ c. (q : Project) → said_of q r ≡ Refused (Change c)) → IsSomeAnd o (λ c. said_of p r ≡ Refused (Change c))
+said_at None p r h = absurd h
+said_at (Some c) p r h = h p
 
 -- where the call has failed, what it kept is kept
 pub kept_by : {T U E : Type 0} (P : Type 0) (called : Result T ChangeFault) (reply : Result U E) → OnErr reply ((e : ChangeFault) × (called ≡ Err e)) → OnErr called P → OnErr reply P
@@ -34,23 +40,33 @@ pub same_after : {T : Type 0} (s : State) (p : Project) (called : Result T Chang
 same_after s p (Ok x) kept = tt
 same_after s p (Err e) kept = ap (λ (q : Project). record { project = q; editor = s.editor }) kept
 
-pub add_replied : {E : Type 0} (s t : State) (editor class : List ℕ) (shape : Shape) (n : ℕ) (added : Result ℕ ChangeFault) (reply : Result Reply E) →
-    is_open s editor ≡ true → class_number s.project class ≡ Some n → t.editor ≡ s.editor → IfOk added (λ h. IsFeatureMore n shape h s.project t.project) → IfErr added (IsAddRefusal s.project n shape) → OnErr added (t.project ≡ s.project) →
-    IfOk reply (Says added (λ h r. (p : Project) → said_of p r ≡ Number h)) → IfOk reply (λ r. Answers s (Add editor class shape) (said_of t.project r) t)
-add_replied s t editor class shape n added (Err e) opened named same ok err kept said = tt
-add_replied s t editor class shape n (Ok h) (Ok r) opened named same ok err kept said = rw (said t.project) (feature_added s t editor class shape n h opened named ok same)
-add_replied s t editor class shape n (Err e) (Ok r) opened named same ok err kept said = add_refused s t editor class shape n e (said_of t.project r) opened named err said.0 (said.1 t.project) (same_state s t kept same)
+pub add_replied : {E : Type 0} (s t : State) (editor class : List ℕ) (shape : Shape) (n : ℕ) (added : Result ℕ ChangeFault) (reply : Result Reply E)
+    → is_open s editor ≡ true → class_number s.project class ≡ Some n → t.editor ≡ s.editor
+    → IfOk added (λ h. IsFeatureAdded n shape h s.project t.project) → OnOk added (add_cause s.project.classes s.project.next n shape.kind ≡ None)
+    → IfErr added (λ e. Tells (edit_cause e) (add_cause s.project.classes s.project.next n shape.kind)) → OnErr added (t.project ≡ s.project)
+    → IfOk reply (Says added (λ h r. (p : Project) → said_of p r ≡ Number h)) → IfOk reply (λ r. Answers s (Add editor class shape) (said_of t.project r) t)
+add_replied s t editor class shape n added (Err e) opened named same ok may err kept said = tt
+add_replied s t editor class shape n (Ok h) (Ok r) opened named same ok may err kept said = rw (said t.project) (feature_added s t editor class shape n h opened named may ok same)
+add_replied s t editor class shape n (Err e) (Ok r) opened named same ok may err kept said =
+    add_refused s t editor class shape n (edit_cause e) (said_of t.project r) opened named err (said_at (edit_cause e) t.project r said) (same_state s t kept same)
 
-pub change_replied : {E : Type 0} (s t : State) (editor : List ℕ) (h : ℕ) (shape : Shape) (changed : Result Feature ChangeFault) (reply : Result Reply E) →
-    is_open s editor ≡ true → t.editor ≡ s.editor → IfOk changed (λ f. IsChanged h shape f s.project t.project) → IfErr changed (IsChangeRefusal s.project h shape) → OnErr changed (t.project ≡ s.project) →
-    IfOk reply (Says changed (λ f r. (p : Project) → said_of p r ≡ Done)) → IfOk reply (λ r. Answers s (Change editor h shape) (said_of t.project r) t)
-change_replied s t editor h shape changed (Err e) opened same ok err kept said = tt
-change_replied s t editor h shape (Ok f) (Ok r) opened same ok err kept said = rw (said t.project) (feature_changed s t editor h shape f opened ok same)
-change_replied s t editor h shape (Err e) (Ok r) opened same ok err kept said = change_refused s t editor h shape e (said_of t.project r) opened err said.0 (said.1 t.project) (same_state s t kept same)
+pub change_replied : {E : Type 0} (s t : State) (editor : List ℕ) (h : ℕ) (shape : Shape) (changed : Result Feature ChangeFault) (reply : Result Reply E)
+    → is_open s editor ≡ true → t.editor ≡ s.editor
+    → OnOk changed (IsFeatureSet h (reshaped (feature_at s.project.features h) shape) s.project t.project)
+    → OnOk changed (change_cause s.project.features h shape.kind ≡ None)
+    → IfErr changed (λ e. Tells (edit_cause e) (change_cause s.project.features h shape.kind)) → OnErr changed (t.project ≡ s.project)
+    → IfOk reply (Says changed (λ f r. (p : Project) → said_of p r ≡ Done)) → IfOk reply (λ r. Answers s (AChange editor h shape) (said_of t.project r) t)
+change_replied s t editor h shape changed (Err e) opened same ok may err kept said = tt
+change_replied s t editor h shape (Ok f) (Ok r) opened same ok may err kept said = rw (said t.project) (feature_changed s t editor h shape opened may ok same)
+change_replied s t editor h shape (Err e) (Ok r) opened same ok may err kept said =
+    change_refused s t editor h shape (edit_cause e) (said_of t.project r) opened err (said_at (edit_cause e) t.project r said) (same_state s t kept same)
 
-pub delete_replied : {E : Type 0} (s t : State) (editor : List ℕ) (h : ℕ) (deleted : Result Feature ChangeFault) (reply : Result Reply E) →
-    is_open s editor ≡ true → t.editor ≡ s.editor → IfOk deleted (λ f. IsDeleted h f s.project t.project) → IfErr deleted (IsDeleteRefusal s.project h) → OnErr deleted (t.project ≡ s.project) →
-    IfOk reply (Says deleted (λ f r. (p : Project) → said_of p r ≡ Done)) → IfOk reply (λ r. Answers s (Delete editor h) (said_of t.project r) t)
-delete_replied s t editor h deleted (Err e) opened same ok err kept said = tt
-delete_replied s t editor h (Ok f) (Ok r) opened same ok err kept said = rw (said t.project) (feature_deleted s t editor h f opened ok same)
-delete_replied s t editor h (Err e) (Ok r) opened same ok err kept said = delete_refused s t editor h e (said_of t.project r) opened err said.0 (said.1 t.project) (same_state s t kept same)
+pub delete_replied : {E : Type 0} (s t : State) (editor : List ℕ) (h : ℕ) (deleted : Result Feature ChangeFault) (reply : Result Reply E)
+    → is_open s editor ≡ true → t.editor ≡ s.editor
+    → OnOk deleted (IsFeatureSet h None s.project t.project) → OnOk deleted (delete_cause s.project.features h ≡ None)
+    → IfErr deleted (λ e. Tells (edit_cause e) (delete_cause s.project.features h)) → OnErr deleted (t.project ≡ s.project)
+    → IfOk reply (Says deleted (λ f r. (p : Project) → said_of p r ≡ Done)) → IfOk reply (λ r. Answers s (Delete editor h) (said_of t.project r) t)
+delete_replied s t editor h deleted (Err e) opened same ok may err kept said = tt
+delete_replied s t editor h (Ok f) (Ok r) opened same ok may err kept said = rw (said t.project) (feature_deleted s t editor h opened may ok same)
+delete_replied s t editor h (Err e) (Ok r) opened same ok may err kept said =
+    delete_refused s t editor h (edit_cause e) (said_of t.project r) opened err (said_at (edit_cause e) t.project r said) (same_state s t kept same)

@@ -1,13 +1,27 @@
 ghost use Rattle.std.specs.Prelude.{◌≡◌, IfOk, OnErr};
+ghost use Rattle.topology_terms.specs.Project.{IsOrdered};
+ghost use Rattle.line_terms.specs.Commands as commands;
 ghost use Rattle.script_text.specs.Seen.{command_of};
 ghost use Rattle.script_terms.specs.Answer.{Answers};
+ghost use Rattle.script_terms.specs.Reply as replies;
+ghost use Rattle.script_terms.specs.State.{State};
 ghost use Rattle.reply_text.specs.Replies.{said_of};
 
 use crate::classes::NOT_BUILT;
 use crate::world::World;
 use grid_plane::NoMemory;
 use reply_text::Reply;
+use rule_set::poster_law;
 use script_text::Command;
+
+/// The law of commands: from one state a command has one reply, and leaves one state.
+#[tactic(auto, using(crate::proofs::OneAnswer::one_answer))]
+pub fn one_answer_law()
+    ensures { (s t u : State) (c : commands.Command) (reply said : replies.Reply) → IsOrdered t.project → IsOrdered u.project
+        → Answers s c reply t → Answers s c said u → (reply ≡ said) × (t ≡ u) }
+{
+    poster_law();
+}
 
 impl World {
     /// Does what the command asks for, and answers what the reply says; a listing lists the state as it is then. After want

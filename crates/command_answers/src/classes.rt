@@ -1,18 +1,19 @@
-ghost use Rattle.std.specs.Prelude.{◌≡◌, true, false, MatchOption, IfOk, OnErr};
-ghost use Rattle.topology_terms.specs.Built.{is_built};
-ghost use Rattle.script_text.specs.Commands.{Class, Rule, DropRule};
+ghost use Rattle.std.specs.Prelude.{◌≡◌, ◌⊎◌, None, true, false, MatchOption, IfOk, OnErr};
+ghost use Rattle.topology_terms.specs.Lookups.{class_number};
+ghost use Rattle.line_terms.specs.Commands.{Class, Rule, DropRule};
 ghost use Rattle.script_terms.specs.Answer.{Answers};
-ghost use Rattle.script_terms.specs.Refusing.{row_of, lacks_class};
+ghost use Rattle.script_terms.specs.Refusing.{row_of, is_nowhere};
 ghost use Rattle.reply_text.specs.Replies.{said_of};
 
-use crate::refused::{refused_class, refused_rule};
+use crate::refused::refused;
 use crate::world::World;
 use grid_plane::{Name, NoMemory};
 use rule_set::is_built;
 use reply_text::{Refusal, Reply};
 use rule_words::{Kind, RuleKind};
 use rule_core::RuleRow;
-use script_text::LineRefusal;
+use line_terms::LineRefusal;
+use topology_terms::Cause;
 
 /// What is answered to a command or a rule that is not built yet.
 pub const NOT_BUILT: Reply = Reply::Refused(Refusal::Line(LineRefusal::NotALine));
@@ -26,20 +27,19 @@ impl World {
     {
         match self.topology.add_class(name, kind) {
             Ok(number) => Ok(Reply::Number(u32::from(number))),
-            Err(fault) => refused_class(fault),
+            Err(fault) => refused(fault.cause()),
         }
     }
 
-    // The row that a line names, where its classes are there, and the second one where the rule takes one.
+    // The row that a line names, where the classes that it names are there.
     fn row_of(&self, kind: RuleKind, origin: &Name, dest: &Option<Name>) -> Option<RuleRow>
-        ensures { MatchOption result (lacks_class self.now.project kind origin.now dest.now ≡ true)
-            (λ r. (lacks_class self.now.project kind origin.now dest.now ≡ false) × (r ≡ row_of self.now.project kind origin.now dest.now)) }
+        ensures { MatchOption result ((class_number self.now.project origin.now ≡ None) ⊎ (is_nowhere self.now.project dest.now ≡ true))
+            (λ r. (is_nowhere self.now.project dest.now ≡ false) × (r ≡ row_of self.now.project kind origin.now dest.now)) }
     {
         let store = self.topology.store();
         let origin = store.class_by_name(origin)?;
         let dest = match dest {
             Some(name) => store.class_by_name(name)?,
-            None if kind.takes_dest() => return None,
             None => 0,
         };
         Some(RuleRow { kind, origin, dest })
@@ -60,21 +60,22 @@ impl World {
             return Ok(NOT_BUILT);
         }
         let Some(row) = self.row_of(kind, origin, dest) else {
-            return Ok(Reply::Refused(Refusal::NoClass));
+            return Ok(Reply::Refused(Refusal::Change(Cause::NoClass)));
         };
         match self.topology.add_rule(row) {
             Ok(number) => Ok(Reply::Number(u32::from(number))),
-            Err(fault) => refused_rule(fault),
+            Err(fault) => refused(fault.cause()),
         }
     }
 
     /// `droprule R`
+    #[tactic(auto, using(crate::proofs::Answering::rule_dropped, crate::proofs::Answering::no_rule))]
     pub(crate) fn answer_drop_rule(&mut self, number: u16) -> Reply
         ensures { Answers self.old (DropRule number) (said_of self.new.project result) self.new }
     {
         match self.topology.drop_rule(number) {
             Ok(()) => Reply::Done,
-            Err(_) => Reply::Refused(Refusal::NoRule),
+            Err(_) => Reply::Refused(Refusal::Change(Cause::NoRule)),
         }
     }
 }

@@ -1,5 +1,5 @@
 ghost use Rattle.std.specs.Prelude.{◌≡◌, IfOk, OnErr};
-ghost use Rattle.script_text.specs.Commands.{Begin, Add, Change, Delete, Validate};
+ghost use Rattle.line_terms.specs.Commands.{Begin, Add, Change, Delete, Validate};
 ghost use Rattle.script_terms.specs.Answer.{Answers};
 ghost use Rattle.reply_text.specs.Replies.{said_of};
 
@@ -10,6 +10,7 @@ use grid_plane::{Name, NoMemory, Rect};
 use reply_text::{Refusal, Reply};
 use rule_core::Work;
 use shape::Shape;
+use topology_terms::Cause;
 
 impl World {
     /// `begin EDITOR`
@@ -38,7 +39,7 @@ impl World {
             return Ok(Reply::Refused(Refusal::NoSession));
         }
         let Some(class) = self.topology.store().class_by_name(class) else {
-            return Ok(Reply::Refused(Refusal::NoClass));
+            return Ok(Reply::Refused(Refusal::Change(Cause::NoClass)));
         };
         reply_to_add(self.topology.add(class, shape))
     }

@@ -7,5 +7,6 @@ mod edits;
 mod refused;
 mod world;
 
+pub use answer::one_answer_law;
 pub use reply_text::{Refusal, Reply};
 pub use world::World;

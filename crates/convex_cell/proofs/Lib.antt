@@ -9,3 +9,5 @@ pub mod Codes
 pub mod Spans
 pub mod Views
 pub mod Frames
+pub mod Both
+pub mod Steps

@@ -72,7 +72,7 @@ number_under low (Some u) g v uv c h =
     meets : (low : Limit) (g : ℤ) → neg_ℤ low.k <ℤ (g *ℤ low.m) → AreCompatible (line low) (under g)
     meets low g h = Above-any (either low.strict true) _ (lt_by (num (pos 0)) (num low.k ⊗ num (pos 1) ⊕ num g ⊗ num low.m) (omega (arith, lt_read (neg (num low.k)) (num g ⊗ num low.m) h)))
 
-floor_at : (k m : ℤ) → pos 0 <ℤ m → ((int_div_euclid k m *ℤ m) ≤ℤ k) × (k <ℤ ((int_div_euclid k m +ℤ pos 1) *ℤ m))
+pub floor_at : (k m : ℤ) → pos 0 <ℤ m → ((int_div_euclid k m *ℤ m) ≤ℤ k) × (k <ℤ ((int_div_euclid k m +ℤ pos 1) *ℤ m))
 floor_at k (pos m) p = (floor_below k m (omega (arith, ints)), floor_above k m (omega (arith, ints)))
 floor_at k (negsuc m) p = absurd (omega (arith, ints))
 

@@ -1,6 +1,6 @@
-ghost use Rattle.std.specs.Prelude.{◌≡◌, ℕ, ℤ, pos, ◌<◌, ◌↔◌, ◌≤◌, ◌^◌, ◌+ℤ◌, ◌*ℤ◌, unsigned_abs, IfSome, All};
+ghost use Rattle.std.specs.Prelude.{◌≡◌, ℕ, ℤ, pos, ◌<◌, ◌↔◌, ◌≤◌, ◌^◌, ◌+ℤ◌, ◌*ℤ◌, ◌++◌, unsigned_abs, IfSome, All};
 ghost use Rattle.plane_terms.specs.Decide.{high_of};
-ghost use Rattle.cell_laws.specs.Bounds.{either, Compatible, FlatHolds};
+ghost use Rattle.cell_laws.specs.Bounds.{either, Compatible, FlatHolds, PairsHold};
 ghost use Rattle.convex_cell.specs.Range.{IsRange, InRange};
 ghost use Rattle.convex_cell.specs.Seen.{seen, PairsSeen};
 
@@ -35,67 +35,69 @@ fn seen(direction: Direction, half: &Half) -> Half
     }
 }
 
-fn cut_by_flat(range: Range, half: &Half) -> Range
-    requires { IsRange range }
-    ensures fits { IsRange result }
-    ensures both { (t : ℤ) → (w : ℕ) → 0 < w → (InRange result t w ↔ (InRange range t w × FlatHolds half.now t w)) }
+fn cut_by_flat(range: &mut Range, half: &Half)
+    requires { IsRange range.old }
+    ensures fits { IsRange range.new }
+    ensures both { (t : ℤ) → (w : ℕ) → 0 < w → (InRange range.new t w ↔ (InRange range.old t w × FlatHolds half.now t w)) }
 {
     if half.b() != 0 {
-        return range;
+        return;
     }
     let a = i128::from(half.a());
     let c = i128::from(half.c());
     match half.op() {
         Op::Over => range.cut(a, c, true),
         Op::AtLeast => range.cut(a, c, false),
-        Op::Zero => range.cut(a, c, false).cut(-a, -c, false),
+        Op::Zero => {
+            range.cut(a, c, false);
+            range.cut(-a, -c, false);
+        }
     }
 }
 
-fn cut_by_pair(range: Range, low: Edge, high: Edge) -> Range
-    requires { IsRange range }
-    ensures fits { IsRange result }
-    ensures both { (t : ℤ) → (w : ℕ) → 0 < w → (InRange result t w ↔ (InRange range t w × Compatible low high t w)) }
+fn cut_by_pair(range: &mut Range, low: Edge, high: Edge)
+    requires { IsRange range.old }
+    ensures fits { IsRange range.new }
+    ensures both { (t : ℤ) → (w : ℕ) → 0 < w → (InRange range.new t w ↔ (InRange range.old t w × Compatible low high t w)) }
 {
     let m = sum_of_products(low.a, high.b, high.a, low.b);
     let k = sum_of_products(low.c, high.b, high.c, low.b);
     range.cut(m, k, either(low.strict, high.strict))
 }
 
-fn cut_by_high(range: Range, low: Edge, half: &Half) -> Range
-    requires { IsRange range }
-    ensures fits { IsRange result }
-    ensures both { (t : ℤ) → (w : ℕ) → 0 < w → (InRange result t w
-        ↔ (InRange range t w × IfSome (high_of half.now) (λ u. Compatible low u t w))) }
+fn cut_by_high(range: &mut Range, low: Edge, half: &Half)
+    requires { IsRange range.old }
+    ensures fits { IsRange range.new }
+    ensures both { (t : ℤ) → (w : ℕ) → 0 < w → (InRange range.new t w
+        ↔ (InRange range.old t w × IfSome (high_of half.now) (λ u. Compatible low u t w))) }
 {
     match high_edge(half) {
         Some(high) => cut_by_pair(range, low, high),
-        None => range,
+        None => {}
     }
 }
 
-fn cut_by_pairs(mut range: Range, low: Edge, halves: &[Half], direction: Direction) -> Range
-    requires { IsRange range }
-    ensures fits { IsRange result }
-    ensures both { (t : ℤ) → (w : ℕ) → 0 < w → (InRange result t w
-        ↔ (InRange range t w × All (λ g. IfSome (high_of (seen direction g)) (λ u. Compatible low u t w)) halves.now)) }
+fn cut_by_pairs(range: &mut Range, low: Edge, halves: &[Half], direction: Direction)
+    requires { IsRange range.old }
+    ensures fits { IsRange range.new }
+    ensures both { (t : ℤ) → (w : ℕ) → 0 < w → (InRange range.new t w
+        ↔ (InRange range.old t w × All (λ g. IfSome (high_of (seen direction g)) (λ u. Compatible low u t w)) halves.now)) }
 {
     for half in halves {
-        range = cut_by_high(range, low, &seen(direction, half));
+        cut_by_high(range, low, &seen(direction, half));
     }
-    range
 }
 
-fn cut_by_half(range: Range, half: &Half, halves: &[Half], direction: Direction) -> Range
-    requires { IsRange range }
-    ensures fits { IsRange result }
-    ensures both { (t : ℤ) → (w : ℕ) → 0 < w → (InRange result t w
-        ↔ (InRange range t w × (FlatHolds half.now t w × PairsSeen direction halves.now half.now t w))) }
+fn cut_by_half(range: &mut Range, half: &Half, halves: &[Half], direction: Direction)
+    requires { IsRange range.old }
+    ensures fits { IsRange range.new }
+    ensures both { (t : ℤ) → (w : ℕ) → 0 < w → (InRange range.new t w
+        ↔ (InRange range.old t w × (FlatHolds half.now t w × PairsSeen direction halves.now half.now t w))) }
 {
-    let range = cut_by_flat(range, half);
+    cut_by_flat(range, half);
     match low_edge(half) {
         Some(low) => cut_by_pairs(range, low, halves, direction),
-        None => range,
+        None => {}
     }
 }
 
@@ -107,7 +109,48 @@ pub fn range_of(halves: &[Half], direction: Direction) -> Range
 {
     let mut range = Range::all();
     for half in halves {
-        range = cut_by_half(range, &seen(direction, half), halves, direction);
+        cut_by_half(&mut range, &seen(direction, half), halves, direction);
     }
+    range
+}
+
+fn cut_by_half_of_both(range: &mut Range, half: &Half, first: &[Half], second: &[Half])
+    requires { IsRange range.old }
+    ensures fits { IsRange range.new }
+    ensures both { (t : ℤ) → (w : ℕ) → 0 < w → (InRange range.new t w
+        ↔ (InRange range.old t w × (FlatHolds half.now t w × PairsHold first.now half.now t w × PairsHold second.now half.now t w))) }
+{
+    cut_by_flat(range, half);
+    match low_edge(half) {
+        Some(low) => {
+            cut_by_pairs(range, low, first, Direction::East);
+            cut_by_pairs(range, low, second, Direction::East);
+        }
+        None => {}
+    }
+}
+
+/// What these half-planes leave of a range, each by itself and as a bound from below with those of both lists that bound from
+/// above.
+fn cut_by_halves(range: &mut Range, halves: &[Half], first: &[Half], second: &[Half])
+    requires { IsRange range.old }
+    ensures fits { IsRange range.new }
+    ensures both { (t : ℤ) → (w : ℕ) → 0 < w → (InRange range.new t w
+        ↔ (InRange range.old t w × All (λ h. FlatHolds h t w × PairsHold first.now h t w × PairsHold second.now h t w) halves.now)) }
+{
+    for half in halves {
+        cut_by_half_of_both(range, half, first, second);
+    }
+}
+
+/// What the half-planes of both lists leave of x.
+pub fn range_of_both(first: &[Half], second: &[Half]) -> Range
+    ensures fits { IsRange result }
+    ensures both { (t : ℤ) → (w : ℕ) → 0 < w → (InRange result t w
+        ↔ All (λ h. FlatHolds h t w × PairsHold (first.now ++ second.now) h t w) (first.now ++ second.now)) }
+{
+    let mut range = Range::all();
+    cut_by_halves(&mut range, first, first, second);
+    cut_by_halves(&mut range, second, first, second);
     range
 }

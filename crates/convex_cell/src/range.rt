@@ -88,37 +88,25 @@ impl Range {
         }
     }
 
-    pub fn cut(self, m: i128, k: i128, strict: bool) -> Range
-        requires fits { IsRange self }
+    pub fn cut(&mut self, m: i128, k: i128, strict: bool)
+        requires fits { IsRange self.old }
         requires m_fits { unsigned_abs m ≤ 2 ^ 47 }
         requires k_fits { unsigned_abs k ≤ 2 ^ 70 }
-        ensures fits { IsRange result }
-        ensures both { (t : ℤ) → (w : ℕ) → 0 < w → (InRange result t w ↔ (InRange self t w × Allows m k strict t w)) }
+        ensures fits { IsRange self.new }
+        ensures both { (t : ℤ) → (w : ℕ) → 0 < w → (InRange self.new t w ↔ (InRange self.old t w × Allows m k strict t w)) }
     {
         if m > 0 {
-            let low = tightened(self.low, Limit { m, k, strict });
-            return Range {
-                low: Some(low),
-                high: self.high,
-                none: self.none,
-            };
+            self.low = Some(tightened(self.low, Limit { m, k, strict }));
+            return;
         }
         if m < 0 {
-            let high = tightened(self.high, Limit { m: -m, k, strict });
-            return Range {
-                low: self.low,
-                high: Some(high),
-                none: self.none,
-            };
+            self.high = Some(tightened(self.high, Limit { m: -m, k, strict }));
+            return;
         }
         if is_above(k, strict) {
-            return self;
+            return;
         }
-        Range {
-            low: self.low,
-            high: self.high,
-            none: true,
-        }
+        self.none = true;
     }
 
     pub fn is_none(&self) -> bool

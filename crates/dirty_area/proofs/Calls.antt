@@ -10,12 +10,12 @@ use Rattle.std.proofs.lemmas.List.{take_more}
 use Rattle.plane_terms.specs.Lists.{Every}
 use Rattle.plane_terms.specs.Point.{Point}
 use Rattle.plane_terms.specs.Rectangle.{Rectangle, RectHolds, RectsMeet, IsRectangle, is_within, rects_meet, rect_of, part_of}
-use Rattle.plane_terms.specs.Dirt.{Covers, MeetsDirt, add_dirt, add_all, cut_from, cut_dirt, pieces, piece_if}
+use Rattle.plane_terms.specs.Dirt.{MeetsPart, Covers, MeetsDirt, add_dirt, add_all, cut_from, cut_dirt, pieces, piece_if}
 use Rattle.sound_laws.proofs.Pieces.{meeting, every_added, add_loose, cut_loose}
 use Rattle.sound_laws.proofs.Cuts.{cut_rectangles}
 use Rattle.sound_laws.proofs.Meetings.{meets_test, meets_from_test}
 use Rattle.grid_plane.specs.declared.memory.NoMemory.{NoMemory}
-use Rattle.dirty_area.specs.Parts.{IsDirt, IsCommon, MeetsPart}
+use Rattle.dirty_area.specs.Parts.{IsDirt, IsCommon}
 
 -- ---- one rectangle more
 pub add_dirt-held : (d : List Rectangle) (r : Rectangle) → list_any (λ s. is_within r s) d ≡ true → add_dirt d r ≡ d

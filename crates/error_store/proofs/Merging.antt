@@ -1,91 +1,62 @@
 -- Each step of a merge keeps what a merge keeps.
-use Rattle.std.proofs.Common.{◌≡◌, ◌⊎◌, inl, inr, ℕ, true, false, arith, List, [], ◌∷◌, ◌++◌, Option, Some, None, refl, sym, ◌∙◌, ap, append_assoc, Contains}
+use Rattle.std.proofs.Common.{◌≡◌, ◌⊎◌, inl, inr, ℕ, true, false, arith, List, [], ◌∷◌, ◌++◌, Option, Some, None, refl, sym, ◌∙◌, ap, append_assoc, subst, Contains}
 use Rattle.std.proofs.lemmas.Bool.{cases_Bool}
-use Rattle.std.proofs.lemmas.Bool.Decides.{nat_tests}
-use Rattle.topology_terms.specs.Entry.{Entry, entry_at, has_key, IsKeyBelow, IsAscending}
-use Rattle.sound_laws.proofs.Lists.{AllAbove, at_key, past_key, same_key}
+use Rattle.plane_terms.specs.Lists.{Every}
+use Rattle.plane_terms.proofs.ListLemmas.{every_append, every_left, every_right}
+use Rattle.topology_terms.specs.Entry.{Entry, key_of, IsBefore, by_key, entry_at, has_key, IsKeyBelow, IsAscending}
+use Rattle.sound_laws.proofs.Keyed.{after_later, none_after, last_here, ascending_left, ascending_right}
+use Rattle.sound_laws.proofs.Lists.{keys, before_back, at_key, past_key, has_parts}
 use Rattle.validation_laws.specs.Replaced.{IsRemarked, IsReplaced}
-use Rattle.validation_laws.proofs.Joining.{Lacks, none_at, every_mapped, before_second}
 use Rattle.error_store.specs.Merging.{BelowFirst, HaveSameKey, Outcome, KeyStands, IsMerging}
 
-other_key : (e f : Entry) → IsKeyBelow e f → has_key f e.rule e.subject e.other ≡ false
-other_key e f h = grind (arith, nat_tests)
-
--- a key below all has no entry
-none_below : (e : Entry) (es : List Entry) → AllAbove e es → entry_at es e.rule e.subject e.other ≡ None
-none_below e es h = none_at es e.rule e.subject e.other (every_mapped (IsKeyBelow e) (Lacks e.rule e.subject e.other) (λ f k. other_key e f k) es h)
-
-above_later : (e f : Entry) (es : List Entry) → IsKeyBelow e f → AllAbove f es → AllAbove e es
-above_later e f es h k = every_mapped (IsKeyBelow f) (IsKeyBelow e) (λ g l. below_later e f g h l) es k
-  where
-    below_later : (e f g : Entry) → IsKeyBelow e f → IsKeyBelow f g → IsKeyBelow e g
-    below_later e f g h k = grind arith
-
 -- ---- ascending lists
+abbrev AllAbove : Entry → List Entry → Type 0
+AllAbove e es = Every (IsKeyBelow e) es
 
 pub asc_right : (out es : List Entry) → IsAscending (out ++ es) → IsAscending es
-asc_right [] es h = h
-asc_right (x ∷ out) es h = asc_right out es h.1
-
-above_drop : (x : Entry) (out : List Entry) (e : Entry) (es : List Entry) → AllAbove x (out ++ e ∷ es) → AllAbove x (out ++ es)
-above_drop x [] e es h = h.1
-above_drop x (y ∷ out) e es h = (h.0, above_drop x out e es h.1)
+asc_right out es h = ascending_right by_key keys out es h
 
 pub asc_drop : (out : List Entry) (e : Entry) (es : List Entry) → IsAscending (out ++ e ∷ es) → IsAscending (out ++ es)
 asc_drop [] e es h = h.1
-asc_drop (x ∷ out) e es h = (above_drop x out e es h.0, asc_drop out e es h.1)
-
-above_at : (x : Entry) (out : List Entry) (e : Entry) (es : List Entry) → AllAbove x (out ++ e ∷ es) → IsKeyBelow x e
-above_at x [] e es h = h.0
-above_at x (y ∷ out) e es h = above_at x out e es h.1
-
-above_put : (x : Entry) (out : List Entry) (e : Entry) (fs : List Entry) → IsKeyBelow x e → AllAbove x (out ++ fs) → AllAbove x (out ++ e ∷ fs)
-above_put x [] e fs k h = (k, h)
-above_put x (y ∷ out) e fs k h = (h.0, above_put x out e fs k h.1)
+asc_drop (x ∷ out) e es h = (every_append (IsKeyBelow x) out es (every_left (IsKeyBelow x) out (e ∷ es) h.0) (every_right (IsKeyBelow x) out (e ∷ es) h.0).1, asc_drop out e es h.1)
 
 first_above : (e : Entry) (fs : List Entry) → BelowFirst e fs → IsAscending fs → AllAbove e fs
 first_above e [] h u = tt
-first_above e (f ∷ fs) h u = (h, above_later e f fs h u.0)
+first_above e (f ∷ fs) h u = (h, after_later by_key keys (key_of e) (key_of f) fs h u.0)
 
 -- an entry between both
 pub asc_put : (out : List Entry) (e : Entry) (es fs : List Entry) → IsAscending (out ++ e ∷ es) → IsAscending (out ++ fs) → BelowFirst e fs → IsAscending (out ++ e ∷ fs)
 asc_put [] e es fs h k b = (first_above e fs b k, k)
-asc_put (x ∷ out) e es fs h k b = (above_put x out e fs (above_at x out e es h.0) k.0, asc_put out e es fs h.1 k.1 b)
+asc_put (x ∷ out) e es fs h k b =
+    let P = IsKeyBelow x in
+    (every_append P out (e ∷ fs) (every_left P out fs k.0) ((every_right P out (e ∷ es) h.0).0, every_right P out fs k.0), asc_put out e es fs h.1 k.1 b)
 
 pub shift : (out : List Entry) (e : Entry) (es : List Entry) → IsAscending (out ++ e ∷ es) → IsAscending ((out ++ e ∷ []) ++ es)
 shift out e es h = rw append_assoc h
 
-key_left : (x e f : Entry) → HaveSameKey e f → IsKeyBelow x e → IsKeyBelow x f
-key_left x e f s h = grind arith
-
-key_right : (e f : Entry) (es : List Entry) → HaveSameKey e f → AllAbove e es → AllAbove f es
-key_right e f [] s h = tt
-key_right e f (x ∷ es) s h = (grind arith, key_right e f es s h.1)
-
-above_same : (x : Entry) (out : List Entry) (e f : Entry) (es : List Entry) → HaveSameKey e f → AllAbove x (out ++ e ∷ es) → AllAbove x (out ++ f ∷ es)
-above_same x [] e f es s h = (key_left x e f s h.0, h.1)
-above_same x (y ∷ out) e f es s h = (h.0, above_same x out e f es s h.1)
+one_key : (e f : Entry) → HaveSameKey e f → key_of e ≡ key_of f
+one_key e f s = rw (s.0, s.1, s.2) refl
 
 -- an entry of the same key
 pub asc_same : (out : List Entry) (e f : Entry) (es : List Entry) → HaveSameKey e f → IsAscending (out ++ e ∷ es) → IsAscending (out ++ f ∷ es)
-asc_same [] e f es s h = (key_right e f es s h.0, h.1)
-asc_same (x ∷ out) e f es s h = (above_same x out e f es s h.0, asc_same out e f es s h.1)
+asc_same [] e f es s h = (subst (λ k. Every (λ (x : Entry). IsBefore k (key_of x)) es) (one_key e f s) h.0, h.1)
+asc_same (x ∷ out) e f es s h =
+    let P = IsKeyBelow x in
+    let behind = every_right P out (e ∷ es) h.0 in
+    (every_append P out (f ∷ es) (every_left P out (e ∷ es) h.0) (subst (λ k. IsBefore (key_of x) k) (one_key e f s) behind.0, behind.1), asc_same out e f es s h.1)
 
 -- ---- look-ups
 
 at_push_other : (out : List Entry) (e : Entry) (r a b : ℕ) → has_key e r a b ≡ false → entry_at (out ++ e ∷ []) r a b ≡ entry_at out r a b
-at_push_other out e r a b t = before_second out (e ∷ []) r a b (t, tt)
+at_push_other out e r a b t = before_back out (e ∷ []) r a b (t, tt)
 
 at_push_here : (out : List Entry) (e : Entry) (r a b : ℕ) → has_key e r a b ≡ true → entry_at out r a b ≡ None → entry_at (out ++ e ∷ []) r a b ≡ Some e
 unfolding entry_at
-at_push_here [] e r a b t n = at_key e [] r a b t
-at_push_here (x ∷ out) e r a b t n = elim (cases_Bool (has_key x r a b)) [
-  | inl u ↦ let l = at_key x out r a b u in cc
-  | inr u ↦ past_key x (out ++ e ∷ []) r a b u ∙ at_push_here out e r a b t (sym (past_key x out r a b u) ∙ n)
-]
+at_push_here out e r a b t n = last_here by_key keys out e (r, a, b) t n
 
 none_past : (e : Entry) (es : List Entry) (r a b : ℕ) → has_key e r a b ≡ true → AllAbove e es → entry_at es r a b ≡ None
-none_past e es r a b t h = let z = same_key e r a b t in rw (← z.0, ← z.1, ← z.2) (none_below e es h)
+unfolding entry_at
+none_past e es r a b t h = none_after by_key keys (r, a, b) es (subst (λ k. Every (λ (x : Entry). IsBefore k (key_of x)) es) (keys.tells (key_of e) (r, a, b) t) h)
 
 -- ---- one step
 
@@ -110,7 +81,7 @@ step_old sel old0 fresh0 out old fresh e m b c =
       above_fresh = shift out e fresh (asc_put out e old fresh m.above_old m.above_fresh b);
       keys = λ r a k. elim (cases_Bool (has_key e r a k)) [
         | inl t ↦
-            let z = same_key e r a k t in
+            let z = has_parts e r a k t in
             let nf = none_past e fresh r a k t (first_above e fresh b fs) in
             done sel a _ _ _ _ _ _ _ _ e (inl (at_key e old r a k t)) (none_past e old r a k t u.0) nf
             (λ n. record { kept = λ x. at_push_here out e r a k t n ∙ sym (at_key e old r a k t); came = λ x. absurd (c (rw z.1 x)) })
@@ -128,7 +99,7 @@ step_gone sel old0 fresh0 out old fresh e m b c =
       above_fresh = m.above_fresh;
       keys = λ r a k. elim (cases_Bool (has_key e r a k)) [
         | inl t ↦
-            let z = same_key e r a k t in
+            let z = has_parts e r a k t in
             let nf = none_past e fresh r a k t (first_above e fresh b fs) in
             done sel a _ _ _ _ _ _ _ _ e (inl (at_key e old r a k t)) (none_past e old r a k t u.0) nf
             (λ n. record { kept = λ x. absurd (x (rw z.1 at c)); came = λ x. rw (nf, n) tt })
@@ -150,7 +121,7 @@ step_fresh sel old0 fresh0 out old fresh e m b c w =
       above_old = shift out e old (asc_put out e fresh old m.above_fresh m.above_old b);
       keys = λ r a k. elim (cases_Bool (has_key e r a k)) [
         | inl t ↦
-            let z = same_key e r a k t in
+            let z = has_parts e r a k t in
             let no = none_past e old r a k t (first_above e old b os) in
             done sel a _ _ (entry_at old r a k) (entry_at (e ∷ fresh) r a k) (entry_at out r a k) _ _ (entry_at (out ++ e ∷ []) r a k) e (inr (at_key e fresh r a k t)) no (none_past e fresh r a k t u.0)
             (λ n. record { kept = λ x. absurd (x (rw z.1 at c)); came = λ x. rw (no, at_key e fresh r a k t, at_push_here out e r a k t n) (self_remarked e w) })
@@ -176,7 +147,7 @@ step_both sel old0 fresh0 out old fresh e f n m s c h =
       above_fresh = shift out n fresh (asc_same out f n fresh g m.above_fresh);
       keys = λ r a k. elim (cases_Bool (has_key f r a k)) [
         | inl t ↦
-            let z = same_key f r a k t in
+            let z = has_parts f r a k t in
             let te = sym (has_same e f r a k s) ∙ t in
             let tn = has_same f n r a k g ∙ t in
             done sel a _ _ (entry_at (e ∷ old) r a k) (entry_at (f ∷ fresh) r a k) (entry_at out r a k) _ _ (entry_at (out ++ n ∷ []) r a k) f (inr (at_key f fresh r a k t)) (none_past e old r a k te u.0) (none_past f fresh r a k t v.0)
@@ -209,9 +180,4 @@ merge_ends sel old fresh out m = record {
 }
 
 pub asc_left : (out es : List Entry) → IsAscending (out ++ es) → IsAscending out
-asc_left [] es h = tt
-asc_left (x ∷ out) es h = (above_left x out es h.0, asc_left out es h.1)
-  where
-    above_left : (x : Entry) (out es : List Entry) → AllAbove x (out ++ es) → AllAbove x out
-    above_left x [] es h = tt
-    above_left x (y ∷ out) es h = (h.0, above_left x out es h.1)
+asc_left out es h = ascending_left by_key keys out es h

@@ -1,15 +1,10 @@
 -- The steps of a merge, in the form of the calls that make them.
 use Rattle.std.proofs.Common.{◌≡◌, inl, inr, ℕ, true, false, List, [], ◌∷◌, ◌++◌, Option, Some, sym, ◌∙◌, Contains, arith}
-use Rattle.std.proofs.lemmas.Bool.Decides.{nat_tests}
-use Rattle.topology_terms.specs.Entry.{Entry, has_key}
-use Rattle.sound_laws.proofs.Lists.{at_key}
+use Rattle.topology_terms.specs.Entry.{Entry, key_of}
+use Rattle.sound_laws.proofs.Lists.{keys, at_key, every_found}
 use Rattle.validation_laws.specs.Replaced.{IsRemarked, IsNewOf, AreFresh}
-use Rattle.validation_laws.proofs.Joining.{every_found}
 use Rattle.error_store.specs.Merging.{KeyStands, IsMerging, OldFirst, BothFirst}
 use Rattle.error_store.proofs.Merging.{step_old, step_gone, step_fresh, step_both}
-
-own_key : (e : Entry) → has_key e e.rule e.subject e.other ≡ true
-own_key e = grind (arith, nat_tests)
 
 first_same : {X : Type 0} (x y : X) (xs ys zs : List X) → zs ≡ x ∷ xs → zs ≡ y ∷ ys → (x ≡ y) × (xs ≡ ys)
 first_same x y xs ys zs h k = let e : x ∷ xs ≡ y ∷ ys = sym h ∙ k in (cc, cc)
@@ -32,7 +27,7 @@ still sel a o0 f0 o f n e t h = elim h [ inl u ↦ sym u.2 ∙ t | inr u ↦ abs
 -- the first fresh entry that is left is fresh
 pub fresh_first : (sel old0 fresh0 out old rest : List _) (e : Entry) → AreFresh sel fresh0 → IsMerging sel old0 fresh0 out old (e ∷ rest) → Contains sel e.subject × (e.marked ≡ false)
 fresh_first sel old0 fresh0 out old rest e u m =
-    let k = still sel e.subject _ _ _ _ _ e (at_key e rest e.rule e.subject e.other (own_key e)) (m.keys e.rule e.subject e.other) in
+    let k = still sel e.subject _ _ _ _ _ e (at_key e rest e.rule e.subject e.other (keys.own (key_of e))) (m.keys e.rule e.subject e.other) in
     let new = every_found (IsNewOf sel) fresh0 e.rule e.subject e.other e u k in
     (new.chosen, new.unmarked)
 

@@ -1,25 +1,54 @@
 -- What every store keeps is kept as a class or a feature comes.
 use Rattle.std.proofs.Common.{ℕ, zero, suc, ◌≡◌, ◌≢◌, ◌<◌, ◌≤◌, ◌+◌, ◌-◌, Bool, true, false, List, [], ◌∷◌, ◌++◌, length, refl, sym, ◌∙◌, ap, arith, Option, Some, None, length-append, eqb}
+use Rattle.std.proofs.lemmas.Bool.Decides.{nat_tests}
 use Rattle.std.proofs.lemmas.Slice.Eq.{bytes_eq-Decides}
-use Rattle.std.specs.Prelude.{bytes_eq, is_some, slice_get, if◌then◌else◌}
+use Rattle.std.specs.Prelude.{bytes_eq, is_none, is_some, not, slice_get, if◌then◌else◌}
 use Rattle.std.specs.Option.{option_map, IfSome}
 use Rattle.plane_terms.specs.Lists.{Every, EveryPair}
 use Rattle.plane_terms.specs.declared.kind.Kind.{Kind}
-use Rattle.topology_terms.specs.Feature.{Class, Feature, feature_at}
-use Rattle.sound_laws.proofs.FeatureLists.{at_handle, past_handle, handle_of}
-use Rattle.topology_terms.specs.Lookups.{number_from}
-use Rattle.feature_store.specs.Stored.{class_at}
+use Rattle.plane_terms.specs.declared.kind.Kind.TheVariants as kind
+use Rattle.topology_terms.specs.Feature.{Class, Feature, by_handle, feature_at}
+use Rattle.plane_terms.proofs.ListLemmas.{every_append, every_map}
+use Rattle.sound_laws.proofs.Keyed.{ascending_last}
+use Rattle.sound_laws.proofs.FeatureLists.{handles, handle_of}
+use Rattle.sound_laws.proofs.FeatureLists.{live_each as each_live}
+use Rattle.topology_terms.specs.Lookups.{class_at, number_from, kind_of_class}
+use Rattle.topology_terms.specs.Causes.{when, first_of, same_kind, is_kind, class_cause, add_cause}
+use Rattle.topology_terms.specs.declared.cause.Cause.TheVariants as cause
 use Rattle.feature_store.specs.Keeps.{IsOfClass, IsGiven, HasSimpleSides, AreUnlike, IsStore}
-use Rattle.feature_store.specs.Changes.{IsTaken, HasKind}
-use Rattle.feature_store.proofs.Lists.{every_join, ascending_join}
 
-pub taken : (cs : List Class) (name : List ℕ) (r : Option ℕ) → r ≡ number_from 1 cs name → is_some r ≡ true → IsTaken cs name
-taken cs name None e t = cc
-taken cs name (Some n) e t = record { number = n; taken = sym e }
+-- ---- the tests of kinds
+pub kinds_same : (k l : Kind) → same_kind k l ≡ true → k ≡ l
+kinds_same kind.Point kind.Point e = refl
+kinds_same kind.Point kind.Line e = cc
+kinds_same kind.Point kind.Polygon e = cc
+kinds_same kind.Line kind.Point e = cc
+kinds_same kind.Line kind.Line e = refl
+kinds_same kind.Line kind.Polygon e = cc
+kinds_same kind.Polygon kind.Point e = cc
+kinds_same kind.Polygon kind.Line e = cc
+kinds_same kind.Polygon kind.Polygon e = refl
 
+-- ---- what may be added
 pub none_of : (o : Option ℕ) → is_some o ≡ false → o ≡ None
 none_of None e = refl
 none_of (Some n) e = cc
+
+-- what may be added fits its class, and has a handle
+pub fits_class : (cs : List Class) (next n : ℕ) (k : Kind) → add_cause cs next n k ≡ None → (kind_of_class cs n ≡ Some k) × (next ≢ 4294967295)
+fits_class cs next n k e = by (kind_of_class cs n) refl e
+  where
+    last : (t : Bool) → eqb next 4294967295 ≡ t → first_of (when t cause.HandlesSpent ∷ []) ≡ None → next ≢ 4294967295
+    last true w h = cc
+    last false w h = λ s. let t : eqb next 4294967295 ≡ true = grind (arith, nat_tests) in cc
+
+    same : (l : Kind) (t : Bool) → same_kind l k ≡ t → first_of (when (not t) cause.WrongKind ∷ when (eqb next 4294967295) cause.HandlesSpent ∷ []) ≡ None → (Some l ≡ Some k) × (next ≢ 4294967295)
+    same l true w h = (ap (λ m. Some m) (kinds_same l k w), last (eqb next 4294967295) refl h)
+    same l false w h = cc
+
+    by : (o : Option Kind) → kind_of_class cs n ≡ o → first_of (when (is_none o) cause.NoClass ∷ when (not (is_kind o k)) cause.WrongKind ∷ when (eqb next 4294967295) cause.HandlesSpent ∷ []) ≡ None → (o ≡ Some k) × (next ≢ 4294967295)
+    by None w h = cc
+    by (Some l) w h = same l (same_kind l k) refl h
 
 -- ---- a class more
 -- none of these classes has the name
@@ -31,29 +60,31 @@ unnamed n (c ∷ cs) name d same e = by (bytes_eq c.name name) refl e (λ k. unn
     by true w h rest = cc
     by false w h rest = ((λ k. let one : bytes_eq c.name name ≡ true = (bytes_eq-Decides c.name name).1 (k ∙ same) in cc), rest h)
 
-every_end : (P : Class → Type 0) (cs : List Class) (d : Class) → Every P cs → P d → Every P (cs ++ d ∷ [])
-every_end P [] d h p = (p, tt)
-every_end P (c ∷ cs) d h p = (h.0, every_end P cs d h.1 p)
-
 pairs_end : (cs : List Class) (d : Class) → EveryPair AreUnlike cs → Every (λ (c : Class). AreUnlike c d) cs → EveryPair AreUnlike (cs ++ d ∷ [])
 pairs_end [] d h p = (tt, tt)
-pairs_end (c ∷ cs) d h p = (every_end (AreUnlike c) cs d h.0 p.0, pairs_end cs d h.1 p.1)
+pairs_end (c ∷ cs) d h p = (every_append (AreUnlike c) cs (d ∷ []) h.0 (p.0, tt), pairs_end cs d h.1 p.1)
 
 get_end : (cs : List Class) (d c : Class) (i : ℕ) → slice_get cs i ≡ Some c → slice_get (cs ++ d ∷ []) i ≡ Some c
 get_end [] d c i e = cc
 get_end (b ∷ cs) d c zero e = e
 get_end (b ∷ cs) d c (suc i) e = get_end cs d c i e
 
-class_end : (cs : List Class) (d c : Class) (n : ℕ) → class_at cs n ≡ Some c → class_at (cs ++ d ∷ []) n ≡ Some c
+pub class_end : (cs : List Class) (d c : Class) (n : ℕ) → class_at cs n ≡ Some c → class_at (cs ++ d ∷ []) n ≡ Some c
 class_end cs d c n e = by (eqb n 0) e
   where
     by : (t : Bool) → (if t then None else slice_get cs (n - 1)) ≡ Some c → (if t then None else slice_get (cs ++ d ∷ []) (n - 1)) ≡ Some c
     by true h = h
     by false h = get_end cs d c (n - 1) h
 
+pub kind_end : (cs : List Class) (d : Class) (n : ℕ) (k : Kind) → kind_of_class cs n ≡ Some k → kind_of_class (cs ++ d ∷ []) n ≡ Some k
+kind_end cs d n k e = by (class_at cs n) refl e
+  where
+    by : (o : Option Class) → class_at cs n ≡ o → option_map (λ (c : Class). c.kind) o ≡ Some k → kind_of_class (cs ++ d ∷ []) n ≡ Some k
+    by None w h = cc
+    by (Some c) w h = rw (class_end cs d c n w) h
+
 kinds_end : (cs : List Class) (d : Class) (F : List Feature) → Every (IsOfClass cs) F → Every (IsOfClass (cs ++ d ∷ [])) F
-kinds_end cs d [] h = tt
-kinds_end cs d (f ∷ F) h = (record { class = h.0.class; there = class_end cs d h.0.class f.class h.0.there; kind = h.0.kind }, kinds_end cs d F h.1)
+kinds_end cs d F h = every_map (IsOfClass cs) (IsOfClass (cs ++ d ∷ [])) (λ f k. kind_end cs d f.class f.shape.kind k) F h
 
 pub class_kept : (cs : List Class) (F : List Feature) (next : ℕ) (d : Class) (name : List ℕ) → d.name ≡ name → number_from 1 cs name ≡ None → length cs ≢ 64 → IsStore cs F next → IsStore (cs ++ d ∷ []) F next
 class_kept cs F next d name same free some_left s = record {
@@ -67,13 +98,11 @@ class_kept cs F next d name same free some_left s = record {
 }
 
 -- ---- a feature more
-below_next : (next : ℕ) (F : List Feature) → Every (IsGiven next) F → Every (λ (f : Feature). f.handle < next) F
-below_next next [] h = tt
-below_next next (f ∷ F) h = (h.0.before, below_next next F h.1)
+pub below_next : (next : ℕ) (F : List Feature) → Every (IsGiven next) F → Every (λ (f : Feature). f.handle < next) F
+below_next next F h = every_map (IsGiven next) (λ (f : Feature). f.handle < next) (λ f k. k.before) F h
 
 pub given_later : (next later : ℕ) (F : List Feature) → next ≤ later → Every (IsGiven next) F → Every (IsGiven later) F
-given_later next later [] upto h = tt
-given_later next later (f ∷ F) upto h = (record { from_1 = h.0.from_1; before = let b = h.0.before in omega arith }, given_later next later F upto h.1)
+given_later next later F upto h = every_map (IsGiven next) (IsGiven later) (λ f k. record { from_1 = k.from_1; before = let b = k.before in omega arith }) F h
 
 pub feature_kept : (cs : List Class) (F : List Feature) (next : ℕ) (f : Feature) → f.handle ≡ next → IsOfClass cs f → HasSimpleSides f → IsStore cs F next → IsStore cs (F ++ f ∷ []) (next + 1)
 feature_kept cs F next f same of_class simple s =
@@ -81,25 +110,12 @@ feature_kept cs F next f same of_class simple s =
     record {
       few = s.few;
       names = s.names;
-      ascending = ascending_join next F (f ∷ []) s.ascending (tt, tt) (below_next next F s.given) (omega arith, tt);
-      given = every_join (IsGiven (next + 1)) F (f ∷ []) (given_later next (next + 1) F (omega arith) s.given) (record { from_1 = omega arith; before = omega arith }, tt);
-      kinds = every_join (IsOfClass cs) F (f ∷ []) s.kinds (of_class, tt);
-      simple = every_join HasSimpleSides F (f ∷ []) s.simple (simple, tt);
+      ascending = ascending_last by_handle handles F f s.ascending (rw same (below_next next F s.given));
+      given = every_append (IsGiven (next + 1)) F (f ∷ []) (given_later next (next + 1) F (omega arith) s.given) (record { from_1 = omega arith; before = omega arith }, tt);
+      kinds = every_append (IsOfClass cs) F (f ∷ []) s.kinds (of_class, tt);
+      simple = every_append HasSimpleSides F (f ∷ []) s.simple (simple, tt);
       from_1 = omega arith;
     }
-
--- the class of the kind that was found
-pub of_kind : (cs : List Class) (n : ℕ) (k : Kind) → Some k ≡ option_map (λ (c : Class). c.kind) (class_at cs n) → HasKind cs n k
-of_kind cs n k e = by (class_at cs n) refl e
-  where
-    by : (o : Option Class) → class_at cs n ≡ o → Some k ≡ option_map (λ (c : Class). c.kind) o → HasKind cs n k
-    by None w h = cc
-    by (Some c) w h = record { class = c; there = w; kind = cc }
-
-pub of_class : (cs : List Class) (f : Feature) (n : ℕ) (k : Kind) → f.class ≡ n → f.shape.kind ≡ k → Some k ≡ option_map (λ (c : Class). c.kind) (class_at cs n) → IsOfClass cs f
-of_class cs f n k same kind e =
-    let h = of_kind cs n k e in
-    record { class = h.class; there = ap (class_at cs) same ∙ h.there; kind = kind ∙ h.kind }
 
 -- ---- a live feature
 pub live_own : (F : List Feature) (h : ℕ) → IfSome (feature_at F h) (λ (f : Feature). f.handle ≡ h)
@@ -109,14 +125,9 @@ live_own F h = by (feature_at F h) refl
     by None e = tt
     by (Some f) e = handle_of F h f e
 
-none_in : (h : ℕ) → feature_at [] h ≡ None
-unfolding feature_at
-none_in h = refl
-
 pub live_each : (P : Feature → Type 0) (F : List Feature) (h : ℕ) → Every P F → IfSome (feature_at F h) P
-live_each P [] h all = rw (none_in h) tt
-live_each P (f ∷ F) h all = by (eqb f.handle h) refl (live_each P F h all.1)
+live_each P F h all = by (feature_at F h) refl
   where
-    by : (t : Bool) → eqb f.handle h ≡ t → IfSome (feature_at F h) P → IfSome (feature_at (f ∷ F) h) P
-    by true e rest = rw (at_handle f F h e) all.0
-    by false e rest = rw (past_handle f F h e) rest
+    by : (o : Option Feature) → feature_at F h ≡ o → IfSome o P
+    by None e = tt
+    by (Some f) e = each_live P F h f all e

@@ -6,27 +6,22 @@ use Rattle.std.specs.Prelude.{slice_get}
 use Rattle.std.specs.List.{AllWithin}
 use Rattle.std.specs.List.Sorted.{IsNonDecreasingBy, IsPartitionPoint}
 use Rattle.plane_terms.specs.Lists.{Every}
-use Rattle.topology_terms.specs.Feature.{Feature, feature_at, IsSetAt, IsAscending}
+use Rattle.topology_terms.specs.Feature.{Feature, by_handle, feature_at, IsSetAt, IsAscending}
 use Rattle.std.proofs.lemmas.List.{take-append-drop}
-use Rattle.sound_laws.proofs.FeatureLists.{at_handle, past_handle}
+use Rattle.plane_terms.proofs.ListLemmas.{every_append, every_left, every_right, every_at}
+use Rattle.sound_laws.proofs.Keyed as keyed
+use Rattle.sound_laws.proofs.Keyed.{after_later}
+use Rattle.sound_laws.proofs.FeatureLists.{handles}
 use Rattle.std.specs.Option.{option_to_list, IfSome}
 use Rattle.feature_store.specs.Places.{IsPlace, IsHere, IsGap}
 
 -- ---- the order, as std has it
-after_all : (f : Feature) (F : List Feature) → Every (λ (g : Feature). f.handle < g.handle) F → (j : ℕ) (d : Feature) → j < length F → f.handle ≤ (get_or F j d).handle
-after_all f [] h j d short = absurd (omega arith)
-after_all f (g ∷ F) h zero d short = omega (arith, h.0)
-after_all f (g ∷ F) h (suc j) d short = after_all f F h.1 j d (omega arith)
-
-rises : (f : Feature) (F : List Feature) → ((j : ℕ) (d : Feature) → j < length F → f.handle ≤ (get_or F j d).handle) → IsNonDecreasingBy (λ (g : Feature). g.handle) F → (i j : ℕ) (d : Feature) → i ≤ j → j < length (f ∷ F) → (get_or (f ∷ F) i d).handle ≤ (get_or (f ∷ F) j d).handle
-rises f F first rest zero zero d upto short = omega arith
-rises f F first rest zero (suc j) d upto short = first j d (omega arith)
-rises f F first rest (suc i) zero d upto short = absurd (omega arith)
-rises f F first rest (suc i) (suc j) d upto short = rest i j d (omega arith) (omega arith)
-
 pub rising : (F : List Feature) → IsAscending F → IsNonDecreasingBy (λ (g : Feature). g.handle) F
-rising [] u = λ i j d upto short. absurd (omega arith)
-rising (f ∷ F) u = rises f F (after_all f F u.0) (rising F u.1)
+rising [] u i j d upto short = absurd (omega arith)
+rising (f ∷ F) u zero zero d upto short = omega arith
+rising (f ∷ F) u zero (suc j) d upto short = let l = every_at (λ (g : Feature). f.handle < g.handle) F j d u.0 (omega arith) in omega arith
+rising (f ∷ F) u (suc i) zero d upto short = absurd (omega arith)
+rising (f ∷ F) u (suc i) (suc j) d upto short = rising F u.1 i j d (omega arith) (omega arith)
 
 within_rest : (P : Feature → Type 0) (x : Feature) (xs : List Feature) (low high : ℕ) → AllWithin P (x ∷ xs) (suc low) (suc high) → AllWithin P xs low high
 within_rest P x xs low high h = λ k d l u. h (suc k) d (omega arith) (omega arith)
@@ -51,11 +46,7 @@ placed t F i within h = record { within = within; before = front t F i h.0 withi
 
 -- ---- what stands at a place
 head_above : (h : ℕ) (f : Feature) (F : List Feature) → IsAscending (f ∷ F) → h ≤ f.handle → f.handle ≢ h → Every (λ (g : Feature). h < g.handle) (f ∷ F)
-head_above h f F u least other = (omega arith, all_above F u.0)
-  where
-    all_above : (G : List Feature) → Every (λ (g : Feature). f.handle < g.handle) G → Every (λ (g : Feature). h < g.handle) G
-    all_above [] k = tt
-    all_above (g ∷ G) k = (omega (arith, k.0), all_above G k.1)
+head_above h f F u least other = let l : h < f.handle = omega arith in (l, after_later by_handle handles h f.handle F l u.0)
 
 pub ascending_drop : (i : ℕ) (F : List Feature) → IsAscending F → IsAscending (drop i F)
 ascending_drop zero F u = u
@@ -81,61 +72,26 @@ pub here : (h : ℕ) (F : List Feature) (i : ℕ) (f : Feature) → IsPlace h F 
 here h F i f p below is same = record { place = p; feature = f; rest = rw add-one (drop-cons F i f below ∙ ap (λ g. g ∷ drop (suc i) F) (sym is)); handle = same }
 
 -- ---- a list in three parts
-pub record IsSplit (h : ℕ) (pre : List Feature) (middle : Option Feature) (post : List Feature) : Type 0 where
-  pub before : Every (λ (f : Feature). f.handle < h) pre
-  pub own : IfSome middle (λ (f : Feature). f.handle ≡ h)
-  pub above : Every (λ (f : Feature). h < f.handle) post
+abbrev pub IsSplit : ℕ → List Feature → Option Feature → List Feature → Type 0
+IsSplit h pre middle post = keyed.IsSplit by_handle handles h pre middle post
 
 abbrev pub joined : List Feature → Option Feature → List Feature → List Feature
 joined pre middle post = pre ++ (option_to_list middle ++ post)
 
-is_own : (m h : ℕ) → m ≡ h → eqb m h ≡ true
-is_own m h e = grind (arith, nat_tests)
-
-is_other : (m h : ℕ) → m ≢ h → eqb m h ≡ false
-is_other m h e = grind (arith, nat_tests)
-
-none_above : (h : ℕ) (F : List Feature) → Every (λ (g : Feature). h < g.handle) F → feature_at F h ≡ None
-unfolding feature_at
-none_above h [] k = refl
-none_above h (f ∷ F) k = past_handle f F h (is_other f.handle h (λ e. let l = k.0 in omega arith)) ∙ none_above h F k.1
-
 pub split_here : (h : ℕ) (pre : List Feature) (middle : Option Feature) (post : List Feature) → IsSplit h pre middle post → feature_at (joined pre middle post) h ≡ middle
-split_here h [] None post s = none_above h post s.above
-split_here h [] (Some f) post s = at_handle f post h (is_own f.handle h s.own)
-split_here h (x ∷ pre) middle post s =
-    past_handle x (joined pre middle post) h (is_other x.handle h (λ e. let l = s.before.0 in omega arith)) ∙ split_here h pre middle post (record { before = s.before.1; own = s.own; above = s.above })
-
-split_other : (h : ℕ) (pre : List Feature) (middle : Option Feature) (post : List Feature) (k : ℕ) → IfSome middle (λ (f : Feature). f.handle ≡ h) → k ≢ h → feature_at (joined pre middle post) k ≡ feature_at (pre ++ post) k
-split_other h [] None post k own n = refl
-split_other h [] (Some f) post k own n = past_handle f post k (is_other f.handle k (λ e. n (sym e ∙ own)))
-split_other h (x ∷ pre) middle post k own n = by (eqb x.handle k) refl (split_other h pre middle post k own n)
-  where
-    by : (t : Bool) → eqb x.handle k ≡ t → feature_at (joined pre middle post) k ≡ feature_at (pre ++ post) k → feature_at (x ∷ joined pre middle post) k ≡ feature_at (x ∷ (pre ++ post)) k
-    by true e rest = at_handle x (joined pre middle post) k e ∙ sym (at_handle x (pre ++ post) k e)
-    by false e rest = past_handle x (joined pre middle post) k e ∙ (rest ∙ sym (past_handle x (pre ++ post) k e))
+unfolding feature_at
+split_here h pre middle post s = keyed.split_here by_handle handles h pre middle post s
 
 pub set_between : (h : ℕ) (pre post : List Feature) (before after : Option Feature) → IsSplit h pre before post → IsSplit h pre after post → IsSetAt h after (joined pre before post) (joined pre after post)
+unfolding feature_at
 set_between h pre post before after s t = record {
   here = split_here h pre after post t;
-  others = λ k n. split_other h pre after post k t.own n ∙ sym (split_other h pre before post k s.own n);
+  others = λ k n. keyed.set_other by_handle handles h pre post before after s t k n;
 }
 
 -- ---- facts of each element, and the order
-every_left : (P : Feature → Type 0) (xs ys : List Feature) → Every P (xs ++ ys) → Every P xs
-every_left P [] ys h = tt
-every_left P (x ∷ xs) ys h = (h.0, every_left P xs ys h.1)
-
-every_right : (P : Feature → Type 0) (xs ys : List Feature) → Every P (xs ++ ys) → Every P ys
-every_right P [] ys h = h
-every_right P (x ∷ xs) ys h = every_right P xs ys h.1
-
-pub every_join : (P : Feature → Type 0) (xs ys : List Feature) → Every P xs → Every P ys → Every P (xs ++ ys)
-every_join P [] ys h k = k
-every_join P (x ∷ xs) ys h k = (h.0, every_join P xs ys h.1 k)
-
 pub every_set : (P : Feature → Type 0) (pre post : List Feature) (before after : Option Feature) → Every P (joined pre before post) → IfSome after P → Every P (joined pre after post)
-every_set P pre post before after h k = every_join P pre (option_to_list after ++ post) (every_left P pre (option_to_list before ++ post) h) (new after k)
+every_set P pre post before after h k = every_append P pre (option_to_list after ++ post) (every_left P pre (option_to_list before ++ post) h) (new after k)
   where
     rest : Every P post
     rest = every_right P (option_to_list before) post (every_right P pre (option_to_list before ++ post) h)
@@ -144,39 +100,8 @@ every_set P pre post before after h k = every_join P pre (option_to_list after +
     new None k = rest
     new (Some f) k = (k, rest)
 
-ascending_left : (xs ys : List Feature) → IsAscending (xs ++ ys) → IsAscending xs
-ascending_left [] ys u = tt
-ascending_left (x ∷ xs) ys u = (every_left (λ (g : Feature). x.handle < g.handle) xs ys u.0, ascending_left xs ys u.1)
-
-ascending_right : (xs ys : List Feature) → IsAscending (xs ++ ys) → IsAscending ys
-ascending_right [] ys u = u
-ascending_right (x ∷ xs) ys u = ascending_right xs ys u.1
-
-higher : (m n : ℕ) (F : List Feature) → m < n → Every (λ (g : Feature). n ≤ g.handle) F → Every (λ (g : Feature). m < g.handle) F
-higher m n [] l h = tt
-higher m n (f ∷ F) l h = (omega (arith, h.0), higher m n F l h.1)
-
-pub ascending_join : (h : ℕ) (xs ys : List Feature) → IsAscending xs → IsAscending ys → Every (λ (f : Feature). f.handle < h) xs → Every (λ (f : Feature). h ≤ f.handle) ys → IsAscending (xs ++ ys)
-ascending_join h [] ys u v b a = v
-ascending_join h (x ∷ xs) ys u v b a = (every_join (λ (g : Feature). x.handle < g.handle) xs ys u.0 (higher x.handle h ys b.0 a), ascending_join h xs ys u.1 v b.1 a)
-
-at_least : (h : ℕ) (F : List Feature) → Every (λ (f : Feature). h < f.handle) F → Every (λ (f : Feature). h ≤ f.handle) F
-at_least h [] k = tt
-at_least h (f ∷ F) k = (omega (arith, k.0), at_least h F k.1)
-
 pub ascending_set : (h : ℕ) (pre post : List Feature) (before after : Option Feature) → IsAscending (joined pre before post) → IsSplit h pre after post → IsAscending (joined pre after post)
-ascending_set h pre post before after u s = ascending_join h pre (option_to_list after ++ post) (ascending_left pre (option_to_list before ++ post) u) (new after s.own) s.before (least after s.own)
-  where
-    rest : IsAscending post
-    rest = ascending_right (option_to_list before) post (ascending_right pre (option_to_list before ++ post) u)
-
-    new : (a : Option Feature) → IfSome a (λ (f : Feature). f.handle ≡ h) → IsAscending (option_to_list a ++ post)
-    new None own = rest
-    new (Some f) own = (subst (λ n. Every (λ (g : Feature). n < g.handle) post) (sym own) s.above, rest)
-
-    least : (a : Option Feature) → IfSome a (λ (f : Feature). f.handle ≡ h) → Every (λ (f : Feature). h ≤ f.handle) (option_to_list a ++ post)
-    least None own = at_least h post s.above
-    least (Some f) own = (omega (arith, own), at_least h post s.above)
+ascending_set h pre post before after u s = keyed.ascending_set by_handle handles h pre post before after u s
 
 -- ---- one element written
 written_at : (F : List Feature) (i : ℕ) (f : Feature) → i < length F → slice_set F i f ≡ take i F ++ (f ∷ drop (suc i) F)
@@ -194,13 +119,13 @@ here_list h F i p = sym (take-append-drop i F) ∙ ap (λ G. take i F ++ G) p.re
 here_split : (h : ℕ) (F : List Feature) (i : ℕ) (p : IsHere h F i) → IsAscending F → IsSplit h (take i F) (Some p.feature) (drop (i + 1) F)
 here_split h F i p u =
     let v = subst IsAscending p.rest (ascending_drop i F u) in
-    record { before = p.place.before; own = p.handle; above = subst (λ n. Every (λ (g : Feature). n < g.handle) (drop (i + 1) F)) p.handle v.0 }
+    record { before = p.place.before; own = p.handle; after = subst (λ n. Every (λ (g : Feature). n < g.handle) (drop (i + 1) F)) p.handle v.0 }
 
 gap_list : (F : List Feature) (i : ℕ) → F ≡ joined (take i F) None (drop i F)
 gap_list F i = sym (take-append-drop i F)
 
 gap_split : (h : ℕ) (F : List Feature) (i : ℕ) → IsGap h F i → IsSplit h (take i F) None (drop i F)
-gap_split h F i p = record { before = p.place.before; own = tt; above = p.above }
+gap_split h F i p = record { before = p.place.before; own = tt; after = p.above }
 
 pub found_feature : (h : ℕ) (F : List Feature) (i : ℕ) (p : IsHere h F i) → IsAscending F → feature_at F h ≡ Some p.feature
 found_feature h F i p u = ap (λ G. feature_at G h) (here_list h F i p) ∙ split_here h (take i F) (Some p.feature) (drop (i + 1) F) (here_split h F i p u)
@@ -246,12 +171,12 @@ exchange_here h F G i before after p u own is g =
     let both : p.feature ∷ drop (i + 1) F ≡ get_or F i p.feature ∷ drop (suc i) F = sym p.rest ∙ cons in
     let same : get_or F i p.feature ≡ p.feature = cc in
     let there : Some p.feature ≡ before = sym (slice_get-get_or F i p.feature below ∙ ap Some same) ∙ sym is in
-    subst (λ b. IsExchange h b after F G) there (exchange_of h (take i F) (drop (i + 1) F) (Some p.feature) after F G (here_list h F i p) g s (record { before = s.before; own = own; above = s.above }) u)
+    subst (λ b. IsExchange h b after F G) there (exchange_of h (take i F) (drop (i + 1) F) (Some p.feature) after F G (here_list h F i p) g s (record { before = s.before; own = own; after = s.after }) u)
 
 pub exchange_gap : (h : ℕ) (F G : List Feature) (i : ℕ) (after : Option Feature) → IsGap h F i → IsAscending F → IfSome after (λ (f : Feature). f.handle ≡ h) → G ≡ take i F ++ (option_to_list after ++ drop i F) → IsExchange h None after F G
 exchange_gap h F G i after p u own g =
     let s = gap_split h F i p in
-    exchange_of h (take i F) (drop i F) None after F G (gap_list F i) g s (record { before = s.before; own = own; above = s.above }) u
+    exchange_of h (take i F) (drop i F) None after F G (gap_list F i) g s (record { before = s.before; own = own; after = s.after }) u
 
 pub each_here : (P : Feature → Type 0) (h : ℕ) (F G : List Feature) (i : ℕ) (after : Option Feature) → IsHere h F i → Every P F → IfSome after P → G ≡ take i F ++ (option_to_list after ++ drop (i + 1) F) → Every P G
 each_here P h F G i after p all new g = subst (Every P) (sym g) (every_set P (take i F) (drop (i + 1) F) (Some p.feature) after (subst (Every P) (here_list h F i p) all) new)

@@ -10,12 +10,10 @@ use Rattle.plane_terms.specs.Segment.{IsSegment}
 use Rattle.plane_terms.specs.Polygon.{IsSimpleList}
 use Rattle.plane_terms.specs.declared.kind.Kind.TheVariants as shapes
 use Rattle.topology_terms.specs.Feature.{Class, Feature, IsAscending, sides}
-use Rattle.feature_store.specs.Stored.{class_at}
+use Rattle.topology_terms.specs.Lookups.{kind_of_class}
 
-pub record IsOfClass (cs : List Class) (f : Feature) : Type 0 where
-  pub class : Class
-  pub there : class_at cs f.class ≡ Some class
-  pub kind : f.shape.kind ≡ class.kind
+abbrev pub IsOfClass : List Class → Feature → Type 0
+IsOfClass cs f = kind_of_class cs f.class ≡ Some f.shape.kind
 
 pub record IsGiven (n : ℕ) (f : Feature) : Type 0 where
   pub from_1 : 1 ≤ f.handle

@@ -1,4 +1,4 @@
 pub mod Stored
 pub mod Places
 pub mod Keeps
-pub mod Changes
+pub mod Faults

@@ -1,9 +1,11 @@
 ghost use Rattle.std.specs.Prelude.{◌≡◌};
+ghost use Rattle.feature_store.specs.Faults.{store_cause};
 ghost use Rattle.feature_store.specs.declared.fault.StoreFault.TheVariants as fault;
 
 use grid_plane::NoMemory;
 use std::alloc::{AllocError, AllocFailed};
 use thiserror::Error;
+use topology_terms::Cause;
 
 /// Why a class or a feature was not added: the first of these that applies.
 #[derive(Debug, Drop, Error)]
@@ -26,6 +28,22 @@ pub enum StoreFault {
     /// Memory ran out.
     #[error("out of memory")]
     NoMemory,
+}
+
+impl StoreFault {
+    /// The cause that is told, and none of out of memory.
+    pub fn cause(&self) -> Option<Cause>
+        ensures { result ≡ store_cause self.now }
+    {
+        match self {
+            StoreFault::ClassTaken => Some(Cause::ClassTaken),
+            StoreFault::ClassesFull => Some(Cause::ClassesFull),
+            StoreFault::NoClass => Some(Cause::NoClass),
+            StoreFault::WrongKind => Some(Cause::WrongKind),
+            StoreFault::HandlesSpent => Some(Cause::HandlesSpent),
+            StoreFault::NoMemory => None,
+        }
+    }
 }
 
 impl From<NoMemory> for StoreFault {

@@ -5,8 +5,6 @@ mod class;
 mod fault;
 mod live;
 mod store;
-#[cfg(test)]
-mod tests;
 
 pub use fault::StoreFault;
 pub use grid_plane::{Name, NoMemory};

@@ -1,11 +1,12 @@
-ghost use Rattle.std.specs.Prelude.{◌≡◌, ◌≢◌, ◌≤◌, ◌<◌, ℕ, [], length, slice_get, Some, None, Option, MatchOption, IfSome, IfOk, IfErr, OnOk, OnErr};
+ghost use Rattle.std.specs.Prelude.{◌≡◌, ◌≤◌, ◌<◌, ◌+◌, ◌++◌, ◌∷◌, ℕ, [], length, slice_get, Some, None, Option, MatchOption, IfSome, IfOk, IfErr, OnOk, OnErr};
 ghost use Rattle.std.specs.Option.{option_map};
-ghost use Rattle.topology_terms.specs.Feature.{feature_at};
+ghost use Rattle.topology_terms.specs.Feature.{feature_at, IsSetAt};
 ghost use Rattle.topology_terms.specs.Feature as terms;
-ghost use Rattle.topology_terms.specs.Lookups.{number_from};
-ghost use Rattle.feature_store.specs.Stored.{class_at, IsSame};
+ghost use Rattle.topology_terms.specs.Lookups.{class_at, number_from, kind_of_class};
+ghost use Rattle.topology_terms.specs.Causes.{Tells, class_cause, add_cause};
+ghost use Rattle.feature_store.specs.Stored.{IsSame};
 ghost use Rattle.feature_store.specs.Keeps.{IsOfClass, IsStore};
-ghost use Rattle.feature_store.specs.Changes.{IsClassAdded, IsClassFault, HasKind, IsAdded, IsAddFault, IsSwapped};
+ghost use Rattle.feature_store.specs.Faults.{store_cause};
 
 use crate::class::{Class, class_number, copy_classes};
 use crate::fault::StoreFault;
@@ -56,9 +57,13 @@ impl Store {
     /// Adds a class of this name and kind and answers its number, from 1 up. Refused where the name is taken, then where
     /// there are 64 classes; after a refusal nothing has changed.
     pub fn add_class(&mut self, name: Name, kind: Kind) -> Result<u16, StoreFault>
-        ensures done { IfOk result (λ n. IsClassAdded name kind n self.old self.new) }
-        ensures refused { IfErr result (IsClassFault self.old name) }
-        ensures kept { OnErr result (IsSame self.old self.new) }
+        ensures number { IfOk result (λ n. n ≡ length self.old.classes + 1) }
+        ensures added { OnOk result (self.new.classes ≡ self.old.classes ++ record { name = name; kind = kind } ∷ []) }
+        ensures may { OnOk result (class_cause self.old.classes name ≡ None) }
+        ensures refused { IfErr result (λ e. Tells (store_cause e) (class_cause self.old.classes name)) }
+        ensures features { self.new.features ≡ self.old.features }
+        ensures next { self.new.next ≡ self.old.next }
+        ensures err { OnErr result (self.new.classes ≡ self.old.classes) }
     {
         if class_number(&self.classes, &name).is_some() {
             return Err(StoreFault::ClassTaken);
@@ -104,7 +109,7 @@ impl Store {
 
     /// The kind of the shapes of the class of this number, where there is one.
     pub fn class_kind(&self, class: u16) -> Option<Kind>
-        ensures { result ≡ option_map (λ (c : terms.Class). c.kind) (class_at self.now.classes class) }
+        ensures { result ≡ kind_of_class self.now.classes class }
     {
         Some(self.class(class)?.kind())
     }
@@ -112,9 +117,8 @@ impl Store {
     /// Whether a feature of this class and shape may be added. Refused where there is no such class, then where the kinds
     /// differ, then where the next handle is 4,294,967,295.
     pub fn check_add(&self, class: u16, shape: &Shape) -> Result<(), StoreFault>
-        ensures fits { OnOk result (HasKind self.now.classes class shape.now.kind) }
-        ensures left { OnOk result (self.now.next ≢ 4294967295) }
-        ensures refused { IfErr result (IsAddFault self.now class shape.now) }
+        ensures may { OnOk result (add_cause self.now.classes self.now.next class shape.now.kind ≡ None) }
+        ensures refused { IfErr result (λ e. Tells (store_cause e) (add_cause self.now.classes self.now.next class shape.now.kind)) }
     {
         let Some(kind) = self.class_kind(class) else {
             return Err(StoreFault::NoClass);
@@ -131,10 +135,12 @@ impl Store {
     /// Adds a feature of the class of this number and answers its handle, the next one, which then rises by one. Takes no
     /// memory: there is room.
     pub fn add_in(&mut self, class: u16, shape: Shape) -> u32
-        requires fits { HasKind self.old.classes class shape.kind }
-        requires left { self.old.next ≢ 4294967295 }
+        requires may { add_cause self.old.classes self.old.next class shape.kind ≡ None }
         requires room { 1 ≤ self.old.room }
-        ensures { IsAdded class shape result self.old self.new }
+        ensures number { result ≡ self.old.next }
+        ensures classes { self.new.classes ≡ self.old.classes }
+        ensures features { self.new.features ≡ self.old.features ++ record { handle = result; class = class; shape = shape } ∷ [] }
+        ensures next { self.new.next ≡ self.old.next + 1 }
     {
         shape.simple_law();
         let handle = self.next;
@@ -148,9 +154,13 @@ impl Store {
     /// where there is no such class, then where the kinds differ, then where the next handle is 4,294,967,295; after a
     /// refusal nothing has changed.
     pub fn add(&mut self, class: u16, shape: Shape) -> Result<u32, StoreFault>
-        ensures done { IfOk result (λ h. IsAdded class shape h self.old self.new) }
-        ensures refused { IfErr result (IsAddFault self.old class shape) }
-        ensures kept { OnErr result (IsSame self.old self.new) }
+        ensures number { IfOk result (λ h. h ≡ self.old.next) }
+        ensures added { IfOk result (λ h. self.new.features ≡ self.old.features ++ record { handle = h; class = class; shape = shape } ∷ []) }
+        ensures next { OnOk result (self.new.next ≡ self.old.next + 1) }
+        ensures may { OnOk result (add_cause self.old.classes self.old.next class shape.kind ≡ None) }
+        ensures refused { IfErr result (λ e. Tells (store_cause e) (add_cause self.old.classes self.old.next class shape.kind)) }
+        ensures classes { self.new.classes ≡ self.old.classes }
+        ensures err { OnErr result (IsSame self.old self.new) }
     {
         self.check_add(class, &shape)?;
         self.room()?;
@@ -222,7 +232,10 @@ impl Store {
         requires own { IfSome kept.old (λ f. f.handle ≡ handle) }
         requires fits { IfSome kept.old (IsOfClass self.old.classes) }
         requires room { 1 ≤ self.old.room }
-        ensures swapped { IsSwapped handle kept.new kept.old self.old self.new }
+        ensures stood { kept.new ≡ feature_at self.old.features handle }
+        ensures set { IsSetAt handle kept.old self.old.features self.new.features }
+        ensures classes { self.new.classes ≡ self.old.classes }
+        ensures next { self.new.next ≡ self.old.next }
         ensures own { IfSome kept.new (λ f. f.handle ≡ handle) }
         ensures fits { IfSome kept.new (IsOfClass self.new.classes) }
     {
@@ -237,11 +250,14 @@ impl Store {
         requires given { handle < self.old.next }
         requires own { IfSome kept.old (λ f. f.handle ≡ handle) }
         requires fits { IfSome kept.old (IsOfClass self.old.classes) }
-        ensures done { OnOk result (IsSwapped handle kept.new kept.old self.old self.new) }
+        ensures stood { OnOk result (kept.new ≡ feature_at self.old.features handle) }
+        ensures set { OnOk result (IsSetAt handle kept.old self.old.features self.new.features) }
+        ensures classes { self.new.classes ≡ self.old.classes }
+        ensures next { self.new.next ≡ self.old.next }
         ensures own { IfSome kept.new (λ f. f.handle ≡ handle) }
         ensures fits { IfSome kept.new (IsOfClass self.new.classes) }
-        ensures same { OnErr result (IsSame self.old self.new) }
-        ensures kept { OnErr result (kept.new ≡ kept.old) }
+        ensures err { OnErr result (IsSame self.old self.new) }
+        ensures same { OnErr result (kept.new ≡ kept.old) }
     {
         self.room()?;
         self.swap_in(handle, kept);

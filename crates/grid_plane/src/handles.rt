@@ -68,21 +68,3 @@ impl Handles {
         Ok(())
     }
 }
-
-#[cfg(test)]
-mod tests {
-    use super::*;
-    use std::test::Fail;
-
-    #[test]
-    fn handles_are_put_and_found(rt: HostRuntime) -> Result<(), Fail> {
-        let mut handles = Handles::new(rt.alloc());
-        handles.push(3)?;
-        handles.push(7)?;
-        assert_eq!(rt; handles.len(), 2);
-        assert_eq!(rt; handles.at(1), 7);
-        assert!(rt; handles.has(3));
-        assert!(rt; !handles.has(4));
-        Ok(())
-    }
-}

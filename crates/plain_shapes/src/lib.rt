@@ -3,8 +3,6 @@
 
 mod inside;
 mod search;
-#[cfg(test)]
-mod tests;
 
 pub use inside::is_inside;
 pub use search::first_bad_pair;

@@ -1,5 +1,5 @@
 ghost use Rattle.std.specs.Prelude.{◌≡◌, ◌<◌, ◌↔◌, ℕ, length, IsTrue, MatchOption};
-ghost use Rattle.shape.specs.Faults.{AreBad, IsPair, IsFirstPair};
+ghost use Rattle.plane_terms.specs.ShapeFaults.{AreBad, IsPair, IsFirstPair};
 
 use grid_plane::{Seg, Share};
 

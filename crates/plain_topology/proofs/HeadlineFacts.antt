@@ -5,6 +5,7 @@ use Rattle.std.specs.List.{All, Contains, HoldsAt, AllWithin}
 use Rattle.std.proofs.lemmas.Bool.{false≢true}
 use Rattle.std.proofs.lemmas.Int.{ints}
 use Rattle.std.proofs.lemmas.List.Elements.{All-from_all_within, All-contains}
+use Rattle.std.specs.Option.{option_map}
 use Rattle.plane_terms.specs.Point.{Place, Point, IsAt}
 use Rattle.plane_terms.specs.Rectangle.{Rectangle}
 use Rattle.plane_terms.specs.Dirt.{Covers}
@@ -17,7 +18,7 @@ use Rattle.topology_terms.specs.Project.{Project, InForce, rule_at}
 use Rattle.script_terms.specs.Headline.{Headline}
 use Rattle.sound_laws.proofs.FeatureLists.{same_handle, at_handle, past_handle}
 use Rattle.sound_laws.proofs.Lists.{at_key, past_key, entry_key}
-use Rattle.rule_laws.proofs.Places.{at_place_points}
+use Rattle.cell_laws.proofs.Outside.{at_place_points}
 use Rattle.sound_laws.proofs.Dirts.{bool_cases}
 use Rattle.plain_topology.specs.Plain.{feature_of, features_of, entry_of, entries_of, row_of, SaysAt, Shows}
 use Rattle.plain_topology.specs.declared.points.PlainPoint.{PlainPoint}
@@ -65,13 +66,13 @@ live_entry (x ∷ es) r a b e h = elim (bool_cases (has_key (entry_of x) r a b))
 abbrev pub one_rule : ℕ → List InForce
 one_rule class = record { number = 1; row = row_of class } ∷ []
 
-picked : (b : Bool) (row found : Row) → cond b (Some row) None ≡ Some found → (b ≡ true) × (found ≡ row)
-picked true row found e = (refl, cc)
-picked false row found e = cc
+picked : (b : Bool) (q : InForce) (found : Row) → option_map (λ (x : InForce). x.row) (cond b (Some q) None) ≡ Some found → (b ≡ true) × (found ≡ q.row)
+picked true q found e = (refl, cc)
+picked false q found e = cc
 
 the_rule : (class r : ℕ) (row : Row) → rule_at (one_rule class) r ≡ Some row → (r ≡ 1) × (row ≡ row_of class)
 unfolding rule_at
-the_rule class r row e = let p = picked (1 == r) (row_of class) row e in (sym (same_handle 1 r p.0), p.1)
+the_rule class r row e = let p = picked (1 == r) (record { number = 1; row = row_of class }) row e in (sym (same_handle 1 r p.0), p.1)
 
 rule_1 : (class : ℕ) → rule_at (one_rule class) 1 ≡ Some (row_of class)
 unfolding rule_at

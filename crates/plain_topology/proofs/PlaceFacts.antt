@@ -7,7 +7,7 @@ use Rattle.plane_terms.specs.Lists.{SomeOf}
 use Rattle.plane_terms.specs.Point.{Place, Point, IsAt}
 use Rattle.plane_terms.specs.Rectangle.{Rectangle, RectHolds}
 use Rattle.plane_terms.specs.Cell.{InCells, at_place}
-use Rattle.rule_laws.proofs.Places.{at_place_points}
+use Rattle.cell_laws.proofs.Outside.{at_place_points}
 use Rattle.sound_laws.proofs.Planes.{le_from_scaled, scaled_le}
 
 -- by the place's own coordinates

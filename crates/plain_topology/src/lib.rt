@@ -7,8 +7,6 @@ mod headline;
 mod overlaps;
 mod pairs;
 mod points;
-#[cfg(test)]
-mod tests;
 
 pub use dirt::{covers, holds_place};
 pub use entries::{PlainEntry, has_cells_at};

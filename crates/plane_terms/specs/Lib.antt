@@ -9,6 +9,7 @@ pub mod Decide
 pub mod Carve
 pub mod Dirt
 pub mod Shape
+pub mod ShapeFaults
 pub mod Polygon
 pub mod Line
 pub mod Columns

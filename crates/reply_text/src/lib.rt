@@ -8,8 +8,7 @@ mod features;
 mod numbers;
 mod refusal;
 mod reply;
-#[cfg(test)]
-mod tests;
 
 pub use refusal::Refusal;
 pub use reply::{Reply, push_reply};
+pub use topology_terms::Cause;

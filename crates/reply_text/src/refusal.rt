@@ -1,40 +1,23 @@
 ghost use Rattle.std.specs.Prelude.{◌≡◌, ◌++◌, OnOk};
-ghost use Rattle.script_terms.specs.Refusal.{refusal_text, line_refusal_text, shape_fault_text, with_number, with_pair};
-ghost use Rattle.script_text.specs.declared.fault.LineRefusal.TheVariants.{Invalid};
+ghost use Rattle.script_terms.specs.Refusal.{refusal_text, cause_code, line_refusal_text, shape_fault_text, with_number, with_pair};
+ghost use Rattle.line_terms.specs.declared.line_refusal.LineRefusal.TheVariants.{Invalid};
 ghost use Rattle.reply_text.specs.Replies.{refusal_of};
 
 use crate::numbers::{push_number, push_text};
 use grid_plane::NoMemory;
-use script_text::LineRefusal;
-use shape::ShapeFault;
+use line_terms::LineRefusal;
+use plane_terms::ShapeFault;
+use topology_terms::Cause;
 
 /// Why a line is refused.
 #[derive(Clone, Copy, PartialEq, Eq, Debug)]
 pub enum Refusal {
     /// The line is no command's.
     Line(LineRefusal),
-    /// There is a class of this name.
-    ClassTaken,
-    /// There are 64 classes.
-    ClassesFull,
-    /// No class has this name.
-    NoClass,
-    /// The classes do not have the kinds that the rule takes, or are one where they should be two.
-    Unfit,
-    /// An equal rule is in force.
-    RuleThere,
-    /// There are 256 rules.
-    RulesFull,
-    /// No rule has this number.
-    NoRule,
     /// The editor has no open session.
     NoSession,
-    /// The shape's kind is not the class's.
-    WrongKind,
-    /// No live feature has this handle.
-    NoFeature,
-    /// Every handle was given.
-    HandlesSpent,
+    /// The topology is not changed, for this cause.
+    Change(Cause),
 }
 
 fn push_with_number(out: &mut Vec<u8>, word: &[u8], number: u32) -> Result<(), NoMemory>
@@ -90,22 +73,30 @@ fn push_line_refusal(out: &mut Vec<u8>, refusal: LineRefusal) -> Result<(), NoMe
     }
 }
 
+fn push_cause(out: &mut Vec<u8>, cause: Cause) -> Result<(), NoMemory>
+    ensures { OnOk result (out.new.items ≡ out.old.items ++ cause_code cause) }
+{
+    match cause {
+        Cause::ClassTaken => push_text(out, b"E03"),
+        Cause::ClassesFull => push_text(out, b"E04"),
+        Cause::NoClass => push_text(out, b"E05"),
+        Cause::Unfit => push_text(out, b"E06"),
+        Cause::RuleThere => push_text(out, b"E07"),
+        Cause::RulesFull => push_text(out, b"E08"),
+        Cause::NoRule => push_text(out, b"E09"),
+        Cause::WrongKind => push_text(out, b"E13"),
+        Cause::NoFeature => push_text(out, b"E19"),
+        Cause::HandlesSpent => push_text(out, b"E21"),
+    }
+}
+
 /// Appends the code of the refusal and what stands behind it: the place of a number, the parts of a shape.
 pub fn push_refusal(out: &mut Vec<u8>, refusal: Refusal) -> Result<(), NoMemory>
     ensures { OnOk result (out.new.items ≡ out.old.items ++ refusal_text (refusal_of refusal)) }
 {
     match refusal {
         Refusal::Line(refusal) => push_line_refusal(out, refusal),
-        Refusal::ClassTaken => push_text(out, b"E03"),
-        Refusal::ClassesFull => push_text(out, b"E04"),
-        Refusal::NoClass => push_text(out, b"E05"),
-        Refusal::Unfit => push_text(out, b"E06"),
-        Refusal::RuleThere => push_text(out, b"E07"),
-        Refusal::RulesFull => push_text(out, b"E08"),
-        Refusal::NoRule => push_text(out, b"E09"),
         Refusal::NoSession => push_text(out, b"E12"),
-        Refusal::WrongKind => push_text(out, b"E13"),
-        Refusal::NoFeature => push_text(out, b"E19"),
-        Refusal::HandlesSpent => push_text(out, b"E21"),
+        Refusal::Change(cause) => push_cause(out, cause),
     }
 }

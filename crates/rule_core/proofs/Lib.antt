@@ -1,4 +1,2 @@
-mod FindingOrders
-mod Orders
 mod Lookups
 pub mod Partners

@@ -2,7 +2,7 @@ ghost use Rattle.std.specs.Prelude.{◌≡◌, IfOk};
 ghost use Rattle.topology_terms.specs.Broken.{Row};
 ghost use Rattle.topology_terms.specs.Meaning.{Meaning, Laws, CutsRight, AreRight};
 ghost use Rattle.validation_laws.specs.Views.{ViewLaws};
-ghost use Rattle.validation_laws.specs.Counts.{raised};
+ghost use Rattle.topology_terms.specs.Counts.{raised};
 ghost use Rattle.rule_core.specs.Shown.{IsShown};
 
 use crate::findings::Findings;

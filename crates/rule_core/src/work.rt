@@ -1,5 +1,5 @@
 ghost use Rattle.std.specs.Prelude.{◌≡◌};
-ghost use Rattle.validation_laws.specs.Counts.{raised};
+ghost use Rattle.topology_terms.specs.Counts.{raised};
 
 use std::marker::Model;
 

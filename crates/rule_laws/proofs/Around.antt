@@ -16,12 +16,17 @@ use Rattle.rule_laws.proofs.Lists.{filter_agree}
 
 pub holds_from : (r : Rectangle) (p : Point) → holds_point r p ≡ true → RectHolds r p
 holds_from r p t =
-    let k = (Decides-and _ _ (Decides-int_le (r.x0 *ℤ pos p.w) p.x) (Decides-and _ _ (Decides-int_le p.x (r.x1 *ℤ pos p.w)) (Decides-and _ _ (Decides-int_le (r.y0 *ℤ pos p.w) p.y) (Decides-int_le p.y (r.y1 *ℤ pos p.w))))).0 t in
+    let k = (Decides-and _ _ (Decides-int_le (r.x0 *ℤ pos p.w) p.x)
+    (Decides-and _ _ (Decides-int_le p.x (r.x1 *ℤ pos p.w))
+    (Decides-and _ _ (Decides-int_le (r.y0 *ℤ pos p.w) p.y) (Decides-int_le p.y (r.y1 *ℤ pos p.w))))).0 t in
     record { left = k.0; right = k.1.0; below = k.1.1.0; above = k.1.1.1 }
 
 pub holds_test : (r : Rectangle) (p : Point) → RectHolds r p → holds_point r p ≡ true
 holds_test r p h =
-    (Decides-and _ _ (Decides-int_le (r.x0 *ℤ pos p.w) p.x) (Decides-and _ _ (Decides-int_le p.x (r.x1 *ℤ pos p.w)) (Decides-and _ _ (Decides-int_le (r.y0 *ℤ pos p.w) p.y) (Decides-int_le p.y (r.y1 *ℤ pos p.w))))).1 (h.left, (h.right, (h.below, h.above)))
+    (Decides-and _ _ (Decides-int_le (r.x0 *ℤ pos p.w) p.x)
+    (Decides-and _ _ (Decides-int_le p.x (r.x1 *ℤ pos p.w))
+    (Decides-and _ _ (Decides-int_le (r.y0 *ℤ pos p.w) p.y) (Decides-int_le p.y (r.y1 *ℤ pos p.w))))).1
+    (h.left, (h.right, (h.below, h.above)))
 
 abbrev pub round : Point → List Feature → List Feature
 round p gs = filter (λ (g : Feature). holds_point (env g) p) gs
@@ -30,7 +35,8 @@ second : (a b : Bool) → (a && b) ≡ true → b ≡ true
 second a b e = grind arith
 
 -- of two maps that agree round a point
-pub round_agree : (S : Side) (F G : List Feature) (p : Point) → IsAscending F → IsAscending G → Agree (λ f. RectHolds (env f) p) F G → round p (of_side S F) ≡ round p (of_side S G)
+pub round_agree : (S : Side) (F G : List Feature) (p : Point) → IsAscending F → IsAscending G → Agree (λ f. RectHolds (env f) p) F G
+    → round p (of_side S F) ≡ round p (of_side S G)
 round_agree S F G p u v agree =
     let held : Feature → Bool = λ g. holds_point (env g) p in
     let test : Feature → Bool = λ g. is_on_side S g && held g in
@@ -41,11 +47,14 @@ round_agree S F G p u v agree =
     ∙ sym (kept_twice held (is_on_side S) G))
 
 -- of those near a subject whose envelope holds the point
-pub round_near : (S : Side) (F : List Feature) (f : Feature) (p : Point) → RectHolds (env f) p → round p (near S f F) ≡ round p (of_side S F)
+pub round_near : (S : Side) (F : List Feature) (f : Feature) (p : Point) → RectHolds (env f) p
+    → round p (near S f F) ≡ round p (of_side S F)
 round_near S F f p k =
     let held : Feature → Bool = λ g. holds_point (env g) p in
     kept_twice held (λ g. is_on_side S g && rects_meet (env f) (env g)) F
-    ∙ (filter_same (λ g. (is_on_side S g && rects_meet (env f) (env g)) && held g) (λ g. is_on_side S g && held g) F (λ g. drop (is_on_side S g) (rects_meet (env f) (env g)) (held g) (λ t. meets_test (env f) (env g) (p, k, holds_from (env g) p t)))
+    ∙ (filter_same (λ g. (is_on_side S g && rects_meet (env f) (env g)) && held g) (λ g. is_on_side S g && held g) F
+    (λ g. drop (is_on_side S g) (rects_meet (env f) (env g)) (held g)
+    (λ t. meets_test (env f) (env g) (p, k, holds_from (env g) p t)))
     ∙ sym (kept_twice held (is_on_side S) F))
   where
     drop : (a m h : Bool) → (h ≡ true → m ≡ true) → ((a && m) && h) ≡ (a && h)
@@ -53,7 +62,8 @@ round_near S F f p k =
     drop a m false n = grind arith
 
 -- those around a subject, but for a rule that judges each pair once, are the near of a side
-pub around_near : (who : Around) (row : Row) (F : List Feature) (f : Feature) → (who ≡ Later → ⊥) → around who row F f ≡ near (side_by who row f) f F
+pub around_near : (who : Around) (row : Row) (F : List Feature) (f : Feature) → (who ≡ Later → ⊥)
+    → around who row F f ≡ near (side_by who row f) f F
 around_near Later row F f n = absurd (n refl)
 around_near Own row F f n = refl
 around_near Second row F f n = refl

@@ -32,7 +32,8 @@ overlap_rule = record {
 }
 
 -- rule 22
-common_by : (f g : Feature) (p : Point) (b : Bool) → same_place (place f) (place g) ≡ b → InCells (cond b (at_place (place f) ∷ []) []) p ↔ BothAt f g p
+common_by : (f g : Feature) (p : Point) (b : Bool) → same_place (place f) (place g) ≡ b
+    → InCells (cond b (at_place (place f) ∷ []) []) p ↔ BothAt f g p
 common_by f g p true e =
     let k = at_place_points (place f) p in
     (λ h. elim h [ inl a ↦ let i = k.0 a in (i, (at_test (place f) (place g) p i).0 e) | inr b ↦ absurd b ], λ h. inl (k.1 h.0))

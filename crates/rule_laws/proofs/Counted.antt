@@ -23,7 +23,8 @@ module _ {A : Type 0} (U P : A → Type 0) (test : A → Bool) (m : (x : A) → 
   many_length [] = refl
   many_length (x ∷ xs) = pick (test x) (many_length xs)
     where
-      pick : (b : Bool) → how_many test xs ≡ length (filter test xs) → cond b (suc (how_many test xs)) (how_many test xs) ≡ length (cond b (x ∷ filter test xs) (filter test xs))
+      pick : (b : Bool) → how_many test xs ≡ length (filter test xs)
+          → cond b (suc (how_many test xs)) (how_many test xs) ≡ length (cond b (x ∷ filter test xs) (filter test xs))
       pick true e = omega (arith, e)
       pick false e = e
 
@@ -37,7 +38,8 @@ module _ {A : Type 0} (U P : A → Type 0) (test : A → Bool) (m : (x : A) → 
   )
 
 -- ---- lists put together
-those_ahead : {A : Type 0} (P : A → Type 0) (xs zs us : List A) → ((ys : List A) → IsThose P zs ys → IsThose P us ys) → (ys : List A) → IsThose P (xs ++ zs) ys → IsThose P (xs ++ us) ys
+those_ahead : {A : Type 0} (P : A → Type 0) (xs zs us : List A) → ((ys : List A) → IsThose P zs ys → IsThose P us ys) → (ys : List A)
+    → IsThose P (xs ++ zs) ys → IsThose P (xs ++ us) ys
 those_ahead P [] zs us m ys h = m ys h
 those_ahead P (x ∷ xs) zs us m ys h = elim h [
   | inl a ↦ inl (a.0, (a.1.0, a.1.1, those_ahead P xs zs us m a.1.0 a.1.2))
@@ -53,16 +55,22 @@ those_past P (x ∷ xs) zs n ys =
     )
 
 -- ---- over features: those that do not hold the point have none
-module _ {A : Type 0} (items : Feature → List A) (P : A → Point → Type 0) (Fit : Feature → Type 0) (held : (g : Feature) (p : Point) → Fit g → SomeOf (λ x. P x p) (items g) → RectHolds (env g) p) (p : Point) where
+module _ {A : Type 0} (items : Feature → List A) (P : A → Point → Type 0) (Fit : Feature → Type 0)
+    (held : (g : Feature) (p : Point) → Fit g → SomeOf (λ x. P x p) (items g) → RectHolds (env g) p) (p : Point) where
   H : A → Type 0
   H x = P x p
 
   all : List Feature → List A
   all gs = flat_map items gs
 
-  near_pick : (g : Feature) (gs : List Feature) (b : Bool) → holds_point (env g) p ≡ b → Fit g → ((ys : List A) → IsThose H (all gs) ys ↔ IsThose H (all (round p gs)) ys) → (ys : List A) → IsThose H (items g ++ all gs) ys ↔ IsThose H (all (cond b (g ∷ round p gs) (round p gs))) ys
+  near_pick : (g : Feature) (gs : List Feature) (b : Bool) → holds_point (env g) p ≡ b → Fit g
+      → ((ys : List A) → IsThose H (all gs) ys ↔ IsThose H (all (round p gs)) ys) → (ys : List A)
+      → IsThose H (items g ++ all gs) ys ↔ IsThose H (all (cond b (g ∷ round p gs) (round p gs))) ys
   unfolding H all
-  near_pick g gs true e u m ys = (those_ahead H (items g) (all gs) (all (round p gs)) (λ zs h. (m zs).0 h) ys, those_ahead H (items g) (all (round p gs)) (all gs) (λ zs h. (m zs).1 h) ys)
+  near_pick g gs true e u m ys = (
+    those_ahead H (items g) (all gs) (all (round p gs)) (λ zs h. (m zs).0 h) ys,
+    those_ahead H (items g) (all (round p gs)) (all gs) (λ zs h. (m zs).1 h) ys,
+  )
   near_pick g gs false e u m ys =
       let k = those_past H (items g) (all gs) (λ i. false≢true (sym e ∙ holds_test (env g) p (held g p u i))) ys in
       let n = m ys in
@@ -73,7 +81,8 @@ module _ {A : Type 0} (items : Feature → List A) (P : A → Point → Type 0) 
   those_round [] u ys = (λ h. h, λ h. h)
   those_round (g ∷ gs) u ys = near_pick g gs (holds_point (env g) p) refl u.0 (λ zs. those_round gs u.1 zs) ys
 
-  pub many_round : (gs hs : List Feature) (n : ℕ) → Every Fit gs → Every Fit hs → round p gs ≡ round p hs → AreMany (λ x. P x p) (flat_map items gs) n → AreMany (λ x. P x p) (flat_map items hs) n
+  pub many_round : (gs hs : List Feature) (n : ℕ) → Every Fit gs → Every Fit hs → round p gs ≡ round p hs
+      → AreMany (λ x. P x p) (flat_map items gs) n → AreMany (λ x. P x p) (flat_map items hs) n
   unfolding H all
   many_round gs hs n u v e h =
       let a : IsThose H (all (round p hs)) h.0 = rw e at ((those_round gs u h.0).0 h.1) in

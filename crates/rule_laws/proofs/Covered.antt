@@ -18,7 +18,7 @@ use Rattle.plane_terms.specs.declared.op.Op.TheVariants.{Over, AtLeast, Zero}
 use Rattle.plane_terms.specs.declared.kind.Kind.{Kind}
 use Rattle.plane_terms.specs.declared.kind.Kind.TheVariants as shapes
 use Rattle.plane_terms.proofs.Points.{point_at}
-use Rattle.plane_terms.proofs.ListLemmas.{some_or_none}
+use Rattle.plane_terms.proofs.ListLemmas.{some_or_none, every_filter, every_map}
 use Rattle.topology_terms.specs.Feature.{Feature, Side, is_on_side, sides, place, env}
 use Rattle.topology_terms.specs.Plans.{near, none_covers, none_inside, has_parts}
 use Rattle.topology_terms.specs.Cells.{inside, outside}
@@ -36,7 +36,7 @@ use Rattle.rule_laws.proofs.Held.{place_held, line_held, closure_held}
 use Rattle.rule_laws.proofs.Crossings.{inside_held}
 use Rattle.rule_laws.proofs.Words.{IsCoveredBy, HasInside, HasParts}
 use Rattle.rule_laws.proofs.Families.{IsFit}
-use Rattle.rule_laws.proofs.Lists.{every_filter, every_unfilter, every_weaker}
+use Rattle.rule_laws.proofs.Lists.{every_unfilter}
 use Rattle.rule_laws.proofs.Uncovered.{outside_points, some_same_of, none_each}
 use Rattle.rule_laws.proofs.Tests.{any_some}
 use Rattle.rule_laws.proofs.Spots.{not_test, inside_test}
@@ -49,7 +49,8 @@ NoneIs C f gs = Every (λ g. ¬ (C f g)) gs
 module _ (k l : Kind) (C : Feature → Feature → Type 0) (test : Feature → Feature → Bool)
     (meet : (f g : Feature) → IsFit k f → IsFit l g → C f g → rects_meet (env f) (env g) ≡ true)
     (exact : (f g : Feature) → IsFit k f → IsFit l g → (test f g ≡ true) ↔ C f g) where
-  near_of_side : (S : Side) (F : List Feature) (f : Feature) → near S f F ≡ filter (λ (g : Feature). rects_meet (env f) (env g)) (of_side S F)
+  near_of_side : (S : Side) (F : List Feature) (f : Feature)
+      → near S f F ≡ filter (λ (g : Feature). rects_meet (env f) (env g)) (of_side S F)
   near_of_side S F f = sym (kept_twice (λ (g : Feature). rects_meet (env f) (env g)) (is_on_side S) F)
 
   pub none_whole_rule : WholeRule k l (NoneIs C) (λ f gs. not (list_any (test f) gs))
@@ -58,7 +59,9 @@ module _ (k l : Kind) (C : Feature → Feature → Type 0) (test : Feature → F
         let near_test : Feature → Bool = λ (g : Feature). rects_meet (env f) (env g) in
         rw (near_of_side S F f) (
           (λ n. every_filter (λ g. ¬ (C f g)) near_test (of_side S F) n),
-          (λ n. every_unfilter (λ g. ¬ (C f g)) near_test (of_side S F) (every_weaker (IsFit l) (λ g. near_test g ≡ false → ¬ (C f g)) (λ g w t c. false≢true (sym t ∙ meet f g u w c)) (of_side S F) v) n),
+          (λ n. every_unfilter (λ g. ¬ (C f g)) near_test (of_side S F)
+              (every_map (IsFit l) (λ g. near_test g ≡ false → ¬ (C f g)) (λ g w t c. false≢true (sym t ∙ meet f g u w c))
+              (of_side S F) v) n),
         );
     exact = λ f gs u v.
         let x = any_some (IsFit l) (λ g. C f g) (test f) (λ g w. exact f g u w) gs v in
@@ -89,7 +92,8 @@ closed_points f p u =
     let a = some_append (λ c. InCell c p) (inside f) (map {A = Segment} on_segment (sides f)) in
     let b = inside_is_exact (sides f) (u.simple u.kind) p in
     let c = some_map (λ c. InCell c p) on_segment (sides f) in
-    let d = some_same_of IsSegment (λ s. InCell (on_segment s) p) (λ s. OnSegment s p) (λ s g. on_segment_points s p g) (sides f) u.proper in (
+    let d = some_same_of IsSegment (λ s. InCell (on_segment s) p) (λ s. OnSegment s p) (λ s g. on_segment_points s p g)
+    (sides f) u.proper in (
       λ h. elim (a.0 h) [ inl i ↦ inl (b.0 i) | inr i ↦ inr (d.0 (c.0 i)) ],
       λ h. elim h [ inl i ↦ a.1 (inl (b.1 i)) | inr i ↦ a.1 (inr (c.1 (d.1 i))) ],
     )
@@ -110,7 +114,8 @@ covers_exact f g u v =
         | inl k ↦ k
         | inr n ↦ absurd (e.0 t p ((carve_points (closed_cells f) (outside g) p).1 ((closed_points f p u).1 i, (outside_points g p v).1 n)))
       ],
-      λ h. e.1 (λ p i. let m = (carve_points (closed_cells f) (outside g) p).0 i in (outside_points g p v).0 m.1 (h p ((closed_points f p u).0 m.0))),
+      λ h. e.1 (λ p i. let m = (carve_points (closed_cells f) (outside g) p).0 i in (outside_points g p v).0 m.1
+          (h p ((closed_points f p u).0 m.0))),
     )
 
 -- a polygon has a point that is closed in it

@@ -37,7 +37,8 @@ in_common_points s t p g h =
     let e = on_segment_points t p h in
     (λ k. let m = c.0 (b.0 (a.0 k)) in (d.0 m.0, e.0 m.1), λ k. a.1 (b.1 (c.1 (d.1 k.0, e.1 k.1))))
 
-by_overlap : (s t : Segment) (p : Point) (b : Bool) → overlap s t ≡ b → IsSegment s → IsSegment t → (cs : List Cell) (P : Type 0) → InCells cs p ↔ P → InCells (cond b cs []) p ↔ (Overlap s t × P)
+by_overlap : (s t : Segment) (p : Point) (b : Bool) → overlap s t ≡ b → IsSegment s → IsSegment t → (cs : List Cell) (P : Type 0)
+    → InCells cs p ↔ P → InCells (cond b cs []) p ↔ (Overlap s t × P)
 by_overlap s t p true e g h cs P m = (λ i. ((overlap_test s t g h).0 e, m.0 i), λ i. m.1 i.1)
 by_overlap s t p false e g h cs P m = (λ i. absurd i, λ i. absurd (false≢true (sym e ∙ (overlap_test s t g h).1 i.0)))
 
@@ -54,8 +55,10 @@ along_have_points : (s t : Segment) → HavePoints (along s t)
 along_have_points s t = some_cond (overlap s t) (in_common s t) (kept_have_points (meet_of (on_segment s) (on_segment t) ∷ []))
 
 -- of the places those on both are carved out, and the others are not there
-off_picked : (s t : Segment) (q : Place) (qs : List Place) (p : Point) (b : Bool) → on_both s t q ≡ b → IsSegment s → IsSegment t → BothOn p s t → (Every (λ ds. InCells ds p) (map {A = Place} out_of_place (filter (on_both s t) qs)) ↔ Every (λ q. ¬ (IsAt q p)) qs)
-    → Every (λ ds. InCells ds p) (map {A = Place} out_of_place (cond b (q ∷ filter (on_both s t) qs) (filter (on_both s t) qs))) ↔ (¬ (IsAt q p) × Every (λ q. ¬ (IsAt q p)) qs)
+off_picked : (s t : Segment) (q : Place) (qs : List Place) (p : Point) (b : Bool) → on_both s t q ≡ b → IsSegment s → IsSegment t
+    → BothOn p s t → (Every (λ ds. InCells ds p) (map {A = Place} out_of_place (filter (on_both s t) qs)) ↔ Every (λ q. ¬ (IsAt q p)) qs)
+    → Every (λ ds. InCells ds p) (map {A = Place} out_of_place (cond b (q ∷ filter (on_both s t) qs) (filter (on_both s t) qs))) ↔
+    (¬ (IsAt q p) × Every (λ q. ¬ (IsAt q p)) qs)
 off_picked s t q qs p true e g h o rest =
     let x = out_of_place_points q p in
     (λ k. (x.0 k.0, rest.0 k.1), λ k. (x.1 k.0, rest.1 k.1))
@@ -65,11 +68,13 @@ off_picked s t q qs p false e g h o rest =
     both : holds_place s q ≡ true → holds_place t q ≡ true → on_both s t q ≡ true
     both a b = rw (a, b) refl
 
-off_each : (s t : Segment) (qs : List Place) (p : Point) → IsSegment s → IsSegment t → BothOn p s t → Every (λ ds. InCells ds p) (map {A = Place} out_of_place (filter (on_both s t) qs)) ↔ Every (λ q. ¬ (IsAt q p)) qs
+off_each : (s t : Segment) (qs : List Place) (p : Point) → IsSegment s → IsSegment t → BothOn p s t
+    → Every (λ ds. InCells ds p) (map {A = Place} out_of_place (filter (on_both s t) qs)) ↔ Every (λ q. ¬ (IsAt q p)) qs
 off_each s t [] p g h o = (λ k. k, λ k. k)
 off_each s t (q ∷ qs) p g h o = off_picked s t q qs p (on_both s t q) refl g h o (off_each s t qs p g h o)
 
-off_points : (es : List Place) (s t : Segment) (p : Point) → IsSegment s → IsSegment t → InCells (off_places es s t) p ↔ (BothOn p s t × ¬ (SomeOf (λ q. IsAt q p) es))
+off_points : (es : List Place) (s t : Segment) (p : Point) → IsSegment s → IsSegment t
+    → InCells (off_places es s t) p ↔ (BothOn p s t × ¬ (SomeOf (λ q. IsAt q p) es))
 off_points es s t p g h =
     let x = uncovered_points (in_common s t) (map {A = Place} out_of_place (filter (on_both s t) es)) p in
     let c = in_common_points s t p g h in
@@ -79,17 +84,21 @@ off_points es s t p g h =
     )
 
 off_have_points : (es : List Place) (s t : Segment) → HavePoints (off_places es s t)
-off_have_points es s t = uncovered_have_points (in_common s t) (map {A = Place} out_of_place (filter (on_both s t) es)) (kept_have_points (meet_of (on_segment s) (on_segment t) ∷ []))
+off_have_points es s t =
+    uncovered_have_points (in_common s t) (map {A = Place} out_of_place (filter (on_both s t) es))
+    (kept_have_points (meet_of (on_segment s) (on_segment t) ∷ []))
 
 -- ---- segments of two lists
-module _ (cells : Segment → Segment → List Cell) (R : Segment → Segment → Type 0) (p : Point) (exact : (s t : Segment) → IsSegment s → IsSegment t → InCells (cells s t) p ↔ R s t) where
+module _ (cells : Segment → Segment → List Cell) (R : Segment → Segment → Type 0) (p : Point)
+    (exact : (s t : Segment) → IsSegment s → IsSegment t → InCells (cells s t) p ↔ R s t) where
   row_points : (s : Segment) (ts : List Segment) → IsSegment s → Every IsSegment ts → InCells (flat_map (cells s) ts) p ↔ SomeOf (R s) ts
   row_points s ts g u =
       let a = some_flat (λ c. InCell c p) (cells s) ts in
       let b = some_same_of IsSegment (λ t. InCells (cells s t) p) (R s) (λ t h. exact s t g h) ts u in
       (λ k. b.0 (a.0 k), λ k. a.1 (b.1 k))
 
-  each_pair_points : (ss ts : List Segment) → Every IsSegment ss → Every IsSegment ts → InCells (each_pair cells ss ts) p ↔ SomeOf (λ s. SomeOf (R s) ts) ss
+  each_pair_points : (ss ts : List Segment) → Every IsSegment ss → Every IsSegment ts
+      → InCells (each_pair cells ss ts) p ↔ SomeOf (λ s. SomeOf (R s) ts) ss
   each_pair_points ss ts u v =
       let a = some_flat (λ c. InCell c p) (λ (s : Segment). flat_map (cells s) ts) ss in
       let b = some_same_of IsSegment (λ s. InCells (flat_map (cells s) ts) p) (λ s. SomeOf (R s) ts) (λ s g. row_points s ts g v) ss u in
@@ -121,7 +130,8 @@ module _ (cells : Segment → Segment → List Cell) (have : (s t : Segment) →
   each_later_have [] = tt
   each_later_have (s ∷ ss) = have_append (flat_map (cells s) ss) (each_later cells ss) (row_have s ss) (each_later_have ss)
 
-some_along : (p : Point) (N : Type 0) (s : Segment) (ts : List Segment) → SomeOf (λ t. BothOn p s t × N) ts ↔ (OnSegment s p × SomeOf (λ t. OnSegment t p) ts × N)
+some_along : (p : Point) (N : Type 0) (s : Segment) (ts : List Segment)
+    → SomeOf (λ t. BothOn p s t × N) ts ↔ (OnSegment s p × SomeOf (λ t. OnSegment t p) ts × N)
 some_along p N s [] = (λ h. absurd h, λ h. h.1)
 some_along p N s (t ∷ ts) =
     let k = some_along p N s ts in (
@@ -130,7 +140,8 @@ some_along p N s (t ∷ ts) =
     )
 
 -- a point of a segment of each
-some_both : (p : Point) (N : Type 0) (ss ts : List Segment) → SomeOf (λ s. SomeOf (λ t. BothOn p s t × N) ts) ss ↔ (SomeOf (λ s. OnSegment s p) ss × SomeOf (λ t. OnSegment t p) ts × N)
+some_both : (p : Point) (N : Type 0) (ss ts : List Segment)
+    → SomeOf (λ s. SomeOf (λ t. BothOn p s t × N) ts) ss ↔ (SomeOf (λ s. OnSegment s p) ss × SomeOf (λ t. OnSegment t p) ts × N)
 some_both p N [] ts = (λ h. absurd h, λ h. h.0)
 some_both p N (s ∷ ss) ts =
     let a = some_along p N s ts in
@@ -153,17 +164,23 @@ some_any P Q m (x ∷ xs) h = elim h [ inl i ↦ m x i | inr i ↦ some_any P Q 
 
 pub stretch_rule : PairRule shapes.Line shapes.Line Stretch common_stretches
 stretch_rule = record {
-  held_a = λ f g p u v h. line_held f p (some_weaker (λ s. SomeOf (Runs p s) (sides g)) (λ s. OnSegment s p) (λ s i. some_any (Runs p s) (OnSegment s p) (λ t r. r.1) (sides g) i) (sides f) h);
-  held_b = λ f g p u v h. line_held g p (some_any (λ s. SomeOf (Runs p s) (sides g)) (SomeOf (λ t. OnSegment t p) (sides g)) (λ s i. some_weaker (Runs p s) (λ t. OnSegment t p) (λ t r. r.2) (sides g) i) (sides f) h);
+  held_a = λ f g p u v h.
+      line_held f p (some_weaker (λ s. SomeOf (Runs p s) (sides g)) (λ s. OnSegment s p)
+      (λ s i. some_any (Runs p s) (OnSegment s p) (λ t r. r.1) (sides g) i) (sides f) h);
+  held_b = λ f g p u v h.
+      line_held g p (some_any (λ s. SomeOf (Runs p s) (sides g)) (SomeOf (λ t. OnSegment t p) (sides g))
+      (λ s i. some_weaker (Runs p s) (λ t. OnSegment t p) (λ t r. r.2) (sides g) i) (sides f) h);
   exact = stretch_points;
   some = λ f g u v. each_pair_have along along_have_points (sides f) (sides g);
 }
 
 -- ---- rules 12 and 13
-off_pair_points : (es : List Place) (f g : Feature) (p : Point) → IsFit shapes.Line f → IsFit shapes.Line g → InCells (each_pair (off_places es) (sides f) (sides g)) p ↔ (OnSides f p × OnSides g p × ¬ (SomeOf (λ q. IsAt q p) es))
+off_pair_points : (es : List Place) (f g : Feature) (p : Point) → IsFit shapes.Line f → IsFit shapes.Line g
+    → InCells (each_pair (off_places es) (sides f) (sides g)) p ↔ (OnSides f p × OnSides g p × ¬ (SomeOf (λ q. IsAt q p) es))
 off_pair_points es f g p u v =
     let N : Type 0 = ¬ (SomeOf (λ q. IsAt q p) es) in
-    let a = each_pair_points (off_places es) (λ s t. BothOn p s t × N) p (λ s t i j. off_points es s t p i j) (sides f) (sides g) u.proper v.proper in
+    let a = each_pair_points (off_places es) (λ s t. BothOn p s t × N) p (λ s t i j. off_points es s t p i j) (sides f)
+    (sides g) u.proper v.proper in
     let b = some_both p N (sides f) (sides g) in
     (λ h. b.0 (a.0 h), λ h. a.1 (b.1 h))
 
@@ -184,11 +201,15 @@ inner_rule = record {
 }
 
 -- of two lists, the places that are in both
-shared_points : (p : Point) (fs gs : List Place) → SomeOf (λ q. IsAt q p) (filter (has_end_at gs) fs) ↔ (SomeOf (λ q. IsAt q p) fs × SomeOf (λ q. IsAt q p) gs)
+shared_points : (p : Point) (fs gs : List Place)
+    → SomeOf (λ q. IsAt q p) (filter (has_end_at gs) fs) ↔ (SomeOf (λ q. IsAt q p) fs × SomeOf (λ q. IsAt q p) gs)
 shared_points p [] gs = (λ h. absurd h, λ h. h.0)
 shared_points p (q ∷ fs) gs = picked (shared_points p fs gs) (has_end_at gs q) refl
   where
-    picked : (SomeOf (λ q. IsAt q p) (filter (has_end_at gs) fs) ↔ (SomeOf (λ q. IsAt q p) fs × SomeOf (λ q. IsAt q p) gs)) → (b : Bool) → has_end_at gs q ≡ b → SomeOf (λ q. IsAt q p) (cond b (q ∷ filter (has_end_at gs) fs) (filter (has_end_at gs) fs)) ↔ ((IsAt q p ⊎ SomeOf (λ q. IsAt q p) fs) × SomeOf (λ q. IsAt q p) gs)
+    picked : (SomeOf (λ q. IsAt q p) (filter (has_end_at gs) fs) ↔ (SomeOf (λ q. IsAt q p) fs × SomeOf (λ q. IsAt q p) gs)) → (b : Bool)
+        → has_end_at gs q ≡ b
+        → SomeOf (λ q. IsAt q p) (cond b (q ∷ filter (has_end_at gs) fs) (filter (has_end_at gs) fs)) ↔
+        ((IsAt q p ⊎ SomeOf (λ q. IsAt q p) fs) × SomeOf (λ q. IsAt q p) gs)
     picked rest true e = (
       λ h. elim h [ inl a ↦ (inl a, (end_test gs q p a).0 e) | inr i ↦ let m = rest.0 i in (inr m.0, m.1) ],
       λ h. elim h.0 [ inl a ↦ inl a | inr i ↦ inr (rest.1 (i, h.1)) ],
@@ -198,7 +219,8 @@ shared_points p (q ∷ fs) gs = picked (shared_points p fs gs) (has_end_at gs q)
       λ h. elim h.0 [ inl a ↦ absurd (false≢true (sym e ∙ (end_test gs q p a).1 h.1)) | inr i ↦ rest.1 (i, h.1) ],
     )
 
-but_ends_points : (f g : Feature) (p : Point) → IsFit shapes.Line f → IsFit shapes.Line g → InCells (common_but_ends f g) p ↔ BothNotEnds f g p
+but_ends_points : (f g : Feature) (p : Point) → IsFit shapes.Line f → IsFit shapes.Line g
+    → InCells (common_but_ends f g) p ↔ BothNotEnds f g p
 but_ends_points f g p u v =
     let a = off_pair_points (filter (has_end_at (ends g)) (ends f)) f g p u v in
     let e = shared_points p (ends f) (ends g) in (
@@ -211,13 +233,15 @@ but_ends_rule = record {
   held_a = λ f g p u v h. line_held f p h.0;
   held_b = λ f g p u v h. line_held g p h.1;
   exact = but_ends_points;
-  some = λ f g u v. each_pair_have (off_places (filter (has_end_at (ends g)) (ends f))) (off_have_points (filter (has_end_at (ends g)) (ends f))) (sides f) (sides g);
+  some = λ f g u v. each_pair_have (off_places (filter (has_end_at (ends g)) (ends f)))
+      (off_have_points (filter (has_end_at (ends g)) (ends f))) (sides f) (sides g);
 }
 
 -- ---- rule 19
 some_pair_on : (p : Point) (ss : List Segment) → SomePair (Runs p) ss → SomeOf (λ s. OnSegment s p) ss
 some_pair_on p [] h = absurd h
-some_pair_on p (s ∷ ss) h = elim h [ inl i ↦ inl (some_any (Runs p s) (OnSegment s p) (λ t r. r.1) ss i) | inr i ↦ inr (some_pair_on p ss i) ]
+some_pair_on p (s ∷ ss) h =
+    elim h [ inl i ↦ inl (some_any (Runs p s) (OnSegment s p) (λ t r. r.1) ss i) | inr i ↦ inr (some_pair_on p ss i) ]
 
 pub overlay_rule : (k l : Kind) → AloneRule k l (λ f gs p. Overlay f p) own_stretches
 overlay_rule k l = record {
@@ -232,14 +256,16 @@ module _ (es : List Place) (p : Point) where
   N : Type 0
   N = ¬ (SomeOf (λ q. IsAt q p) es)
 
-  row_off : (s : Segment) (ts : List Segment) → IsSegment s → Every IsSegment ts → InCells (flat_map (off_places es s) ts) p ↔ (OnSegment s p × SomeOf (λ t. OnSegment t p) ts × N)
+  row_off : (s : Segment) (ts : List Segment) → IsSegment s → Every IsSegment ts
+      → InCells (flat_map (off_places es s) ts) p ↔ (OnSegment s p × SomeOf (λ t. OnSegment t p) ts × N)
   unfolding N
   row_off s ts g u =
       let a = row_points (off_places es) (λ s t. BothOn p s t × N) p (λ s t i j. off_points es s t p i j) s ts g u in
       let b = some_along p N s ts in
       (λ h. b.0 (a.0 h), λ h. a.1 (b.1 h))
 
-  crossings_points : (s : Segment) (ss later : List Segment) → IsSegment s → Every IsSegment ss → Every IsSegment later → InCells (crossings_of es s ss later) p ↔ (OnSegment s p × MeetsLater p s ss later × N)
+  crossings_points : (s : Segment) (ss later : List Segment) → IsSegment s → Every IsSegment ss → Every IsSegment later
+      → InCells (crossings_of es s ss later) p ↔ (OnSegment s p × MeetsLater p s ss later × N)
   unfolding N
   crossings_points s [] later g u v = row_off s later g v
   crossings_points s (t ∷ ts) later g u v =
@@ -256,7 +282,8 @@ module _ (es : List Place) (p : Point) where
         ],
       )
 
-  part_points : (ss later : List Segment) → Every IsSegment ss → Every IsSegment later → InCells (in_part es ss later) p ↔ (PartCrosses p ss later × N)
+  part_points : (ss later : List Segment) → Every IsSegment ss → Every IsSegment later
+      → InCells (in_part es ss later) p ↔ (PartCrosses p ss later × N)
   unfolding N
   part_points [] later u v = (λ h. absurd h, λ h. h.0)
   part_points (s ∷ ss) later u v =
@@ -267,7 +294,8 @@ module _ (es : List Place) (p : Point) where
         λ h. elim h.0 [ inl i ↦ a.1 (inl (b.1 (i.0, i.1, h.1))) | inr i ↦ a.1 (inr (c.1 (i, h.1))) ],
       )
 
-  crosses_points : (rings : List (List Place)) → Every IsSegment (flat_map path rings) → InCells (later_crossings es rings) p ↔ (Crosses p rings × N)
+  crosses_points : (rings : List (List Place)) → Every IsSegment (flat_map path rings)
+      → InCells (later_crossings es rings) p ↔ (Crosses p rings × N)
   unfolding N
   crosses_points [] u = (λ h. absurd h, λ h. h.0)
   crosses_points (ring ∷ rings) u =
@@ -300,12 +328,16 @@ part_have es [] later = tt
 part_have es (s ∷ []) later = have_append (flat_map (off_places es s) later) [] (row_have (off_places es) (off_have_points es) s later) tt
 part_have es (s ∷ t ∷ ts) later =
     have_append (cond (overlap s t) (off_places es s t) [] ++ flat_map (off_places es s) (ts ++ later)) (in_part es (t ∷ ts) later)
-    (have_append (cond (overlap s t) (off_places es s t) []) (flat_map (off_places es s) (ts ++ later)) (some_cond (overlap s t) (off_places es s t) (off_have_points es s t)) (row_have (off_places es) (off_have_points es) s (ts ++ later)))
+    (have_append (cond (overlap s t) (off_places es s t) []) (flat_map (off_places es s) (ts ++ later))
+    (some_cond (overlap s t) (off_places es s t) (off_have_points es s t))
+    (row_have (off_places es) (off_have_points es) s (ts ++ later)))
     (part_have es (t ∷ ts) later)
 
 crosses_have : (es : List Place) (rings : List (List Place)) → HavePoints (later_crossings es rings)
 crosses_have es [] = tt
-crosses_have es (ring ∷ rings) = have_append (in_part es (path ring) (flat_map path rings)) (later_crossings es rings) (part_have es (path ring) (flat_map path rings)) (crosses_have es rings)
+crosses_have es (ring ∷ rings) =
+    have_append (in_part es (path ring) (flat_map path rings)) (later_crossings es rings)
+    (part_have es (path ring) (flat_map path rings)) (crosses_have es rings)
 
 pub crossing_rule : (l : Kind) → AloneRule shapes.Line l (λ f gs p. Crossing f p) own_crossings
 unfolding N

@@ -54,13 +54,16 @@ unfolding differ
 odd_more true n = refl
 odd_more false n = refl
 
-odd_joined : {A : Type 0} (test : A → Bool) (xs ys : List A) → is_odd (how_many test (xs ++ ys)) ≡ differ (is_odd (how_many test xs)) (is_odd (how_many test ys))
+odd_joined : {A : Type 0} (test : A → Bool) (xs ys : List A)
+    → is_odd (how_many test (xs ++ ys)) ≡ differ (is_odd (how_many test xs)) (is_odd (how_many test ys))
 unfolding differ
 odd_joined test [] ys = refl
 odd_joined test (x ∷ xs) ys =
     let m = is_odd (how_many test xs) in
     let n = is_odd (how_many test ys) in
-    odd_more (test x) (how_many test (xs ++ ys)) ∙ (ap (differ (test x)) (odd_joined test xs ys) ∙ (sym (differ_joined (test x) m n) ∙ ap (λ b. differ b n) (sym (odd_more (test x) (how_many test xs)))))
+    odd_more (test x) (how_many test (xs ++ ys))
+    ∙ (ap (differ (test x)) (odd_joined test xs ys)
+    ∙ (sym (differ_joined (test x) m n) ∙ ap (λ b. differ b n) (sym (odd_more (test x) (how_many test xs)))))
 
 -- ---- the segments over or below a point
 abbrev is_before : Point → Place → Bool
@@ -69,7 +72,8 @@ is_before p q = int_le (q.x *ℤ pos p.w) p.x
 abbrev spans : Point → Segment → Bool
 spans p s = is_before p s.lo && int_lt p.x (s.hi.x *ℤ pos p.w)
 
-spans_ordered : (p : Point) (a b : Place) → a.x ≤ℤ b.x → (is_before p a && int_lt p.x (b.x *ℤ pos p.w)) ≡ differ (is_before p a) (is_before p b)
+spans_ordered : (p : Point) (a b : Place) → a.x ≤ℤ b.x
+    → (is_before p a && int_lt p.x (b.x *ℤ pos p.w)) ≡ differ (is_before p a) (is_before p b)
 unfolding differ
 spans_ordered p a b h =
     let l = scaled_le a.x b.x p.w h in
@@ -95,16 +99,20 @@ out_of_order a b e = grind (arith, ints)
 spans_between : (p : Point) (a b : Place) → spans p (segment_between a b) ≡ differ (is_before p a) (is_before p b)
 spans_between p a b = by_order (comes_before a b) refl
   where
-    by_order : (t : Bool) → comes_before a b ≡ t → spans p (if t then record { lo = a; hi = b; turned = false } else record { lo = b; hi = a; turned = true }) ≡ differ (is_before p a) (is_before p b)
+    by_order : (t : Bool) → comes_before a b ≡ t
+        → spans p (if t then record { lo = a; hi = b; turned = false } else record { lo = b; hi = a; turned = true }) ≡ differ
+        (is_before p a) (is_before p b)
     by_order true e = spans_ordered p a b (in_order a b e)
     by_order false e = spans_ordered p b a (out_of_order a b e) ∙ differ_back (is_before p b) (is_before p a)
 
-path_parity : (p : Point) (a : Place) (ps : List Place) → is_odd (how_many (spans p) (path (a ∷ ps))) ≡ differ (is_before p a) (is_before p (last_of a ps))
+path_parity : (p : Point) (a : Place) (ps : List Place)
+    → is_odd (how_many (spans p) (path (a ∷ ps))) ≡ differ (is_before p a) (is_before p (last_of a ps))
 path_parity p a [] = sym (differ_self (is_before p a))
 path_parity p a (b ∷ ps) =
     let one = spans_between p a b in
     let rest = path_parity p b ps in
-    odd_more (spans p (segment_between a b)) (how_many (spans p) (path (b ∷ ps))) ∙ (rw (one, rest) (differ_through (is_before p a) (is_before p b) (is_before p (last_of b ps))))
+    odd_more (spans p (segment_between a b)) (how_many (spans p) (path (b ∷ ps)))
+    ∙ (rw (one, rest) (differ_through (is_before p a) (is_before p b) (is_before p (last_of b ps))))
 
 last_added : (a b : Place) (ps : List Place) → last_of a (ps ++ b ∷ []) ≡ b
 last_added a b [] = refl
@@ -112,18 +120,21 @@ last_added a b (q ∷ ps) = last_added q b ps
 
 closed_even : (p : Point) (ring : List Place) → is_odd (how_many (spans p) (closed_path ring)) ≡ false
 closed_even p [] = refl
-closed_even p (a ∷ ps) = path_parity p a (ps ++ a ∷ []) ∙ (ap (λ q. differ (is_before p a) (is_before p q)) (last_added a a ps) ∙ differ_self (is_before p a))
+closed_even p (a ∷ ps) = path_parity p a (ps ++ a ∷ [])
+    ∙ (ap (λ q. differ (is_before p a) (is_before p q)) (last_added a a ps) ∙ differ_self (is_before p a))
 
 rings_even : (p : Point) (rings : List (List Place)) → is_odd (how_many (spans p) (flat_map closed_path rings)) ≡ false
 unfolding differ
 rings_even p [] = refl
-rings_even p (ring ∷ rings) = odd_joined (spans p) (closed_path ring) (flat_map closed_path rings) ∙ rw (closed_even p ring) (rings_even p rings)
+rings_even p (ring ∷ rings) = odd_joined (spans p) (closed_path ring) (flat_map closed_path rings)
+    ∙ rw (closed_even p ring) (rings_even p rings)
 
 polygon_even : (p : Point) (s : Shape) → s.kind ≡ shapes.Polygon → is_odd (how_many (spans p) (segments_of s)) ≡ false
 polygon_even p s e = rw e (rings_even p (rings_of s))
 
 -- ---- above and below both ends
-cross_above : (s : Segment) (p : Point) → (s.lo.x *ℤ pos p.w) ≤ℤ p.x → p.x <ℤ (s.hi.x *ℤ pos p.w) → (s.lo.y *ℤ pos p.w) <ℤ p.y → (s.hi.y *ℤ pos p.w) <ℤ p.y → pos 0 <ℤ cross s p
+cross_above : (s : Segment) (p : Point) → (s.lo.x *ℤ pos p.w) ≤ℤ p.x → p.x <ℤ (s.hi.x *ℤ pos p.w) → (s.lo.y *ℤ pos p.w) <ℤ p.y
+    → (s.hi.y *ℤ pos p.w) <ℤ p.y → pos 0 <ℤ cross s p
 cross_above s p l r a b =
     let w = num (pos p.w) in
     let u = num p.x ⊖ num s.lo.x ⊗ w in
@@ -131,12 +142,15 @@ cross_above s p l r a b =
     let m = num p.y ⊖ num s.lo.y ⊗ w in
     let n = num p.y ⊖ num s.hi.y ⊗ w in
     let c = (num s.hi.x ⊖ num s.lo.x) ⊗ m ⊖ (num s.hi.y ⊖ num s.lo.y) ⊗ u in
-    let h = lt_read (num (pos 0)) (v ⊗ m) (product_over (s.hi.x *ℤ pos p.w -ℤ p.x) (p.y -ℤ s.lo.y *ℤ pos p.w) (omega (arith, ints)) (omega (arith, ints))) in
-    let k = le_read (num (pos 0)) (u ⊗ n) (product_at_least (p.x -ℤ s.lo.x *ℤ pos p.w) (p.y -ℤ s.hi.y *ℤ pos p.w) (omega (arith, ints)) (omega (arith, ints))) in
+    let h = lt_read (num (pos 0)) (v ⊗ m)
+    (product_over (s.hi.x *ℤ pos p.w -ℤ p.x) (p.y -ℤ s.lo.y *ℤ pos p.w) (omega (arith, ints)) (omega (arith, ints))) in
+    let k = le_read (num (pos 0)) (u ⊗ n)
+    (product_at_least (p.x -ℤ s.lo.x *ℤ pos p.w) (p.y -ℤ s.hi.y *ℤ pos p.w) (omega (arith, ints)) (omega (arith, ints))) in
     let q = p.positive in
     over_unscaled (pos p.w) (cross s p) (omega (arith, ints, q)) (lt_by (num (pos 0)) (w ⊗ c) (omega (arith, h, k)))
 
-cross_below : (s : Segment) (p : Point) → (s.lo.x *ℤ pos p.w) ≤ℤ p.x → p.x <ℤ (s.hi.x *ℤ pos p.w) → p.y <ℤ (s.lo.y *ℤ pos p.w) → p.y <ℤ (s.hi.y *ℤ pos p.w) → cross s p ≤ℤ pos 0
+cross_below : (s : Segment) (p : Point) → (s.lo.x *ℤ pos p.w) ≤ℤ p.x → p.x <ℤ (s.hi.x *ℤ pos p.w) → p.y <ℤ (s.lo.y *ℤ pos p.w)
+    → p.y <ℤ (s.hi.y *ℤ pos p.w) → cross s p ≤ℤ pos 0
 cross_below s p l r a b =
     let w = num (pos p.w) in
     let u = num p.x ⊖ num s.lo.x ⊗ w in
@@ -144,8 +158,10 @@ cross_below s p l r a b =
     let m = num s.lo.y ⊗ w ⊖ num p.y in
     let n = num s.hi.y ⊗ w ⊖ num p.y in
     let c = (num s.hi.x ⊖ num s.lo.x) ⊗ (num p.y ⊖ num s.lo.y ⊗ w) ⊖ (num s.hi.y ⊖ num s.lo.y) ⊗ u in
-    let h = le_read (num (pos 0)) (v ⊗ m) (product_at_least (s.hi.x *ℤ pos p.w -ℤ p.x) (s.lo.y *ℤ pos p.w -ℤ p.y) (omega (arith, ints)) (omega (arith, ints))) in
-    let k = le_read (num (pos 0)) (u ⊗ n) (product_at_least (p.x -ℤ s.lo.x *ℤ pos p.w) (s.hi.y *ℤ pos p.w -ℤ p.y) (omega (arith, ints)) (omega (arith, ints))) in
+    let h = le_read (num (pos 0)) (v ⊗ m)
+    (product_at_least (s.hi.x *ℤ pos p.w -ℤ p.x) (s.lo.y *ℤ pos p.w -ℤ p.y) (omega (arith, ints)) (omega (arith, ints))) in
+    let k = le_read (num (pos 0)) (u ⊗ n)
+    (product_at_least (p.x -ℤ s.lo.x *ℤ pos p.w) (s.hi.y *ℤ pos p.w -ℤ p.y) (omega (arith, ints)) (omega (arith, ints))) in
     let q = p.positive in
     let z = least_unscaled (pos p.w) (neg_ℤ (cross s p)) (omega (arith, ints, q)) (le_by (num (pos 0)) (w ⊗ neg c) (omega (arith, h, k))) in
     omega (arith, ints, z)
@@ -188,7 +204,8 @@ counts_below p s h = third_not (is_before p s.lo) (int_lt p.x (s.hi.x *ℤ pos p
     third_not false c d h = refl
 
 counts_left : (p : Point) (s : Segment) → BothEnds (λ q. p.x <ℤ (q.x *ℤ pos p.w)) s → counts s p ≡ false
-counts_left p s h = first_not (is_before p s.lo) (int_lt p.x (s.hi.x *ℤ pos p.w) && int_lt (pos 0) (cross s p)) (fails (s.lo.x *ℤ pos p.w) p.x h.0)
+counts_left p s h = first_not (is_before p s.lo) (int_lt p.x (s.hi.x *ℤ pos p.w) && int_lt (pos 0) (cross s p))
+    (fails (s.lo.x *ℤ pos p.w) p.x h.0)
   where
     first_not : (b c : Bool) → b ≡ false → (b && c) ≡ false
     first_not b c e = rw e refl
@@ -197,7 +214,8 @@ counts_left p s h = first_not (is_before p s.lo) (int_lt p.x (s.hi.x *ℤ pos p.
     fails u z h = grind (arith, ints)
 
 counts_right : (p : Point) (s : Segment) → BothEnds (λ q. (q.x *ℤ pos p.w) <ℤ p.x) s → counts s p ≡ false
-counts_right p s h = second_not (is_before p s.lo) (int_lt p.x (s.hi.x *ℤ pos p.w)) (int_lt (pos 0) (cross s p)) (fails (s.hi.x *ℤ pos p.w) p.x h.1)
+counts_right p s h =
+    second_not (is_before p s.lo) (int_lt p.x (s.hi.x *ℤ pos p.w)) (int_lt (pos 0) (cross s p)) (fails (s.hi.x *ℤ pos p.w) p.x h.1)
   where
     second_not : (b c d : Bool) → c ≡ false → (b && (c && d)) ≡ false
     second_not true c d e = rw e refl
@@ -224,23 +242,30 @@ module _ (s : Shape) (e : s.kind ≡ shapes.Polygon) (p : Point) (i : IsInside (
 
   -- where each segment with both ends in the envelope does not count
   outside : ((t : Segment) → BothEnds (LiesIn box) t → counts t p ≡ false) → ⊥
-  outside f = never (none_odd p (segments_of s) (every_map (BothEnds (LiesIn box)) (λ t. counts t p ≡ false) f (segments_of s) (segments_ends s)))
+  outside f = never (none_odd p (segments_of s)
+      (every_map (BothEnds (LiesIn box)) (λ t. counts t p ≡ false) f (segments_of s) (segments_ends s)))
 
   left_held : (box.x0 *ℤ pos p.w) ≤ℤ p.x
   left_held = elim (cases_order_ℤ p.x (box.x0 *ℤ pos p.w)) [
-    | inl l ↦ absurd (outside (λ t h. counts_left p t (omega (arith, ints, l, scaled_le box.x0 t.lo.x p.w h.0.left), omega (arith, ints, l, scaled_le box.x0 t.hi.x p.w h.1.left))))
+    | inl l ↦ absurd (outside
+        (λ t h. counts_left p t
+        (omega (arith, ints, l, scaled_le box.x0 t.lo.x p.w h.0.left), omega (arith, ints, l, scaled_le box.x0 t.hi.x p.w h.1.left))))
     | inr k ↦ k
   ]
 
   right_held : p.x ≤ℤ (box.x1 *ℤ pos p.w)
   right_held = elim (cases_order_ℤ (box.x1 *ℤ pos p.w) p.x) [
-    | inl l ↦ absurd (outside (λ t h. counts_right p t (omega (arith, ints, l, scaled_le t.lo.x box.x1 p.w h.0.right), omega (arith, ints, l, scaled_le t.hi.x box.x1 p.w h.1.right))))
+    | inl l ↦ absurd (outside
+        (λ t h. counts_right p t
+        (omega (arith, ints, l, scaled_le t.lo.x box.x1 p.w h.0.right), omega (arith, ints, l, scaled_le t.hi.x box.x1 p.w h.1.right))))
     | inr k ↦ k
   ]
 
   below_held : (box.y0 *ℤ pos p.w) ≤ℤ p.y
   below_held = elim (cases_order_ℤ p.y (box.y0 *ℤ pos p.w)) [
-    | inl l ↦ absurd (outside (λ t h. counts_below p t (omega (arith, ints, l, scaled_le box.y0 t.lo.y p.w h.0.below), omega (arith, ints, l, scaled_le box.y0 t.hi.y p.w h.1.below))))
+    | inl l ↦ absurd (outside
+        (λ t h. counts_below p t
+        (omega (arith, ints, l, scaled_le box.y0 t.lo.y p.w h.0.below), omega (arith, ints, l, scaled_le box.y0 t.hi.y p.w h.1.below))))
     | inr k ↦ k
   ]
 
@@ -248,7 +273,10 @@ module _ (s : Shape) (e : s.kind ≡ shapes.Polygon) (p : Point) (i : IsInside (
   above_held = elim (cases_order_ℤ (box.y1 *ℤ pos p.w) p.y) [
     | inl l ↦
         let same = same_number (λ t. counts t p) (spans p) (segments_of s) (every_map (BothEnds (LiesIn box)) (λ t. counts t p ≡ spans p t)
-        (λ t h. counts_above p t (omega (arith, ints, l, scaled_le t.lo.y box.y1 p.w h.0.above), omega (arith, ints, l, scaled_le t.hi.y box.y1 p.w h.1.above))) (segments_of s) (segments_ends s)) in
+        (λ t h. counts_above p t (
+          omega (arith, ints, l, scaled_le t.lo.y box.y1 p.w h.0.above),
+          omega (arith, ints, l, scaled_le t.hi.y box.y1 p.w h.1.above),
+        )) (segments_of s) (segments_ends s)) in
         absurd (never (ap is_odd same ∙ polygon_even p s e))
     | inr k ↦ k
   ]

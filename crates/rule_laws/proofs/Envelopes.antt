@@ -14,12 +14,20 @@ use Rattle.sound_laws.proofs.Planes.{within_self}
 use Rattle.validation_laws.proofs.Frames.{within_join_left, within_join_right}
 
 within_trans : (r s t : Rectangle) → IsWithin r s → IsWithin s t → IsWithin r t
-within_trans r s t i j = record { left = omega (arith, ints, i.left, j.left); right = omega (arith, ints, i.right, j.right); below = omega (arith, ints, i.below, j.below); above = omega (arith, ints, i.above, j.above) }
+within_trans r s t i j =
+    record {
+      left = omega (arith, ints, i.left, j.left);
+      right = omega (arith, ints, i.right, j.right);
+      below = omega (arith, ints, i.below, j.below);
+      above = omega (arith, ints, i.above, j.above);
+    }
 
 -- a box only grows
 pub box_grows : (r : Rectangle) (ps : List Place) → IsWithin r (box_from r ps)
 box_grows r [] = within_self r
-box_grows r (p ∷ ps) = within_trans r (join_of r (rect_at p)) (box_from (join_of r (rect_at p)) ps) (within_join_left r (rect_at p)) (box_grows (join_of r (rect_at p)) ps)
+box_grows r (p ∷ ps) =
+    within_trans r (join_of r (rect_at p)) (box_from (join_of r (rect_at p)) ps) (within_join_left r (rect_at p))
+    (box_grows (join_of r (rect_at p)) ps)
 
 -- the place lies in the rectangle
 abbrev pub LiesIn : Rectangle → Place → Type 0
@@ -59,14 +67,16 @@ closed_ends : (P : Place → Type 0) (ring : List Place) → Every P ring → Ev
 closed_ends P [] h = tt
 closed_ends P (p ∷ ps) h = path_ends P (p ∷ ps ++ p ∷ []) ((all_append P (p ∷ ps) (p ∷ [])).1 (h, (h.0, tt)))
 
-rings_ends : (P : Place → Type 0) (rings : List (List Place)) → Every P (flat_map (λ ring. ring) rings) → Every (BothEnds P) (flat_map closed_path rings)
+rings_ends : (P : Place → Type 0) (rings : List (List Place)) → Every P (flat_map (λ ring. ring) rings)
+    → Every (BothEnds P) (flat_map closed_path rings)
 rings_ends P [] h = tt
 rings_ends P (ring ∷ rings) h =
     let k = (all_append P ring (flat_map (λ ring. ring) rings)).0 h in
     (all_append (BothEnds P) (closed_path ring) (flat_map closed_path rings)).1 (closed_ends P ring k.0, rings_ends P rings k.1)
 
 -- those of a line's
-paths_ends : (P : Place → Type 0) (rings : List (List Place)) → Every P (flat_map (λ ring. ring) rings) → Every (BothEnds P) (flat_map path rings)
+paths_ends : (P : Place → Type 0) (rings : List (List Place)) → Every P (flat_map (λ ring. ring) rings)
+    → Every (BothEnds P) (flat_map path rings)
 paths_ends P [] h = tt
 paths_ends P (ring ∷ rings) h =
     let k = (all_append P ring (flat_map (λ ring. ring) rings)).0 h in
@@ -76,7 +86,8 @@ paths_ends P (ring ∷ rings) h =
 pub segments_ends : (s : Shape) → Every (BothEnds (LiesIn (envelope_of s))) (segments_of s)
 segments_ends s = by_kind (LiesIn (envelope_of s)) s.kind (rings_of s) (vertices_in s)
   where
-    by_kind : (P : Place → Type 0) (k : Kind) (rings : List (List Place)) → Every P (flat_map (λ ring. ring) rings) → Every (BothEnds P) (segments_by k rings)
+    by_kind : (P : Place → Type 0) (k : Kind) (rings : List (List Place)) → Every P (flat_map (λ ring. ring) rings)
+        → Every (BothEnds P) (segments_by k rings)
     by_kind P shapes.Point rings h = tt
     by_kind P shapes.Line rings h = paths_ends P rings h
     by_kind P shapes.Polygon rings h = rings_ends P rings h
@@ -96,7 +107,8 @@ ends_have P ((p ∷ ps) ∷ rings) h =
 pub ends_in : (s : Shape) → Every (LiesIn (envelope_of s)) (ends_of s)
 ends_in s = by_kind (LiesIn (envelope_of s)) s.kind (rings_of s) (vertices_in s)
   where
-    by_kind : (P : Place → Type 0) (k : Kind) (rings : List (List Place)) → Every P (flat_map (λ ring. ring) rings) → Every P (ends_by k rings)
+    by_kind : (P : Place → Type 0) (k : Kind) (rings : List (List Place)) → Every P (flat_map (λ ring. ring) rings)
+        → Every P (ends_by k rings)
     by_kind P shapes.Point rings h = tt
     by_kind P shapes.Line rings h = ends_have P rings h
     by_kind P shapes.Polygon rings h = tt

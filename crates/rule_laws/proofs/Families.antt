@@ -48,7 +48,8 @@ IsInOrder Own a b = Unit {0}
 IsInOrder Second a b = Unit {0}
 IsInOrder Other a b = Unit {0}
 
-pub record PairBreaks (C : Feature → Feature → Point → Type 0) (row : Row) (who : Around) (F : List Feature) (a b : ℕ) (p : Point) : Type 0 where
+pub record PairBreaks (C : Feature → Feature → Point → Type 0) (row : Row) (who : Around) (F : List Feature) (a b : ℕ)
+    (p : Point) : Type 0 where
   pub f : Feature
   pub g : Feature
   pub live : feature_at F a ≡ Some f
@@ -57,7 +58,8 @@ pub record PairBreaks (C : Feature → Feature → Point → Type 0) (row : Row)
   pub order : IsInOrder who a b
   pub common : C f g p
 
-pub record AloneBreaks (Q : Feature → List Feature → Point → Type 0) (row : Row) (who : Around) (F : List Feature) (a b : ℕ) (p : Point) : Type 0 where
+pub record AloneBreaks (Q : Feature → List Feature → Point → Type 0) (row : Row) (who : Around) (F : List Feature) (a b : ℕ)
+    (p : Point) : Type 0 where
   pub f : Feature
   pub live : feature_at F a ≡ Some f
   pub judged : judged row f ≡ true

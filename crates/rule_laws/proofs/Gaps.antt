@@ -25,8 +25,9 @@ use Rattle.cell_laws.proofs.GridLines.{x_over_holds, x_under_holds, y_over_holds
 use Rattle.cell_laws.proofs.SegmentCells.{on_segment_points}
 use Rattle.sound_laws.proofs.Dirts.{bool_cases}
 use Rattle.sound_laws.proofs.FeatureLists.{same_handle}
+use Rattle.plane_terms.proofs.ListLemmas.{every_filter, every_map}
 use Rattle.rule_laws.proofs.Families.{IsFit}
-use Rattle.rule_laws.proofs.Lists.{every_filter, every_unfilter, every_weaker}
+use Rattle.rule_laws.proofs.Lists.{every_unfilter}
 use Rattle.rule_laws.proofs.Around.{holds_test, round}
 use Rattle.rule_laws.proofs.Alone.{AloneRule, IsOnlyOne}
 use Rattle.rule_laws.proofs.Held.{line_held, closure_held}
@@ -42,16 +43,21 @@ pub record IsGap (f : Feature) (gs : List Feature) (p : Point) : Type 0 where
 
 -- ---- numbers: x / w before or at c, y / v beyond it
 gap_over : (x c y w v : ℤ) → y *ℤ w -ℤ x *ℤ v -ℤ v ≡ (y -ℤ c *ℤ v) *ℤ w +ℤ (c *ℤ w -ℤ x -ℤ pos 1) *ℤ v
-gap_over x c y w v = same_by (num y ⊗ num w ⊖ num x ⊗ num v ⊖ num v) ((num y ⊖ num c ⊗ num v) ⊗ num w ⊕ (num c ⊗ num w ⊖ num x ⊖ num (pos 1)) ⊗ num v) (omega arith)
+gap_over x c y w v =
+    same_by (num y ⊗ num w ⊖ num x ⊗ num v ⊖ num v) ((num y ⊖ num c ⊗ num v) ⊗ num w ⊕ (num c ⊗ num w ⊖ num x ⊖ num (pos 1)) ⊗ num v)
+    (omega arith)
 
 gap_under : (x c y w v : ℤ) → x *ℤ v -ℤ y *ℤ w -ℤ v ≡ (x -ℤ c *ℤ w -ℤ pos 1) *ℤ v +ℤ (c *ℤ v -ℤ y) *ℤ w
-gap_under x c y w v = same_by (num x ⊗ num v ⊖ num y ⊗ num w ⊖ num v) ((num x ⊖ num c ⊗ num w ⊖ num (pos 1)) ⊗ num v ⊕ (num c ⊗ num v ⊖ num y) ⊗ num w) (omega arith)
+gap_under x c y w v =
+    same_by (num x ⊗ num v ⊖ num y ⊗ num w ⊖ num v) ((num x ⊖ num c ⊗ num w ⊖ num (pos 1)) ⊗ num v ⊕ (num c ⊗ num v ⊖ num y) ⊗ num w)
+    (omega arith)
 
 -- a difference that is at least v is not below 1 / m of w * v, where m is at least w
 too_far : (d : ℤ) (w v m : ℕ) → 0 < v → pos 0 ≤ℤ (d -ℤ pos v) → w ≤ m → (d *ℤ pos m) <ℤ pos (w * v) → ⊥
 too_far d w v m o h l n =
     let a = product_at_least (d -ℤ pos v) (pos m) h (omega (arith, ints)) in
-    let b : (d -ℤ pos v) *ℤ pos m ≡ d *ℤ pos m -ℤ pos (v * m) = same_by ((num d ⊖ num (pos v)) ⊗ num (pos m)) (num d ⊗ num (pos m) ⊖ num (pos (v * m))) (omega arith) in
+    let b : (d -ℤ pos v) *ℤ pos m ≡ d *ℤ pos m -ℤ pos (v * m) =
+    same_by ((num d ⊖ num (pos v)) ⊗ num (pos m)) (num d ⊗ num (pos m) ⊖ num (pos (v * m))) (omega arith) in
     let c : v * w ≤ v * m = mul-le-mul_left v l in
     let e : w * v ≤ v * m = omega (arith, c) in
     last (d *ℤ pos m) (w * v) (v * m) ((d -ℤ pos v) *ℤ pos m) a b e n
@@ -59,7 +65,8 @@ too_far d w v m o h l n =
     last : (z : ℤ) (i j : ℕ) (y : ℤ) → pos 0 ≤ℤ y → y ≡ z -ℤ pos j → i ≤ j → z <ℤ pos i → ⊥
     last z i j y h e l n = omega (arith, ints)
 
-past_over : (x c y : ℤ) (w v m : ℕ) → 0 < v → x <ℤ (c *ℤ pos w) → (c *ℤ pos v) ≤ℤ y → w ≤ m → ((y *ℤ pos w -ℤ x *ℤ pos v) *ℤ pos m) <ℤ pos (w * v) → ⊥
+past_over : (x c y : ℤ) (w v m : ℕ) → 0 < v → x <ℤ (c *ℤ pos w) → (c *ℤ pos v) ≤ℤ y → w ≤ m
+    → ((y *ℤ pos w -ℤ x *ℤ pos v) *ℤ pos m) <ℤ pos (w * v) → ⊥
 past_over x c y w v m o h k l n =
     let a = product_at_least (y -ℤ c *ℤ pos v) (pos w) (omega (arith, ints)) (omega (arith, ints)) in
     let b = product_at_least (c *ℤ pos w -ℤ x -ℤ pos 1) (pos v) (omega (arith, ints)) (omega (arith, ints)) in
@@ -68,7 +75,8 @@ past_over x c y w v m o h k l n =
     sum : (z s t : ℤ) → z ≡ s +ℤ t → pos 0 ≤ℤ s → pos 0 ≤ℤ t → pos 0 ≤ℤ z
     sum z s t e h k = omega (arith, ints)
 
-past_under : (x c y : ℤ) (w v m : ℕ) → 0 < v → (c *ℤ pos w) <ℤ x → y ≤ℤ (c *ℤ pos v) → w ≤ m → ((x *ℤ pos v -ℤ y *ℤ pos w) *ℤ pos m) <ℤ pos (w * v) → ⊥
+past_under : (x c y : ℤ) (w v m : ℕ) → 0 < v → (c *ℤ pos w) <ℤ x → y ≤ℤ (c *ℤ pos v) → w ≤ m
+    → ((x *ℤ pos v -ℤ y *ℤ pos w) *ℤ pos m) <ℤ pos (w * v) → ⊥
 past_under x c y w v m o h k l n =
     let a = product_at_least (x -ℤ c *ℤ pos w -ℤ pos 1) (pos v) (omega (arith, ints)) (omega (arith, ints)) in
     let b = product_at_least (c *ℤ pos v -ℤ y) (pos w) (omega (arith, ints)) (omega (arith, ints)) in
@@ -80,18 +88,26 @@ past_under x c y w v m o h k l n =
 -- a rectangle that does not hold p holds no point near enough to it
 near_off : (r : Rectangle) (p q : Point) (m : ℕ) → p.w ≤ m → IsNear m p q → RectHolds r q → RectHolds r p
 near_off r p q m l n h = record {
-  left = elim (cases_order_ℤ p.x (r.x0 *ℤ pos p.w)) [ inl o ↦ absurd (past_over p.x r.x0 q.x p.w q.w m q.positive o h.left l n.right) | inr o ↦ o ];
-  right = elim (cases_order_ℤ (r.x1 *ℤ pos p.w) p.x) [ inl o ↦ absurd (past_under p.x r.x1 q.x p.w q.w m q.positive o h.right l n.left) | inr o ↦ o ];
-  below = elim (cases_order_ℤ p.y (r.y0 *ℤ pos p.w)) [ inl o ↦ absurd (past_over p.y r.y0 q.y p.w q.w m q.positive o h.below l n.up) | inr o ↦ o ];
-  above = elim (cases_order_ℤ (r.y1 *ℤ pos p.w) p.y) [ inl o ↦ absurd (past_under p.y r.y1 q.y p.w q.w m q.positive o h.above l n.down) | inr o ↦ o ];
+  left = elim (cases_order_ℤ p.x (r.x0 *ℤ pos p.w))
+      [ inl o ↦ absurd (past_over p.x r.x0 q.x p.w q.w m q.positive o h.left l n.right) | inr o ↦ o ];
+  right = elim (cases_order_ℤ (r.x1 *ℤ pos p.w) p.x)
+      [ inl o ↦ absurd (past_under p.x r.x1 q.x p.w q.w m q.positive o h.right l n.left) | inr o ↦ o ];
+  below = elim (cases_order_ℤ p.y (r.y0 *ℤ pos p.w))
+      [ inl o ↦ absurd (past_over p.y r.y0 q.y p.w q.w m q.positive o h.below l n.up) | inr o ↦ o ];
+  above = elim (cases_order_ℤ (r.y1 *ℤ pos p.w) p.y)
+      [ inl o ↦ absurd (past_under p.y r.y1 q.y p.w q.w m q.positive o h.above l n.down) | inr o ↦ o ];
 }
 
 -- ---- the box: what is less than 1 from a point of the envelope is in it
 box_over : (x c y w v : ℤ) → y *ℤ w -ℤ x *ℤ v -ℤ w *ℤ v ≡ (y -ℤ (c +ℤ pos 1) *ℤ v) *ℤ w +ℤ (c *ℤ w -ℤ x) *ℤ v
-box_over x c y w v = same_by (num y ⊗ num w ⊖ num x ⊗ num v ⊖ num w ⊗ num v) ((num y ⊖ (num c ⊕ num (pos 1)) ⊗ num v) ⊗ num w ⊕ (num c ⊗ num w ⊖ num x) ⊗ num v) (omega arith)
+box_over x c y w v =
+    same_by (num y ⊗ num w ⊖ num x ⊗ num v ⊖ num w ⊗ num v)
+    ((num y ⊖ (num c ⊕ num (pos 1)) ⊗ num v) ⊗ num w ⊕ (num c ⊗ num w ⊖ num x) ⊗ num v) (omega arith)
 
 box_under : (x c y w v : ℤ) → x *ℤ v -ℤ y *ℤ w -ℤ w *ℤ v ≡ (x -ℤ c *ℤ w) *ℤ v +ℤ ((c -ℤ pos 1) *ℤ v -ℤ y) *ℤ w
-box_under x c y w v = same_by (num x ⊗ num v ⊖ num y ⊗ num w ⊖ num w ⊗ num v) ((num x ⊖ num c ⊗ num w) ⊗ num v ⊕ ((num c ⊖ num (pos 1)) ⊗ num v ⊖ num y) ⊗ num w) (omega arith)
+box_under x c y w v =
+    same_by (num x ⊗ num v ⊖ num y ⊗ num w ⊖ num w ⊗ num v)
+    ((num x ⊖ num c ⊗ num w) ⊗ num v ⊕ ((num c ⊖ num (pos 1)) ⊗ num v ⊖ num y) ⊗ num w) (omega arith)
 
 times : (w v : ℕ) → pos w *ℤ pos v ≡ pos (w * v)
 times w v = same_by (num (pos w) ⊗ num (pos v)) (num (pos (w * v))) (omega arith)
@@ -148,8 +164,12 @@ module _ (f : Feature) (gs : List Feature) (u : IsFit shapes.Polygon f) (v : Eve
       let c = one_cell (box_round (env f)) q in
       let o = outside_points f q u in
       let m = every_mapped (λ ds. InCells ds q) outside (others f gs) in
-      let e = every_same (IsFit shapes.Polygon) (λ g. InCells (outside g) q) P (λ g w. outside_points g q w) (others f gs) (every_filter (IsFit shapes.Polygon) other gs v) in
-      let all : P f → Every P (others f gs) → Every P gs = λ own k. every_unfilter P other gs (every_weaker (λ (g : Feature). g.handle ≡ f.handle → g ≡ f) (λ (g : Feature). other g ≡ false → P g) (λ g i t. let same = i (is_other g.handle f.handle t) in rw same own) gs only) k in (
+      let e = every_same (IsFit shapes.Polygon) (λ g. InCells (outside g) q) P (λ g w. outside_points g q w) (others f gs)
+      (every_filter (IsFit shapes.Polygon) other gs v) in
+      let all : P f → Every P (others f gs) → Every P gs =
+      λ own k. every_unfilter P other gs
+      (every_map (λ (g : Feature). g.handle ≡ f.handle → g ≡ f) (λ (g : Feature). other g ≡ false → P g)
+      (λ g i t. let same = i (is_other g.handle f.handle t) in rw same own) gs only) k in (
         (λ h. let y = x.0 h in let own = o.0 y.1.0 in (c.0 y.0, record { own = own; others = all own (e.0 (m.0 y.1.1)) })),
         (λ h. x.1 (c.1 h.0, (o.1 h.1.own, m.1 (e.1 (every_filter P other gs h.1.others))))),
       )
@@ -157,7 +177,8 @@ module _ (f : Feature) (gs : List Feature) (u : IsFit shapes.Polygon f) (v : Eve
   open_have_points : HavePoints (open_ground f gs)
   open_have_points = uncovered_have_points _ (map {A = Feature} outside (others f gs)) (kept_have_points _)
 
-  reached : (us : List Cell) (p : Point) (k : ℕ) → 1 ≤ k → HavePoints us → SomeOf (λ c. InCell (weak_of c) p) us → (q : Point) × IsNear k p q × InCells us q
+  reached : (us : List Cell) (p : Point) (k : ℕ) → 1 ≤ k → HavePoints us → SomeOf (λ c. InCell (weak_of c) p) us
+      → (q : Point) × IsNear k p q × InCells us q
   reached [] p k l h i = absurd i
   reached (c ∷ us) p k l h (inl i) = let y = (closure c h.0 p).0 i k l in (y.0, y.2, inl y.1)
   reached (c ∷ us) p k l h (inr i) = let y = reached us p k l h.1 i in (y.0, y.1, inr y.2)
@@ -167,7 +188,8 @@ module _ (f : Feature) (gs : List Feature) (u : IsFit shapes.Polygon f) (v : Eve
       let us = open_ground f gs in
       let x = carve_points (map {A = Segment} on_segment (sides f)) (map {A = Cell} weak_of us) p in
       let on = some_map (λ c. InCell c p) on_segment (sides f) in
-      let each = some_same_of IsSegment (λ s. InCell (on_segment s) p) (λ s. OnSegment s p) (λ s g. on_segment_points s p g) (sides f) u.proper in
+      let each = some_same_of IsSegment (λ s. InCell (on_segment s) p) (λ s. OnSegment s p) (λ s g. on_segment_points s p g)
+      (sides f) u.proper in
       let w = some_map (λ c. InCell c p) weak_of us in (
         (λ h.
             let y = x.0 h in
@@ -184,7 +206,8 @@ module _ (f : Feature) (gs : List Feature) (u : IsFit shapes.Polygon f) (v : Eve
       )
 
 -- rule 3
-gap_local : (f : Feature) (gs hs : List Feature) (p : Point) → Every (IsFit shapes.Polygon) hs → round p gs ≡ round p hs → IsGap f gs p → IsGap f hs p
+gap_local : (f : Feature) (gs hs : List Feature) (p : Point) → Every (IsFit shapes.Polygon) hs → round p gs ≡ round p hs → IsGap f gs p
+    → IsGap f hs p
 gap_local f gs hs p v e h = record {
   boundary = h.boundary;
   near = λ k l.
@@ -196,7 +219,8 @@ gap_local f gs hs p v e h = record {
         near_weaker k m p y.0 (omega arith) y.1,
         record {
           own = y.2.own;
-          others = every_unfilter P (λ g. holds_point (env g) p) hs (every_weaker (IsFit shapes.Polygon) (λ g. holds_point (env g) p ≡ false → P g) (λ g i t c.
+          others = every_unfilter P (λ g. holds_point (env g) p) hs
+              (every_map (IsFit shapes.Polygon) (λ g. holds_point (env g) p ≡ false → P g) (λ g i t c.
               let n = holds_test (env g) p (near_off (env g) p y.0 m (omega arith) y.1 (closure_held g y.0 i c)) in
               absurd cc) hs v) kept;
         },

@@ -16,10 +16,20 @@ use Rattle.rule_laws.proofs.Crossings.{inside_held}
 use Rattle.rule_laws.proofs.Families.{IsFit}
 
 pub at_held : (q : Place) (p : Point) → IsAt q p → RectHolds (rect_at q) p
-at_held q p i = record { left = omega (arith, ints, i.x); right = omega (arith, ints, i.x); below = omega (arith, ints, i.y); above = omega (arith, ints, i.y) }
+at_held q p i = record {
+  left = omega (arith, ints, i.x);
+  right = omega (arith, ints, i.x);
+  below = omega (arith, ints, i.y);
+  above = omega (arith, ints, i.y);
+}
 
 first_held : (ps : List Place) (p : Point) → IsAt (first_place ps) p → RectHolds (box_of_places ps) p
-first_held [] p i = record { left = omega (arith, ints, i.x); right = omega (arith, ints, i.x); below = omega (arith, ints, i.y); above = omega (arith, ints, i.y) }
+first_held [] p i = record {
+  left = omega (arith, ints, i.x);
+  right = omega (arith, ints, i.x);
+  below = omega (arith, ints, i.y);
+  above = omega (arith, ints, i.y);
+}
 first_held (q ∷ qs) p i = within_Holds (rect_at q) (box_from (rect_at q) qs) (box_grows (rect_at q) qs) p (at_held q p i)
 
 -- a point is in the envelope of the feature that is at it
@@ -49,10 +59,12 @@ segment_held r p s b o = record {
 
 -- on the line, or on the boundary
 pub line_held : (f : Feature) (p : Point) → SomeOf (λ s. OnSegment s p) (sides f) → RectHolds (env f) p
-line_held f p h = some_each (BothEnds (LiesIn (env f))) (λ s. OnSegment s p) (RectHolds (env f) p) (segment_held (env f) p) (sides f) (segments_ends f.shape) h
+line_held f p h = some_each (BothEnds (LiesIn (env f))) (λ s. OnSegment s p) (RectHolds (env f) p) (segment_held (env f) p) (sides f)
+    (segments_ends f.shape) h
 
 pub end_held : (f : Feature) (p : Point) → IsEnd f.shape p → RectHolds (env f) p
-end_held f p h = some_each (LiesIn (env f)) (λ q. IsAt q p) (RectHolds (env f) p) (λ q i a. within_Holds (rect_at q) (env f) i p (at_held q p a)) _ (ends_in f.shape) h
+end_held f p h = some_each (LiesIn (env f)) (λ q. IsAt q p) (RectHolds (env f) p)
+    (λ q i a. within_Holds (rect_at q) (env f) i p (at_held q p a)) _ (ends_in f.shape) h
 
 pub closure_held : (f : Feature) (p : Point) → IsFit shapes.Polygon f → IsInClosure (sides f) p → RectHolds (env f) p
 closure_held f p u (inl h) = inside_held f.shape u.kind p h

@@ -7,8 +7,9 @@ use Rattle.plane_terms.specs.Cell.{Cell, InCells, HavePoints}
 use Rattle.plane_terms.specs.declared.kind.Kind.{Kind}
 use Rattle.topology_terms.specs.Feature.{Feature, Side, NoneOf, env, IsAscending}
 use Rattle.topology_terms.specs.Together.{of_side}
+use Rattle.plane_terms.proofs.ListLemmas.{every_filter, every_map}
 use Rattle.rule_laws.proofs.Families.{IsFit}
-use Rattle.rule_laws.proofs.Lists.{every_filter, every_unfilter, every_weaker, side_each, side_every}
+use Rattle.rule_laws.proofs.Lists.{every_unfilter, side_each, side_every}
 use Rattle.rule_laws.proofs.Around.{holds_test, round}
 use Rattle.rule_laws.proofs.Alone.{AloneRule}
 
@@ -22,13 +23,17 @@ pub record NoneRule (k l : Kind) (X C : Feature → Point → Type 0) (cells : F
   pub some : (f : Feature) (gs : List Feature) → IsFit k f → Every (IsFit l) gs → HavePoints (cells f gs)
 
 -- C of none in one list, then of none in another that is the same round the point
-pub none_round : (l : Kind) (C : Feature → Point → Type 0) → ((g : Feature) (p : Point) → IsFit l g → C g p → RectHolds (env g) p) → (gs hs : List Feature) (p : Point) → Every (IsFit l) hs → round p gs ≡ round p hs → Every (λ g. ¬ (C g p)) gs → Every (λ g. ¬ (C g p)) hs
+pub none_round : (l : Kind) (C : Feature → Point → Type 0) → ((g : Feature) (p : Point) → IsFit l g → C g p → RectHolds (env g) p)
+    → (gs hs : List Feature) (p : Point) → Every (IsFit l) hs → round p gs ≡ round p hs → Every (λ g. ¬ (C g p)) gs
+    → Every (λ g. ¬ (C g p)) hs
 none_round l C held gs hs p u e n =
     let kept : Every (λ g. ¬ (C g p)) (round p hs) = rw e at (every_filter (λ g. ¬ (C g p)) (λ g. holds_point (env g) p) gs n) in
     every_unfilter (λ g. ¬ (C g p)) (λ g. holds_point (env g) p) hs
-    (every_weaker (IsFit l) (λ g. holds_point (env g) p ≡ false → ¬ (C g p)) (λ g i t c. let k = holds_test (env g) p (held g p i c) in absurd cc) hs u) kept
+    (every_map (IsFit l) (λ g. holds_point (env g) p ≡ false → ¬ (C g p))
+    (λ g i t c. let k = holds_test (env g) p (held g p i c) in absurd cc) hs u) kept
 
-pub none_alone : (k l : Kind) (X C : Feature → Point → Type 0) (cells : Feature → List Feature → List Cell) → NoneRule k l X C cells → AloneRule k l (NoneThere X C) cells
+pub none_alone : (k l : Kind) (X C : Feature → Point → Type 0) (cells : Feature → List Feature → List Cell) → NoneRule k l X C cells
+    → AloneRule k l (NoneThere X C) cells
 none_alone k l X C cells R = record {
   held = λ f gs p u h. R.held_a f p u h.0;
   local = λ f gs hs p u v w m e h. (h.0, none_round l C R.held_b gs hs p w e h.1);

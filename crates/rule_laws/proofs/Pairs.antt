@@ -2,7 +2,7 @@
 --
 -- PairRule         what has to be shown of such a rule: where it is broken (C) and its cells, for any two features
 --                  held_a, held_b: in both envelopes; exact: the cells hold exactly the points; some: none of them is empty
-use Rattle.std.proofs.Common.{◌≡◌, ◌≢◌, ◌↔◌, ℕ, true, false, List, [], Some}
+use Rattle.std.proofs.Common.{◌≡◌, ◌↔◌, ℕ, true, false, List, Some}
 use Rattle.plane_terms.specs.Point.{Point}
 use Rattle.plane_terms.specs.Rectangle.{RectHolds, rects_meet}
 use Rattle.plane_terms.specs.Cell.{Cell, InCells, HavePoints}
@@ -13,6 +13,7 @@ use Rattle.topology_terms.specs.Meaning.{Finding, finding_at}
 use Rattle.topology_terms.specs.Plans.{pair_findings, Around, Later, Own, Second, Other, side_by, around}
 use Rattle.sound_laws.proofs.FeatureLists.{handle_of}
 use Rattle.sound_laws.proofs.Meetings.{meets_test}
+use Rattle.rule_laws.proofs.Alone.{not_empty}
 use Rattle.rule_laws.proofs.Findings.{found_cells, IsFoundWith, pair_found, found_pair}
 use Rattle.rule_laws.proofs.Nears.{near_ascends, near_of, near_has, near_after_ascends, near_after_of, near_after_has}
 use Rattle.rule_laws.proofs.Families.{IsFit, AreFit, AreExact, PairBreaks, IsInOrder}
@@ -30,26 +31,29 @@ around_ascends Own row F f u = near_ascends row.origin f F u
 around_ascends Second row F f u = near_ascends row.dest f F u
 around_ascends Other row F f u = near_ascends (side_by Other row f) f F u
 
-around_of : (who : Around) (row : Row) (F : List Feature) (f : Feature) (b : ℕ) (g : Feature) → IsAscending F → feature_at (around who row F f) b ≡ Some g → IsOf F (side_by who row f) b g × IsInOrder who f.handle b
+around_of : (who : Around) (row : Row) (F : List Feature) (f : Feature) (b : ℕ) (g : Feature) → IsAscending F
+    → feature_at (around who row F f) b ≡ Some g → IsOf F (side_by who row f) b g × IsInOrder who f.handle b
 around_of Later row F f b g u e = near_after_of row.origin f F b g u e
 around_of Own row F f b g u e = (near_of row.origin f F b g u e, tt)
 around_of Second row F f b g u e = (near_of row.dest f F b g u e, tt)
 around_of Other row F f b g u e = (near_of (side_by Other row f) f F b g u e, tt)
 
-around_has : (who : Around) (row : Row) (F : List Feature) (f : Feature) (b : ℕ) (g : Feature) → IsOf F (side_by who row f) b g → rects_meet (env f) (env g) ≡ true → IsInOrder who f.handle b → feature_at (around who row F f) b ≡ Some g
+around_has : (who : Around) (row : Row) (F : List Feature) (f : Feature) (b : ℕ) (g : Feature) → IsOf F (side_by who row f) b g
+    → rects_meet (env f) (env g) ≡ true → IsInOrder who f.handle b → feature_at (around who row F f) b ≡ Some g
 around_has Later row F f b g i m o = near_after_has row.origin f F b g i m o
 around_has Own row F f b g i m o = near_has row.origin f F b g i m
 around_has Second row F f b g i m o = near_has row.dest f F b g i m
 around_has Other row F f b g i m o = near_has (side_by Other row f) f F b g i m
 
-not_empty : (cs : List Cell) (p : Point) → InCells cs p → cs ≢ []
-not_empty cs p h e = rw e at h
+module _ (k l : Kind) (C : Feature → Feature → Point → Type 0) (cells : Feature → Feature → List Cell) (R : PairRule k l C cells)
+    (row : Row) (who : Around) where
+  pub pair_inside : (F : List Feature) (a b : ℕ) (p : Point) → AreFit k l row who F → PairBreaks C row who F a b p
+      → (f : Feature) × (feature_at F a ≡ Some f) × RectHolds (env f) p
+  pair_inside F a b p u h =
+      (h.f, h.live, R.held_a h.f h.g p (u.subject a h.f h.live h.judged) (u.around h.f h.judged b h.g h.partner) h.common)
 
-module _ (k l : Kind) (C : Feature → Feature → Point → Type 0) (cells : Feature → Feature → List Cell) (R : PairRule k l C cells) (row : Row) (who : Around) where
-  pub pair_inside : (F : List Feature) (a b : ℕ) (p : Point) → AreFit k l row who F → PairBreaks C row who F a b p → (f : Feature) × (feature_at F a ≡ Some f) × RectHolds (env f) p
-  pair_inside F a b p u h = (h.f, h.live, R.held_a h.f h.g p (u.subject a h.f h.live h.judged) (u.around h.f h.judged b h.g h.partner) h.common)
-
-  pub pair_point : (F G : List Feature) (a b : ℕ) (p : Point) → AreFit k l row who F → Agree (λ f. RectHolds (env f) p) F G → PairBreaks C row who F a b p → PairBreaks C row who G a b p
+  pub pair_point : (F G : List Feature) (a b : ℕ) (p : Point) → AreFit k l row who F → Agree (λ f. RectHolds (env f) p) F G
+      → PairBreaks C row who F a b p → PairBreaks C row who G a b p
   pair_point F G a b p u agree h =
       let fit = u.subject a h.f h.live h.judged in
       let other = u.around h.f h.judged b h.g h.partner in

@@ -33,21 +33,25 @@ whole_alive rule.LineMustBeSinglePart A B F a h = (h.f, h.subject.live)
 whole_alive other A B F a h = absurd h
 
 -- ---- the cutting depends on the near alone, whatever the plan
-around_same : (who : Around) (row : Row) (F G : List Feature) (f : Feature) → IsAscending F → IsAscending G → Agree (λ g. RectsMeet (env f) (env g)) F G → around who row F f ≡ around who row G f
+around_same : (who : Around) (row : Row) (F G : List Feature) (f : Feature) → IsAscending F → IsAscending G
+    → Agree (λ g. RectsMeet (env f) (env g)) F G → around who row F f ≡ around who row G f
 around_same Later row F G f u v agree = near_after_same row.origin f F G u v agree
 around_same Own row F G f u v agree = near_same row.origin f F G u v agree
 around_same Second row F G f u v agree = near_same row.dest f F G u v agree
 around_same Other row F G f u v agree = near_same (side_by Other row f) f F G u v agree
 
-plan_same : (plan : Plan) (row : Row) (F G : List Feature) (f : Feature) → ((who : Around) → around who row F f ≡ around who row G f) → cut_by plan row F f ≡ cut_by plan row G f
+plan_same : (plan : Plan) (row : Row) (F G : List Feature) (f : Feature) → ((who : Around) → around who row F f ≡ around who row G f)
+    → cut_by plan row F f ≡ cut_by plan row G f
 plan_same (WithEach who cells) row F G f e = rw (e who) refl
 plan_same (Alone who cells) row F G f e = rw (e who) refl
 plan_same (Whole who test) row F G f e = rw (e who) refl
 
-cutting_same : (row : Row) (F G : List Feature) (f : Feature) → ((who : Around) → around who row F f ≡ around who row G f) → cutting_of row F f ≡ cutting_of row G f
+cutting_same : (row : Row) (F G : List Feature) (f : Feature) → ((who : Around) → around who row F f ≡ around who row G f)
+    → cutting_of row F f ≡ cutting_of row G f
 cutting_same row F G f e = rw (plan_same (plan_of row.kind) row F G f e) refl
 
-pub cutting_at : (row : Row) (F : List Feature) (a : ℕ) (f : Feature) (xs : List Finding) → feature_at F a ≡ Some f → IsCutting row F a xs → xs ≡ cutting_of row F f
+pub cutting_at : (row : Row) (F : List Feature) (a : ℕ) (f : Feature) (xs : List Finding) → feature_at F a ≡ Some f → IsCutting row F a xs
+    → xs ≡ cutting_of row F f
 unfolding IsCutting
 cutting_at row F a f xs e h = let l = h.1 in let same : h.0 ≡ f = cc in rw same at h.2
 
@@ -62,12 +66,22 @@ poster_laws = record {
   feature = λ row F G a f u v e k agree h.
       let y = of_built (is_built row.kind) _ h in
       if_built (is_built row.kind) _ y.0 ((lawful row.kind).feature row.origin row.dest F G a f u v e k agree y.1);
-  cutting = λ row F G a f r s u v e k agree xs h. (f, k, cutting_at row F a f xs e h ∙ cutting_same row F G f (λ who. around_same who row F G f r s agree));
+  cutting = λ row F G a f r s u v e k agree xs h.
+      (f, k, cutting_at row F a f xs e h ∙ cutting_same row F G f (λ who. around_same who row F G f r s agree));
 }
 
 -- ---- what is cut is right
-of_exact : (row : Row) (F : List Feature) (a : ℕ) (xs : List Finding) → AreExact (λ b p. BrokenAt row F a b p) (BrokenWhole row F a) xs → AreRight poster row F a xs
-of_exact row F a xs h = record { points = h.points; some = h.some; have_points = h.have_points; wholes = h.wholes; each_point = h.each_point; each_whole = h.each_whole }
+of_exact : (row : Row) (F : List Feature) (a : ℕ) (xs : List Finding) → AreExact (λ b p. BrokenAt row F a b p) (BrokenWhole row F a) xs
+    → AreRight poster row F a xs
+of_exact row F a xs h =
+    record {
+      points = h.points;
+      some = h.some;
+      have_points = h.have_points;
+      wholes = h.wholes;
+      each_point = h.each_point;
+      each_whole = h.each_whole;
+    }
 
 nothing_exact : (B : ℕ → Point → Type 0) (W : Type 0) → ((b : ℕ) (p : Point) → ¬ (B b p)) → ¬ W → AreExact B W []
 unfolding finding_at
@@ -81,9 +95,11 @@ nothing_exact B W n m = record {
 }
 
 right_by : (row : Row) (F : List Feature) (a : ℕ) (f : Feature) → Fits row F → feature_at F a ≡ Some f → (built t : Bool) → judged row f ≡ t
-    → AreExact (λ b p. IfBuilt built (broken_at row.kind row.origin row.dest F a b p)) (IfBuilt built (broken_whole row.kind row.origin row.dest F a)) (if built && t then cut_by (plan_of row.kind) row F f else [])
+    → AreExact (λ b p. IfBuilt built (broken_at row.kind row.origin row.dest F a b p))
+    (IfBuilt built (broken_whole row.kind row.origin row.dest F a)) (if built && t then cut_by (plan_of row.kind) row F f else [])
 right_by row F a f u e true true j = (lawful row.kind).right row.origin row.dest F a f u e j
-right_by row F a f u e true false j = nothing_exact (λ b p. broken_at row.kind row.origin row.dest F a b p) (broken_whole row.kind row.origin row.dest F a)
+right_by row F a f u e true false j =
+    nothing_exact (λ b p. broken_at row.kind row.origin row.dest F a b p) (broken_whole row.kind row.origin row.dest F a)
     (λ b p h. let t = (lawful row.kind).at_judged row.origin row.dest F a b f p u e h in absurd cc)
     (λ h. let t = (lawful row.kind).all_judged row.origin row.dest F a f u e h in absurd cc)
 right_by row F a f u e false t j = nothing_exact (λ b p. ⊥) ⊥ (λ b p h. h) (λ h. h)
@@ -91,12 +107,15 @@ right_by row F a f u e false t j = nothing_exact (λ b p. ⊥) ⊥ (λ b p h. h)
 pub poster_cuts : CutsRight poster
 unfolding BrokenAt BrokenWhole IsCutting
 poster_cuts = record {
-  right = λ row F a f r u e xs h. rw (cutting_at row F a f xs e h) (of_exact row F a (cutting_of row F f) (right_by row F a f u e (is_built row.kind) (judged row f) refl));
+  right = λ row F a f r u e xs h.
+      rw (cutting_at row F a f xs e h)
+      (of_exact row F a (cutting_of row F f) (right_by row F a f u e (is_built row.kind) (judged row f) refl));
   one = λ row F a xs ys h k. h.2 ∙ sym (cutting_at row F a h.0 ys h.1 k);
 }
 
 -- ---- the laws of views
-fits_part : (row : Row) (F G : List Feature) → IsAscending G → ((h : ℕ) (g : Feature) → feature_at G h ≡ Some g → feature_at F h ≡ Some g) → Fits row F → Fits row G
+fits_part : (row : Row) (F G : List Feature) → IsAscending G → ((h : ℕ) (g : Feature) → feature_at G h ≡ Some g → feature_at F h ≡ Some g)
+    → Fits row F → Fits row G
 fits_part row F G r within u = record {
   ascending = r;
   origin = λ h f i. u.origin h f (record { live = within h f i.live; on_side = i.on_side });
@@ -112,4 +131,8 @@ nothing_cut false t xs e = refl
 
 pub poster_views : ViewLaws poster
 unfolding IsCutting
-poster_views = record { idle = λ row F a f e t. (f, e, nothing_cut (is_built row.kind) (judged row f) (cut_by (plan_of row.kind) row F f) t); fits = fits_part }
+poster_views = record {
+  idle = λ row F a f e t.
+      (f, e, nothing_cut (is_built row.kind) (judged row f) (cut_by (plan_of row.kind) row F f) t);
+  fits = fits_part;
+}

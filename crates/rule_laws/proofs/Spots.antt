@@ -25,6 +25,7 @@ use Rattle.cell_laws.proofs.Lists.{some_map}
 use Rattle.cell_laws.proofs.Outside.{at_place_points}
 use Rattle.cell_laws.proofs.Meeting.{at_turn}
 use Rattle.cell_laws.proofs.OnLine.{at_itself}
+use Rattle.plane_terms.proofs.ListLemmas.{every_map}
 use Rattle.rule_laws.proofs.Held.{place_held, line_held, end_held}
 use Rattle.rule_laws.proofs.Crossings.{inside_held}
 use Rattle.rule_laws.proofs.Words.{OnSides, AtEnd, AtPlace, IsLoose, IsJoint}
@@ -32,16 +33,18 @@ use Rattle.rule_laws.proofs.Families.{IsFit}
 use Rattle.rule_laws.proofs.None.{NoneRule}
 use Rattle.rule_laws.proofs.Alone.{AloneRule}
 use Rattle.rule_laws.proofs.Around.{round}
-use Rattle.rule_laws.proofs.Uncovered.{every_flat, every_to, none_each, some_same_of}
+use Rattle.rule_laws.proofs.Uncovered.{every_flat, none_each, some_same_of}
 use Rattle.rule_laws.proofs.Tests.{any_some, at_test, end_test, side_test, same_is, is_same, place_from, place_test, straight}
 use Rattle.rule_laws.proofs.Counted.{count_test, many_round}
 
 -- ---- places that pass a test, and the cells of them
-picked_points : (test : Place → Bool) (p : Point) (B : Type 0) → ((q : Place) → IsAt q p → (test q ≡ true) ↔ B) → (qs : List Place) → SomeOf (λ q. IsAt q p) (filter test qs) ↔ (SomeOf (λ q. IsAt q p) qs × B)
+picked_points : (test : Place → Bool) (p : Point) (B : Type 0) → ((q : Place) → IsAt q p → (test q ≡ true) ↔ B) → (qs : List Place)
+    → SomeOf (λ q. IsAt q p) (filter test qs) ↔ (SomeOf (λ q. IsAt q p) qs × B)
 picked_points test p B m [] = (λ h. absurd h, λ h. h.0)
 picked_points test p B m (q ∷ qs) = pick (picked_points test p B m qs) (test q) refl
   where
-    pick : (SomeOf (λ q. IsAt q p) (filter test qs) ↔ (SomeOf (λ q. IsAt q p) qs × B)) → (b : Bool) → test q ≡ b → SomeOf (λ q. IsAt q p) (cond b (q ∷ filter test qs) (filter test qs)) ↔ ((IsAt q p ⊎ SomeOf (λ q. IsAt q p) qs) × B)
+    pick : (SomeOf (λ q. IsAt q p) (filter test qs) ↔ (SomeOf (λ q. IsAt q p) qs × B)) → (b : Bool) → test q ≡ b
+        → SomeOf (λ q. IsAt q p) (cond b (q ∷ filter test qs) (filter test qs)) ↔ ((IsAt q p ⊎ SomeOf (λ q. IsAt q p) qs) × B)
     pick k true e = (
       λ h. elim h [ inl a ↦ (inl a, (m q a).0 e) | inr i ↦ let n = k.0 i in (inr n.0, n.1) ],
       λ h. elim h.0 [ inl a ↦ inl a | inr i ↦ inr (k.1 (i, h.1)) ],
@@ -54,7 +57,8 @@ picked_points test p B m (q ∷ qs) = pick (picked_points test p B m qs) (test q
 cells_of_points : (qs : List Place) (p : Point) → InCells (map {A = Place} at_place qs) p ↔ SomeOf (λ q. IsAt q p) qs
 cells_of_points qs p =
     let a = some_map (λ c. InCell c p) at_place qs in
-    let b = some_same_of (λ (q : Place). Unit {0}) (λ q. InCell (at_place q) p) (λ q. IsAt q p) (λ q u. at_place_points q p) qs (all_places qs) in
+    let b = some_same_of (λ (q : Place). Unit {0}) (λ q. InCell (at_place q) p) (λ q. IsAt q p) (λ q u. at_place_points q p) qs
+    (all_places qs) in
     (λ h. b.0 (a.0 h), λ h. a.1 (b.1 h))
   where
     all_places : (qs : List Place) → Every (λ (q : Place). Unit {0}) qs
@@ -65,26 +69,35 @@ pub places_have : (qs : List Place) → HavePoints (map {A = Place} at_place qs)
 places_have [] = tt
 places_have (q ∷ qs) = ((point_at q, (at_place_points q (point_at q)).1 (at_itself q)), places_have qs)
 
-bad_points : (places : Feature → List Place) (bad : List Feature → Place → Bool) (f : Feature) (gs : List Feature) (p : Point) (B : Type 0) → ((q : Place) → IsAt q p → (bad gs q ≡ true) ↔ B) → InCells (bad_places places bad f gs) p ↔ (SomeOf (λ q. IsAt q p) (places f) × B)
+bad_points : (places : Feature → List Place) (bad : List Feature → Place → Bool) (f : Feature) (gs : List Feature) (p : Point) (B : Type 0)
+    → ((q : Place) → IsAt q p → (bad gs q ≡ true) ↔ B) → InCells (bad_places places bad f gs) p ↔ (SomeOf (λ q. IsAt q p) (places f) × B)
 bad_points places bad f gs p B m =
     let a = cells_of_points (filter (bad gs) (places f)) p in
     let b = picked_points (bad gs) p B m (places f) in
     (λ h. b.0 (a.0 h), λ h. a.1 (b.1 h))
 
 -- ---- each place once
-once_back : (q : Place) (p : Point) (qs : List Place) → SomeOf (λ r. IsAt r p) (filter (λ r. not (same_place q r)) qs) → SomeOf (λ r. IsAt r p) qs
+once_back : (q : Place) (p : Point) (qs : List Place) → SomeOf (λ r. IsAt r p) (filter (λ r. not (same_place q r)) qs)
+    → SomeOf (λ r. IsAt r p) qs
 once_back q p [] h = h
 once_back q p (r ∷ qs) h = pick (not (same_place q r)) (once_back q p qs) h
   where
-    pick : (b : Bool) → (SomeOf (λ r. IsAt r p) (filter (λ r. not (same_place q r)) qs) → SomeOf (λ r. IsAt r p) qs) → SomeOf (λ r. IsAt r p) (cond b (r ∷ filter (λ r. not (same_place q r)) qs) (filter (λ r. not (same_place q r)) qs)) → IsAt r p ⊎ SomeOf (λ r. IsAt r p) qs
+    pick : (b : Bool) → (SomeOf (λ r. IsAt r p) (filter (λ r. not (same_place q r)) qs) → SomeOf (λ r. IsAt r p) qs)
+        → SomeOf (λ r. IsAt r p) (cond b (r ∷ filter (λ r. not (same_place q r)) qs) (filter (λ r. not (same_place q r)) qs))
+        → IsAt r p ⊎ SomeOf (λ r. IsAt r p) qs
     pick true k h = elim h [ inl a ↦ inl a | inr i ↦ inr (k i) ]
     pick false k h = inr (k h)
 
-once_there : (q : Place) (p : Point) (qs : List Place) → SomeOf (λ r. IsAt r p) qs → IsAt q p ⊎ SomeOf (λ r. IsAt r p) (filter (λ r. not (same_place q r)) qs)
+once_there : (q : Place) (p : Point) (qs : List Place) → SomeOf (λ r. IsAt r p) qs
+    → IsAt q p ⊎ SomeOf (λ r. IsAt r p) (filter (λ r. not (same_place q r)) qs)
 once_there q p [] h = inr h
 once_there q p (r ∷ qs) h = pick (same_place q r) refl (once_there q p qs) h
   where
-    pick : (b : Bool) → same_place q r ≡ b → (SomeOf (λ r. IsAt r p) qs → IsAt q p ⊎ SomeOf (λ r. IsAt r p) (filter (λ r. not (same_place q r)) qs)) → IsAt r p ⊎ SomeOf (λ r. IsAt r p) qs → IsAt q p ⊎ SomeOf (λ r. IsAt r p) (cond (not b) (r ∷ filter (λ r. not (same_place q r)) qs) (filter (λ r. not (same_place q r)) qs))
+    pick : (b : Bool) → same_place q r ≡ b
+        → (SomeOf (λ r. IsAt r p) qs → IsAt q p ⊎ SomeOf (λ r. IsAt r p) (filter (λ r. not (same_place q r)) qs))
+        → IsAt r p ⊎ SomeOf (λ r. IsAt r p) qs
+        → IsAt q p ⊎ SomeOf (λ r. IsAt r p)
+        (cond (not b) (r ∷ filter (λ r. not (same_place q r)) qs) (filter (λ r. not (same_place q r)) qs))
     pick true e k (inl a) = inl (rw (same_is q r e) a)
     pick true e k (inr i) = k i
     pick false e k (inl a) = inr (inl a)
@@ -114,7 +127,8 @@ module _ (k l : Kind) (places : Feature → List Place) (X C : Feature → Point
     (held_a : (f : Feature) (p : Point) → X f p → RectHolds (env f) p)
     (held_b : (g : Feature) (p : Point) → IsFit l g → C g p → RectHolds (env g) p)
     (test : (g : Feature) (q : Place) (p : Point) → IsFit l g → IsAt q p → (at g q ≡ true) ↔ C g p) where
-  none_test : (gs : List Feature) (q : Place) (p : Point) → Every (IsFit l) gs → IsAt q p → (none_at at gs q ≡ true) ↔ Every (λ g. ¬ (C g p)) gs
+  none_test : (gs : List Feature) (q : Place) (p : Point) → Every (IsFit l) gs → IsAt q p
+      → (none_at at gs q ≡ true) ↔ Every (λ g. ¬ (C g p)) gs
   none_test gs q p u a =
       let x = any_some (IsFit l) (λ g. C g p) (λ (g : Feature). at g q) (λ g w. test g q p w a) gs u in
       let y = not_test (list_any (λ (g : Feature). at g q) gs) (SomeOf (λ g. C g p) gs) x in
@@ -133,22 +147,33 @@ module _ (k l : Kind) (places : Feature → List Place) (X C : Feature → Point
   }
 
 point_test : (g : Feature) (q : Place) (p : Point) → IsAt q p → (is_point_at g q ≡ true) ↔ AtPlace g p
-point_test g q p a = (λ e. rw (sym (same_is (place g) q e)) at a, λ b. is_same (place g) q (let t = (at_test q (place g) p a).1 b in sym (same_is q (place g) t)))
+point_test g q p a = (
+  λ e. rw (sym (same_is (place g) q e)) at a,
+  λ b. is_same (place g) q (let t = (at_test q (place g) p a).1 b in sym (same_is q (place g) t)),
+)
 
 -- rules 18 and 23
 pub end_point_rule : (k l : Kind) → NoneRule k l AtEnd AtPlace (bad_places own_ends (none_at is_point_at))
-end_point_rule k l = none_at_rule k l own_ends AtEnd AtPlace is_point_at own_end_points end_held (λ g p u h. place_held g p h) (λ g q p u a. point_test g q p a)
+end_point_rule k l =
+    none_at_rule k l own_ends AtEnd AtPlace is_point_at own_end_points end_held (λ g p u h. place_held g p h)
+    (λ g q p u a. point_test g q p a)
 
 pub place_point_rule : (k l : Kind) → NoneRule k l AtPlace AtPlace (bad_places own_place (none_at is_point_at))
-place_point_rule k l = none_at_rule k l own_place AtPlace AtPlace is_point_at own_place_points place_held (λ g p u h. place_held g p h) (λ g q p u a. point_test g q p a)
+place_point_rule k l =
+    none_at_rule k l own_place AtPlace AtPlace is_point_at own_place_points place_held (λ g p u h. place_held g p h)
+    (λ g q p u a. point_test g q p a)
 
 -- rules 25 and 26
 pub place_side_rule : (k l : Kind) → NoneRule k l AtPlace OnSides (bad_places own_place (none_at has_side_at))
-place_side_rule k l = none_at_rule k l own_place AtPlace OnSides has_side_at own_place_points place_held (λ g p u h. line_held g p h) (λ g q p u a. side_test (sides g) q p u.proper a)
+place_side_rule k l =
+    none_at_rule k l own_place AtPlace OnSides has_side_at own_place_points place_held (λ g p u h. line_held g p h)
+    (λ g q p u a. side_test (sides g) q p u.proper a)
 
 -- rule 27
 pub place_end_rule : (k l : Kind) → NoneRule k l AtPlace AtEnd (bad_places own_place (none_at ends_there))
-place_end_rule k l = none_at_rule k l own_place AtPlace AtEnd ends_there own_place_points place_held (λ g p u h. end_held g p h) (λ g q p u a. end_test (ends g) q p a)
+place_end_rule k l =
+    none_at_rule k l own_place AtPlace AtEnd ends_there own_place_points place_held (λ g p u h. end_held g p h)
+    (λ g q p u a. end_test (ends g) q p a)
 
 -- ---- a place inside a polygon
 same_by_truth : (a b : Bool) → (a ≡ true → b ≡ true) → (b ≡ true → a ≡ true) → a ≡ b
@@ -158,16 +183,20 @@ same_by_truth false false m n = refl
 
 le_scaled_test : (a b : ℤ) (w : ℕ) → 0 < w → int_le (a *ℤ pos w) (b *ℤ pos w) ≡ int_le (a *ℤ pos 1) b
 le_scaled_test a b w o = same_by_truth (int_le (a *ℤ pos w) (b *ℤ pos w)) (int_le (a *ℤ pos 1) b)
-    (λ t. (Decides-int_le (a *ℤ pos 1) b).1 (let k = le_from_scaled a b w o ((Decides-int_le (a *ℤ pos w) (b *ℤ pos w)).0 t) in omega (arith, ints, k)))
-    (λ t. (Decides-int_le (a *ℤ pos w) (b *ℤ pos w)).1 (scaled_le a b w (let k = (Decides-int_le (a *ℤ pos 1) b).0 t in omega (arith, ints, k))))
+    (λ t. (Decides-int_le (a *ℤ pos 1) b).1
+    (let k = le_from_scaled a b w o ((Decides-int_le (a *ℤ pos w) (b *ℤ pos w)).0 t) in omega (arith, ints, k)))
+    (λ t. (Decides-int_le (a *ℤ pos w) (b *ℤ pos w)).1
+    (scaled_le a b w (let k = (Decides-int_le (a *ℤ pos 1) b).0 t in omega (arith, ints, k))))
 
 lt_from_scaled : (a b : ℤ) (w : ℕ) → (a *ℤ pos w) <ℤ (b *ℤ pos w) → a <ℤ b
 lt_from_scaled a b w h = elim (cases_order_ℤ a b) [ inl o ↦ o | inr o ↦ let k = scaled_le b a w o in absurd (omega (arith, ints, k, h)) ]
 
 lt_scaled_test : (a b : ℤ) (w : ℕ) → 0 < w → int_lt (a *ℤ pos w) (b *ℤ pos w) ≡ int_lt a (b *ℤ pos 1)
 lt_scaled_test a b w o = same_by_truth (int_lt (a *ℤ pos w) (b *ℤ pos w)) (int_lt a (b *ℤ pos 1))
-    (λ t. (Decides-int_lt a (b *ℤ pos 1)).1 (let k = lt_from_scaled a b w ((Decides-int_lt (a *ℤ pos w) (b *ℤ pos w)).0 t) in omega (arith, ints, k)))
-    (λ t. (Decides-int_lt (a *ℤ pos w) (b *ℤ pos w)).1 (lt_scaled a b w o (let k = (Decides-int_lt a (b *ℤ pos 1)).0 t in omega (arith, ints, k))))
+    (λ t. (Decides-int_lt a (b *ℤ pos 1)).1
+    (let k = lt_from_scaled a b w ((Decides-int_lt (a *ℤ pos w) (b *ℤ pos w)).0 t) in omega (arith, ints, k)))
+    (λ t. (Decides-int_lt (a *ℤ pos w) (b *ℤ pos w)).1
+    (lt_scaled a b w o (let k = (Decides-int_lt a (b *ℤ pos 1)).0 t in omega (arith, ints, k))))
 
 over_test : (c d t : ℤ) (w : ℕ) → 0 < w → c ≡ pos w *ℤ t → d ≡ t → int_lt (pos 0) c ≡ int_lt (pos 0) d
 over_test c d t w o e f = same_by_truth (int_lt (pos 0) c) (int_lt (pos 0) d)
@@ -179,10 +208,12 @@ three a b c d e f x y z = rw (x, y, z) refl
 
 counts_at : (s : Segment) (q : Place) (p : Point) → IsAt q p → counts s p ≡ counts s (point_at q)
 counts_at s q p a =
-    three (int_le (s.lo.x *ℤ pos p.w) p.x) (int_lt p.x (s.hi.x *ℤ pos p.w)) (int_lt (pos 0) (cross s p)) (int_le (s.lo.x *ℤ pos 1) q.x) (int_lt q.x (s.hi.x *ℤ pos 1)) (int_lt (pos 0) (cross s (point_at q)))
+    three (int_le (s.lo.x *ℤ pos p.w) p.x) (int_lt p.x (s.hi.x *ℤ pos p.w)) (int_lt (pos 0) (cross s p)) (int_le (s.lo.x *ℤ pos 1) q.x)
+    (int_lt q.x (s.hi.x *ℤ pos 1)) (int_lt (pos 0) (cross s (point_at q)))
     (rw a.x (le_scaled_test s.lo.x q.x p.w p.positive))
     (rw a.x (lt_scaled_test q.x s.hi.x p.w p.positive))
-    (over_test (cross s p) (cross s (point_at q)) (turn s q) p.w p.positive (rw (a.x, a.y) (at_turn s.lo.x s.lo.y s.hi.x s.hi.y q.x q.y (pos p.w))) (straight s.lo.x s.lo.y s.hi.x s.hi.y q.x q.y))
+    (over_test (cross s p) (cross s (point_at q)) (turn s q) p.w p.positive
+    (rw (a.x, a.y) (at_turn s.lo.x s.lo.y s.hi.x s.hi.y q.x q.y (pos p.w))) (straight s.lo.x s.lo.y s.hi.x s.hi.y q.x q.y))
 
 count_at : (ss : List Segment) (q : Place) (p : Point) → IsAt q p → how_many (λ s. counts s p) ss ≡ how_many (λ s. counts s (point_at q)) ss
 count_at [] q p a = refl
@@ -197,29 +228,42 @@ inside_test ss q p u a =
     let x = side_test ss q p u a in
     let y = not_test (holds_at ss q) (SomeOf (λ s. OnSegment s p) ss) x in
     let e = ap is_odd (count_at ss q p a) in
-    let z = both_tests (not (holds_at ss q)) (is_odd (how_many (λ s. counts s (point_at q)) ss)) (¬ (SomeOf (λ s. OnSegment s p) ss)) (is_odd (how_many (λ s. counts s p) ss) ≡ true) y ((λ t. e ∙ t), (λ t. sym e ∙ t)) in
+    let z = both_tests (not (holds_at ss q)) (is_odd (how_many (λ s. counts s (point_at q)) ss)) (¬ (SomeOf (λ s. OnSegment s p) ss))
+    (is_odd (how_many (λ s. counts s p) ss) ≡ true) y ((λ t. e ∙ t), (λ t. sym e ∙ t)) in
     (λ t. let k = z.0 t in record { clear = k.0; odd = k.1 }, λ i. z.1 (i.clear, i.odd))
 
 -- rule 24
-pub place_inside_rule : (k : Kind) → NoneRule k shapes.Polygon AtPlace (λ g p. IsInside (sides g) p) (bad_places own_place (none_at is_round))
-place_inside_rule k = none_at_rule k shapes.Polygon own_place AtPlace (λ g p. IsInside (sides g) p) is_round own_place_points place_held (λ g p u h. inside_held g.shape u.kind p h) (λ g q p u a. inside_test (sides g) q p u.proper a)
+pub place_inside_rule : (k : Kind)
+    → NoneRule k shapes.Polygon AtPlace (λ g p. IsInside (sides g) p) (bad_places own_place (none_at is_round))
+place_inside_rule k =
+    none_at_rule k shapes.Polygon own_place AtPlace (λ g p. IsInside (sides g) p) is_round own_place_points place_held
+    (λ g p u h. inside_held g.shape u.kind p h) (λ g q p u a. inside_test (sides g) q p u.proper a)
 
 -- ---- counted
 places_any : (qs : List Place) → Every (λ (q : Place). Unit {0}) qs
 places_any [] = tt
 places_any (q ∷ qs) = (tt, places_any qs)
 
-loose_test : (gs : List Feature) (n : ℕ) (q : Place) (p : Point) → Every (IsFit shapes.Line) gs → IsAt q p → ((segments_at gs q == n) ≡ true) ↔ AreMany (λ (t : Segment). OnSegment t p) (sides_all gs) n
-loose_test gs n q p u a = count_test IsSegment (λ t. OnSegment t p) (λ t. holds_place t q) (λ t g. (place_from t q p a, place_test t q p g a)) (sides_all gs) n
-    ((every_flat IsSegment sides gs).1 (every_to (IsFit shapes.Line) (λ g. Every IsSegment (sides g)) (λ g w. w.proper) gs u))
+loose_test : (gs : List Feature) (n : ℕ) (q : Place) (p : Point) → Every (IsFit shapes.Line) gs → IsAt q p
+    → ((segments_at gs q == n) ≡ true) ↔ AreMany (λ (t : Segment). OnSegment t p) (sides_all gs) n
+loose_test gs n q p u a =
+    count_test IsSegment (λ t. OnSegment t p) (λ t. holds_place t q) (λ t g. (place_from t q p a, place_test t q p g a)) (sides_all gs) n
+    ((every_flat IsSegment sides gs).1 (every_map (IsFit shapes.Line) (λ g. Every IsSegment (sides g)) (λ g w. w.proper) gs u))
 
-ends_test : (gs : List Feature) (n : ℕ) (q : Place) (p : Point) → IsAt q p → ((ends_at gs q == n) ≡ true) ↔ AreMany (λ (r : Place). IsAt r p) (ends_all gs) n
-ends_test gs n q p a = count_test (λ (r : Place). Unit {0}) (λ r. IsAt r p) (same_place q) (λ r u. at_test q r p a) (ends_all gs) n (places_any (ends_all gs))
+ends_test : (gs : List Feature) (n : ℕ) (q : Place) (p : Point) → IsAt q p
+    → ((ends_at gs q == n) ≡ true) ↔ AreMany (λ (r : Place). IsAt r p) (ends_all gs) n
+ends_test gs n q p a =
+    count_test (λ (r : Place). Unit {0}) (λ r. IsAt r p) (same_place q) (λ r u. at_test q r p a) (ends_all gs) n
+    (places_any (ends_all gs))
 
-segments_round : (gs hs : List Feature) (n : ℕ) (p : Point) → Every (IsFit shapes.Line) gs → Every (IsFit shapes.Line) hs → round p gs ≡ round p hs → AreMany (λ (t : Segment). OnSegment t p) (sides_all gs) n → AreMany (λ (t : Segment). OnSegment t p) (sides_all hs) n
-segments_round gs hs n p u v e h = many_round sides (λ t p. OnSegment t p) (IsFit shapes.Line) (λ g p w i. line_held g p i) p gs hs n u v e h
+segments_round : (gs hs : List Feature) (n : ℕ) (p : Point) → Every (IsFit shapes.Line) gs → Every (IsFit shapes.Line) hs
+    → round p gs ≡ round p hs → AreMany (λ (t : Segment). OnSegment t p) (sides_all gs) n
+    → AreMany (λ (t : Segment). OnSegment t p) (sides_all hs) n
+segments_round gs hs n p u v e h =
+    many_round sides (λ t p. OnSegment t p) (IsFit shapes.Line) (λ g p w i. line_held g p i) p gs hs n u v e h
 
-ends_round : (gs hs : List Feature) (n : ℕ) (p : Point) → Every (IsFit shapes.Line) gs → Every (IsFit shapes.Line) hs → round p gs ≡ round p hs → AreMany (λ (q : Place). IsAt q p) (ends_all gs) n → AreMany (λ (q : Place). IsAt q p) (ends_all hs) n
+ends_round : (gs hs : List Feature) (n : ℕ) (p : Point) → Every (IsFit shapes.Line) gs → Every (IsFit shapes.Line) hs
+    → round p gs ≡ round p hs → AreMany (λ (q : Place). IsAt q p) (ends_all gs) n → AreMany (λ (q : Place). IsAt q p) (ends_all hs) n
 ends_round gs hs n p u v e h = many_round ends (λ q p. IsAt q p) (IsFit shapes.Line) (λ g p w i. end_held g p i) p gs hs n u v e h
 
 -- rule 14
@@ -240,7 +284,8 @@ pseudo_rule = record {
   held = λ f gs p u h. end_held f p h.0;
   local = λ f gs hs p u v w m e h. (h.0, (ends_round gs hs 2 p v w e h.1.0, segments_round gs hs 2 p v w e h.1.1));
   exact = λ f gs p u v o.
-      let test : (q : Place) → IsAt q p → (is_pseudo gs q ≡ true) ↔ IsJoint gs p = λ q i. both_tests (ends_at gs q == 2) (segments_at gs q == 2) _ _ (ends_test gs 2 q p i) (loose_test gs 2 q p v i) in
+      let test : (q : Place) → IsAt q p → (is_pseudo gs q ≡ true) ↔ IsJoint gs p =
+      λ q i. both_tests (ends_at gs q == 2) (segments_at gs q == 2) _ _ (ends_test gs 2 q p i) (loose_test gs 2 q p v i) in
       let a = bad_points own_ends is_pseudo f gs p (IsJoint gs p) test in
       let b = own_end_points f p in
       (λ h. let m = a.0 h in (b.0 m.0, m.1), λ h. a.1 (b.1 h.0, h.1));

@@ -29,24 +29,36 @@ use Rattle.rule_laws.proofs.Places.{place_one}
 
 -- ---- two segments on one line
 turned_x : (sx sy hx hy tx ty ux uy : ℤ) → (hx -ℤ sx) *ℤ ((ux -ℤ tx) *ℤ (sy -ℤ ty) -ℤ (uy -ℤ ty) *ℤ (sx -ℤ tx))
-    ≡ (tx -ℤ sx) *ℤ (((hx -ℤ sx) *ℤ (uy -ℤ sy) -ℤ (hy -ℤ sy) *ℤ (ux -ℤ sx)) -ℤ ((hx -ℤ sx) *ℤ (ty -ℤ sy) -ℤ (hy -ℤ sy) *ℤ (tx -ℤ sx))) -ℤ (ux -ℤ tx) *ℤ ((hx -ℤ sx) *ℤ (ty -ℤ sy) -ℤ (hy -ℤ sy) *ℤ (tx -ℤ sx))
+    ≡ (tx -ℤ sx) *ℤ (((hx -ℤ sx) *ℤ (uy -ℤ sy) -ℤ (hy -ℤ sy) *ℤ (ux -ℤ sx)) -ℤ ((hx -ℤ sx) *ℤ (ty -ℤ sy) -ℤ (hy -ℤ sy) *ℤ (tx -ℤ sx))) -ℤ
+    (ux -ℤ tx) *ℤ ((hx -ℤ sx) *ℤ (ty -ℤ sy) -ℤ (hy -ℤ sy) *ℤ (tx -ℤ sx))
 turned_x sx sy hx hy tx ty ux uy =
     same_by ((num hx ⊖ num sx) ⊗ ((num ux ⊖ num tx) ⊗ (num sy ⊖ num ty) ⊖ (num uy ⊖ num ty) ⊗ (num sx ⊖ num tx)))
-    ((num tx ⊖ num sx) ⊗ (((num hx ⊖ num sx) ⊗ (num uy ⊖ num sy) ⊖ (num hy ⊖ num sy) ⊗ (num ux ⊖ num sx)) ⊖ ((num hx ⊖ num sx) ⊗ (num ty ⊖ num sy) ⊖ (num hy ⊖ num sy) ⊗ (num tx ⊖ num sx))) ⊖ (num ux ⊖ num tx) ⊗ ((num hx ⊖ num sx) ⊗ (num ty ⊖ num sy) ⊖ (num hy ⊖ num sy) ⊗ (num tx ⊖ num sx))) (omega arith)
+    ((num tx ⊖ num sx) ⊗
+    (((num hx ⊖ num sx) ⊗ (num uy ⊖ num sy) ⊖ (num hy ⊖ num sy) ⊗ (num ux ⊖ num sx)) ⊖
+    ((num hx ⊖ num sx) ⊗ (num ty ⊖ num sy) ⊖ (num hy ⊖ num sy) ⊗ (num tx ⊖ num sx))) ⊖ (num ux ⊖ num tx) ⊗
+    ((num hx ⊖ num sx) ⊗ (num ty ⊖ num sy) ⊖ (num hy ⊖ num sy) ⊗ (num tx ⊖ num sx))) (omega arith)
 
 turned_y : (sx sy hx hy tx ty ux uy : ℤ) → (hy -ℤ sy) *ℤ ((ux -ℤ tx) *ℤ (sy -ℤ ty) -ℤ (uy -ℤ ty) *ℤ (sx -ℤ tx))
-    ≡ (ty -ℤ sy) *ℤ (((hx -ℤ sx) *ℤ (uy -ℤ sy) -ℤ (hy -ℤ sy) *ℤ (ux -ℤ sx)) -ℤ ((hx -ℤ sx) *ℤ (ty -ℤ sy) -ℤ (hy -ℤ sy) *ℤ (tx -ℤ sx))) -ℤ (uy -ℤ ty) *ℤ ((hx -ℤ sx) *ℤ (ty -ℤ sy) -ℤ (hy -ℤ sy) *ℤ (tx -ℤ sx))
+    ≡ (ty -ℤ sy) *ℤ (((hx -ℤ sx) *ℤ (uy -ℤ sy) -ℤ (hy -ℤ sy) *ℤ (ux -ℤ sx)) -ℤ ((hx -ℤ sx) *ℤ (ty -ℤ sy) -ℤ (hy -ℤ sy) *ℤ (tx -ℤ sx))) -ℤ
+    (uy -ℤ ty) *ℤ ((hx -ℤ sx) *ℤ (ty -ℤ sy) -ℤ (hy -ℤ sy) *ℤ (tx -ℤ sx))
 turned_y sx sy hx hy tx ty ux uy =
     same_by ((num hy ⊖ num sy) ⊗ ((num ux ⊖ num tx) ⊗ (num sy ⊖ num ty) ⊖ (num uy ⊖ num ty) ⊗ (num sx ⊖ num tx)))
-    ((num ty ⊖ num sy) ⊗ (((num hx ⊖ num sx) ⊗ (num uy ⊖ num sy) ⊖ (num hy ⊖ num sy) ⊗ (num ux ⊖ num sx)) ⊖ ((num hx ⊖ num sx) ⊗ (num ty ⊖ num sy) ⊖ (num hy ⊖ num sy) ⊗ (num tx ⊖ num sx))) ⊖ (num uy ⊖ num ty) ⊗ ((num hx ⊖ num sx) ⊗ (num ty ⊖ num sy) ⊖ (num hy ⊖ num sy) ⊗ (num tx ⊖ num sx))) (omega arith)
+    ((num ty ⊖ num sy) ⊗
+    (((num hx ⊖ num sx) ⊗ (num uy ⊖ num sy) ⊖ (num hy ⊖ num sy) ⊗ (num ux ⊖ num sx)) ⊖
+    ((num hx ⊖ num sx) ⊗ (num ty ⊖ num sy) ⊖ (num hy ⊖ num sy) ⊗ (num tx ⊖ num sx))) ⊖ (num uy ⊖ num ty) ⊗
+    ((num hx ⊖ num sx) ⊗ (num ty ⊖ num sy) ⊖ (num hy ⊖ num sy) ⊗ (num tx ⊖ num sx))) (omega arith)
 
 nought : (z u v a b : ℤ) → z ≡ u *ℤ (b -ℤ a) -ℤ v *ℤ a → a ≡ pos 0 → b ≡ pos 0 → z ≡ pos 0
 nought z u v a b e h k = e ∙ rw (h, k) (omega (arith, ints))
 
 back_zero : (s t : Segment) → IsSegment s → turn s t.lo ≡ pos 0 → turn s t.hi ≡ pos 0 → turn t s.lo ≡ pos 0
 back_zero s t g h k = elim g.ordered [
-  | inl o ↦ zero_unscaled (s.hi.x -ℤ s.lo.x) (turn t s.lo) (omega (arith, ints, o)) (nought _ (t.lo.x -ℤ s.lo.x) (t.hi.x -ℤ t.lo.x) (turn s t.lo) (turn s t.hi) (turned_x s.lo.x s.lo.y s.hi.x s.hi.y t.lo.x t.lo.y t.hi.x t.hi.y) h k)
-  | inr o ↦ zero_unscaled (s.hi.y -ℤ s.lo.y) (turn t s.lo) (omega (arith, ints, o.1)) (nought _ (t.lo.y -ℤ s.lo.y) (t.hi.y -ℤ t.lo.y) (turn s t.lo) (turn s t.hi) (turned_y s.lo.x s.lo.y s.hi.x s.hi.y t.lo.x t.lo.y t.hi.x t.hi.y) h k)
+  | inl o ↦ zero_unscaled (s.hi.x -ℤ s.lo.x) (turn t s.lo) (omega (arith, ints, o))
+      (nought _ (t.lo.x -ℤ s.lo.x) (t.hi.x -ℤ t.lo.x) (turn s t.lo) (turn s t.hi)
+      (turned_x s.lo.x s.lo.y s.hi.x s.hi.y t.lo.x t.lo.y t.hi.x t.hi.y) h k)
+  | inr o ↦ zero_unscaled (s.hi.y -ℤ s.lo.y) (turn t s.lo) (omega (arith, ints, o.1))
+      (nought _ (t.lo.y -ℤ s.lo.y) (t.hi.y -ℤ t.lo.y) (turn s t.lo) (turn s t.hi)
+      (turned_y s.lo.x s.lo.y s.hi.x s.hi.y t.lo.x t.lo.y t.hi.x t.hi.y) h k)
 ]
 
 in_line_from : (s : Segment) (q : Place) → is_in_line s q ≡ true → turn s q ≡ pos 0
@@ -58,7 +70,9 @@ in_line_from s q t =
     gone u v e = omega (arith, ints)
 
 in_line_test : (s : Segment) (q : Place) → turn s q ≡ pos 0 → is_in_line s q ≡ true
-in_line_test s q z = (Decides-int_eq ((s.hi.x -ℤ s.lo.x) *ℤ (q.y -ℤ s.lo.y)) ((s.hi.y -ℤ s.lo.y) *ℤ (q.x -ℤ s.lo.x))).1 (same ((s.hi.x -ℤ s.lo.x) *ℤ (q.y -ℤ s.lo.y)) ((s.hi.y -ℤ s.lo.y) *ℤ (q.x -ℤ s.lo.x)) z)
+in_line_test s q z =
+    (Decides-int_eq ((s.hi.x -ℤ s.lo.x) *ℤ (q.y -ℤ s.lo.y)) ((s.hi.y -ℤ s.lo.y) *ℤ (q.x -ℤ s.lo.x))).1
+    (same ((s.hi.x -ℤ s.lo.x) *ℤ (q.y -ℤ s.lo.y)) ((s.hi.y -ℤ s.lo.y) *ℤ (q.x -ℤ s.lo.x)) z)
   where
     same : (u v : ℤ) → u -ℤ v ≡ pos 0 → u ≡ v
     same u v e = omega (arith, ints)
@@ -86,7 +100,8 @@ overlap_from s t g h e =
     last x y u v e f g h = omega (arith, ints)
 
 -- ---- the other way, by the answer of two segments
-along_only : (a b c d e : Bool) (line : Share) → cond (a || b) Nothing (cond c line (cond (d || e) Touch Cross)) ≡ Along → (a ≡ false) × (b ≡ false) × (c ≡ true) × (line ≡ Along)
+along_only : (a b c d e : Bool) (line : Share) → cond (a || b) Nothing (cond c line (cond (d || e) Touch Cross)) ≡ Along
+    → (a ≡ false) × (b ≡ false) × (c ≡ true) × (line ≡ Along)
 along_only true b c d e line q = cc
 along_only false true c d e line q = cc
 along_only false false true d e line q = (refl, refl, refl, q)
@@ -102,7 +117,9 @@ line_only false false true false q = cc
 line_only false false false d q = cc
 
 one_side_test : (a b : ℤ) → ((pos 0 <ℤ a) × (pos 0 <ℤ b)) ⊎ ((a <ℤ pos 0) × (b <ℤ pos 0)) → one_side a b ≡ true
-one_side_test a b h = (Decides-or _ _ (Decides-and _ _ (Decides-int_lt (pos 0) a) (Decides-int_lt (pos 0) b)) (Decides-and _ _ (Decides-int_lt a (pos 0)) (Decides-int_lt b (pos 0)))).1 h
+one_side_test a b h =
+    (Decides-or _ _ (Decides-and _ _ (Decides-int_lt (pos 0) a) (Decides-int_lt (pos 0) b))
+    (Decides-and _ _ (Decides-int_lt a (pos 0)) (Decides-int_lt b (pos 0)))).1 h
 
 zero_by : (a b : ℤ) → a ≡ b → one_side a b ≡ false → a ≡ pos 0
 zero_by a b e n = elim (cases_order_ℤ (pos 0) a) [
@@ -123,7 +140,8 @@ overlap_to s t g h o =
     let also : turn s t.lo ≡ turn s t.hi = even (turn t s.lo) (turn t s.hi) (turn s t.hi) (turn s t.lo) (turns_differ s t) same in
     let c : turn s t.lo ≡ pos 0 = zero_by (turn s t.lo) (turn s t.hi) also k.1 in
     let d : turn s t.hi ≡ pos 0 = sym also ∙ c in
-    all_true (is_in_line s t.lo) (is_in_line s t.hi) (comes_before s.lo t.hi) (comes_before t.lo s.hi) (in_line_test s t.lo c) (in_line_test s t.hi d) l.1 l.0
+    all_true (is_in_line s t.lo) (is_in_line s t.hi) (comes_before s.lo t.hi) (comes_before t.lo s.hi) (in_line_test s t.lo c)
+    (in_line_test s t.hi d) l.1 l.0
   where
     even : (x y u v : ℤ) → x -ℤ y ≡ u -ℤ v → x ≡ y → v ≡ u
     even x y u v e f = omega (arith, ints)
@@ -133,13 +151,21 @@ overlap_test s t g h = (overlap_from s t g h, overlap_to s t g h)
 
 -- ---- a place on a segment
 Decides-box : (r : Rectangle) (q : Place) → Decides (box_holds r q) ((r.x0 ≤ℤ q.x) × ((q.x ≤ℤ r.x1) × ((r.y0 ≤ℤ q.y) × (q.y ≤ℤ r.y1))))
-Decides-box r q = Decides-and _ _ (Decides-int_le r.x0 q.x) (Decides-and _ _ (Decides-int_le q.x r.x1) (Decides-and _ _ (Decides-int_le r.y0 q.y) (Decides-int_le q.y r.y1)))
+Decides-box r q = Decides-and _ _ (Decides-int_le r.x0 q.x)
+    (Decides-and _ _ (Decides-int_le q.x r.x1) (Decides-and _ _ (Decides-int_le r.y0 q.y) (Decides-int_le q.y r.y1)))
 
 between : (a b v : ℤ) → int_min a b ≤ℤ v → v ≤ℤ int_max a b → IsBetween (a *ℤ pos 1) (b *ℤ pos 1) v
-between a b v h k = elim (cases_order_ℤ b a) [ inl o ↦ inr (omega (arith, ints, clamps), omega (arith, ints, clamps)) | inr o ↦ inl (omega (arith, ints, clamps), omega (arith, ints, clamps)) ]
+between a b v h k = elim (cases_order_ℤ b a) [
+  | inl o ↦ inr (omega (arith, ints, clamps), omega (arith, ints, clamps))
+  | inr o ↦
+      inl (omega (arith, ints, clamps), omega (arith, ints, clamps))
+]
 
-pub straight : (lx ly hx hy x y : ℤ) → (hx -ℤ lx) *ℤ (y -ℤ ly *ℤ pos 1) -ℤ (hy -ℤ ly) *ℤ (x -ℤ lx *ℤ pos 1) ≡ (hx -ℤ lx) *ℤ (y -ℤ ly) -ℤ (hy -ℤ ly) *ℤ (x -ℤ lx)
-straight lx ly hx hy x y = same_by ((num hx ⊖ num lx) ⊗ (num y ⊖ num ly ⊗ num (pos 1)) ⊖ (num hy ⊖ num ly) ⊗ (num x ⊖ num lx ⊗ num (pos 1))) ((num hx ⊖ num lx) ⊗ (num y ⊖ num ly) ⊖ (num hy ⊖ num ly) ⊗ (num x ⊖ num lx)) (omega arith)
+pub straight : (lx ly hx hy x y : ℤ)
+    → (hx -ℤ lx) *ℤ (y -ℤ ly *ℤ pos 1) -ℤ (hy -ℤ ly) *ℤ (x -ℤ lx *ℤ pos 1) ≡ (hx -ℤ lx) *ℤ (y -ℤ ly) -ℤ (hy -ℤ ly) *ℤ (x -ℤ lx)
+straight lx ly hx hy x y =
+    same_by ((num hx ⊖ num lx) ⊗ (num y ⊖ num ly ⊗ num (pos 1)) ⊖ (num hy ⊖ num ly) ⊗ (num x ⊖ num lx ⊗ num (pos 1)))
+    ((num hx ⊖ num lx) ⊗ (num y ⊖ num ly) ⊖ (num hy ⊖ num ly) ⊗ (num x ⊖ num lx)) (omega arith)
 
 both_parts : (a b : Bool) → (a && b) ≡ true → (a ≡ true) × (b ≡ true)
 both_parts true true e = (refl, refl)
@@ -173,11 +199,13 @@ place_test t q p g a o =
     both a b e f = rw (e, f) refl
 
 -- ---- lists of tests
-pub any_some : {A : Type 0} (U P : A → Type 0) (test : A → Bool) → ((x : A) → U x → (test x ≡ true) ↔ P x) → (xs : List A) → Every U xs → (list_any test xs ≡ true) ↔ SomeOf P xs
+pub any_some : {A : Type 0} (U P : A → Type 0) (test : A → Bool) → ((x : A) → U x → (test x ≡ true) ↔ P x) → (xs : List A) → Every U xs
+    → (list_any test xs ≡ true) ↔ SomeOf P xs
 any_some U P test m [] u = (λ e. absurd (false≢true e), λ h. absurd h)
 any_some U P test m (x ∷ xs) u = by_cases (test x) (m x u.0) (any_some U P test m xs u.1)
   where
-    by_cases : (b : Bool) → (b ≡ true) ↔ P x → (list_any test xs ≡ true) ↔ SomeOf P xs → ((b || list_any test xs) ≡ true) ↔ (P x ⊎ SomeOf P xs)
+    by_cases : (b : Bool) → (b ≡ true) ↔ P x → (list_any test xs ≡ true) ↔ SomeOf P xs
+        → ((b || list_any test xs) ≡ true) ↔ (P x ⊎ SomeOf P xs)
     by_cases true a k = (λ e. inl (a.0 refl), λ h. refl)
     by_cases false a k = (λ e. inr (k.0 e), λ h. elim h [ inl i ↦ absurd (false≢true (a.1 i)) | inr i ↦ k.1 i ])
 
@@ -199,5 +227,7 @@ at_test q r p a = (λ t. rw (same_is q r t) at a, λ b. is_same q r (place_one q
 pub end_test : (qs : List Place) (q : Place) (p : Point) → IsAt q p → (has_end_at qs q ≡ true) ↔ SomeOf (λ r. IsAt r p) qs
 end_test qs q p a = any_some (λ (r : Place). Unit {0}) (λ r. IsAt r p) (same_place q) (λ r u. at_test q r p a) qs (all_unit qs)
 
-pub side_test : (ss : List Segment) (q : Place) (p : Point) → Every IsSegment ss → IsAt q p → (holds_at ss q ≡ true) ↔ SomeOf (λ s. OnSegment s p) ss
-side_test ss q p u a = any_some IsSegment (λ s. OnSegment s p) (λ t. holds_place t q) (λ t g. (place_from t q p a, place_test t q p g a)) ss u
+pub side_test : (ss : List Segment) (q : Place) (p : Point) → Every IsSegment ss → IsAt q p
+    → (holds_at ss q ≡ true) ↔ SomeOf (λ s. OnSegment s p) ss
+side_test ss q p u a =
+    any_some IsSegment (λ s. OnSegment s p) (λ t. holds_place t q) (λ t g. (place_from t q p a, place_test t q p g a)) ss u

@@ -20,6 +20,7 @@ use Rattle.cell_laws.proofs.Envelope.{box_holds}
 use Rattle.cell_laws.proofs.OnLine.{on_lo}
 use Rattle.column_laws.proofs.Exact.{inside_is_exact, outside_is_exact}
 use Rattle.sound_laws.proofs.Meetings.{meets_test}
+use Rattle.plane_terms.proofs.ListLemmas.{every_map}
 use Rattle.rule_laws.proofs.Families.{IsFit}
 use Rattle.rule_laws.proofs.Held.{line_held, closure_held}
 use Rattle.rule_laws.proofs.None.{NoneRule, NoneThere}
@@ -59,10 +60,6 @@ some_same_of U P Q m (x ∷ xs) u =
     let k = some_same_of U P Q m xs u.1 in
     (λ h. elim h [ inl i ↦ inl (a.0 i) | inr i ↦ inr (k.0 i) ], λ h. elim h [ inl i ↦ inl (a.1 i) | inr i ↦ inr (k.1 i) ])
 
-pub every_to : {A : Type 0} (P Q : A → Type 0) → ((x : A) → P x → Q x) → (xs : List A) → Every P xs → Every Q xs
-every_to P Q m [] k = tt
-every_to P Q m (x ∷ xs) k = (m x k.0, every_to P Q m xs k.1)
-
 -- what is shared by all of a list comes out of it
 pub some_out : {A : Type 0} (P : A → Type 0) (Q : Type 0) (xs : List A) → SomeOf (λ x. P x × Q) xs ↔ (SomeOf P xs × Q)
 some_out P Q [] = (λ h. absurd h, λ h. h.0)
@@ -80,7 +77,8 @@ none_each P (x ∷ xs) =
     (λ h i. elim i [ inl a ↦ h.0 a | inr b ↦ k.0 h.1 b ], λ n. ((λ a. n (inl a)), k.1 (λ b. n (inr b))))
 
 -- ---- carving in turn
-pub uncovered_points : (cs : List Cell) (dss : List (List Cell)) (p : Point) → InCells (uncovered cs dss) p ↔ (InCells cs p × Every (λ ds. InCells ds p) dss)
+pub uncovered_points : (cs : List Cell) (dss : List (List Cell)) (p : Point)
+    → InCells (uncovered cs dss) p ↔ (InCells cs p × Every (λ ds. InCells ds p) dss)
 uncovered_points cs [] p = (λ h. (h, tt), λ h. h.0)
 uncovered_points cs (ds ∷ dss) p =
     let k = uncovered_points (carve_of cs ds) dss p in
@@ -101,12 +99,14 @@ outside_points g p u =
       λ n. e.1 (record { clear = λ b. n (inr b); even = λ o. n (inl (record { clear = λ b. n (inr b); odd = o })) }),
     )
 
-area_points : (f : Feature) (gs : List Feature) (p : Point) → IsFit shapes.Polygon f → Every (IsFit shapes.Polygon) gs → InCells (area_left f gs) p ↔ NoneThere (λ f p. IsInside (sides f) p) (λ g p. IsInClosure (sides g) p) f gs p
+area_points : (f : Feature) (gs : List Feature) (p : Point) → IsFit shapes.Polygon f → Every (IsFit shapes.Polygon) gs
+    → InCells (area_left f gs) p ↔ NoneThere (λ f p. IsInside (sides f) p) (λ g p. IsInClosure (sides g) p) f gs p
 area_points f gs p u v =
     let x = uncovered_points (inside f) (map {A = Feature} outside gs) p in
     let i = inside_is_exact (sides f) (u.simple u.kind) p in
     let m = every_mapped (λ ds. InCells ds p) outside gs in
-    let o = every_same (IsFit shapes.Polygon) (λ g. InCells (outside g) p) (λ g. ¬ (IsInClosure (sides g) p)) (λ g w. outside_points g p w) gs v in (
+    let o = every_same (IsFit shapes.Polygon) (λ g. InCells (outside g) p) (λ g. ¬ (IsInClosure (sides g) p))
+    (λ g w. outside_points g p w) gs v in (
       λ h. let y = x.0 h in (i.0 y.0, o.0 (m.0 y.1)),
       λ h. x.1 (i.1 h.0, m.1 (o.1 h.1)),
     )
@@ -131,27 +131,35 @@ boxes_share : (s t : Segment) (p : Point) → IsSegment s → IsSegment t → On
 boxes_share s t p g h o k = meets_test (box_of s) (box_of t) (p, box_holds s p g o, box_holds t p h k)
 
 -- of the segments that were not left out, and so of all
-out_picked : (s t : Segment) (ts : List Segment) (p : Point) (b : Bool) → box_meets s t ≡ b → IsSegment s → IsSegment t → OnSegment s p → (Every (λ ds. InCells ds p) (map {A = Segment} out_of_segment (filter (box_meets s) ts)) ↔ Every (λ t. ¬ (OnSegment t p)) ts)
-    → Every (λ ds. InCells ds p) (map {A = Segment} out_of_segment (cond b (t ∷ filter (box_meets s) ts) (filter (box_meets s) ts))) ↔ (¬ (OnSegment t p) × Every (λ t. ¬ (OnSegment t p)) ts)
+out_picked : (s t : Segment) (ts : List Segment) (p : Point) (b : Bool) → box_meets s t ≡ b → IsSegment s → IsSegment t → OnSegment s p
+    → (Every (λ ds. InCells ds p) (map {A = Segment} out_of_segment (filter (box_meets s) ts)) ↔ Every (λ t. ¬ (OnSegment t p)) ts)
+    → Every (λ ds. InCells ds p) (map {A = Segment} out_of_segment (cond b (t ∷ filter (box_meets s) ts) (filter (box_meets s) ts))) ↔
+    (¬ (OnSegment t p) × Every (λ t. ¬ (OnSegment t p)) ts)
 out_picked s t ts p true e g h o rest =
     let x = out_of_segment_points t p h in
     (λ k. (x.0 k.0, rest.0 k.1), λ k. (x.1 k.0, rest.1 k.1))
 out_picked s t ts p false e g h o rest =
     (λ k. ((λ i. let m = boxes_share s t p g h o i in absurd cc), rest.0 k), λ k. rest.1 k.1)
 
-out_points : (s : Segment) (ts : List Segment) (p : Point) → IsSegment s → Every IsSegment ts → OnSegment s p → Every (λ ds. InCells ds p) (out_of_segments s ts) ↔ Every (λ t. ¬ (OnSegment t p)) ts
+out_points : (s : Segment) (ts : List Segment) (p : Point) → IsSegment s → Every IsSegment ts → OnSegment s p
+    → Every (λ ds. InCells ds p) (out_of_segments s ts) ↔ Every (λ t. ¬ (OnSegment t p)) ts
 out_points s [] p g u o = (λ h. h, λ h. h)
 out_points s (t ∷ ts) p g u o = out_picked s t ts p (box_meets s t) refl g u.0 o (out_points s ts p g u.1 o)
 
 module _ (k l : Kind) where
-  side_points : (s : Segment) (gs : List Feature) (p : Point) → IsSegment s → Every (IsFit l) gs → InCells (uncovered (on_segment s ∷ []) (flat_map (λ (g : Feature). out_of_segments s (sides g)) gs)) p ↔ (OnSegment s p × Every (λ (g : Feature). ¬ (SomeOf (λ t. OnSegment t p) (sides g))) gs)
+  side_points : (s : Segment) (gs : List Feature) (p : Point) → IsSegment s → Every (IsFit l) gs
+      → InCells (uncovered (on_segment s ∷ []) (flat_map (λ (g : Feature). out_of_segments s (sides g)) gs)) p ↔
+      (OnSegment s p × Every (λ (g : Feature). ¬ (SomeOf (λ t. OnSegment t p) (sides g))) gs)
   side_points s gs p g v =
       let x = uncovered_points (on_segment s ∷ []) (flat_map (λ (g : Feature). out_of_segments s (sides g)) gs) p in
       let c = one_cell (on_segment s) p in
       let on = on_segment_points s p g in
       let flat = every_flat (λ ds. InCells ds p) (λ (g : Feature). out_of_segments s (sides g)) gs in
-      let each : OnSegment s p → Every (λ (g : Feature). Every (λ ds. InCells ds p) (out_of_segments s (sides g))) gs ↔ Every (λ (g : Feature). ¬ (SomeOf (λ t. OnSegment t p) (sides g))) gs =
-      λ o. every_same (IsFit l) (λ (g : Feature). Every (λ ds. InCells ds p) (out_of_segments s (sides g))) (λ (g : Feature). ¬ (SomeOf (λ t. OnSegment t p) (sides g))) (λ h w.
+      let each : OnSegment s p
+      → Every (λ (g : Feature). Every (λ ds. InCells ds p) (out_of_segments s (sides g))) gs ↔ Every
+      (λ (g : Feature). ¬ (SomeOf (λ t. OnSegment t p) (sides g))) gs =
+      λ o. every_same (IsFit l) (λ (g : Feature). Every (λ ds. InCells ds p) (out_of_segments s (sides g)))
+      (λ (g : Feature). ¬ (SomeOf (λ t. OnSegment t p) (sides g))) (λ h w.
       let a = out_points s (sides h) p g w.proper o in
       let b = none_each (λ t. OnSegment t p) (sides h) in
       (λ i. b.0 (a.0 i), λ i. a.1 (b.1 i))) gs v in (
@@ -159,12 +167,15 @@ module _ (k l : Kind) where
         λ h. x.1 (c.1 (on.1 h.0), flat.1 ((each h.0).1 h.1)),
       )
 
-  sides_points : (f : Feature) (gs : List Feature) (p : Point) → IsFit k f → Every (IsFit l) gs → InCells (sides_left f gs) p ↔ NoneThere (λ f p. SomeOf (λ s. OnSegment s p) (sides f)) (λ g p. SomeOf (λ t. OnSegment t p) (sides g)) f gs p
+  sides_points : (f : Feature) (gs : List Feature) (p : Point) → IsFit k f → Every (IsFit l) gs
+      → InCells (sides_left f gs) p ↔ NoneThere (λ f p. SomeOf (λ s. OnSegment s p) (sides f))
+      (λ g p. SomeOf (λ t. OnSegment t p) (sides g)) f gs p
   sides_points f gs p u v =
       let none : Type 0 = Every (λ (g : Feature). ¬ (SomeOf (λ t. OnSegment t p) (sides g))) gs in
       let left : Segment → List Cell = λ s. uncovered (on_segment s ∷ []) (flat_map (λ (g : Feature). out_of_segments s (sides g)) gs) in
       let flat = some_flat (λ c. InCell c p) left (sides f) in
-      let each = some_same_of IsSegment (λ s. InCells (left s) p) (λ s. OnSegment s p × none) (λ s g. side_points s gs p g v) (sides f) u.proper in
+      let each = some_same_of IsSegment (λ s. InCells (left s) p) (λ s. OnSegment s p × none) (λ s g. side_points s gs p g v)
+      (sides f) u.proper in
       let out = some_out (λ s. OnSegment s p) none (sides f) in
       (λ h. out.0 (each.0 (flat.0 h)), λ h. flat.1 (each.1 (out.1 h)))
 
@@ -174,6 +185,10 @@ module _ (k l : Kind) where
     held_a = λ f p u h. line_held f p h;
     held_b = λ g p u h. line_held g p h;
     exact = sides_points;
-    some = λ f gs u v. (every_flat HasPoint (λ (s : Segment). uncovered (on_segment s ∷ []) (flat_map (λ (g : Feature). out_of_segments s (sides g)) gs)) (sides f)).1
-        (every_to IsSegment (λ s. HavePoints (uncovered (on_segment s ∷ []) (flat_map (λ (g : Feature). out_of_segments s (sides g)) gs))) (λ s g. uncovered_have_points (on_segment s ∷ []) (flat_map (λ (g : Feature). out_of_segments s (sides g)) gs) (segment_has_point s g, tt)) (sides f) u.proper);
+    some = λ f gs u v. (every_flat HasPoint
+        (λ (s : Segment). uncovered (on_segment s ∷ []) (flat_map (λ (g : Feature). out_of_segments s (sides g)) gs)) (sides f)).1
+        (every_map IsSegment (λ s.
+        HavePoints (uncovered (on_segment s ∷ []) (flat_map (λ (g : Feature). out_of_segments s (sides g)) gs)))
+        (λ s g. uncovered_have_points (on_segment s ∷ []) (flat_map (λ (g : Feature). out_of_segments s (sides g)) gs)
+        (segment_has_point s g, tt)) (sides f) u.proper);
   }

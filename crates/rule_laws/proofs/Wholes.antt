@@ -15,7 +15,7 @@ use Rattle.topology_terms.specs.Plans.{near, Around, Later, side_by, around, who
 use Rattle.topology_terms.specs.Together.{of_side}
 use Rattle.sound_laws.proofs.Dirts.{bool_cases}
 use Rattle.sound_laws.proofs.FeatureLists.{same_handle}
-use Rattle.sound_laws.proofs.FeatureFilters.{each_live}
+use Rattle.sound_laws.proofs.FeatureLists.{each_live}
 use Rattle.rule_laws.proofs.Nears.{near_same, near_ascends, near_of}
 use Rattle.rule_laws.proofs.Families.{IsFit, AreFit, AreExact, WholeBreaks}
 use Rattle.rule_laws.proofs.Lists.{side_each}
@@ -43,7 +43,8 @@ whole_there : (t : Bool) → t ≡ true → finding_at (chosen t) 0 ≡ Some who
 unfolding finding_at chosen whole_one
 whole_there t e = rw e refl
 
-finding_whole : (B : ℕ → Point → Type 0) (W : Type 0) (t : Bool) → ((b : ℕ) (p : Point) → ¬ (B b p)) → (t ≡ true) ↔ W → AreExact B W (if t then whole_finding else [])
+finding_whole : (B : ℕ → Point → Type 0) (W : Type 0) (t : Bool) → ((b : ℕ) (p : Point) → ¬ (B b p)) → (t ≡ true) ↔ W
+    → AreExact B W (if t then whole_finding else [])
 unfolding chosen whole_one
 finding_whole B W t none exact = record {
   points = λ b x e w p. let y = only_whole t b x e in let n : true ≡ false = rw y.1 at w in absurd cc;
@@ -54,9 +55,11 @@ finding_whole B W t none exact = record {
   each_whole = λ h. (whole_one, whole_there t (exact.1 h), refl);
 }
 
-module _ (k l : Kind) (T : Feature → List Feature → Type 0) (test : Feature → List Feature → Bool) (R : WholeRule k l T test) (row : Row) (who : Around) where
+module _ (k l : Kind) (T : Feature → List Feature → Type 0) (test : Feature → List Feature → Bool) (R : WholeRule k l T test) (row : Row)
+    (who : Around) where
   -- the test, of the near of a subject
-  near_is : (F : List Feature) (a : ℕ) (f : Feature) → AreFit k l row who F → feature_at F a ≡ Some f → judged row f ≡ true → T f (near (side_by who row f) f F) ↔ WholeBreaks T row who F a
+  near_is : (F : List Feature) (a : ℕ) (f : Feature) → AreFit k l row who F → feature_at F a ≡ Some f → judged row f ≡ true
+      → T f (near (side_by who row f) f F) ↔ WholeBreaks T row who F a
   near_is F a f u e j =
       let S = side_by who row f in
       let x = R.local S F f (u.subject a f e j) (side_each (IsFit l) S F u.ascending (u.around f j)) in (
@@ -68,7 +71,8 @@ module _ (k l : Kind) (T : Feature → List Feature → Type 0) (test : Feature 
   whole_live F a h = (h.f, h.live)
 
   -- a subject breaks the rule by the features near it
-  pub whole_feature : (F G : List Feature) (a : ℕ) (f : Feature) → AreFit k l row who F → AreFit k l row who G → feature_at F a ≡ Some f → feature_at G a ≡ Some f → Agree (λ g. RectsMeet (env f) (env g)) F G → WholeBreaks T row who F a → WholeBreaks T row who G a
+  pub whole_feature : (F G : List Feature) (a : ℕ) (f : Feature) → AreFit k l row who F → AreFit k l row who G → feature_at F a ≡ Some f
+      → feature_at G a ≡ Some f → Agree (λ g. RectsMeet (env f) (env g)) F G → WholeBreaks T row who F a → WholeBreaks T row who G a
   whole_feature F G a f u v e i agree h =
       let m = h.live in
       let same : h.f ≡ f = cc in
@@ -77,11 +81,14 @@ module _ (k l : Kind) (T : Feature → List Feature → Type 0) (test : Feature 
       let there = (near_is F a f u e j).1 h in
       (near_is G a f v i j).0 (rw n at there)
 
-  pub whole_exact : (F : List Feature) (a : ℕ) (f : Feature) (B : ℕ → Point → Type 0) → ((b : ℕ) (p : Point) → ¬ (B b p)) → AreFit k l row who F → feature_at F a ≡ Some f → judged row f ≡ true → (who ≡ Later → ⊥)
+  pub whole_exact : (F : List Feature) (a : ℕ) (f : Feature) (B : ℕ → Point → Type 0) → ((b : ℕ) (p : Point) → ¬ (B b p))
+      → AreFit k l row who F → feature_at F a ≡ Some f → judged row f ≡ true → (who ≡ Later → ⊥)
       → AreExact B (WholeBreaks T row who F a) (if test f (around who row F f) then whole_finding else [])
   whole_exact F a f B none u e j n =
       let S = side_by who row f in
-      let fit = each_live (IsFit l) (near S f F) (near_ascends S f F u.ascending) (λ b g i. u.around f j b g (near_of S f F b g u.ascending i)) in
+      let fit = each_live (IsFit l) (near S f F) (near_ascends S f F u.ascending)
+      (λ b g i. u.around f j b g (near_of S f F b g u.ascending i)) in
       let x = R.exact f (near S f F) (u.subject a f e j) fit in
       let y = near_is F a f u e j in
-      rw (around_near who row F f n) (finding_whole B (WholeBreaks T row who F a) (test f (near S f F)) none ((λ t. y.0 (x.0 t)), (λ w. x.1 (y.1 w))))
+      rw (around_near who row F f n)
+      (finding_whole B (WholeBreaks T row who F a) (test f (near S f F)) none ((λ t. y.0 (x.0 t)), (λ w. x.1 (y.1 w))))

@@ -4,8 +4,6 @@
 mod built;
 mod law;
 mod poster;
-#[cfg(test)]
-mod tests;
 
 pub use built::is_built;
 pub use law::poster_law;

@@ -253,23 +253,3 @@ impl RuleKind {
         origin == self.origin() && dest == self.dest()
     }
 }
-
-#[cfg(test)]
-mod tests {
-    use super::*;
-
-    #[test]
-    fn words_and_kinds(rt: HostRuntime) {
-        let found = RuleKind::of_word(b"polygon_contains_point");
-        assert_eq!(rt; found, Some(RuleKind::PolygonContainsPoint));
-        assert_eq!(rt; RuleKind::of_word(b"Polygon_contains_point"), None);
-        assert_eq!(rt;
-            RuleKind::PointMustBeDisjoint.word(),
-            "point_must_be_disjoint"
-        );
-        let kind = RuleKind::PolygonContainsPoint;
-        assert!(rt; kind.takes_dest());
-        assert!(rt; kind.fits(Kind::Polygon, Some(Kind::Point)));
-        assert!(rt; !kind.fits(Kind::Polygon, None));
-    }
-}

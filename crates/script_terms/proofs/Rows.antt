@@ -10,11 +10,12 @@ use Rattle.plane_terms.specs.Shape.{Shape}
 use Rattle.plane_terms.specs.declared.kind.Kind.TheVariants as shapes
 use Rattle.rule_words.specs.declared.rule_kind.RuleKind.TheVariants as kind
 use Rattle.topology_terms.specs.Feature.{feature_at}
+use Rattle.topology_terms.specs.declared.cause.Cause.TheVariants.{ClassTaken, NoClass, Unfit, RuleThere, NoRule, WrongKind, NoFeature}
 use Rattle.topology_terms.specs.Project.{Project, rule_at}
-use Rattle.shape.specs.declared.fault.ShapeFault.TheVariants as fault
-use Rattle.script_text.specs.declared.fault.LineRefusal.TheVariants as line
-use Rattle.script_text.specs.Commands.{Class, Rule, DropRule, Begin, Add, Change, Delete, Undo}
-use Rattle.script_terms.specs.Refusal.{Line, ClassTaken, NoSession, NoClass, Unfit, RuleThere, NoRule, WrongKind, NoFeature}
+use Rattle.plane_terms.specs.declared.shape_fault.ShapeFault.TheVariants as fault
+use Rattle.line_terms.specs.declared.line_refusal.LineRefusal.TheVariants as line
+use Rattle.line_terms.specs.Commands.{Class, Rule, DropRule, Begin, Add, Change as AChange, Delete, Undo}
+use Rattle.script_terms.specs.Refusal.{Line, NoSession, Change}
 use Rattle.script_terms.specs.Reply.{Judged, Refused, CellList, DirtyList, ErrorList, FeatureList, reply_text}
 use Rattle.script_terms.specs.State.{State}
 use Rattle.script_terms.specs.Refusing.{not_built, refusal_of}
@@ -60,43 +61,43 @@ judged = refl
 no_session : refusal_of open_ann (Add (codes "bob") (codes "wells") (point (pos 0) (pos 0))) ≡ Some NoSession
 no_session = refl
 
-no_class : refusal_of open_ann (Add (codes "ann") (codes "roads") (point (pos 0) (pos 0))) ≡ Some NoClass
+no_class : refusal_of open_ann (Add (codes "ann") (codes "roads") (point (pos 0) (pos 0))) ≡ Some (Change NoClass)
 no_class = refl
 
 accepted : refusal_of open_ann (Add (codes "ann") (codes "wells") (point (pos 0) (pos 0))) ≡ None
 accepted = refl
 
-other_kind : refusal_of open_ann (Add (codes "ann") (codes "wells") (record { kind = shapes.Line; parts = ((at (pos 0) (pos 0) ∷ at (pos 5) (pos 0) ∷ []) ∷ []) ∷ [] })) ≡ Some WrongKind
+other_kind : refusal_of open_ann (Add (codes "ann") (codes "wells") (record { kind = shapes.Line; parts = ((at (pos 0) (pos 0) ∷ at (pos 5) (pos 0) ∷ []) ∷ []) ∷ [] })) ≡ Some (Change WrongKind)
 other_kind = refl
 
-second_class : refusal_of open_ann (Class (codes "wells") shapes.Line) ≡ Some ClassTaken
+second_class : refusal_of open_ann (Class (codes "wells") shapes.Line) ≡ Some (Change ClassTaken)
 second_class = refl
 
-second_rule : refusal_of open_ann (Rule kind.PointMustBeDisjoint (codes "wells") None) ≡ Some RuleThere
+second_rule : refusal_of open_ann (Rule kind.PointMustBeDisjoint (codes "wells") None) ≡ Some (Change RuleThere)
 second_rule = refl
 
-lots_of_points : refusal_of open_ann (Rule kind.PolygonMustNotOverlap (codes "wells") None) ≡ Some Unfit
+lots_of_points : refusal_of open_ann (Rule kind.PolygonMustNotOverlap (codes "wells") None) ≡ Some (Change Unfit)
 lots_of_points = refl
 
-no_such_class : refusal_of open_ann (Rule kind.PointMustBeDisjoint (codes "roads") None) ≡ Some NoClass
+no_such_class : refusal_of open_ann (Rule kind.PointMustBeDisjoint (codes "roads") None) ≡ Some (Change NoClass)
 no_such_class = refl
 
 -- a rule that is not built yet is none before its classes are looked at
 unbuilt_rule : refusal_of open_ann (Rule kind.LineMustNotOverlap (codes "roads") None) ≡ Some not_built
 unbuilt_rule = refl
 
-no_such_rule : refusal_of open_ann (DropRule 2) ≡ Some NoRule
+no_such_rule : refusal_of open_ann (DropRule 2) ≡ Some (Change NoRule)
 unfolding rule_at
 no_such_rule = refl
 
 second_session : refusal_of open_ann (Begin (codes "bob")) ≡ Some not_built
 second_session = refl
 
-no_such_feature : refusal_of open_ann (Delete (codes "ann") 3) ≡ Some NoFeature
+no_such_feature : refusal_of open_ann (Delete (codes "ann") 3) ≡ Some (Change NoFeature)
 unfolding feature_at
 no_such_feature = refl
 
-moved : refusal_of open_ann (Change (codes "ann") 2 (point (pos 5) (pos 4))) ≡ None
+moved : refusal_of open_ann (AChange (codes "ann") 2 (point (pos 5) (pos 4))) ≡ None
 unfolding feature_at
 moved = refl
 

@@ -5,3 +5,4 @@ pub mod Refusing
 pub mod Answer
 pub mod Headline
 pub mod Run
+pub mod Ends

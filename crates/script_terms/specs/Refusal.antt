@@ -1,31 +1,24 @@
 -- Why a line is refused, and the words of each refusal.
 --
--- Refusal            a fault of the line's own, or one constructor a cause in the state
+-- Refusal            a fault of the line's own; no session of the editor is open; or why the project is not changed
 -- shape_fault_text f     what is wrong with a shape, and the numbers that say where
+-- cause_code c       the code of a cause
 -- refusal_text r     the code, and what stands behind it
--- when b r           the refusal r where b is true; first_of the first that there is
 --
 -- Source: own.
-use Rattle.std.specs.Prelude.{ℕ, Bool, List, [], ◌∷◌, Option, Some, None, codes, decimal, if◌then◌else◌}
+use Rattle.std.specs.Prelude.{ℕ, List, [], ◌∷◌, codes, decimal}
 use Rattle.text_terms.specs.Wkt.{◌⧺◌}
-use Rattle.shape.specs.declared.fault.ShapeFault.{ShapeFault}
-use Rattle.shape.specs.declared.fault.ShapeFault.TheVariants.{TooFew, TooMany, Cross, Along, NoMemory}
-use Rattle.script_text.specs.declared.fault.LineRefusal.{LineRefusal}
-use Rattle.script_text.specs.declared.fault.LineRefusal.TheVariants.{NotALine, TooLong, OffGrid, OutOfReach, Unsupported, NotClosed, Invalid, Reversed}
+use Rattle.topology_terms.specs.declared.cause.Cause.{Cause}
+use Rattle.topology_terms.specs.declared.cause.Cause.TheVariants as cause
+use Rattle.plane_terms.specs.declared.shape_fault.ShapeFault.{ShapeFault}
+use Rattle.plane_terms.specs.declared.shape_fault.ShapeFault.TheVariants.{TooFew, TooMany, Cross, Along, NoMemory}
+use Rattle.line_terms.specs.declared.line_refusal.LineRefusal.{LineRefusal}
+use Rattle.line_terms.specs.declared.line_refusal.LineRefusal.TheVariants.{NotALine, TooLong, OffGrid, OutOfReach, Unsupported, NotClosed, Invalid, Reversed}
 
 pub data Refusal : Type 0 where
   Line : LineRefusal → Refusal
-  ClassTaken : Refusal
-  ClassesFull : Refusal
-  NoClass : Refusal
-  Unfit : Refusal
-  RuleThere : Refusal
-  RulesFull : Refusal
-  NoRule : Refusal
   NoSession : Refusal
-  WrongKind : Refusal
-  NoFeature : Refusal
-  HandlesSpent : Refusal
+  Change : Cause → Refusal
 
 abbrev pub with_number : List ℕ → ℕ → List ℕ
 with_number word n = word ⧺ 32 ∷ decimal n
@@ -51,24 +44,19 @@ line_refusal_text (NotClosed ring) = with_number (codes "E17") ring
 line_refusal_text (Invalid fault) = codes "E18 " ⧺ shape_fault_text fault
 line_refusal_text Reversed = codes "E24"
 
+abbrev pub cause_code : Cause → List ℕ
+cause_code cause.ClassTaken = codes "E03"
+cause_code cause.ClassesFull = codes "E04"
+cause_code cause.NoClass = codes "E05"
+cause_code cause.Unfit = codes "E06"
+cause_code cause.RuleThere = codes "E07"
+cause_code cause.RulesFull = codes "E08"
+cause_code cause.NoRule = codes "E09"
+cause_code cause.WrongKind = codes "E13"
+cause_code cause.NoFeature = codes "E19"
+cause_code cause.HandlesSpent = codes "E21"
+
 abbrev pub refusal_text : Refusal → List ℕ
 refusal_text (Line r) = line_refusal_text r
-refusal_text ClassTaken = codes "E03"
-refusal_text ClassesFull = codes "E04"
-refusal_text NoClass = codes "E05"
-refusal_text Unfit = codes "E06"
-refusal_text RuleThere = codes "E07"
-refusal_text RulesFull = codes "E08"
-refusal_text NoRule = codes "E09"
 refusal_text NoSession = codes "E12"
-refusal_text WrongKind = codes "E13"
-refusal_text NoFeature = codes "E19"
-refusal_text HandlesSpent = codes "E21"
-
-abbrev pub when : Bool → Refusal → Option Refusal
-when b r = if b then Some r else None
-
-abbrev pub first_of : List (Option Refusal) → Option Refusal
-first_of [] = None
-first_of (None ∷ rs) = first_of rs
-first_of (Some r ∷ rs) = Some r
+refusal_text (Change c) = cause_code c

@@ -3,11 +3,9 @@
 -- State                the project, and the editor's name where a session is open
 -- empty_state          the empty project, no session
 -- is_open s n          the session of this editor is open
--- is_live p h          there is a feature of this handle
 --
 -- Source: own.
-use Rattle.std.specs.Prelude.{ℕ, Bool, false, List, Option, Some, None, is_some, bytes_eq}
-use Rattle.topology_terms.specs.Feature.{feature_at}
+use Rattle.std.specs.Prelude.{ℕ, Bool, false, List, Option, Some, None, bytes_eq}
 use Rattle.topology_terms.specs.Project.{Project, empty_project}
 
 pub record State : Type 0 where
@@ -23,6 +21,3 @@ is_editor (Some editor) name = bytes_eq editor name
 
 abbrev pub is_open : State → List ℕ → Bool
 is_open s name = is_editor s.editor name
-
-abbrev pub is_live : Project → ℕ → Bool
-is_live p h = is_some (feature_at p.features h)

@@ -1,3 +1,7 @@
-pub mod WindowSides
-pub mod TextWithin
+pub mod Numbers
+pub mod Wholes
+pub mod Groups
+pub mod OneForm
 pub mod OneCommand
+pub mod TextWithin
+pub mod Spelled

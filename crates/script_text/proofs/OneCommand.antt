@@ -1,56 +1,131 @@
--- A line has one command.
-use Rattle.std.proofs.Common.{ℕ, ◌≡◌, List, sym, ◌∙◌, ap, subst}
-use Rattle.plane_terms.specs.Rectangle.{Rectangle}
+-- A line has one command, and a line that has one has no fault.
+use Rattle.std.proofs.Common.{ℕ, zero, suc, ◌≡◌, ◌<◌, List, [], ◌∷◌, sym, ◌∙◌, ap, subst, arith, inl, inr, ◌⊎◌, Result, Ok, Err, MatchResult, refl}
+use Rattle.std.proofs.lemmas.Int.{ints}
+use Rattle.plane_terms.specs.Rectangle.{Rectangle, IsRectangle, IsFirstOut, numbers_of}
+use Rattle.plane_terms.specs.Point.{InReach}
 use Rattle.plane_terms.specs.Shape.{Shape}
-use Rattle.wkt_laws.specs.Shapes.{IsShapeText, shape_in}
+use Rattle.wkt_terms.specs.Shapes.{IsShapeText, shape_in}
+use Rattle.wkt_terms.specs.WktFaults.{IsWktFault}
+use Rattle.wkt_terms.specs.declared.wkt_fault.WktFault.{WktFault}
+use Rattle.wkt_terms.specs.declared.wkt_fault.WktFault.TheVariants as text
 use Rattle.wkt_laws.proofs.Reading.{one_value}
-use Rattle.line_forms.specs.declared.window_number.WindowNumber.{WindowNumber}
-use Rattle.line_forms.specs.declared.window_number.WindowNumber.TheVariants.{Within}
-use Rattle.line_forms.specs.Forms.{Form}
-use Rattle.line_forms.specs.Forms as form
-use Rattle.line_forms.proofs.OneForm.{one_form}
-use Rattle.script_text.specs.Commands.{Command}
-use Rattle.script_text.specs.Commands as command
-use Rattle.script_text.specs.Windows.{IsWindow}
-use Rattle.script_text.specs.Lines.{IsCommandOf, IsCommandLine}
+use Rattle.wkt_text.proofs.Results.{only}
+use Rattle.line_terms.specs.Commands.{Command, Form, Window, All, Numbers}
+use Rattle.line_terms.specs.Commands as form
+use Rattle.line_terms.specs.Forms.{HasForm, IsLine, pieces, Rest, written}
+use Rattle.line_terms.specs.Lines.{Holds, IsSpelling, IsCommandLine, IsTextRefusal, IsFaultOf, HasFaultyForm, IsLineFault}
+use Rattle.line_terms.specs.Windows.{IsWindow, IsWindowFault}
+use Rattle.line_terms.specs.declared.line_refusal.LineRefusal.{LineRefusal}
+use Rattle.line_terms.specs.declared.line_refusal.LineRefusal.TheVariants as refusal
+use Rattle.script_text.proofs.OneForm.{one_form, one_of, one_window, tagged}
+use Rattle.script_text.specs.Faults.{IsFault}
+use Rattle.script_text.specs.declared.fault.LineFault.{LineFault}
+use Rattle.script_text.specs.declared.fault.LineFault.TheVariants.{Refused, NoMemory}
 
+-- ---- one command
 one_shape : (t : List ℕ) (s u : Shape) → IsShapeText t s → IsShapeText t u → s ≡ u
 one_shape t s u p q = p.shape ∙ (ap shape_in (one_value t p.geometry q.geometry p.spelled q.spelled) ∙ sym q.shape)
 
-one_window : (a b c d : WindowNumber) (v w : Rectangle) → IsWindow a b c d v → IsWindow a b c d w → v ≡ w
-one_window a b c d v w p q =
-    let e0 : Within v.x0 ≡ Within w.x0 = sym p.sides.left ∙ q.sides.left in
-    let e1 : Within v.y0 ≡ Within w.y0 = sym p.sides.below ∙ q.sides.below in
-    let e2 : Within v.x1 ≡ Within w.x1 = sym p.sides.right ∙ q.sides.right in
-    let e3 : Within v.y1 ≡ Within w.y1 = sym p.sides.above ∙ q.sides.above in
-    let x0 : v.x0 ≡ w.x0 = cc in
-    let y0 : v.y0 ≡ w.y0 = cc in
-    let x1 : v.x1 ≡ w.x1 = cc in
-    let y1 : v.y1 ≡ w.y1 = cc in
-    λ i. record { x0 = x0 i; y0 = y0 i; x1 = x1 i; y1 = y1 i }
+one_rectangle : (v : Window) (x y : Rectangle) → IsWindow v x → IsWindow v y → x ≡ y
+one_rectangle All x y p q = p ∙ sym q
+one_rectangle (Numbers r) x y p q = p.0 ∙ sym q.0
 
-one_of : (f : Form) (c d : Command) → IsCommandOf f c → IsCommandOf f d → c ≡ d
-one_of (form.Add e k t) c d p q = p.command ∙ (ap (command.Add e k) (one_shape t p.shape q.shape p.spelled q.spelled) ∙ sym q.command)
-one_of (form.Change e h t) c d p q = p.command ∙ (ap (command.Change e h) (one_shape t p.shape q.shape p.spelled q.spelled) ∙ sym q.command)
-one_of (form.Window x0 y0 x1 y1) c d p q = p.command ∙ (ap command.Validate (one_window x0 y0 x1 y1 p.window q.window p.made q.made) ∙ sym q.command)
-one_of form.Blank c d p q = p ∙ sym q
-one_of (form.Class n k) c d p q = p ∙ sym q
-one_of (form.Rule k n m) c d p q = p ∙ sym q
-one_of (form.DropRule r) c d p q = p ∙ sym q
-one_of (form.Begin e) c d p q = p ∙ sym q
-one_of (form.End e) c d p q = p ∙ sym q
-one_of (form.Discard e) c d p q = p ∙ sym q
-one_of (form.Delete e h) c d p q = p ∙ sym q
-one_of (form.Undo e) c d p q = p ∙ sym q
-one_of (form.Redo e) c d p q = p ∙ sym q
-one_of form.ValidateAll c d p q = p ∙ sym q
-one_of (form.Mark r a b) c d p q = p ∙ sym q
-one_of (form.Unmark r a b) c d p q = p ∙ sym q
-one_of form.Dirty c d p q = p ∙ sym q
-one_of form.Errors c d p q = p ∙ sym q
-one_of form.Cells c d p q = p ∙ sym q
-one_of form.Features c d p q = p ∙ sym q
-one_of form.Rules c d p q = p ∙ sym q
+same_text : (text t u : List ℕ) → IsLine text (Rest t ∷ []) → IsLine text (Rest u ∷ []) → t ≡ u
+same_text text t u p q = sym p.0 ∙ q.0
+
+pub one_spelled : (line : List ℕ) (c d : Command) → IsSpelling line c → IsSpelling line d → c ≡ d
+one_spelled line c d p q =
+    one_of (λ _. Rest p.text) (λ _. Rest q.text) (λ _. written p.window) (λ _. written q.window)
+    (IsShapeText p.text) (IsShapeText q.text) (IsWindow p.window) (IsWindow q.window)
+    (λ text x y a b m n. one_shape q.text x y (subst (λ t. IsShapeText t x) (same_text text p.text q.text a b) m) n)
+    (λ text x y a b m n. one_rectangle q.window x y (subst (λ v. IsWindow v x) (one_window text p.window q.window a b) m) n)
+    line c d p.spelled q.spelled p.meant q.meant
+    (sym (tagged (λ _. Rest p.text) (λ _. written p.window) line c p.spelled) ∙ tagged (λ _. Rest q.text) (λ _. written q.window) line d q.spelled)
 
 pub one_command : (line : List ℕ) (c d : Command) → IsCommandLine line c → IsCommandLine line d → c ≡ d
-one_command line c d p q = one_of q.form c d (subst (λ f. IsCommandOf f c) (one_form line p.form q.form p.has q.has) p.command) q.command
+one_command line c d p q = one_spelled line c d p.1 q.1
+
+-- ---- and no fault
+-- what the line of a command says
+abbrev said : List ℕ → Window → Command → Form
+said t v form.Blank = form.Blank
+said t v (form.Class n k) = form.Class n k
+said t v (form.Rule k n d) = form.Rule k n d
+said t v (form.DropRule r) = form.DropRule r
+said t v (form.Begin e) = form.Begin e
+said t v (form.End e) = form.End e
+said t v (form.Discard e) = form.Discard e
+said t v (form.Add e c s) = form.Add e c t
+said t v (form.Change e h s) = form.Change e h t
+said t v (form.Delete e h) = form.Delete e h
+said t v (form.Undo e) = form.Undo e
+said t v (form.Redo e) = form.Redo e
+said t v (form.Validate w) = form.Validate v
+said t v (form.Mark r a b) = form.Mark r a b
+said t v (form.Unmark r a b) = form.Unmark r a b
+said t v form.Dirty = form.Dirty
+said t v form.Errors = form.Errors
+said t v form.Cells = form.Cells
+said t v form.Features = form.Features
+said t v form.Rules = form.Rules
+
+said_there : (line t : List ℕ) (v : Window) (c : Command) → IsLine line (pieces (λ _. Rest t) (λ _. written v) c) → HasForm line (said t v c)
+said_there line t v form.Blank p = p
+said_there line t v other p = p
+
+no_text_fault : (t : List ℕ) (s : Shape) (e : WktFault) → IsShapeText t s → IsWktFault t e → e ≡ text.NoMemory
+no_text_fault t s e m f = only t (Err e) f s m
+
+no_text_refusal : (t : List ℕ) (s : Shape) (r : LineRefusal) → IsShapeText t s → IsTextRefusal t r → ⊥
+no_text_refusal t s refusal.NotALine m f = let e = no_text_fault t s (text.Syntax f.0) m f.1 in cc
+no_text_refusal t s (refusal.OffGrid at) m f = let e = no_text_fault t s (text.OffGrid at) m f in cc
+no_text_refusal t s (refusal.OutOfReach at) m f = let e = no_text_fault t s (text.OutOfReach at) m f in cc
+no_text_refusal t s (refusal.Unsupported at) m f = let e = no_text_fault t s (text.Unsupported at) m f in cc
+no_text_refusal t s (refusal.NotClosed ring) m f = let e = no_text_fault t s (text.NotClosed ring) m f in cc
+no_text_refusal t s (refusal.Invalid fault) m f = let e = no_text_fault t s (text.Invalid fault) m f in cc
+no_text_refusal t s other m f = f
+
+pub reach_x0 : (w : Rectangle) → IsRectangle w → InReach w.x0
+reach_x0 w h = record { low = omega (arith, ints); high = omega (arith, ints) }
+
+pub reach_y0 : (w : Rectangle) → IsRectangle w → InReach w.y0
+reach_y0 w h = record { low = omega (arith, ints); high = omega (arith, ints) }
+
+pub reach_x1 : (w : Rectangle) → IsRectangle w → InReach w.x1
+reach_x1 w h = record { low = omega (arith, ints); high = omega (arith, ints) }
+
+pub reach_y1 : (w : Rectangle) → IsRectangle w → InReach w.y1
+reach_y1 w h = record { low = omega (arith, ints); high = omega (arith, ints) }
+
+none_out : (at : ℕ) (r : Rectangle) → IsRectangle r → IsFirstOut at (numbers_of r) → ⊥
+none_out zero r h f = f (reach_x0 r h)
+none_out (suc zero) r h f = f.1 (reach_y0 r h)
+none_out (suc (suc zero)) r h f = f.1.1 (reach_x1 r h)
+none_out (suc (suc (suc zero))) r h f = f.1.1.1 (reach_y1 r h)
+none_out (suc (suc (suc (suc at)))) r h f = f.1.1.1.1
+
+no_window_refusal : (v : Window) (w : Rectangle) (r : LineRefusal) → IsWindow v w → IsWindowFault v r → ⊥
+no_window_refusal All w r m f = f
+no_window_refusal (Numbers q) w (refusal.OutOfReach at) m f = none_out at q m.1 f
+no_window_refusal (Numbers q) w refusal.Reversed m f = f.1 m.1.proper
+no_window_refusal (Numbers q) w other m f = f
+
+no_refusal : (t : List ℕ) (v : Window) (c : Command) (r : LineRefusal) → Holds (IsShapeText t) (IsWindow v) c → IsFaultOf (said t v c) r → ⊥
+no_refusal t v (form.Add e k s) r m f = no_text_refusal t s r m f
+no_refusal t v (form.Change e h s) r m f = no_text_refusal t s r m f
+no_refusal t v (form.Validate w) r m f = no_window_refusal v w r m f
+no_refusal t v other r m f = f
+
+no_faulty : (line : List ℕ) (c : Command) (r : LineRefusal) → IsSpelling line c → HasFaultyForm line r → ⊥
+no_faulty line c r p f =
+    let same = one_form line f.0 (said p.text p.window c) f.1 (said_there line p.text p.window c p.spelled) in
+    no_refusal p.text p.window c r p.meant (subst (λ g. IsFaultOf g r) same f.2)
+
+no_fault : (line : List ℕ) (c : Command) (r : LineRefusal) → IsCommandLine line c → IsLineFault line r → ⊥
+no_fault line c r p (inl long) = omega (arith, p.0, long.0)
+no_fault line c r p (inr (w, inl none)) = none.0 (said p.1.text p.1.window c) (said_there line p.1.text p.1.window c p.1.spelled)
+no_fault line c r p (inr (w, inr faulty)) = no_faulty line c r p.1 faulty
+
+pub only_memory : (line : List ℕ) (c : Command) (e : LineFault) → IsCommandLine line c → IsFault line e → e ≡ NoMemory
+only_memory line c (Refused r) p f = absurd (no_fault line c r p f)
+only_memory line c NoMemory p f = refl

@@ -3,9 +3,10 @@ use Rattle.std.proofs.Common.{ℕ, ◌≤◌, Bool, true, false, ◌&&◌, List,
 use Rattle.std.specs.Prelude.{if◌then◌else◌}
 use Rattle.std.specs.List.{list_all}
 use Rattle.text_terms.specs.Fields.{is_blank, skip_blanks, behind_field, skip_end_blanks}
-use Rattle.line_forms.specs.Forms.{Form, HasForm}
-use Rattle.line_forms.specs.Forms as form
-use Rattle.script_text.specs.TextLengths.{IsTextWithin}
+use Rattle.line_terms.specs.Commands.{Form}
+use Rattle.line_terms.specs.Commands as form
+use Rattle.line_terms.specs.Forms.{HasForm}
+use Rattle.script_text.specs.Edits.{IsTextWithin}
 
 shorter_front : (t : List ℕ) → length (skip_blanks t) ≤ length t
 shorter_front [] = omega arith

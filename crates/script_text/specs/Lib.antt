@@ -1,7 +1,6 @@
-pub mod Commands
-pub mod Windows
-pub mod Numbers
-pub mod Lines
-pub mod Faults
+pub mod Wholes
+pub mod Groups
 pub mod Seen
-pub mod TextLengths
+pub mod Faults
+pub mod Edits
+pub mod Windows

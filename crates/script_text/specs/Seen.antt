@@ -1,7 +1,7 @@
 -- What the code's commands stand for.
 --
 -- command_of c     the command that the code's value is
-use Rattle.script_text.specs.Commands as commands
+use Rattle.line_terms.specs.Commands as commands
 use Rattle.script_text.specs.declared.command.Command.{Command}
 use Rattle.script_text.specs.declared.command.Command.TheVariants as command
 

@@ -1,25 +1,9 @@
-use shape::ShapeFault;
+ghost use Rattle.std.specs.Prelude.{◌≡◌};
+ghost use Rattle.script_text.specs.Faults.{fault_of, window_fault};
 
-/// Why a line is no command's. A place is the number of bytes before it in the text of the line's shape.
-#[derive(Clone, Copy, PartialEq, Eq, Debug)]
-pub enum LineRefusal {
-    /// It has the form of no line, or its shape's text has a fault of syntax.
-    NotALine,
-    /// It has more bytes than a line may have.
-    TooLong,
-    /// A number of its shape is not whole.
-    OffGrid { at: u32 },
-    /// A number of its shape is beyond the reach; or of its window, and then `at` is the number's position, from 0.
-    OutOfReach { at: u32 },
-    /// Its shape is of a kind that is not read.
-    Unsupported { at: u32 },
-    /// The first ring, from 0, of its shape that does not end where it begins.
-    NotClosed { ring: u32 },
-    /// Its shape is not valid.
-    Invalid(ShapeFault),
-    /// A greatest coordinate of its window is below its least one.
-    Reversed,
-}
+use grid_plane::RectFault;
+use line_terms::LineRefusal;
+use wkt_terms::WktFault;
 
 /// Why a line was not read.
 #[derive(Clone, Copy, PartialEq, Eq, Debug)]
@@ -28,4 +12,33 @@ pub enum LineFault {
     Refused(LineRefusal),
     /// Memory ran out, which says nothing of the line.
     NoMemory,
+}
+
+impl From<WktFault> for LineFault {
+    ghost from_gives = { λ fault e. e ≡ fault_of fault };
+
+    fn from(fault: WktFault) -> Self {
+        match fault {
+            WktFault::Syntax { at: _ } => LineFault::Refused(LineRefusal::NotALine),
+            WktFault::OffGrid { at } => LineFault::Refused(LineRefusal::OffGrid { at }),
+            WktFault::OutOfReach { at } => LineFault::Refused(LineRefusal::OutOfReach { at }),
+            WktFault::Unsupported { at } => LineFault::Refused(LineRefusal::Unsupported { at }),
+            WktFault::NotClosed { ring } => LineFault::Refused(LineRefusal::NotClosed { ring }),
+            WktFault::Invalid(fault) => LineFault::Refused(LineRefusal::Invalid(fault)),
+            WktFault::NoMemory => LineFault::NoMemory,
+        }
+    }
+}
+
+impl From<RectFault> for LineFault {
+    ghost from_gives = { λ fault e. e ≡ window_fault fault };
+
+    fn from(fault: RectFault) -> Self {
+        match fault {
+            RectFault::OutOfReach { at } => {
+                LineFault::Refused(LineRefusal::OutOfReach { at: u32::from(at) })
+            }
+            RectFault::Reversed => LineFault::Refused(LineRefusal::Reversed),
+        }
+    }
 }

@@ -1,16 +1,22 @@
 // The lines of a script: the command that a line is, or why it is none.
 #![tactic(auto)]
 
+mod classes;
 mod command;
+mod edits;
 mod fault;
+mod fields;
+mod listings;
+mod marks;
+mod number;
 mod read;
-mod shape_text;
-mod window;
+mod sessions;
+mod validations;
+mod whole;
 
 pub use command::Command;
-pub use fault::{LineFault, LineRefusal};
-pub use line_forms::{Kind, LINE_LIMIT, Name, RuleKind};
-pub use read::{one_command_law, read_line};
-
-#[cfg(test)]
-mod tests;
+pub use fault::LineFault;
+pub use grid_plane::Name;
+pub use line_terms::LineRefusal;
+pub use read::{LINE_LIMIT, one_command_law, read_line};
+pub use rule_words::{Kind, RuleKind};

@@ -14,7 +14,7 @@ use Rattle.cell_laws.proofs.Shares.{Means, share_of-means, means_one, end_same}
 use Rattle.cell_laws.proofs.Envelope.{box_holds}
 use Rattle.cell_laws.proofs.Meeting.{cross_sym}
 use Rattle.grid_plane.proofs.Rectangles.{crossing}
-use Rattle.shape.specs.Faults.{AreBad, IsPair}
+use Rattle.plane_terms.specs.ShapeFaults.{AreBad, IsPair}
 use Rattle.shape.specs.Sweep.{is_bad, is_bad_share}
 
 -- ---- the test and what it says

@@ -8,7 +8,7 @@ use Rattle.plane_terms.specs.Lists.{Every, EveryPair, SomeOf}
 use Rattle.plane_terms.specs.Rectangle.{Rectangle, rects_meet}
 use Rattle.plane_terms.specs.Segment.{Segment, IsSegment, Overlap, box_of}
 use Rattle.plane_terms.specs.Share.{CrossOnce}
-use Rattle.shape.specs.Faults.{AreBad, IsPair, IsFirstPair, IsBefore}
+use Rattle.plane_terms.specs.ShapeFaults.{AreBad, IsPair, IsFirstPair, IsBefore}
 use Rattle.shape.specs.declared.numbered.Numbered.{Numbered}
 use Rattle.shape.specs.declared.pair.Pair.{Pair}
 use Rattle.shape.specs.Sweep.{numbered, numbered_segment, is_bad, pair_of, is_sooner, considered, best_with, best_among, Ascends, IsBoxed, IsFirstBad}

@@ -13,7 +13,8 @@ of_ring [] rest l e = absurd (omega (arith, l))
 of_ring (p ∷ []) rest l e = absurd (omega (arith, l))
 of_ring (p ∷ q ∷ ps) rest l e = cc
 
-of_parts : (parts : List (List (List Place))) → 1 ≤ length parts → Every (IsPart kind.Polygon) parts → Every (IsRing kind.Polygon) (flat_map (λ part. part) parts)
+of_parts : (parts : List (List (List Place))) → 1 ≤ length parts → Every (IsPart kind.Polygon) parts
+    → Every (IsRing kind.Polygon) (flat_map (λ part. part) parts)
     → flat_map closed_path (flat_map (λ part. part) parts) ≢ []
 of_parts [] l h k = absurd (omega (arith, l))
 of_parts ([] ∷ parts) l h k = absurd (omega (arith, h.0))
@@ -22,7 +23,8 @@ of_parts ((ring ∷ part) ∷ parts) l h k = of_ring ring (flat_map closed_path 
 pub has_boundary : (s : Shape) → IsShape s → s.kind ≡ kind.Polygon → segments_of s ≢ []
 has_boundary s v e = by_kind s.kind s.parts e v.some v.parts v.rings
   where
-    by_kind : (k : Kind) (parts : List (List (List Place))) → k ≡ kind.Polygon → HasParts k (length parts) → Every (IsPart k) parts → Every (IsRing k) (flat_map (λ part. part) parts) → segments_by k (flat_map (λ part. part) parts) ≢ []
+    by_kind : (k : Kind) (parts : List (List (List Place))) → k ≡ kind.Polygon → HasParts k (length parts) → Every (IsPart k) parts
+        → Every (IsRing k) (flat_map (λ part. part) parts) → segments_by k (flat_map (λ part. part) parts) ≢ []
     by_kind kind.Point parts e a b c = absurd cc
     by_kind kind.Line parts e a b c = absurd cc
     by_kind kind.Polygon parts e a b c = of_parts parts a b c

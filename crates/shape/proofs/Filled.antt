@@ -8,7 +8,7 @@ use Rattle.plane_terms.specs.Point.{Place}
 use Rattle.plane_terms.specs.Shape.{Shape, rings_of, vertices_of}
 use Rattle.plane_terms.specs.declared.kind.Kind.TheVariants as kind
 use Rattle.shape.specs.Given.{Ring, rings_in, lines_in, polygons_in, all_rings, all_vertices}
-use Rattle.shape.specs.Faults.{least, IsShort, LacksRings, IsFirstOf, IsFew, NoneFew, NoneMany}
+use Rattle.plane_terms.specs.ShapeFaults.{least, IsShort, LacksRings, IsFirstOf, IsFew, NoneFew, NoneMany}
 use Rattle.shape.specs.Counts.{first_short, has_bare_part, IsFull}
 use Rattle.shape.specs.Form.{line_shape, polygon_shape}
 use Rattle.shape.proofs.Shorts.{short_first, none_short, none_first, long_none, bare_some, bare_none}

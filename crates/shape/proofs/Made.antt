@@ -12,12 +12,12 @@ use Rattle.plane_terms.specs.declared.kind.Kind.{Kind}
 use Rattle.plane_terms.specs.declared.kind.Kind.TheVariants as kind
 use Rattle.shape.specs.Given.{Ring, rings_in, lines_in, polygons_in, all_rings, all_vertices, IsCountable}
 use Rattle.shape.specs.Kept.{rings_by, parts_by, IsClosing}
-use Rattle.shape.specs.Faults.{IsPair, AreBad, IsFault, IsFlawless}
+use Rattle.plane_terms.specs.ShapeFaults.{IsPair, AreBad, IsFault, IsFlawless}
 use Rattle.shape.specs.Counts.{IsFull}
 use Rattle.shape.specs.Form.{line_shape, polygon_shape, IsDrawn}
 use Rattle.shape.specs.Sweep.{IsPairFault}
-use Rattle.shape.specs.declared.fault.ShapeFault.{ShapeFault}
-use Rattle.shape.specs.declared.fault.ShapeFault.TheVariants.{TooFew, TooMany, Cross, Along, NoMemory}
+use Rattle.plane_terms.specs.declared.shape_fault.ShapeFault.{ShapeFault}
+use Rattle.plane_terms.specs.declared.shape_fault.ShapeFault.TheVariants.{TooFew, TooMany, Cross, Along, NoMemory}
 use Rattle.shape.proofs.Filled.{line_rings, none_few, none_many}
 use Rattle.shape.proofs.Places.{is_same, same_turned}
 

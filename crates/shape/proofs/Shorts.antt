@@ -7,7 +7,7 @@ use Rattle.shape.specs.Given.{Ring, rings_in, polygons_in, all_rings}
 use Rattle.plane_terms.specs.Lists.{Every, SomeOf}
 use Rattle.plane_terms.specs.Point.{Place}
 use Rattle.plane_terms.specs.declared.kind.Kind.{Kind}
-use Rattle.shape.specs.Faults.{least, IsShort, IsFirstOf}
+use Rattle.plane_terms.specs.ShapeFaults.{least, IsShort, IsFirstOf}
 use Rattle.shape.proofs.Dropped.{item_dropped}
 use Rattle.shape.specs.Counts.{first_short, has_bare_part}
 

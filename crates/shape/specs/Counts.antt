@@ -7,7 +7,7 @@ use Rattle.std.specs.Prelude.{ℕ, ◌+◌, ◌≤◌, List, [], ◌∷◌, leng
 use Rattle.plane_terms.specs.Lists.{Every}
 use Rattle.plane_terms.specs.Point.{Place}
 use Rattle.plane_terms.specs.Shape.{Shape, rings_of, vertices_of}
-use Rattle.shape.specs.Faults.{least, LacksRings}
+use Rattle.plane_terms.specs.ShapeFaults.{least, LacksRings}
 
 abbrev pub first_short : ℕ → ℕ → List (List Place) → Option ℕ
 first_short fewest n [] = None

@@ -1,5 +1,4 @@
 pub mod Counts
-pub mod Faults
 pub mod Form
 pub mod Given
 pub mod Kept

@@ -18,9 +18,9 @@ use Rattle.plane_terms.specs.Segment.{Segment, IsSegment, Overlap, box_of}
 use Rattle.plane_terms.specs.Share.{share_of, CrossOnce}
 use Rattle.plane_terms.specs.declared.share.Share.{Share}
 use Rattle.plane_terms.specs.declared.share.Share.TheVariants as share
-use Rattle.shape.specs.Faults.{AreBad, IsPair, IsFirstPair}
-use Rattle.shape.specs.declared.fault.ShapeFault.{ShapeFault}
-use Rattle.shape.specs.declared.fault.ShapeFault.TheVariants.{TooFew, TooMany, Cross, Along, NoMemory}
+use Rattle.plane_terms.specs.ShapeFaults.{AreBad, IsPair, IsFirstPair}
+use Rattle.plane_terms.specs.declared.shape_fault.ShapeFault.{ShapeFault}
+use Rattle.plane_terms.specs.declared.shape_fault.ShapeFault.TheVariants.{TooFew, TooMany, Cross, Along, NoMemory}
 use Rattle.shape.specs.declared.numbered.Numbered.{Numbered}
 use Rattle.shape.specs.declared.pair.Pair.{Pair}
 

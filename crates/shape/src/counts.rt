@@ -1,10 +1,10 @@
 ghost use Rattle.std.specs.Prelude.{◌≡◌, ◌<◌, ◌+◌, ◌^◌, length, OnOk, IfErr};
 ghost use Rattle.shape.specs.Given.{rings_in, lines_in, polygons_in, all_rings, all_vertices, IsCountable};
 ghost use Rattle.shape.specs.Counts.{first_short, has_bare_part, IsFull};
-ghost use Rattle.shape.specs.Faults.{IsFault};
+ghost use Rattle.plane_terms.specs.ShapeFaults.{IsFault};
 ghost use Rattle.shape.specs.Form.{line_shape, polygon_shape};
 
-use crate::fault::ShapeFault;
+use plane_terms::ShapeFault;
 use grid_plane::GridPoint;
 
 /// The most vertices that a shape may have.

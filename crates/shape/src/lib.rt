@@ -3,7 +3,6 @@
 
 mod counts;
 mod envelope;
-mod fault;
 mod feature;
 mod form;
 mod line;
@@ -14,11 +13,8 @@ mod same;
 mod segments;
 mod shape;
 mod sweep;
-#[cfg(test)]
-mod tests;
 mod vertices;
 
-pub use fault::ShapeFault;
 pub use feature::Feature;
-pub use plane_terms::Kind;
+pub use plane_terms::{Kind, ShapeFault};
 pub use shape::Shape;

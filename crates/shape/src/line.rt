@@ -3,12 +3,12 @@ ghost use Rattle.plane_terms.specs.Lists.{Every};
 ghost use Rattle.plane_terms.specs.Shape.{shape_of, two_ends, NextDiffer};
 ghost use Rattle.plane_terms.specs.declared.kind.Kind.TheVariants as kind;
 ghost use Rattle.shape.specs.Given.{rings_in, lines_in, IsCountable};
-ghost use Rattle.shape.specs.Faults.{IsFault, IsFlawless};
+ghost use Rattle.plane_terms.specs.ShapeFaults.{IsFault, IsFlawless};
 ghost use Rattle.shape.specs.Form.{line_shape, IsDrawn};
 
 use crate::counts::check_line;
 use crate::envelope::box_of_line;
-use crate::fault::ShapeFault;
+use plane_terms::ShapeFault;
 use crate::same::copy_of_rings;
 use crate::segments::push_paths;
 use crate::vertices::kept_parts;

@@ -5,12 +5,12 @@ ghost use Rattle.plane_terms.specs.declared.kind.Kind.TheVariants as kind;
 ghost use Rattle.shape.specs.Given.{polygons_in, all_rings, IsCountable};
 ghost use Rattle.shape.specs.Kept.{IsClosing};
 ghost use Rattle.shape.specs.Counts.{IsFull};
-ghost use Rattle.shape.specs.Faults.{IsFault, IsFlawless};
+ghost use Rattle.plane_terms.specs.ShapeFaults.{IsFault, IsFlawless};
 ghost use Rattle.shape.specs.Form.{polygon_shape, IsDrawn};
 
 use crate::counts::check_polygon;
 use crate::envelope::box_of_polygon;
-use crate::fault::ShapeFault;
+use plane_terms::ShapeFault;
 use crate::same::copy_of_parts;
 use crate::segments::push_polygons;
 use crate::sweep::check_pairs;

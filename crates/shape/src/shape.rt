@@ -6,9 +6,9 @@ ghost use Rattle.plane_terms.specs.Polygon.{IsSimpleList};
 ghost use Rattle.plane_terms.specs.Shape.{point_shape, shape_of, place_of, segments_of, ends_of, envelope_of, IsShape};
 ghost use Rattle.plane_terms.specs.declared.kind.Kind.TheVariants as kind;
 ghost use Rattle.shape.specs.Given.{lines_in, polygons_in, IsCountable};
-ghost use Rattle.shape.specs.Faults.{IsFault, IsFlawless};
+ghost use Rattle.plane_terms.specs.ShapeFaults.{IsFault, IsFlawless};
 
-use crate::fault::ShapeFault;
+use plane_terms::ShapeFault;
 use crate::form::Form;
 use crate::line::Line;
 use crate::polygon::Polygon;

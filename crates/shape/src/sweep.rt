@@ -4,10 +4,10 @@ ghost use Rattle.std.specs.List.Sorted.{IsPermutation};
 ghost use Rattle.plane_terms.specs.Lists.{Every, EveryPair};
 ghost use Rattle.plane_terms.specs.Segment.{IsSegment};
 ghost use Rattle.plane_terms.specs.Shape.{AreSimple};
-ghost use Rattle.shape.specs.Faults.{IsPair, AreBad};
+ghost use Rattle.plane_terms.specs.ShapeFaults.{IsPair, AreBad};
 ghost use Rattle.shape.specs.Sweep.{numbered, is_bad, pair_of, is_sooner, considered, numbered_segment, best_with, best_among, Ascends, IsBoxed, IsFirstBad, IsPairFault};
 
-use crate::fault::ShapeFault;
+use plane_terms::ShapeFault;
 use crate::numbered::Numbered;
 use crate::pair::Pair;
 use grid_plane::{NoMemory, Seg, Share};

@@ -68,7 +68,7 @@ edit_frames M h after old new u i r a was b x k =
       | inl m ↦ inl (m.0, edit_keeps h after old new i m.0 m.1, m.2)
       | inr y ↦ elim (same_or_not a h) [
         | inl t ↦
-            let held = holds_corner x.frame (u.frames r a b x k) in
+            let held = holds_corner x.frame (u.made.frames r a b x k) in
             inl (corner x.frame, edit_before h after old new i y.0 (rw t at y.1) (corner x.frame) (within_Holds x.frame (env y.0) y.2 (corner x.frame) held), held)
         | inr t ↦ inr (y.0, i.features.others a t ∙ y.1, y.2)
       ]
@@ -94,7 +94,7 @@ edit_sound M L h after old new v u i s = record {
             );
         whole = λ f k n. elim (same_or_not a h) [
           | inl t ↦
-              let held = holds_corner (env f) (u.envelopes a f k).proper in
+              let held = holds_corner (env f) (u.made.envelopes a f k).proper in
               absurd (n (corner (env f), edit_after h after old new i f (rw t at k) (corner (env f)) held, held))
           | inr t ↦
               let k' = sym (i.features.others a t) ∙ k in

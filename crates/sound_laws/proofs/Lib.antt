@@ -1,3 +1,5 @@
+pub mod Keyed
+pub mod Searches
 pub mod Planes
 pub mod Dirts
 pub mod Edits
@@ -12,3 +14,5 @@ pub mod Cuts
 pub mod Meetings
 pub mod FeatureLists
 pub mod FeatureFilters
+pub mod RuleLists
+pub mod Scratch

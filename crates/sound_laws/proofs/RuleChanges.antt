@@ -16,7 +16,7 @@ use Rattle.sound_laws.proofs.Edits.{same_or_not}
 
 -- a rule that is not in force has no entry
 pub no_entry : (M : Meaning) (s : Project) → IsProject M s → (n a b : ℕ) → rule_at s.rules n ≡ None → (e : Entry) → entry_at s.entries n a b ≡ Some e → ⊥
-no_entry M s v n a b none e k = let y = v.ruled n a b e k in let t = y.1 in cc
+no_entry M s v n a b none e k = let y = v.made.ruled n a b e k in let t = y.1 in cc
 
 pub add_rule_sound : (M : Meaning) → Laws M → (n : ℕ) (row : Row) (old new : Project)
     → IsProject M old → IsProject M new → IsRuleAdded n row old new → IsSoundUnder M old → IsSoundUnder M new
@@ -32,10 +32,10 @@ add_rule_sound M L n row old new v u i s =
                 (λ x. absurd (none b x.0 x.1)),
                 (λ x.
                     let y = L.inside q old.features a b p (rw i.features at (u.fits r q e)) (rw i.features at x) in
-                    absurd (c (dirty p (within_Holds (env y.0) whole_grid (v.envelopes a y.0 y.1).on_grid p y.2)))),
+                    absurd (c (dirty p (within_Holds (env y.0) whole_grid (v.made.envelopes a y.0 y.1).on_grid p y.2)))),
               );
               whole = λ f k c.
-                  let z = v.envelopes a f (rw i.features at k) in
+                  let z = v.made.envelopes a f (rw i.features at k) in
                   let held = holds_corner (env f) z.proper in
                   absurd (c (corner (env f), dirty (corner (env f)) (within_Holds (env f) whole_grid z.on_grid (corner (env f)) held), held));
               cells = λ b x k w. absurd (none b x k);
@@ -46,7 +46,7 @@ add_rule_sound M L n row old new v u i s =
             record {
               points = λ p c b. rw (i.entries, i.features) (was.points p (λ m. c (keeps p m)) b);
               whole = λ f k c.
-                  let z = v.envelopes a f (rw i.features at k) in
+                  let z = v.made.envelopes a f (rw i.features at k) in
                   let held = holds_corner (env f) z.proper in
                   absurd (c (corner (env f), dirty (corner (env f)) (within_Holds (env f) whole_grid z.on_grid (corner (env f)) held), held));
               cells = λ b x k w. was.cells b x (rw i.entries at k) w;

@@ -91,7 +91,7 @@ pub edit_settled : (M : Meaning) → Laws M → (h : ℕ) (after : Option Featur
 edit_settled M L h after old new v u was_ordered is_ordered i s = record {
   cut = λ r row e a f k n. elim (same_or_not a h) [
     | inl t ↦
-        let held = holds_corner (env f) (u.envelopes a f k).proper in
+        let held = holds_corner (env f) (u.made.envelopes a f k).proper in
         absurd (n (corner (env f), edit_after h after old new i f (rw t at k) (corner (env f)) held, held))
     | inr t ↦
         let k' = sym (i.features.others a t) ∙ k in
@@ -131,7 +131,7 @@ add_rule_settled M n row old new v i s =
     let keeps : (p : Point) → Covers old.dirt p → Covers new.dirt p = λ p c. rw i.dirt (add_keeps old.dirt whole_grid p c) in
     record {
       cut = λ r q e a f k c.
-          let z = v.envelopes a f (rw i.features at k) in
+          let z = v.made.envelopes a f (rw i.features at k) in
           let held = holds_corner (env f) z.proper in
           absurd (c (corner (env f), rw i.dirt (add_covers old.dirt whole_grid (corner (env f)) (within_Holds (env f) whole_grid z.on_grid (corner (env f)) held)), held));
       frames = λ r q e a b x k. elim (same_or_not r n) [
@@ -187,7 +187,7 @@ entry_same f x d e i j k u v =
     ] in
     cc
 
-alike_same : (f : Feature) (o : Option Finding) (d e : Option Entry) (r a b : ℕ)
+pub alike_same : (f : Feature) (o : Option Finding) (d e : Option Entry) (r a b : ℕ)
     → ((x : Entry) → d ≡ Some x → (x.rule ≡ r) × (x.subject ≡ a) × (x.other ≡ b))
     → ((x : Entry) → e ≡ Some x → (x.rule ≡ r) × (x.subject ≡ a) × (x.other ≡ b))
     → AreAlike f o d → AreAlike f o e → unmark_option d ≡ unmark_option e

@@ -26,13 +26,15 @@ pub edit_state : (M : Meaning) (h : ℕ) (after : Option Feature) (old new : Pro
     → IsProject M new
 edit_state M h after old new v i t fits = record {
   fits = fits;
-  envelopes = λ a f k. elim (same_or_not a h) [
-    | inl e ↦ t f (sym i.features.here ∙ (rw e at k))
-    | inr e ↦ v.envelopes a f (sym (i.features.others a e) ∙ k)
-  ];
-  frames = λ r a b e k. v.frames r a b e (rw i.entries at k);
-  bare = λ r a b e k w. v.bare r a b e (rw i.entries at k) w;
-  ruled = λ r a b e k. rw i.rules (v.ruled r a b e (rw i.entries at k));
+  made = record {
+    envelopes = λ a f k. elim (same_or_not a h) [
+      | inl e ↦ t f (sym i.features.here ∙ (rw e at k))
+      | inr e ↦ v.made.envelopes a f (sym (i.features.others a e) ∙ k)
+    ];
+    frames = λ r a b e k. v.made.frames r a b e (rw i.entries at k);
+    bare = λ r a b e k w. v.made.bare r a b e (rw i.entries at k) w;
+    ruled = λ r a b e k. rw i.rules (v.made.ruled r a b e (rw i.entries at k));
+  };
 }
 
 fresh_rect : (M : Meaning) (F : List Feature) (row : Row) (f : Feature) (a b : ℕ) (e : Entry) → IsProper (env f) → IsFresh M F row f a b e → IsProper e.frame
@@ -52,31 +54,33 @@ validated_state M w old new v i =
     ] in
     record {
       fits = λ n row e. rw i.features (v.fits n row (rw i.rules at e));
-      envelopes = λ a f k. v.envelopes a f (rw i.features at k);
-      frames = λ r a b e k. elim (i.each a) [
-        | inr y ↦ v.frames r a b e (sym (y.1 r b) ∙ k)
-        | inl y ↦ elim (row_or_none (rule_at old.rules r)) [
-          | inr n ↦ let l = unruled r n a b in absurd cc
-          | inl q ↦ elim (some_or_none (feature_at old.features a)) [
-            | inr n ↦ let l = y.1.dead n r b in absurd cc
-            | inl z ↦ fresh_rect M old.features q.0 z.0 a b e (v.envelopes a z.0 z.1).proper ((y.1.live z.0 z.1 r q.0 q.1).fresh b e k)
+      made = record {
+        envelopes = λ a f k. v.made.envelopes a f (rw i.features at k);
+        frames = λ r a b e k. elim (i.each a) [
+          | inr y ↦ v.made.frames r a b e (sym (y.1 r b) ∙ k)
+          | inl y ↦ elim (row_or_none (rule_at old.rules r)) [
+            | inr n ↦ let l = unruled r n a b in absurd cc
+            | inl q ↦ elim (some_or_none (feature_at old.features a)) [
+              | inr n ↦ let l = y.1.dead n r b in absurd cc
+              | inl z ↦ fresh_rect M old.features q.0 z.0 a b e (v.made.envelopes a z.0 z.1).proper ((y.1.live z.0 z.1 r q.0 q.1).fresh b e k)
+            ]
           ]
-        ]
-      ];
-      bare = λ r a b e k t. elim (i.each a) [
-        | inr y ↦ v.bare r a b e (sym (y.1 r b) ∙ k) t
-        | inl y ↦ elim (row_or_none (rule_at old.rules r)) [
-          | inr n ↦ let l = unruled r n a b in absurd cc
-          | inl q ↦ elim (some_or_none (feature_at old.features a)) [
-            | inr n ↦ let l = y.1.dead n r b in absurd cc
-            | inl z ↦ (let j = (y.1.live z.0 z.1 r q.0 q.1).fresh b e k in ((j.broken_whole t).0, j.bare t))
+        ];
+        bare = λ r a b e k t. elim (i.each a) [
+          | inr y ↦ v.made.bare r a b e (sym (y.1 r b) ∙ k) t
+          | inl y ↦ elim (row_or_none (rule_at old.rules r)) [
+            | inr n ↦ let l = unruled r n a b in absurd cc
+            | inl q ↦ elim (some_or_none (feature_at old.features a)) [
+              | inr n ↦ let l = y.1.dead n r b in absurd cc
+              | inl z ↦ (let j = (y.1.live z.0 z.1 r q.0 q.1).fresh b e k in ((j.broken_whole t).0, j.bare t))
+            ]
           ]
-        ]
-      ];
-      ruled = λ r a b e k. elim (row_or_none (rule_at old.rules r)) [
-        | inr n ↦ let l = unruled r n a b in absurd cc
-        | inl q ↦ (q.0, rw i.rules q.1)
-      ];
+        ];
+        ruled = λ r a b e k. elim (row_or_none (rule_at old.rules r)) [
+          | inr n ↦ let l = unruled r n a b in absurd cc
+          | inl q ↦ (q.0, rw i.rules q.1)
+        ];
+      };
     }
   where
     entry_or_none : (o : Option Entry) → ((e : Entry) × (o ≡ Some e)) ⊎ (o ≡ None)
@@ -104,11 +108,13 @@ add_rule_state M n row old new v i fits = record {
         rw (i.features, ← same) fits
     | inr t ↦ rw i.features (v.fits k q (sym (i.others k t) ∙ e))
   ];
-  envelopes = λ a f k. v.envelopes a f (rw i.features at k);
-  frames = λ r a b e k. v.frames r a b e (rw i.entries at k);
-  bare = λ r a b e k w. v.bare r a b e (rw i.entries at k) w;
-  ruled = λ r a b e k. elim (same_or_not r n) [
-    | inl t ↦ (row, rw t i.here)
-    | inr t ↦ rw (i.others r t) (v.ruled r a b e (rw i.entries at k))
-  ];
+  made = record {
+    envelopes = λ a f k. v.made.envelopes a f (rw i.features at k);
+    frames = λ r a b e k. v.made.frames r a b e (rw i.entries at k);
+    bare = λ r a b e k w. v.made.bare r a b e (rw i.entries at k) w;
+    ruled = λ r a b e k. elim (same_or_not r n) [
+      | inl t ↦ (row, rw t i.here)
+      | inr t ↦ rw (i.others r t) (v.made.ruled r a b e (rw i.entries at k))
+    ];
+  };
 }

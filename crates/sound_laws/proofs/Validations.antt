@@ -104,7 +104,7 @@ validated_sound M L w old new v i s = record {
                   (λ x.
                       let k = sym (y.1 r b) ∙ x.1 in
                       elim (bool_cases x.0.whole) [
-                        | inl t ↦ absurd (no_cells x.0 p ((v.bare r a b x.0 k t).1) x.2)
+                        | inl t ↦ absurd (no_cells x.0 p ((v.made.bare r a b x.0 k t).1) x.2)
                         | inr t ↦ absurd (framed p d inw b x.0 k ((was.cells b x.0 k t).frame.holds p x.2))
                       ]),
                   (λ x. let k = L.inside row old.features a b p u (rw i.features at x) in absurd (seen p d inw k.0 k.1 k.2)),

@@ -3,79 +3,70 @@ use Rattle.std.proofs.Common.{◌≡◌, ◌≢◌, inl, inr, ℕ, ◌+◌, ◌<
 use Rattle.std.specs.Prelude.{is_some, MatchOption}
 use Rattle.std.specs.Option.{option_map, option_to_list}
 use Rattle.std.specs.Result.{IsErrAnd, IfErr}
-use Rattle.std.proofs.lemmas.Bool.Decides.{eqb_tells}
 use Rattle.plane_terms.specs.Rectangle.{Rectangle}
 use Rattle.plane_terms.specs.Shape.{Shape, envelope_of}
 use Rattle.plane_terms.specs.Dirt.{add_dirt, add_all}
-use Rattle.topology_terms.specs.Feature.{Feature, feature_at, env, IsSetAt}
-use Rattle.topology_terms.specs.Changes.{add_envelope}
+use Rattle.plane_terms.specs.declared.kind.Kind.{Kind}
+use Rattle.topology_terms.specs.Feature.{Class, Feature, by_handle, feature_at, env, IsSetAt}
+use Rattle.topology_terms.specs.Changes.{add_envelope, IsFeatureAdded, IsFeatureSet}
+use Rattle.topology_terms.specs.Causes.{Tells, add_cause}
 use Rattle.topology_terms.specs.Entry.{Entry}
 use Rattle.topology_terms.specs.Project.{Project, InForce, empty_project}
-use Rattle.sound_laws.proofs.FeatureLists.{at_handle, past_handle, own_handle, handle_of}
+use Rattle.sound_laws.proofs.Keyed.{last_here, last_other, differ}
+use Rattle.sound_laws.proofs.FeatureLists.{handles, handle_of}
 use Rattle.feature_store.specs.Stored.{Stored, IsSame}
 use Rattle.feature_store.specs.Keeps.{IsOfClass, IsGiven}
-use Rattle.feature_store.specs.Changes.{HasKind, IsAdded, IsAddFault, IsSwapped}
+use Rattle.feature_store.specs.Faults.{store_cause}
 use Rattle.feature_store.specs.declared.fault.StoreFault.{StoreFault}
 use Rattle.feature_store.specs.declared.fault.StoreFault.TheVariants as store_fault
 use Rattle.feature_store.proofs.Keeping.{live_each}
 use Rattle.dirty_area.proofs.Calls.{add_all-none, add_all-one}
 use Rattle.topo_core.specs.Topologies.{IsTopology, project_of}
-use Rattle.topo_core.specs.Faults.{change_fault}
+use Rattle.topo_core.specs.Faults.{change_fault, edit_cause}
 use Rattle.topo_core.specs.declared.fault.ChangeFault.{ChangeFault}
-use Rattle.topo_core.specs.Steps.{IsFeatureMore, IsAddRefusal, IsExchanged}
 use Rattle.topo_core.proofs.Whole.{none_given}
 
-end_here : (F : List Feature) (f : Feature) → feature_at F f.handle ≡ None → feature_at (F ++ f ∷ []) f.handle ≡ Some f
-end_here [] f e = at_handle f [] f.handle (own_handle f.handle)
-end_here (g ∷ F) f e = elim (eqb_tells g.handle f.handle) [
-  | inl t ↦ absurd (let k = at_handle g F f.handle t.0 in cc)
-  | inr t ↦ past_handle g (F ++ f ∷ []) f.handle t.0 ∙ end_here F f (sym (past_handle g F f.handle t.0) ∙ e)
-]
-
-end_other : (F : List Feature) (f : Feature) (k : ℕ) → k ≢ f.handle → feature_at (F ++ f ∷ []) k ≡ feature_at F k
-end_other [] f k n = elim (eqb_tells f.handle k) [
-  | inl t ↦ absurd (n (sym t.1))
-  | inr t ↦ past_handle f [] k t.0
-]
-end_other (g ∷ F) f k n = elim (eqb_tells g.handle k) [
-  | inl t ↦ at_handle g (F ++ f ∷ []) k t.0 ∙ sym (at_handle g F k t.0)
-  | inr t ↦ past_handle g (F ++ f ∷ []) k t.0 ∙ (end_other F f k n ∙ sym (past_handle g F k t.0))
-]
-
 set_end : (F : List Feature) (f : Feature) → feature_at F f.handle ≡ None → IsSetAt f.handle (Some f) F (F ++ f ∷ [])
-set_end F f e = record { here = end_here F f e; others = λ k n. end_other F f k n }
+unfolding feature_at
+set_end F f e = record {
+  here = last_here by_handle handles F f f.handle (handles.own f.handle) e;
+  others = λ k n. last_other by_handle handles F f k (differ by_handle handles f.handle k (λ e. n (sym e)));
+}
+
+-- what a store keeps as its features change
+pub record ChangesFeatures (next : ℕ) (F : List Feature) (s t : Stored) : Type 0 where
+  pub classes : t.classes ≡ s.classes
+  pub features : t.features ≡ F
+  pub next_is : t.next ≡ next
 
 -- s is the store before room was made, r with it, t after the change
 pub added : (class : ℕ) (shape : Shape) (h : ℕ) (s r t : Stored) (rules : List InForce) (d e : List Rectangle) (es : List Entry)
-    → IsTopology (project_of s rules d es) → IsSame s r → IsAdded class shape h r t → e ≡ add_dirt d (envelope_of shape)
-    → IsFeatureMore class shape h (project_of s rules d es) (project_of t rules e es)
-added class shape h s r t rules d e es top same i dirt =
-    let handle : h ≡ s.next = i.handle ∙ same.next in
+    → IsTopology (project_of s rules d es) → IsSame s r → h ≡ r.next → ChangesFeatures (r.next + 1) (r.features ++ record { handle = h; class = class; shape = shape } ∷ []) r t → e ≡ add_dirt d (envelope_of shape)
+    → IsFeatureAdded class shape h (project_of s rules d es) (project_of t rules e es)
+added class shape h s r t rules d e es top same number i dirt =
+    let handle : h ≡ s.next = number ∙ same.next in
     let none : feature_at s.features h ≡ None = rw handle (none_given s.next s.features top.store.given) in
     let f : Feature = record { handle = h; class = class; shape = shape } in
     let set : IsSetAt h (Some f) s.features (s.features ++ f ∷ []) = set_end s.features f none in
     record {
-      fits = subst (λ cs. HasKind cs class shape.kind) same.classes i.fits;
-      left = subst (λ n. n ≢ 4294967295) same.next i.left;
-      handle = handle;
-      fresh = none;
+      number = handle;
+      absent = none;
       edit = record { features = rw (i.features, same.features) set; dirt = rw none dirt; classes = i.classes ∙ same.classes; rules = refl; entries = refl };
-      next = i.next ∙ ap (λ n. n + 1) same.next;
+      next = i.next_is ∙ ap (λ n. n + 1) same.next;
     }
 
-pub exchanged : (h : ℕ) (before after : Option Feature) (s r t : Stored) (rules : List InForce) (d e : List Rectangle) (es : List Entry)
-    → IsSame s r → IsSwapped h before after r t → e ≡ add_envelope (add_envelope d (feature_at r.features h)) after
-    → IsExchanged h before after (project_of s rules d es) (project_of t rules e es)
-exchanged h before after s r t rules d e es same i dirt = record {
-  stood = i.stood ∙ ap (λ F. feature_at F h) same.features;
+pub exchanged : (h : ℕ) (after : Option Feature) (s r t : Stored) (rules : List InForce) (d e : List Rectangle) (es : List Entry)
+    → IsSame s r → IsSetAt h after r.features t.features → t.classes ≡ r.classes → t.next ≡ r.next → e ≡ add_envelope (add_envelope d (feature_at r.features h)) after
+    → IsFeatureSet h after (project_of s rules d es) (project_of t rules e es)
+exchanged h after s r t rules d e es same set classes next dirt = record {
   edit = record {
-    features = subst (λ F. IsSetAt h after F t.features) same.features i.features;
+    features = subst (λ F. IsSetAt h after F t.features) same.features set;
     dirt = subst (λ F. e ≡ add_envelope (add_envelope d (feature_at F h)) after) same.features dirt;
-    classes = i.classes ∙ same.classes;
+    classes = classes ∙ same.classes;
     rules = refl;
     entries = refl;
   };
-  next = i.next ∙ same.next;
+  next = next ∙ same.next;
 }
 
 -- the envelope of a feature, where there is one; and those of two
@@ -87,13 +78,14 @@ pub envelopes_added : (d : List Rectangle) (a b : Option Feature) (x y : Option 
     → add_all (add_all d (option_to_list x)) (option_to_list y) ≡ add_envelope (add_envelope d a) b
 envelopes_added d a b x y p q = rw (p, q) (envelope_added (add_all d (option_to_list (option_map env a))) b ∙ ap (λ s. add_envelope s b) (envelope_added d a))
 
-pub not_added : (s : Stored) (rules : List InForce) (d : List Rectangle) (es : List Entry) (class : ℕ) (shape : Shape) (x : StoreFault) → IsAddFault s class shape x → IsAddRefusal (project_of s rules d es) class shape (change_fault x)
-not_added s rules d es class shape store_fault.ClassTaken i = absurd i
-not_added s rules d es class shape store_fault.ClassesFull i = absurd i
-not_added s rules d es class shape store_fault.NoClass i = i
-not_added s rules d es class shape store_fault.WrongKind i = i
-not_added s rules d es class shape store_fault.HandlesSpent i = record { fits = i.fits; spent = i.spent }
-not_added s rules d es class shape store_fault.NoMemory i = tt
+-- the store's cause is the topology's
+pub told_add : (x : StoreFault) (cs : List Class) (next n : ℕ) (k : Kind) → Tells (store_cause x) (add_cause cs next n k) → Tells (edit_cause (change_fault x)) (add_cause cs next n k)
+told_add store_fault.ClassTaken cs next n k i = tt
+told_add store_fault.ClassesFull cs next n k i = tt
+told_add store_fault.NoClass cs next n k i = i
+told_add store_fault.WrongKind cs next n k i = i
+told_add store_fault.HandlesSpent cs next n k i = i
+told_add store_fault.NoMemory cs next n k i = i
 
 pub live_given : (p : Project) → IsTopology p → (h : ℕ) (f : Feature) → feature_at p.features h ≡ Some f → (1 ≤ h) × (h < p.next)
 live_given p t h f e =
@@ -107,7 +99,7 @@ live_some (Some x) N S m e = (x, m)
 pub other_shape : (p : Project) → IsTopology p → (h n : ℕ) (f : Feature) (shape : Shape) → feature_at p.features h ≡ Some f → n ≡ f.class → shape.kind ≡ f.shape.kind → IsOfClass p.classes (record { handle = h; class = n; shape = shape })
 other_shape p t h n f shape e same kind =
     let o : IsOfClass p.classes f = (let l = live_each (IsOfClass p.classes) p.features h t.store.kinds in rw e at l) in
-    record { class = o.class; there = rw same o.there; kind = kind ∙ o.kind }
+    rw (same, kind) o
 
 pub nothing : (s : Stored) (rules : List InForce) (d : List Rectangle) (es : List Entry) → s.classes ≡ [] → s.features ≡ [] → s.next ≡ 1 → rules ≡ [] → d ≡ [] → es ≡ [] → project_of s rules d es ≡ empty_project
 nothing s rules d es a b c k m n = rw (a, b, c, k, m, n) refl

@@ -1,27 +1,26 @@
 -- Each change keeps what every topology keeps, and what it keeps of the rules' meaning.
-use Rattle.std.proofs.Common.{◌≡◌, inl, inr, ℕ, zero, suc, ◌-◌, Bool, true, false, List, [], ◌∷◌, ◌++◌, Option, Some, None, sym, ◌∙◌, eqb}
-use Rattle.std.specs.Prelude.{slice_get, if◌then◌else◌}
+use Rattle.std.proofs.Common.{◌≡◌, inl, inr, ℕ, List, [], ◌∷◌, ◌++◌, Option, Some, None, sym, ◌∙◌}
 use Rattle.std.specs.Option.{IfSome}
 use Rattle.plane_terms.specs.Lists.{Every}
+use Rattle.plane_terms.proofs.ListLemmas.{every_map}
 use Rattle.plane_terms.specs.Rectangle.{Rectangle, IsRectangle}
 use Rattle.plane_terms.specs.declared.kind.Kind.{Kind}
 use Rattle.topology_terms.specs.Feature.{Class, Feature, env}
 use Rattle.rule_words.specs.Table.{origin_of, dest_of}
 use Rattle.topology_terms.specs.Meaning.{Meaning, Laws, CutsRight}
-use Rattle.topology_terms.specs.Entry.{Entry, entry_at}
 use Rattle.topology_terms.specs.Entry as entries
 use Rattle.topology_terms.specs.Project.{Project, InForce}
+use Rattle.topology_terms.specs.Lookups.{kind_of_class}
 use Rattle.topology_terms.specs.Sound.{IsSoundUnder}
 use Rattle.topology_terms.specs.Settled.{IsSettledUnder, IsValidatedBy}
-use Rattle.topology_terms.specs.Changes.{IsEdit}
+use Rattle.topology_terms.specs.Changes.{IsClassAdded, IsEdit}
 use Rattle.sound_laws.proofs.Edits.{same_or_not, edit_sound}
 use Rattle.sound_laws.proofs.Settling.{edit_settled}
 use Rattle.validation_laws.proofs.Validating.{parts_kept_valid, parts_kept_sound, parts_kept_settled}
-use Rattle.feature_store.specs.Stored.{class_at}
 use Rattle.feature_store.specs.Keeps.{IsStore}
-use Rattle.feature_store.specs.Changes.{HasKind}
+use Rattle.feature_store.proofs.Keeping.{kind_end}
 use Rattle.topo_core.specs.Kinds.{HasKinds, TakesKinds}
-use Rattle.topo_core.specs.Topologies.{IsTopology, IsKeptUnder}
+use Rattle.topo_core.specs.Topologies.{IsTopology}
 use Rattle.topo_core.proofs.Whole.{valid}
 
 -- ---- an edit
@@ -33,71 +32,51 @@ edit_keeps h after old new t i s r = record {
   few = rw i.rules t.few;
   kinds = rw (i.rules, i.classes) t.kinds;
   order = rw i.entries t.order;
-  envelopes = λ a f k. elim (same_or_not a h) [
-    | inl e ↦ let l : after ≡ Some f = sym i.features.here ∙ (rw e at k) in rw l at r
-    | inr e ↦ t.envelopes a f (sym (i.features.others a e) ∙ k)
-  ];
-  frames = λ r a b e k. t.frames r a b e (rw i.entries at k);
-  bare = λ r a b e k w. t.bare r a b e (rw i.entries at k) w;
-  ruled = λ r a b e k. rw i.rules (t.ruled r a b e (rw i.entries at k));
+  made = record {
+    envelopes = λ a f k. elim (same_or_not a h) [
+      | inl e ↦ let l : after ≡ Some f = sym i.features.here ∙ (rw e at k) in rw l at r
+      | inr e ↦ t.made.envelopes a f (sym (i.features.others a e) ∙ k)
+    ];
+    frames = λ r a b e k. t.made.frames r a b e (rw i.entries at k);
+    bare = λ r a b e k w. t.made.bare r a b e (rw i.entries at k) w;
+    ruled = λ r a b e k. rw i.rules (t.made.ruled r a b e (rw i.entries at k));
+  };
 }
 
-pub edit_kept : (M : Meaning) → Laws M → TakesKinds M → (h : ℕ) (after : Option Feature) (old new : Project)
-    → IsTopology old → IsTopology new → IsEdit h after old new → IsKeptUnder M old → IsKeptUnder M new
-edit_kept M L K h after old new t u i k = record {
-  sound = edit_sound M L h after old new (valid M K old t) (valid M K new u) i k.sound;
-  settled = edit_settled M L h after old new (valid M K old t) (valid M K new u) t.store.ascending u.store.ascending i k.settled;
-}
+pub edit_sound_kept : (M : Meaning) → Laws M → TakesKinds M → (h : ℕ) (after : Option Feature) (old new : Project)
+    → IsTopology old → IsTopology new → IsEdit h after old new → IsSoundUnder M old → IsSoundUnder M new
+edit_sound_kept M L K h after old new t u i s = edit_sound M L h after old new (valid M K old t) (valid M K new u) i s
+
+pub edit_settled_kept : (M : Meaning) → Laws M → TakesKinds M → (h : ℕ) (after : Option Feature) (old new : Project)
+    → IsTopology old → IsTopology new → IsEdit h after old new → IsSettledUnder M old → IsSettledUnder M new
+edit_settled_kept M L K h after old new t u i s = edit_settled M L h after old new (valid M K old t) (valid M K new u) t.store.ascending u.store.ascending i s
 
 -- ---- a class more
-pub record IsClassesAlone (d : Class) (old new : Project) : Type 0 where
-  pub classes : new.classes ≡ old.classes ++ d ∷ []
-  pub rules : new.rules ≡ old.rules
-  pub features : new.features ≡ old.features
-  pub dirt : new.dirt ≡ old.dirt
-  pub entries : new.entries ≡ old.entries
-
-get_end : (cs : List Class) (d c : Class) (i : ℕ) → slice_get cs i ≡ Some c → slice_get (cs ++ d ∷ []) i ≡ Some c
-get_end [] d c i e = cc
-get_end (b ∷ cs) d c zero e = e
-get_end (b ∷ cs) d c (suc i) e = get_end cs d c i e
-
-class_end : (cs : List Class) (d c : Class) (n : ℕ) → class_at cs n ≡ Some c → class_at (cs ++ d ∷ []) n ≡ Some c
-class_end cs d c n e = by (eqb n 0) e
-  where
-    by : (t : Bool) → (if t then None else slice_get cs (n - 1)) ≡ Some c → (if t then None else slice_get (cs ++ d ∷ []) (n - 1)) ≡ Some c
-    by true h = h
-    by false h = get_end cs d c (n - 1) h
-
-kind_end : (cs : List Class) (d : Class) (n : ℕ) (k : Kind) → HasKind cs n k → HasKind (cs ++ d ∷ []) n k
-kind_end cs d n k h = record { class = h.class; there = class_end cs d h.class n h.there; kind = h.kind }
-
-dest_end : (cs : List Class) (d : Class) (n : ℕ) (o : Option Kind) → IfSome o (λ k. HasKind cs n k) → IfSome o (λ k. HasKind (cs ++ d ∷ []) n k)
+dest_end : (cs : List Class) (d : Class) (n : ℕ) (o : Option Kind) → IfSome o (λ k. kind_of_class cs n ≡ Some k) → IfSome o (λ k. kind_of_class (cs ++ d ∷ []) n ≡ Some k)
 dest_end cs d n None h = tt
 dest_end cs d n (Some k) h = kind_end cs d n k h
 
 kinds_end : (cs : List Class) (d : Class) (rules : List InForce) → Every (λ (q : InForce). HasKinds cs q.row) rules → Every (λ (q : InForce). HasKinds (cs ++ d ∷ []) q.row) rules
-kinds_end cs d [] h = tt
-kinds_end cs d (q ∷ rules) h = (
-  record { origin = kind_end cs d q.row.origin.class (origin_of q.row.kind) h.0.origin; dest = dest_end cs d q.row.dest.class (dest_of q.row.kind) h.0.dest },
-  kinds_end cs d rules h.1,
-)
+kinds_end cs d rules h = every_map (λ (q : InForce). HasKinds cs q.row) (λ (q : InForce). HasKinds (cs ++ d ∷ []) q.row)
+    (λ q k. record { origin = kind_end cs d q.row.origin.class (origin_of q.row.kind) k.origin; dest = dest_end cs d q.row.dest.class (dest_of q.row.kind) k.dest }) rules h
 
-pub class_keeps : (d : Class) (old new : Project) → IsTopology old → IsClassesAlone d old new → IsStore new.classes new.features new.next → IsTopology new
-class_keeps d old new t i s = record {
+pub class_keeps : (name : List ℕ) (k : Kind) (old new : Project) → IsTopology old → IsClassAdded name k old new → IsStore new.classes new.features new.next → IsTopology new
+class_keeps name k old new t i s = record {
   store = s;
   rules = rw i.rules t.rules;
   few = rw i.rules t.few;
-  kinds = rw (i.rules, i.classes) (kinds_end old.classes d old.rules t.kinds);
+  kinds = rw (i.rules, i.classes) (kinds_end old.classes (record { name = name; kind = k }) old.rules t.kinds);
   order = rw i.entries t.order;
-  envelopes = λ a f k. t.envelopes a f (rw i.features at k);
-  frames = λ r a b e k. t.frames r a b e (rw i.entries at k);
-  bare = λ r a b e k w. t.bare r a b e (rw i.entries at k) w;
-  ruled = λ r a b e k. rw i.rules (t.ruled r a b e (rw i.entries at k));
+  made = record {
+    envelopes = λ a f k. t.made.envelopes a f (rw i.features at k);
+    frames = λ r a b e k. t.made.frames r a b e (rw i.entries at k);
+    bare = λ r a b e k w. t.made.bare r a b e (rw i.entries at k) w;
+    ruled = λ r a b e k. rw i.rules (t.made.ruled r a b e (rw i.entries at k));
+  };
 }
 
-class_sound : (M : Meaning) (d : Class) (old new : Project) → IsClassesAlone d old new → IsSoundUnder M old → IsSoundUnder M new
-class_sound M d old new i s = record {
+pub class_sound : (M : Meaning) (name : List ℕ) (k : Kind) (old new : Project) → IsClassAdded name k old new → IsSoundUnder M old → IsSoundUnder M new
+class_sound M name k old new i s = record {
   each = λ r row e a.
       let o = s.each r row (rw i.rules at e) a in
       record {
@@ -108,33 +87,25 @@ class_sound M d old new i s = record {
       };
 }
 
-class_settled : (M : Meaning) (d : Class) (old new : Project) → IsClassesAlone d old new → IsSettledUnder M old → IsSettledUnder M new
-class_settled M d old new i s = record {
+pub class_settled : (M : Meaning) (name : List ℕ) (k : Kind) (old new : Project) → IsClassAdded name k old new → IsSettledUnder M old → IsSettledUnder M new
+class_settled M name k old new i s = record {
   cut = λ r row e a f k n. rw (i.entries, i.features) (s.cut r row (rw i.rules at e) a f (rw i.features at k) (λ m. n (rw i.dirt m)));
   frames = λ r row e a b x k. rw (i.dirt, i.features) (s.frames r row (rw i.rules at e) a b x (rw i.entries at k));
 }
 
-pub class_kept : (M : Meaning) (d : Class) (old new : Project) → IsClassesAlone d old new → IsKeptUnder M old → IsKeptUnder M new
-class_kept M d old new i k = record { sound = class_sound M d old new i k.sound; settled = class_settled M d old new i k.settled }
-
 -- ---- a validation
 pub validated_keeps : (M : Meaning) → CutsRight M → TakesKinds M → (w : Rectangle) (old new : Project) → IsTopology old → IsValidatedBy M w old new → entries.IsAscending new.entries → IsTopology new
-validated_keeps M C K w old new t i order =
-    let v = parts_kept_valid M C w old new i (valid M K old t) t.store.ascending in
-    record {
-      store = rw (i.classes, i.features, i.next) t.store;
-      rules = rw i.rules t.rules;
-      few = rw i.rules t.few;
-      kinds = rw (i.rules, i.classes) t.kinds;
-      order = order;
-      envelopes = v.envelopes;
-      frames = v.frames;
-      bare = v.bare;
-      ruled = v.ruled;
-    }
-
-pub validated_kept : (M : Meaning) → Laws M → CutsRight M → TakesKinds M → (w : Rectangle) (old new : Project) → IsTopology old → IsValidatedBy M w old new → IsKeptUnder M old → IsKeptUnder M new
-validated_kept M L C K w old new t i k = record {
-  sound = parts_kept_sound M L C w old new i (valid M K old t) t.store.ascending k.sound;
-  settled = parts_kept_settled M L C w old new i (valid M K old t) t.store.ascending k.settled;
+validated_keeps M C K w old new t i order = record {
+  store = rw (i.classes, i.features, i.next) t.store;
+  rules = rw i.rules t.rules;
+  few = rw i.rules t.few;
+  kinds = rw (i.rules, i.classes) t.kinds;
+  order = order;
+  made = (parts_kept_valid M C w old new i (valid M K old t) t.store.ascending).made;
 }
+
+pub validated_sound_kept : (M : Meaning) → Laws M → CutsRight M → TakesKinds M → (w : Rectangle) (old new : Project) → IsTopology old → IsValidatedBy M w old new → IsSoundUnder M old → IsSoundUnder M new
+validated_sound_kept M L C K w old new t i s = parts_kept_sound M L C w old new i (valid M K old t) t.store.ascending s
+
+pub validated_settled_kept : (M : Meaning) → Laws M → CutsRight M → TakesKinds M → (w : Rectangle) (old new : Project) → IsTopology old → IsValidatedBy M w old new → IsSettledUnder M old → IsSettledUnder M new
+validated_settled_kept M L C K w old new t i s = parts_kept_settled M L C w old new i (valid M K old t) t.store.ascending s

@@ -2,5 +2,6 @@ mod Whole
 mod Kept
 mod Exchanges
 mod RuleLists
+mod Rows
 mod RulesMore
 mod RulesLess

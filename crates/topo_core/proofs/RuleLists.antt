@@ -1,25 +1,13 @@
 -- A rule more in an ascending list.
 use Rattle.std.proofs.Common.{◌≡◌, ◌≢◌, inl, inr, ℕ, zero, suc, ◌<◌, ◌≤◌, ◌+◌, Bool, true, false, List, [], ◌∷◌, Some, None, length, drop, get_or, drop-cons, refl, sym, subst, ap, ◌∙◌, arith, eqb, ltb}
 use Rattle.std.specs.Prelude.{is_some, insert, ◌⊎◌, ◌==◌, if◌then◌else◌}
+use Rattle.std.proofs.lemmas.Bool.{eq-eqb, ne_eqb, cases_lt, lt-ltb, le-ltb}
 use Rattle.std.proofs.lemmas.Bool.Decides.{nat_tests, eqb_tells}
 use Rattle.plane_terms.specs.Lists.{Every}
-use Rattle.topology_terms.specs.Project.{InForce, AreAscending, rule_at}
-use Rattle.topology_terms.specs.Lookups.{least_free, free_from}
+use Rattle.topology_terms.specs.Project.{InForce, by_number, AreAscending, rule_at}
+use Rattle.sound_laws.proofs.Keyed.{after_later, contained_found}
+use Rattle.sound_laws.proofs.RuleLists.{rule_numbers, at_number, past_number, rule_found}
 use Rattle.topo_core.specs.RuleLists.{lower_from, with_rule}
-
-pub at_number : (q : InForce) (qs : List InForce) (n : ℕ) → eqb q.number n ≡ true → rule_at (q ∷ qs) n ≡ Some q.row
-unfolding rule_at
-at_number q qs n e = rw e refl
-
-pub past_number : (q : InForce) (qs : List InForce) (n : ℕ) → eqb q.number n ≡ false → rule_at (q ∷ qs) n ≡ rule_at qs n
-unfolding rule_at
-past_number q qs n e = rw e refl
-
-own_number : (n m : ℕ) → n ≡ m → eqb n m ≡ true
-own_number n m e = grind (arith, nat_tests)
-
-pub other_number : (n m : ℕ) → n ≢ m → eqb n m ≡ false
-other_number n m e = grind (arith, nat_tests)
 
 -- ---- the least free number: the first from n on that no rule of the ascending list has
 abbrev pub run_on : ℕ → List InForce → ℕ
@@ -42,25 +30,27 @@ run_upto (q ∷ qs) n = elim (eqb_tells q.number n) [
 
 run_above : (qs : List InForce) (n : ℕ) (m : ℕ) → n ≤ m → Every (λ (q : InForce). m < q.number) qs → run_on n qs ≡ n
 run_above [] n m l h = refl
-run_above (q ∷ qs) n m l h = rw (other_number q.number n (λ e. let k = h.0 in omega arith)) (run_above qs n m l h.1)
-
-none_above : (qs : List InForce) (n m : ℕ) → n ≤ m → Every (λ (q : InForce). m < q.number) qs → rule_at qs n ≡ None
-unfolding rule_at
-none_above [] n m l h = refl
-none_above (q ∷ qs) n m l h = rw (other_number q.number n (λ e. let k = h.0 in omega arith)) (none_above qs n m l h.1)
+run_above (q ∷ qs) n m l h = rw (ne_eqb q.number n (λ e. let k = h.0 in omega arith)) (run_above qs n m l h.1)
 
 pub run_free : (qs : List InForce) (n : ℕ) → AreAscending qs → rule_at qs (run_on n qs) ≡ None
 unfolding rule_at
 run_free [] n a = refl
 run_free (q ∷ qs) n a = elim (eqb_tells q.number n) [
-  | inl t ↦ let l = run_from qs (n + 1) in rw t.0 (past_number q qs (run_on (n + 1) qs) (other_number q.number (run_on (n + 1) qs) (λ e. let k = t.1 in omega arith)) ∙ run_free qs (n + 1) a.1)
-  | inr t ↦ rw t.0 (elim (eqb_tells q.number (run_on n qs)) [
-    | inl s ↦
-        let l = run_from qs n in
-        let below : n ≤ q.number = (let k = s.1 in omega arith) in
-        absurd (t.1 (s.1 ∙ run_above qs n q.number below a.0))
-    | inr s ↦ past_number q qs (run_on n qs) s.0 ∙ run_free qs n a.1
-  ])
+  | inl t ↦
+      let m = run_on (n + 1) qs in
+      let l = run_from qs (n + 1) in
+      let on : m ≡ run_on n (q ∷ qs) = rw t.0 refl in
+      subst (λ k. rule_at (q ∷ qs) k ≡ None) on (past_number q qs m (ne_eqb q.number m (λ e. let k = t.1 in omega arith)) ∙ run_free qs (n + 1) a.1)
+  | inr t ↦
+      let m = run_on n qs in
+      let on : m ≡ run_on n (q ∷ qs) = rw t.0 refl in
+      subst (λ k. rule_at (q ∷ qs) k ≡ None) on (elim (eqb_tells q.number m) [
+        | inl s ↦
+            let l = run_from qs n in
+            let below : n ≤ q.number = (let k = s.1 in omega arith) in
+            absurd (t.1 (s.1 ∙ run_above qs n q.number below a.0))
+        | inr s ↦ past_number q qs m s.0 ∙ run_free qs n a.1
+      ])
 ]
 
 run_taken : (qs : List InForce) (n k : ℕ) → n ≤ k → k < run_on n qs → is_some (rule_at qs k) ≡ true
@@ -74,18 +64,12 @@ run_taken (q ∷ qs) n k l u = elim (eqb_tells q.number k) [
   ]
 ]
 
-free_is : (rs qs : List InForce) (n m : ℕ) → n ≤ m → m ≤ n + length qs → ((k : ℕ) → n ≤ k → k < m → is_some (rule_at rs k) ≡ true) → rule_at rs m ≡ None → free_from rs qs n ≡ m
-free_is rs [] n m l u taken free = omega arith
-free_is rs (q ∷ qs) n m l u taken free = elim (eqb_tells n m) [
-  | inl t ↦ let e : is_some (rule_at rs n) ≡ false = rw t.1 (rw free refl) in rw e t.1
-  | inr t ↦
-      let d = t.1 in
-      let less : n < m = omega arith in
-      rw (taken n (omega arith) less) (free_is rs qs (n + 1) m (omega arith) (omega arith) (λ k a b. taken k (omega arith) b) free)
-]
+-- from 1 on it is the least that is free
+pub run_least : (rs : List InForce) (k : ℕ) → 1 ≤ k → k < run_on 1 rs → rule_at rs k ≢ None
+run_least rs k l u e = let t = run_taken rs 1 k l u in let f : is_some (rule_at rs k) ≡ false = rw e refl in cc
 
-pub run_least : (rs : List InForce) → AreAscending rs → run_on 1 rs ≡ least_free rs
-run_least rs a = sym (free_is rs rs 1 (run_on 1 rs) (run_from rs 1) (run_upto rs 1) (λ k l u. run_taken rs 1 k l u) (run_free rs 1 a))
+pub run_from_1 : (rs : List InForce) → 1 ≤ run_on 1 rs
+run_from_1 rs = run_from rs 1
 
 end_drop : (rs : List InForce) (i : ℕ) → length rs ≤ i → drop i rs ≡ []
 end_drop [] zero l = refl
@@ -97,28 +81,12 @@ pub run_ends : (rs : List InForce) (i m : ℕ) → length rs ≤ i → run_on m 
 run_ends rs i m l e = subst (λ g. run_on m g ≡ run_on 1 rs) (end_drop rs i l) e
 
 -- ---- a rule of a row
-every_drop : (P : InForce → Type 0) (i : ℕ) (rs : List InForce) → Every P rs → Every P (drop i rs)
-every_drop P zero rs h = h
-every_drop P (suc i) [] h = tt
-every_drop P (suc i) (q ∷ rs) h = every_drop P i rs h.1
-
-pub at_place : (i : ℕ) (rs rest : List InForce) (q : InForce) → AreAscending rs → drop i rs ≡ q ∷ rest → rule_at rs q.number ≡ Some q.row
-at_place zero rs rest q a e = rw e (at_number q rest q.number (own_number q.number q.number refl))
-at_place (suc i) [] rest q a e = absurd cc
-at_place (suc i) (r ∷ rs) rest q a e =
-    let l = subst (Every (λ (x : InForce). r.number < x.number)) e (every_drop (λ (x : InForce). r.number < x.number) i rs a.0) in
-    past_number r rs q.number (other_number r.number q.number (λ s. let k = l.0 in omega arith)) ∙ at_place i rs rest q a.1 e
-
 pub row_at : (rs : List InForce) (i : ℕ) (q : InForce) → AreAscending rs → i < length rs → q ≡ get_or rs i q → rule_at rs q.number ≡ Some q.row
-row_at rs i q a below is = at_place i rs (drop (suc i) rs) q a (drop-cons rs i q below ∙ ap (λ g. g ∷ drop (suc i) rs) (sym is))
+row_at rs i q a below is = rule_found rs q.number q (contained_found by_number rule_numbers rs q a (i, below, sym is))
 
 -- ---- a rule put at its place
 lower_or_not : (m n : ℕ) → ((ltb m n ≡ true) × (m < n)) ⊎ ((ltb m n ≡ false) × (n ≤ m))
-lower_or_not m n = by (ltb m n) refl
-  where
-    by : (t : Bool) → ltb m n ≡ t → ((ltb m n ≡ true) × (m < n)) ⊎ ((ltb m n ≡ false) × (n ≤ m))
-    by true e = inl (e, grind (arith, nat_tests))
-    by false e = inr (e, grind (arith, nat_tests))
+lower_or_not m n = elim (cases_lt m n) [ inl l ↦ inl (lt-ltb m n l, l) | inr l ↦ inr (le-ltb m n l, l) ]
 
 lower_shift : (qs : List InForce) (i n : ℕ) → lower_from (i + 1) n qs ≡ suc (lower_from i n qs)
 lower_shift [] i n = omega arith
@@ -142,24 +110,24 @@ insert_is (q ∷ qs) r a = elim (lower_or_not q.number r.number) [
 
 pub with_here : (rs : List InForce) (r : InForce) → rule_at rs r.number ≡ None → rule_at (with_rule rs r) r.number ≡ Some r.row
 unfolding rule_at
-with_here [] r e = at_number r [] r.number (own_number r.number r.number refl)
+with_here [] r e = at_number r [] r.number (eq-eqb r.number r.number refl)
 with_here (q ∷ qs) r e = elim (eqb_tells q.number r.number) [
   | inl s ↦ absurd (let k : None ≡ Some q.row = sym e ∙ at_number q qs r.number s.0 in cc)
   | inr s ↦ elim (lower_or_not q.number r.number) [
     | inl t ↦ rw t.0 (past_number q (with_rule qs r) r.number s.0 ∙ with_here qs r (sym (past_number q qs r.number s.0) ∙ e))
-    | inr t ↦ rw t.0 (at_number r (q ∷ qs) r.number (own_number r.number r.number refl))
+    | inr t ↦ rw t.0 (at_number r (q ∷ qs) r.number (eq-eqb r.number r.number refl))
   ]
 ]
 
 pub with_others : (rs : List InForce) (r : InForce) (k : ℕ) → k ≢ r.number → rule_at (with_rule rs r) k ≡ rule_at rs k
 unfolding rule_at
-with_others [] r k n = past_number r [] k (other_number r.number k (λ e. n (sym e)))
+with_others [] r k n = past_number r [] k (ne_eqb r.number k (λ e. n (sym e)))
 with_others (q ∷ qs) r k n = elim (lower_or_not q.number r.number) [
   | inl t ↦ rw t.0 (elim (eqb_tells q.number k) [
     | inl s ↦ at_number q (with_rule qs r) k s.0 ∙ sym (at_number q qs k s.0)
     | inr s ↦ past_number q (with_rule qs r) k s.0 ∙ (with_others qs r k n ∙ sym (past_number q qs k s.0))
   ])
-  | inr t ↦ rw t.0 (past_number r (q ∷ qs) k (other_number r.number k (λ e. n (sym e))))
+  | inr t ↦ rw t.0 (past_number r (q ∷ qs) k (ne_eqb r.number k (λ e. n (sym e))))
 ]
 
 pub with_length : (rs : List InForce) (r : InForce) → length (with_rule rs r) ≡ length rs + 1
@@ -176,10 +144,6 @@ with_every P (q ∷ qs) r h p = elim (lower_or_not q.number r.number) [
   | inr t ↦ rw t.0 (p, h)
 ]
 
-all_above : (m n : ℕ) (qs : List InForce) → m ≤ n → Every (λ (q : InForce). n < q.number) qs → Every (λ (q : InForce). m < q.number) qs
-all_above m n [] l h = tt
-all_above m n (q ∷ qs) l h = (let k = h.0 in omega arith, all_above m n qs l h.1)
-
 pub with_ascending : (rs : List InForce) (r : InForce) → rule_at rs r.number ≡ None → AreAscending rs → AreAscending (with_rule rs r)
 with_ascending [] r e a = (tt, tt)
 with_ascending (q ∷ qs) r e a = elim (eqb_tells q.number r.number) [
@@ -190,7 +154,6 @@ with_ascending (q ∷ qs) r e a = elim (eqb_tells q.number r.number) [
         let d = s.1 in
         let l = t.1 in
         let less : r.number < q.number = omega arith in
-        let upto : r.number ≤ q.number = omega arith in
-        rw t.0 ((less, all_above r.number q.number qs upto a.0), a)
+        rw t.0 ((less, after_later by_number rule_numbers r.number q.number qs less a.0), a)
   ]
 ]

@@ -1,60 +1,24 @@
--- A rule less keeps what every topology keeps, and what it keeps of the rules' meaning.
+-- A rule less keeps what every topology keeps.
 use Rattle.std.proofs.Common.{◌≡◌, ◌≢◌, ◌<◌, ◌≤◌, arith, length, inl, inr, ℕ, Bool, true, false, List, [], ◌∷◌, None, Some, refl, sym, ◌∙◌}
 use Rattle.std.specs.Prelude.{cond, not, ◌==◌}
 use Rattle.std.proofs.lemmas.Bool.Decides.{eqb_tells}
 use Rattle.plane_terms.specs.Lists.{Every}
 use Rattle.plane_terms.specs.Rectangle.{Rectangle}
-use Rattle.topology_terms.specs.Meaning.{Meaning}
 use Rattle.topology_terms.specs.Entry.{Entry, entry_at}
 use Rattle.topology_terms.specs.Entry as entries
-use Rattle.topology_terms.specs.Project.{Project, InForce, AreAscending, rule_at}
+use Rattle.topology_terms.specs.Project.{Project, InForce, by_number}
 use Rattle.topology_terms.specs.Changes.{IsRuleDropped}
-use Rattle.sound_laws.proofs.RuleChanges.{drop_rule_sound}
-use Rattle.sound_laws.proofs.Settling.{drop_rule_settled}
+use Rattle.plane_terms.proofs.ListLemmas.{every_filter}
+use Rattle.sound_laws.proofs.Keyed.{ascending_filter}
+use Rattle.sound_laws.proofs.RuleLists.{rule_numbers, without_here, without_others}
 use Rattle.feature_store.specs.Stored.{Stored}
 use Rattle.topo_core.specs.Kinds.{HasKinds}
 use Rattle.topo_core.specs.RuleLists.{without_rule}
-use Rattle.topo_core.specs.Topologies.{IsTopology, IsKeptUnder, project_of}
-use Rattle.topo_core.proofs.RuleLists.{at_number, past_number, other_number}
+use Rattle.topo_core.specs.Topologies.{IsTopology, project_of}
 
 -- the rule has another number
 abbrev pub is_other : ℕ → InForce → Bool
 is_other n q = not (q.number == n)
-
-without_here : (rs : List InForce) (n : ℕ) → rule_at (without_rule rs n) n ≡ None
-unfolding rule_at
-without_here [] n = refl
-without_here (q ∷ qs) n = elim (eqb_tells q.number n) [
-  | inl t ↦ rw t.0 (without_here qs n)
-  | inr t ↦ rw t.0 (past_number q (without_rule qs n) n t.0 ∙ without_here qs n)
-]
-
-without_others : (rs : List InForce) (n k : ℕ) → k ≢ n → rule_at (without_rule rs n) k ≡ rule_at rs k
-unfolding rule_at
-without_others [] n k d = refl
-without_others (q ∷ qs) n k d = elim (eqb_tells q.number n) [
-  | inl t ↦ rw t.0 (without_others qs n k d ∙ sym (past_number q qs k (other_number q.number k (λ e. d (sym e ∙ t.1)))))
-  | inr t ↦ rw t.0 (elim (eqb_tells q.number k) [
-    | inl s ↦ at_number q (without_rule qs n) k s.0 ∙ sym (at_number q qs k s.0)
-    | inr s ↦ past_number q (without_rule qs n) k s.0 ∙ (without_others qs n k d ∙ sym (past_number q qs k s.0))
-  ])
-]
-
-every_without : (P : InForce → Type 0) (rs : List InForce) (n : ℕ) → Every P rs → Every P (without_rule rs n)
-every_without P [] n h = tt
-every_without P (q ∷ qs) n h = pick (is_other n q) (without_rule qs n) (every_without P qs n h.1)
-  where
-    pick : (b : Bool) (l : List InForce) → Every P l → Every P (cond b (q ∷ l) l)
-    pick true l k = (h.0, k)
-    pick false l k = k
-
-without_ascending : (rs : List InForce) (n : ℕ) → AreAscending rs → AreAscending (without_rule rs n)
-without_ascending [] n a = tt
-without_ascending (q ∷ qs) n a = pick (is_other n q) (without_rule qs n) (every_without (λ (x : InForce). q.number < x.number) qs n a.0) (without_ascending qs n a.1)
-  where
-    pick : (b : Bool) (l : List InForce) → Every (λ (x : InForce). q.number < x.number) l → AreAscending l → AreAscending (cond b (q ∷ l) l)
-    pick true l h k = (h, k)
-    pick false l h k = k
 
 without_length : (rs : List InForce) (n : ℕ) → length (without_rule rs n) ≤ length rs
 without_length [] n = omega arith
@@ -85,23 +49,19 @@ pub rule_leaves : (n : ℕ) (s : Stored) (rules less : List InForce) (d : List R
     → less ≡ without_rule rules n → AreLeft n es fs → entries.IsAscending fs → IsTopology (project_of s rules d es) → IsTopology (project_of s less d fs)
 rule_leaves n s rules less d es fs l left order t = record {
   store = t.store;
-  rules = rw l (without_ascending rules n t.rules);
+  rules = rw l (ascending_filter by_number rule_numbers (is_other n) rules t.rules);
   few = let short = without_length rules n in let few = t.few in rw l (omega (arith, short, few));
-  kinds = rw l (every_without (λ (q : InForce). HasKinds s.classes q.row) rules n t.kinds);
+  kinds = rw l (every_filter (λ (q : InForce). HasKinds s.classes q.row) (is_other n) rules t.kinds);
   order = order;
-  envelopes = t.envelopes;
-  frames = λ r a b e k. t.frames r a b e (sym (left.kept r a b (apart r a b e k)) ∙ k);
-  bare = λ r a b e k w. t.bare r a b e (sym (left.kept r a b (apart r a b e k)) ∙ k) w;
-  ruled = λ r a b e k.
-      let y = t.ruled r a b e (sym (left.kept r a b (apart r a b e k)) ∙ k) in
-      (y.0, rw l (without_others rules n r (apart r a b e k) ∙ y.1));
+  made = record {
+    envelopes = t.made.envelopes;
+    frames = λ r a b e k. t.made.frames r a b e (sym (left.kept r a b (apart r a b e k)) ∙ k);
+    bare = λ r a b e k w. t.made.bare r a b e (sym (left.kept r a b (apart r a b e k)) ∙ k) w;
+    ruled = λ r a b e k.
+        let y = t.made.ruled r a b e (sym (left.kept r a b (apart r a b e k)) ∙ k) in
+        (y.0, rw l (without_others rules n r (apart r a b e k) ∙ y.1));
+  };
 }
   where
     apart : (r a b : ℕ) (e : Entry) → entry_at fs r a b ≡ Some e → r ≢ n
     apart r a b e k same = let x : None ≡ Some e = sym (left.gone a b) ∙ (rw same at k) in absurd cc
-
-pub rule_less_kept : (M : Meaning) (n : ℕ) (old new : Project) → IsRuleDropped n old new → IsKeptUnder M old → IsKeptUnder M new
-rule_less_kept M n old new i k = record {
-  sound = drop_rule_sound M n old new i k.sound;
-  settled = drop_rule_settled M n old new i k.settled;
-}

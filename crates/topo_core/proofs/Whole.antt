@@ -1,26 +1,24 @@
 -- What every topology keeps: it is ordered, its rules fit, and it is a project by any meaning that asks for kinds alone.
 use Rattle.std.proofs.Common.{◌≡◌, inl, inr, ℕ, ◌<◌, List, [], ◌∷◌, Option, Some, None, refl, sym, ◌∙◌, ap, arith}
 use Rattle.std.specs.Option.{IfSome}
-use Rattle.std.proofs.lemmas.Bool.Decides.{eqb_tells}
 use Rattle.plane_terms.specs.Lists.{Every}
 use Rattle.plane_terms.specs.declared.kind.Kind.{Kind}
-use Rattle.topology_terms.specs.Feature.{Class, Feature, feature_at}
+use Rattle.topology_terms.specs.Feature.{Class, Feature, by_handle, feature_at}
 use Rattle.rule_words.specs.Table.{origin_of, dest_of}
 use Rattle.topology_terms.specs.Broken.{Row, Fits}
 use Rattle.topology_terms.specs.Meaning.{Meaning}
 use Rattle.topology_terms.specs.Entry.{entry_at}
+use Rattle.topology_terms.specs.Lookups.{kind_of_class}
+use Rattle.topology_terms.specs.Sound.{IsSoundUnder}
+use Rattle.topology_terms.specs.Settled.{IsSettledUnder}
 use Rattle.topology_terms.specs.Project.{Project, InForce, IsProject, IsOrdered, rule_at, empty_project}
-use Rattle.sound_laws.proofs.FeatureLists.{past_handle}
-use Rattle.feature_store.specs.Stored.{class_at}
+use Rattle.sound_laws.proofs.Keyed.{none_lacks, lacks_before}
+use Rattle.sound_laws.proofs.FeatureLists.{handles}
+use Rattle.sound_laws.proofs.RuleLists.{rule_each}
 use Rattle.feature_store.specs.Keeps.{IsOfClass, IsGiven, HasSimpleSides, IsStore}
-use Rattle.feature_store.specs.Changes.{HasKind}
-use Rattle.feature_store.proofs.Keeping.{live_each}
+use Rattle.feature_store.proofs.Keeping.{live_each, below_next}
 use Rattle.topo_core.specs.Kinds.{HasKinds, TakesKinds}
-use Rattle.topo_core.specs.Topologies.{IsTopology, IsKeptUnder}
-
-below_next : (next : ℕ) (F : List Feature) → Every (IsGiven next) F → Every (λ (f : Feature). f.handle < next) F
-below_next next [] h = tt
-below_next next (f ∷ F) h = (h.0.before, below_next next F h.1)
+use Rattle.topo_core.specs.Topologies.{IsTopology}
 
 pub ordered : (p : Project) → IsTopology p → IsOrdered p
 ordered p t = record { rules = t.rules; features = t.store.ascending; next = below_next p.next p.features t.store.given; entries = t.order }
@@ -28,30 +26,18 @@ ordered p t = record { rules = t.rules; features = t.store.ascending; next = bel
 -- no feature has the next handle
 pub none_given : (h : ℕ) (F : List Feature) → Every (IsGiven h) F → feature_at F h ≡ None
 unfolding feature_at
-none_given h [] g = refl
-none_given h (f ∷ F) g = elim (eqb_tells f.handle h) [
-  | inl t ↦ absurd (let l = g.0.before in let e = t.1 in omega arith)
-  | inr t ↦ past_handle f F h t.0 ∙ none_given h F g.1
-]
+none_given h F g = none_lacks by_handle handles h F (lacks_before by_handle handles h F (below_next h F g))
 
-rule_each : (P : Row → Type 0) (rules : List InForce) (n : ℕ) (row : Row) → Every (λ (q : InForce). P q.row) rules → rule_at rules n ≡ Some row → P row
-unfolding rule_at
-rule_each P [] n row h e = absurd cc
-rule_each P (q ∷ rules) n row h e = elim (eqb_tells q.number n) [
-  | inl t ↦ let k : Some q.row ≡ Some row = rw t.0 at e in let same : q.row ≡ row = cc in rw (← same) h.0
-  | inr t ↦ rule_each P rules n row h.1 (rw t.0 at e)
-]
-
-kind_agrees : (cs : List Class) (f : Feature) (n : ℕ) (k : Kind) → IsOfClass cs f → f.class ≡ n → HasKind cs n k → f.shape.kind ≡ k
+kind_agrees : (cs : List Class) (f : Feature) (n : ℕ) (k : Kind) → IsOfClass cs f → f.class ≡ n → kind_of_class cs n ≡ Some k → f.shape.kind ≡ k
 kind_agrees cs f n k o e h =
-    let both : Some o.class ≡ Some h.class = sym o.there ∙ (ap (class_at cs) e ∙ h.there) in
-    let same : o.class ≡ h.class = cc in
-    o.kind ∙ (ap (λ (c : Class). c.kind) same ∙ sym h.kind)
+    let both : Some f.shape.kind ≡ Some k = sym o ∙ (ap (kind_of_class cs) e ∙ h) in
+    cc
 
 live_class : (cs : List Class) (F : List Feature) (h : ℕ) (f : Feature) → Every (IsOfClass cs) F → feature_at F h ≡ Some f → IsOfClass cs f
 live_class cs F h f all e = let o = live_each (IsOfClass cs) F h all in rw e at o
 
-dest_fits : (cs : List Class) (f : Feature) (n : ℕ) (o : Option Kind) → IsOfClass cs f → f.class ≡ n → IfSome o (λ k. HasKind cs n k) → IfSome o (λ k. f.shape.kind ≡ k)
+dest_fits : (cs : List Class) (f : Feature) (n : ℕ) (o : Option Kind) → IsOfClass cs f → f.class ≡ n
+    → IfSome o (λ k. kind_of_class cs n ≡ Some k) → IfSome o (λ k. f.shape.kind ≡ k)
 dest_fits cs f n None c e h = tt
 dest_fits cs f n (Some k) c e h = kind_agrees cs f n k c e h
 
@@ -68,14 +54,16 @@ row_fits cs F next row s h = record {
   boundary = λ a f e. (live_simple F a f s.simple e).boundary;
 }
 
-pub fitting : (M : Meaning) → TakesKinds M → (p : Project) → IsTopology p → (n : ℕ) (row : Row) → rule_at p.rules n ≡ Some row → M.Fits row p.features
-fitting M K p t n row e = K.fits row p.features (row_fits p.classes p.features p.next row t.store (rule_each (HasKinds p.classes) p.rules n row t.kinds e))
+pub fitting : (M : Meaning) → TakesKinds M → (p : Project) → IsTopology p → (n : ℕ) (row : Row) → rule_at p.rules n ≡ Some row
+    → M.Fits row p.features
+fitting M K p t n row e =
+    K.fits row p.features (row_fits p.classes p.features p.next row t.store (rule_each (HasKinds p.classes) p.rules n row t.kinds e))
 
 pub row_fitting : (M : Meaning) → TakesKinds M → (p : Project) → IsTopology p → (row : Row) → HasKinds p.classes row → M.Fits row p.features
 row_fitting M K p t row h = K.fits row p.features (row_fits p.classes p.features p.next row t.store h)
 
 pub valid : (M : Meaning) → TakesKinds M → (p : Project) → IsTopology p → IsProject M p
-valid M K p t = record { fits = fitting M K p t; envelopes = t.envelopes; frames = t.frames; bare = t.bare; ruled = t.ruled }
+valid M K p t = record { fits = fitting M K p t; made = t.made }
 
 -- ---- nothing
 pub empty_topology : IsTopology empty_project
@@ -86,15 +74,13 @@ empty_topology = record {
   few = omega arith;
   kinds = tt;
   order = tt;
-  envelopes = λ a f e. absurd cc;
-  frames = λ r a b e k. absurd cc;
-  bare = λ r a b e k w. absurd cc;
-  ruled = λ r a b e k. absurd cc;
+  made = record { envelopes = λ a f e. absurd cc; frames = λ r a b e k. absurd cc; bare = λ r a b e k w. absurd cc; ruled = λ r a b e k. absurd cc };
 }
 
-pub empty_kept : (M : Meaning) → IsKeptUnder M empty_project
-unfolding feature_at rule_at entry_at
-empty_kept M = record {
-  sound = record { each = λ r row e a. absurd cc };
-  settled = record { cut = λ r row e a f k n. absurd cc; frames = λ r row e a. absurd cc };
-}
+pub empty_sound : (M : Meaning) → IsSoundUnder M empty_project
+unfolding rule_at
+empty_sound M = record { each = λ r row e a. absurd cc }
+
+pub empty_settled : (M : Meaning) → IsSettledUnder M empty_project
+unfolding rule_at
+empty_settled M = record { cut = λ r row e a f k n. absurd cc; frames = λ r row e a. absurd cc }

@@ -3,4 +3,3 @@ pub mod Topologies
 pub mod Faults
 pub mod Steps
 pub mod RuleLists
-pub mod RuleSteps

@@ -3,11 +3,9 @@
 -- lower_from i n rs    i, and one more for each rule whose number is below n
 -- with_rule rs q       the list with the rule q before the first of a higher number
 -- without_rule rs n   the list without the rule of the number n, in its order
--- IsNowhere rs row     no rule in force has this row
-use Rattle.std.specs.Prelude.{◌≢◌, ℕ, ◌+◌, ltb, ◌==◌, not, filter, List, [], ◌∷◌, if◌then◌else◌}
-use Rattle.plane_terms.specs.Lists.{Every}
-use Rattle.topology_terms.specs.Broken.{Row}
-use Rattle.topology_terms.specs.Project.{InForce}
+use Rattle.std.specs.Prelude.{ℕ, ◌+◌, ltb, List, [], ◌∷◌, if◌then◌else◌}
+use Rattle.topology_terms.specs.Keyed.{without}
+use Rattle.topology_terms.specs.Project.{InForce, by_number}
 
 abbrev pub lower_from : ℕ → ℕ → List InForce → ℕ
 lower_from i n [] = i
@@ -18,7 +16,4 @@ with_rule [] r = r ∷ []
 with_rule (q ∷ qs) r = if ltb q.number r.number then q ∷ with_rule qs r else r ∷ q ∷ qs
 
 abbrev pub without_rule : List InForce → ℕ → List InForce
-without_rule rs n = filter (λ (q : InForce). not (q.number == n)) rs
-
-abbrev pub IsNowhere : List InForce → Row → Type 0
-IsNowhere rs row = Every (λ (q : InForce). q.row ≢ row) rs
+without_rule rs n = without by_number rs n

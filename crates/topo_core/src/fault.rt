@@ -1,10 +1,11 @@
 ghost use Rattle.std.specs.Prelude.{◌≡◌};
 ghost use Rattle.topo_core.specs.declared.fault.ChangeFault.TheVariants as fault;
-ghost use Rattle.topo_core.specs.Faults.{change_fault};
+ghost use Rattle.topo_core.specs.Faults.{change_fault, edit_cause};
 
 use feature_store::StoreFault;
 use grid_plane::NoMemory;
 use thiserror::Error;
+use topology_terms::Cause;
 
 /// Why a feature was not added, changed or deleted: the first of these that applies.
 #[derive(Debug, Drop, Error)]
@@ -24,6 +25,21 @@ pub enum ChangeFault {
     /// Memory ran out.
     #[error("out of memory")]
     NoMemory,
+}
+
+impl ChangeFault {
+    /// The cause that is told, and none of out of memory.
+    pub fn cause(&self) -> Option<Cause>
+        ensures { result ≡ edit_cause self.now }
+    {
+        match self {
+            ChangeFault::NoClass => Some(Cause::NoClass),
+            ChangeFault::NoFeature => Some(Cause::NoFeature),
+            ChangeFault::WrongKind => Some(Cause::WrongKind),
+            ChangeFault::HandlesSpent => Some(Cause::HandlesSpent),
+            ChangeFault::NoMemory => None,
+        }
+    }
 }
 
 impl From<NoMemory> for ChangeFault {

@@ -1,7 +1,8 @@
-ghost use Rattle.std.specs.Prelude.{◌≡◌, true, false, IfSome, IfOk, IfErr, OnOk};
+ghost use Rattle.std.specs.Prelude.{◌≡◌, None, true, false, IfOk, IfErr, OnOk, OnErr};
 ghost use Rattle.rule_words.specs.Table.{dest_of};
-ghost use Rattle.feature_store.specs.Changes.{HasKind};
-ghost use Rattle.topo_core.specs.RuleSteps.{DestMissing, DestUnfit, DestApart, DoesFit, IsFitFault};
+ghost use Rattle.topology_terms.specs.Causes.{fit_cause, lacks_dest, fits_dest};
+ghost use Rattle.topo_core.specs.Faults.{IsFitFault};
+ghost use Rattle.topo_core.specs.declared.rule_fault.RuleFault.TheVariants as fault;
 
 use crate::rule_fault::RuleFault;
 use feature_store::Store;
@@ -9,10 +10,10 @@ use rule_core::RuleRow;
 
 // Whether the second class serves the rule; or, where the rule takes none, whether none is given.
 fn does_dest_fit(store: &Store, row: &RuleRow) -> Result<bool, RuleFault>
-    ensures fit { IfOk result (λ b. b ≡ true → IfSome (dest_of row.now.kind) (λ k. HasKind store.now.classes row.now.dest.class k) × DestApart row.now (dest_of row.now.kind)) }
-    ensures there { OnOk result (¬ (DestMissing store.now.classes row.now.dest.class (dest_of row.now.kind))) }
-    ensures unfit { IfOk result (λ b. b ≡ false → DestUnfit store.now.classes row.now (dest_of row.now.kind)) }
-    ensures err { IfErr result (IsFitFault store.now.classes row.now) }
+    ensures fit { IfOk result (λ b. b ≡ fits_dest store.now.classes row.now (dest_of row.now.kind)) }
+    ensures there { OnOk result (lacks_dest store.now.classes row.now (dest_of row.now.kind) ≡ false) }
+    ensures missing { OnErr result (lacks_dest store.now.classes row.now (dest_of row.now.kind) ≡ true) }
+    ensures err { IfErr result (λ e. e ≡ fault.NoClass) }
 {
     let Some(kind) = row.kind.dest() else {
         return Ok(row.dest == 0);
@@ -23,7 +24,7 @@ fn does_dest_fit(store: &Store, row: &RuleRow) -> Result<bool, RuleFault>
 
 /// Whether the classes are there and fit the rule.
 pub fn fit(store: &Store, row: &RuleRow) -> Result<(), RuleFault>
-    ensures ok { OnOk result (DoesFit store.now.classes row.now) }
+    ensures ok { OnOk result (fit_cause store.now.classes row.now ≡ None) }
     ensures err { IfErr result (IsFitFault store.now.classes row.now) }
 {
     let origin = store.class_kind(row.origin).ok_or(RuleFault::NoClass)?;

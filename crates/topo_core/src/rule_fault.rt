@@ -1,9 +1,11 @@
 ghost use Rattle.std.specs.Prelude.{◌≡◌};
+ghost use Rattle.topo_core.specs.Faults.{row_cause};
 ghost use Rattle.topo_core.specs.declared.rule_fault.RuleFault.TheVariants as fault;
 
 use grid_plane::NoMemory;
 use std::alloc::AllocError;
 use thiserror::Error;
+use topology_terms::Cause;
 
 /// Why a rule was not added: the first of these that applies.
 #[derive(Debug, Drop, Error)]
@@ -26,6 +28,21 @@ pub enum RuleFault {
     /// Memory ran out.
     #[error("out of memory")]
     NoMemory,
+}
+
+impl RuleFault {
+    /// The cause that is told, and none of out of memory.
+    pub fn cause(&self) -> Option<Cause>
+        ensures { result ≡ row_cause self.now }
+    {
+        match self {
+            RuleFault::NoClass => Some(Cause::NoClass),
+            RuleFault::Unfit => Some(Cause::Unfit),
+            RuleFault::There { .. } => Some(Cause::RuleThere),
+            RuleFault::Full => Some(Cause::RulesFull),
+            RuleFault::NoMemory => None,
+        }
+    }
 }
 
 impl From<NoMemory> for RuleFault {

@@ -1,13 +1,13 @@
-ghost use Rattle.std.specs.Prelude.{◌≡◌, ◌≢◌, ◌≤◌, ◌<◌, ◌==◌, not, true, false, length, None, Some, MatchOption, vec_len, vec_capacity};
+ghost use Rattle.std.specs.Prelude.{◌≡◌, ◌≢◌, ◌≤◌, ◌<◌, ◌==◌, ℕ, not, true, false, length, None, Some, is_some, MatchOption, vec_len, vec_capacity};
 ghost use Rattle.topology_terms.specs.Project.{AreAscending, rule_at};
-ghost use Rattle.topology_terms.specs.Lookups.{least_free};
-ghost use Rattle.topo_core.specs.RuleLists.{lower_from, with_rule, without_rule, IsNowhere};
+ghost use Rattle.topology_terms.specs.Causes.{is_row, is_there};
+ghost use Rattle.topo_core.specs.RuleLists.{lower_from, with_rule, without_rule};
 
 use rule_core::{InForce, RuleRow};
 
 fn is_row(a: &RuleRow, b: &RuleRow) -> bool
+    ensures test { result ≡ is_row a.now b.now }
     ensures same { result ≡ true → a.now ≡ b.now }
-    ensures other { result ≡ false → a.now ≢ b.now }
 {
     a.kind == b.kind && a.origin == b.origin && a.dest == b.dest
 }
@@ -15,7 +15,7 @@ fn is_row(a: &RuleRow, b: &RuleRow) -> bool
 /// The number of the rule in force that has this row.
 pub fn number_of_row(rules: &[InForce], row: &RuleRow) -> Option<u16>
     requires { AreAscending rules.now }
-    ensures { MatchOption result (IsNowhere rules.now row.now) (λ n. rule_at rules.now n ≡ Some row.now) }
+    ensures { MatchOption result (is_there rules.now row.now ≡ false) (λ n. (rule_at rules.now n ≡ Some row.now) × (is_there rules.now row.now ≡ true)) }
 {
     for rule in rules {
         if is_row(&rule.row, row) {
@@ -29,8 +29,9 @@ pub fn number_of_row(rules: &[InForce], row: &RuleRow) -> Option<u16>
 pub fn free_number(rules: &[InForce]) -> u16
     requires few { length rules.now < 256 }
     requires ascending { AreAscending rules.now }
-    ensures least { result ≡ least_free rules.now }
+    ensures from_1 { 1 ≤ result }
     ensures free { rule_at rules.now result ≡ None }
+    ensures least { (k : ℕ) → 1 ≤ k → k < result → rule_at rules.now k ≢ None }
 {
     let mut number = 1;
     for rule in rules {
@@ -68,8 +69,7 @@ pub fn put_rule(rules: &mut Vec<InForce>, rule: InForce)
 /// Whether a rule in force has this number.
 #[tactic(auto, unfolding(topology_terms::specs::Project::rule_at))]
 pub fn has_number(rules: &[InForce], number: u16) -> bool
-    ensures there { result ≡ true → rule_at rules.now number ≢ None }
-    ensures nowhere { result ≡ false → rule_at rules.now number ≡ None }
+    ensures { result ≡ is_some (rule_at rules.now number) }
 {
     for rule in rules {
         if rule.number == number {

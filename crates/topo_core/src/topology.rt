@@ -1,12 +1,16 @@
-ghost use Rattle.std.specs.Prelude.{◌≡◌, ◌≢◌, ◌≤◌, ◌<◌, ◌-◌, length, None, IfSome, IfOk, IfErr, OnOk, OnErr};
-ghost use Rattle.topology_terms.specs.Project.{empty_project, rule_at, IsOrdered};
-ghost use Rattle.topology_terms.specs.Settled.{IsValidatedBy};
-ghost use Rattle.topology_terms.specs.Lookups.{class_number, least_free};
-ghost use Rattle.topology_terms.specs.Changes.{IsRuleAdded, IsRuleDropped};
-ghost use Rattle.topo_core.specs.RuleSteps.{MayAdd, IsRuleRefusal};
+ghost use Rattle.std.specs.Prelude.{◌≡◌, ◌≤◌, ◌<◌, ◌+◌, ◌-◌, length, Some, None, IfSome, IfOk, IfErr, OnOk, OnErr};
+ghost use Rattle.topology_terms.specs.Feature.{feature_at};
+ghost use Rattle.topology_terms.specs.Project.{empty_project, IsOrdered};
+ghost use Rattle.topology_terms.specs.Sound.{IsSoundUnder};
+ghost use Rattle.topology_terms.specs.Settled.{IsSettledUnder, IsValidatedBy};
+ghost use Rattle.topology_terms.specs.Causes.{Tells, class_cause, add_cause, change_cause, delete_cause, rule_cause, drop_cause};
+ghost use Rattle.topology_terms.specs.declared.cause.Cause.TheVariants as cause;
+ghost use Rattle.topology_terms.specs.Changes.{IsClassAdded, IsFeatureAdded, IsFeatureSet, IsRuleAdded, IsRuleDropped, reshaped};
 ghost use Rattle.feature_store.specs.Keeps.{IsOfClass, IsStore};
-ghost use Rattle.topo_core.specs.Topologies.{IsKeptUnder, IsTopology};
-ghost use Rattle.topo_core.specs.Steps.{IsClassMore, IsClassRefusal, IsFeatureMore, IsAddRefusal, IsExchanged, IsChanged, IsChangeRefusal, IsDeleted, IsDeleteRefusal, IsCounted};
+ghost use Rattle.feature_store.specs.Faults.{store_cause};
+ghost use Rattle.topo_core.specs.Faults.{edit_cause, row_cause, IsThereAt};
+ghost use Rattle.topo_core.specs.Topologies.{IsTopology};
+ghost use Rattle.topo_core.specs.Steps.{IsCounted, IsCountWithin};
 
 use crate::fault::ChangeFault;
 use crate::fitting::fit;
@@ -71,7 +75,8 @@ impl<R: KindRules> Topology<R> {
     /// Nothing, judged by these rules; the next handle is 1.
     pub fn new(alloc: Global, judging: R) -> Topology<R>
         ensures empty { result ≡ empty_project }
-        ensures kept { IsKeptUnder R.meaning result }
+        ensures sound { IsSoundUnder R.meaning result }
+        ensures settled { IsSettledUnder R.meaning result }
     {
         Topology {
             alloc,
@@ -101,9 +106,12 @@ impl<R: KindRules> Topology<R> {
     /// Adds a class of this name and kind and answers its number, from 1 up. Refused where the name is taken, then where
     /// there are 64 classes.
     pub fn add_class(&mut self, name: Name, kind: Kind) -> Result<u16, StoreFault>
-        ensures ok { IfOk result (λ n. IsClassMore name kind n self.old self.new) }
-        ensures refused { IfErr result (IsClassRefusal self.old name) }
-        ensures kept { IsKeptUnder R.meaning self.old → IsKeptUnder R.meaning self.new }
+        ensures ok { OnOk result (IsClassAdded name kind self.old self.new) }
+        ensures number { IfOk result (λ n. n ≡ length self.old.classes + 1) }
+        ensures may { OnOk result (class_cause self.old.classes name ≡ None) }
+        ensures refused { IfErr result (λ e. Tells (store_cause e) (class_cause self.old.classes name)) }
+        ensures sound { IsSoundUnder R.meaning self.old → IsSoundUnder R.meaning self.new }
+        ensures settled { IsSettledUnder R.meaning self.old → IsSettledUnder R.meaning self.new }
         ensures ordered { IsOrdered self.new }
         ensures err { OnErr result (self.new ≡ self.old) }
     {
@@ -115,9 +123,11 @@ impl<R: KindRules> Topology<R> {
     /// Adds a feature of the class of this number under the next handle, and answers the handle; its envelope is dirty then.
     /// Refused where there is no such class, then where the kinds differ, then where the next handle is 4,294,967,295.
     pub fn add(&mut self, class: u16, shape: Shape) -> Result<u32, ChangeFault>
-        ensures ok { IfOk result (λ h. IsFeatureMore class shape h self.old self.new) }
-        ensures refused { IfErr result (IsAddRefusal self.old class shape) }
-        ensures kept { IsKeptUnder R.meaning self.old → IsKeptUnder R.meaning self.new }
+        ensures ok { IfOk result (λ h. IsFeatureAdded class shape h self.old self.new) }
+        ensures may { OnOk result (add_cause self.old.classes self.old.next class shape.kind ≡ None) }
+        ensures refused { IfErr result (λ e. Tells (edit_cause e) (add_cause self.old.classes self.old.next class shape.kind)) }
+        ensures sound { IsSoundUnder R.meaning self.old → IsSoundUnder R.meaning self.new }
+        ensures settled { IsSettledUnder R.meaning self.old → IsSettledUnder R.meaning self.new }
         ensures ordered { IsOrdered self.new }
         ensures err { OnErr result (self.new ≡ self.old) }
     {
@@ -135,10 +145,12 @@ impl<R: KindRules> Topology<R> {
     /// Refused where a class is missing, then where the classes do not fit the rule, then where an equal rule is in force, then
     /// where there are 256 rules.
     pub fn add_rule(&mut self, row: RuleRow) -> Result<u16, RuleFault>
-        ensures ok { IfOk result (λ n. (n ≡ least_free self.old.rules) × IsRuleAdded n row self.old self.new) }
-        ensures may { OnOk result (MayAdd self.old row) }
-        ensures refused { IfErr result (IsRuleRefusal self.old row) }
-        ensures kept { IsKeptUnder R.meaning self.old → IsKeptUnder R.meaning self.new }
+        ensures ok { IfOk result (λ n. IsRuleAdded n row self.old self.new) }
+        ensures may { OnOk result (rule_cause self.old row ≡ None) }
+        ensures refused { IfErr result (λ e. Tells (row_cause e) (rule_cause self.old row)) }
+        ensures there { IfErr result (IsThereAt self.old.rules row) }
+        ensures sound { IsSoundUnder R.meaning self.old → IsSoundUnder R.meaning self.new }
+        ensures settled { IsSettledUnder R.meaning self.old → IsSettledUnder R.meaning self.new }
         ensures ordered { IsOrdered self.new }
         ensures err { OnErr result (self.new ≡ self.old) }
     {
@@ -159,9 +171,11 @@ impl<R: KindRules> Topology<R> {
     /// Puts the rule of this number out of force. It goes with its errors, and nothing becomes dirty. Refused where no rule in
     /// force has this number. Takes no memory.
     pub fn drop_rule(&mut self, number: u16) -> Result<(), NoRule>
-        ensures ok { OnOk result ((rule_at self.old.rules number ≢ None) × IsRuleDropped number self.old self.new) }
-        ensures refused { IfErr result (λ _. rule_at self.old.rules number ≡ None) }
-        ensures kept { IsKeptUnder R.meaning self.old → IsKeptUnder R.meaning self.new }
+        ensures ok { OnOk result (IsRuleDropped number self.old self.new) }
+        ensures may { OnOk result (drop_cause self.old.rules number ≡ None) }
+        ensures refused { OnErr result (drop_cause self.old.rules number ≡ Some cause.NoRule) }
+        ensures sound { IsSoundUnder R.meaning self.old → IsSoundUnder R.meaning self.new }
+        ensures settled { IsSettledUnder R.meaning self.old → IsSettledUnder R.meaning self.new }
         ensures ordered { IsOrdered self.new }
         ensures err { OnErr result (self.new ≡ self.old) }
     {
@@ -180,10 +194,12 @@ impl<R: KindRules> Topology<R> {
         requires given { handle < self.old.next }
         requires own { IfSome kept.old (λ f. f.handle ≡ handle) }
         requires fits { IfSome kept.old (IsOfClass self.old.classes) }
-        ensures ok { OnOk result (IsExchanged handle kept.new kept.old self.old self.new) }
+        ensures ok { OnOk result (IsFeatureSet handle kept.old self.old self.new) }
+        ensures stood { OnOk result (kept.new ≡ feature_at self.old.features handle) }
         ensures own { IfSome kept.new (λ f. f.handle ≡ handle) }
         ensures fits { IfSome kept.new (IsOfClass self.new.classes) }
-        ensures kept { IsKeptUnder R.meaning self.old → IsKeptUnder R.meaning self.new }
+        ensures sound { IsSoundUnder R.meaning self.old → IsSoundUnder R.meaning self.new }
+        ensures settled { IsSettledUnder R.meaning self.old → IsSettledUnder R.meaning self.new }
         ensures ordered { IsOrdered self.new }
         ensures err { OnErr result (self.new ≡ self.old) }
         ensures same { OnErr result (kept.new ≡ kept.old) }
@@ -199,9 +215,12 @@ impl<R: KindRules> Topology<R> {
     /// Gives the live feature of this handle another shape, and answers the feature as it was. Both envelopes are dirty then.
     /// Refused where there is no such feature, then where the kinds differ.
     pub fn change(&mut self, handle: u32, shape: Shape) -> Result<Feature, ChangeFault>
-        ensures ok { IfOk result (λ f. IsChanged handle shape f self.old self.new) }
-        ensures refused { IfErr result (IsChangeRefusal self.old handle shape) }
-        ensures kept { IsKeptUnder R.meaning self.old → IsKeptUnder R.meaning self.new }
+        ensures ok { OnOk result (IsFeatureSet handle (reshaped (feature_at self.old.features handle) shape) self.old self.new) }
+        ensures was { IfOk result (λ f. feature_at self.old.features handle ≡ Some f) }
+        ensures may { OnOk result (change_cause self.old.features handle shape.kind ≡ None) }
+        ensures refused { IfErr result (λ e. Tells (edit_cause e) (change_cause self.old.features handle shape.kind)) }
+        ensures sound { IsSoundUnder R.meaning self.old → IsSoundUnder R.meaning self.new }
+        ensures settled { IsSettledUnder R.meaning self.old → IsSettledUnder R.meaning self.new }
         ensures ordered { IsOrdered self.new }
         ensures err { OnErr result (self.new ≡ self.old) }
     {
@@ -220,9 +239,12 @@ impl<R: KindRules> Topology<R> {
     /// Takes the live feature of this handle away, and answers it. Its envelope is dirty then. Refused where there is no such
     /// feature.
     pub fn delete(&mut self, handle: u32) -> Result<Feature, ChangeFault>
-        ensures ok { IfOk result (λ f. IsDeleted handle f self.old self.new) }
-        ensures refused { IfErr result (IsDeleteRefusal self.old handle) }
-        ensures kept { IsKeptUnder R.meaning self.old → IsKeptUnder R.meaning self.new }
+        ensures ok { OnOk result (IsFeatureSet handle None self.old self.new) }
+        ensures was { IfOk result (λ f. feature_at self.old.features handle ≡ Some f) }
+        ensures may { OnOk result (delete_cause self.old.features handle ≡ None) }
+        ensures refused { IfErr result (λ e. Tells (edit_cause e) (delete_cause self.old.features handle)) }
+        ensures sound { IsSoundUnder R.meaning self.old → IsSoundUnder R.meaning self.new }
+        ensures settled { IsSettledUnder R.meaning self.old → IsSettledUnder R.meaning self.new }
         ensures ordered { IsOrdered self.new }
         ensures err { OnErr result (self.new ≡ self.old) }
     {
@@ -239,8 +261,10 @@ impl<R: KindRules> Topology<R> {
     pub fn validate(&mut self, window: Rect, work: &mut Work) -> Result<Summary, NoMemory>
         ensures ok { OnOk result (IsValidatedBy R.meaning window self.old self.new) }
         ensures judged { OnOk result (IsCounted window self.old work.old work.new) }
+        ensures stopped { OnErr result (IsCountWithin window self.old work.old work.new) }
         ensures summary { IfOk result (λ s. (s.judged ≡ work.new - work.old) × (s.errors ≡ length self.new.entries) × (s.dirty ≡ length self.new.dirt)) }
-        ensures kept { IsKeptUnder R.meaning self.old → IsKeptUnder R.meaning self.new }
+        ensures sound { IsSoundUnder R.meaning self.old → IsSoundUnder R.meaning self.new }
+        ensures settled { IsSettledUnder R.meaning self.old → IsSettledUnder R.meaning self.new }
         ensures ordered { IsOrdered self.new }
         ensures err { OnErr result (self.new ≡ self.old) }
     {

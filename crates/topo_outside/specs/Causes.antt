@@ -1,11 +1,8 @@
 -- Faults of the outside, and what is known of its bytes.
-use Rattle.std.specs.Prelude.{◌≡◌, ℕ, ◌+◌, ◌-◌, ◌<◌, ◌≤◌, ◌^◌, List, length, min, OnErr, IfOk, IfErr, Result}
+use Rattle.std.specs.Prelude.{◌≡◌, ℕ, ◌<◌, ◌≤◌, List, length, OnErr, IfOk, IfErr, Result}
+use Rattle.outside_terms.specs.Faults.{Rose}
 use Rattle.topo_outside.specs.declared.fault.SinkFault.{SinkFault}
 use Rattle.topo_outside.specs.declared.fault.SinkFault.TheVariants.{Failed, NoMemory}
-
--- a count of faults rose, or stands at the greatest u64
-abbrev pub Rose : ℕ → ℕ → Type 0
-Rose before now = min (before + 1) (2 ^ 64 - 1) ≤ now
 
 -- the count of faults does not fall, and a refusal comes only where it rose
 pub record ReadCause {T E : Type 0} (before now : ℕ) (result : Result T E) : Type 0 where

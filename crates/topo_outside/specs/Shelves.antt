@@ -7,7 +7,7 @@
 -- SetsHeld old new name bytes      and under this name are these bytes
 -- ShelfCause             the count of faults does not fall, and `Failed` comes only where it rose
 use Rattle.std.specs.Prelude.{◌≡◌, ◌≢◌, ℕ, ◌≤◌, List, Option, None, Some, IfErr, Result}
-use Rattle.topo_outside.specs.Causes.{Rose}
+use Rattle.outside_terms.specs.Faults.{Rose}
 use Rattle.topo_outside.specs.declared.fault.ShelfFault.{ShelfFault}
 use Rattle.topo_outside.specs.declared.fault.ShelfFault.TheVariants.{Failed, NoMemory}
 

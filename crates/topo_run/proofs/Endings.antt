@@ -2,12 +2,13 @@
 use Rattle.std.proofs.Common.{ℕ, ◌≡◌, ◌≤◌, ◌<◌, Bool, true, false, List, ◌++◌, Option, None, Some, length, inl, inr, refl, sym, ◌∙◌, ap, subst, arith, append-nil, length-append}
 use Rattle.std.specs.Io.KnownBytes.{Consumes, IsAtEnd}
 use Rattle.text_terms.specs.Lines.{lines_of}
-use Rattle.topo_run.specs.Reads.{Passage, Read, is_at_end, script_limit}
-use Rattle.topo_run.specs.Ends.{WritesAll, EndsAs, IsComplete, WritesWhole, code_of, status_of}
-use Rattle.topo_run.specs.declared.read.End.{End}
-use Rattle.topo_run.specs.declared.read.End.TheVariants.{AtEnd, Failed, TooLong}
-use Rattle.topo_run.specs.declared.status.Status.{Status}
-use Rattle.topo_run.specs.declared.status.Status.TheVariants as status
+use Rattle.outside_terms.specs.Reads.{Passage, Read, is_at_end, script_limit}
+use Rattle.outside_terms.specs.Statuses.{code_of, status_of}
+use Rattle.script_terms.specs.Ends.{WritesAll, EndsAs, IsComplete, WritesWhole}
+use Rattle.outside_terms.specs.declared.end.End.{End}
+use Rattle.outside_terms.specs.declared.end.End.TheVariants.{AtEnd, Failed, TooLong}
+use Rattle.outside_terms.specs.declared.status.Status.{Status}
+use Rattle.outside_terms.specs.declared.status.Status.TheVariants as status
 
 pub all_answered : (s k : Passage) (kept : List ℕ) (end : End) (refused : Bool) → Read s kept end → WritesAll k (lines_of (is_at_end end) kept) refused → EndsAs s k (status_of end refused)
 all_answered s k kept AtEnd true read written = (kept, read, written)

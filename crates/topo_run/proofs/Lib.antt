@@ -3,3 +3,4 @@ pub mod Runs
 pub mod Stepping
 pub mod Texts
 pub mod Words
+pub mod OneRun

@@ -8,8 +8,8 @@ use Rattle.std.specs.Prelude.{Result, Ok, Err, OnErr}
 use Rattle.std.specs.Io.KnownBytes.{Appends}
 use Rattle.std.proofs.KnownBytes.{Appends-nil, Appends-trans}
 use Rattle.script_terms.specs.State.{State, empty_state}
-use Rattle.script_terms.specs.Run.{Outcome, Step, Run, text_of, any_refused, last_state, EachHeadline, WritesRun, WritesPrefix}
-use Rattle.script_terms.specs.Headline.{Headline}
+use Rattle.script_terms.specs.Run.{Outcome, Step, Run, text_of, any_refused, last_state, EachInvariant, WritesRun, WritesPrefix}
+use Rattle.script_terms.specs.Headline.{Invariant}
 use Rattle.topo_run.proofs.Stepping.{Takes}
 
 pub record SoFar (start : State) (all rest : List (List ℕ)) (now : State) (before written : Option (List ℕ)) (pending : List ℕ) (refused : Bool) : Type 0 where
@@ -22,7 +22,7 @@ pub record SoFar (start : State) (all rest : List (List ℕ)) (now : State) (bef
   pub text : text_of outcomes ≡ front ++ pending
   pub appended : Appends before written front
   pub any : any_refused outcomes ≡ refused
-  pub headline : EachHeadline start outcomes
+  pub invariant : EachInvariant start outcomes
 
 run_snoc : (s : State) (lines : List (List ℕ)) (os : List Outcome) (line : List ℕ) (o : Outcome) → Run s lines os → Step (last_state s os) line o → Run s (lines ++ line ∷ []) (os ++ o ∷ [])
 run_snoc s [] [] line o run step = (step, tt)
@@ -42,17 +42,17 @@ any_snoc : (os : List Outcome) (o : Outcome) → any_refused (os ++ o ∷ []) �
 any_snoc [] o = search rules
 any_snoc (p ∷ os) o = grind (arith, any_snoc os o)
 
-headline_snoc : (s : State) (os : List Outcome) (o : Outcome) → EachHeadline s os → Headline o.after.project → EachHeadline s (os ++ o ∷ [])
-headline_snoc s [] o h k = (h, k)
-headline_snoc s (p ∷ os) o h k = (h.0, headline_snoc p.after os o h.1 k)
+invariant_snoc : (s : State) (os : List Outcome) (o : Outcome) → EachInvariant s os → Invariant o.after.project → EachInvariant s (os ++ o ∷ [])
+invariant_snoc s [] o h k = (h, k)
+invariant_snoc s (p ∷ os) o h k = (h.0, invariant_snoc p.after os o h.1 k)
 
-pub begins : (start : State) (all : List (List ℕ)) (before : Option (List ℕ)) → Headline start.project → SoFar start all all start before before [] false
-begins start all before headline = record { done = []; split = refl; outcomes = []; run = tt; last = refl; front = []; text = refl; appended = Appends-nil before; any = refl; headline = headline }
+pub begins : (start : State) (all : List (List ℕ)) (before : Option (List ℕ)) → Invariant start.project → SoFar start all all start before before [] false
+begins start all before invariant = record { done = []; split = refl; outcomes = []; run = tt; last = refl; front = []; text = refl; appended = Appends-nil before; any = refl; invariant = invariant }
 
 -- a line was answered, and its reply is pending
 pub goes_on : {start now : State} {all : List (List ℕ)} {line : List ℕ} {rest : List (List ℕ)} {before written : Option (List ℕ)} {pending more : List ℕ} {refused : Bool} {o : Outcome} →
-    SoFar start all (line ∷ rest) now before written pending refused → Step now line o → Headline o.after.project → more ≡ pending ++ o.text → SoFar start all rest o.after before written more (refused || o.refused)
-goes_on {start} {now} {all} {line} {rest} {before} {written} {pending} {more} {refused} {o} far step headline grown = record {
+    SoFar start all (line ∷ rest) now before written pending refused → Step now line o → Invariant o.after.project → more ≡ pending ++ o.text → SoFar start all rest o.after before written more (refused || o.refused)
+goes_on {start} {now} {all} {line} {rest} {before} {written} {pending} {more} {refused} {o} far step invariant grown = record {
   done = far.done ++ line ∷ [];
   split = far.split ∙ sym (append_assoc far.done (line ∷ []) rest);
   outcomes = far.outcomes ++ o ∷ [];
@@ -62,7 +62,7 @@ goes_on {start} {now} {all} {line} {rest} {before} {written} {pending} {more} {r
   text = text_snoc far.outcomes o ∙ (ap (λ t. t ++ o.text) far.text ∙ (append_assoc far.front pending o.text ∙ ap (λ t. far.front ++ t) (sym grown)));
   appended = far.appended;
   any = rw (any_snoc far.outcomes o, far.any) refl;
-  headline = headline_snoc start far.outcomes o far.headline headline;
+  invariant = invariant_snoc start far.outcomes o far.invariant invariant;
 }
 
 -- the first of what was pending was written, and this is pending still
@@ -78,7 +78,7 @@ flushed {start} {now} {all} {rest} {before} {written} {mid} {pending} {left} {re
   text = far.text ∙ (ap (λ t. far.front ++ t) split ∙ sym (append_assoc far.front part left));
   appended = Appends-trans before written mid far.front part far.appended more;
   any = far.any;
-  headline = far.headline;
+  invariant = far.invariant;
 }
 
 -- the same for a line and a reply as the calls tell them
@@ -95,7 +95,7 @@ ends {now} {all} {lines} {before} {written} {after} {pending} {bytes} {refused} 
   run = rw (far.split, none, append-nil far.done) far.run;
   written = rw far.text (Appends-trans before written after far.front pending far.appended (subst (λ (t : List ℕ). Appends written after t) same more));
   any = far.any;
-  headline = far.headline;
+  invariant = far.invariant;
 }
 
 -- what was written so far is a prefix
@@ -108,7 +108,7 @@ stops {now} {all} {rest} {before} {written} {pending} {refused} far = record {
   text = far.front;
   is_prefix = (pending, far.text);
   written = far.appended;
-  headline = far.headline;
+  invariant = far.invariant;
 }
 
 -- what holds anyway

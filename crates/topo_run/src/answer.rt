@@ -1,6 +1,6 @@
 ghost use Rattle.std.specs.Prelude.{◌≡◌, ◌++◌, List, ℕ, IfOk};
 ghost use Rattle.topology_terms.specs.Project.{Project};
-ghost use Rattle.script_terms.specs.Headline.{Headline};
+ghost use Rattle.script_terms.specs.Headline.{Invariant};
 ghost use Rattle.script_terms.specs.Run.{Step};
 ghost use Rattle.script_terms.specs.Run as run;
 ghost use Rattle.reply_text.specs.Replies.{said_of};
@@ -26,7 +26,7 @@ pub fn answer_line(
     out: &mut Vec<u8>,
 ) -> Result<bool, NoMemory>
     ensures { IfOk result (λ refused. (text : List ℕ) × (out.new.items ≡ out.old.items ++ text)
-        × Step world.old line.now (record { text = text; after = world.new; refused = refused }) × Headline world.new.project) }
+        × Step world.old line.now (record { text = text; after = world.new; refused = refused }) × Invariant world.new.project) }
 {
     world.headline_law();
     match read_line(alloc, line) {

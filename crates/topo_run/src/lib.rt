@@ -2,6 +2,7 @@
 #![tactic(auto)]
 
 mod answer;
+mod law;
 mod lines;
 mod program;
 mod read;
@@ -9,4 +10,5 @@ mod replay;
 mod status;
 mod write;
 
+pub use law::one_run_law;
 pub use program::{USAGE, run};

@@ -1,10 +1,12 @@
 ghost use Rattle.std.specs.Prelude.{◌≡◌, ◌≤◌, ◌↔◌, IsTrue, string_bytes};
-ghost use Rattle.topo_run.specs.Ends.{EndsAs, EndsAsUsage, IsComplete, IsReplay, code_of};
-ghost use Rattle.topo_run.specs.declared.status.Status.{Status};
+ghost use Rattle.outside_terms.specs.Statuses.{code_of};
+ghost use Rattle.outside_terms.specs.declared.status.Status.{Status};
+ghost use Rattle.script_terms.specs.Ends.{EndsAs, EndsAsUsage, IsComplete, IsReplay};
 
 use crate::replay::replay;
-use crate::status::{Status, code_of};
+use crate::status::code_of;
 use crate::write::write_all;
+use outside_terms::Status;
 use std::alloc::Global;
 use topo_outside::{Shelf, Sink, SinkFault, Source};
 
@@ -26,7 +28,7 @@ pub const USAGE: &str =
     "usage: topo replay [PROJECT [TARGET]] | check PROJECT | report PROJECT | town SEED N\n";
 
 fn say_usage<K: Sink>(sink: &mut K) -> Status
-    ensures usage { EndsAsUsage (record { old = K.written sink.old; new = K.written sink.new; before = K.faults sink.old; now = K.faults sink.new }) USAGE.now result }
+    ensures usage { EndsAsUsage (record { old = K.written sink.old; new = K.written sink.new; before = K.faults sink.old; now = K.faults sink.new }) result }
     ensures later { K.faults sink.old ≤ K.faults sink.new }
 {
     match write_all(sink, USAGE.as_bytes()) {
@@ -42,7 +44,7 @@ fn say_usage<K: Sink>(sink: &mut K) -> Status
 /// topology and writes the replies to `sink`; other words have the usage line written. The shelf is not touched yet.
 ///
 /// The clause `replay` says of each status what was read and written: the replies of a run over the lines read, in every state of
-/// which the headline holds. The clause `complete` says that with no fault counted nothing but want of memory stands between
+/// which the topology is sound and settled, the headline holds, and with no dirt the errors are those of a validation from scratch. The clause `complete` says that with no fault counted nothing but want of memory stands between
 /// a script and its replies.
 pub fn run<S: Source, K: Sink, H: Shelf>(
     alloc: Global,
@@ -60,7 +62,7 @@ pub fn run<S: Source, K: Sink, H: Shelf>(
         (record { old = K.written sink.old; new = K.written sink.new; before = K.faults sink.old; now = K.faults sink.new })
         result }
     ensures usage { ¬ (IsReplay words.now.items) → (s : Status) × (result ≡ code_of s) × EndsAsUsage
-        (record { old = K.written sink.old; new = K.written sink.new; before = K.faults sink.old; now = K.faults sink.new }) USAGE.now s }
+        (record { old = K.written sink.old; new = K.written sink.new; before = K.faults sink.old; now = K.faults sink.new }) s }
     ensures unread { ¬ (IsReplay words.now.items) → source.new ≡ source.old }
     ensures counts { (S.faults source.old ≤ S.faults source.new) × (K.faults sink.old ≤ K.faults sink.new) }
     ensures shelf { shelf.new ≡ shelf.old }

@@ -1,19 +1,9 @@
 ghost use Rattle.std.specs.Prelude.{◌≡◌, ◌≤◌, length, IfOk};
-ghost use Rattle.topo_run.specs.Reads.{Read};
+ghost use Rattle.outside_terms.specs.Reads.{Read};
 
+use outside_terms::End;
 use std::alloc::{AllocError, Global};
 use topo_outside::Source;
-
-/// How the reading of a script ended.
-#[derive(Clone, Copy)]
-pub enum End {
-    /// The source was read to its end.
-    AtEnd,
-    /// A read failed.
-    Failed,
-    /// The source gave more bytes than a script may have.
-    TooLong,
-}
 
 /// The bytes of a script, at most as many as it may have, and how its reading ended.
 #[derive(Drop)]

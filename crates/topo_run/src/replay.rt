@@ -3,18 +3,19 @@ ghost use Rattle.std.specs.Io.KnownBytes.{Appends};
 ghost use Rattle.text_terms.specs.Lines.{lines_of};
 ghost use Rattle.script_terms.specs.State.{empty_state};
 ghost use Rattle.script_terms.specs.Run.{IsPrefix, WritesRun, WritesPrefix};
-ghost use Rattle.topo_outside.specs.Causes.{Rose};
-ghost use Rattle.topo_run.specs.Ends.{EndsAs};
+ghost use Rattle.outside_terms.specs.Faults.{Rose};
+ghost use Rattle.script_terms.specs.Ends.{EndsAs};
 ghost use Rattle.topo_run.specs.Stops.{stop_of};
 ghost use Rattle.topo_run.specs.declared.replay.Stop.TheVariants as stop;
 
 use crate::answer::answer_line;
 use crate::lines::split_line;
 use crate::read::read_script;
-use crate::status::{Status, is_at_end, status_of};
+use crate::status::{is_at_end, status_of};
 use crate::write::write_all;
 use command_answers::World;
 use grid_plane::NoMemory;
+use outside_terms::Status;
 use std::alloc::Global;
 use topo_outside::{Sink, SinkFault, Source};
 

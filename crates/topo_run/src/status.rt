@@ -1,27 +1,8 @@
 ghost use Rattle.std.specs.Prelude.{◌≡◌};
-ghost use Rattle.topo_run.specs.Reads.{is_at_end};
-ghost use Rattle.topo_run.specs.Ends.{code_of, status_of};
+ghost use Rattle.outside_terms.specs.Reads.{is_at_end};
+ghost use Rattle.outside_terms.specs.Statuses.{code_of, status_of};
 
-use crate::read::End;
-
-/// How the program ends.
-#[derive(Clone, Copy)]
-pub enum Status {
-    /// All lines were answered, none was refused.
-    Done,
-    /// All lines were answered, at least one was refused.
-    Refused,
-    /// The words are none that the program knows.
-    Usage,
-    /// A read failed.
-    ReadFault,
-    /// A write failed, or took nothing.
-    WriteFault,
-    /// Want of memory.
-    NoMemory,
-    /// The source gave more than a script may have.
-    TooLong,
-}
+use outside_terms::{End, Status};
 
 /// Whether the script was read to its end.
 pub fn is_at_end(end: End) -> bool

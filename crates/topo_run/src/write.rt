@@ -1,7 +1,7 @@
 ghost use Rattle.std.specs.Prelude.{◌≡◌, ◌≤◌, ◌++◌, List, ℕ, OnOk, OnErr, IsErrOf};
 ghost use Rattle.std.specs.Io.KnownBytes.{Appends};
 ghost use Rattle.script_terms.specs.Run.{IsPrefix};
-ghost use Rattle.topo_outside.specs.Causes.{Rose};
+ghost use Rattle.outside_terms.specs.Faults.{Rose};
 
 use topo_outside::{Sink, SinkFault};
 

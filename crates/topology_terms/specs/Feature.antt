@@ -13,13 +13,13 @@
 -- IsAscending F      each handle is above those before
 --
 -- Source: feature classes of a geodatabase (Esri); feature_at and the lists own.
-use Rattle.std.specs.Prelude.{Bool, ◌≡◌, ◌≢◌, ℕ, ◌==◌, ◌<◌, List, [], ◌∷◌, Option, Some, None, if◌then◌else◌}
-use Rattle.plane_terms.specs.Lists.{Every}
+use Rattle.std.specs.Prelude.{Bool, ◌≡◌, ◌≢◌, ℕ, ◌==◌, List, Option, Some}
 use Rattle.plane_terms.specs.Point.{Place}
 use Rattle.plane_terms.specs.Rectangle.{Rectangle}
 use Rattle.plane_terms.specs.Segment.{Segment}
 use Rattle.plane_terms.specs.Shape.{Shape, segments_of, place_of, envelope_of}
 use Rattle.plane_terms.specs.declared.kind.Kind.{Kind}
+use Rattle.topology_terms.specs.Keyed.{Keyed, numbered, item_at, IsAscendingBy}
 
 pub record Class : Type 0 where
   pub name : List ℕ
@@ -33,9 +33,11 @@ pub record Feature : Type 0 where
 pub record Side : Type 0 where
   pub class : ℕ
 
+abbrev pub by_handle : Keyed Feature ℕ
+by_handle = numbered (λ (f : Feature). f.handle)
+
 unfoldable pub feature_at : List Feature → ℕ → Option Feature
-feature_at [] h = None
-feature_at (f ∷ fs) h = if f.handle == h then Some f else feature_at fs h
+feature_at F h = item_at by_handle F h
 
 pub record IsOnSide (A : Side) (f : Feature) : Type 0 where
   pub class : f.class ≡ A.class
@@ -70,5 +72,4 @@ pub record IsSetAt (h : ℕ) (after : Option Feature) (F G : List Feature) : Typ
 
 -- each handle is above those before
 abbrev pub IsAscending : List Feature → Type 0
-IsAscending [] = Unit {0}
-IsAscending (f ∷ fs) = Every (λ g. f.handle < g.handle) fs × IsAscending fs
+IsAscending F = IsAscendingBy by_handle F

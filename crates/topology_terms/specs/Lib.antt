@@ -1,3 +1,4 @@
+pub mod Keyed
 pub mod Feature
 pub mod Together
 pub mod Crossings
@@ -12,7 +13,10 @@ pub mod Poster
 pub mod Entry
 pub mod Project
 pub mod Lookups
+pub mod Causes
 pub mod Sound
 pub mod Changes
 pub mod Settled
+pub mod Scratch
+pub mod Counts
 pub mod Session

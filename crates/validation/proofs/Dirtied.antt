@@ -10,8 +10,7 @@ use Rattle.std.proofs.lemmas.List.Sorted.{All-permutation, IsPermutation-map, Is
 use Rattle.plane_terms.specs.Lists.{Every, SomeOf}
 use Rattle.plane_terms.specs.Point.{Point}
 use Rattle.plane_terms.specs.Rectangle.{Rectangle, IsRectangle, RectHolds, RectsMeet, rects_meet}
-use Rattle.plane_terms.specs.Dirt.{Covers, MeetsDirt}
-use Rattle.dirty_area.specs.Parts.{MeetsPart}
+use Rattle.plane_terms.specs.Dirt.{Covers, MeetsDirt, MeetsPart}
 use Rattle.dirty_area.proofs.Calls.{meets_dirt}
 use Rattle.validation_laws.specs.Picked.{ArePicked}
 use Rattle.validation.specs.Index.{envs_of, meets_spot}

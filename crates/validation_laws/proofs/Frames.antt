@@ -1,47 +1,19 @@
 -- Findings that are right have frames, and the frame of a list of cells is joined from those of its cells.
 use Rattle.std.proofs.Common.{◌≡◌, inl, inr, ℕ, ◌<◌, true, false, arith, List, [], ◌∷◌, ◌++◌, Some, ◌∙◌, refl}
-use Rattle.std.specs.Prelude.{◌==◌}
-use Rattle.std.proofs.lemmas.Bool.Decides.{nat_tests, eqb_tells}
 use Rattle.std.proofs.lemmas.Int.{ints, clamps}
 use Rattle.plane_terms.specs.Lists.{Every}
+use Rattle.plane_terms.proofs.ListLemmas.{SomeOf-append_left, SomeOf-append_right}
 use Rattle.plane_terms.specs.Point.{Point}
 use Rattle.plane_terms.specs.Rectangle.{Rectangle, RectHolds, IsWithin, IsRectangle, whole_grid, join_of}
 use Rattle.plane_terms.specs.Cell.{Cell, InCell, InCells, IsLeastFrame}
 use Rattle.topology_terms.specs.Feature.{Feature, feature_at, env, IsAscending}
 use Rattle.topology_terms.specs.Broken.{Row}
-use Rattle.topology_terms.specs.Meaning.{Meaning, Laws, CutsRight, Finding, finding_at}
+use Rattle.topology_terms.specs.Meaning.{Meaning, Laws, CutsRight, Finding, by_partner, finding_at}
+use Rattle.sound_laws.proofs.Keyed.{numbers, each_found}
 use Rattle.sound_laws.proofs.Planes.{within_Holds}
 use Rattle.validation_laws.specs.Parts.{AreInOrder}
 use Rattle.validation_laws.specs.Framed.{IsFramable}
 use Rattle.validation_laws.proofs.Viewed.{in_envelope}
-
--- ---- findings by partner
-own_other : (x : Finding) (xs : List Finding) → finding_at (x ∷ xs) x.other ≡ Some x
-unfolding finding_at
-own_other x xs = let t : (x.other == x.other) ≡ true = same x.other in rw t refl
-  where
-    same : (n : ℕ) → (n == n) ≡ true
-    same n = grind (arith, nat_tests)
-
-past_other : (x : Finding) (xs : List Finding) (b : ℕ) → (x.other == b) ≡ false → finding_at (x ∷ xs) b ≡ finding_at xs b
-unfolding finding_at
-past_other x xs b t = rw t refl
-
-found_later : (m : ℕ) (xs : List Finding) (b : ℕ) (y : Finding) → Every (λ (x : Finding). m < x.other) xs → finding_at xs b ≡ Some y → m < b
-unfolding finding_at
-found_later m [] b y u k = cc
-found_later m (x ∷ xs) b y u k = elim (eqb_tells x.other b) [
-  | inl t ↦ let e = t.1 in let l = u.0 in omega arith
-  | inr t ↦ found_later m xs b y u.1 (rw t.0 at k)
-]
-
--- what holds of each that is found holds of all
-pub each_found : (P : Finding → Type 0) (xs : List Finding) → AreInOrder xs → ((b : ℕ) (x : Finding) → finding_at xs b ≡ Some x → P x) → Every P xs
-each_found P [] u h = tt
-each_found P (x ∷ xs) u h = (h x.other x (own_other x xs), each_found P xs u.1 (λ b y k. h b y (past_other x xs b (apart x.other b (found_later x.other xs b y u.0 k)) ∙ k)))
-  where
-    apart : (m n : ℕ) → m < n → (m == n) ≡ false
-    apart m n l = grind (arith, nat_tests)
 
 -- ---- on the grid
 every_cell : (Q : Point → Type 0) (cs : List Cell) → ((p : Point) → InCells cs p → Q p) → Every (λ (c : Cell). (p : Point) → InCell c p → Q p) cs
@@ -50,9 +22,10 @@ every_cell Q (c ∷ cs) h = ((λ p k. h p (inl k)), every_cell Q cs (λ p k. h p
 
 pub framable : (M : Meaning) → Laws M → CutsRight M → (row : Row) (F : List Feature) (a : ℕ) (f : Feature) (xs : List Finding)
     → IsAscending F → M.Fits row F → feature_at F a ≡ Some f → IsRectangle (env f) → M.IsCutting row F a xs → AreInOrder xs → Every IsFramable xs
+unfolding finding_at
 framable M L C row F a f xs u fits e r cut order =
     let right = C.right row F a f u fits e xs cut in
-    each_found IsFramable xs order (λ b x k. record {
+    each_found by_partner (numbers (λ (x : Finding). x.other)) IsFramable xs order (λ b x k. record {
       some = right.some b x k;
       points = right.have_points b x k;
       on_grid = λ w. every_cell (λ p. RectHolds whole_grid p) x.cells (λ p c. within_Holds (env f) whole_grid r.on_grid p (in_envelope M L row F a b f p fits e ((right.points b x k w p).0 c)));
@@ -72,16 +45,8 @@ in_either : (cs ds : List Cell) (p : Point) → InCells (cs ++ ds) p → (P : Ty
 in_either [] ds p h P f g = g h
 in_either (c ∷ cs) ds p h P f g = elim h [ inl k ↦ f (inl k) | inr k ↦ in_either cs ds p k P (λ m. f (inr m)) g ]
 
-in_first : (cs ds : List Cell) (p : Point) → InCells cs p → InCells (cs ++ ds) p
-in_first [] ds p h = absurd h
-in_first (c ∷ cs) ds p h = elim h [ inl k ↦ inl k | inr k ↦ inr (in_first cs ds p k) ]
-
-in_second : (cs ds : List Cell) (p : Point) → InCells ds p → InCells (cs ++ ds) p
-in_second [] ds p h = h
-in_second (c ∷ cs) ds p h = inr (in_second cs ds p h)
-
 pub frame_joined : (r s : Rectangle) (cs ds : List Cell) → IsLeastFrame r cs → IsLeastFrame s ds → IsLeastFrame (join_of r s) (cs ++ ds)
 frame_joined r s cs ds h k = record {
   holds = λ p c. in_either cs ds p c (RectHolds (join_of r s) p) (λ m. within_Holds r (join_of r s) (within_join_left r s) p (h.holds p m)) (λ m. within_Holds s (join_of r s) (within_join_right r s) p (k.holds p m));
-  least = λ t each. join_within r s t (h.least t (λ p c. each p (in_first cs ds p c))) (k.least t (λ p c. each p (in_second cs ds p c)));
+  least = λ t each. join_within r s t (h.least t (λ p c. each p (SomeOf-append_left (λ (c : Cell). InCell c p) cs ds c))) (k.least t (λ p c. each p (SomeOf-append_right (λ (c : Cell). InCell c p) cs ds c)));
 }

@@ -3,14 +3,12 @@ use Rattle.std.proofs.Common.{◌≡◌, ◌≢◌, ◌⊎◌, inl, inr, ℕ, �
 use Rattle.std.specs.List.Sorted.{IsStrictlyIncreasing}
 use Rattle.std.proofs.lemmas.List.Kept.{AllPairs-from_increasing}
 use Rattle.plane_terms.specs.Lists.{Every, SomeOf}
+use Rattle.sound_laws.proofs.Edits.{same_or_not}
 use Rattle.validation_laws.specs.Parts.{IsRising}
 
 -- the number is among them
 abbrev pub IsAmong : ℕ → List ℕ → Type 0
 IsAmong a ns = SomeOf (λ (n : ℕ). a ≡ n) ns
-
-same_or_not : (m n : ℕ) → (m ≡ n) ⊎ (m ≢ n)
-same_or_not m n = grind arith
 
 pub among_or_not : (a : ℕ) (ns : List ℕ) → IsAmong a ns ⊎ ¬ (IsAmong a ns)
 among_or_not a [] = inr (λ h. h)

@@ -3,15 +3,18 @@ use Rattle.std.proofs.Common.{◌≡◌, ◌⊎◌, inl, inr, ℕ, ◌<◌, Bool
 use Rattle.std.specs.Prelude.{◌==◌}
 use Rattle.std.proofs.lemmas.Bool.Decides.{nat_tests, eqb_tells}
 use Rattle.plane_terms.specs.Lists.{Every, SomeOf, Paired}
+use Rattle.plane_terms.proofs.ListLemmas.{every_append, every_map}
 use Rattle.topology_terms.specs.Feature.{Feature, feature_at}
 use Rattle.topology_terms.specs.Broken.{Row}
 use Rattle.topology_terms.specs.Meaning.{Meaning, Finding, finding_at}
-use Rattle.topology_terms.specs.Entry.{Entry, entry_at, has_key, IsKeyBelow, IsAscending}
+use Rattle.topology_terms.specs.Entry.{Entry, by_key, entry_at, has_key, IsKeyBelow, IsAscending}
 use Rattle.topology_terms.specs.Project.{InForce, rule_at, AreAscending}
 use Rattle.topology_terms.specs.Settled.{IsEntryOf, AreAlike, AreOf}
+use Rattle.sound_laws.proofs.Keyed.{ascending_append}
+use Rattle.sound_laws.proofs.Lists.{keys, Lacks, none_at, past_front, before_back}
 use Rattle.validation_laws.specs.Parts.{IsRising, AreInOrder, IsJoined, IsNewEntry, IsSubjectPart, IsJudging}
 use Rattle.validation_laws.specs.Replaced.{IsNewOf, AreFresh}
-use Rattle.validation_laws.proofs.Joining.{every_joined, every_mapped, Lacks, of_other_rule, of_other_subject, none_at, past_first, before_second, ascending_joined}
+use Rattle.validation_laws.proofs.Joining.{of_other_rule, of_other_subject}
 use Rattle.validation_laws.proofs.Handles.{IsAmong, below_each, contained}
 
 pub given_or_none : {A : Type 0} (o : Option A) → ((x : A) × (o ≡ Some x)) ⊎ (o ≡ None)
@@ -81,16 +84,16 @@ module _ (M : Meaning) (F : List Feature) (r : ℕ) (row : Row) where
   rule_of : (selected : List ℕ) (es : List Entry) → IsJoined (IsSubjectPart M F r row) selected es → Every (OfRule r selected) es
   rule_of [] es h = rw h tt
   rule_of (a ∷ selected) es h =
-      rw h.1.1.0 (every_joined (OfRule r (a ∷ selected)) h.0 h.1.0
-      (every_mapped (OfSubject r a) (OfRule r (a ∷ selected)) (λ e k. (k.0, inl k.1, k.2)) h.0 (subject_of M F r row a h.0 h.1.1.1))
-      (every_mapped (OfRule r selected) (OfRule r (a ∷ selected)) (λ e k. (k.0, inr k.1, k.2)) h.1.0 (rule_of selected h.1.0 h.1.1.2)))
+      rw h.1.1.0 (every_append (OfRule r (a ∷ selected)) h.0 h.1.0
+      (every_map (OfSubject r a) (OfRule r (a ∷ selected)) (λ e k. (k.0, inl k.1, k.2)) h.0 (subject_of M F r row a h.0 h.1.1.1))
+      (every_map (OfRule r selected) (OfRule r (a ∷ selected)) (λ e k. (k.0, inr k.1, k.2)) h.1.0 (rule_of selected h.1.0 h.1.1.2)))
 
   rule_ascends : (selected : List ℕ) (es : List Entry) → IsRising selected → IsJoined (IsSubjectPart M F r row) selected es → IsAscending es
   rule_ascends [] es u h = rw h tt
   rule_ascends (a ∷ selected) es u h =
-      rw h.1.1.0 (ascending_joined h.0 h.1.0 (subject_ascends M F r row a h.0 h.1.1.1) (rule_ascends selected h.1.0 u.1 h.1.1.2)
-      (every_mapped (OfSubject r a) (λ e. Every (IsKeyBelow e) h.1.0)
-      (λ e k. every_mapped (OfRule r selected) (IsKeyBelow e) (λ d m. below e d (k.0 ∙ sym m.0) k.1 (below_each a d.subject selected u.0 m.1)) h.1.0 (rule_of selected h.1.0 h.1.1.2))
+      rw h.1.1.0 (ascending_append by_key keys h.0 h.1.0 (subject_ascends M F r row a h.0 h.1.1.1) (rule_ascends selected h.1.0 u.1 h.1.1.2)
+      (every_map (OfSubject r a) (λ e. Every (IsKeyBelow e) h.1.0)
+      (λ e k. every_map (OfRule r selected) (IsKeyBelow e) (λ d m. below e d (k.0 ∙ sym m.0) k.1 (below_each a d.subject selected u.0 m.1)) h.1.0 (rule_of selected h.1.0 h.1.1.2))
       h.0 (subject_of M F r row a h.0 h.1.1.1)))
     where
       below : (e d : Entry) → e.rule ≡ d.rule → e.subject ≡ a → a < d.subject → IsKeyBelow e d
@@ -104,7 +107,7 @@ module _ (M : Meaning) (F : List Feature) (r : ℕ) (row : Row) where
     | inl e ↦ (
       h.0,
       rw e h.1.1.1,
-      λ b. rw h.1.1.0 (before_second h.0 h.1.0 r a b (every_mapped (OfRule r selected) (Lacks r a b)
+      λ b. rw h.1.1.0 (before_back h.0 h.1.0 r a b (every_map (OfRule r selected) (Lacks r a b)
           (λ d k. of_other_subject r a b d (λ q. let y = below_each x d.subject selected u.0 k.1 in omega arith)) h.1.0 (rule_of selected h.1.0 h.1.1.2))),
     )
     | inr m ↦
@@ -112,7 +115,7 @@ module _ (M : Meaning) (F : List Feature) (r : ℕ) (row : Row) where
         let y = below_each x a selected u.0 m in (
           k.0,
           k.1,
-          λ b. rw h.1.1.0 (past_first h.0 h.1.0 r a b (every_mapped (OfSubject r x) (Lacks r a b)
+          λ b. rw h.1.1.0 (past_front h.0 h.1.0 r a b (every_map (OfSubject r x) (Lacks r a b)
               (λ d j. of_other_subject r a b d (λ q. let z = j.1 in omega arith)) h.0 (subject_of M F r row x h.0 h.1.1.1)) ∙ k.2 b),
         )
   ]
@@ -148,17 +151,17 @@ module _ (M : Meaning) (F : List Feature) (selected : List ℕ) where
   rules_of : (rules : List InForce) (es : List Entry) → IsJudging M F rules selected es → Every (OfRules rules selected) es
   rules_of [] es h = rw h tt
   rules_of (q ∷ rules) es h =
-      rw h.1.1.0 (every_joined (OfRules (q ∷ rules) selected) h.0 h.1.0
-      (every_mapped (OfRule q.number selected) (OfRules (q ∷ rules) selected) (λ e k. (inl k.0, k.1, k.2)) h.0 (rule_of M F q.number q.row selected h.0 h.1.1.1))
-      (every_mapped (OfRules rules selected) (OfRules (q ∷ rules) selected) (λ e k. (inr k.0, k.1, k.2)) h.1.0 (rules_of rules h.1.0 h.1.1.2)))
+      rw h.1.1.0 (every_append (OfRules (q ∷ rules) selected) h.0 h.1.0
+      (every_map (OfRule q.number selected) (OfRules (q ∷ rules) selected) (λ e k. (inl k.0, k.1, k.2)) h.0 (rule_of M F q.number q.row selected h.0 h.1.1.1))
+      (every_map (OfRules rules selected) (OfRules (q ∷ rules) selected) (λ e k. (inr k.0, k.1, k.2)) h.1.0 (rules_of rules h.1.0 h.1.1.2)))
 
   -- the new entries ascend by key
   pub judging_ascends : (rules : List InForce) (es : List Entry) → AreAscending rules → IsRising selected → IsJudging M F rules selected es → IsAscending es
   judging_ascends [] es v u h = rw h tt
   judging_ascends (q ∷ rules) es v u h =
-      rw h.1.1.0 (ascending_joined h.0 h.1.0 (rule_ascends M F q.number q.row selected h.0 u h.1.1.1) (judging_ascends rules h.1.0 v.1 u h.1.1.2)
-      (every_mapped (OfRule q.number selected) (λ e. Every (IsKeyBelow e) h.1.0)
-      (λ e k. every_mapped (OfRules rules selected) (IsKeyBelow e) (λ d m. below e d k.0 (below_number q.number d.rule rules v.0 m.0)) h.1.0 (rules_of rules h.1.0 h.1.1.2))
+      rw h.1.1.0 (ascending_append by_key keys h.0 h.1.0 (rule_ascends M F q.number q.row selected h.0 u h.1.1.1) (judging_ascends rules h.1.0 v.1 u h.1.1.2)
+      (every_map (OfRule q.number selected) (λ e. Every (IsKeyBelow e) h.1.0)
+      (λ e k. every_map (OfRules rules selected) (IsKeyBelow e) (λ d m. below e d k.0 (below_number q.number d.rule rules v.0 m.0)) h.1.0 (rules_of rules h.1.0 h.1.1.2))
       h.0 (rule_of M F q.number q.row selected h.0 h.1.1.1)))
     where
       below : (e d : Entry) → e.rule ≡ q.number → q.number < d.rule → IsKeyBelow e d
@@ -166,11 +169,11 @@ module _ (M : Meaning) (F : List Feature) (selected : List ℕ) where
 
   -- they have no mark and are of selected subjects
   pub judging_fresh : (rules : List InForce) (es : List Entry) → IsJudging M F rules selected es → AreFresh selected es
-  judging_fresh rules es h = every_mapped (OfRules rules selected) (IsNewOf selected) (λ e k. record { unmarked = k.2; chosen = contained e.subject selected k.1 }) es (rules_of rules es h)
+  judging_fresh rules es h = every_map (OfRules rules selected) (IsNewOf selected) (λ e k. record { unmarked = k.2; chosen = contained e.subject selected k.1 }) es (rules_of rules es h)
 
   -- a rule that is not in force has none
   pub judging_idle : (rules : List InForce) (es : List Entry) (r a b : ℕ) → IsJudging M F rules selected es → rule_at rules r ≡ None → entry_at es r a b ≡ None
-  judging_idle rules es r a b h n = none_at es r a b (every_mapped (OfRules rules selected) (Lacks r a b) (λ d k. of_other_rule r a b d (λ q. not_number rules r n (rw q at k.0))) es (rules_of rules es h))
+  judging_idle rules es r a b h n = none_at es r a b (every_map (OfRules rules selected) (Lacks r a b) (λ d k. of_other_rule r a b d (λ q. not_number rules r n (rw q at k.0))) es (rules_of rules es h))
 
   -- a rule in force and a selected subject have their part
   pub judging_part : (rules : List InForce) (es : List Entry) (r : ℕ) (row : Row) (a : ℕ) → AreAscending rules → IsRising selected → IsJudging M F rules selected es → rule_at rules r ≡ Some row → IsAmong a selected
@@ -183,7 +186,7 @@ module _ (M : Meaning) (F : List Feature) (selected : List ℕ) where
         let k = rule_part M F r row selected h.0 a u (rw (← t.1, ← same) h.1.1.1) i in (
           k.0,
           k.1,
-          λ b. rw h.1.1.0 (before_second h.0 h.1.0 r a b (every_mapped (OfRules rules selected) (Lacks r a b)
+          λ b. rw h.1.1.0 (before_back h.0 h.1.0 r a b (every_map (OfRules rules selected) (Lacks r a b)
               (λ d j. of_other_rule r a b d (λ p. let y = below_number q.number d.rule rules v.0 j.0 in let n = t.1 in omega arith)) h.1.0 (rules_of rules h.1.0 h.1.1.2)) ∙ k.2 b),
         )
     | inr t ↦
@@ -192,7 +195,7 @@ module _ (M : Meaning) (F : List Feature) (selected : List ℕ) where
         let y = below_number q.number r rules v.0 (number_of rules r row later) in (
           k.0,
           k.1,
-          λ b. rw h.1.1.0 (past_first h.0 h.1.0 r a b (every_mapped (OfRule q.number selected) (Lacks r a b)
+          λ b. rw h.1.1.0 (past_front h.0 h.1.0 r a b (every_map (OfRule q.number selected) (Lacks r a b)
               (λ d j. of_other_rule r a b d (λ p. let z = j.0 in omega arith)) h.0 (rule_of M F q.number q.row selected h.0 h.1.1.1)) ∙ k.2 b),
         )
   ]

@@ -1,6 +1,5 @@
 pub mod Parts
 pub mod Views
 pub mod Replaced
-pub mod Counts
 pub mod Picked
 pub mod Framed

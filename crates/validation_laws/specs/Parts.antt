@@ -13,7 +13,8 @@ use Rattle.std.specs.Option.{option_to_list}
 use Rattle.plane_terms.specs.Lists.{EveryPair, Paired}
 use Rattle.topology_terms.specs.Feature.{Feature, feature_at}
 use Rattle.topology_terms.specs.Broken.{Row}
-use Rattle.topology_terms.specs.Meaning.{Meaning, Finding}
+use Rattle.topology_terms.specs.Keyed.{IsAscendingBy}
+use Rattle.topology_terms.specs.Meaning.{Meaning, Finding, by_partner}
 use Rattle.topology_terms.specs.Entry.{Entry}
 use Rattle.topology_terms.specs.Project.{InForce}
 use Rattle.topology_terms.specs.Settled.{IsEntryOf}
@@ -22,7 +23,7 @@ abbrev pub IsRising : List ℕ → Type 0
 IsRising ns = EveryPair (λ (m n : ℕ). m < n) ns
 
 abbrev pub AreInOrder : List Finding → Type 0
-AreInOrder xs = EveryPair (λ (x y : Finding). x.other < y.other) xs
+AreInOrder xs = IsAscendingBy by_partner xs
 
 abbrev pub IsJoined : {A B : Type 0} → (A → List B → Type 0) → List A → List B → Type 0
 IsJoined P [] ys = ys ≡ []

@@ -4,3 +4,5 @@ pub mod Tokens
 pub mod Grammar
 pub mod Faults
 pub mod Written
+pub mod Shapes
+pub mod WktFaults

@@ -14,7 +14,7 @@ use Rattle.plane_terms.specs.declared.kind.Kind.TheVariants as kind
 use Rattle.shape.proofs.Opening.{open_end}
 use Rattle.shape.proofs.Places.{same_is}
 use Rattle.wkt_terms.specs.Grammar.{APoint, IsSome, AreSome, IsFull}
-use Rattle.wkt_laws.specs.Shapes.{is_closed, without_last, shape_in, AreClosed, IsShapeText, closed, of_lines, of_polygons, shape_text}
+use Rattle.wkt_terms.specs.Shapes.{is_closed, without_last, shape_in, AreClosed, IsShapeText, closed, of_lines, of_polygons, shape_text}
 use Rattle.wkt_terms.specs.Written.{IsInGrid}
 use Rattle.wkt_laws.proofs.Written.{written_read}
 use Rattle.wkt_text.proofs.FirstOpen.{last_at}

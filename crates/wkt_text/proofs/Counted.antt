@@ -11,7 +11,7 @@ use Rattle.plane_terms.specs.Point.{Place}
 use Rattle.shape.specs.Given.{all_rings, all_vertices, IsCountable}
 use Rattle.text_terms.specs.Fields.{skip_blanks}
 use Rattle.wkt_terms.specs.Grammar.{Geometry, APoint, ALine, Lines, APolygon, Polygons, IsWkt, position, commas, items, list, lists, spelling}
-use Rattle.wkt_laws.specs.Shapes.{without_last}
+use Rattle.wkt_terms.specs.Shapes.{without_last}
 use Rattle.wkt_terms.specs.Tokens.{Token, Open, Close, Comma, Named, Numeral, Other, End, StartsWith, token_at, behind_token}
 use Rattle.wkt_laws.proofs.Reading.{skip_blanks-le, shorter}
 use Rattle.wkt_text.specs.Given.{given_in}

@@ -11,7 +11,7 @@ use Rattle.std.specs.Option.{is_some}
 use Rattle.plane_terms.specs.Lists.{Every}
 use Rattle.plane_terms.specs.Point.{Place, same_place}
 use Rattle.plane_terms.specs.Shape.{last_of}
-use Rattle.wkt_laws.specs.Shapes.{is_closed, IsFirstOpen}
+use Rattle.wkt_terms.specs.Shapes.{is_closed, IsFirstOpen}
 use Rattle.wkt_laws.specs.Seen.{Ring, lists_of, parts_of}
 use Rattle.shape.specs.Given.{all_rings}
 use Rattle.wkt_text.specs.Open.{first_open}

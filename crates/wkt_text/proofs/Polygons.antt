@@ -11,11 +11,11 @@ use Rattle.plane_terms.specs.declared.kind.Kind.TheVariants as kind
 use Rattle.shape.specs.Given.{lines_in}
 use Rattle.shape.proofs.Changed.{written, lengths}
 use Rattle.wkt_terms.specs.Grammar.{Lines}
-use Rattle.wkt_laws.specs.Shapes.{without_last}
+use Rattle.wkt_terms.specs.Shapes.{without_last}
 use Rattle.wkt_laws.specs.Seen.{Ring, lists_of, parts_of}
 use Rattle.wkt_text.specs.Faults.{closed_rings, opened_shape, IsShapeFault, IsPolygonFault}
-use Rattle.wkt_text.specs.declared.fault.WktFault.{WktFault}
-use Rattle.wkt_text.specs.declared.fault.WktFault.TheVariants.{Syntax, OffGrid, OutOfReach, Unsupported, NotClosed, Invalid, NoMemory}
+use Rattle.wkt_terms.specs.declared.wkt_fault.WktFault.{WktFault}
+use Rattle.wkt_terms.specs.declared.wkt_fault.WktFault.TheVariants.{Syntax, OffGrid, OutOfReach, Unsupported, NotClosed, Invalid, NoMemory}
 use Rattle.wkt_text.proofs.Results.{IsMade}
 
 pub opened_by : (len : ℕ) (new now old : List (Vec Ring Global)) → parts_of new ≡ map (λ part. map without_last part) (parts_of now) → now ≡ old → len ≡ length old → parts_of (take len (new ++ drop (length new) old)) ≡ map (λ part. map without_last part) (parts_of old)

@@ -8,11 +8,12 @@ use Rattle.plane_terms.specs.Point.{Place}
 use Rattle.plane_terms.specs.Shape.{Shape, IsShape}
 use Rattle.wkt_terms.specs.Faults.{Cause, FirstFault}
 use Rattle.wkt_terms.specs.Grammar.{Geometry, IsWkt}
-use Rattle.wkt_laws.specs.Shapes.{is_closed, AreClosed, IsFirstOpen, rings_in, shape_in, IsShapeText}
+use Rattle.wkt_terms.specs.Shapes.{is_closed, AreClosed, IsFirstOpen, rings_in, shape_in, IsShapeText}
 use Rattle.wkt_laws.proofs.Reading.{no_fault, one_value}
-use Rattle.wkt_text.specs.Faults.{IsWholeFault, IsWktFault}
-use Rattle.wkt_text.specs.declared.fault.WktFault.{WktFault}
-use Rattle.wkt_text.specs.declared.fault.WktFault.TheVariants.{Syntax, OffGrid, OutOfReach, Unsupported, NotClosed, Invalid, NoMemory}
+use Rattle.wkt_terms.specs.WktFaults.{IsWktFault}
+use Rattle.wkt_text.specs.Faults.{IsWholeFault}
+use Rattle.wkt_terms.specs.declared.wkt_fault.WktFault.{WktFault}
+use Rattle.wkt_terms.specs.declared.wkt_fault.WktFault.TheVariants.{Syntax, OffGrid, OutOfReach, Unsupported, NotClosed, Invalid, NoMemory}
 use Rattle.wkt_text.proofs.Valid.{valid_flawless}
 
 abbrev pub IsMade : Geometry → Result Shape WktFault → Type 0

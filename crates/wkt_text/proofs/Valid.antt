@@ -11,7 +11,7 @@ use Rattle.plane_terms.specs.Shape.{Shape, rings_of, segments_of, HasParts, IsPa
 use Rattle.plane_terms.specs.declared.kind.Kind.{Kind}
 use Rattle.plane_terms.specs.declared.kind.Kind.TheVariants as kind
 use Rattle.shape.specs.Counts.{IsFull}
-use Rattle.shape.specs.Faults.{IsPair, AreBad, IsFlawless, least}
+use Rattle.plane_terms.specs.ShapeFaults.{IsPair, AreBad, IsFlawless, least}
 use Rattle.shape.proofs.Made.{full_flawless}
 
 every_at : {A : Type 0} (P : A → Type 0) (xs : List A) (i : ℕ) (x : A) → Every P xs → slice_get xs i ≡ Some x → P x

@@ -8,7 +8,7 @@ use Rattle.plane_terms.specs.declared.kind.Kind.TheVariants as kind
 use Rattle.plane_terms.specs.Point.{Place}
 use Rattle.shape.specs.Given.{lines_in, polygons_in}
 use Rattle.wkt_terms.specs.Grammar.{APoint}
-use Rattle.wkt_laws.specs.Shapes.{of_lines, of_polygons, geometry_by, shape_text}
+use Rattle.wkt_terms.specs.Shapes.{of_lines, of_polygons, geometry_by, shape_text}
 use Rattle.wkt_terms.specs.Written.{written}
 use Rattle.wkt_laws.specs.Seen.{Ring, lists_of, parts_of}
 

@@ -3,20 +3,18 @@
 -- IsShapeFault s e       the parts of s make no shape, and e carries the first fault that applies; want of memory may come at any time
 -- IsPolygonFault ps e    the same of the parts ps of a polygon as they are written, or e is the number of the first ring that is not closed
 -- IsWholeFault g e       the same of a geometry
--- IsWktFault text e      the first token that does not fit, its cause and its place; or where the text spells a geometry, its fault
 use Rattle.std.specs.Prelude.{ℕ, ◌≡◌, true, List, map}
 use Rattle.plane_terms.specs.Lists.{Every}
 use Rattle.plane_terms.specs.Point.{Place}
 use Rattle.plane_terms.specs.Shape.{Shape, shape_of}
 use Rattle.plane_terms.specs.declared.kind.Kind.TheVariants as kind
-use Rattle.shape.specs.Faults.{IsFault}
+use Rattle.plane_terms.specs.ShapeFaults.{IsFault}
 use Rattle.shape.specs.Given.{all_rings}
-use Rattle.shape.specs.declared.fault.ShapeFault.TheVariants as shape
-use Rattle.wkt_terms.specs.Faults.{FirstFault, IsSyntax, IsOffGrid, IsOutOfReach, IsUnsupported}
-use Rattle.wkt_terms.specs.Grammar.{Geometry, IsWkt}
-use Rattle.wkt_laws.specs.Shapes.{is_closed, without_last, rings_in, shape_in, AreClosed, IsFirstOpen}
-use Rattle.wkt_text.specs.declared.fault.WktFault.{WktFault}
-use Rattle.wkt_text.specs.declared.fault.WktFault.TheVariants.{Syntax, OffGrid, OutOfReach, Unsupported, NotClosed, Invalid, NoMemory}
+use Rattle.plane_terms.specs.declared.shape_fault.ShapeFault.TheVariants as shape
+use Rattle.wkt_terms.specs.Grammar.{Geometry}
+use Rattle.wkt_terms.specs.Shapes.{is_closed, without_last, rings_in, shape_in, AreClosed, IsFirstOpen}
+use Rattle.wkt_terms.specs.declared.wkt_fault.WktFault.{WktFault}
+use Rattle.wkt_terms.specs.declared.wkt_fault.WktFault.TheVariants.{Syntax, OffGrid, OutOfReach, Unsupported, NotClosed, Invalid, NoMemory}
 
 abbrev pub IsShapeFault : Shape → WktFault → Type 0
 IsShapeFault s (Syntax at) = ⊥
@@ -50,12 +48,3 @@ IsWholeFault g (Unsupported at) = ⊥
 IsWholeFault g (NotClosed ring) = IsFirstOpen (rings_in g) ring
 IsWholeFault g (Invalid f) = AreClosed g × IsShapeFault (shape_in g) (Invalid f)
 IsWholeFault g NoMemory = Unit {0}
-
-abbrev pub IsWktFault : List ℕ → WktFault → Type 0
-IsWktFault text (Syntax at) = FirstFault text at IsSyntax
-IsWktFault text (OffGrid at) = FirstFault text at IsOffGrid
-IsWktFault text (OutOfReach at) = FirstFault text at IsOutOfReach
-IsWktFault text (Unsupported at) = FirstFault text at IsUnsupported
-IsWktFault text (NotClosed ring) = (g : Geometry) × IsWkt text g × IsWholeFault g (NotClosed ring)
-IsWktFault text (Invalid f) = (g : Geometry) × IsWkt text g × IsWholeFault g (Invalid f)
-IsWktFault text NoMemory = Unit {0}

@@ -3,7 +3,7 @@
 -- first_open n rings     its number, where they are numbered from n on
 use Rattle.std.specs.Prelude.{ℕ, ◌+◌, List, [], ◌∷◌, Option, Some, None, if◌then◌else◌}
 use Rattle.plane_terms.specs.Point.{Place}
-use Rattle.wkt_laws.specs.Shapes.{is_closed}
+use Rattle.wkt_terms.specs.Shapes.{is_closed}
 
 abbrev pub first_open : ℕ → List (List Place) → Option ℕ
 first_open n [] = None

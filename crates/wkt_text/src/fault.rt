@@ -1,29 +1,13 @@
 ghost use Rattle.std.specs.Prelude.{List, ℕ};
 ghost use Rattle.plane_terms.specs.Shape.{Shape};
-ghost use Rattle.shape.specs.Faults.{IsFault};
+ghost use Rattle.plane_terms.specs.ShapeFaults.{IsFault};
 ghost use Rattle.wkt_geometry.specs.Faults.{place_of, Refuses};
-ghost use Rattle.wkt_text.specs.Faults.{IsShapeFault, IsWktFault};
+ghost use Rattle.wkt_terms.specs.WktFaults.{IsWktFault};
+ghost use Rattle.wkt_text.specs.Faults.{IsShapeFault};
 
-use shape::ShapeFault;
+use plane_terms::ShapeFault;
 use wkt_geometry::{Cause, TextFault};
-
-/// Why a text is not read: the first of these that applies. `at` is the number of bytes before the token, at the end the length of the text.
-#[derive(Clone, Copy)]
-pub enum WktFault {
-    /// The token does not fit, and none of the next three says why.
-    Syntax { at: u32 },
-    /// A number is wanted, and it has a fraction.
-    OffGrid { at: u32 },
-    /// A number is wanted, and it is whole and beyond the reach.
-    OutOfReach { at: u32 },
-    /// Another kind of geometry, `Z`, `M`, `ZM` or `EMPTY` in the place of an opening bracket, or a third number of a position.
-    Unsupported { at: u32 },
-    /// The first ring whose first and last positions differ, counted from 0 through all parts.
-    NotClosed { ring: u32 },
-    /// The vertices make no shape, for this reason, which is not want of memory.
-    Invalid(ShapeFault),
-    NoMemory,
-}
+use wkt_terms::WktFault;
 
 /// A fault of the tokens.
 pub(crate) fn text_fault(fault: TextFault) -> WktFault

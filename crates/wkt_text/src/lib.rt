@@ -8,6 +8,6 @@ mod parts;
 mod read;
 mod write;
 
-pub use fault::WktFault;
+pub use wkt_terms::WktFault;
 pub use read::read_wkt;
 pub use write::write_wkt;

@@ -1,5 +1,5 @@
 ghost use Rattle.std.specs.Prelude.{◌≡◌, map};
-ghost use Rattle.wkt_laws.specs.Shapes.{without_last};
+ghost use Rattle.wkt_terms.specs.Shapes.{without_last};
 ghost use Rattle.wkt_laws.specs.Seen.{lists_of, parts_of};
 
 use grid_plane::GridPoint;

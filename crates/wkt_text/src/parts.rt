@@ -3,13 +3,14 @@ ghost use Rattle.wkt_laws.specs.Seen.{lists_of};
 ghost use Rattle.plane_terms.specs.Shape.{shape_of, IsShape};
 ghost use Rattle.plane_terms.specs.declared.kind.Kind.TheVariants as kind;
 ghost use Rattle.shape.specs.Given.{lines_in, polygons_in, IsCountable};
-ghost use Rattle.wkt_laws.specs.Shapes.{shape_in, AreClosed};
+ghost use Rattle.wkt_terms.specs.Shapes.{shape_in, AreClosed};
 ghost use Rattle.wkt_geometry.specs.States.{geometry_of};
 ghost use Rattle.wkt_text.specs.Faults.{closed_rings, opened_shape, IsShapeFault, IsPolygonFault, IsWholeFault};
 ghost use Rattle.wkt_text.specs.Given.{given_in};
 
 use crate::closing::first_open;
-use crate::fault::{WktFault, shape_fault};
+use crate::fault::shape_fault;
+use wkt_terms::WktFault;
 use crate::opening::open_parts;
 use grid_plane::GridPoint;
 use shape::Shape;

@@ -1,9 +1,10 @@
 ghost use Rattle.std.specs.Prelude.{◌≡◌, ◌≤◌, length, MatchResult};
 ghost use Rattle.plane_terms.specs.Shape as terms;
-ghost use Rattle.wkt_laws.specs.Shapes.{IsShapeText};
-ghost use Rattle.wkt_text.specs.Faults.{IsWktFault};
+ghost use Rattle.wkt_terms.specs.Shapes.{IsShapeText};
+ghost use Rattle.wkt_terms.specs.WktFaults.{IsWktFault};
 
-use crate::fault::{WktFault, text_fault};
+use crate::fault::text_fault;
+use wkt_terms::WktFault;
 use crate::parts::shape_of;
 use shape::Shape;
 use std::alloc::Global;

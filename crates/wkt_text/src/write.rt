@@ -1,6 +1,6 @@
 ghost use Rattle.std.specs.Prelude.{◌≡◌, ◌++◌};
 ghost use Rattle.plane_terms.specs.Shape.{IsShape};
-ghost use Rattle.wkt_laws.specs.Shapes.{shape_text, IsShapeText};
+ghost use Rattle.wkt_terms.specs.Shapes.{shape_text, IsShapeText};
 ghost use Rattle.wkt_writer.specs.Appended.{Appends};
 
 use grid_plane::NoMemory;

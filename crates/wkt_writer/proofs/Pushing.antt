@@ -13,7 +13,7 @@ use Rattle.std.specs.Global.{Global}
 use Rattle.plane_terms.specs.Point.{Place, InReach}
 use Rattle.text_terms.specs.Wkt.{listed}
 use Rattle.wkt_terms.specs.Grammar.{APoint}
-use Rattle.wkt_laws.specs.Shapes.{closed, of_lines, of_polygons}
+use Rattle.wkt_terms.specs.Shapes.{closed, of_lines, of_polygons}
 use Rattle.wkt_terms.specs.Written.{place_text, bracketed, list_text, lists_text, written}
 use Rattle.wkt_laws.specs.Commas.{comma_texts}
 use Rattle.wkt_laws.specs.Seen.{Ring, lists_of, parts_of}

@@ -5,7 +5,7 @@
 use Rattle.std.specs.Prelude.{ℕ, List, map}
 use Rattle.plane_terms.specs.Point.{Place}
 use Rattle.text_terms.specs.Wkt.{listed}
-use Rattle.wkt_laws.specs.Shapes.{closed}
+use Rattle.wkt_terms.specs.Shapes.{closed}
 use Rattle.wkt_terms.specs.Written.{bracketed, list_text}
 
 abbrev pub ring_text : List Place → List ℕ

@@ -1,6 +1,6 @@
 ghost use Rattle.std.specs.Prelude.{◌++◌, map, codes};
 ghost use Rattle.text_terms.specs.Wkt.{listed};
-ghost use Rattle.wkt_laws.specs.Shapes.{of_lines};
+ghost use Rattle.wkt_terms.specs.Shapes.{of_lines};
 ghost use Rattle.wkt_terms.specs.Written.{place_text, list_text, lists_text, written};
 ghost use Rattle.wkt_laws.specs.Commas.{comma_texts};
 ghost use Rattle.wkt_laws.specs.Seen.{lists_of};

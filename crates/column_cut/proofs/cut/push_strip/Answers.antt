@@ -1,7 +1,8 @@
-use Rattle.std.proofs.Common.{◌≡◌, ◌∙◌, List, ap, None}
+use Rattle.std.proofs.Common.{◌≡◌, ◌∙◌, List, ap, map, None}
 use Rattle.plane_terms.specs.Segment.{Segment}
 use Rattle.plane_terms.specs.Columns.{column, slots, on_wall, in_column, intervals, is_covered, ordinates}
 use Rattle.column_cut.specs.Parity.{is_even}
+use Rattle.column_cut.specs.Pieces.{slot_cell}
 use Rattle.column_cut.proofs.Steps.{strip_done}
 use Rattle.column_cut.proofs.cut.push_strip.Goals as goal
 
@@ -11,5 +12,6 @@ returns c =
     let y = c.args.right.now in
     let ss = c.args.segments.now in
     let even = is_even c.args.parity in
-    let same : c.in_ok-slots.slots ≡ slots even None (column x y ss) = c.in_ok-slots.ensures ∙ ap (λ (col : List Segment). slots even None col) (c.deref.ensures.value ∙ c.in_ok-column.ensures) in
-    strip_done c.push_column.result (λ s. on_wall x s (intervals (is_covered x ss) None (ordinates x ss))) (λ s. in_column x y s) c.in_ok-slots.slots (slots even None (column x y ss)) same c.args.cells.now c.push_wall.new.cells c.push_column.new.cells c.in_ok-push_wall.ensures c.push_column.ensures
+    let made = map slot_cell c.in_ok-slots.slots.items in
+    let same : made ≡ slots even None (column x y ss) = c.in_ok-slots.ensures ∙ ap (λ (col : List Segment). slots even None col) (c.deref.ensures.value ∙ c.in_ok-column.ensures) in
+    strip_done c.push_column.result (λ s. on_wall x s (intervals (is_covered x ss) None (ordinates x ss))) (λ s. in_column x y s) made (slots even None (column x y ss)) same c.args.cells.now c.push_wall.new.cells c.push_column.new.cells (rw c.deref-2.ensures.value at c.in_ok-push_wall.ensures) (rw c.deref-3.ensures.value at c.push_column.ensures)

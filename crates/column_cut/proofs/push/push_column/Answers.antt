@@ -1,14 +1,15 @@
-use Rattle.std.proofs.Common.{◌≡◌, ◌++◌, ◌∷◌, [], subst, refl}
+use Rattle.std.proofs.Common.{◌≡◌, ◌++◌, ◌∷◌, [], map, subst, refl}
 use Rattle.plane_terms.specs.HalfPlane.{x_over, x_under}
 use Rattle.plane_terms.specs.Cell.{Cell}
 use Rattle.plane_terms.specs.Carve.{kept}
 use Rattle.plane_terms.specs.Columns.{in_column}
+use Rattle.column_cut.specs.Pieces.{slot_cell}
 use Rattle.column_cut.proofs.Steps.{push_step}
 use Rattle.column_cut.proofs.push.push_column.Goals as goal
 
-pub loop-i-preserved : goal.loop-i-preserved
-loop-i-preserved c =
+pub loop-slot-preserved : goal.loop-slot-preserved
+loop-slot-preserved c =
     let x = c.args.left.now in
     let y = c.args.right.now in
-    let pushed = subst (λ (cell : Cell). c.push_kept.new.cells ≡ c.loop-i.cells ++ kept (cell ∷ [])) c.in_ok-column_cell.ensures c.in_ok-push_kept.ensures in
-    push_step (in_column x y) (λ g. (x_over x ∷ x_under y ∷ g) ∷ []) (λ g gs. refl) c.args.slots.now c.loop-i.i c.cell.result.now c.cell.ensures c.loop-i.cells c.push_kept.new.cells _ c.loop-i.invariant pushed
+    let pushed = subst (λ (cell : Cell). c.push_kept.new.cells ≡ c.loop-slot.cells ++ kept (cell ∷ [])) c.in_ok-column_cell.ensures c.in_ok-push_kept.ensures in
+    push_step (λ s. in_column x y (map slot_cell s)) (λ s. (x_over x ∷ x_under y ∷ slot_cell s) ∷ []) (λ g gs. refl) c.args.slots.now c.loop-slot.slot-index c.slot-item.result c.loop-slot-test.true c.slot-item.is c.loop-slot.cells c.push_kept.new.cells _ c.loop-slot.invariant pushed

@@ -1,6 +1,6 @@
 use Rattle.std.proofs.Common.{◌≡◌, ◌<◌, ◌≤◌, ◌+◌, ℕ, zero, suc, arith, ◌⊎◌, inl, inr, subst, List, length}
 use Rattle.plane_terms.specs.Segment.{Segment}
-use Rattle.shape.specs.Faults.{AreBad, IsPair, IsFirstPair}
+use Rattle.plane_terms.specs.ShapeFaults.{AreBad, IsPair, IsFirstPair}
 use Rattle.shape.proofs.Best.{get_below}
 use Rattle.plain_shapes.proofs.search.first_bad_pair.Goals as goal
 

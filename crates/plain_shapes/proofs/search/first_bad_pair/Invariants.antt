@@ -1,5 +1,5 @@
 use Rattle.std.proofs.Common.{ℕ, ◌<◌}
-use Rattle.shape.specs.Faults.{AreBad, IsPair}
+use Rattle.plane_terms.specs.ShapeFaults.{AreBad, IsPair}
 use Rattle.plain_shapes.proofs.search.first_bad_pair.Given as goal
 
 abbrev pub invariant-loop-i : goal.invariant-loop-i

@@ -1,5 +1,5 @@
 use Rattle.std.proofs.Common.{ℕ, ◌<◌}
-use Rattle.shape.specs.Faults.{AreBad, IsPair}
+use Rattle.plane_terms.specs.ShapeFaults.{AreBad, IsPair}
 use Rattle.plain_shapes.proofs.search.first_with.Given as goal
 
 abbrev pub invariant-loop-j : goal.invariant-loop-j

@@ -7,7 +7,7 @@ use Rattle.plane_terms.specs.Shape.{closed_path, vertices_of, segments_of, envel
 use Rattle.shape.specs.Given.{Ring, polygons_in, all_rings}
 use Rattle.shape.specs.Kept.{IsClosing}
 use Rattle.shape.specs.Counts.{IsFull}
-use Rattle.shape.specs.Faults.{IsPair, AreBad, IsFault}
+use Rattle.plane_terms.specs.ShapeFaults.{IsPair, AreBad, IsFault}
 use Rattle.shape.specs.Form.{polygon_shape}
 use Rattle.shape.specs.Sweep.{IsPairFault}
 use Rattle.shape.proofs.Made.{in_parts, segments_count, polygon_drawn, full_flawless, pair_fault}

@@ -5,7 +5,7 @@ use Rattle.topo_run.proofs.replay.answer_all.Goals as goal
 
 pub loop-line-init : goal.loop-line-init
 loop-line-init g c = record {
-  far = rw (c.new-world.ensures, c.new-gathered.ensures.items) (begins empty_state _ _ (rw c.new-world.ensures at c.headline_law.ensures.headline));
+  far = rw (c.new-world.ensures, c.new-gathered.ensures.items) (begins empty_state _ _ (rw c.new-world.ensures at c.headline_law.ensures.invariant));
   later = omega arith;
 }
 

@@ -1,4 +1,4 @@
-use Rattle.topo_run.specs.Reads.{Passage}
+use Rattle.outside_terms.specs.Reads.{Passage}
 use Rattle.topo_run.proofs.Endings.{all_answered}
 use Rattle.topo_run.proofs.replay.replay.Goals as goal
 

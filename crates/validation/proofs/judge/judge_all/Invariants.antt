@@ -1,7 +1,7 @@
 use Rattle.std.proofs.Common.{◌≡◌, ◌++◌, List, take}
 use Rattle.topology_terms.specs.Entry.{Entry}
 use Rattle.validation_laws.specs.Parts.{IsJudging, live_of}
-use Rattle.validation_laws.specs.Counts.{raised, judged_of}
+use Rattle.topology_terms.specs.Counts.{raised, judged_of}
 use Rattle.validation.proofs.judge.judge_all.Given as goal
 
 abbrev pub invariant-loop-rule : goal.invariant-loop-rule

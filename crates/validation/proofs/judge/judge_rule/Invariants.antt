@@ -3,7 +3,7 @@ use Rattle.plane_terms.specs.Lists.{how_many}
 use Rattle.topology_terms.specs.Broken.{judged}
 use Rattle.topology_terms.specs.Entry.{Entry}
 use Rattle.validation_laws.specs.Parts.{IsRulePart, live_of}
-use Rattle.validation_laws.specs.Counts.{raised}
+use Rattle.topology_terms.specs.Counts.{raised}
 use Rattle.validation.proofs.judge.judge_rule.Given as goal
 
 abbrev pub invariant-loop-i : goal.invariant-loop-i

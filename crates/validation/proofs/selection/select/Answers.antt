@@ -4,7 +4,7 @@ use Rattle.topology_terms.specs.Feature.{Feature, env}
 use Rattle.topology_terms.specs.Entry.{Entry}
 use Rattle.topology_terms.specs.Project.{Project}
 use Rattle.topology_terms.specs.Changes.{IsSelected}
-use Rattle.dirty_area.specs.Parts.{MeetsPart}
+use Rattle.plane_terms.specs.Dirt.{MeetsPart}
 use Rattle.validation_laws.specs.Parts.{IsRising}
 use Rattle.validation_laws.specs.Picked.{ArePicked}
 use Rattle.validation_laws.proofs.Handles.{rising}

@@ -1,10 +1,10 @@
 use Rattle.std.proofs.Common.{◌≡◌}
 use Rattle.validation_laws.proofs.Judging.{judging_ascends}
-use Rattle.validation.proofs.Settled.{fits_each}
+use Rattle.sound_laws.proofs.RuleLists.{each_rule}
 use Rattle.validation.proofs.window.rejudge.Goals as goal
 
 pub judge_all-requires-clause-fits : goal.judge_all-requires-clause-fits
-judge_all-requires-clause-fits g c = rw c.in_ok-indexed.ensures (fits_each (λ row. g.R.RuleSet.meaning.Fits row c.args.features.now) c.args.in_force.now c.requires.rules c.requires.fits)
+judge_all-requires-clause-fits g c = rw c.in_ok-indexed.ensures (each_rule (λ row. g.R.RuleSet.meaning.Fits row c.args.features.now) c.args.in_force.now c.requires.rules c.requires.fits)
 
 pub returns-clause-ascending : goal.returns-clause-ascending
 returns-clause-ascending g c =
@@ -14,3 +14,6 @@ returns-clause-ascending g c =
 
 pub returns-clause-judged : goal.returns-clause-judged
 returns-clause-judged g c = rw c.in_ok-indexed.ensures at c.in_ok-judge_all.ensures.judged
+
+pub returns-in_err-judge_all-clause-stopped : goal.returns-in_err-judge_all-clause-stopped
+returns-in_err-judge_all-clause-stopped g c = rw c.in_ok-indexed.ensures at c.in_err-judge_all.ensures.stopped

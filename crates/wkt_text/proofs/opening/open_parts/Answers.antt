@@ -2,7 +2,7 @@ use Rattle.std.proofs.Common.{◌∙◌, ap, sym, arith, Vec, get_or, map, List}
 use Rattle.std.specs.Global.{Global}
 use Rattle.std.specs.Vec.{with_items}
 use Rattle.shape.proofs.Changed.{changed_more, changed_all, written, lengths}
-use Rattle.wkt_laws.specs.Shapes.{without_last}
+use Rattle.wkt_terms.specs.Shapes.{without_last}
 use Rattle.wkt_laws.specs.Seen.{Ring, lists_of}
 use Rattle.wkt_text.proofs.opening.open_parts.Goals as goal
 

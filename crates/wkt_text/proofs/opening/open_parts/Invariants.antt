@@ -1,6 +1,6 @@
 use Rattle.std.proofs.Common.{Vec, map}
 use Rattle.std.specs.Global.{Global}
-use Rattle.wkt_laws.specs.Shapes.{without_last}
+use Rattle.wkt_terms.specs.Shapes.{without_last}
 use Rattle.wkt_laws.specs.Seen.{Ring, lists_of}
 use Rattle.shape.proofs.Changed.{Changed}
 use Rattle.wkt_text.proofs.opening.open_parts.Given as goal

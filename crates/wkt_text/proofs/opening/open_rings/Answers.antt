@@ -1,5 +1,5 @@
 use Rattle.std.proofs.Common.{◌∙◌, ap, sym, arith}
-use Rattle.wkt_laws.specs.Shapes.{without_last}
+use Rattle.wkt_terms.specs.Shapes.{without_last}
 use Rattle.wkt_laws.specs.Seen.{Ring}
 use Rattle.shape.proofs.Changed.{changed_more, changed_all}
 use Rattle.wkt_text.proofs.opening.open_rings.Goals as goal

@@ -6,7 +6,7 @@ use Rattle.command_answers.proofs.world.World.answer_delete.Goals as goal
 pub returns-clause-answers : goal.returns-clause-answers
 returns-clause-answers c =
     let s : State = record { project = c.self.inside.topology; editor = c.self.inside.editor } in
-    rw (← c.self.view_is) (delete_replied s _ c.args.editor.now c.args.handle c.delete.result c.reply_to_change.result (search rules) refl c.delete.ensures.ok c.delete.ensures.refused c.delete.ensures.err c.reply_to_change.ensures.said)
+    rw (← c.self.view_is) (delete_replied s _ c.args.editor.now c.args.handle c.delete.result c.reply_to_change.result (search rules) refl c.delete.ensures.ok c.delete.ensures.may c.delete.ensures.refused c.delete.ensures.err c.reply_to_change.ensures.said)
 
 pub returns-clause-err : goal.returns-clause-err
 returns-clause-err c =

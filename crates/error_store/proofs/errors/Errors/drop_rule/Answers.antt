@@ -1,8 +1,11 @@
-use Rattle.error_store.proofs.Dropping.{is_other, filter_ascends, none_left, others_left}
+use Rattle.topology_terms.specs.Entry.{by_key}
+use Rattle.sound_laws.proofs.Keyed.{ascending_filter}
+use Rattle.sound_laws.proofs.Lists.{keys}
+use Rattle.error_store.proofs.Dropping.{is_other, none_left, others_left}
 use Rattle.error_store.proofs.errors.Errors.drop_rule.Goals as goal
 
 pub invariant_of-self : goal.invariant_of-self
-invariant_of-self c = rw c.drop_from.ensures (filter_ascends (is_other c.args.rule) c.self.inside.entries.items c.self.invariant)
+invariant_of-self c = rw c.drop_from.ensures (ascending_filter by_key keys (is_other c.args.rule) c.self.inside.entries.items c.self.invariant)
 
 pub returns-clause-gone : goal.returns-clause-gone
 returns-clause-gone c = λ a b. rw c.drop_from.ensures (none_left c.args.rule c.self.inside.entries.items a b)

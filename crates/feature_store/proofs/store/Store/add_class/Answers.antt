@@ -1,14 +1,8 @@
 use Rattle.std.proofs.Common.{◌≡◌, ◌∙◌, sym, ap, None, length}
 use Rattle.topology_terms.specs.Feature.{Class}
 use Rattle.topology_terms.specs.Lookups.{number_from}
-use Rattle.feature_store.specs.Stored.{Stored}
-use Rattle.feature_store.proofs.Keeping.{taken, none_of, class_kept}
+use Rattle.feature_store.proofs.Keeping.{none_of, class_kept}
 use Rattle.feature_store.proofs.store.Store.add_class.Goals as goal
-
-pub returns-then-is_some-clause-refused : goal.returns-then-is_some-clause-refused
-returns-then-is_some-clause-refused c =
-    let same = c.deref.ensures.value ∙ ap (λ (s : Stored). s.classes) c.self.view_is in
-    taken c.args.self.now.classes c.args.name c.class_number.result (c.class_number.ensures ∙ ap (λ cs. number_from 1 cs c.args.name) same) (sym c.is_some.ensures ∙ c.if-is_some.true)
 
 pub invariant_of-self-2 : goal.invariant_of-self-2
 invariant_of-self-2 c =

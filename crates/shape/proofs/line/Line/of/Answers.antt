@@ -1,6 +1,6 @@
 use Rattle.std.proofs.Common.{◌∙◌, ap, subst}
 use Rattle.plane_terms.specs.Shape.{Shape}
-use Rattle.shape.specs.Faults.{IsFault, IsFlawless}
+use Rattle.plane_terms.specs.ShapeFaults.{IsFault, IsFlawless}
 use Rattle.shape.specs.Form.{line_shape}
 use Rattle.shape.proofs.Made.{line_made, line_countable, line_differs}
 use Rattle.shape.proofs.Results.{if_ok, if_err}

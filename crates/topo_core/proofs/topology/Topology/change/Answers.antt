@@ -1,7 +1,6 @@
 use Rattle.std.proofs.Common.{subst, ◌<◌}
 use Rattle.topology_terms.specs.Project.{Project, IsOrdered}
 use Rattle.feature_store.specs.Keeps.{IsOfClass}
-use Rattle.topo_core.specs.Steps.{HasOtherShape}
 use Rattle.topo_core.proofs.Exchanges.{live_given, other_shape}
 use Rattle.topo_core.proofs.Whole.{ordered}
 use Rattle.topo_core.proofs.topology.Topology.change.Goals as goal
@@ -14,9 +13,6 @@ swap-requires-clause-given g c = subst (λ (q : Project). c.args.handle < q.next
 
 pub swap-requires-clause-fits : goal.swap-requires-clause-fits
 swap-requires-clause-fits g c = subst (λ (q : Project). IsOfClass q.classes c.new.result) c.self.view_is (rw c.new.ensures (other_shape _ c.self.invariant c.args.handle c.class-class.result c.in-Some.feature.now c.args.shape c.in-Some.ensures c.class-class.ensures (c.has_other_kind.ensures.same c.if-has_other_kind.false)))
-
-pub returns-then-has_other_kind-clause-refused : goal.returns-then-has_other_kind-clause-refused
-returns-then-has_other_kind-clause-refused g c = subst (λ (q : Project). HasOtherShape q.features c.args.handle c.args.shape.kind) c.self.view_is (record { feature = c.in-Some.feature.now; live = c.in-Some.ensures; kind = c.has_other_kind.ensures.other c.if-has_other_kind.true })
 
 pub returns-then-has_other_kind-clause-ordered : goal.returns-then-has_other_kind-clause-ordered
 returns-then-has_other_kind-clause-ordered g c = subst IsOrdered c.self.view_is (ordered _ c.self.invariant)

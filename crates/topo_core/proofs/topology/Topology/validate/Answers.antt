@@ -1,11 +1,13 @@
-use Rattle.std.proofs.Common.{◌≡◌, subst, sym, refl}
+use Rattle.std.proofs.Common.{◌≡◌, ◌≤◌, subst, sym, refl}
 use Rattle.plane_terms.specs.Lists.{IsThose}
 use Rattle.topology_terms.specs.Feature.{Feature}
 use Rattle.topology_terms.specs.Changes.{IsSelected}
-use Rattle.validation_laws.specs.Counts.{raised, judged_of}
-use Rattle.topo_core.specs.Topologies.{project_of, IsKeptUnder}
+use Rattle.topology_terms.specs.Sound.{IsSoundUnder}
+use Rattle.topology_terms.specs.Settled.{IsSettledUnder}
+use Rattle.topology_terms.specs.Counts.{raised, judged_of}
+use Rattle.topo_core.specs.Topologies.{project_of}
 use Rattle.topo_core.proofs.Whole.{ordered, fitting}
-use Rattle.topo_core.proofs.Kept.{validated_keeps, validated_kept}
+use Rattle.topo_core.proofs.Kept.{validated_keeps, validated_sound_kept, validated_settled_kept}
 use Rattle.topo_core.proofs.topology.Topology.validate.Goals as goal
 
 pub validate-requires-clause-fits : goal.validate-requires-clause-fits
@@ -25,8 +27,18 @@ returns-clause-judged g c =
     let j = c.in_ok-validate.ensures.judged (project_of c.self.inside.store c.self.inside.rules.items c.self.inside.dirt c.self.inside.entries) (record { rules = sym c.deref.ensures.value; features = sym c.features.ensures.value; dirt = refl; entries = refl }) in
     rw (← c.self.view_is) (record { subjects = j.0; those = subst (λ F. IsThose (λ (f : Feature). IsSelected (project_of c.self.inside.store c.self.inside.rules.items c.self.inside.dirt c.self.inside.entries) c.args.window f.handle) F j.0) c.features.ensures.value j.1; count = subst (λ rules. c.validate.new.work ≡ raised c.args.work.now (judged_of rules j.0)) c.deref.ensures.value j.2 })
 
-pub returns-clause-kept : goal.returns-clause-kept
-returns-clause-kept g c = λ k. validated_kept g.R.RuleSet.meaning g.met.R.RuleSet.laws g.met.R.RuleSet.right g.met.R.KindRules.kinds c.args.window (project_of c.self.inside.store c.self.inside.rules.items c.self.inside.dirt c.self.inside.entries) _ c.self.invariant (c.in_ok-validate.ensures.step (project_of c.self.inside.store c.self.inside.rules.items c.self.inside.dirt c.self.inside.entries) (record { rules = sym c.deref.ensures.value; features = sym c.features.ensures.value; dirt = refl; entries = refl })) (subst (IsKeptUnder g.R.RuleSet.meaning) (sym c.self.view_is) k)
+pub returns-clause-sound : goal.returns-clause-sound
+returns-clause-sound g c = λ k. validated_sound_kept g.R.RuleSet.meaning g.met.R.RuleSet.laws g.met.R.RuleSet.right g.met.R.KindRules.kinds c.args.window (project_of c.self.inside.store c.self.inside.rules.items c.self.inside.dirt c.self.inside.entries) _ c.self.invariant (c.in_ok-validate.ensures.step (project_of c.self.inside.store c.self.inside.rules.items c.self.inside.dirt c.self.inside.entries) (record { rules = sym c.deref.ensures.value; features = sym c.features.ensures.value; dirt = refl; entries = refl })) (subst (IsSoundUnder g.R.RuleSet.meaning) (sym c.self.view_is) k)
+
+pub returns-clause-settled : goal.returns-clause-settled
+returns-clause-settled g c = λ k. validated_settled_kept g.R.RuleSet.meaning g.met.R.RuleSet.laws g.met.R.RuleSet.right g.met.R.KindRules.kinds c.args.window (project_of c.self.inside.store c.self.inside.rules.items c.self.inside.dirt c.self.inside.entries) _ c.self.invariant (c.in_ok-validate.ensures.step (project_of c.self.inside.store c.self.inside.rules.items c.self.inside.dirt c.self.inside.entries) (record { rules = sym c.deref.ensures.value; features = sym c.features.ensures.value; dirt = refl; entries = refl })) (subst (IsSettledUnder g.R.RuleSet.meaning) (sym c.self.view_is) k)
 
 pub returns-clause-ordered : goal.returns-clause-ordered
 returns-clause-ordered g c = ordered _ (validated_keeps g.R.RuleSet.meaning g.met.R.RuleSet.right g.met.R.KindRules.kinds c.args.window (project_of c.self.inside.store c.self.inside.rules.items c.self.inside.dirt c.self.inside.entries) _ c.self.invariant (c.in_ok-validate.ensures.step (project_of c.self.inside.store c.self.inside.rules.items c.self.inside.dirt c.self.inside.entries) (record { rules = sym c.deref.ensures.value; features = sym c.features.ensures.value; dirt = refl; entries = refl })) c.in_ok-validate.ensures.ordered)
+
+pub returns-in_err-validate-clause-stopped : goal.returns-in_err-validate-clause-stopped
+returns-in_err-validate-clause-stopped g c =
+    let p = project_of c.self.inside.store c.self.inside.rules.items c.self.inside.dirt c.self.inside.entries in
+    rw (← c.self.view_is) (λ fs those. subst (λ rules. c.validate.new.work ≤ raised c.args.work.now (judged_of rules fs)) c.deref.ensures.value
+        (c.in_err-validate.ensures.stopped p (record { rules = sym c.deref.ensures.value; features = sym c.features.ensures.value; dirt = refl; entries = refl }) fs
+        (subst (λ F. IsThose (λ (f : Feature). IsSelected p c.args.window f.handle) F fs) (sym c.features.ensures.value) those)))

@@ -1,0 +1,247 @@
+-- A command has one reply, and leaves one state.
+use Rattle.std.proofs.Common.{◌≡◌, ◌≢◌, ◌↔◌, ◌⊎◌, inl, inr, ℕ, ◌<◌, ◌≤◌, Bool, true, false, List, [], ◌∷◌, length, Option, Some, None, refl, sym, ◌∙◌, ap, subst, arith}
+use Rattle.plane_terms.specs.Lists.{IsThose}
+use Rattle.plane_terms.specs.Rectangle.{Rectangle}
+use Rattle.topology_terms.specs.Broken.{Row}
+use Rattle.topology_terms.specs.Changes.{IsClassAdded, IsFeatureAdded, IsFeatureSet, IsEdit, IsRuleAdded, IsRuleDropped, IsSelected, IsUnchanged, KeepsMark, add_envelope}
+use Rattle.topology_terms.specs.Counts.{judged_of}
+use Rattle.topology_terms.specs.Entry.{Entry, entry_at}
+use Rattle.topology_terms.specs.Entry as entries
+use Rattle.topology_terms.specs.Feature.{Feature, feature_at, IsSetAt}
+use Rattle.topology_terms.specs.Feature as features
+use Rattle.topology_terms.specs.Meaning.{Finding, finding_at, CutsRight}
+use Rattle.topology_terms.specs.Poster.{poster}
+use Rattle.topology_terms.specs.Project.{Project, InForce, IsOrdered, AreAscending, by_number, rule_at}
+use Rattle.topology_terms.specs.Settled.{AreAlike, IsValidatedBy}
+use Rattle.sound_laws.proofs.FeatureLists.{same_features}
+use Rattle.sound_laws.proofs.Lists.{unmark, unmark_option, same_entries, entry_key}
+use Rattle.sound_laws.proofs.Edits.{same_or_not}
+use Rattle.sound_laws.proofs.RuleLists.{same_rules}
+use Rattle.sound_laws.proofs.Settling.{alike_same}
+use Rattle.line_terms.specs.Commands.{Command, Blank, Class, Rule, DropRule, Begin, End, Discard, Add, Change, Delete, Undo, Redo, Validate, Mark, Unmark, Dirty, Errors, Cells, Features, Rules}
+use Rattle.script_terms.specs.Refusal.{Refusal}
+use Rattle.script_terms.specs.Reply.{Reply, Number, Judged, Refused}
+use Rattle.script_terms.specs.State.{State}
+use Rattle.script_terms.specs.Refusing.{refusal_of}
+use Rattle.script_terms.specs.Answer.{Answers, IsDone, IsSame, IsBegun, IsValidation, Leaves, answers_by}
+
+-- the same reply, and the same state
+abbrev pub Same : Reply → State → Reply → State → Type 0
+Same reply t said u = (reply ≡ said) × (t ≡ u)
+
+-- ---- equal by their parts
+pub record AreSame (p q : Project) : Type 0 where
+  pub classes : p.classes ≡ q.classes
+  pub rules : p.rules ≡ q.rules
+  pub features : p.features ≡ q.features
+  pub next : p.next ≡ q.next
+  pub dirt : p.dirt ≡ q.dirt
+  pub entries : p.entries ≡ q.entries
+
+by_parts : (p q : Project) → AreSame p q → p ≡ q
+by_parts p q h =
+    ap (λ x. record { classes = x; rules = p.rules; features = p.features; next = p.next; dirt = p.dirt; entries = p.entries }) h.classes
+    ∙ (ap (λ x. record { classes = q.classes; rules = x; features = p.features; next = p.next; dirt = p.dirt; entries = p.entries }) h.rules
+    ∙ (ap (λ x. record { classes = q.classes; rules = q.rules; features = x; next = p.next; dirt = p.dirt; entries = p.entries }) h.features
+    ∙ (ap (λ x. record { classes = q.classes; rules = q.rules; features = q.features; next = x; dirt = p.dirt; entries = p.entries }) h.next
+    ∙ (ap (λ x. record { classes = q.classes; rules = q.rules; features = q.features; next = q.next; dirt = x; entries = p.entries }) h.dirt
+    ∙ ap (λ x. record { classes = q.classes; rules = q.rules; features = q.features; next = q.next; dirt = q.dirt; entries = x }) h.entries))))
+
+same_state : (t u : State) → t.project ≡ u.project → t.editor ≡ u.editor → t ≡ u
+same_state t u p e = ap (λ (q : Project). record { project = q; editor = t.editor }) p ∙ ap (λ (o : Option (List ℕ)). record { project = u.project; editor = o }) e
+
+-- ---- the changes
+set_same : (h : ℕ) (after : Option Feature) (F G H : List Feature) → features.IsAscending G → features.IsAscending H → IsSetAt h after F G → IsSetAt h after F H → G ≡ H
+set_same h after F G H u v i j = same_features G H u v (λ k. elim (same_or_not k h) [
+  | inl e ↦ rw e (i.here ∙ sym j.here)
+  | inr n ↦ i.others k n ∙ sym (j.others k n)
+])
+
+edit_same : (h : ℕ) (after : Option Feature) (s p q : Project) → IsOrdered p → IsOrdered q → IsEdit h after s p → IsEdit h after s q → p.next ≡ q.next → AreSame p q
+edit_same h after s p q u v i j next = record {
+  classes = i.classes ∙ sym j.classes;
+  rules = i.rules ∙ sym j.rules;
+  features = set_same h after s.features p.features q.features u.features v.features i.features j.features;
+  next = next;
+  dirt = i.dirt ∙ sym j.dirt;
+  entries = i.entries ∙ sym j.entries;
+}
+
+least_same : (s p q : Project) (m n : ℕ) (row : Row) → IsRuleAdded m row s p → IsRuleAdded n row s q → m ≡ n
+least_same s p q m n row i j = elim (less_or_more m n) [
+  | inl l ↦ absurd (j.least m i.from_1 l i.free)
+  | inr d ↦ elim d [ inl l ↦ absurd (i.least n j.from_1 l j.free) | inr e ↦ e ]
+]
+  where
+    less_or_more : (m n : ℕ) → (m < n) ⊎ ((n < m) ⊎ (m ≡ n))
+    less_or_more m n = grind arith
+
+rule_same : (s p q : Project) (n : ℕ) (row : Row) → IsOrdered p → IsOrdered q → IsRuleAdded n row s p → IsRuleAdded n row s q → AreSame p q
+rule_same s p q n row u v i j = record {
+  classes = i.classes ∙ sym j.classes;
+  rules = same_rules p.rules q.rules u.rules v.rules (λ k. elim (same_or_not k n) [
+    | inl e ↦ rw e (i.here ∙ sym j.here)
+    | inr d ↦ i.others k d ∙ sym (j.others k d)
+  ]);
+  features = i.features ∙ sym j.features;
+  next = i.next ∙ sym j.next;
+  dirt = i.dirt ∙ sym j.dirt;
+  entries = i.entries ∙ sym j.entries;
+}
+
+dropped_same : (s p q : Project) (n : ℕ) → IsOrdered p → IsOrdered q → IsRuleDropped n s p → IsRuleDropped n s q → AreSame p q
+dropped_same s p q n u v i j = record {
+  classes = i.classes ∙ sym j.classes;
+  rules = same_rules p.rules q.rules u.rules v.rules (λ k. elim (same_or_not k n) [
+    | inl e ↦ rw e (i.here ∙ sym j.here)
+    | inr d ↦ i.others k d ∙ sym (j.others k d)
+  ]);
+  features = i.features ∙ sym j.features;
+  next = i.next ∙ sym j.next;
+  dirt = i.dirt ∙ sym j.dirt;
+  entries = same_entries p.entries q.entries u.entries v.entries (λ r a b. elim (same_or_not r n) [
+    | inl e ↦ rw e (i.gone a b ∙ sym (j.gone a b))
+    | inr d ↦ i.kept r a b d ∙ sym (j.kept r a b d)
+  ]);
+}
+
+-- ---- a validation
+both_true : (x y : Bool) → (x ≡ true → y ≡ true) → (y ≡ true → x ≡ true) → x ≡ y
+both_true true true f g = refl
+both_true true false f g = sym (f refl)
+both_true false true f g = g refl
+both_true false false f g = refl
+
+mark_same : (o : Option Entry) (d e : Entry) → unmark d ≡ unmark e → KeepsMark o d → KeepsMark o e → d.marked ≡ e.marked
+mark_same None d e same h k = h ∙ sym k
+mark_same (Some w) d e same h k =
+    let over : IsUnchanged w d → IsUnchanged w e = λ x. record { whole = x.whole ∙ ap (λ (y : Entry). y.whole) same; frame = x.frame ∙ ap (λ (y : Entry). y.frame) same; cells = x.cells ∙ ap (λ (y : Entry). y.cells) same } in
+    let back : IsUnchanged w e → IsUnchanged w d = λ x. record { whole = x.whole ∙ sym (ap (λ (y : Entry). y.whole) same); frame = x.frame ∙ sym (ap (λ (y : Entry). y.frame) same); cells = x.cells ∙ sym (ap (λ (y : Entry). y.cells) same) } in
+    both_true d.marked e.marked (λ m. let y = h.0 m in k.1 (y.0, over y.1)) (λ m. let y = k.0 m in h.1 (y.0, back y.1))
+
+with_mark : Entry → Bool → Entry
+with_mark e m = record e { marked = m }
+
+option_same : (o d e : Option Entry) → unmark_option d ≡ unmark_option e → ((x : Entry) → d ≡ Some x → KeepsMark o x) → ((x : Entry) → e ≡ Some x → KeepsMark o x) → d ≡ e
+option_same o None None same h k = refl
+option_same o None (Some e) same h k = absurd cc
+option_same o (Some d) None same h k = absurd cc
+option_same o (Some d) (Some e) same h k =
+    let bare : unmark d ≡ unmark e = cc in
+    let marks : d.marked ≡ e.marked = mark_same o d e bare (h d refl) (k e refl) in
+    ap (λ (x : Entry). Some (record x { marked = d.marked })) bare ∙ ap (λ m. Some (record e { marked = m })) marks
+
+row_or_none : (o : Option Row) → ((row : Row) × (o ≡ Some row)) ⊎ (o ≡ None)
+row_or_none None = inr refl
+row_or_none (Some row) = inl (row, refl)
+
+feature_or_none : (o : Option Feature) → ((f : Feature) × (o ≡ Some f)) ⊎ (o ≡ None)
+feature_or_none None = inr refl
+feature_or_none (Some f) = inl (f, refl)
+
+entry_same : CutsRight poster → (w : Rectangle) (s p q : Project) → IsValidatedBy poster w s p → IsValidatedBy poster w s q → (r a b : ℕ) → entry_at p.entries r a b ≡ entry_at q.entries r a b
+entry_same C w s p q i j r a b = elim (i.each a) [
+  | inr y ↦ elim (j.each a) [
+    | inl z ↦ absurd (y.0 z.0)
+    | inr z ↦ y.1 r b ∙ sym (z.1 r b)
+  ]
+  | inl y ↦ elim (j.each a) [
+    | inr z ↦ absurd (z.0 y.0)
+    | inl z ↦ elim (row_or_none (rule_at s.rules r)) [
+      | inr n ↦ y.1.idle r n b ∙ sym (z.1.idle r n b)
+      | inl row ↦ elim (feature_or_none (feature_at s.features a)) [
+        | inr n ↦ y.1.dead n r b ∙ sym (z.1.dead n r b)
+        | inl f ↦
+            let m = y.1.live f.0 f.1 r row.0 row.1 in
+            let n = z.1.live f.0 f.1 r row.0 row.1 in
+            let e = C.one row.0 s.features a n.0 m.0 n.1 m.1 in
+            let l : AreAlike f.0 (finding_at m.0 b) (entry_at q.entries r a b) = rw e at (n.2 b) in
+            option_same (entry_at s.entries r a b) (entry_at p.entries r a b) (entry_at q.entries r a b)
+            (alike_same f.0 (finding_at m.0 b) (entry_at p.entries r a b) (entry_at q.entries r a b) r a b (λ x k. entry_key p.entries r a b x k) (λ x k. entry_key q.entries r a b x k) (m.2 b) l)
+            (λ x k. i.marks r a b x y.0 k) (λ x k. j.marks r a b x y.0 k)
+      ]
+    ]
+  ]
+]
+
+validated_same : CutsRight poster → (w : Rectangle) (s p q : Project) → IsOrdered p → IsOrdered q → IsValidatedBy poster w s p → IsValidatedBy poster w s q → AreSame p q
+validated_same C w s p q u v i j = record {
+  classes = i.classes ∙ sym j.classes;
+  rules = i.rules ∙ sym j.rules;
+  features = i.features ∙ sym j.features;
+  next = i.next ∙ sym j.next;
+  dirt = i.dirt ∙ sym j.dirt;
+  entries = same_entries p.entries q.entries u.entries v.entries (entry_same C w s p q i j);
+}
+
+-- the elements that are chosen are one list
+those_same : {A : Type 0} (P : A → Type 0) (xs ys zs : List A) → IsThose P xs ys → IsThose P xs zs → ys ≡ zs
+those_same P [] ys zs h k = h ∙ sym k
+those_same P (x ∷ xs) ys zs (inl h) (inl k) = h.1.1 ∙ (ap (λ l. x ∷ l) (those_same P xs h.1.0 k.1.0 h.1.2 k.1.2) ∙ sym k.1.1)
+those_same P (x ∷ xs) ys zs (inl h) (inr k) = absurd (k.0 h.0)
+those_same P (x ∷ xs) ys zs (inr h) (inl k) = absurd (h.0 k.0)
+those_same P (x ∷ xs) ys zs (inr h) (inr k) = those_same P xs ys zs h.1 k.1
+
+-- ---- each command
+kept_same : (s t u : State) → IsSame s t → IsSame s u → t ≡ u
+kept_same s t u i j = i.same ∙ sym j.same
+
+left_same : (s t u : State) → t.editor ≡ s.editor → u.editor ≡ s.editor → AreSame t.project u.project → t ≡ u
+left_same s t u e f h = same_state t u (by_parts t.project u.project h) (e ∙ sym f)
+
+judged_same : (a b c x y z : ℕ) → a ≡ x → b ≡ y → c ≡ z → Judged a b c ≡ Judged x y z
+judged_same a b c x y z i j k = rw (i, j, k) refl
+
+pub one_done : CutsRight poster → (s t u : State) (c : Command) (reply said : Reply) → IsOrdered t.project → IsOrdered u.project → IsDone s c reply t → IsDone s c said u → Same reply t said u
+one_done C s t u Blank reply said v w d e = (d.0 ∙ sym e.0, kept_same s t u d.1 e.1)
+one_done C s t u (Class name k) reply said v w d e = (
+  d.0 ∙ sym e.0,
+  left_same s t u d.1.editor e.1.editor (record {
+    classes = d.1.project.classes ∙ sym e.1.project.classes;
+    rules = d.1.project.rules ∙ sym e.1.project.rules;
+    features = d.1.project.features ∙ sym e.1.project.features;
+    next = d.1.project.next ∙ sym e.1.project.next;
+    dirt = d.1.project.dirt ∙ sym e.1.project.dirt;
+    entries = d.1.project.entries ∙ sym e.1.project.entries;
+  }),
+)
+one_done C s t u (Rule k origin dest) reply said v w (m, d, i) (n, e, j) =
+    let same : m ≡ n = least_same s.project t.project u.project m n _ i.project j.project in
+    (d ∙ (ap Number same ∙ sym e), left_same s t u i.editor j.editor (rule_same s.project t.project u.project n _ v w (rw same at i.project) j.project))
+one_done C s t u (DropRule r) reply said v w d e = (d.0 ∙ sym e.0, left_same s t u d.1.editor e.1.editor (dropped_same s.project t.project u.project r v w d.1.project e.1.project))
+one_done C s t u (Begin editor) reply said v w d e = (d.0 ∙ sym e.0, same_state t u (d.1.project ∙ sym e.1.project) (d.1.editor ∙ sym e.1.editor))
+one_done C s t u (End editor) reply said v w d e = absurd d
+one_done C s t u (Discard editor) reply said v w d e = absurd d
+one_done C s t u (Add editor class shape) reply said v w (g, d, i) (h, e, j) =
+    let same : g ≡ h = i.project.number ∙ sym j.project.number in
+    let k = rw same at i.project.edit in
+    (d ∙ (ap Number same ∙ sym e), left_same s t u i.editor j.editor (edit_same h _ s.project t.project u.project v w k j.project.edit (i.project.next ∙ sym j.project.next)))
+one_done C s t u (Change editor h shape) reply said v w d e =
+    (d.0 ∙ sym e.0, left_same s t u d.1.editor e.1.editor (edit_same h _ s.project t.project u.project v w d.1.project.edit e.1.project.edit (d.1.project.next ∙ sym e.1.project.next)))
+one_done C s t u (Delete editor h) reply said v w d e =
+    (d.0 ∙ sym e.0, left_same s t u d.1.editor e.1.editor (edit_same h None s.project t.project u.project v w d.1.project.edit e.1.project.edit (d.1.project.next ∙ sym e.1.project.next)))
+one_done C s t u (Undo editor) reply said v w d e = absurd d
+one_done C s t u (Redo editor) reply said v w d e = absurd d
+one_done C s t u (Validate win) reply said v w (j1, e1, d1, is1, l1) (j2, e2, d2, is2, l2) =
+    let p = l1.project in
+    let q = l2.project in
+    let parts = validated_same C win s.project t.project u.project v w p.validated q.validated in
+    let chosen = those_same _ s.project.features p.selected q.selected p.those q.those in
+    let judged : j1 ≡ j2 = p.judged_is ∙ (ap (λ fs. judged_of s.project.rules fs) chosen ∙ sym q.judged_is) in
+    let errors : e1 ≡ e2 = p.errors_is ∙ (ap length parts.entries ∙ sym q.errors_is) in
+    let dirty : d1 ≡ d2 = p.dirty_is ∙ (ap length parts.dirt ∙ sym q.dirty_is) in
+    (is1 ∙ (judged_same j1 e1 d1 j2 e2 d2 judged errors dirty ∙ sym is2), left_same s t u l1.editor l2.editor parts)
+one_done C s t u (Mark r h g) reply said v w d e = absurd d
+one_done C s t u (Unmark r h g) reply said v w d e = absurd d
+one_done C s t u Dirty reply said v w d e = (d.0 ∙ sym e.0, kept_same s t u d.1 e.1)
+one_done C s t u Errors reply said v w d e = (d.0 ∙ sym e.0, kept_same s t u d.1 e.1)
+one_done C s t u Cells reply said v w d e = (d.0 ∙ sym e.0, kept_same s t u d.1 e.1)
+one_done C s t u Features reply said v w d e = (d.0 ∙ sym e.0, kept_same s t u d.1 e.1)
+one_done C s t u Rules reply said v w d e = absurd d
+
+pub one_answer : CutsRight poster → (s t u : State) (c : Command) (reply said : Reply) → IsOrdered t.project → IsOrdered u.project → Answers s c reply t → Answers s c said u → Same reply t said u
+one_answer C s t u c reply said v w d e = by (refusal_of s c) d e
+  where
+    by : (o : Option Refusal) → answers_by o s c reply t → answers_by o s c said u → Same reply t said u
+    by (Some r) i j = (i.0 ∙ sym j.0, kept_same s t u i.1 j.1)
+    by None i j = one_done C s t u c reply said v w i j

@@ -1,5 +1,0 @@
-pub mod WindowNumbers
-pub mod Groups
-pub mod Numbers
-pub mod OneForm
-mod Rows

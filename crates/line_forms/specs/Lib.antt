@@ -1,5 +1,0 @@
-pub mod WindowNumbers
-pub mod Forms
-pub mod Groups
-pub mod Seen
-pub mod Faults

@@ -1,0 +1,92 @@
+-- The forms of a script's lines.
+--
+-- Piece              what stands in a field, or at the end of a line
+-- Says field p       the field is this piece
+-- IsLine text ps     the text is these pieces, one a field, between blanks and perhaps blanks at both ends
+-- written w          the pieces of a window
+-- pieces s w c       the table: the pieces of each command, in order; s and w give those of its shape and of its window
+-- HasForm line f     the line has the form; at most one form has a given line
+--
+-- A handle is from 1, a partner from 0, both to 4,294,967,295; a rule's number is from 1 to 65,535; zeros in front are free.
+-- A number outside these bounds is no such piece. Of a window's number any size is a piece. Words are in lower case, and case counts.
+-- The form says nothing of a line's length, and nothing of what its shape's text is. Source: own.
+use Rattle.std.specs.Prelude.{◌≡◌, ℕ, ℤ, Bool, true, false, List, [], ◌∷◌, Option, Some, None, is_some, codes, IsTrue}
+use Rattle.plane_terms.specs.declared.kind.Kind.{Kind}
+use Rattle.plane_terms.specs.declared.kind.Kind.TheVariants as shapes
+use Rattle.text_terms.specs.Fields.{is_name, skip_blanks, front_field, behind_field, skip_end_blanks, is_skipped}
+use Rattle.text_terms.specs.Numbers.{IsSigned, IsWithinText}
+use Rattle.rule_words.specs.Table.{word_of, dest_of}
+use Rattle.line_terms.specs.Commands.{CommandOf, Blank, Class, Rule, DropRule, Begin, End, Discard, Add, Change, Delete, Undo, Redo, Validate, Mark, Unmark, Dirty, Errors, Cells, Features, Rules, Window, All, Numbers, Form}
+
+-- ---- what stands in a field
+pub data Piece : Type 0 where
+  Word : List ℕ → Piece  -- these bytes
+  Name : List ℕ → Piece  -- these bytes, which are a name
+  Number : ℕ → ℕ → ℕ → Piece  -- digits of a value from the first number to the second: the third
+  Whole : ℤ → Piece  -- digits, with a `-` before them or without, of this value
+  Rest : List ℕ → Piece  -- all that is left, without the blanks at its ends
+  Remark : Piece  -- nothing, or all that is left behind a `#`
+  Never : Piece  -- no text
+
+abbrev pub Says : List ℕ → Piece → Type 0
+Says field (Word w) = field ≡ w
+Says field (Name n) = (field ≡ n) × IsTrue (is_name n)
+Says field (Number low high n) = IsWithinText low high field n
+Says field (Whole z) = IsSigned field z
+Says field other = ⊥
+
+abbrev pub IsLine : List ℕ → List Piece → Type 0
+IsLine text [] = skip_blanks text ≡ []
+IsLine text (Rest r ∷ ps) = (skip_end_blanks (skip_blanks text) ≡ r) × (ps ≡ [])
+IsLine text (Remark ∷ ps) = (is_skipped text ≡ true) × (ps ≡ [])
+IsLine text (p ∷ ps) = Says (front_field (skip_blanks text)) p × IsLine (behind_field (skip_blanks text)) ps
+
+-- ---- the table of forms
+abbrev pub kind_word : Kind → List ℕ
+kind_word shapes.Point = codes "point"
+kind_word shapes.Line = codes "line"
+kind_word shapes.Polygon = codes "polygon"
+
+-- a second name where the rule takes a second class, and none where it takes none
+abbrev pub second_class : Bool → Option (List ℕ) → List Piece
+second_class false None = []
+second_class true (Some n) = Name n ∷ []
+second_class takes other = Never ∷ []
+
+abbrev pub rule_number : ℕ → Piece
+rule_number r = Number 1 65535 r
+
+abbrev pub handle : ℕ → Piece
+handle h = Number 1 4294967295 h
+
+abbrev pub partner : ℕ → Piece
+partner h = Number 0 4294967295 h
+
+abbrev pub written : Window → List Piece
+written All = Word (codes "all") ∷ []
+written (Numbers r) = Whole r.x0 ∷ Whole r.y0 ∷ Whole r.x1 ∷ Whole r.y1 ∷ []
+
+abbrev pub pieces : {S W : Type 0} → (S → Piece) → (W → List Piece) → CommandOf S W → List Piece
+pieces s w Blank = Remark ∷ []
+pieces s w (Class n k) = Word (codes "class") ∷ Name n ∷ Word (kind_word k) ∷ []
+pieces s w (Rule k origin dest) = Word (codes "rule") ∷ Word (word_of k) ∷ Name origin ∷ second_class (is_some (dest_of k)) dest
+pieces s w (DropRule r) = Word (codes "droprule") ∷ rule_number r ∷ []
+pieces s w (Begin e) = Word (codes "begin") ∷ Name e ∷ []
+pieces s w (End e) = Word (codes "end") ∷ Name e ∷ []
+pieces s w (Discard e) = Word (codes "discard") ∷ Name e ∷ []
+pieces s w (Add e c shape) = Word (codes "by") ∷ Name e ∷ Word (codes "add") ∷ Name c ∷ s shape ∷ []
+pieces s w (Change e h shape) = Word (codes "by") ∷ Name e ∷ Word (codes "change") ∷ handle h ∷ s shape ∷ []
+pieces s w (Delete e h) = Word (codes "by") ∷ Name e ∷ Word (codes "delete") ∷ handle h ∷ []
+pieces s w (Undo e) = Word (codes "by") ∷ Name e ∷ Word (codes "undo") ∷ []
+pieces s w (Redo e) = Word (codes "by") ∷ Name e ∷ Word (codes "redo") ∷ []
+pieces s w (Validate window) = Word (codes "validate") ∷ w window
+pieces s w (Mark r a b) = Word (codes "mark") ∷ rule_number r ∷ handle a ∷ partner b ∷ []
+pieces s w (Unmark r a b) = Word (codes "unmark") ∷ rule_number r ∷ handle a ∷ partner b ∷ []
+pieces s w Dirty = Word (codes "dirty") ∷ []
+pieces s w Errors = Word (codes "errors") ∷ []
+pieces s w Cells = Word (codes "cells") ∷ []
+pieces s w Features = Word (codes "features") ∷ []
+pieces s w Rules = Word (codes "rules") ∷ []
+
+abbrev pub HasForm : List ℕ → Form → Type 0
+HasForm line f = IsLine line (pieces Rest written f)

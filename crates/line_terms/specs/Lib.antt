@@ -1,0 +1,4 @@
+pub mod Commands
+pub mod Forms
+pub mod Windows
+pub mod Lines

@@ -1,0 +1,23 @@
+-- The exit statuses.
+--
+-- code_of status           the number of the status
+-- status_of end refused    the status after all lines were answered, by how the reading ended and whether one was refused
+use Rattle.std.specs.Prelude.{ℕ, Bool, if◌then◌else◌}
+use Rattle.outside_terms.specs.declared.end.End.{End}
+use Rattle.outside_terms.specs.declared.end.End.TheVariants.{AtEnd, Failed, TooLong}
+use Rattle.outside_terms.specs.declared.status.Status.{Status}
+use Rattle.outside_terms.specs.declared.status.Status.TheVariants as status
+
+abbrev pub code_of : Status → ℕ
+code_of status.Done = 0
+code_of status.Refused = 1
+code_of status.Usage = 2
+code_of status.ReadFault = 3
+code_of status.WriteFault = 4
+code_of status.NoMemory = 5
+code_of status.TooLong = 10
+
+abbrev pub status_of : End → Bool → Status
+status_of AtEnd refused = if refused then status.Refused else status.Done
+status_of Failed refused = status.ReadFault
+status_of TooLong refused = status.TooLong

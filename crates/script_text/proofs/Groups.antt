@@ -1,0 +1,110 @@
+-- Where no reader of a group finds a form there is none of the group.
+use Rattle.std.proofs.Common.{ℕ, ◌≡◌, ◌≢◌, true, false, List, [], ◌∷◌, Option, Some, None, refl}
+use Rattle.std.specs.Prelude.{codes}
+use Rattle.plane_terms.specs.declared.kind.Kind.{Kind}
+use Rattle.plane_terms.specs.declared.kind.Kind.TheVariants as shapes
+use Rattle.text_terms.specs.Fields.{is_skipped}
+use Rattle.rule_words.specs.declared.rule_kind.RuleKind.{RuleKind}
+use Rattle.line_terms.specs.Commands.{Command, Form, All}
+use Rattle.line_terms.specs.Commands as form
+use Rattle.line_terms.specs.Forms.{Piece, Word, Name, Rest, HasForm, IsLine, pieces, written, kind_word, second_class, rule_number, handle, partner}
+use Rattle.line_terms.specs.Lines.{Holds, IsSpelling}
+use Rattle.line_terms.specs.Windows.{IsWindow}
+use Rattle.wkt_terms.specs.Shapes.{IsShapeText}
+use Rattle.script_text.specs.Edits.{behind_editor}
+use Rattle.script_text.specs.Groups.{Group, group_of, NoneOf, IsPlain, IsBare, Skipped, Classes, Sessions, Edits, Validations, Marks, Listings}
+
+pub no_kind : (text : List ℕ) → (IsLine text (Word (codes "point") ∷ []) → ⊥) → (IsLine text (Word (codes "line") ∷ []) → ⊥) → (IsLine text (Word (codes "polygon") ∷ []) → ⊥)
+    → (k : Kind) → IsLine text (Word (kind_word k) ∷ []) → ⊥
+no_kind text p l g shapes.Point h = p h
+no_kind text p l g shapes.Line h = l h
+no_kind text p l g shapes.Polygon h = g h
+
+pub no_second : (text : List ℕ) → ((n : List ℕ) → IsLine text (Name n ∷ []) → ⊥) → (d : Option (List ℕ)) → IsLine text (second_class true d) → ⊥
+no_second text none None h = h.0
+no_second text none (Some n) h = none n h
+
+pub no_first : (text : List ℕ) → (IsLine text [] → ⊥) → (d : Option (List ℕ)) → IsLine text (second_class false d) → ⊥
+no_first text none None h = none h
+no_first text none (Some n) h = h.0
+
+pub no_class : (line : List ℕ)
+    → ((n : List ℕ) (k : Kind) → HasForm line (form.Class n k) → ⊥)
+    → ((k : RuleKind) (n : List ℕ) (d : Option (List ℕ)) → HasForm line (form.Rule k n d) → ⊥)
+    → ((r : ℕ) → HasForm line (form.DropRule r) → ⊥)
+    → NoneOf Classes line
+no_class line class rule drop (form.Class n k) g p = class n k p
+no_class line class rule drop (form.Rule k n d) g p = rule k n d p
+no_class line class rule drop (form.DropRule r) g p = drop r p
+no_class line class rule drop f g p = absurd cc
+
+pub no_session : (line : List ℕ)
+    → ((n : List ℕ) → IsLine line (Word (codes "begin") ∷ Name n ∷ []) → ⊥)
+    → ((n : List ℕ) → IsLine line (Word (codes "end") ∷ Name n ∷ []) → ⊥)
+    → ((n : List ℕ) → IsLine line (Word (codes "discard") ∷ Name n ∷ []) → ⊥)
+    → NoneOf Sessions line
+no_session line begin end discard (form.Begin e) g p = begin e p
+no_session line begin end discard (form.End e) g p = end e p
+no_session line begin end discard (form.Discard e) g p = discard e p
+no_session line begin end discard f g p = absurd cc
+
+-- behind the editor
+pub no_edit : (text : List ℕ)
+    → ((c s : List ℕ) → IsLine text (Word (codes "add") ∷ Name c ∷ Rest s ∷ []) → ⊥)
+    → ((h : ℕ) (s : List ℕ) → IsLine text (Word (codes "change") ∷ handle h ∷ Rest s ∷ []) → ⊥)
+    → ((h : ℕ) → IsLine text (Word (codes "delete") ∷ handle h ∷ []) → ⊥)
+    → (IsLine text (Word (codes "undo") ∷ []) → ⊥)
+    → (IsLine text (Word (codes "redo") ∷ []) → ⊥)
+    → (f : Form) → group_of f ≡ Edits → IsLine text (behind_editor (pieces Rest written f)) → ⊥
+no_edit text add change delete undo redo (form.Add e c s) g p = add c s p
+no_edit text add change delete undo redo (form.Change e h s) g p = change h s p
+no_edit text add change delete undo redo (form.Delete e h) g p = delete h p
+no_edit text add change delete undo redo (form.Undo e) g p = undo p
+no_edit text add change delete undo redo (form.Redo e) g p = redo p
+no_edit text add change delete undo redo f g p = absurd cc
+
+pub no_mark : (line : List ℕ)
+    → ((r a b : ℕ) → IsLine line (Word (codes "mark") ∷ rule_number r ∷ handle a ∷ partner b ∷ []) → ⊥)
+    → ((r a b : ℕ) → IsLine line (Word (codes "unmark") ∷ rule_number r ∷ handle a ∷ partner b ∷ []) → ⊥)
+    → NoneOf Marks line
+no_mark line mark unmark (form.Mark r a b) g p = mark r a b p
+no_mark line mark unmark (form.Unmark r a b) g p = unmark r a b p
+no_mark line mark unmark f g p = absurd cc
+
+pub no_listing : (line : List ℕ)
+    → (HasForm line form.Dirty → ⊥) → (HasForm line form.Errors → ⊥) → (HasForm line form.Cells → ⊥) → (HasForm line form.Features → ⊥) → (HasForm line form.Rules → ⊥)
+    → NoneOf Listings line
+no_listing line dirty errors cells features rules form.Dirty g p = dirty p
+no_listing line dirty errors cells features rules form.Errors g p = errors p
+no_listing line dirty errors cells features rules form.Cells g p = cells p
+no_listing line dirty errors cells features rules form.Features g p = features p
+no_listing line dirty errors cells features rules form.Rules g p = rules p
+no_listing line dirty errors cells features rules f g p = absurd cc
+
+pub no_words : (line : List ℕ) → NoneOf Edits line → NoneOf Validations line
+    → NoneOf Listings line × NoneOf Classes line × NoneOf Sessions line × NoneOf Marks line
+    → (f : Form) → group_of f ≢ Skipped → HasForm line f → ⊥
+no_words line edits validations plain f other p = by (group_of f) refl
+  where
+    by : (g : Group) → group_of f ≡ g → ⊥
+    by Skipped e = other e
+    by Classes e = plain.1 f e p
+    by Sessions e = plain.2 f e p
+    by Edits e = edits f e p
+    by Validations e = validations f e p
+    by Marks e = plain.3 f e p
+    by Listings e = plain.0 f e p
+
+pub no_form : (line : List ℕ) → is_skipped line ≡ false → ((f : Form) → group_of f ≢ Skipped → HasForm line f → ⊥) → (f : Form) → HasForm line f → ⊥
+no_form line plain none form.Blank p = cc
+no_form line plain none f p = none f (λ e. cc) p
+
+-- a command that has no shape and no window
+meant : (c : Command) → IsPlain c → Holds (IsShapeText []) (IsWindow All) c
+meant (form.Add e c shape) p = absurd p
+meant (form.Change e h shape) p = absurd p
+meant (form.Validate window) p = absurd p
+meant other p = tt
+
+pub bare : (line : List ℕ) (c : Command) → IsBare line c → IsSpelling line c
+bare line c h = record { text = []; window = All; spelled = h.1; meant = meant c h.0 }

@@ -1,0 +1,42 @@
+// Cells inside and outside of polygons that were counted by hand.
+use crate::given::{place, ring};
+use column_cut::{inside, outside};
+use plain_shapes::is_inside;
+use std::test::Fail;
+
+// One cell inside, which is the whole column; outside two sides, two slots in the column and two stretches on each wall.
+#[test]
+fn a_square(rt: HostRuntime) -> Result<(), Fail> {
+    let alloc = rt.alloc();
+    let segments = ring(alloc, &[(0, 0), (10, 0), (10, 10), (0, 10)])?;
+    assert_eq!(rt; inside(alloc, &segments)?.len(), 1);
+    assert_eq!(rt; outside(alloc, &segments)?.len(), 8);
+    Ok(())
+}
+
+// The polygon that docs/columns.md draws: two columns inside, and between them the stretch of the wall below its notch.
+#[test]
+fn a_notched_polygon(rt: HostRuntime) -> Result<(), Fail> {
+    let alloc = rt.alloc();
+    let segments = ring(alloc, &[(0, 0), (8, 0), (8, 6), (4, 6), (4, 2), (0, 2)])?;
+    assert_eq!(rt; inside(alloc, &segments)?.len(), 3);
+    assert_eq!(rt; outside(alloc, &segments)?.len(), 12);
+    Ok(())
+}
+
+// By the definition as a plain program: between a square and its hole, on neither.
+#[test]
+fn a_square_with_a_hole(rt: HostRuntime) -> Result<(), Fail> {
+    let alloc = rt.alloc();
+    let mut segments = ring(alloc, &[(0, 0), (10, 0), (10, 10), (0, 10)])?;
+    for segment in ring(alloc, &[(3, 3), (3, 7), (7, 7), (7, 3)])? {
+        segments.push(segment)?;
+    }
+    for (x, y) in [(1, 5), (5, 1), (3, 1), (8, 8)] {
+        assert!(rt; is_inside(&segments, place(x, y)?), "{x} {y}");
+    }
+    for (x, y) in [(5, 5), (11, 5), (5, -1), (0, 5), (10, 10), (3, 3), (5, 7)] {
+        assert!(rt; !is_inside(&segments, place(x, y)?), "{x} {y}");
+    }
+    Ok(())
+}

@@ -1,0 +1,13 @@
+// Tests of the plane's crates, by what they hand out: cells, columns, dirt, shapes.
+#![tactic(auto)]
+
+#[cfg(test)]
+mod cells;
+#[cfg(test)]
+mod columns;
+#[cfg(test)]
+mod dirt;
+#[cfg(test)]
+mod given;
+#[cfg(test)]
+mod shapes;

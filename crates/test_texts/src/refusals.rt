@@ -1,0 +1,68 @@
+// The text of each refusal.
+use reply_text::{Cause, Refusal, Reply, push_reply};
+use rule_set::PosterRules;
+use script_text::LineRefusal;
+use shape::ShapeFault;
+use std::test::Fail;
+use topo_core::Topology;
+
+const REFUSALS: [Refusal; 22] = [
+    Refusal::Line(LineRefusal::NotALine),
+    Refusal::Line(LineRefusal::TooLong),
+    Refusal::Change(Cause::ClassTaken),
+    Refusal::Change(Cause::ClassesFull),
+    Refusal::Change(Cause::NoClass),
+    Refusal::Change(Cause::Unfit),
+    Refusal::Change(Cause::RuleThere),
+    Refusal::Change(Cause::RulesFull),
+    Refusal::Change(Cause::NoRule),
+    Refusal::NoSession,
+    Refusal::Change(Cause::WrongKind),
+    Refusal::Line(LineRefusal::OffGrid { at: 7 }),
+    Refusal::Line(LineRefusal::OutOfReach { at: 3 }),
+    Refusal::Line(LineRefusal::Unsupported { at: 0 }),
+    Refusal::Line(LineRefusal::NotClosed { ring: 2 }),
+    Refusal::Line(LineRefusal::Invalid(ShapeFault::TooFew { part: 1 })),
+    Refusal::Line(LineRefusal::Invalid(ShapeFault::TooMany { count: 2001 })),
+    Refusal::Line(LineRefusal::Invalid(ShapeFault::Cross { i: 0, j: 2 })),
+    Refusal::Line(LineRefusal::Invalid(ShapeFault::Along { i: 1, j: 3 })),
+    Refusal::Change(Cause::NoFeature),
+    Refusal::Change(Cause::HandlesSpent),
+    Refusal::Line(LineRefusal::Reversed),
+];
+
+const TEXT: &[u8] = b"refused E01
+refused E02
+refused E03
+refused E04
+refused E05
+refused E06
+refused E07
+refused E08
+refused E09
+refused E12
+refused E13
+refused E14 7
+refused E15 3
+refused E16 0
+refused E17 2
+refused E18 few 1
+refused E18 many 2001
+refused E18 cross 0 2
+refused E18 along 1 3
+refused E19
+refused E21
+refused E24
+";
+
+#[test]
+fn each_refusal_once(rt: HostRuntime) -> Result<(), Fail> {
+    let alloc = rt.alloc();
+    let topology = Topology::new(alloc, PosterRules);
+    let mut out = Vec::new(alloc);
+    for refusal in REFUSALS {
+        push_reply(&mut out, &topology, Reply::Refused(refusal))?;
+    }
+    assert_eq!(rt; out.as_slice(), TEXT);
+    Ok(())
+}

@@ -1,0 +1,9 @@
+// Tests of the topology, its stores, the outside, and the definitions as plain programs.
+#![tactic(auto)]
+
+#[cfg(test)]
+mod definitions;
+#[cfg(test)]
+mod outside;
+#[cfg(test)]
+mod town;

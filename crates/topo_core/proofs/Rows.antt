@@ -1,0 +1,62 @@
+-- Rows that are equal, and classes that fit a row, as their tests tell.
+use Rattle.std.proofs.Common.{◌≡◌, ℕ, Bool, true, false, ◌&&◌, ◌||◌, not, refl, ap, ◌∙◌, List, [], ◌∷◌, Option, Some, None, arith}
+use Rattle.std.specs.Prelude.{◌==◌, bytes_eq, is_none, IfSome}
+use Rattle.std.specs.List.{list_any}
+use Rattle.std.proofs.lemmas.Bool.Decides.{nat_tests}
+use Rattle.std.proofs.lemmas.Slice.Eq.{bytes_eq-Decides}
+use Rattle.plane_terms.specs.declared.kind.Kind.{Kind}
+use Rattle.rule_words.specs.Table.{word_of, origin_of, dest_of}
+use Rattle.rule_words.specs.declared.rule_kind.RuleKind.{RuleKind}
+use Rattle.topology_terms.specs.Feature.{Class}
+use Rattle.topology_terms.specs.Broken.{Row}
+use Rattle.topology_terms.specs.Project.{InForce, rule_at}
+use Rattle.topology_terms.specs.Lookups.{kind_of_class}
+use Rattle.topology_terms.specs.Causes.{when, first_of, is_kind, is_row, is_there, is_missing, is_fit, lacks_dest, fits_dest, fit_cause}
+use Rattle.topology_terms.specs.declared.cause.Cause.{Cause}
+use Rattle.topology_terms.specs.declared.cause.Cause.TheVariants as cause
+use Rattle.feature_store.proofs.Keeping.{kinds_same}
+use Rattle.topo_core.specs.Kinds.{HasKinds}
+
+own_number : (n : ℕ) → (n == n) ≡ true
+own_number n = grind (arith, nat_tests)
+
+pub own_row : (r : Row) → is_row r r ≡ true
+own_row r = rw ((bytes_eq-Decides (word_of r.kind) (word_of r.kind)).1 refl, own_number r.origin.class, own_number r.dest.class) refl
+
+-- ---- a rule of the row
+true_last : (t : Bool) → (t || true) ≡ true
+true_last true = refl
+true_last false = refl
+
+pub somewhere : (row : Row) (rs : List InForce) (n : ℕ) → rule_at rs n ≡ Some row → is_there rs row ≡ true
+unfolding rule_at
+somewhere row [] n e = absurd cc
+somewhere row (q ∷ rs) n e = by (q.number == n) refl (somewhere row rs n)
+  where
+    by : (t : Bool) → (q.number == n) ≡ t → (rule_at rs n ≡ Some row → is_there rs row ≡ true) → is_there (q ∷ rs) row ≡ true
+    by true t rest = let same : q.row ≡ row = (let f = rw t at e in cc) in rw (same, own_row row) refl
+    by false t rest = rw (rest (rw t at e)) (true_last (is_row q.row row))
+
+-- ---- classes that serve the row have its kinds
+kind_told : (o : Option Kind) (k : Kind) → is_kind o k ≡ true → o ≡ Some k
+kind_told None k e = cc
+kind_told (Some l) k e = ap (λ m. Some m) (kinds_same l k e)
+
+both : (s t : Bool) → (s && t) ≡ true → (s ≡ true) × (t ≡ true)
+both true true e = (refl, refl)
+both true false e = absurd cc
+both false t e = absurd cc
+
+no_fault : (s t : Bool) → first_of (when s cause.NoClass ∷ when (not t) cause.Unfit ∷ []) ≡ None → t ≡ true
+no_fault true t e = cc
+no_fault false true e = refl
+no_fault false false e = cc
+
+dest_told : (cs : List Class) (row : Row) (o : Option Kind) → fits_dest cs row o ≡ true → IfSome o (λ k. kind_of_class cs row.dest.class ≡ Some k)
+dest_told cs row None e = tt
+dest_told cs row (Some k) e = kind_told (kind_of_class cs row.dest.class) k (both (is_kind (kind_of_class cs row.dest.class) k) (not (row.dest.class == row.origin.class)) e).0
+
+pub has_kinds : (cs : List Class) (row : Row) → fit_cause cs row ≡ None → HasKinds cs row
+has_kinds cs row e =
+    let fit = both (is_kind (kind_of_class cs row.origin.class) (origin_of row.kind)) (fits_dest cs row (dest_of row.kind)) (no_fault (is_missing cs row) (is_fit cs row) e) in
+    record { origin = kind_told (kind_of_class cs row.origin.class) (origin_of row.kind) fit.0; dest = dest_told cs row (dest_of row.kind) fit.1 }

@@ -1,0 +1,123 @@
+"""Cells as the corners of their closures, and what a list of them covers, exactly."""
+from __future__ import annotations
+
+from fractions import Fraction
+from math import gcd
+from typing import NamedTuple
+
+from .outlines import Outline, Point, line_key, outlines_of, turn
+from .replies import Error, Frame, Half
+
+Segment = tuple[Point, Point]
+Triple = tuple[int, int, int]
+Span = tuple[Fraction, Fraction]
+
+
+class Cover(NamedTuple):
+    """What the closures of cells cover: polygons, what is left of lines beside them, and points beside both."""
+
+    polygons: list[Outline]
+    lines: list[Segment]
+    points: list[Point]
+
+
+def clipped(polygon: list[Triple], a: int, b: int, c: int) -> list[Triple]:
+    """The part of a convex polygon where the half-plane's term is at least 0; a corner is (x * w, y * w, w), w being over 0."""
+    values = [a * x + b * y + c * w for x, y, w in polygon]
+    if min(values) >= 0:
+        return polygon
+    out = []
+    for i, (p, u) in enumerate(zip(polygon, values)):
+        q, v = polygon[i + 1 - len(polygon)], values[i + 1 - len(polygon)]
+        if u >= 0:
+            out.append(p)
+        if (u > 0 > v) or (u < 0 < v):
+            x, y, w = (abs(v) * of_p + abs(u) * of_q for of_p, of_q in zip(p, q))
+            common = gcd(x, y, w)
+            out.append((x // common, y // common, w // common))
+    return list(dict.fromkeys(out))
+
+
+def corners_of(frame: Frame, cell: list[Half]) -> list[Point]:
+    """The corners of a cell's closure: of a polygon counter-clockwise, of a segment its two ends, or one point; of none nothing."""
+    x0, y0, x1, y1 = frame
+    triples = [(x0 - 1, y0 - 1, 1), (x1 + 1, y0 - 1, 1), (x1 + 1, y1 + 1, 1), (x0 - 1, y1 + 1, 1)]
+    for a, b, c, op in cell:
+        triples = clipped(triples, a, b, c) if triples else []
+        if op == '=':
+            triples = clipped(triples, -a, -b, -c) if triples else []
+    corners = [(Fraction(x, w), Fraction(y, w)) for x, y, w in triples]
+    if len(corners) > 1 and all(turn(corners[0], corners[1], r) == 0 for r in corners[2:]):
+        return sorted({min(corners), max(corners)})
+    return [q for p, q, r in zip(corners[-1:] + corners[:-1], corners, corners[1:] + corners[:1]) if len(corners) < 3 or turn(p, q, r) != 0]
+
+
+def rectangle(frame: Frame) -> list[Point]:
+    """The corners of a closed rectangle, which may be a line or a point."""
+    x0, y0, x1, y1 = map(Fraction, frame)
+    return list(dict.fromkeys([(x0, y0), (x1, y0), (x1, y1), (x0, y1)]))
+
+
+def closures_of(error: Error) -> list[list[Point]]:
+    """The corners of each cell of an error; of its frame where the listing has no cells."""
+    if not error.cells:
+        return [rectangle(error.frame)]
+    return [corners for corners in (corners_of(error.frame, cell) for cell in error.cells) if corners]
+
+
+def span_in(segment: Segment, polygon: list[Point]) -> Span:
+    """Which part of a segment lies in a convex polygon with its border, from 0 to 1; an empty one ends before it begins."""
+    low, high = Fraction(0), Fraction(1)
+    for p, q in zip(polygon, polygon[1:] + polygon[:1]):
+        u, v = turn(p, q, segment[0]), turn(p, q, segment[1])
+        if u < 0 and v < 0:
+            return Fraction(1), Fraction(0)
+        if u < 0 or v < 0:
+            t = u / (u - v)
+            low, high = (max(low, t), high) if u < 0 else (low, min(high, t))
+    return low, high
+
+
+def rest_of(segment: Segment, polygons: list[list[Point]]) -> list[Segment]:
+    """The parts of a segment that lie in none of the polygons."""
+    (x, y), (u, v) = segment
+    at = lambda t: (x + t * (u - x), y + t * (v - y))
+    left, parts = Fraction(0), []
+    near = [polygon for polygon in polygons if min(polygon)[0] <= max(x, u) and max(polygon)[0] >= min(x, u)]
+    for low, high in sorted(span for span in (span_in(segment, polygon) for polygon in near) if span[0] <= span[1]):
+        if low > left:
+            parts.append((at(left), at(low)))
+        left = max(left, high)
+    return parts + ([(at(left), segment[1])] if left < 1 else [])
+
+
+def joined(segments: list[Segment]) -> list[Segment]:
+    """The same points with as few segments on each line as there can be."""
+    by_line: dict[tuple, list[Segment]] = {}
+    for segment in segments:
+        by_line.setdefault(line_key(*segment), []).append((min(segment), max(segment)))
+    out: list[Segment] = []
+    for line in by_line.values():
+        start, end = None, None
+        for p, q in sorted(line):
+            if end is not None and p <= end:
+                end = max(end, q)
+                continue
+            out += [(start, end)] if end is not None else []
+            start, end = p, q
+        out.append((start, end))
+    return sorted(out)
+
+
+def holds(segment: Segment, point: Point) -> bool:
+    return turn(*segment, point) == 0 and min(segment) <= point <= max(segment)
+
+
+def cover_of(closures: list[list[Point]]) -> Cover:
+    """What the closures cover: cells that share sides are one polygon, and nothing is told twice."""
+    areas = [corners for corners in closures if len(corners) > 2]
+    lines = joined([part for corners in closures if len(corners) == 2 for part in rest_of((corners[0], corners[1]), areas)])
+    points = sorted({corners[0] for corners in closures if len(corners) == 1})
+    inside = lambda point: any(all(turn(p, q, point) >= 0 for p, q in zip(area, area[1:] + area[:1])) for area in areas)
+    alone = [point for point in points if not inside(point) and not any(holds(line, point) for line in lines)]
+    return Cover(outlines_of(areas), lines, alone)

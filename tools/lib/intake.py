@@ -1,0 +1,177 @@
+"""The way from sources to features of a script: layers and classes, the common grid, and a report of what became of each feature."""
+from __future__ import annotations
+
+import csv
+import os
+import sys
+import time
+from fractions import Fraction
+from typing import Iterator, NamedTuple, Optional, TextIO
+
+from .grid import Extent, Grid, GridError, chosen_grid, decimal_text
+from .ogr import Feature, Layer, SourceError, features_of, layer_names, layer_of
+from .scripts import Converter, LeftOut, Taken, class_name, kind_of_layer, moved_text
+
+SHOWN = 3
+PAUSE = 5
+
+
+class Class(NamedTuple):
+    """A class of the script, and the layer whose features it takes."""
+
+    name: str
+    kind: str
+    layer: Layer
+
+
+class Arrival(NamedTuple):
+    """A feature with the class that it goes to, and a shape that it has there; the handle is the next one."""
+
+    of_class: Class
+    feature: Feature
+    taken: Taken
+    handle: int
+
+
+def say(text: str) -> None:
+    print(text, file=sys.stderr, flush=True)
+
+
+def layers_of(sources: list[str], wanted: list[str]) -> list[Layer]:
+    """The layers of these names, or all, in the order of the sources."""
+    found = [(source, name) for source in sources for name in layer_names(source)]
+    for name in wanted:
+        if name not in [of for _, of in found]:
+            raise SourceError('no layer %r; there are %s' % (name, ', '.join(of for _, of in found) or 'none'))
+    return [layer_of(source, name) for source, name in found if not wanted or name in wanted]
+
+
+def classes_of(layers: list[Layer]) -> list[Class]:
+    """A class for each layer that has features with a shape; what is passed over is told."""
+    classes: list[Class] = []
+    for layer in layers:
+        kind = kind_of_layer(layer)
+        if kind is None:
+            say('layer %s: passed over, since no feature of it is of a kind that a class takes' % layer.name)
+            continue
+        name = class_name(layer.name, {each.name for each in classes})
+        if name != layer.name:
+            say('layer %s: its class is named %s' % (layer.name, name))
+        classes.append(Class(name, kind, layer))
+    if not classes:
+        raise SourceError('there is no layer to read')
+    return classes
+
+
+def source_name(source: str) -> str:
+    """The name of a file; of a connection nothing but its sort, since there may be a password in it."""
+    return os.path.basename(os.path.normpath(source)) if os.path.exists(source) else source.partition(':')[0]
+
+
+def head_of(classes: list[Class]) -> list[str]:
+    """The remark lines of the classes, and the lines that make them."""
+    remarks = ['# grid class %s %s %s %s' % (of.name, of.kind, of.layer.name, source_name(of.layer.source)) for of in classes]
+    return remarks + ['class %s %s' % (of.name, of.kind) for of in classes]
+
+
+def common_crs(classes: list[Class]) -> str:
+    known = {of.layer.crs for of in classes}
+    if len(known) > 1:
+        raise SourceError('the layers %s have different coordinate systems: bring them into one with ogr2ogr -t_srs' %
+                          ' and '.join(of.layer.name for of in classes))
+    if known and known <= {crs for crs in known if crs.startswith('GEOGCRS')}:
+        say('the coordinates are degrees, and so is the grid; for metres bring the source into another system with ogr2ogr -t_srs')
+    return known.pop()
+
+
+def common_extent(classes: list[Class]) -> Extent:
+    known = [of.layer.extent for of in classes if of.layer.extent and of.layer.count]
+    if not known:
+        return (Fraction(0),) * 4
+    x0, y0, x1, y1 = zip(*known)
+    return min(x0), min(y0), max(x1), max(y1)
+
+
+def grid_for(classes: list[Class], resolution: Fraction, origin: Optional[tuple[Fraction, Fraction]]) -> Grid:
+    """The grid of the script: with the origin that is given, or with one in the middle of the extent."""
+    if resolution <= 0:
+        raise GridError('the grid has to be over 0')
+    crs = common_crs(classes)
+    if origin:
+        return Grid(resolution, *origin, crs)
+    grid = chosen_grid(resolution, common_extent(classes), crs)
+    say('the origin is %s %s, near the middle of the extent' % (decimal_text(grid.x), decimal_text(grid.y)))
+    return grid
+
+
+class Report:
+    """What became of each feature: a row each in the table, the first of each kind and the totals on standard error."""
+
+    def __init__(self, table: Optional[TextIO], of: int):
+        self.rows = csv.writer(table, lineterminator='\n') if table else None
+        if self.rows:
+            self.rows.writerow(['layer', 'fid', 'id', 'class', 'handle', 'moved', 'note'])
+        self.of, self.read, self.added, self.left_out, self.moved = of, 0, 0, 0, 0
+        self.most = Fraction(0)
+        self.shown: dict[str, int] = {}
+        self.next_word = time.monotonic() + PAUSE
+
+    def name(self, of: Class, feature: Feature) -> str:
+        return '%s %s%s' % (of.layer.name, feature.fid, ' (%s)' % feature.id if feature.id else '')
+
+    def show(self, sort: str, of: Class, feature: Feature, text: str) -> None:
+        """A line for each feature that is left out, and for the first of each other sort."""
+        self.shown[sort] = self.shown.get(sort, 0) + 1
+        if sort == 'left out' or self.shown[sort] <= SHOWN:
+            say('%s: %s' % (self.name(of, feature), text))
+        if sort != 'left out' and self.shown[sort] == SHOWN:
+            say('.. the rest of these are in the table alone (--table)')
+
+    def row(self, of: Class, feature: Feature, handle: str, moved: str, note: str) -> None:
+        if self.rows:
+            self.rows.writerow([of.layer.name, feature.fid, feature.id, of.name if handle else '', handle, moved, note])
+
+    def leave_out(self, of: Class, feature: Feature, why: str) -> None:
+        self.left_out += 1
+        self.show('left out', of, feature, 'left out: ' + why)
+        self.row(of, feature, '', '', 'left out: ' + why)
+
+    def take(self, arrival: Arrival) -> None:
+        of, feature, taken, handle = arrival
+        moved = moved_text(taken.moved)
+        self.added += 1
+        for note in taken.notes:
+            self.show(note.split()[-1], of, feature, note)
+        if taken.moved:
+            self.moved, self.most = self.moved + 1, max(self.most, taken.moved)
+            self.show('moved', of, feature, 'moved by %s at most' % moved)
+        self.row(of, feature, str(handle), moved if taken.moved else '', '; '.join(taken.notes))
+
+    def count(self) -> None:
+        """A feature has been read; now and then it is told how many."""
+        self.read += 1
+        if time.monotonic() >= self.next_word:
+            say('%s of %s features' % (format(self.read, ','), format(self.of, ',')))
+            self.next_word = time.monotonic() + PAUSE
+
+    def total(self) -> None:
+        say('%s features read, %s added, %s left out; %s moved, by %s at most' %
+            (format(self.read, ','), format(self.added, ','), format(self.left_out, ','), format(self.moved, ','), moved_text(self.most)))
+
+
+def arrivals(classes: list[Class], converter: Converter, id_field: Optional[str], report: Report) -> Iterator[Arrival]:
+    """The shapes of all features, one feature at a time, in the order of their handles; what has none is told in the report."""
+    handle = 1
+    for of in classes:
+        for feature in features_of(of.layer, id_field):
+            report.count()
+            try:
+                shapes = list(converter.shapes(feature.wkt, of.kind))
+            except LeftOut as why:
+                report.leave_out(of, feature, str(why))
+                continue
+            for taken in shapes:
+                arrival = Arrival(of, feature, taken, handle)
+                report.take(arrival)
+                yield arrival
+                handle += 1

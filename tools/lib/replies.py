@@ -1,0 +1,184 @@
+"""A script with its replies, line by line, and what stands at its end: classes, rules, sources of features, errors, dirt."""
+from __future__ import annotations
+
+import json
+from dataclasses import dataclass, field
+from typing import BinaryIO, Iterator, NamedTuple, Optional
+
+from .grid import Grid, Place, grid_of
+
+MOST_BYTES = 1048576
+LISTINGS = ('errors', 'cells', 'dirty', 'features', 'rules')
+
+Half = tuple[int, int, int, str]
+Frame = tuple[int, int, int, int]
+
+
+class ReplyError(Exception):
+    """Replies that are not those of the script; its text says where."""
+
+
+class Answer(NamedTuple):
+    """A line of a script, by its number from 1, with its reply; a skipped line has none."""
+
+    number: int
+    line: str
+    reply: list[str]
+
+
+class Error(NamedTuple):
+    """An error as a listing tells it, with its cells, where the listing has them."""
+
+    mark: str
+    rule: int
+    subject: int
+    other: int
+    extent: str
+    frame: Frame
+    cells: list[list[Half]]
+
+
+class Rule(NamedTuple):
+    word: str
+    origin: str
+    dest: str
+
+
+class Origin(NamedTuple):
+    """Where a feature comes from: its class, its number and its id in the source; in a tile also its handle in the whole, and
+    whether it is a subject of the tile."""
+
+    of_class: str
+    fid: str = ''
+    id: str = ''
+    handle: int = 0
+    is_subject: bool = True
+
+
+def is_skipped(line: bytes) -> bool:
+    """Whether a line has no reply."""
+    text = line[:-1] if line.endswith(b'\r') else line
+    fields = text.strip(b' \t')
+    return len(text) <= MOST_BYTES and (not fields or fields.startswith(b'#'))
+
+
+def reply_of(replies: BinaryIO) -> list[str]:
+    """The next reply: its one line, or a listing with its total."""
+    lines = []
+    for line in replies:
+        lines.append(line.decode('utf-8', 'replace').rstrip('\n'))
+        if lines[-1].startswith(('ok', 'refused', 'total ')):
+            break
+    return lines
+
+
+def answers_of(script: BinaryIO, replies: BinaryIO) -> Iterator[Answer]:
+    """The lines of a script with their replies, one at a time; a ReplyError where there are more lines or more replies."""
+    for number, line in enumerate(script, 1):
+        line = line[:-1] if line.endswith(b'\n') else line
+        text = line.decode('utf-8', 'replace').rstrip('\r')
+        if is_skipped(line):
+            yield Answer(number, text, [])
+            continue
+        reply = reply_of(replies)
+        if not reply:
+            raise ReplyError('line %d has no reply: the replay ended before it' % number)
+        yield Answer(number, text, reply)
+    if replies.read(1):
+        raise ReplyError('there are more replies than lines')
+
+
+def half_of(text: str) -> Half:
+    a, b, c, op = text.split()
+    return int(a), int(b), int(c), op
+
+
+def errors_of(lines: list[str]) -> list[Error]:
+    """The errors of a listing, without its total."""
+    errors: list[Error] = []
+    for line in lines:
+        word, rest = line.split(' ', 1)
+        if word == 'cell':
+            errors[-1].cells.append([half_of(half) for half in rest.split(', ')])
+        else:
+            rule, subject, other, extent, *frame = rest.split()
+            errors.append(Error(word, int(rule), int(subject), int(other), extent, tuple(map(int, frame)), []))
+    return errors
+
+
+@dataclass
+class Listing:
+    """The lines of a listing, the number of its line, and how many lines before it changed something."""
+
+    lines: list[str]
+    number: int
+    changes: int
+
+
+@dataclass
+class Ending:
+    """What stands at the end of a replay, as far as its lines and replies tell."""
+
+    remarks: list[str] = field(default_factory=list)
+    classes: dict[str, str] = field(default_factory=dict)
+    rules: dict[int, Rule] = field(default_factory=dict)
+    origins: dict[int, Origin] = field(default_factory=dict)
+    listings: dict[str, Listing] = field(default_factory=dict)
+    changes: int = 0
+    refused: int = 0
+    waiting: dict = field(default_factory=dict)
+
+    @property
+    def grid(self) -> Optional[Grid]:
+        return grid_of(self.remarks)
+
+    def remark(self, line: str) -> None:
+        """Takes a remark line: of the grid, or of the feature that the next line adds."""
+        fields = line.split(None, 2)
+        if line.startswith('# grid '):
+            self.remarks.append(line)
+        elif fields[:2] == ['#', 'fid'] and len(fields) == 3:
+            fid, _, named = fields[2].partition(' id ')
+            self.waiting.update(fid=fid, id=str(json.loads(named)) if named else '')
+        elif fields[:1] == ['#'] and fields[1:2] in (['subject'], ['neighbour']) and len(fields) == 3:
+            self.waiting.update(handle=int(fields[2]), is_subject=fields[1] == 'subject')
+
+    def done(self, words: list[str], answer: Answer) -> None:
+        """Takes a line that was done."""
+        last = answer.reply[-1].split()
+        if words[0] in LISTINGS:
+            self.listings[words[0]] = Listing(answer.reply[:-1], answer.number, self.changes)
+            return
+        self.changes += 1
+        if words[0] == 'class':
+            self.classes[words[1]] = words[2]
+        elif words[0] == 'rule':
+            self.rules[int(last[1])] = Rule(words[1], words[2], words[3] if len(words) > 3 else '')
+        elif words[0] == 'droprule':
+            self.rules.pop(int(words[1]), None)
+        elif words[0] == 'by' and words[2] == 'add':
+            self.origins[int(last[1])] = Origin(words[3], **self.waiting)
+            self.waiting = {}
+
+    def take(self, answer: Answer) -> None:
+        if not answer.reply:
+            self.remark(answer.line.strip())
+        elif answer.reply[-1].startswith('refused'):
+            self.refused += 1
+            self.waiting = {}
+        else:
+            self.done(answer.line.split(None, 4), answer)
+
+    def errors(self) -> Optional[Listing]:
+        """The last listing of errors: with cells, where nothing changed since."""
+        known = [self.listings[word] for word in ('errors', 'cells') if word in self.listings]
+        return max(known, key=lambda listing: (listing.changes, listing.lines is self.listings.get('cells', listing).lines), default=None)
+
+
+def ending_of(script: str, replies: str) -> Ending:
+    """What stands at the end of a script, by the files of its lines and of its replies."""
+    ending = Ending()
+    with open(script, 'rb') as lines, open(replies, 'rb') as said:
+        for answer in answers_of(lines, said):
+            ending.take(answer)
+    return ending

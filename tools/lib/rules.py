@@ -1,0 +1,60 @@
+"""The words of the rules with the kinds of their classes, and the line that asks for one."""
+from __future__ import annotations
+
+import difflib
+from typing import Iterable, Optional
+
+KINDS_OF: dict[str, tuple[str, Optional[str]]] = {
+    'polygon_must_not_overlap': ('polygon', None),
+    'polygon_must_not_overlap_with': ('polygon', 'polygon'),
+    'polygon_must_not_have_gaps': ('polygon', None),
+    'polygon_must_be_covered_by_feature_class_of': ('polygon', 'polygon'),
+    'polygon_must_cover_each_other': ('polygon', 'polygon'),
+    'polygon_boundary_must_be_covered_by': ('polygon', 'line'),
+    'polygon_area_boundary_must_be_covered_by_boundary_of': ('polygon', 'polygon'),
+    'polygon_must_be_covered_by': ('polygon', 'polygon'),
+    'polygon_contains_point': ('polygon', 'point'),
+    'line_must_not_overlap': ('line', None),
+    'line_must_not_overlap_with': ('line', 'line'),
+    'line_must_not_intersect': ('line', None),
+    'line_must_not_intersect_or_touch_interior': ('line', None),
+    'line_must_not_have_dangles': ('line', None),
+    'line_must_not_have_pseudo_nodes': ('line', None),
+    'line_must_be_covered_by_feature_class_of': ('line', 'line'),
+    'line_must_be_covered_by_boundary_of': ('line', 'polygon'),
+    'line_endpoint_must_be_covered_by': ('line', 'point'),
+    'line_must_not_self_overlap': ('line', None),
+    'line_must_not_self_intersect': ('line', None),
+    'line_must_be_single_part': ('line', None),
+    'point_must_be_disjoint': ('point', None),
+    'point_must_coincide_with': ('point', 'point'),
+    'point_must_be_properly_inside': ('point', 'polygon'),
+    'point_must_be_covered_by_boundary_of': ('point', 'polygon'),
+    'point_must_be_covered_by_line': ('point', 'line'),
+    'point_must_be_covered_by_endpoint_of': ('point', 'line'),
+}
+
+
+class RuleError(Exception):
+    """A rule that cannot be asked for; its text says why."""
+
+
+def nearest(word: str, words: Iterable[str]) -> str:
+    """The word that is most like this one, as a question behind a sentence; nothing where none is."""
+    near = difflib.get_close_matches(word, list(words), 1, 0.6) or difflib.get_close_matches(word.lower(), list(words), 1, 0.6)
+    return '; did you mean `%s`?' % near[0] if near else ''
+
+
+def rule_line(words: list[str], classes: dict[str, str]) -> str:
+    """The line that puts a rule in force for some of the classes, which have these kinds."""
+    if words[0] not in KINDS_OF:
+        raise RuleError('no rule has the word `%s`%s' % (words[0], nearest(words[0], KINDS_OF)))
+    kinds = [kind for kind in KINDS_OF[words[0]] if kind]
+    if len(words) - 1 != len(kinds):
+        raise RuleError('the rule %s takes %s' % (words[0], ' and '.join('a class of %ss' % kind for kind in kinds)))
+    for name, kind in zip(words[1:], kinds):
+        if name not in classes:
+            raise RuleError('there is no class `%s`%s' % (name, nearest(name, classes) or '; there are %s' % ', '.join(classes)))
+        if classes[name] != kind:
+            raise RuleError('the rule %s takes a class of %ss, and `%s` is of %ss' % (words[0], kind, name, classes[name]))
+    return 'rule ' + ' '.join(words)

@@ -1,0 +1,136 @@
+"""tools/from-ogr: sources of three formats, real coordinates, what is moved, split and left out, and handles that hold."""
+import csv
+import random
+import re
+import unittest
+from fractions import Fraction
+
+from lib.grid import Grid, GridError, chosen_grid, decimal_text, grid_of
+from lib.replies import ending_of
+from lib.shapes import Shape, fault_of, kept, shape_text
+from working import Case, by_lines, polygon, rectangle
+
+X, Y = 3499250.137, 5412300.021
+LOTS = [rectangle(X, Y, 3499260.137, 5412310.025), rectangle(3499260.137, Y, 3499270.637, 5412310.0205),
+        {'type': 'MultiPolygon', 'coordinates': [rectangle(3499280.137, Y, 3499290.137, 5412310.021)['coordinates'],
+                                                 rectangle(3499300.137, Y, 3499310.137, 5412310.021)['coordinates']]}]
+
+
+class Sources(Case):
+    def test_three_formats_make_one_script(self):
+        scripts = []
+        for name, driver in (('a.gpkg', 'GPKG'), ('a.shp', 'ESRI Shapefile'), ('a.geojson', 'GeoJSON')):
+            source = self.source(name, LOTS, '-f', driver, layer='a')
+            done = self.tool('from-ogr', source, '--grid', '0.001', '--id', 'nr')
+            self.assertEqual(done.status, 0, done.told)
+            self.assertIn('3 features read, 3 added, 0 left out; 1 moved, by 0.0005 at most', done.told)
+            scripts.append([set(re.findall(r'-?\d+ -?\d+', line)) for line in done.out.splitlines() if line.startswith('by')])
+            self.assertEqual(self.replay(done.out), ['ok 1', 'ok', 'ok 1', 'ok 2', 'ok 3'])
+        self.assertEqual(list(map(len, scripts[0])), [4, 4, 8])
+        self.assertTrue(scripts[0] == scripts[1] == scripts[2])
+
+    def test_the_way_back_is_exact(self):
+        for resolution in ('0.001', '0.01'):
+            source = self.source('b%s.gpkg' % resolution, LOTS)
+            done = self.tool('from-ogr', source, '--grid', resolution)
+            grid = grid_of(done.out.splitlines())
+            first = next(line for line in done.out.splitlines() if line.startswith('by'))
+            x, y = first[first.index('((') + 2:first.index(',')].split()
+            back = grid.source_of(Fraction(int(x)), Fraction(int(y)))
+            self.assertEqual(list(map(decimal_text, back)), ['3499250.137', '5412300.021'] if resolution == '0.001' else ['3499250.14', '5412300.02'])
+            self.assertIn('ID["EPSG",31467]', grid.crs)
+
+    def test_an_origin_that_is_given(self):
+        source = self.source('c.gpkg', LOTS[:1])
+        done = self.tool('from-ogr', source, '--grid', '0.01', '--origin', '3499000', '5412000')
+        self.assertIn('POLYGON ((25014 30002, 26014 30002, 26014 31003, 25014 31003, 25014 30002))', done.out)
+        far = self.tool('from-ogr', source, '--grid', '0.01', '--origin', '0', '0')
+        self.assertEqual(far.status, 1)
+        self.assertIn('lots 1: left out: its vertex 3499250.1370000001 5412300.0209999997 is beyond the reach of the grid', far.told)
+
+    def test_an_extent_that_does_not_fit(self):
+        source = self.source('d.gpkg', [rectangle(0, 0, 1, 1), rectangle(9000, 0, 9001, 1)])
+        done = self.tool('from-ogr', source, '--grid', '0.001')
+        self.assertEqual((done.status, done.out), (2, ''))
+        self.assertIn('tools/tiles', done.told)
+
+    def test_layers_and_rules(self):
+        self.source('e.gpkg', LOTS, layer='lots')
+        self.source('e.gpkg', LOTS[:1], '-update', layer='Gebäude 2')
+        done = self.tool('from-ogr', 'e.gpkg', '--grid', '0.01', '--rule', 'polygon_must_not_overlap_with', 'lots', 'Geb_ude_2')
+        self.assertIn('layer Gebäude 2: its class is named Geb_ude_2', done.told)
+        self.assertEqual(self.replay(done.out)[-5:-2], ['ok judged 3 errors 1 dirty 0', 'error 1 1 4 cells %s' % self.frame(done.out), self.replay(done.out)[-3]])
+        wrong = self.tool('from-ogr', 'e.gpkg', '--grid', '0.01', '--rule', 'polygon_must_not_overlapp', 'lots')
+        self.assertEqual(wrong.status, 2)
+        self.assertIn('did you mean `polygon_must_not_overlap`?', wrong.told)
+        none = self.tool('from-ogr', 'e.gpkg', '--grid', '0.01', '--layer', 'streets')
+        self.assertEqual((none.status, none.told), (2, "from-ogr: no layer 'streets'; there are lots, Gebäude 2\n"))
+
+    def frame(self, script: str) -> str:
+        """The frame of the first feature."""
+        line = next(line for line in script.splitlines() if line.startswith('by'))
+        places = [place.split() for place in line[line.index('((') + 2:-2].split(', ')]
+        xs, ys = [sorted(map(int, of)) for of in zip(*places)]
+        return '%d %d %d %d' % (xs[0], ys[0], xs[-1], ys[-1])
+
+
+class Unfit(Case):
+    def test_what_cannot_come_is_named(self):
+        with open(self.path('mixed.csv'), 'w') as out:
+            out.write('nr,WKT\n1,"POLYGON Z ((0 0 1, 4 0 1, 4 4 1, 0 0 1))"\n2,"CURVEPOLYGON (CIRCULARSTRING (0 0, 4 0, 4 4, 0 4, 0 0))"\n'
+                      '3,"POLYGON EMPTY"\n4,"LINESTRING (0 0, 1 1)"\n5,"POLYGON ((0 0, 10 10, 10 0, 0 10, 0 0))"\n'
+                      '6,"POLYGON ((0 0, 0.1 0, 0 0.1, 0 0))"\n7,"POLYGON ((0 0, 4 0, 4 4, 0 4, 0 0))"\n8,"GEOMETRYCOLLECTION (POINT (1 2))"\n')
+        self.run_words(['ogr2ogr', '-nlt', 'GEOMETRY', '-oo', 'GEOM_POSSIBLE_NAMES=WKT', 'mixed.gpkg', 'mixed.csv'])
+        done = self.tool('from-ogr', 'mixed.gpkg', '--grid', '1', '--id', 'nr', '--table', 'table.csv')
+        self.assertEqual(done.status, 1)
+        for said in ('mixed 2 (2): left out: CURVEPOLYGON may hold curves', 'mixed 3 (3): left out: it is empty',
+                     'mixed 4 (4): left out: LINESTRING is no polygon', 'mixed 5 (5): left out: its segments 0 and 2 cross at 5 5',
+                     'mixed 6 (6): left out: ring 0 has too few vertices on the grid', 'mixed 8 (8): left out: GEOMETRYCOLLECTION is no polygon',
+                     'mixed 1 (1): its Z or M is left out', '8 features read, 2 added, 6 left out; 0 moved'):
+            self.assertIn(said, done.told)
+        self.assertEqual(self.replay(done.out), ['ok 1', 'ok', 'ok 1', 'ok 2'])
+        with open(self.path('table.csv'), encoding='utf-8') as table:
+            self.assertEqual([(row['fid'], row['handle']) for row in csv.DictReader(table)],
+                             [('1', '1'), ('2', ''), ('3', ''), ('4', ''), ('5', ''), ('6', ''), ('7', '2'), ('8', '')])
+
+    def test_points_are_split_and_counted(self):
+        source = self.source('p.gpkg', [{'type': 'MultiPoint', 'coordinates': [[1, 2], [3, 4]]}, {'type': 'Point', 'coordinates': [5, 6]}],
+                             '-nlt', 'GEOMETRY', layer='wells')
+        done = self.tool('from-ogr', source, '--grid', '1', '--origin', '0', '0')
+        self.assertIn('wells 1: it is split into 2 points', done.told)
+        self.assertEqual(done.out.splitlines()[-6:], ['# fid 1', 'by import add wells POINT (1 2)', '# fid 1', 'by import add wells POINT (3 4)',
+                                                      '# fid 2', 'by import add wells POINT (5 6)'])
+
+    def test_more_than_2000_vertices(self):
+        ring = [(x, 0) for x in range(0, 1001)] + [(x, 5) for x in range(1000, -1, -1)]
+        done = self.tool('from-ogr', self.source('m.gpkg', [polygon(ring)]), '--grid', '1')
+        self.assertIn('it has 2002 vertices, and a shape has 2,000 at most', done.told)
+
+    def test_faults_are_those_of_the_program(self):
+        lot, shapes = random.Random(7), []
+        for _ in range(600):
+            rings = [kept([(lot.randint(0, 6), lot.randint(0, 6)) for _ in range(lot.randint(3, 6))], True) for _ in range(lot.choice((1, 1, 2)))]
+            shapes.append(Shape('polygon', [rings]))
+        lines = ['by a add lots ' + shape_text(shape) for shape in shapes]
+        said = self.replay(by_lines('class lots polygon', 'begin a', *lines))[2:]
+        faults = [fault_of(shape) for shape in shapes]
+        self.assertEqual([reply.replace('refused E18 ', '') if reply.startswith('refused') else None for reply in said], faults)
+        self.assertGreater(faults.count(None), 50)
+
+
+class Grids(unittest.TestCase):
+    def test_nearest_lines(self):
+        grid = Grid(Fraction('0.01'), Fraction(100), Fraction(0))
+        for text, near in (('100.005', 1), ('100.0049', 0), ('99.995', 0), ('99.9949', -1)):
+            self.assertEqual(grid.units(Fraction(text), grid.x)[0], near)
+
+    def test_round_origins_that_fit(self):
+        wide = (Fraction(0), Fraction(0), Fraction(8388), Fraction(10))
+        grid = chosen_grid(Fraction('0.001'), wide, '')
+        self.assertLessEqual(max(grid.units(wide[2], grid.x)[0], -grid.units(wide[0], grid.x)[0]), 4194304)
+        with self.assertRaises(GridError):
+            chosen_grid(Fraction('0.001'), (Fraction(0), Fraction(0), Fraction(8389), Fraction(1)), '')
+
+
+if __name__ == '__main__':
+    unittest.main()

@@ -1,0 +1,116 @@
+"""tools/to-gis: exact corners, dissolved cells that are valid, dirt, ids of the source, thin slivers, and both formats."""
+import json
+import os
+import random
+import unittest
+from fractions import Fraction
+
+from lib.cells import corners_of, cover_of
+from lib.maps import Rounding, are_valid, geometries_of
+from lib.grid import Grid
+from lib.outlines import doubled_area, outlines_of
+from lib.replies import half_of
+from working import TOOLS, Case, by_lines, polygon, rectangle
+
+UNIT = Grid(Fraction(1), Fraction(0), Fraction(0))
+
+
+class Layers(Case):
+    def test_three_faults_of_a_thousand_parcels(self):
+        done = self.run_words([os.path.join(os.path.dirname(TOOLS), 'examples', 'make_parcels'), 'town.gpkg'])
+        self.assertEqual(done.status, 0, done.told)
+        script = self.tool('from-ogr', 'town.gpkg', '--grid', '0.001', '--id', 'parcel', '--rule', 'polygon_must_not_overlap', 'parcels')
+        self.assertEqual(script.status, 0, script.told)
+        made = self.tool('to-gis', *self.replayed('town', script.out), 'errors.gpkg')
+        self.assertEqual((made.status, made.told), (0, '3 errors in 3 polygons, 0 lines, 0 points; 0 dirty areas\n'))
+        rows = self.rows('errors.gpkg', 'SELECT *, ST_IsValid(geom) AS v, ST_Area(geom) AS a, ST_SRID(geom) AS s FROM error_polygons ORDER BY subject')
+        self.assertEqual([(row['subject_id'], row['other_id'], row['word'], row['mark'], row['v'], row['s']) for row in rows],
+                         [(a, b, 'polygon_must_not_overlap', 'error', 1, 31467) for a, b in
+                          (('03/06', '03/07'), ('10/13', '10/13a'), ('19/18', '19/19'))])
+        for row, area in zip(rows, (26.51325, 797.0997485, 0.0529905)):
+            self.assertAlmostEqual(row['a'], area, 6)
+
+    def errors(self, *lines: str, words=()) -> dict:
+        """The layers of a script with two classes of lots, as GeoJSON, by name."""
+        script = by_lines('# grid resolution 0.01', '# grid origin 100 200', 'class lots polygon', 'class wells point',
+                          'rule polygon_must_not_overlap lots', 'rule point_must_be_disjoint wells', 'begin a', *lines)
+        done = self.tool('to-gis', *self.replayed('s', script), 'out', *words)
+        self.assertEqual(done.status, 0, done.told)
+        found = {}
+        for name in ('error_polygons', 'error_lines', 'error_points', 'dirty'):
+            with open(self.path('out/%s.geojson' % name), encoding='utf-8') as file:
+                found[name] = json.load(file)['features']
+        return found
+
+    def test_a_corner_off_the_grid_is_rounded_once(self):
+        found = self.errors('by a add lots POLYGON ((0 0, 2 1, 0 2, 0 0))', 'by a add lots POLYGON ((0 1, 2 0, 2 3, 0 1))', 'validate all', 'cells')
+        ring = found['error_polygons'][0]['geometry']['coordinates'][0][0]
+        exact = [(Fraction(100) + Fraction(x) / 100, Fraction(200) + Fraction(y) / 100) for x, y in
+                 ((0, 1), (1, Fraction(1, 2)), (2, 1), (Fraction(2, 3), Fraction(5, 3)))]
+        self.assertEqual(sorted(map(tuple, ring[1:])), sorted((float(x), float(y)) for x, y in exact))
+
+    def test_points_dirt_and_cells(self):
+        lines = ['by a add wells POINT (3 4)', 'by a add wells POINT (3 4)', 'by a add lots POLYGON ((0 0, 8 0, 8 4, 4 8, 0 8, 0 0))',
+                 'by a add lots POLYGON ((2 2, 9 2, 9 6, 2 6, 2 2))', 'validate all', 'by a change 1 POINT (50 50)', 'by a delete 4', 'cells', 'dirty']
+        found = self.errors(*lines)
+        self.assertEqual([each['geometry'] for each in found['error_points']], [{'type': 'MultiPoint', 'coordinates': [[100.03, 200.04]]}])
+        self.assertEqual([each['geometry']['type'] for each in found['dirty']], ['MultiPoint', 'MultiPolygon'])
+        self.assertEqual(len(found['error_polygons']), 1)
+        by_cell = self.errors(*lines, words=['--cells'])
+        self.assertEqual([len(by_cell[name]) for name in ('error_polygons', 'error_lines', 'error_points')], [2, 1, 1])
+
+    def test_errors_without_cells_are_frames(self):
+        found = self.errors('by a add wells POINT (3 4)', 'by a add wells POINT (3 4)', 'validate all', 'errors')
+        self.assertEqual([each['properties']['drawn'] for each in found['error_points']], ['frame'])
+
+    def test_replies_of_another_script(self):
+        script, replies = self.replayed('s', 'class lots polygon\nclass more polygon\n')
+        with open(script, 'a', encoding='utf-8') as out:
+            out.write('cells\n')
+        done = self.tool('to-gis', script, replies, 'out.gpkg')
+        self.assertEqual((done.status, done.told), (2, 'to-gis: line 3 has no reply: the replay ended before it\n'))
+
+
+class Overlaps(Case):
+    def test_overlaps_by_lot_are_valid_and_keep_their_areas(self):
+        """Polygons on a small grid, with holes and pinches, against the areas of GEOS."""
+        lot, rows, lines = random.Random(11), [], ['class lots polygon', 'rule polygon_must_not_overlap lots', 'begin a']
+        for _ in range(250):
+            rings = [[(lot.randint(0, 7), lot.randint(0, 7)) for _ in range(lot.randint(3, 7))] for _ in range(lot.choice((1, 2)))]
+            lines.append('by a add lots POLYGON (%s)' % ', '.join('(%s)' % ', '.join('%d %d' % p for p in ring + ring[:1]) for ring in rings))
+        script, replies = self.replayed('s', by_lines(*lines, 'validate 0 0 7 7', 'cells', 'dirty'))
+        done = self.tool('to-gis', script, replies, 'out.gpkg')
+        self.assertEqual(done.status, 0, done.told)
+        self.tool('to-gis', script, replies, 'cells.gpkg', '--cells')
+        asked = 'SELECT count(*) AS n, sum(ST_IsValid(geom)) AS good, sum(ST_Area(geom)) AS area FROM error_polygons'
+        whole, by_cell = self.rows('out.gpkg', asked)[0], self.rows('cells.gpkg', asked)[0]
+        self.assertGreater(whole['n'], 100)
+        self.assertEqual((whole['n'], by_cell['n']), (whole['good'], by_cell['good']))
+        self.assertAlmostEqual(whole['area'], by_cell['area'], 6)
+
+
+class Outlines(unittest.TestCase):
+    def test_what_holds_and_pinches(self):
+        square = lambda x, y: [(Fraction(a), Fraction(b)) for a, b in ((x, y), (x + 1, y), (x + 1, y + 1), (x, y + 1))]
+        ring = [square(x, y) for x in range(3) for y in range(3) if (x, y) != (1, 1)]
+        self.assertEqual([len(of.holes) for of in outlines_of(ring)], [1])
+        self.assertEqual([len(of.holes) for of in outlines_of([square(0, 0), square(1, 1)])], [0, 0])
+        area = sum(doubled_area(of.shell) + sum(map(doubled_area, of.holes)) for of in outlines_of(ring[1:]))
+        self.assertEqual(area, 14)
+
+    def test_a_wall_beside_a_column_and_one_within(self):
+        frame, cell = (0, 0, 9, 9), lambda text: [half_of(half) for half in text.split(', ')]
+        texts = '1 0 0 >, -1 0 4 >, 0 1 0 >, 0 -1 4 >', '1 0 -4 =, 0 1 0 >, 0 -1 6 >', '1 0 -2 =, 0 1 0 >, 0 -1 4 >', '1 0 -4 =, 0 1 -5 ='
+        cover = cover_of([corners_of(frame, cell(text)) for text in texts])
+        self.assertEqual([len(cover.polygons), cover.lines, cover.points], [1, [((4, 4), (4, 6))], []])
+
+    def test_a_sliver_too_thin_for_double_precision(self):
+        far = Grid(Fraction(1), Fraction(2) ** 52, Fraction(2) ** 52)
+        thin = [(Fraction(0), Fraction(0)), (Fraction(9), Fraction(0)), (Fraction(9), Fraction(1, 3)), (Fraction(0), Fraction(1, 3))]
+        found, as_asked = geometries_of([thin], Rounding(far), False)
+        self.assertEqual(([geometry.kind for _, geometry in found], as_asked), (['line'], False))
+        self.assertFalse(are_valid([[[(0.0, 0.0), (4.0, 0.0), (4.0, 4.0), (2.0, 0.0)]]]))
+
+
+if __name__ == '__main__':
+    unittest.main()
