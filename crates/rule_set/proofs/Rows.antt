@@ -11,7 +11,7 @@ use Rattle.rule_words.specs.declared.rule_kind.RuleKind.TheVariants as kind
 pub unbuilt : (k : RuleKind) → (k ≡ kind.PolygonMustNotOverlap → ⊥) → (k ≡ kind.PolygonMustNotOverlapWith → ⊥)
     → (k ≡ kind.PolygonMustNotHaveGaps → ⊥) → (k ≡ kind.PolygonMustBeCoveredByFeatureClassOf → ⊥)
     → (k ≡ kind.PolygonMustCoverEachOther → ⊥) → (k ≡ kind.PolygonBoundaryMustBeCoveredBy → ⊥)
-        → (k ≡ kind.PolygonAreaBoundaryMustBeCoveredByBoundaryOf → ⊥) → (k ≡ kind.LineMustBeCoveredByFeatureClassOf → ⊥)
+    → (k ≡ kind.PolygonAreaBoundaryMustBeCoveredByBoundaryOf → ⊥) → (k ≡ kind.LineMustBeCoveredByFeatureClassOf → ⊥)
     → (k ≡ kind.LineMustBeCoveredByBoundaryOf → ⊥) → (k ≡ kind.PointMustBeDisjoint → ⊥) → is_built k ≡ false
 unbuilt kind.PolygonMustNotOverlap a b c d e f g h i j = absurd (a refl)
 unbuilt kind.PolygonMustNotOverlapWith a b c d e f g h i j = absurd (b refl)
