@@ -31,16 +31,46 @@ impl RuleSet for PosterRules {
         work: &mut Work,
     ) -> Result<Findings, NoMemory> {
         match row.kind {
-            RuleKind::PolygonMustNotOverlap => judge(&PolygonMustNotOverlap::new(*row), alloc, view, subject, work),
-            RuleKind::PolygonMustNotOverlapWith => judge(&PolygonMustNotOverlapWith::new(*row), alloc, view, subject, work),
-            RuleKind::PolygonMustNotHaveGaps => judge(&PolygonMustNotHaveGaps::new(*row), alloc, view, subject, work),
-            RuleKind::PolygonMustBeCoveredByFeatureClassOf => judge(&PolygonMustBeCoveredByFeatureClassOf::new(*row), alloc, view, subject, work),
-            RuleKind::PolygonMustCoverEachOther => judge(&PolygonMustCoverEachOther::new(*row), alloc, view, subject, work),
-            RuleKind::PolygonBoundaryMustBeCoveredBy => judge(&PolygonBoundaryMustBeCoveredBy::new(*row), alloc, view, subject, work),
-            RuleKind::PolygonAreaBoundaryMustBeCoveredByBoundaryOf => judge(&PolygonAreaBoundaryMustBeCoveredByBoundaryOf::new(*row), alloc, view, subject, work),
-            RuleKind::LineMustBeCoveredByFeatureClassOf => judge(&LineMustBeCoveredByFeatureClassOf::new(*row), alloc, view, subject, work),
-            RuleKind::LineMustBeCoveredByBoundaryOf => judge(&LineMustBeCoveredByBoundaryOf::new(*row), alloc, view, subject, work),
-            RuleKind::PointMustBeDisjoint => judge(&PointMustBeDisjoint::new(*row), alloc, view, subject, work),
+            RuleKind::PolygonMustNotOverlap => {
+                let rule = PolygonMustNotOverlap::new(*row);
+                judge(&rule, alloc, view, subject, work)
+            }
+            RuleKind::PolygonMustNotOverlapWith => {
+                let rule = PolygonMustNotOverlapWith::new(*row);
+                judge(&rule, alloc, view, subject, work)
+            }
+            RuleKind::PolygonMustNotHaveGaps => {
+                let rule = PolygonMustNotHaveGaps::new(*row);
+                judge(&rule, alloc, view, subject, work)
+            }
+            RuleKind::PolygonMustBeCoveredByFeatureClassOf => {
+                let rule = PolygonMustBeCoveredByFeatureClassOf::new(*row);
+                judge(&rule, alloc, view, subject, work)
+            }
+            RuleKind::PolygonMustCoverEachOther => {
+                let rule = PolygonMustCoverEachOther::new(*row);
+                judge(&rule, alloc, view, subject, work)
+            }
+            RuleKind::PolygonBoundaryMustBeCoveredBy => {
+                let rule = PolygonBoundaryMustBeCoveredBy::new(*row);
+                judge(&rule, alloc, view, subject, work)
+            }
+            RuleKind::PolygonAreaBoundaryMustBeCoveredByBoundaryOf => {
+                let rule = PolygonAreaBoundaryMustBeCoveredByBoundaryOf::new(*row);
+                judge(&rule, alloc, view, subject, work)
+            }
+            RuleKind::LineMustBeCoveredByFeatureClassOf => {
+                let rule = LineMustBeCoveredByFeatureClassOf::new(*row);
+                judge(&rule, alloc, view, subject, work)
+            }
+            RuleKind::LineMustBeCoveredByBoundaryOf => {
+                let rule = LineMustBeCoveredByBoundaryOf::new(*row);
+                judge(&rule, alloc, view, subject, work)
+            }
+            RuleKind::PointMustBeDisjoint => {
+                let rule = PointMustBeDisjoint::new(*row);
+                judge(&rule, alloc, view, subject, work)
+            }
             _ => {
                 work.raise();
                 Ok(Findings::new(alloc))

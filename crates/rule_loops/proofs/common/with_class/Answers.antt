@@ -26,10 +26,10 @@ loop-i-preserved g c =
           record {
             found = found_more cells test V i h c.loop-i.findings (finding_of w.handle.result w.in_ok-cells.cells) c.if-class.findings c.feature-other.ensures (class_is h.class c.class.result n c.class.ensures w.if-class.true) c.loop-i.invariant.found part
                 (w.findings-is ∙ w.in_ok-push_cells.ensures);
-            uncounted = w.work-is ∙ (w.cells.ensures.uncounted ∙ c.loop-i.invariant.uncounted)
+            uncounted = w.work-is ∙ (w.cells.ensures.uncounted ∙ c.loop-i.invariant.uncounted);
           }
       | else-class w ↦ record {
-          found = w.findings-is ∙ found_same cells test V i h c.loop-i.findings c.feature-other.ensures (class_is_not h.class c.class.result n c.class.ensures w.if-class.false) c.loop-i.invariant.found;
-          uncounted = w.work-is ∙ c.loop-i.invariant.uncounted
-        }
+        found = w.findings-is ∙ found_same cells test V i h c.loop-i.findings c.feature-other.ensures (class_is_not h.class c.class.result n c.class.ensures w.if-class.false) c.loop-i.invariant.found;
+        uncounted = w.work-is ∙ c.loop-i.invariant.uncounted;
+      }
     ]

@@ -24,10 +24,10 @@ loop-i-preserved g c =
           record {
             found = found_more cells test V i h c.loop-i.findings (finding_of w.handle.result w.in_ok-cells.cells) c.if-is_later.findings c.feature-other.ensures (sym c.is_later.ensures ∙ w.if-is_later.true) c.loop-i.invariant.found part
                 (w.findings-is ∙ w.in_ok-push_cells.ensures);
-            uncounted = w.work-is ∙ (w.cells.ensures.uncounted ∙ c.loop-i.invariant.uncounted)
+            uncounted = w.work-is ∙ (w.cells.ensures.uncounted ∙ c.loop-i.invariant.uncounted);
           }
       | else-is_later w ↦ record {
-          found = w.findings-is ∙ found_same cells test V i h c.loop-i.findings c.feature-other.ensures (sym c.is_later.ensures ∙ w.if-is_later.false) c.loop-i.invariant.found;
-          uncounted = w.work-is ∙ c.loop-i.invariant.uncounted
-        }
+        found = w.findings-is ∙ found_same cells test V i h c.loop-i.findings c.feature-other.ensures (sym c.is_later.ensures ∙ w.if-is_later.false) c.loop-i.invariant.found;
+        uncounted = w.work-is ∙ c.loop-i.invariant.uncounted;
+      }
     ]

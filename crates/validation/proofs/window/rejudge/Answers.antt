@@ -14,3 +14,6 @@ returns-clause-ascending g c =
 
 pub returns-clause-judged : goal.returns-clause-judged
 returns-clause-judged g c = rw c.in_ok-indexed.ensures at c.in_ok-judge_all.ensures.judged
+
+pub returns-in_err-judge_all-clause-stopped : goal.returns-in_err-judge_all-clause-stopped
+returns-in_err-judge_all-clause-stopped g c = rw c.in_ok-indexed.ensures at c.in_err-judge_all.ensures.stopped
