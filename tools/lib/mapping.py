@@ -8,7 +8,7 @@ from .grid import Place
 from .replies import Frame
 from .scenes import Drawn, Marked, Scene, box_of, meet
 
-WIDTH, LEGEND, MARGIN, LEAST = 1000, 370, 14, 7
+WIDTH, LEGEND, MARGIN, LEAST, ROOM = 1000, 370, 14, 7, 1500
 OF_CLASS = ['#2f5f9e', '#3c7a4b', '#8a5a2b', '#5b4a9e', '#2a8a8a', '#7a6a2a', '#6b6b6b', '#9e4a7a']
 OF_RULE = ['#c8102e', '#e07000', '#b000b0', '#d0006f', '#a03000', '#7000c0', '#c04060', '#905000']
 GREY, YELLOW = '#666666', '#a87900'
@@ -83,7 +83,7 @@ def put_label(sheet: Sheet, feature: Drawn, text: str) -> None:
         sheet.put('<text x="%.1f" y="%.1f">%s</text>' % (x, y, escape(text)))
 
 
-def put_error(sheet: Sheet, marked: Marked, of: str) -> None:
+def put_error(sheet: Sheet, marked: Marked, of: str, ring: int) -> None:
     """The cells of an error; where they are too small to be seen, a ring round them."""
     if marked.cover.polygons:
         sheet.put('<path d="%s" fill="%s" fill-opacity="0.5" fill-rule="evenodd" stroke="%s" stroke-width="0.8"/>' % (sheet.data(marked.rings, True), of, of))
@@ -91,8 +91,8 @@ def put_error(sheet: Sheet, marked: Marked, of: str) -> None:
         sheet.put('<path d="%s" fill="none" stroke="%s" stroke-width="2.4"/>' % (sheet.data(marked.cover.lines, False), of))
     x0, y1 = sheet.at(marked.error.frame[:2])
     x1, y0 = sheet.at(marked.error.frame[2:])
-    if max(x1 - x0, y1 - y0) < LEAST:
-        sheet.put('<circle cx="%.1f" cy="%.1f" r="%d" fill="none" stroke="%s" stroke-width="1.6"/>' % ((x0 + x1) / 2, (y0 + y1) / 2, LEAST, of))
+    if max(x1 - x0, y1 - y0) < ring:
+        sheet.put('<circle cx="%.1f" cy="%.1f" r="%d" fill="none" stroke="%s" stroke-width="1.4"/>' % ((x0 + x1) / 2, (y0 + y1) / 2, ring, of))
 
 
 def put_dirt(sheet: Sheet, frame: Frame) -> None:
@@ -138,11 +138,14 @@ def svg_of(scene: Scene, window: Optional[Frame]) -> str:
         put_dirt(sheet, frame)
     for name, kind in sorted(scene.ending.classes.items(), key=lambda of: ('polygon', 'line', 'point').index(of[1])):
         put_class(sheet, name, kind, [feature for feature in features if feature.of_class == name], colour(names, name, OF_CLASS))
+    ring = LEAST if len(errors) < 200 else LEAST // 2
     for marked in errors:
-        put_error(sheet, marked, colour(rules, marked.error.rule, OF_RULE) if marked.error.mark == 'error' else GREY)
+        put_error(sheet, marked, colour(rules, marked.error.rule, OF_RULE) if marked.error.mark == 'error' else GREY, ring)
     sheet.put('<g font-size="10" fill="#333333">')
+    is_roomy = sheet.width * sheet.height >= ROOM * len(features)
     for feature in features:
-        put_label(sheet, feature, scene.name_of(feature.handle))
+        if is_roomy or feature.kind == 'polygon':
+            put_label(sheet, feature, scene.name_of(feature.handle))
     sheet.put('</g></g>')
     put_legend(sheet, legend_of(scene, features, errors, dirt))
     return page_of(sheet)
