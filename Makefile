@@ -12,7 +12,7 @@ lib = $(PREFIX)/lib/topo
 man = $(PREFIX)/share/man/man1
 doc = $(PREFIX)/share/doc/topo
 tools = from-ogr to-gis draw answers tiles
-program_tools = $(wildcard $(addprefix tools/,$(tools)))
+commands = $(addprefix topo-,$(tools))
 
 .PHONY: install uninstall package program
 
@@ -21,19 +21,24 @@ program:
 	@test "$(PROGRAM)" != .build/topo || ./topo replay </dev/null
 
 install: program
-	install -d "$(DESTDIR)$(bin)" "$(DESTDIR)$(lib)" "$(DESTDIR)$(man)"
-	install -d "$(DESTDIR)$(doc)/rules" "$(DESTDIR)$(doc)/figures" "$(DESTDIR)$(doc)/examples"
+	install -d "$(DESTDIR)$(bin)" "$(DESTDIR)$(lib)/lib" "$(DESTDIR)$(man)"
+	install -d "$(DESTDIR)$(doc)/docs/rules" "$(DESTDIR)$(doc)/docs/figures" "$(DESTDIR)$(doc)/examples" "$(DESTDIR)$(doc)/tools"
 	install -m 755 "$(PROGRAM)" "$(DESTDIR)$(bin)/topo"
-	install -m 755 $(program_tools) "$(DESTDIR)$(lib)"
+	install -m 755 $(addprefix tools/,$(tools)) "$(DESTDIR)$(lib)"
+	install -m 644 tools/lib/*.py tools/lib/*.html "$(DESTDIR)$(lib)/lib"
+	for tool in $(tools); do ln -sf "$(lib)/$$tool" "$(DESTDIR)$(bin)/topo-$$tool"; done
 	sed -e 's|@DOCDIR@|$(doc)|' -e 's|@LIBDIR@|$(lib)|' packaging/topo.1 >"$(DESTDIR)$(man)/topo.1"
 	chmod 644 "$(DESTDIR)$(man)/topo.1"
-	install -m 644 README.md GLOSSARY.md CHANGES.md docs/*.md "$(DESTDIR)$(doc)"
-	install -m 644 docs/rules/*.md "$(DESTDIR)$(doc)/rules"
-	install -m 644 docs/figures/*.svg "$(DESTDIR)$(doc)/figures"
-	install -m 644 $(wildcard examples/*) "$(DESTDIR)$(doc)/examples"
+	install -m 644 README.md GLOSSARY.md CHANGES.md "$(DESTDIR)$(doc)"
+	install -m 644 docs/*.md "$(DESTDIR)$(doc)/docs"
+	install -m 644 docs/rules/*.md "$(DESTDIR)$(doc)/docs/rules"
+	install -m 644 docs/figures/*.svg "$(DESTDIR)$(doc)/docs/figures"
+	install -m 644 tools/README.md "$(DESTDIR)$(doc)/tools"
+	install -m 644 examples/*.topo examples/Snakefile "$(DESTDIR)$(doc)/examples"
+	install -m 755 examples/make_parcels "$(DESTDIR)$(doc)/examples"
 
 uninstall:
-	rm -f "$(DESTDIR)$(bin)/topo" "$(DESTDIR)$(man)/topo.1"
+	rm -f "$(DESTDIR)$(bin)/topo" $(addprefix "$(DESTDIR)$(bin)"/,$(commands)) "$(DESTDIR)$(man)/topo.1"
 	rm -rf "$(DESTDIR)$(lib)" "$(DESTDIR)$(doc)"
 
 package: program
