@@ -69,6 +69,7 @@ impl World {
     }
 
     /// `droprule R`
+    #[tactic(auto, using(crate::proofs::Answering::rule_dropped, crate::proofs::Answering::no_rule))]
     pub(crate) fn answer_drop_rule(&mut self, number: u16) -> Reply
         ensures { Answers self.old (DropRule number) (said_of self.new.project result) self.new }
     {

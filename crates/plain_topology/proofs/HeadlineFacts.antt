@@ -5,6 +5,7 @@ use Rattle.std.specs.List.{All, Contains, HoldsAt, AllWithin}
 use Rattle.std.proofs.lemmas.Bool.{false≢true}
 use Rattle.std.proofs.lemmas.Int.{ints}
 use Rattle.std.proofs.lemmas.List.Elements.{All-from_all_within, All-contains}
+use Rattle.std.specs.Option.{option_map}
 use Rattle.plane_terms.specs.Point.{Place, Point, IsAt}
 use Rattle.plane_terms.specs.Rectangle.{Rectangle}
 use Rattle.plane_terms.specs.Dirt.{Covers}
@@ -65,13 +66,13 @@ live_entry (x ∷ es) r a b e h = elim (bool_cases (has_key (entry_of x) r a b))
 abbrev pub one_rule : ℕ → List InForce
 one_rule class = record { number = 1; row = row_of class } ∷ []
 
-picked : (b : Bool) (row found : Row) → cond b (Some row) None ≡ Some found → (b ≡ true) × (found ≡ row)
-picked true row found e = (refl, cc)
-picked false row found e = cc
+picked : (b : Bool) (q : InForce) (found : Row) → option_map (λ (x : InForce). x.row) (cond b (Some q) None) ≡ Some found → (b ≡ true) × (found ≡ q.row)
+picked true q found e = (refl, cc)
+picked false q found e = cc
 
 the_rule : (class r : ℕ) (row : Row) → rule_at (one_rule class) r ≡ Some row → (r ≡ 1) × (row ≡ row_of class)
 unfolding rule_at
-the_rule class r row e = let p = picked (1 == r) (row_of class) row e in (sym (same_handle 1 r p.0), p.1)
+the_rule class r row e = let p = picked (1 == r) (record { number = 1; row = row_of class }) row e in (sym (same_handle 1 r p.0), p.1)
 
 rule_1 : (class : ℕ) → rule_at (one_rule class) 1 ≡ Some (row_of class)
 unfolding rule_at

@@ -5,6 +5,7 @@ use Rattle.std.proofs.lemmas.List.Elements.{All-nil, All-push, All-append, All-m
 use Rattle.std.proofs.lemmas.List.{take_more, drop_more}
 use Rattle.plane_terms.specs.Lists.{Every, EveryPair}
 use Rattle.plane_terms.specs.Point.{Place, Point, IsAt}
+use Rattle.plane_terms.proofs.ListLemmas.{every_append}
 use Rattle.plane_terms.proofs.Points.{point_at}
 use Rattle.topology_terms.specs.Feature.{Feature, feature_at, place, IsAscending}
 use Rattle.topology_terms.specs.Broken.{BrokenAt}
@@ -14,10 +15,6 @@ use Rattle.plain_topology.proofs.PointFacts.{broken_partner, broken_subject, now
 use Rattle.plain_topology.proofs.HeadlineFacts.{live_point, at_itself}
 
 -- ---- lists in order
-every_append : {A : Type 0} (P : A → Type 0) (xs ys : List A) → Every P xs → Every P ys → Every P (xs ++ ys)
-every_append P [] ys h k = k
-every_append P (x ∷ xs) ys h k = (h.0, every_append P xs ys h.1 k)
-
 pub pairs_append : {A : Type 0} (R : A → A → Type 0) (xs ys : List A) → EveryPair R xs → EveryPair R ys → Every (λ x. Every (R x) ys) xs → EveryPair R (xs ++ ys)
 pairs_append R [] ys h k m = k
 pairs_append R (x ∷ xs) ys h k m = (every_append (R x) xs ys h.0 m.0, pairs_append R xs ys h.1 k m.1)

@@ -16,12 +16,7 @@ pub trait Common {
     ghost common: { Self → Feature → List planes.Cell };
 
     /// The cells in common with this partner; the count of judgements stays.
-    fn cells(
-        &self,
-        alloc: Global,
-        partner: &Feature,
-        work: &mut Work,
-    ) -> Result<Cells, NoMemory>
+    fn cells(&self, alloc: Global, partner: &Feature, work: &mut Work) -> Result<Cells, NoMemory>
         ensures cells { IfOk result (λ cells. cells ≡ common self.now partner.now) }
         ensures uncounted { work.new ≡ work.old };
 }
