@@ -108,7 +108,8 @@ class Converter:
             return 'it has %s vertices, and a shape has 2,000 at most' % numbers[0]
         i, j = map(int, numbers)
         s, t = segments_of(shape.parts)[i], segments_of(shape.parts)[j]
-        return 'its segments %d and %d %s at %s' % (i, j, word if word == 'cross' else 'run along each other', self.point_text(meeting(s, t)))
+        how = 'cross' if word == 'cross' else 'run along each other'
+        return 'its segments %d and %d %s at %s' % (i, j, how, self.point_text(meeting(s, t)))
 
 
 def meeting(s: tuple[Place, Place], t: tuple[Place, Place]) -> tuple[Fraction, Fraction]:

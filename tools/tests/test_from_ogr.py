@@ -6,7 +6,6 @@ import unittest
 from fractions import Fraction
 
 from lib.grid import Grid, GridError, chosen_grid, decimal_text, grid_of
-from lib.replies import ending_of
 from lib.shapes import Shape, fault_of, kept, shape_text
 from working import Case, by_lines, polygon, rectangle
 
