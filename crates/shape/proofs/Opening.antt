@@ -5,7 +5,7 @@ use Rattle.plane_terms.specs.Point.{Place, same_place}
 use Rattle.plane_terms.specs.Shape.{opened, skip_equal}
 use Rattle.shape.proofs.Places.{same_turned}
 
-closing_dropped : (f x : Place) (fs : List Place) → same_place f x ≡ true → opened (f ∷ fs ++ x ∷ []) ≡ opened (f ∷ fs)
+pub closing_dropped : (f x : Place) (fs : List Place) → same_place f x ≡ true → opened (f ∷ fs ++ x ∷ []) ≡ opened (f ∷ fs)
 closing_dropped f x fs e =
     ap (λ (rs : List Place). f ∷ reverse (skip_equal f rs)) (reverse-append fs (x ∷ []))
         ∙ ap (λ (b : Bool). f ∷ reverse (cond b (skip_equal f (reverse fs)) (x ∷ reverse fs))) e

@@ -1,7 +1,7 @@
 -- What is written of a shape is its text: reading it gives the shape again.
 --
 -- kept, opened_same        a ring of a shape loses nothing when it is read
--- closed_is_closed, without_closed     its closed form is closed, and without its last place it is the ring
+-- closed_is_closed, closed_again     its closed form is closed, and makes the ring again
 -- again                    the promise
 use Rattle.std.proofs.Common.{◌≡◌, ◌≤◌, ◌-◌, true, false, cond, List, [], ◌∷◌, ◌++◌, map, length, take, get_or, length-append, refl, sym, ap, ◌∙◌, arith}
 use Rattle.std.specs.List.{AllByRecursion}
@@ -11,13 +11,13 @@ use Rattle.plane_terms.specs.Point.{Place, IsInReach, same_place}
 use Rattle.plane_terms.specs.Shape.{Shape, last_of, shape_of, ring_by, without_repeats, opened, NextDiffer, IsPart, IsRing, IsShape}
 use Rattle.plane_terms.specs.declared.kind.Kind.{Kind}
 use Rattle.plane_terms.specs.declared.kind.Kind.TheVariants as kind
-use Rattle.shape.proofs.Opening.{open_end}
+use Rattle.shape.proofs.Opening.{closing_dropped, open_end}
 use Rattle.shape.proofs.Places.{same_is}
 use Rattle.wkt_terms.specs.Grammar.{APoint, IsSome, AreSome, IsFull}
-use Rattle.wkt_terms.specs.Shapes.{is_closed, without_last, shape_in, AreClosed, IsShapeText, closed, of_lines, of_polygons, shape_text}
+use Rattle.wkt_terms.specs.Shapes.{is_closed, shape_in, AreClosed, IsShapeText, closed, of_lines, of_polygons, shape_text}
 use Rattle.wkt_terms.specs.Written.{IsInGrid}
 use Rattle.wkt_laws.proofs.Written.{written_read}
-use Rattle.shape.proofs.Ends.{last_is}
+use Rattle.shape.proofs.Ends.{last_is as last_at}
 use Rattle.plane_terms.proofs.ListLemmas.{every_append, every_left, every_right}
 
 -- ---- lists of lists
@@ -35,10 +35,6 @@ joined P (xs ∷ xss) h = every_append P xs (flat_map (λ ys. ys) xss) h.0 (join
 pair : {A : Type 0} (x y : A) (xs ys : List A) → x ≡ y → xs ≡ ys → x ∷ xs ≡ y ∷ ys
 pair x y xs ys e k = ap (λ z. z ∷ xs) e ∙ ap (λ zs. y ∷ zs) k
 
-same_each : {A : Type 0} (P : A → Type 0) (f : A → A) → ((x : A) → P x → f x ≡ x) → (xs : List A) → Every P xs → map f xs ≡ xs
-same_each P f same [] h = refl
-same_each P f same (x ∷ xs) h = pair (f x) x (map f xs) xs (same x h.0) (same_each P f same xs h.1)
-
 -- ---- rings
 
 kept : (ps : List Place) → NextDiffer ps → without_repeats ps ≡ ps
@@ -46,23 +42,22 @@ kept [] h = refl
 kept (p ∷ []) h = refl
 kept (p ∷ q ∷ ps) h = ap (λ b. cond b (without_repeats (q ∷ ps)) (p ∷ without_repeats (q ∷ ps))) h.0 ∙ ap (λ t. p ∷ t) (kept (q ∷ ps) h.1)
 
-front_differs : (ps : List Place) (x : Place) → NextDiffer (ps ++ x ∷ []) → NextDiffer ps
-front_differs [] x h = tt
-front_differs (p ∷ []) x h = tt
-front_differs (p ∷ q ∷ ps) x h = (h.0, front_differs (q ∷ ps) x h.1)
-
 last_unlike : (p : Place) (ps : List Place) (x : Place) → NextDiffer (p ∷ ps ++ x ∷ []) → same_place (last_of p ps) x ≡ false
 last_unlike p [] x h = h.0
 last_unlike p (q ∷ qs) x h = last_unlike q qs x h.1
 
-opened_same : (ring : List Place) → IsRing kind.Polygon ring → ring_by kind.Polygon ring ≡ ring
-opened_same [] h = absurd (omega (arith, h.0))
-opened_same (p ∷ ps) h =
+opened_same : (p : Place) (ps : List Place) → IsRing kind.Polygon (p ∷ ps) → opened (p ∷ ps) ≡ p ∷ ps
+opened_same p ps h =
     let at : length (p ∷ ps) - 1 ≡ length ps = omega arith in
     let last : last_of p ps ≡ get_or (p ∷ ps) (length (p ∷ ps) - 1) (last_of p ps) =
-        last_is p ps (last_of p ps) ∙ ap (λ k. get_or (p ∷ ps) k (last_of p ps)) (sym at) in
-    let stays : p ∷ ps ≡ opened (p ∷ ps) = open_end (p ∷ ps) (last_of p ps) p (omega (arith, h.0)) last refl (last_unlike p ps p h.1) in
-    ap opened (kept (p ∷ ps) (front_differs (p ∷ ps) p h.1)) ∙ sym stays
+        last_at p ps (last_of p ps) ∙ ap (λ k. get_or (p ∷ ps) k (last_of p ps)) (sym at) in
+    sym (open_end (p ∷ ps) (last_of p ps) p (omega (arith, h.0)) last refl (last_unlike p ps p h.1))
+
+-- a ring that is closed is the ring again
+closed_again : (ring : List Place) → IsRing kind.Polygon ring → ring_by kind.Polygon (closed ring) ≡ ring
+closed_again [] h = absurd (omega (arith, h.0))
+closed_again (p ∷ ps) h =
+    ap opened (kept (p ∷ ps ++ p ∷ []) h.1) ∙ (closing_dropped p p ps (same_is p p refl) ∙ opened_same p ps h)
 
 last_is : (p : Place) (ps : List Place) (x : Place) → last_of p (ps ++ x ∷ []) ≡ x
 last_is p [] x = refl
@@ -71,16 +66,6 @@ last_is p (q ∷ qs) x = last_is q qs x
 closed_is_closed : (ring : List Place) → is_closed (closed ring) ≡ true
 closed_is_closed [] = refl
 closed_is_closed (p ∷ ps) = same_is p (last_of p (ps ++ p ∷ [])) (sym (last_is p ps p))
-
-taken : (xs ys : List Place) → take (length xs) (xs ++ ys) ≡ xs
-taken [] ys = refl
-taken (x ∷ xs) ys = ap (λ t. x ∷ t) (taken xs ys)
-
-without_closed : (ring : List Place) → IsRing kind.Polygon ring → without_last (closed ring) ≡ ring
-without_closed [] h = absurd (omega (arith, h.0))
-without_closed (p ∷ ps) h =
-    let at : length (p ∷ ps ++ p ∷ []) - 1 ≡ length (p ∷ ps) = omega (arith, length-append (p ∷ ps) (p ∷ [])) in
-    ap (λ k. take k (p ∷ ps ++ p ∷ [])) at ∙ taken (p ∷ ps) (p ∷ [])
 
 closed_in_reach : (ring : List Place) → Every IsInReach ring → Every IsInReach (closed ring)
 closed_in_reach [] h = tt
@@ -177,8 +162,7 @@ line_again parts h =
 
 -- ---- a polygon
 
-polygons_shape : (parts : List (List (List Place)))
-    → shape_in (of_polygons parts) ≡ shape_of kind.Polygon (map (λ part. map without_last part) (map (λ part. map closed part) parts))
+polygons_shape : (parts : List (List (List Place))) → shape_in (of_polygons parts) ≡ shape_of kind.Polygon (map (λ part. map closed part) parts)
 polygons_shape [] = refl
 polygons_shape (rings ∷ []) = refl
 polygons_shape (rings ∷ more ∷ parts) = refl
@@ -233,12 +217,12 @@ polygons_in_grid [] h = tt
 polygons_in_grid (rings ∷ []) h = rings_in_reach rings h.0
 polygons_in_grid (rings ∷ more ∷ parts) h = parts_in_reach (rings ∷ more ∷ parts) h
 
-rings_back : (rings : List (List Place)) → Every (IsRing kind.Polygon) rings → map without_last (map closed rings) ≡ rings
+rings_back : (rings : List (List Place)) → Every (IsRing kind.Polygon) rings → map (ring_by kind.Polygon) (map closed rings) ≡ rings
 rings_back [] h = refl
-rings_back (ring ∷ rings) h = pair _ ring _ rings (without_closed ring h.0) (rings_back rings h.1)
+rings_back (ring ∷ rings) h = pair _ ring _ rings (closed_again ring h.0) (rings_back rings h.1)
 
 parts_back : (parts : List (List (List Place))) → Every (λ part. Every (IsRing kind.Polygon) part) parts
-    → map (λ part. map without_last part) (map (λ part. map closed part) parts) ≡ parts
+    → map (λ part. map (ring_by kind.Polygon) part) (map (λ part. map closed part) parts) ≡ parts
 parts_back [] h = refl
 parts_back (part ∷ parts) h = pair _ part _ parts (rings_back part h.0) (parts_back parts h.1)
 
@@ -246,11 +230,8 @@ polygon_again : (parts : List (List (List Place))) → IsShape (shape_by kind.Po
     → IsShapeText (shape_text (shape_by kind.Polygon parts)) (shape_by kind.Polygon parts)
 polygon_again parts h =
     let each = in_each (IsRing kind.Polygon) parts h.rings in
-    let same : map (λ part. map (ring_by kind.Polygon) part) parts ≡ parts =
-        same_each (λ part. Every (IsRing kind.Polygon) part) (λ part. map (ring_by kind.Polygon) part)
-        (λ part r. same_each (IsRing kind.Polygon) (ring_by kind.Polygon) opened_same part r) parts each in
     let back : shape_in (of_polygons parts) ≡ shape_by kind.Polygon parts =
-        polygons_shape parts ∙ (ap (shape_of kind.Polygon) (parts_back parts each) ∙ ap (shape_by kind.Polygon) same) in
+        polygons_shape parts ∙ ap (shape_by kind.Polygon) (parts_back parts each) in
     let reach = in_each (λ ring. Every IsInReach ring) parts (in_each IsInReach (flat_map (λ part. part) parts) h.in_reach) in
     record {
       geometry = of_polygons parts;

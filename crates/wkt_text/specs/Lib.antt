@@ -1,7 +1,6 @@
 pub mod Appended
 pub mod Closed
 pub mod Faults
-pub mod Given
 pub mod Meanings
 pub mod Open
 pub mod States

@@ -5,7 +5,6 @@ mod closing;
 mod fault;
 mod geometry;
 mod lists;
-mod opening;
 mod parts;
 mod place;
 mod read;

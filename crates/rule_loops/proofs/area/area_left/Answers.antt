@@ -1,4 +1,4 @@
-use Rattle.std.proofs.Common.{◌≡◌, sym, ◌∙◌, ap}
+use Rattle.std.proofs.Common.{sym, ◌∙◌, ap}
 use Rattle.plane_terms.specs.Carve.{carve_of}
 use Rattle.rule_loops.proofs.More.{left_more, left_same, left_none, class_is, class_is_not}
 use Rattle.rule_loops.proofs.area.area_left.Goals.{then-class+in_ok-outside_of+in_ok-cells-2, else-class}

@@ -1,4 +1,4 @@
-use Rattle.std.proofs.Common.{◌≡◌, sym, ◌∙◌, ap}
+use Rattle.std.proofs.Common.{sym, ◌∙◌, ap}
 use Rattle.plane_terms.specs.Carve.{carve_of}
 use Rattle.rule_loops.proofs.More.{ground_more, ground_same, ground_none}
 use Rattle.rule_loops.proofs.gaps.open_ground.Goals.{then-is_other+in_ok-outside_of+in_ok-ground-2, else-is_other}
