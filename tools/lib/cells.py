@@ -38,6 +38,11 @@ def clipped(polygon: list[Triple], a: int, b: int, c: int) -> list[Triple]:
     return list(dict.fromkeys(out))
 
 
+def is_straight(p: Triple, q: Triple, r: Triple) -> bool:
+    """Whether three points lie on one line."""
+    return p[0] * (q[1] * r[2] - r[1] * q[2]) - p[1] * (q[0] * r[2] - r[0] * q[2]) + p[2] * (q[0] * r[1] - r[0] * q[1]) == 0
+
+
 def corners_of(frame: Frame, cell: list[Half]) -> list[Point]:
     """The corners of a cell's closure: of a polygon counter-clockwise, of a segment its two ends, or one point; of none nothing."""
     x0, y0, x1, y1 = frame
@@ -47,9 +52,10 @@ def corners_of(frame: Frame, cell: list[Half]) -> list[Point]:
         if op == '=':
             triples = clipped(triples, -a, -b, -c) if triples else []
     corners = [(Fraction(x, w), Fraction(y, w)) for x, y, w in triples]
-    if len(corners) > 1 and all(turn(corners[0], corners[1], r) == 0 for r in corners[2:]):
-        return sorted({min(corners), max(corners)})
-    return [q for p, q, r in zip(corners[-1:] + corners[:-1], corners, corners[1:] + corners[:1]) if len(corners) < 3 or turn(p, q, r) != 0]
+    turns = [not is_straight(triples[i - 1], q, triples[i + 1 - len(triples)]) for i, q in enumerate(triples)]
+    if len(corners) > 1 and not any(turns):
+        return [min(corners), max(corners)]
+    return [corner for corner, is_kept in zip(corners, turns) if is_kept or len(corners) < 3]
 
 
 def rectangle(frame: Frame) -> list[Point]:
@@ -115,6 +121,8 @@ def holds(segment: Segment, point: Point) -> bool:
 
 def cover_of(closures: list[list[Point]]) -> Cover:
     """What the closures cover: cells that share sides are one polygon, and nothing is told twice."""
+    if len(closures) == 1 and len(closures[0]) > 2:
+        return Cover([Outline(closures[0], [])], [], [])
     areas = [corners for corners in closures if len(corners) > 2]
     lines = joined([part for corners in closures if len(corners) == 2 for part in rest_of((corners[0], corners[1]), areas)])
     points = sorted({corners[0] for corners in closures if len(corners) == 1})

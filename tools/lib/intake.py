@@ -10,6 +10,7 @@ from typing import Iterator, NamedTuple, Optional, TextIO
 
 from .grid import Extent, Grid, GridError, chosen_grid, decimal_text
 from .ogr import Feature, Layer, SourceError, features_of, layer_names, layer_of
+from .rules import nearest
 from .scripts import Converter, LeftOut, Taken, class_name, kind_of_layer, moved_text
 
 SHOWN = 3
@@ -157,6 +158,16 @@ class Report:
     def total(self) -> None:
         say('%s features read, %s added, %s left out; %s moved, by %s at most' %
             (format(self.read, ','), format(self.added, ','), format(self.left_out, ','), format(self.moved, ','), moved_text(self.most)))
+
+
+def check_id(classes: list[Class], id_field: Optional[str]) -> None:
+    """Tells of layers that have no such field; a SourceError where none has it."""
+    known = sorted({field for of in classes for field in of.layer.fields})
+    if id_field and id_field not in known:
+        raise SourceError('there is no field `%s`%s' % (id_field, nearest(id_field, known) or '; there are ' + ', '.join(known)))
+    for of in classes:
+        if id_field and id_field not in of.layer.fields:
+            say('layer %s: it has no field %s' % (of.layer.name, id_field))
 
 
 def arrivals(classes: list[Class], converter: Converter, id_field: Optional[str], report: Report) -> Iterator[Arrival]:

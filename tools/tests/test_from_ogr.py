@@ -66,6 +66,12 @@ class Sources(Case):
         none = self.tool('from-ogr', 'e.gpkg', '--grid', '0.01', '--layer', 'streets')
         self.assertEqual((none.status, none.told), (2, "from-ogr: no layer 'streets'; there are lots, Gebäude 2\n"))
 
+    def test_ids_of_a_field(self):
+        source = self.source('i.gpkg', LOTS[:1])
+        self.assertIn('\n# fid 1 id "N1"\n', self.tool('from-ogr', source, '--grid', '0.01', '--id', 'nr').out)
+        done = self.tool('from-ogr', source, '--grid', '0.01', '--id', 'nrr')
+        self.assertEqual((done.status, done.out, done.told), (2, '', 'from-ogr: there is no field `nrr`; did you mean `nr`?\n'))
+
     def frame(self, script: str) -> str:
         """The frame of the first feature."""
         line = next(line for line in script.splitlines() if line.startswith('by'))

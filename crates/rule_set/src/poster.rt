@@ -1,14 +1,7 @@
 ghost use Rattle.topology_terms.specs.Poster.{poster};
 ghost use Rattle.rule_laws.proofs.Posters.{poster_laws, poster_cuts, poster_views};
 
-use area_rules::{PolygonMustNotOverlap, PolygonMustNotOverlapWith};
-use cover_rules::{
-    LineMustBeCoveredByBoundaryOf, LineMustBeCoveredByFeatureClassOf,
-    PolygonAreaBoundaryMustBeCoveredByBoundaryOf, PolygonBoundaryMustBeCoveredBy,
-    PolygonMustBeCoveredByFeatureClassOf, PolygonMustCoverEachOther, PolygonMustNotHaveGaps,
-};
 use grid_plane::NoMemory;
-use point_rules::PointMustBeDisjoint;
 use rule_core::{Findings, RuleRow, RuleSet, View, Work, judge};
 use rule_words::RuleKind;
 use std::alloc::Global;
@@ -32,43 +25,43 @@ impl RuleSet for PosterRules {
     ) -> Result<Findings, NoMemory> {
         match row.kind {
             RuleKind::PolygonMustNotOverlap => {
-                let rule = PolygonMustNotOverlap::new(*row);
+                let rule = area_rules::PolygonMustNotOverlap::new(*row);
                 judge(&rule, alloc, view, subject, work)
             }
             RuleKind::PolygonMustNotOverlapWith => {
-                let rule = PolygonMustNotOverlapWith::new(*row);
+                let rule = area_rules::PolygonMustNotOverlapWith::new(*row);
                 judge(&rule, alloc, view, subject, work)
             }
             RuleKind::PolygonMustNotHaveGaps => {
-                let rule = PolygonMustNotHaveGaps::new(*row);
+                let rule = cover_rules::PolygonMustNotHaveGaps::new(*row);
                 judge(&rule, alloc, view, subject, work)
             }
             RuleKind::PolygonMustBeCoveredByFeatureClassOf => {
-                let rule = PolygonMustBeCoveredByFeatureClassOf::new(*row);
+                let rule = cover_rules::PolygonMustBeCoveredByFeatureClassOf::new(*row);
                 judge(&rule, alloc, view, subject, work)
             }
             RuleKind::PolygonMustCoverEachOther => {
-                let rule = PolygonMustCoverEachOther::new(*row);
+                let rule = cover_rules::PolygonMustCoverEachOther::new(*row);
                 judge(&rule, alloc, view, subject, work)
             }
             RuleKind::PolygonBoundaryMustBeCoveredBy => {
-                let rule = PolygonBoundaryMustBeCoveredBy::new(*row);
+                let rule = cover_rules::PolygonBoundaryMustBeCoveredBy::new(*row);
                 judge(&rule, alloc, view, subject, work)
             }
             RuleKind::PolygonAreaBoundaryMustBeCoveredByBoundaryOf => {
-                let rule = PolygonAreaBoundaryMustBeCoveredByBoundaryOf::new(*row);
+                let rule = cover_rules::PolygonAreaBoundaryMustBeCoveredByBoundaryOf::new(*row);
                 judge(&rule, alloc, view, subject, work)
             }
             RuleKind::LineMustBeCoveredByFeatureClassOf => {
-                let rule = LineMustBeCoveredByFeatureClassOf::new(*row);
+                let rule = cover_rules::LineMustBeCoveredByFeatureClassOf::new(*row);
                 judge(&rule, alloc, view, subject, work)
             }
             RuleKind::LineMustBeCoveredByBoundaryOf => {
-                let rule = LineMustBeCoveredByBoundaryOf::new(*row);
+                let rule = cover_rules::LineMustBeCoveredByBoundaryOf::new(*row);
                 judge(&rule, alloc, view, subject, work)
             }
             RuleKind::PointMustBeDisjoint => {
-                let rule = PointMustBeDisjoint::new(*row);
+                let rule = point_rules::PointMustBeDisjoint::new(*row);
                 judge(&rule, alloc, view, subject, work)
             }
             _ => {

@@ -97,7 +97,7 @@ feature_spot r (f ∷ F) a h = elim h [ inl k ↦ inl k | inr k ↦ inr (feature
 
 -- each feature of an ascending list is looked up under its own handle
 found_own : (F : List Feature) → IsAscending F → Every (λ (f : Feature). feature_at F f.handle ≡ Some f) F
-found_own F u = each_live (λ (f : Feature). feature_at F f.handle ≡ Some f) F u (λ h f e. rw (handle_of F h f e) e)
+found_own F u = each_live (λ (f : Feature). feature_at F f.handle ≡ Some f) F u (λ h f e. subst (λ n. feature_at F n ≡ Some f) (sym (handle_of F h f e)) e)
 
 those_passing : (Q : Feature → Type 0) (test : Feature → Bool) (xs V : List Feature) → Every (λ (f : Feature). Q f ↔ (test f ≡ true)) xs → IsThose Q xs V → V ≡ filter test xs
 those_passing Q test [] V u h = h

@@ -78,7 +78,8 @@ list-ge ps = omega (arith, total_one ps, items-ge position (λ p. 1) (λ p. omeg
 lists-ge : (w : List Place → ℕ) → ((ps : List Place) → w ps ≤ real (list ps)) → (pss : List (List Place)) → total w pss ≤ real (lists pss)
 lists-ge w h pss = omega (arith, items-ge list w h pss, real-append (items list pss) (Close ∷ []))
 
-parts-ge : (w : List (List Place) → ℕ) → ((pss : List (List Place)) → w pss ≤ real (lists pss)) → (parts : List (List (List Place))) → total w parts ≤ real (spelling (Polygons parts))
+parts-ge : (w : List (List Place) → ℕ) → ((pss : List (List Place)) → w pss ≤ real (lists pss)) → (parts : List (List (List Place)))
+    → total w parts ≤ real (spelling (Polygons parts))
 parts-ge w h parts = omega (arith, items-ge lists w h parts, real-append (items lists parts) (Close ∷ []))
 
 -- places, and rings
@@ -91,7 +92,8 @@ rings parts = total length parts
 vertices_are : (parts : List (List (List Place))) → length (all_vertices (all_rings parts)) ≡ vertices parts
 vertices_are [] = refl
 vertices_are (pss ∷ parts) =
-    length_joined (pss ++ all_rings parts) ∙ (total-append pss (all_rings parts) ∙ ap (λ n. total length pss + n) (sym (length_joined (all_rings parts)) ∙ vertices_are parts))
+    length_joined (pss ++ all_rings parts)
+        ∙ (total-append pss (all_rings parts) ∙ ap (λ n. total length pss + n) (sym (length_joined (all_rings parts)) ∙ vertices_are parts))
   where
     total-append : (xs ys : List (List Place)) → total length (xs ++ ys) ≡ total length xs + total length ys
     total-append [] ys = omega arith
@@ -108,7 +110,9 @@ places-ge : (ps : List Place) → length ps ≤ real (list ps)
 places-ge ps = omega (arith, list-ge ps)
 
 alone : (pss : List (List Place)) → Counts (map (λ ps. ps ∷ []) pss) (real (lists pss))
-alone pss = record { of_rings = omega (arith, one_each pss, lists-ge (λ ps. 1) rings-ge pss); of_vertices = omega (arith, all_each pss, lists-ge length places-ge pss) }
+alone pss =
+    record { of_rings = omega (arith, one_each pss, lists-ge (λ ps. 1) rings-ge pss);
+    of_vertices = omega (arith, all_each pss, lists-ge length places-ge pss) }
   where
     one_each : (qss : List (List Place)) → rings (map (λ ps. ps ∷ []) qss) ≡ total (λ ps. 1) qss
     one_each [] = refl
@@ -126,10 +130,14 @@ counts (APoint p) = record { of_rings = omega arith; of_vertices = omega arith }
 counts (ALine ps) = record { of_rings = omega (arith, list-ge ps); of_vertices = omega (arith, list-ge ps) }
 counts (Lines pss) = record { of_rings = omega (arith, (alone pss).of_rings); of_vertices = omega (arith, (alone pss).of_vertices) }
 counts (APolygon pss) = record { of_rings = omega (arith, part_rings pss); of_vertices = omega (arith, lists-ge length places-ge pss) }
-counts (Polygons parts) = record { of_rings = parts-ge length part_rings parts; of_vertices = parts-ge (λ pss. total length pss) (lists-ge length places-ge) parts }
+counts (Polygons parts) =
+    record { of_rings = parts-ge length part_rings parts;
+    of_vertices = parts-ge (λ pss. total length pss) (lists-ge length places-ge) parts }
 
 pub countable_by : (parts : List (List (List Place))) (n : ℕ) → n < 2 ^ 32 → Counts parts n → IsCountable parts
-countable_by parts n small c = record { rings = omega (arith, small, c.of_rings, length_joined parts); vertices = omega (arith, small, c.of_vertices, vertices_are parts) }
+countable_by parts n small c =
+    record { rings = omega (arith, small, c.of_rings, length_joined parts);
+    vertices = omega (arith, small, c.of_vertices, vertices_are parts) }
 
 pub countable : (text : List ℕ) (g : Geometry) → length text ≤ 1048576 → IsWkt text g → IsCountable (given_in g)
 countable text g short w =

@@ -1,6 +1,6 @@
 ghost use Rattle.std.specs.Prelude.{◌≡◌, map};
 ghost use Rattle.wkt_terms.specs.Shapes.{without_last};
-ghost use Rattle.wkt_laws.specs.Seen.{lists_of, parts_of};
+ghost use Rattle.shape.specs.Given.{rings_in as lists_of, polygons_in as parts_of};
 
 use grid_plane::GridPoint;
 

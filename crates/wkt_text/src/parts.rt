@@ -1,10 +1,10 @@
 ghost use Rattle.std.specs.Prelude.{◌≡◌, [], ◌∷◌, MatchResult};
-ghost use Rattle.wkt_laws.specs.Seen.{lists_of};
+ghost use Rattle.shape.specs.Given.{rings_in as lists_of};
 ghost use Rattle.plane_terms.specs.Shape.{shape_of, IsShape};
 ghost use Rattle.plane_terms.specs.declared.kind.Kind.TheVariants as kind;
 ghost use Rattle.shape.specs.Given.{lines_in, polygons_in, IsCountable};
 ghost use Rattle.wkt_terms.specs.Shapes.{shape_in, AreClosed};
-ghost use Rattle.wkt_geometry.specs.States.{geometry_of};
+ghost use Rattle.wkt_text.specs.States.{geometry_of};
 ghost use Rattle.wkt_text.specs.Faults.{closed_rings, opened_shape, IsShapeFault, IsPolygonFault, IsWholeFault};
 ghost use Rattle.wkt_text.specs.Given.{given_in};
 
@@ -15,7 +15,7 @@ use crate::opening::open_parts;
 use grid_plane::GridPoint;
 use shape::Shape;
 use std::alloc::Global;
-use wkt_geometry::Geometry;
+use crate::geometry::Geometry;
 
 fn line_of(alloc: Global, parts: Vec<Vec<GridPoint>>) -> Result<Shape, WktFault>
     requires { IsCountable (lines_in parts.items) }

@@ -3,6 +3,7 @@ use Rattle.std.proofs.lemmas.List.{get_or_default}
 use Rattle.validation_laws.specs.Parts.{IsSubjectPart}
 use Rattle.validation_laws.proofs.Joining.{part_more}
 use Rattle.validation_laws.proofs.Counting.{judged_more, judged_within}
+use Rattle.validation.proofs.Settled.{on_err}
 use Rattle.validation.proofs.judge.judge_rule.Goals as goal
 
 pub loop-i-preserved : goal.loop-i-preserved
@@ -23,4 +24,4 @@ returns-in_err-judge_subject-clause-stopped g c =
     let a = c.at.result in
     let l : i < length s = omega (arith, c.len-i-end.ensures.value, c.loop-i-test.true) in
     let e : a ≡ get_or s i a = c.at.ensures ∙ get_or_default s i 0 a l in
-    judged_within c.args.rule.now.row c.args.features.now s i a c.args.work.now c.loop-i.work c.judge_subject.new.work l e c.loop-i.invariant.1 c.in_err-judge_subject.ensures.stopped
+    on_err c.from_residual.result _ (judged_within c.args.rule.now.row c.args.features.now s i a c.args.work.now c.loop-i.work c.judge_subject.new.work l e c.loop-i.invariant.1 c.in_err-judge_subject.ensures.stopped)

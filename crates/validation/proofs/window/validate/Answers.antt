@@ -4,7 +4,7 @@ use Rattle.validation_laws.proofs.Validating.{parts_kept_valid, parts_kept_sound
 use Rattle.validation.specs.Projects.{with_parts}
 use Rattle.topology_terms.specs.Counts.{judged_of}
 use Rattle.validation_laws.proofs.Counting.{not_raised}
-use Rattle.validation.proofs.Settled.{validated, selected_live, judged_upto, le_of_eq}
+use Rattle.validation.proofs.Settled.{validated, selected_live, judged_upto, le_of_eq, on_err}
 use Rattle.validation.proofs.window.validate.Goals as goal
 
 pub replace-requires-clause-new : goal.replace-requires-clause-new
@@ -32,16 +32,16 @@ returns-clause-judged g c = λ p h. (
 )
 
 pub returns-in_err-selected-clause-stopped : goal.returns-in_err-selected-clause-stopped
-returns-in_err-selected-clause-stopped g c = λ p h fs those. not_raised c.args.work.now (judged_of c.args.in_force.now fs)
+returns-in_err-selected-clause-stopped g c = on_err c.from_residual.result _ (λ p h fs those. not_raised c.args.work.now (judged_of c.args.in_force.now fs))
 
 pub returns-in_err-fresh-clause-stopped : goal.returns-in_err-fresh-clause-stopped
-returns-in_err-fresh-clause-stopped g c = λ p h fs those.
-    judged_upto c.args.window.now p c.args.in_force.now c.args.features.now c.in_ok-selected.selected c.args.work.now _ c.requires.features c.in_ok-selected.ensures.rising (λ a. c.in_ok-selected.ensures.chosen p h.features h.dirt h.entries a) c.in_err-fresh.ensures.stopped fs those
+returns-in_err-fresh-clause-stopped g c = on_err c.from_residual-in_err-fresh.result _ (λ p h fs those.
+    judged_upto c.args.window.now p c.args.in_force.now c.args.features.now c.in_ok-selected.selected c.args.work.now _ c.requires.features c.in_ok-selected.ensures.rising (λ a. c.in_ok-selected.ensures.chosen p h.features h.dirt h.entries a) c.in_err-fresh.ensures.stopped fs those)
 
 pub returns-in_err-left-clause-stopped : goal.returns-in_err-left-clause-stopped
-returns-in_err-left-clause-stopped g c = λ p h fs those.
-    judged_upto c.args.window.now p c.args.in_force.now c.args.features.now c.in_ok-selected.selected c.args.work.now _ c.requires.features c.in_ok-selected.ensures.rising (λ a. c.in_ok-selected.ensures.chosen p h.features h.dirt h.entries a) (le_of_eq _ _ c.in_ok-fresh.ensures.judged) fs those
+returns-in_err-left-clause-stopped g c = on_err c.from_residual-in_err-left.result _ (λ p h fs those.
+    judged_upto c.args.window.now p c.args.in_force.now c.args.features.now c.in_ok-selected.selected c.args.work.now _ c.requires.features c.in_ok-selected.ensures.rising (λ a. c.in_ok-selected.ensures.chosen p h.features h.dirt h.entries a) (le_of_eq _ _ c.in_ok-fresh.ensures.judged) fs those)
 
 pub returns-in_err-replace-clause-stopped : goal.returns-in_err-replace-clause-stopped
-returns-in_err-replace-clause-stopped g c = λ p h fs those.
-    judged_upto c.args.window.now p c.args.in_force.now c.args.features.now c.in_ok-selected.selected c.args.work.now _ c.requires.features c.in_ok-selected.ensures.rising (λ a. c.in_ok-selected.ensures.chosen p h.features h.dirt h.entries a) (le_of_eq _ _ c.in_ok-fresh.ensures.judged) fs those
+returns-in_err-replace-clause-stopped g c = on_err c.from_residual-in_err-replace.result _ (λ p h fs those.
+    judged_upto c.args.window.now p c.args.in_force.now c.args.features.now c.in_ok-selected.selected c.args.work.now _ c.requires.features c.in_ok-selected.ensures.rising (λ a. c.in_ok-selected.ensures.chosen p h.features h.dirt h.entries a) (le_of_eq _ _ c.in_ok-fresh.ensures.judged) fs those)

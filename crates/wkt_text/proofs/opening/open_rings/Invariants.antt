@@ -1,5 +1,5 @@
 use Rattle.wkt_terms.specs.Shapes.{without_last}
-use Rattle.wkt_laws.specs.Seen.{Ring}
+use Rattle.shape.specs.Given.{Ring}
 use Rattle.shape.proofs.Changed.{Changed}
 use Rattle.wkt_text.proofs.opening.open_rings.Given as goal
 
