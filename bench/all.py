@@ -17,7 +17,7 @@ import sys
 
 from programs import HERE, ROOT
 
-COMMANDS = ['run.py', 'features.py', 'late.py', 'town.py', 'shapes.py', 'columns.py', 'cells.py']
+COMMANDS = ['run.py', 'features.py', 'late.py', 'town.py', 'borders.py', 'shapes.py', 'columns.py', 'cells.py']
 TIMING = {'shapes.py': 'bench_shapes', 'columns.py': 'bench_columns', 'cells.py': 'bench_cells'}
 WITHOUT_BASELINE = {'cells.py'}
 

@@ -6,3 +6,4 @@ pub mod Ranking
 pub mod SortedColumn
 pub mod RankLoop
 pub mod Fails
+pub mod Reached

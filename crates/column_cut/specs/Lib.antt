@@ -3,3 +3,4 @@ pub mod Ranks
 pub mod Vertices
 pub mod Covering
 pub mod Pieces
+pub mod Strips

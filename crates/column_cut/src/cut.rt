@@ -7,9 +7,11 @@ ghost use Rattle.plane_terms.specs.Carve.{kept};
 ghost use Rattle.plane_terms.specs.Columns.{column, slots, wall, in_column, cells_from, last, inside_cells, outside_cells};
 ghost use Rattle.column_laws.specs.Rising.{IsRising};
 ghost use Rattle.column_cut.specs.Parity.{is_even};
+ghost use Rattle.column_cut.specs.Strips.{strips};
 
 use crate::column::column_of;
 use crate::coordinate::Coordinate;
+use crate::near::near_of;
 use crate::parity::Parity;
 use crate::push::{left_of, push_column, push_kept, push_wall, right_of};
 use crate::slots::slots_of;
@@ -17,6 +19,9 @@ use crate::vertices::abscissas_of;
 use convex_cell::{Cell, Cells};
 use grid_plane::{NoMemory, Seg};
 use std::alloc::Global;
+
+/// So many columns are made from one list of segments.
+const FEW: usize = 8;
 
 fn push_strip(
     cells: &mut Cells,
@@ -48,6 +53,54 @@ fn push_last_wall(
     push_wall(cells, alloc, segments, x, &slots)
 }
 
+/// Each wall from the first abscissa on, and the column to its right; not the last wall.
+fn push_each(
+    cells: &mut Cells,
+    alloc: Global,
+    parity: Parity,
+    segments: &[Seg],
+    first: &Coordinate,
+    rest: &[Coordinate],
+) -> Result<(), NoMemory>
+    requires { IsRising (first.now ∷ rest.now) }
+    ensures { OnOk result (cells.new ≡ cells.old ++ kept (strips (is_even parity) segments.now first.now rest.now)) }
+{
+    let mut left = *first;
+    for right in rest {
+        push_strip(cells, alloc, parity, segments, &left, right)?;
+        left = *right;
+    }
+    Ok(())
+}
+
+/// The same, half by half: each half looks only at the segments that reach all that lies between its walls.
+fn push_halves(
+    cells: &mut Cells,
+    alloc: Global,
+    parity: Parity,
+    segments: &[Seg],
+    first: &Coordinate,
+    rest: &[Coordinate],
+) -> Result<(), NoMemory>
+    requires { IsRising (first.now ∷ rest.now) }
+    ensures { OnOk result (cells.new ≡ cells.old ++ kept (strips (is_even parity) segments.now first.now rest.now)) }
+{
+    if rest.len() <= FEW {
+        return push_each(cells, alloc, parity, segments, first, rest);
+    }
+    let near = near_of(alloc, segments, first, rest.last().unwrap_or(first))?;
+    let (low, high) = rest.split_at(rest.len() / 2);
+    push_halves(cells, alloc, parity, &near, first, low)?;
+    push_halves(
+        cells,
+        alloc,
+        parity,
+        &near,
+        low.last().unwrap_or(first),
+        high,
+    )
+}
+
 /// From the first abscissa on: each wall, and the column to its right.
 fn push_strips(
     cells: &mut Cells,
@@ -60,12 +113,8 @@ fn push_strips(
     requires { IsRising (first.now ∷ rest.now) }
     ensures { OnOk result (cells.new ≡ cells.old ++ kept (cells_from (is_even parity) segments.now first.now rest.now)) }
 {
-    let mut left = *first;
-    for right in rest {
-        push_strip(cells, alloc, parity, segments, &left, right)?;
-        left = *right;
-    }
-    push_last_wall(cells, alloc, parity, segments, &left)
+    push_halves(cells, alloc, parity, segments, first, rest)?;
+    push_last_wall(cells, alloc, parity, segments, rest.last().unwrap_or(first))
 }
 
 fn push_right_side(

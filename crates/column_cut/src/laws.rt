@@ -1,5 +1,5 @@
 //! What the columns of a polygon rest on, as laws of their own. The functions do nothing: their clauses are the laws.
-ghost use Rattle.column_laws.specs.Slots.{ColumnsHaveOneOrder, SlotsAreClear, SlotsAreEnough, NoneCountsBeside};
+ghost use Rattle.column_laws.specs.Slots.{ColumnsHaveOneOrder, SlotsAreClear, SlotsCount, SlotsAreEnough, NoneCountsBeside};
 
 /// The segments of a column stand in one order over the whole strip between its walls, both walls included.
 pub fn columns_have_one_order()
@@ -16,4 +16,9 @@ pub fn slots_are_clear()
 pub fn slots_are_enough()
     ensures enough { SlotsAreEnough }
     ensures beside { NoneCountsBeside }
+{}
+
+/// Exactly j segments run below a point of the slot j of a column, counted from 0 below, its left wall included.
+pub fn slots_count()
+    ensures { SlotsCount }
 {}

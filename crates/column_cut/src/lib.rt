@@ -7,6 +7,7 @@ mod cut;
 mod heights;
 mod intervals;
 pub mod laws;
+mod near;
 mod parity;
 mod push;
 mod ranked;

@@ -11,12 +11,12 @@ use Rattle.plane_terms.specs.Columns.{ordinates, column, slots, is_covered, inte
 use Rattle.cell_laws.proofs.Lists.{some_append}
 use Rattle.cell_laws.proofs.GridLines.{x_over_holds, x_under_holds, x_is_holds}
 use Rattle.column_laws.specs.Rising.{IsRising}
-use Rattle.column_laws.specs.Slots.{IsJudged}
+use Rattle.column_laws.specs.Slots.{IsFree, IsJudged}
 use Rattle.column_laws.proofs.Every.{every_map}
 use Rattle.column_laws.proofs.Lines.{IsWithin}
 use Rattle.column_laws.proofs.Intervals.{StandsAt, StandsAt-next, from_first}
 use Rattle.column_laws.proofs.Slots.{IsIn-append, IsIn-left, IsIn-right}
-use Rattle.column_laws.proofs.Strip.{IsFree, strip_out, strip_in}
+use Rattle.column_laws.proofs.Strip.{strip_out, strip_in}
 use Rattle.column_laws.proofs.Walls.{wall_out, wall_interval}
 use Rattle.number_laws.proofs.Order.{cases_order_ℤ, lt_scaled}
 

@@ -1,13 +1,16 @@
 -- The parts of the proof that the columns are exact, as laws.
-use Rattle.std.proofs.Common.{◌≡◌, ℤ, pos, ◌<ℤ◌, not, sym, subst, refl, inl, inr, List, [], ◌∷◌, true, false, Bool}
+use Rattle.std.proofs.Common.{◌≡◌, ℤ, pos, ◌<ℤ◌, not, sym, subst, refl, inl, inr, List, [], ◌∷◌, true, false, Bool, None, ◌∙◌, arith}
+use Rattle.std.proofs.lemmas.Int.{ints}
 use Rattle.plane_terms.specs.Lists.{EveryPair, how_many, is_odd}
 use Rattle.plane_terms.specs.Segment.{Segment}
 use Rattle.plane_terms.specs.Polygon.{counts}
 use Rattle.plane_terms.specs.Columns.{abscissas, column}
-use Rattle.column_laws.specs.Slots.{IsBelow, ColumnsHaveOneOrder, SlotsAreClear, SlotsAreEnough, NoneCountsBeside}
+use Rattle.column_laws.specs.Slots.{IsAcross, IsBelow, ColumnsHaveOneOrder, SlotsAreClear, SlotsCount, SlotsAreEnough, NoneCountsBeside}
 use Rattle.column_laws.proofs.Every.{every_map}
 use Rattle.column_laws.proofs.Segments.{Lower, left_is}
 use Rattle.column_laws.proofs.Order.{Chain, chain-column}
+use Rattle.column_laws.proofs.Slots.{slot_counts}
+use Rattle.column_laws.proofs.Strip.{same_count}
 use Rattle.column_laws.proofs.Exact.{abscissas-rising, abscissas-each, none_counts, all_clear, beside_away, slots_clear, slots_enough}
 
 below_from_lower : (x y : ℤ) (s t : Segment) → Lower x y s t → IsBelow x y s t
@@ -25,6 +28,11 @@ columns_have_one_order ss valid x y d = below_by_chain x y (column x y ss) (chai
 
 pub slots_are_clear : SlotsAreClear
 slots_are_clear ss valid even p h = slots_clear ss p valid even (abscissas ss) (abscissas-rising ss) (abscissas-each ss) h
+
+pub slots_count : SlotsCount
+slots_count ss valid x y d f j c e p a h =
+    let across : IsAcross x y p = record { right = a.right; left = omega (arith, ints, a.left) } in
+    same_count x y p a ss f ∙ (slot_counts x y j None (column x y ss) c e (chain-column x y d ss valid.simple) tt p across h).1
 
 -- as many as there are decide the parity
 parity_of : (b : Bool) → (even : Bool) × (b ≡ not even)

@@ -1,5 +1,5 @@
 -- The slots between ordered segments: a point of one is on no segment, and the number of those below it is the slot's.
-use Rattle.std.proofs.Common.{◌≡◌, ℕ, suc, ℤ, pos, neg_ℤ, ◌≤ℤ◌, ◌<ℤ◌, arith, sym, subst, ap, refl, ◌⊎◌, inl, inr, ◌∙◌, Bool, true, false, not, List, [], ◌∷◌, ◌++◌, Option, Some, None}
+use Rattle.std.proofs.Common.{◌≡◌, ℕ, zero, suc, ℤ, pos, neg_ℤ, ◌≤ℤ◌, ◌<ℤ◌, arith, sym, subst, ap, refl, ◌⊎◌, inl, inr, ◌∙◌, Bool, true, false, not, List, [], ◌∷◌, ◌++◌, Option, Some, None}
 use Rattle.std.proofs.lemmas.Int.{ints}
 use Rattle.std.proofs.lemmas.Bool.{false≢true}
 use Rattle.std.specs.Int.RustNames.{int_lt}
@@ -11,7 +11,7 @@ use Rattle.plane_terms.specs.Cell.{Cell, InCell, InCells}
 use Rattle.plane_terms.specs.Columns.{over, slots}
 use Rattle.column_laws.proofs.Every.{every_map}
 use Rattle.cell_laws.proofs.Lists.{all_append}
-use Rattle.column_laws.specs.Slots.{IsAcross}
+use Rattle.column_laws.specs.Slots.{IsAcross, slot_at}
 use Rattle.column_laws.proofs.Segments.{Lower, left_is, right_is}
 use Rattle.column_laws.proofs.Order.{Chain}
 use Rattle.number_laws.proofs.Order.{cases_order_ℤ}
@@ -91,6 +91,12 @@ count_over : (p : Point) (s : Segment) (ss : List Segment) → is_above p s ≡ 
 count_over p s ss e true h = rw (e, h) refl
 count_over p s ss e false h = rw (e, h) refl
 
+same_some : {A : Type 0} {u v : A} → Some u ≡ Some v → u ≡ v
+same_some e = cc
+
+none_some : {A : Type 0} {v : A} → None ≡ Some v → ⊥
+none_some e = cc
+
 module _ (x y : ℤ) where
   pub record Placed (take : Bool) (below : Option Segment) (ss : List Segment) (p : Point) : Type 0 where
     pub over : IsOver below p
@@ -119,6 +125,19 @@ module _ (x y : ℤ) where
   slots_out true b (s ∷ ss) c l p a (inl h) = in_first b s ss c p a (over_out b p (IsIn-left (over b) (right_of s ∷ []) p h)) (under_out s p (IsIn-right (over b) (right_of s ∷ []) p h).0)
   slots_out true b (s ∷ ss) c l p a (inr h) = in_rest true b s ss l p a (slots_out false (Some s) ss c.1 c.0 p a h)
   slots_out false b (s ∷ ss) c l p a h = in_rest false b s ss l p a (slots_out true (Some s) ss c.1 c.0 p a h)
+
+  -- of the slot j, and j segments are below
+  pub slot_counts : (j : ℕ) (b : Option Segment) (ss : List Segment) (d : Cell) → slot_at j b ss ≡ Some d → Chain x y ss → LowerThan x y b ss → (p : Point) → IsAcross x y p → InCell d p → IsOver b p × (below_it p ss ≡ j)
+  slot_counts zero b [] d e c l p a h = (over_out b p (subst (λ g. InCell g p) (sym (same_some e)) h), refl)
+  slot_counts zero b (s ∷ ss) d e c l p a h =
+      let k = subst (λ g. InCell g p) (sym (same_some e)) h in
+      let u = under_out s p (IsIn-right (over b) (right_of s ∷ []) p k).0 in
+      let each = every_map (Lower x y s) (λ t. value_at (left_of t) p <ℤ pos 0) (λ t st. st.under p a u) ss c.0 in
+      (over_out b p (IsIn-left (over b) (right_of s ∷ []) p k), (all_under p (s ∷ ss) (u, each)).1)
+  slot_counts (suc j) b [] d e c l p a h = absurd (none_some e)
+  slot_counts (suc j) b (s ∷ ss) d e c l p a h =
+      let r = slot_counts j (Some s) ss d e c.1 c.0 p a h in
+      (over_before b s ss l p a r.0, rw (over_test s p r.0).0 (ap suc r.1))
 
   -- the point is above or under the first
   sides : (s : Segment) (p : Point) → ¬ (cross s p ≡ pos 0) → (pos 0 <ℤ value_at (left_of s) p) ⊎ (value_at (left_of s) p <ℤ pos 0)

@@ -10,22 +10,12 @@ use Rattle.plane_terms.specs.Polygon.{OnBoundary, counts}
 use Rattle.plane_terms.specs.Cell.{InCells}
 use Rattle.plane_terms.specs.Columns.{is_lower, place, column, slots}
 use Rattle.column_laws.proofs.Every.{every_map, every_both}
-use Rattle.column_laws.specs.Slots.{IsAcross, IsJudged}
+use Rattle.column_laws.specs.Slots.{IsAcross, IsFrom, IsFree, IsJudged}
 use Rattle.column_laws.proofs.Lines.{IsWithin}
 use Rattle.column_laws.proofs.Segments.{left_is, Spans, on_from_line}
 use Rattle.column_laws.proofs.Order.{every-column, column-spans, chain-column}
 use Rattle.column_laws.proofs.Slots.{IsOff, below_it, is_above, slots_out, slots_in}
 use Rattle.number_laws.proofs.Order.{scaled_le, lt_scaled, le_from_scaled}
-
--- no end of the segment lies strictly between x and y
-pub record IsFree (x y : ℤ) (s : Segment) : Type 0 where
-  pub low : (s.lo.x ≤ℤ x) ⊎ (y ≤ℤ s.lo.x)
-  pub high : (s.hi.x ≤ℤ x) ⊎ (y ≤ℤ s.hi.x)
-
--- the strip with its left wall
-pub record IsFrom (x y : ℤ) (p : Point) : Type 0 where
-  pub right : (x *ℤ pos p.w) ≤ℤ p.x
-  pub left : p.x <ℤ (y *ℤ pos p.w)
 
 abbrev pub in_column_test : ℤ → ℤ → Segment → Bool
 in_column_test x y s = int_le s.lo.x x && int_le y s.hi.x

@@ -10,14 +10,14 @@ use Rattle.plane_terms.specs.Polygon.{OnBoundary}
 use Rattle.plane_terms.specs.Cell.{InCells}
 use Rattle.plane_terms.specs.Columns.{put, ordinates, column, slots, is_covered, intervals}
 use Rattle.column_laws.specs.Rising.{IsRising}
-use Rattle.column_laws.specs.Slots.{IsJudged}
+use Rattle.column_laws.specs.Slots.{IsFree, IsFrom, IsJudged}
 use Rattle.column_laws.proofs.Every.{every_map, every_both, by_test}
 use Rattle.column_laws.proofs.Numbers.{every-put, IsRising-put, IsAmong, among-put, among-put_other}
 use Rattle.column_laws.proofs.Intervals.{intervals_out, intervals_in}
 use Rattle.column_laws.proofs.Order.{chain-column}
 use Rattle.column_laws.proofs.Segments.{one_way}
 use Rattle.column_laws.proofs.Slots.{slots_out}
-use Rattle.column_laws.proofs.Strip.{IsFree, IsFrom, in_column_test, on_cases, same_count, column_parts, clear_by_each, each_by_clear}
+use Rattle.column_laws.proofs.Strip.{in_column_test, on_cases, same_count, column_parts, clear_by_each, each_by_clear}
 use Rattle.number_laws.proofs.Order.{scaled_le, lt_scaled, zero_unscaled}
 use Rattle.number_laws.proofs.Ring.{num, ◌⊖◌, ◌⊗◌, same_by}
 
