@@ -40,5 +40,5 @@ pub returns-in_err-validate-clause-stopped : goal.returns-in_err-validate-clause
 returns-in_err-validate-clause-stopped g c =
     let p = project_of c.self.inside.store c.self.inside.rules.items c.self.inside.dirt c.self.inside.entries in
     rw (← c.self.view_is) (λ fs those. subst (λ rules. c.validate.new.work ≤ raised c.args.work.now (judged_of rules fs)) c.deref.ensures.value
-        (c.in_err-validate.ensures.stopped p (record { rules = sym c.deref.ensures.value; features = sym c.features.ensures.value; dirt = refl; entries = refl }) fs
-        (subst (λ F. IsThose (λ (f : Feature). IsSelected p c.args.window f.handle) F fs) (sym c.features.ensures.value) those)))
+    (c.in_err-validate.ensures.stopped p (record { rules = sym c.deref.ensures.value; features = sym c.features.ensures.value; dirt = refl; entries = refl }) fs
+    (subst (λ F. IsThose (λ (f : Feature). IsSelected p c.args.window f.handle) F fs) (sym c.features.ensures.value) those)))
