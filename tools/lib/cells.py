@@ -2,12 +2,14 @@
 from __future__ import annotations
 
 from fractions import Fraction
+from math import gcd
 from typing import NamedTuple
 
 from .outlines import Outline, Point, line_key, outlines_of, turn
 from .replies import Error, Frame, Half
 
 Segment = tuple[Point, Point]
+Triple = tuple[int, int, int]
 Span = tuple[Fraction, Fraction]
 
 
@@ -19,34 +21,41 @@ class Cover(NamedTuple):
     points: list[Point]
 
 
-def value(half: Half, point: Point) -> Fraction:
-    return half[0] * point[0] + half[1] * point[1] + half[2]
-
-
-def clipped(polygon: list[Point], half: Half) -> list[Point]:
-    """The part of a convex polygon where the half-plane's term is at least 0."""
+def clipped(polygon: list[Triple], a: int, b: int, c: int) -> list[Triple]:
+    """The part of a convex polygon where the half-plane's term is at least 0; a corner is (x * w, y * w, w), w being over 0."""
+    values = [a * x + b * y + c * w for x, y, w in polygon]
+    if min(values) >= 0:
+        return polygon
     out = []
-    for p, q in zip(polygon, polygon[1:] + polygon[:1]):
-        u, v = value(half, p), value(half, q)
+    for i, (p, u) in enumerate(zip(polygon, values)):
+        q, v = polygon[i + 1 - len(polygon)], values[i + 1 - len(polygon)]
         if u >= 0:
             out.append(p)
-        if u * v < 0:
-            t = Fraction(u) / (u - v)
-            out.append((p[0] + t * (q[0] - p[0]), p[1] + t * (q[1] - p[1])))
+        if (u > 0 > v) or (u < 0 < v):
+            x, y, w = (abs(v) * of_p + abs(u) * of_q for of_p, of_q in zip(p, q))
+            common = gcd(x, y, w)
+            out.append((x // common, y // common, w // common))
     return list(dict.fromkeys(out))
 
 
+def is_straight(p: Triple, q: Triple, r: Triple) -> bool:
+    """Whether three points lie on one line."""
+    return p[0] * (q[1] * r[2] - r[1] * q[2]) - p[1] * (q[0] * r[2] - r[0] * q[2]) + p[2] * (q[0] * r[1] - r[0] * q[1]) == 0
+
+
 def corners_of(frame: Frame, cell: list[Half]) -> list[Point]:
-    """The corners of a cell's closure: of a polygon counter-clockwise, of a segment its two ends, or one point."""
-    x0, y0, x1, y1 = map(Fraction, frame)
-    corners = [(x0 - 1, y0 - 1), (x1 + 1, y0 - 1), (x1 + 1, y1 + 1), (x0 - 1, y1 + 1)]
+    """The corners of a cell's closure: of a polygon counter-clockwise, of a segment its two ends, or one point; of none nothing."""
+    x0, y0, x1, y1 = frame
+    triples = [(x0 - 1, y0 - 1, 1), (x1 + 1, y0 - 1, 1), (x1 + 1, y1 + 1, 1), (x0 - 1, y1 + 1, 1)]
     for a, b, c, op in cell:
-        corners = clipped(corners, (a, b, c, op))
+        triples = clipped(triples, a, b, c) if triples else []
         if op == '=':
-            corners = clipped(corners, (-a, -b, -c, op))
-    if len(corners) > 1 and all(turn(corners[0], corners[1], r) == 0 for r in corners[2:]):
-        return sorted({min(corners), max(corners)})
-    return [q for p, q, r in zip(corners[-1:] + corners[:-1], corners, corners[1:] + corners[:1]) if len(corners) < 3 or turn(p, q, r) != 0]
+            triples = clipped(triples, -a, -b, -c) if triples else []
+    corners = [(Fraction(x, w), Fraction(y, w)) for x, y, w in triples]
+    turns = [not is_straight(triples[i - 1], q, triples[i + 1 - len(triples)]) for i, q in enumerate(triples)]
+    if len(corners) > 1 and not any(turns):
+        return [min(corners), max(corners)]
+    return [corner for corner, is_kept in zip(corners, turns) if is_kept or len(corners) < 3]
 
 
 def rectangle(frame: Frame) -> list[Point]:
@@ -80,7 +89,8 @@ def rest_of(segment: Segment, polygons: list[list[Point]]) -> list[Segment]:
     (x, y), (u, v) = segment
     at = lambda t: (x + t * (u - x), y + t * (v - y))
     left, parts = Fraction(0), []
-    for low, high in sorted(span for span in (span_in(segment, polygon) for polygon in polygons) if span[0] <= span[1]):
+    near = [polygon for polygon in polygons if min(polygon)[0] <= max(x, u) and max(polygon)[0] >= min(x, u)]
+    for low, high in sorted(span for span in (span_in(segment, polygon) for polygon in near) if span[0] <= span[1]):
         if low > left:
             parts.append((at(left), at(low)))
         left = max(left, high)
@@ -111,6 +121,8 @@ def holds(segment: Segment, point: Point) -> bool:
 
 def cover_of(closures: list[list[Point]]) -> Cover:
     """What the closures cover: cells that share sides are one polygon, and nothing is told twice."""
+    if len(closures) == 1 and len(closures[0]) > 2:
+        return Cover([Outline(closures[0], [])], [], [])
     areas = [corners for corners in closures if len(corners) > 2]
     lines = joined([part for corners in closures if len(corners) == 2 for part in rest_of((corners[0], corners[1]), areas)])
     points = sorted({corners[0] for corners in closures if len(corners) == 1})

@@ -76,11 +76,13 @@ class Grid:
         """The grid of the same resolution whose origin lies at this place of it."""
         return Grid(self.resolution, *self.source_of(*map(Fraction, by)), self.crs)
 
-    def offset_to(self, other: 'Grid') -> Place:
-        """The origin of the other grid in units of this one."""
-        dx, dy = (other.x - self.x) / self.resolution, (other.y - self.y) / self.resolution
-        if self.resolution != other.resolution or dx.denominator != 1 or dy.denominator != 1:
-            raise GridError('the two scripts have grids that do not fit each other')
+    def whole_offset(self, remarks: Iterable[str]) -> Place:
+        """The origin of a tile's grid in units of that of the whole, which its remark lines say."""
+        said = next((line.split()[3:] for line in remarks if line.startswith('# grid whole ')), [])
+        x, y = map(exact, said) if said else (self.x, self.y)
+        dx, dy = (self.x - x) / self.resolution, (self.y - y) / self.resolution
+        if dx.denominator != 1 or dy.denominator != 1:
+            raise GridError('the origin of the tile is not on the grid of the whole')
         return dx.numerator, dy.numerator
 
     def remarks(self) -> list[str]:
@@ -103,15 +105,20 @@ def grid_of(remarks: Iterable[str]) -> Optional[Grid]:
     return Grid(exact(said['resolution']), exact(x), exact(y), said.get('crs', ''))
 
 
+def rounded(number: Fraction, step: Fraction) -> Fraction:
+    """The nearest multiple of the step."""
+    return math.floor(number / step + Fraction(1, 2)) * step
+
+
 def middle_origin(resolution: Fraction, low: Fraction, high: Fraction) -> Fraction:
     """A round number near the middle of the two, from which both are within the reach; a GridError where none is."""
-    middle, step = (low + high) / 2, ROUND
+    step = ROUND
     while step:
-        origin = math.floor(middle / (resolution * step) + Fraction(1, 2)) * resolution * step
+        origin = rounded((low + high) / 2, resolution * step)
         if max(high - origin, origin - low) <= (REACH - 1) * resolution:
             return origin
         step //= 10
-    raise GridError('')
+    raise GridError('it does not fit')
 
 
 def chosen_grid(resolution: Fraction, extent: Extent, crs: str) -> Grid:
@@ -120,7 +127,13 @@ def chosen_grid(resolution: Fraction, extent: Extent, crs: str) -> Grid:
     try:
         return Grid(resolution, middle_origin(resolution, x0, x1), middle_origin(resolution, y0, y1), crs)
     except GridError:
-        wide, high = float(x1 - x0), float(y1 - y0)
-        raise GridError('the extent is %.10g wide and %.10g high, and a grid of %s holds %s each way: take a coarser one, '
-                        'or split the source with tools/tiles' %
-                        (wide, high, decimal_text(resolution), decimal_text(2 * REACH * resolution))) from None
+        sizes = float(x1 - x0), float(y1 - y0), decimal_text(resolution), decimal_text(2 * REACH * resolution)
+        raise GridError('the extent is %.10g wide and %.10g high, and a grid of %s holds %s each way: take a coarser one, or split '
+                        'the source with tools/tiles' % sizes) from None
+
+
+def whole_grid(resolution: Fraction, origin: Optional[tuple[Fraction, Fraction]], extent: Extent, crs: str) -> Grid:
+    """The grid that tiles have in common, which may go beyond the reach: with the origin that is given, or one in the middle."""
+    x0, y0, x1, y1 = extent
+    x, y = origin or (rounded((x0 + x1) / 2, resolution * ROUND), rounded((y0 + y1) / 2, resolution * ROUND))
+    return Grid(resolution, x, y, crs)

@@ -2,6 +2,7 @@
 from __future__ import annotations
 
 import csv
+import os
 import sys
 import time
 from fractions import Fraction
@@ -9,9 +10,11 @@ from typing import Iterator, NamedTuple, Optional, TextIO
 
 from .grid import Extent, Grid, GridError, chosen_grid, decimal_text
 from .ogr import Feature, Layer, SourceError, features_of, layer_names, layer_of
+from .rules import nearest
 from .scripts import Converter, LeftOut, Taken, class_name, kind_of_layer, moved_text
 
-SHOWN = 10
+SHOWN = 3
+PAUSE = 5
 
 
 class Class(NamedTuple):
@@ -61,6 +64,17 @@ def classes_of(layers: list[Layer]) -> list[Class]:
     return classes
 
 
+def source_name(source: str) -> str:
+    """The name of a file; of a connection nothing but its sort, since there may be a password in it."""
+    return os.path.basename(os.path.normpath(source)) if os.path.exists(source) else source.partition(':')[0]
+
+
+def head_of(classes: list[Class]) -> list[str]:
+    """The remark lines of the classes, and the lines that make them."""
+    remarks = ['# grid class %s %s %s %s' % (of.name, of.kind, of.layer.name, source_name(of.layer.source)) for of in classes]
+    return remarks + ['class %s %s' % (of.name, of.kind) for of in classes]
+
+
 def common_crs(classes: list[Class]) -> str:
     known = {of.layer.crs for of in classes}
     if len(known) > 1:
@@ -87,7 +101,7 @@ def grid_for(classes: list[Class], resolution: Fraction, origin: Optional[tuple[
     if origin:
         return Grid(resolution, *origin, crs)
     grid = chosen_grid(resolution, common_extent(classes), crs)
-    say('the origin is %s %s, in the middle of the extent' % (decimal_text(grid.x), decimal_text(grid.y)))
+    say('the origin is %s %s, near the middle of the extent' % (decimal_text(grid.x), decimal_text(grid.y)))
     return grid
 
 
@@ -101,7 +115,7 @@ class Report:
         self.of, self.read, self.added, self.left_out, self.moved = of, 0, 0, 0, 0
         self.most = Fraction(0)
         self.shown: dict[str, int] = {}
-        self.next_word = time.monotonic() + 2
+        self.next_word = time.monotonic() + PAUSE
 
     def name(self, of: Class, feature: Feature) -> str:
         return '%s %s%s' % (of.layer.name, feature.fid, ' (%s)' % feature.id if feature.id else '')
@@ -135,15 +149,25 @@ class Report:
         self.row(of, feature, str(handle), moved if taken.moved else '', '; '.join(taken.notes))
 
     def count(self) -> None:
-        """A feature has been read; every two seconds it is told how many."""
+        """A feature has been read; now and then it is told how many."""
         self.read += 1
         if time.monotonic() >= self.next_word:
             say('%s of %s features' % (format(self.read, ','), format(self.of, ',')))
-            self.next_word = time.monotonic() + 2
+            self.next_word = time.monotonic() + PAUSE
 
     def total(self) -> None:
         say('%s features read, %s added, %s left out; %s moved, by %s at most' %
             (format(self.read, ','), format(self.added, ','), format(self.left_out, ','), format(self.moved, ','), moved_text(self.most)))
+
+
+def check_id(classes: list[Class], id_field: Optional[str]) -> None:
+    """Tells of layers that have no such field; a SourceError where none has it."""
+    known = sorted({field for of in classes for field in of.layer.fields})
+    if id_field and id_field not in known:
+        raise SourceError('there is no field `%s`%s' % (id_field, nearest(id_field, known) or '; there are ' + ', '.join(known)))
+    for of in classes:
+        if id_field and id_field not in of.layer.fields:
+            say('layer %s: it has no field %s' % (of.layer.name, id_field))
 
 
 def arrivals(classes: list[Class], converter: Converter, id_field: Optional[str], report: Report) -> Iterator[Arrival]:

@@ -6,7 +6,7 @@ import json
 import os
 import re
 import tempfile
-from typing import Iterator, NamedTuple, Optional, Union
+from typing import NamedTuple, Optional, Union
 from xml.sax.saxutils import escape
 
 from .cells import Cover, cover_of
@@ -39,12 +39,12 @@ class Rounding:
         x, y = self.grid.source_of(*point)
         return float(x), float(y)
 
-    def list(self, points: list[Point]) -> List:
+    def line(self, points: list[Point]) -> List:
         out = [self.position(point) for point in points]
         return [p for i, p in enumerate(out) if i == 0 or p != out[i - 1]]
 
     def ring(self, points: list[Point]) -> List:
-        out = self.list(points)
+        out = self.line(points)
         return out[:-1] if len(out) > 1 and out[0] == out[-1] else out
 
     def cell(self, corners: list[Point]) -> Geometry:
@@ -59,7 +59,7 @@ class Rounding:
         polygons = [[self.ring(ring) for ring in [outline.shell] + outline.holes] for outline in cover.polygons]
         if polygons and not are_valid(polygons):
             return None
-        lines = [line for line in map(self.list, cover.lines) if len(line) > 1]
+        lines = [line for line in map(self.line, cover.lines) if len(line) > 1]
         points = [self.position(point) for point in cover.points]
         found = Geometry('polygon', polygons), Geometry('line', lines), Geometry('point', points)
         return [geometry for geometry in found if geometry.parts]

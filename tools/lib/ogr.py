@@ -35,6 +35,7 @@ class Layer(NamedTuple):
     count: int
     extent: Optional[Extent]
     crs: str
+    fields: list[str]
 
 
 class Feature(NamedTuple):
@@ -83,7 +84,8 @@ def layer_of(source: str, name: str) -> Layer:
     return Layer(source, name, re.sub('^3D|^MEASURED|[^A-Z]', '', told.get('Geometry', '').upper().replace(' ', '')),
                  int(told.get('Feature Count', 0)),
                  tuple(Fraction(Decimal(n)) for n in numbers.groups()) if numbers else None,
-                 ''.join(line.strip() for line in crs[1].splitlines()) if crs else '')
+                 ''.join(line.strip() for line in crs[1].splitlines()) if crs else '',
+                 re.findall(r'^(.+): \w+(?:\(\w+\))? \(\d+\.\d+\)', text, re.M))
 
 
 def quoted(name: str) -> str:
@@ -92,7 +94,8 @@ def quoted(name: str) -> str:
 
 def features_of(layer: Layer, id_field: Optional[str] = None) -> Iterator[Feature]:
     """The features of a layer, read one at a time; a SourceError behind the last one where the reading failed."""
-    asked = 'SELECT FID AS topo_fid%s FROM %s' % (', %s AS topo_id' % quoted(id_field) if id_field else '', quoted(layer.name))
+    field = ', %s AS topo_id' % quoted(id_field) if id_field in layer.fields else ''
+    asked = 'SELECT FID AS topo_fid%s FROM %s' % (field, quoted(layer.name))
     words = ['ogr2ogr', '-f', 'CSV', '/vsistdout/', layer.source, '-dialect', 'OGRSQL', '-sql', asked, '-lco', 'GEOMETRY=AS_WKT',
              '-lco', 'STRING_QUOTING=ALWAYS']
     csv.field_size_limit(sys.maxsize)

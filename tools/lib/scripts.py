@@ -12,6 +12,8 @@ from .ogr import KINDS, Feature, Geometry, Layer, features_of, geometry_of, numb
 from .shapes import Shape, fault_of, kept, segments_of, shape_text
 
 EDITOR = 'import'
+MOST_BYTES = 268435456
+LISTINGS = ['validate all', 'cells', 'dirty']
 
 
 class Taken(NamedTuple):
@@ -61,7 +63,7 @@ class Converter:
             raise LeftOut('its coordinate %s %s is no number' % position) from None
         if self.is_bounded and max(abs(x), abs(y)) > REACH:
             raise LeftOut('its vertex %s %s is beyond the reach of the grid' % position)
-        return (x, y), max(of_x, of_y)
+        return (x, y), max(of_x, of_y) if of_x or of_y else of_x
 
     def point_text(self, place: tuple[Fraction, Fraction]) -> str:
         """A point of the plane, for reading."""
@@ -90,7 +92,7 @@ class Converter:
 
     def shape(self, parts: list, kind: str, notes: list[str]) -> Taken:
         placed = [[[self.place(position) for position in each] for each in part] for part in parts]
-        moved = max(by for part in placed for each in part for _, by in each)
+        moved = max((by for part in placed for each in part for _, by in each if by), default=Fraction(0))
         shape = Shape(kind, [[kept([place for place, _ in each], kind == 'polygon') for each in part] for part in placed])
         fault = fault_of(shape)
         if fault:
@@ -106,7 +108,8 @@ class Converter:
             return 'it has %s vertices, and a shape has 2,000 at most' % numbers[0]
         i, j = map(int, numbers)
         s, t = segments_of(shape.parts)[i], segments_of(shape.parts)[j]
-        return 'its segments %d and %d %s at %s' % (i, j, word if word == 'cross' else 'run along each other', self.point_text(meeting(s, t)))
+        how = 'cross' if word == 'cross' else 'run along each other'
+        return 'its segments %d and %d %s at %s' % (i, j, how, self.point_text(meeting(s, t)))
 
 
 def meeting(s: tuple[Place, Place], t: tuple[Place, Place]) -> tuple[Fraction, Fraction]:

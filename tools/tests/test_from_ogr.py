@@ -6,7 +6,6 @@ import unittest
 from fractions import Fraction
 
 from lib.grid import Grid, GridError, chosen_grid, decimal_text, grid_of
-from lib.replies import ending_of
 from lib.shapes import Shape, fault_of, kept, shape_text
 from working import Case, by_lines, polygon, rectangle
 
@@ -65,6 +64,12 @@ class Sources(Case):
         self.assertIn('did you mean `polygon_must_not_overlap`?', wrong.told)
         none = self.tool('from-ogr', 'e.gpkg', '--grid', '0.01', '--layer', 'streets')
         self.assertEqual((none.status, none.told), (2, "from-ogr: no layer 'streets'; there are lots, Gebäude 2\n"))
+
+    def test_ids_of_a_field(self):
+        source = self.source('i.gpkg', LOTS[:1])
+        self.assertIn('\n# fid 1 id "N1"\n', self.tool('from-ogr', source, '--grid', '0.01', '--id', 'nr').out)
+        done = self.tool('from-ogr', source, '--grid', '0.01', '--id', 'nrr')
+        self.assertEqual((done.status, done.out, done.told), (2, '', 'from-ogr: there is no field `nrr`; did you mean `nr`?\n'))
 
     def frame(self, script: str) -> str:
         """The frame of the first feature."""

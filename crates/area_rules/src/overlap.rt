@@ -40,12 +40,7 @@ impl Overlap {
 impl Common for Overlap {
     ghost common = { λ cells g. carve_of cells (terms.inside g) };
 
-    fn cells(
-        &self,
-        alloc: Global,
-        partner: &Feature,
-        work: &mut Work,
-    ) -> Result<Cells, NoMemory> {
+    fn cells(&self, alloc: Global, partner: &Feature, work: &mut Work) -> Result<Cells, NoMemory> {
         self.inside.carve(alloc, &inside_of(alloc, partner, work)?)
     }
 }

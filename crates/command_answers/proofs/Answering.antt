@@ -6,8 +6,8 @@ use Rattle.plane_terms.specs.Rectangle.{Rectangle}
 use Rattle.plane_terms.specs.Shape.{Shape}
 use Rattle.plane_terms.specs.declared.kind.Kind.{Kind}
 use Rattle.rule_words.specs.declared.rule_kind.RuleKind.{RuleKind}
-use Rattle.topology_terms.specs.Changes.{IsClassAdded, IsFeatureAdded, IsFeatureSet, IsRuleAdded, reshaped}
-use Rattle.topology_terms.specs.Causes.{Tells, first_of, class_cause, add_cause, change_cause, delete_cause, rule_cause}
+use Rattle.topology_terms.specs.Changes.{IsClassAdded, IsFeatureAdded, IsFeatureSet, IsRuleAdded, IsRuleDropped, reshaped}
+use Rattle.topology_terms.specs.Causes.{Tells, first_of, class_cause, add_cause, change_cause, delete_cause, rule_cause, drop_cause}
 use Rattle.topology_terms.specs.Feature.{Feature, feature_at}
 use Rattle.topology_terms.specs.Lookups.{class_number}
 use Rattle.topology_terms.specs.Poster.{poster}
@@ -20,7 +20,7 @@ use Rattle.topology_terms.specs.Counts.{raised, judged_of}
 use Rattle.feature_store.specs.Keeps.{IsGiven}
 use Rattle.topo_core.specs.Steps.{IsCounted}
 use Rattle.topo_core.specs.Topologies.{IsTopology}
-use Rattle.line_terms.specs.Commands.{Command, Class, Rule, Add, Change as AChange, Delete, Validate}
+use Rattle.line_terms.specs.Commands.{Command, Class, Rule, DropRule, Add, Change as AChange, Delete, Validate}
 use Rattle.script_terms.specs.Refusal.{Refusal, NoSession, Change}
 use Rattle.script_terms.specs.Reply.{Reply, Done, Number, Judged, Refused}
 use Rattle.script_terms.specs.State.{State, is_open}
@@ -120,6 +120,12 @@ pub rule_refused : (s t : State) (k : RuleKind) (origin : List ℕ) (dest : Opti
     → IsSomeAnd o (λ x. reply ≡ Refused (Change x)) → t ≡ s → Answers s (Rule k origin dest) reply t
 rule_refused s t k origin dest o reply built there tells said same =
     told s t (Rule k origin dest) reply o (rule_cause s.project (row_of s.project k origin dest)) (rule_refusal s k origin dest built there) tells said same
+
+pub rule_dropped : (s t : State) (n : ℕ) → drop_cause s.project.rules n ≡ None → IsRuleDropped n s.project t.project → t.editor ≡ s.editor → Answers s (DropRule n) Done t
+rule_dropped s t n may dropped same = did s t (DropRule n) Done (drop_cause s.project.rules n) refl may (refl, record { project = dropped; editor = same })
+
+pub no_rule : (s t : State) (n : ℕ) → drop_cause s.project.rules n ≡ Some cause.NoRule → t ≡ s → Answers s (DropRule n) (Refused (Change cause.NoRule)) t
+no_rule s t n none same = refused s t (DropRule n) (Refused (Change cause.NoRule)) (Change cause.NoRule) (ap changes none) refl same
 
 -- a class that a line names is not there: no class has the number 0
 pub no_class : (s t : State) (k : RuleKind) (origin : List ℕ) (dest : Option (List ℕ)) → is_built k ≡ true

@@ -57,12 +57,3 @@ pub fn cut_of(alloc: Global, rects: &[Rect], w: &Rect) -> Result<Vec<Rect>, NoMe
     }
     Ok(left)
 }
-
-/// The same list once more.
-pub fn copy_of(alloc: Global, rects: &[Rect]) -> Result<Vec<Rect>, NoMemory>
-    ensures { IfOk result (λ v. v.items ≡ rects.now) }
-{
-    let mut copy = Vec::new(alloc);
-    copy.extend_from_slice(rects)?;
-    Ok(copy)
-}

@@ -6,7 +6,7 @@ ghost use Rattle.plane_terms.specs.Rectangle.{RectHolds, IsRectangle, rects_meet
 ghost use Rattle.plane_terms.specs.Dirt.{MeetsPart, Covers, MeetsDirt, add_dirt, add_all, cut_dirt};
 ghost use Rattle.dirty_area.specs.Parts.{IsDirt};
 
-use crate::cut::{copy_of, cut_of};
+use crate::cut::cut_of;
 use crate::list::{add_to, add_two_to, meets_any};
 use grid_plane::{NoMemory, Rect};
 use std::alloc::Global;
@@ -113,26 +113,16 @@ impl Dirt {
         add_two_to(&mut self.rects, first, second)
     }
 
-    /// Takes the window out: of each rectangle, in order, the pieces that lie outside the window are added to what is left
-    /// so far. They are closed, so the window's border stays dirty where the dirt goes on beyond it. After an `Err`, want of
-    /// memory, nothing has changed.
-    pub fn cut(&mut self, alloc: Global, window: &Rect) -> Result<(), NoMemory>
-        ensures ok { OnOk result (self.new ≡ cut_dirt self.old window.now) }
-        ensures stays { OnOk result ((p : Point) → Covers self.old p → ¬ (RectHolds window.now p) → Covers self.new p) }
-        ensures only { OnOk result ((p : Point) → Covers self.new p → Covers self.old p) }
-        ensures err { OnErr result (self.new ≡ self.old) }
+    /// What is left without the window: of each rectangle, in order, the pieces that lie outside the window are added to what
+    /// is left so far. They are closed, so the window's border stays dirty where the dirt goes on beyond it. This dirt stays.
+    pub fn cut(&self, alloc: Global, window: &Rect) -> Result<Dirt, NoMemory>
+        ensures ok { IfOk result (λ d. d ≡ cut_dirt self.now window.now) }
+        ensures stays { IfOk result (λ d. (p : Point) → Covers self.now p → ¬ (RectHolds window.now p) → Covers d p) }
+        ensures only { IfOk result (λ d. (p : Point) → Covers d p → Covers self.now p) }
     {
         window.corner_law();
-        self.rects = cut_of(alloc, &self.rects, window)?;
-        Ok(())
-    }
-
-    /// An equal value.
-    pub fn try_copy(&self, alloc: Global) -> Result<Dirt, NoMemory>
-        ensures { IfOk result (λ d. d ≡ self.now) }
-    {
         Ok(Dirt {
-            rects: copy_of(alloc, &self.rects)?,
+            rects: cut_of(alloc, &self.rects, window)?,
         })
     }
 }

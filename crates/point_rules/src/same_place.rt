@@ -28,12 +28,7 @@ impl Model for SamePlace {
 impl Common for SamePlace {
     ghost common = { λ q g. if same_place q (place g) then at_place q ∷ [] else [] };
 
-    fn cells(
-        &self,
-        alloc: Global,
-        partner: &Feature,
-        _work: &mut Work,
-    ) -> Result<Cells, NoMemory> {
+    fn cells(&self, alloc: Global, partner: &Feature, _work: &mut Work) -> Result<Cells, NoMemory> {
         let mut cells = Cells::new(alloc);
         if self.place == partner.shape().place() {
             cells.push(Cell::at(alloc, self.place)?)?;

@@ -12,5 +12,5 @@ pub use finding::Finding;
 pub use findings::Findings;
 pub use row::{InForce, RuleRow};
 pub use rule::{Rule, RuleSet, judge};
-pub use view::View;
+pub use view::{View, compare_handles};
 pub use work::Work;

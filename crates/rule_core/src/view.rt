@@ -1,10 +1,12 @@
-ghost use Rattle.std.specs.Prelude.{◌≡◌, ◌<◌, [], ◌∷◌, ◌++◌, length, slice_get, Some, IsSome, OnOk, OnErr};
+ghost use Rattle.std.specs.Prelude.{◌≡◌, ◌<◌, [], ◌∷◌, ◌++◌, length, map, slice_get, Some, None, IsSome, MatchOption, OnOk, OnErr};
+ghost use Rattle.std.specs.Ordering.{MatchOrdering};
 ghost use Rattle.plane_terms.specs.Lists.{Every};
 ghost use Rattle.topology_terms.specs.Feature as terms;
 
 use grid_plane::NoMemory;
 use shape::Feature;
 use std::alloc::Global;
+use std::cmp::Ordering;
 use std::marker::Model;
 
 /// The features that a rule is shown for a subject, ascending by handle.
@@ -22,6 +24,30 @@ impl<'a> Model for View<'a> {
     ghost view = { λ v. map (λ f. f.now) v.features.items };
 
     ghost invariant = { λ v. terms.IsAscending (map (λ f. f.now) v.features.items) };
+}
+
+/// How the first handle stands to the second.
+pub fn compare_handles(m: u32, n: u32) -> Ordering
+    ensures { MatchOrdering result (m < n) (m ≡ n) (n < m) }
+{
+    if m < n {
+        return Ordering::Less;
+    }
+    if n < m {
+        return Ordering::Greater;
+    }
+    Ordering::Equal
+}
+
+// The feature of this handle.
+fn find_in<'a>(features: &[&'a Feature], handle: u32) -> Option<&'a Feature>
+    requires { terms.IsAscending (map (λ f. f.now) features.now) }
+    ensures { MatchOption result (terms.feature_at (map (λ f. f.now) features.now) handle ≡ None) (λ f. terms.feature_at (map (λ f. f.now) features.now) handle ≡ Some f.now) }
+{
+    match features.binary_search_by(|f| compare_handles(f.handle(), handle)) {
+        Ok(i) => Some(features[i]),
+        Err(_) => None,
+    }
 }
 
 impl<'a> View<'a> {
@@ -49,12 +75,12 @@ impl<'a> View<'a> {
         self.features[i]
     }
 
-    /// The feature of this handle, which is there. Goes over the list.
+    /// The feature of this handle, which is there. Takes steps by the logarithm of their number.
     pub fn subject(&self, handle: u32) -> &'a Feature
         requires { IsSome (terms.feature_at self.now handle) }
         ensures { terms.feature_at self.now handle ≡ Some result.now }
     {
-        self.features.iter().find(|f| f.handle() == handle).unwrap()
+        find_in(&self.features, handle).unwrap()
     }
 
     /// Puts a feature last, whose handle is above all others; where memory runs out the list stays as it was.

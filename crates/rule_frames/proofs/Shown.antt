@@ -15,7 +15,8 @@ class_if : (b : Bool) (A B : Side) → (if b then A else B).class ≡ (if b then
 class_if true A B = refl
 class_if false A B = refl
 
-around_seen : (who : Around) (row : Row) (V : List Feature) (a : ℕ) (f : Feature) → IsShown row V a → feature_at V a ≡ Some f → around who row V f ≡ seen who row V f
+around_seen : (who : Around) (row : Row) (V : List Feature) (a : ℕ) (f : Feature) → IsShown row V a → feature_at V a ≡ Some f
+    → around who row V f ≡ seen who row V f
 around_seen who row V a f shown e =
     let l = shown.live in
     let same : shown.subject ≡ f = cc in
@@ -25,9 +26,11 @@ around_seen who row V a f shown e =
     by_who Later same = rw same at (near_after_shown row V a shown row.origin)
     by_who Own same = rw same at (near_shown row V a shown row.origin)
     by_who Second same = rw same at (near_shown row V a shown row.dest)
-    by_who Other same = (rw same at (near_shown row V a shown (side_by Other row f))) ∙ ap (λ n. of_class n V) (class_if (is_on_side row.origin f) row.dest row.origin)
+    by_who Other same = (rw same at (near_shown row V a shown (side_by Other row f)))
+        ∙ ap (λ n. of_class n V) (class_if (is_on_side row.origin f) row.dest row.origin)
 
-plan_seen : (plan : Plan) (row : Row) (V : List Feature) (f : Feature) → ((who : Around) → around who row V f ≡ seen who row V f) → cut_by plan row V f ≡ cut_plan plan row V f
+plan_seen : (plan : Plan) (row : Row) (V : List Feature) (f : Feature) → ((who : Around) → around who row V f ≡ seen who row V f)
+    → cut_by plan row V f ≡ cut_plan plan row V f
 plan_seen (WithEach who cells) row V f e = rw (e who) refl
 plan_seen (Alone who cells) row V f e = rw (e who) refl
 plan_seen (Whole who test) row V f e = rw (e who) refl
@@ -37,12 +40,14 @@ if_both true xs = refl
 if_both false xs = refl
 
 -- what is found among those seen is the rule's cutting, whatever the rule
-pub seen_cut : (row : Row) (V : List Feature) (a : ℕ) (f : Feature) → IsShown row V a → feature_at V a ≡ Some f → (xs : List Finding) → xs ≡ cut_seen row V f → IsCutting row V a xs
+pub seen_cut : (row : Row) (V : List Feature) (a : ℕ) (f : Feature) → IsShown row V a → feature_at V a ≡ Some f → (xs : List Finding) → xs
+    ≡ cut_seen row V f → IsCutting row V a xs
 unfolding IsCutting
 seen_cut row V a f shown e xs h =
     let l = shown.live in
     let same : shown.subject ≡ f = cc in
     let j : judged row f ≡ true = rw same at shown.judged in
     let ys = cut_by (plan_of row.kind) row V f in
-    let same_plan : ys ≡ cut_plan (plan_of row.kind) row V f = plan_seen (plan_of row.kind) row V f (λ who. around_seen who row V a f shown e) in
+    let same_plan : ys ≡ cut_plan (plan_of row.kind) row V f =
+        plan_seen (plan_of row.kind) row V f (λ who. around_seen who row V a f shown e) in
     (f, e, rw j (h ∙ sym (if_both (is_built row.kind) ys ∙ ap (λ (zs : List Finding). if is_built row.kind then zs else []) same_plan)))

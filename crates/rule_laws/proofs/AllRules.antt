@@ -15,9 +15,11 @@ use Rattle.topology_terms.specs.Plans.{common_but_ends, common_place, bad_places
 use Rattle.topology_terms.specs.Plans.{has_side_at, ends_there, is_dangle, is_pseudo, own_stretches, own_crossings, none_covers}
 use Rattle.topology_terms.specs.Plans.{none_inside, has_parts}
 use Rattle.sound_laws.proofs.FeatureLists.{same_handle}
+use Rattle.std.proofs.lemmas.Bool.{or_cases}
+use Rattle.rule_laws.proofs.Nears.{on_side_test}
 use Rattle.rule_laws.proofs.Words.{OnSides, AtEnd, AtPlace, Stretch, BothInner, BothNotEnds, Overlay, Crossing, BothInside, BothAt, IsLoose, IsJoint, IsCoveredBy, HasInside, HasParts}
 use Rattle.rule_laws.proofs.Families.{IsFit, AreFit}
-use Rattle.rule_laws.proofs.Lawful.{IsLawful, row_of, either_from, class_test, fit_origin, fit_dest, by_alone, by_none, by_own, by_later, by_second, by_none_whole, by_subject}
+use Rattle.rule_laws.proofs.Lawful.{IsLawful, row_of, fit_origin, fit_dest, by_alone, by_none, by_own, by_later, by_second, by_none_whole, by_subject}
 use Rattle.rule_laws.proofs.None.{NoneThere, none_alone, none_of}
 use Rattle.rule_laws.proofs.Uncovered.{area_rule, sides_rule}
 use Rattle.rule_laws.proofs.Gaps.{IsGap, gap_rule}
@@ -309,24 +311,21 @@ single_part =
 not_other : Other ≡ Later → ⊥
 not_other e = cc
 
-class_of : (m n : ℕ) → (m == n) ≡ true → m ≡ n
-class_of m n t = same_handle m n t
-
 abbrev cover : RuleKind
 cover = rule.PolygonMustCoverEachOther
 
 either_side : (A B : Side) (f : Feature) → judged (row_of cover A B) f ≡ true → IsOnSide A f ⊎ IsOnSide B f
-either_side A B f j = elim (either_from (f.class == A.class) (f.class == B.class) j) [
-  | inl t ↦ inl (record { class = class_of f.class A.class t })
-  | inr t ↦ inr (record { class = class_of f.class B.class t })
+either_side A B f j = elim (or_cases (f.class == A.class) (f.class == B.class) j) [
+  | inl t ↦ inl (record { class = same_handle f.class A.class t })
+  | inr t ↦ inr (record { class = same_handle f.class B.class t })
 ]
 
 judged_either : (A B : Side) (f : Feature) → IsOnSide A f ⊎ IsOnSide B f → judged (row_of cover A B) f ≡ true
-judged_either A B f (inl i) = either (f.class == A.class) (f.class == B.class) (inl (class_test f.class A.class i.class))
+judged_either A B f (inl i) = either (f.class == A.class) (f.class == B.class) (inl (on_side_test f.class A.class i.class))
   where
     either : (a b : Bool) → (a ≡ true) ⊎ (b ≡ true) → (a || b) ≡ true
     either a b h = grind arith
-judged_either A B f (inr i) = either (f.class == A.class) (f.class == B.class) (inr (class_test f.class B.class i.class))
+judged_either A B f (inr i) = either (f.class == A.class) (f.class == B.class) (inr (on_side_test f.class B.class i.class))
   where
     either : (a b : Bool) → (a ≡ true) ⊎ (b ≡ true) → (a || b) ≡ true
     either a b h = grind arith

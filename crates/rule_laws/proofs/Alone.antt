@@ -54,7 +54,7 @@ unfolding finding_at alone_finding
 one_there [] n = absurd (n refl)
 one_there (c ∷ cs) n = refl
 
-not_empty : (cs : List Cell) (p : Point) → InCells cs p → cs ≢ []
+pub not_empty : (cs : List Cell) (p : Point) → InCells cs p → cs ≢ []
 not_empty cs p h e = rw e at h
 
 finding_exact : (B : ℕ → Point → Type 0) (W : Type 0) (cs : List Cell) → ¬ W → ((p : Point) → InCells cs p ↔ B 0 p)

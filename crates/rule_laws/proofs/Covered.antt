@@ -18,7 +18,7 @@ use Rattle.plane_terms.specs.declared.op.Op.TheVariants.{Over, AtLeast, Zero}
 use Rattle.plane_terms.specs.declared.kind.Kind.{Kind}
 use Rattle.plane_terms.specs.declared.kind.Kind.TheVariants as shapes
 use Rattle.plane_terms.proofs.Points.{point_at}
-use Rattle.plane_terms.proofs.ListLemmas.{some_or_none}
+use Rattle.plane_terms.proofs.ListLemmas.{some_or_none, every_filter, every_map}
 use Rattle.topology_terms.specs.Feature.{Feature, Side, is_on_side, sides, place, env}
 use Rattle.topology_terms.specs.Plans.{near, none_covers, none_inside, has_parts}
 use Rattle.topology_terms.specs.Cells.{inside, outside}
@@ -36,7 +36,7 @@ use Rattle.rule_laws.proofs.Held.{place_held, line_held, closure_held}
 use Rattle.rule_laws.proofs.Crossings.{inside_held}
 use Rattle.rule_laws.proofs.Words.{IsCoveredBy, HasInside, HasParts}
 use Rattle.rule_laws.proofs.Families.{IsFit}
-use Rattle.rule_laws.proofs.Lists.{every_filter, every_unfilter, every_weaker}
+use Rattle.rule_laws.proofs.Lists.{every_unfilter}
 use Rattle.rule_laws.proofs.Uncovered.{outside_points, some_same_of, none_each}
 use Rattle.rule_laws.proofs.Tests.{any_some}
 use Rattle.rule_laws.proofs.Spots.{not_test, inside_test}
@@ -60,7 +60,7 @@ module _ (k l : Kind) (C : Feature → Feature → Type 0) (test : Feature → F
         rw (near_of_side S F f) (
           (λ n. every_filter (λ g. ¬ (C f g)) near_test (of_side S F) n),
           (λ n. every_unfilter (λ g. ¬ (C f g)) near_test (of_side S F)
-              (every_weaker (IsFit l) (λ g. near_test g ≡ false → ¬ (C f g)) (λ g w t c. false≢true (sym t ∙ meet f g u w c))
+              (every_map (IsFit l) (λ g. near_test g ≡ false → ¬ (C f g)) (λ g w t c. false≢true (sym t ∙ meet f g u w c))
               (of_side S F) v) n),
         );
     exact = λ f gs u v.

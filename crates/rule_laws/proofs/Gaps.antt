@@ -25,8 +25,9 @@ use Rattle.cell_laws.proofs.GridLines.{x_over_holds, x_under_holds, y_over_holds
 use Rattle.cell_laws.proofs.SegmentCells.{on_segment_points}
 use Rattle.sound_laws.proofs.Dirts.{bool_cases}
 use Rattle.sound_laws.proofs.FeatureLists.{same_handle}
+use Rattle.plane_terms.proofs.ListLemmas.{every_filter, every_map}
 use Rattle.rule_laws.proofs.Families.{IsFit}
-use Rattle.rule_laws.proofs.Lists.{every_filter, every_unfilter, every_weaker}
+use Rattle.rule_laws.proofs.Lists.{every_unfilter}
 use Rattle.rule_laws.proofs.Around.{holds_test, round}
 use Rattle.rule_laws.proofs.Alone.{AloneRule, IsOnlyOne}
 use Rattle.rule_laws.proofs.Held.{line_held, closure_held}
@@ -167,7 +168,7 @@ module _ (f : Feature) (gs : List Feature) (u : IsFit shapes.Polygon f) (v : Eve
       (every_filter (IsFit shapes.Polygon) other gs v) in
       let all : P f → Every P (others f gs) → Every P gs =
       λ own k. every_unfilter P other gs
-      (every_weaker (λ (g : Feature). g.handle ≡ f.handle → g ≡ f) (λ (g : Feature). other g ≡ false → P g)
+      (every_map (λ (g : Feature). g.handle ≡ f.handle → g ≡ f) (λ (g : Feature). other g ≡ false → P g)
       (λ g i t. let same = i (is_other g.handle f.handle t) in rw same own) gs only) k in (
         (λ h. let y = x.0 h in let own = o.0 y.1.0 in (c.0 y.0, record { own = own; others = all own (e.0 (m.0 y.1.1)) })),
         (λ h. x.1 (c.1 h.0, (o.1 h.1.own, m.1 (e.1 (every_filter P other gs h.1.others))))),
@@ -219,7 +220,7 @@ gap_local f gs hs p v e h = record {
         record {
           own = y.2.own;
           others = every_unfilter P (λ g. holds_point (env g) p) hs
-              (every_weaker (IsFit shapes.Polygon) (λ g. holds_point (env g) p ≡ false → P g) (λ g i t c.
+              (every_map (IsFit shapes.Polygon) (λ g. holds_point (env g) p ≡ false → P g) (λ g i t c.
               let n = holds_test (env g) p (near_off (env g) p y.0 m (omega arith) y.1 (closure_held g y.0 i c)) in
               absurd cc) hs v) kept;
         },

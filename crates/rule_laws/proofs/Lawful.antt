@@ -5,7 +5,6 @@
 -- by_pairs, by_alone, by_whole     from what a family asks to the laws of a rule; the others, from a form of sentence
 use Rattle.std.proofs.Common.{◌≡◌, ◌↔◌, ◌⊎◌, inl, inr, ℕ, Bool, true, false, refl, List, Option, Some, arith}
 use Rattle.std.specs.Prelude.{◌==◌, ◌&&◌, ◌||◌, IfSome}
-use Rattle.std.proofs.lemmas.Bool.Decides.{nat_tests}
 use Rattle.plane_terms.specs.Point.{Point}
 use Rattle.plane_terms.specs.Rectangle.{RectHolds, RectsMeet}
 use Rattle.plane_terms.specs.Cell.{Cell}
@@ -17,6 +16,8 @@ use Rattle.topology_terms.specs.Broken.{Row, Fits, judged}
 use Rattle.topology_terms.specs.Meaning.{Finding}
 use Rattle.topology_terms.specs.Plans.{Around, Later, Own, Second, WithEach, Alone, Whole, plan_of, cut_by, side_by}
 use Rattle.sound_laws.proofs.FeatureLists.{same_handle}
+use Rattle.std.proofs.lemmas.Bool.{or_cases}
+use Rattle.rule_laws.proofs.Nears.{on_side_test}
 use Rattle.rule_laws.proofs.Families.{IsFit, AreFit, AreExact, PairBreaks, AloneBreaks, WholeBreaks, IsNone, IsAmong, IsWithLater, IsWithSecond, IsWholeNone, IsWholeAlone}
 use Rattle.rule_laws.proofs.Pairs.{PairRule, pair_inside, pair_point, pair_exact}
 use Rattle.rule_laws.proofs.Alone.{AloneRule, alone_inside, alone_point, alone_exact}
@@ -57,19 +58,12 @@ exact_by B C W V xs e w h = record {
 }
 
 -- ---- who is judged
-pub class_test : (m n : ℕ) → m ≡ n → (m == n) ≡ true
-class_test m n e = grind (arith, nat_tests)
-
 either_test : (a b : Bool) → (a ≡ true) ⊎ (b ≡ true) → (a || b) ≡ true
 either_test a b h = grind arith
 
-pub either_from : (a b : Bool) → (a || b) ≡ true → (a ≡ true) ⊎ (b ≡ true)
-either_from true b e = inl refl
-either_from false b e = inr e
-
 pub judged_of : (k : RuleKind) (A B : Side) (F : List Feature) (a : ℕ) (f : Feature) → IsOf F A a f → judged (row_of k A B) f ≡ true
 judged_of k A B F a f i =
-    either_test (f.class == A.class) (judges_either k && (f.class == B.class)) (inl (class_test f.class A.class i.on_side.class))
+    either_test (f.class == A.class) (judges_either k && (f.class == B.class)) (inl (on_side_test f.class A.class i.on_side.class))
 
 pub of_judged : (k : RuleKind) (A B : Side) (F : List Feature) (a : ℕ) (f : Feature) → judges_either k ≡ false → feature_at F a ≡ Some f
     → judged (row_of k A B) f ≡ true → IsOf F A a f
@@ -77,7 +71,7 @@ of_judged k A B F a f n e j =
     record {
       live = e;
       on_side = record {
-        class = elim (either_from (f.class == A.class) (judges_either k && (f.class == B.class)) j)
+        class = elim (or_cases (f.class == A.class) (judges_either k && (f.class == B.class)) j)
             [ inl t ↦ same_handle f.class A.class t | inr t ↦ let u : false ≡ true = rw n at t in absurd cc ];
       };
     }

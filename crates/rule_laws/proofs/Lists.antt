@@ -1,15 +1,13 @@
 -- Lists of features: filters, and what holds of each.
-use Rattle.std.proofs.Common.{◌≡◌, inl, inr, ℕ, Bool, true, false, arith, refl, sym, ◌∙◌, List, [], ◌∷◌, Some}
-use Rattle.std.specs.Prelude.{cond, ◌==◌}
+use Rattle.std.proofs.Common.{◌≡◌, ℕ, Bool, true, false, refl, sym, ◌∙◌, List, [], ◌∷◌, Some}
+use Rattle.std.specs.Prelude.{cond}
 use Rattle.std.specs.List.{filter}
-use Rattle.std.proofs.lemmas.Bool.Decides.{nat_tests}
 use Rattle.plane_terms.specs.Lists.{Every}
 use Rattle.topology_terms.specs.Feature.{Feature, Side, IsOf, is_on_side, feature_at, IsAscending}
 use Rattle.topology_terms.specs.Together.{of_side}
-use Rattle.sound_laws.proofs.Dirts.{bool_cases}
-use Rattle.sound_laws.proofs.FeatureLists.{of_filter, same_handle, feature_at-filter, ascending_filter, same_features, at_handle, past_handle}
+use Rattle.sound_laws.proofs.FeatureLists.{of_filter, same_handle, feature_at-filter, ascending_filter, same_features, live_each, kept_at}
 use Rattle.sound_laws.proofs.FeatureLists.{each_live}
-use Rattle.rule_laws.proofs.Nears.{kept_at, passing_same}
+use Rattle.rule_laws.proofs.Nears.{passing_same, on_side_test}
 
 -- maps that have the same features among those that pass, have the same list of them
 pub filter_agree : (test : Feature → Bool) (F G : List Feature) → IsAscending F → IsAscending G
@@ -20,22 +18,6 @@ filter_agree test F G u v m n = same_features (filter test F) (filter test G) (a
     feature_at-filter test F h u ∙ (passing_same test (feature_at F h) (feature_at G h) (m h) (n h) ∙ sym (feature_at-filter test G h v)))
 
 -- ---- each
-pub every_at : (P : Feature → Type 0) (F : List Feature) (h : ℕ) (g : Feature) → Every P F → feature_at F h ≡ Some g → P g
-unfolding feature_at
-every_at P [] h g k e = cc
-every_at P (f ∷ F) h g k e = elim (bool_cases (f.handle == h)) [
-  | inl t ↦ let l : Some f ≡ Some g = sym (at_handle f F h t) ∙ e in let same : f ≡ g = cc in rw same at k.0
-  | inr t ↦ every_at P F h g k.1 (sym (past_handle f F h t) ∙ e)
-]
-
-every_pick : (P : Feature → Type 0) (b : Bool) (f : Feature) (F : List Feature) → P f → Every P F → Every P (cond b (f ∷ F) F)
-every_pick P true f F h k = (h, k)
-every_pick P false f F h k = k
-
-pub every_filter : (P : Feature → Type 0) (test : Feature → Bool) (F : List Feature) → Every P F → Every P (filter test F)
-every_filter P test [] k = tt
-every_filter P test (f ∷ F) k = every_pick P (test f) f (filter test F) k.0 (every_filter P test F k.1)
-
 unpick : (P : Feature → Type 0) (b : Bool) (f : Feature) (F : List Feature) → (b ≡ false → P f) → (Every P F → Every P F)
     → Every P (cond b (f ∷ F) F) → P f × Every P F
 unpick P true f F n k h = (h.0, h.1)
@@ -47,14 +29,7 @@ pub every_unfilter : (P : Feature → Type 0) (test : Feature → Bool) (F : Lis
 every_unfilter P test [] n k = tt
 every_unfilter P test (f ∷ F) n k = let y = unpick P (test f) f (filter test F) n.0 (λ x. x) k in (y.0, every_unfilter P test F n.1 y.1)
 
-pub every_weaker : (P Q : Feature → Type 0) → ((f : Feature) → P f → Q f) → (F : List Feature) → Every P F → Every Q F
-every_weaker P Q m [] k = tt
-every_weaker P Q m (f ∷ F) k = (m f k.0, every_weaker P Q m F k.1)
-
 -- ---- those of a side
-on_side_test : (m n : ℕ) → m ≡ n → (m == n) ≡ true
-on_side_test m n e = grind (arith, nat_tests)
-
 pub side_has : (S : Side) (F : List Feature) (b : ℕ) (g : Feature) → IsOf F S b g → feature_at (of_side S F) b ≡ Some g
 side_has S F b g i = kept_at (is_on_side S) F b g i.live (on_side_test g.class S.class i.on_side.class)
 
@@ -68,4 +43,4 @@ pub side_each : (P : Feature → Type 0) (S : Side) (F : List Feature) → IsAsc
 side_each P S F u n = each_live P (of_side S F) (ascending_filter (is_on_side S) F u) (λ b g e. n b g (side_of S F b g u e))
 
 pub side_every : (P : Feature → Type 0) (S : Side) (F : List Feature) → Every P (of_side S F) → (b : ℕ) (g : Feature) → IsOf F S b g → P g
-side_every P S F k b g i = every_at P (of_side S F) b g k (side_has S F b g i)
+side_every P S F k b g i = live_each P (of_side S F) b g k (side_has S F b g i)

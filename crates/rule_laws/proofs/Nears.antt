@@ -1,13 +1,13 @@
 -- The features near a subject: the list depends on those alone whose envelope meets the subject's.
-use Rattle.std.proofs.Common.{◌≡◌, inl, inr, ℕ, ◌<◌, Bool, true, false, arith, refl, sym, ◌∙◌, ap, List, [], ◌∷◌, Option, Some, None}
-use Rattle.std.specs.Prelude.{cond, nat_lt, ◌==◌, ◌&&◌}
+use Rattle.std.proofs.Common.{◌≡◌, inl, inr, ℕ, ◌<◌, Bool, true, false, arith, refl, sym, ◌∙◌, ap, List, Option, Some, None}
+use Rattle.std.specs.Prelude.{nat_lt, ◌==◌, ◌&&◌}
 use Rattle.std.specs.List.{filter}
 use Rattle.std.proofs.lemmas.Bool.Decides.{nat_tests}
 use Rattle.plane_terms.specs.Rectangle.{RectsMeet, rects_meet}
 use Rattle.topology_terms.specs.Feature.{Feature, Side, IsOf, is_on_side, feature_at, env, Agree, IsAscending}
 use Rattle.topology_terms.specs.Plans.{near, near_after}
 use Rattle.sound_laws.proofs.Dirts.{bool_cases}
-use Rattle.sound_laws.proofs.FeatureLists.{passing, of_filter, handle_of, feature_at-filter, ascending_filter, same_features, at_handle, past_handle, past_pick}
+use Rattle.sound_laws.proofs.FeatureLists.{passing, of_filter, handle_of, feature_at-filter, ascending_filter, same_features, kept_at}
 use Rattle.sound_laws.proofs.Meetings.{meets_from_test, envelope_proper}
 
 -- the test by which a feature is near, and that by which it comes after
@@ -70,23 +70,8 @@ near_ascends A f F u = ascending_filter (is_near A f) F u
 pub near_after_ascends : (A : Side) (f : Feature) (F : List Feature) → IsAscending F → IsAscending (near_after A f F)
 near_after_ascends A f F u = ascending_filter (is_after f) (near A f F) (near_ascends A f F u)
 
-kept_pick : (b : Bool) (f : Feature) (F : List Feature) (h : ℕ) → b ≡ true → (f.handle == h) ≡ true
-    → feature_at (cond b (f ∷ F) F) h ≡ Some f
-kept_pick true f F h t k = at_handle f F h k
-kept_pick false f F h t k = cc
-
--- a filter keeps what passes, whatever the order
-pub kept_at : (test : Feature → Bool) (F : List Feature) (h : ℕ) (g : Feature) → feature_at F h ≡ Some g → test g ≡ true
-    → feature_at (filter test F) h ≡ Some g
-unfolding feature_at
-kept_at test [] h g e t = cc
-kept_at test (f ∷ F) h g e t = elim (bool_cases (f.handle == h)) [
-  | inl k ↦
-      let l : Some f ≡ Some g = sym (at_handle f F h k) ∙ e in
-      let same : f ≡ g = cc in
-      kept_pick (test f) f (filter test F) h (rw same t) k ∙ l
-  | inr k ↦ past_pick (test f) f (filter test F) h k ∙ kept_at test F h g (sym (past_handle f F h k) ∙ e) t
-]
+pub on_side_test : (m n : ℕ) → m ≡ n → (m == n) ≡ true
+on_side_test m n e = grind (arith, nat_tests)
 
 -- a feature of the side whose envelope meets the subject's is near it
 pub near_has : (A : Side) (f : Feature) (F : List Feature) (b : ℕ) (g : Feature) → IsOf F A b g → rects_meet (env f) (env g) ≡ true
@@ -95,9 +80,6 @@ near_has A f F b g i m =
     kept_at (is_near A f) F b g i.live
     (both (is_on_side A g) (rects_meet (env f) (env g)) (on_side_test g.class A.class i.on_side.class) m)
   where
-    on_side_test : (m n : ℕ) → m ≡ n → (m == n) ≡ true
-    on_side_test m n e = grind (arith, nat_tests)
-
     both : (a b : Bool) → a ≡ true → b ≡ true → (a && b) ≡ true
     both a b i j = grind arith
 

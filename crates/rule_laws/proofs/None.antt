@@ -7,8 +7,9 @@ use Rattle.plane_terms.specs.Cell.{Cell, InCells, HavePoints}
 use Rattle.plane_terms.specs.declared.kind.Kind.{Kind}
 use Rattle.topology_terms.specs.Feature.{Feature, Side, NoneOf, env, IsAscending}
 use Rattle.topology_terms.specs.Together.{of_side}
+use Rattle.plane_terms.proofs.ListLemmas.{every_filter, every_map}
 use Rattle.rule_laws.proofs.Families.{IsFit}
-use Rattle.rule_laws.proofs.Lists.{every_filter, every_unfilter, every_weaker, side_each, side_every}
+use Rattle.rule_laws.proofs.Lists.{every_unfilter, side_each, side_every}
 use Rattle.rule_laws.proofs.Around.{holds_test, round}
 use Rattle.rule_laws.proofs.Alone.{AloneRule}
 
@@ -28,7 +29,7 @@ pub none_round : (l : Kind) (C : Feature → Point → Type 0) → ((g : Feature
 none_round l C held gs hs p u e n =
     let kept : Every (λ g. ¬ (C g p)) (round p hs) = rw e at (every_filter (λ g. ¬ (C g p)) (λ g. holds_point (env g) p) gs n) in
     every_unfilter (λ g. ¬ (C g p)) (λ g. holds_point (env g) p) hs
-    (every_weaker (IsFit l) (λ g. holds_point (env g) p ≡ false → ¬ (C g p))
+    (every_map (IsFit l) (λ g. holds_point (env g) p ≡ false → ¬ (C g p))
     (λ g i t c. let k = holds_test (env g) p (held g p i c) in absurd cc) hs u) kept
 
 pub none_alone : (k l : Kind) (X C : Feature → Point → Type 0) (cells : Feature → List Feature → List Cell) → NoneRule k l X C cells

@@ -2,7 +2,7 @@
 --
 -- PairRule         what has to be shown of such a rule: where it is broken (C) and its cells, for any two features
 --                  held_a, held_b: in both envelopes; exact: the cells hold exactly the points; some: none of them is empty
-use Rattle.std.proofs.Common.{◌≡◌, ◌≢◌, ◌↔◌, ℕ, true, false, List, [], Some}
+use Rattle.std.proofs.Common.{◌≡◌, ◌↔◌, ℕ, true, false, List, Some}
 use Rattle.plane_terms.specs.Point.{Point}
 use Rattle.plane_terms.specs.Rectangle.{RectHolds, rects_meet}
 use Rattle.plane_terms.specs.Cell.{Cell, InCells, HavePoints}
@@ -13,6 +13,7 @@ use Rattle.topology_terms.specs.Meaning.{Finding, finding_at}
 use Rattle.topology_terms.specs.Plans.{pair_findings, Around, Later, Own, Second, Other, side_by, around}
 use Rattle.sound_laws.proofs.FeatureLists.{handle_of}
 use Rattle.sound_laws.proofs.Meetings.{meets_test}
+use Rattle.rule_laws.proofs.Alone.{not_empty}
 use Rattle.rule_laws.proofs.Findings.{found_cells, IsFoundWith, pair_found, found_pair}
 use Rattle.rule_laws.proofs.Nears.{near_ascends, near_of, near_has, near_after_ascends, near_after_of, near_after_has}
 use Rattle.rule_laws.proofs.Families.{IsFit, AreFit, AreExact, PairBreaks, IsInOrder}
@@ -43,9 +44,6 @@ around_has Later row F f b g i m o = near_after_has row.origin f F b g i m o
 around_has Own row F f b g i m o = near_has row.origin f F b g i m
 around_has Second row F f b g i m o = near_has row.dest f F b g i m
 around_has Other row F f b g i m o = near_has (side_by Other row f) f F b g i m
-
-not_empty : (cs : List Cell) (p : Point) → InCells cs p → cs ≢ []
-not_empty cs p h e = rw e at h
 
 module _ (k l : Kind) (C : Feature → Feature → Point → Type 0) (cells : Feature → Feature → List Cell) (R : PairRule k l C cells)
     (row : Row) (who : Around) where

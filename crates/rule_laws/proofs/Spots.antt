@@ -25,6 +25,7 @@ use Rattle.cell_laws.proofs.Lists.{some_map}
 use Rattle.cell_laws.proofs.Outside.{at_place_points}
 use Rattle.cell_laws.proofs.Meeting.{at_turn}
 use Rattle.cell_laws.proofs.OnLine.{at_itself}
+use Rattle.plane_terms.proofs.ListLemmas.{every_map}
 use Rattle.rule_laws.proofs.Held.{place_held, line_held, end_held}
 use Rattle.rule_laws.proofs.Crossings.{inside_held}
 use Rattle.rule_laws.proofs.Words.{OnSides, AtEnd, AtPlace, IsLoose, IsJoint}
@@ -32,7 +33,7 @@ use Rattle.rule_laws.proofs.Families.{IsFit}
 use Rattle.rule_laws.proofs.None.{NoneRule}
 use Rattle.rule_laws.proofs.Alone.{AloneRule}
 use Rattle.rule_laws.proofs.Around.{round}
-use Rattle.rule_laws.proofs.Uncovered.{every_flat, every_to, none_each, some_same_of}
+use Rattle.rule_laws.proofs.Uncovered.{every_flat, none_each, some_same_of}
 use Rattle.rule_laws.proofs.Tests.{any_some, at_test, end_test, side_test, same_is, is_same, place_from, place_test, straight}
 use Rattle.rule_laws.proofs.Counted.{count_test, many_round}
 
@@ -247,7 +248,7 @@ loose_test : (gs : List Feature) (n : ℕ) (q : Place) (p : Point) → Every (Is
     → ((segments_at gs q == n) ≡ true) ↔ AreMany (λ (t : Segment). OnSegment t p) (sides_all gs) n
 loose_test gs n q p u a =
     count_test IsSegment (λ t. OnSegment t p) (λ t. holds_place t q) (λ t g. (place_from t q p a, place_test t q p g a)) (sides_all gs) n
-    ((every_flat IsSegment sides gs).1 (every_to (IsFit shapes.Line) (λ g. Every IsSegment (sides g)) (λ g w. w.proper) gs u))
+    ((every_flat IsSegment sides gs).1 (every_map (IsFit shapes.Line) (λ g. Every IsSegment (sides g)) (λ g w. w.proper) gs u))
 
 ends_test : (gs : List Feature) (n : ℕ) (q : Place) (p : Point) → IsAt q p
     → ((ends_at gs q == n) ≡ true) ↔ AreMany (λ (r : Place). IsAt r p) (ends_all gs) n

@@ -20,6 +20,7 @@ use Rattle.cell_laws.proofs.Envelope.{box_holds}
 use Rattle.cell_laws.proofs.OnLine.{on_lo}
 use Rattle.column_laws.proofs.Exact.{inside_is_exact, outside_is_exact}
 use Rattle.sound_laws.proofs.Meetings.{meets_test}
+use Rattle.plane_terms.proofs.ListLemmas.{every_map}
 use Rattle.rule_laws.proofs.Families.{IsFit}
 use Rattle.rule_laws.proofs.Held.{line_held, closure_held}
 use Rattle.rule_laws.proofs.None.{NoneRule, NoneThere}
@@ -58,10 +59,6 @@ some_same_of U P Q m (x ∷ xs) u =
     let a = m x u.0 in
     let k = some_same_of U P Q m xs u.1 in
     (λ h. elim h [ inl i ↦ inl (a.0 i) | inr i ↦ inr (k.0 i) ], λ h. elim h [ inl i ↦ inl (a.1 i) | inr i ↦ inr (k.1 i) ])
-
-pub every_to : {A : Type 0} (P Q : A → Type 0) → ((x : A) → P x → Q x) → (xs : List A) → Every P xs → Every Q xs
-every_to P Q m [] k = tt
-every_to P Q m (x ∷ xs) k = (m x k.0, every_to P Q m xs k.1)
 
 -- what is shared by all of a list comes out of it
 pub some_out : {A : Type 0} (P : A → Type 0) (Q : Type 0) (xs : List A) → SomeOf (λ x. P x × Q) xs ↔ (SomeOf P xs × Q)
@@ -190,7 +187,7 @@ module _ (k l : Kind) where
     exact = sides_points;
     some = λ f gs u v. (every_flat HasPoint
         (λ (s : Segment). uncovered (on_segment s ∷ []) (flat_map (λ (g : Feature). out_of_segments s (sides g)) gs)) (sides f)).1
-        (every_to IsSegment (λ s.
+        (every_map IsSegment (λ s.
         HavePoints (uncovered (on_segment s ∷ []) (flat_map (λ (g : Feature). out_of_segments s (sides g)) gs)))
         (λ s g. uncovered_have_points (on_segment s ∷ []) (flat_map (λ (g : Feature). out_of_segments s (sides g)) gs)
         (segment_has_point s g, tt)) (sides f) u.proper);

@@ -1,5 +1,5 @@
 -- Cells carved by one list after the other: by two rows of lists, and where nothing is left.
-use Rattle.std.proofs.Common.{◌≡◌, List, [], ◌∷◌, ◌++◌, refl, sym, ◌∙◌, length, arith}
+use Rattle.std.proofs.Common.{◌≡◌, List, [], ◌∷◌, ◌++◌, refl, length, arith}
 use Rattle.plane_terms.specs.Cell.{Cell}
 use Rattle.plane_terms.specs.Carve.{carve_of}
 use Rattle.topology_terms.specs.Cells.{uncovered}
@@ -13,6 +13,7 @@ uncovered-nil [] = refl
 uncovered-nil (ds ∷ dss) = uncovered-nil dss
 
 -- where nothing is left, what comes after it does not matter
-pub stopped : (cs left : List Cell) (all dss ess : List (List Cell)) → all ≡ dss ++ ess → left ≡ uncovered cs dss → length left ≡ 0 → left ≡ uncovered cs all
+pub stopped : (cs left : List Cell) (all dss ess : List (List Cell)) → all ≡ dss ++ ess → left ≡ uncovered cs dss → length left ≡ 0 → left
+    ≡ uncovered cs all
 stopped cs [] all dss ess a e n = rw (a, uncovered-append cs dss ess, ← e, uncovered-nil ess) refl
 stopped cs (c ∷ left) all dss ess a e n = absurd (omega arith)

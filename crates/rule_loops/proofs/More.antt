@@ -1,34 +1,31 @@
 -- A loop over a view or over segments: what has been made with one feature more, and where nothing is left to carve.
 use Rattle.std.proofs.Common.{◌≡◌, ℕ, ◌+◌, ◌<◌, Bool, true, false, List, [], ◌∷◌, ◌++◌, Some, refl, sym, ◌∙◌, ap, take, drop, length, get_or, cond, map, append-nil, arith}
-use Rattle.std.specs.Prelude.{slice_get, not, ◌==◌, flat_map}
+use Rattle.std.specs.Prelude.{slice_get, not, ◌==◌, ◌&&◌, flat_map}
 use Rattle.std.specs.List.{filter}
 use Rattle.std.proofs.lemmas.Grind.{flat_map-append}
 use Rattle.std.proofs.lemmas.List.{map-append, map_more, take-append-drop}
 use Rattle.std.proofs.lemmas.List.Elements.{filter_more, filter-append}
 use Rattle.std.proofs.lemmas.Option.{get_or_from_slice_get}
 use Rattle.std.proofs.lemmas.Bool.Decides.{nat_tests}
-use Rattle.plane_terms.specs.Segment.{Segment}
+use Rattle.plane_terms.specs.Rectangle.{rects_meet}
+use Rattle.plane_terms.specs.Segment.{Segment, box_of}
 use Rattle.plane_terms.specs.Cell.{Cell, on_segment, out_of_segment, box_round, weak_of}
 use Rattle.plane_terms.specs.Carve.{carve_of}
 use Rattle.topology_terms.specs.Feature.{Feature, sides, env}
 use Rattle.topology_terms.specs.Cells.{uncovered, inside, outside, box_meets, out_of_segments}
 use Rattle.topology_terms.specs.Plans.{area_left, others, open_ground}
 use Rattle.sound_laws.proofs.FeatureFilters.{kept_twice}
-use Rattle.rule_core.proofs.Partners.{within}
-use Rattle.rule_loops.specs.Views.{of_class, other_of, left_of_segment}
+use Rattle.rule_core.proofs.Partners.{kept_more}
+use Rattle.rule_loops.specs.Views.{of_class, other_of, beside, left_of_segment}
+use Rattle.rule_loops.proofs.Boxes.{none_beside}
 use Rattle.rule_loops.proofs.Carved.{uncovered-append, stopped}
 
 -- ---- the features that pass a test
-kept_more : (test : Feature → Bool) (F : List Feature) (i : ℕ) (g : Feature) (b : Bool) → slice_get F i ≡ Some g → test g ≡ b → filter test (take (i + 1) F) ≡ filter test (take i F) ++ cond b (g ∷ []) []
-kept_more test F i g b e t =
-    let there : get_or F i g ≡ g = get_or_from_slice_get F i g g e in
-    let one : cond (test (get_or F i g)) (get_or F i g ∷ []) [] ≡ cond b (g ∷ []) [] = rw (there, t) refl in
-    filter_more test F i g (within F i g e) ∙ ap (λ gs. filter test (take i F) ++ gs) one
-
 kept_apart : {A : Type 0} (test : A → Bool) (F : List A) (i : ℕ) → filter test F ≡ filter test (take i F) ++ filter test (drop i F)
 kept_apart test F i = ap (filter test) (sym (take-append-drop i F)) ∙ filter-append test (take i F) (drop i F)
 
-class_more : (n : ℕ) (F : List Feature) (i : ℕ) (g : Feature) (b : Bool) → slice_get F i ≡ Some g → (g.class == n) ≡ b → of_class n (take (i + 1) F) ≡ of_class n (take i F) ++ cond b (g ∷ []) []
+class_more : (n : ℕ) (F : List Feature) (i : ℕ) (g : Feature) (b : Bool) → slice_get F i ≡ Some g → (g.class == n) ≡ b
+    → of_class n (take (i + 1) F) ≡ of_class n (take i F) ++ cond b (g ∷ []) []
 class_more n F i g b e t = kept_more (λ (h : Feature). h.class == n) F i g b e t
 
 class_apart : (n : ℕ) (F : List Feature) (i : ℕ) → of_class n F ≡ of_class n (take i F) ++ of_class n (drop i F)
@@ -41,87 +38,141 @@ pub class_is_not : (m r n : ℕ) → r ≡ m → (r ≡ n → ⊥) → (m == n) 
 class_is_not m r n e h = grind (arith, nat_tests)
 
 -- ---- what polygons leave of an inside
-pub left_more : (f : Feature) (n : ℕ) (F : List Feature) (i : ℕ) (g : Feature) (cells : List Cell) → slice_get F i ≡ Some g → (g.class == n) ≡ true → cells ≡ area_left f (of_class n (take i F))
+pub left_more : (f : Feature) (n : ℕ) (F : List Feature) (i : ℕ) (g : Feature) (cells : List Cell) → slice_get F i ≡ Some g
+    → (g.class == n) ≡ true → cells ≡ area_left f (of_class n (take i F))
     → carve_of cells (outside g) ≡ area_left f (of_class n (take (i + 1) F))
 left_more f n F i g cells e t h =
     let gs = of_class n (take i F) in
-    rw h (sym (ap (area_left f) (class_more n F i g true e t) ∙ (ap (uncovered (inside f)) (map-append outside gs (g ∷ [])) ∙ uncovered-append (inside f) (map {A = Feature} outside gs) (outside g ∷ []))))
+    rw h (sym (ap (area_left f) (class_more n F i g true e t)
+        ∙ (ap (uncovered (inside f)) (map-append outside gs (g ∷ []))
+        ∙ uncovered-append (inside f) (map {A = Feature} outside gs) (outside g ∷ []))))
 
-pub left_same : (f : Feature) (n : ℕ) (F : List Feature) (i : ℕ) (g : Feature) (cells : List Cell) → slice_get F i ≡ Some g → (g.class == n) ≡ false → cells ≡ area_left f (of_class n (take i F)) → cells ≡ area_left f (of_class n (take (i + 1) F))
+pub left_same : (f : Feature) (n : ℕ) (F : List Feature) (i : ℕ) (g : Feature) (cells : List Cell) → slice_get F i ≡ Some g
+    → (g.class == n) ≡ false → cells ≡ area_left f (of_class n (take i F)) → cells ≡ area_left f (of_class n (take (i + 1) F))
 left_same f n F i g cells e t h = h ∙ sym (ap (area_left f) (class_more n F i g false e t ∙ append-nil (of_class n (take i F))))
 
-pub left_none : (f : Feature) (n : ℕ) (F : List Feature) (i : ℕ) (cells : List Cell) → cells ≡ area_left f (of_class n (take i F)) → length cells ≡ 0 → cells ≡ area_left f (of_class n F)
+pub left_none : (f : Feature) (n : ℕ) (F : List Feature) (i : ℕ) (cells : List Cell) → cells ≡ area_left f (of_class n (take i F))
+    → length cells ≡ 0 → cells ≡ area_left f (of_class n F)
 left_none f n F i cells h z =
     let gs = of_class n (take i F) in
     let hs = of_class n (drop i F) in
-    stopped (inside f) cells (map {A = Feature} outside (of_class n F)) (map {A = Feature} outside gs) (map {A = Feature} outside hs) (ap (map {A = Feature} outside) (class_apart n F i) ∙ map-append outside gs hs) h z
+    stopped (inside f) cells (map {A = Feature} outside (of_class n F)) (map {A = Feature} outside gs) (map {A = Feature} outside hs)
+        (ap (map {A = Feature} outside) (class_apart n F i) ∙ map-append outside gs hs) h z
 
 -- ---- what segments leave of a segment
-chosen_more : (s : Segment) (ts : List Segment) (i : ℕ) (t : Segment) (b : Bool) → i < length ts → t ≡ get_or ts i t → box_meets s t ≡ b → filter (box_meets s) (take (i + 1) ts) ≡ filter (box_meets s) (take i ts) ++ cond b (t ∷ []) []
+chosen_more : (s : Segment) (ts : List Segment) (i : ℕ) (t : Segment) (b : Bool) → i < length ts → t ≡ get_or ts i t → box_meets s t ≡ b
+    → filter (box_meets s) (take (i + 1) ts) ≡ filter (box_meets s) (take i ts) ++ cond b (t ∷ []) []
 chosen_more s ts i t b l e m =
     let one : cond (box_meets s (get_or ts i t)) (get_or ts i t ∷ []) [] ≡ cond b (t ∷ []) [] = rw (← e, m) refl in
     filter_more (box_meets s) ts i t l ∙ ap (λ us. filter (box_meets s) (take i ts) ++ us) one
 
-pub off_more : (s : Segment) (ts : List Segment) (i : ℕ) (t : Segment) (cs left : List Cell) → i < length ts → t ≡ get_or ts i t → box_meets s t ≡ true → left ≡ uncovered cs (out_of_segments s (take i ts))
+pub off_more : (s : Segment) (ts : List Segment) (i : ℕ) (t : Segment) (cs left : List Cell) → i < length ts → t ≡ get_or ts i t
+    → box_meets s t ≡ true → left ≡ uncovered cs (out_of_segments s (take i ts))
     → carve_of left (out_of_segment t) ≡ uncovered cs (out_of_segments s (take (i + 1) ts))
 off_more s ts i t cs left l e m h =
     let us = filter (box_meets s) (take i ts) in
-    rw h (sym (ap (λ vs. uncovered cs (map {A = Segment} out_of_segment vs)) (chosen_more s ts i t true l e m) ∙ (ap (uncovered cs) (map-append out_of_segment us (t ∷ [])) ∙ uncovered-append cs (map {A = Segment} out_of_segment us) (out_of_segment t ∷ []))))
+    rw h (sym (ap (λ vs. uncovered cs (map {A = Segment} out_of_segment vs)) (chosen_more s ts i t true l e m)
+        ∙ (ap (uncovered cs) (map-append out_of_segment us (t ∷ []))
+        ∙ uncovered-append cs (map {A = Segment} out_of_segment us) (out_of_segment t ∷ []))))
 
-pub off_same : (s : Segment) (ts : List Segment) (i : ℕ) (t : Segment) (cs left : List Cell) → i < length ts → t ≡ get_or ts i t → box_meets s t ≡ false → left ≡ uncovered cs (out_of_segments s (take i ts))
+pub off_same : (s : Segment) (ts : List Segment) (i : ℕ) (t : Segment) (cs left : List Cell) → i < length ts → t ≡ get_or ts i t
+    → box_meets s t ≡ false → left ≡ uncovered cs (out_of_segments s (take i ts))
     → left ≡ uncovered cs (out_of_segments s (take (i + 1) ts))
-off_same s ts i t cs left l e m h = h ∙ sym (ap (λ vs. uncovered cs (map {A = Segment} out_of_segment vs)) (chosen_more s ts i t false l e m ∙ append-nil (filter (box_meets s) (take i ts))))
+off_same s ts i t cs left l e m h = h ∙ sym
+    (ap (λ vs. uncovered cs (map {A = Segment} out_of_segment vs))
+    (chosen_more s ts i t false l e m ∙ append-nil (filter (box_meets s) (take i ts))))
 
-pub off_none : (s : Segment) (ts : List Segment) (i : ℕ) (cs left : List Cell) → left ≡ uncovered cs (out_of_segments s (take i ts)) → length left ≡ 0 → left ≡ uncovered cs (out_of_segments s ts)
+pub off_none : (s : Segment) (ts : List Segment) (i : ℕ) (cs left : List Cell) → left ≡ uncovered cs (out_of_segments s (take i ts))
+    → length left ≡ 0 → left ≡ uncovered cs (out_of_segments s ts)
 off_none s ts i cs left h z =
     let us = filter (box_meets s) (take i ts) in
     let vs = filter (box_meets s) (drop i ts) in
-    stopped cs left (out_of_segments s ts) (map {A = Segment} out_of_segment us) (map {A = Segment} out_of_segment vs) (ap (map {A = Segment} out_of_segment) (kept_apart (box_meets s) ts i) ∙ map-append out_of_segment us vs) h z
+    stopped cs left (out_of_segments s ts) (map {A = Segment} out_of_segment us) (map {A = Segment} out_of_segment vs)
+        (ap (map {A = Segment} out_of_segment) (kept_apart (box_meets s) ts i) ∙ map-append out_of_segment us vs) h z
 
 -- ---- what features leave of a segment
-pub segment_more : (s : Segment) (n : ℕ) (F : List Feature) (i : ℕ) (g : Feature) (left : List Cell) → slice_get F i ≡ Some g → (g.class == n) ≡ true → left ≡ left_of_segment (of_class n (take i F)) s
+by_class : (s : Segment) (n : ℕ) (F : List Feature) (i : ℕ) (g : Feature) (left : List Cell) → slice_get F i ≡ Some g → (g.class == n)
+    ≡ true → left ≡ left_of_segment (of_class n (take i F)) s
     → uncovered left (out_of_segments s (sides g)) ≡ left_of_segment (of_class n (take (i + 1) F)) s
-segment_more s n F i g left e t h =
+by_class s n F i g left e t h =
     let outs : Feature → List (List Cell) = λ (g : Feature). out_of_segments s (sides g) in
     let gs = of_class n (take i F) in
-    rw h (sym (ap (λ hs. left_of_segment hs s) (class_more n F i g true e t) ∙ (ap (uncovered (on_segment s ∷ [])) (flat_map-append outs gs (g ∷ []) ∙ ap (λ l. flat_map outs gs ++ l) (append-nil (outs g))) ∙ uncovered-append (on_segment s ∷ []) (flat_map outs gs) (outs g))))
+    rw h (sym (ap (λ hs. left_of_segment hs s) (class_more n F i g true e t)
+        ∙ (ap (uncovered (on_segment s ∷ [])) (flat_map-append outs gs (g ∷ []) ∙ ap (λ l. flat_map outs gs ++ l) (append-nil (outs g)))
+        ∙ uncovered-append (on_segment s ∷ []) (flat_map outs gs) (outs g))))
 
-pub segment_same : (s : Segment) (n : ℕ) (F : List Feature) (i : ℕ) (g : Feature) (left : List Cell) → slice_get F i ≡ Some g → (g.class == n) ≡ false → left ≡ left_of_segment (of_class n (take i F)) s → left ≡ left_of_segment (of_class n (take (i + 1) F)) s
-segment_same s n F i g left e t h = h ∙ sym (ap (λ hs. left_of_segment hs s) (class_more n F i g false e t ∙ append-nil (of_class n (take i F))))
+of_beside : (n : ℕ) (s : Segment) (g : Feature) → beside n s g ≡ true → (g.class == n) ≡ true
+of_beside n s g e = both (g.class == n) (rects_meet (box_of s) (env g)) e
+  where
+    both : (b c : Bool) → (b && c) ≡ true → b ≡ true
+    both true c e = refl
+    both false c e = e
 
-pub segment_none : (s : Segment) (n : ℕ) (F : List Feature) (i : ℕ) (left : List Cell) → left ≡ left_of_segment (of_class n (take i F)) s → length left ≡ 0 → left ≡ left_of_segment (of_class n F) s
+pub segment_more : (s : Segment) (n : ℕ) (F : List Feature) (i : ℕ) (g : Feature) (left : List Cell) → slice_get F i ≡ Some g
+    → beside n s g ≡ true → left ≡ left_of_segment (of_class n (take i F)) s
+    → uncovered left (out_of_segments s (sides g)) ≡ left_of_segment (of_class n (take (i + 1) F)) s
+segment_more s n F i g left e t h = by_class s n F i g left e (of_beside n s g t) h
+
+-- one that is not beside it is of another class, or has no segment that is
+pub segment_same : (s : Segment) (n : ℕ) (F : List Feature) (i : ℕ) (g : Feature) (left : List Cell) → slice_get F i ≡ Some g
+    → beside n s g ≡ false → left ≡ left_of_segment (of_class n (take i F)) s → left ≡ left_of_segment (of_class n (take (i + 1) F)) s
+segment_same s n F i g left e t h = by_test (g.class == n) refl t
+  where
+    by_test : (b : Bool) → (g.class == n) ≡ b → (b && rects_meet (box_of s) (env g)) ≡ false → left
+        ≡ left_of_segment (of_class n (take (i + 1) F)) s
+    by_test true c m = sym (ap (uncovered left) (none_beside s g m)) ∙ by_class s n F i g left e c h
+    by_test false c m = h ∙ sym (ap (λ hs. left_of_segment hs s) (class_more n F i g false e c ∙ append-nil (of_class n (take i F))))
+
+pub segment_none : (s : Segment) (n : ℕ) (F : List Feature) (i : ℕ) (left : List Cell) → left ≡ left_of_segment (of_class n (take i F)) s
+    → length left ≡ 0 → left ≡ left_of_segment (of_class n F) s
 segment_none s n F i left h z =
     let outs : Feature → List (List Cell) = λ (g : Feature). out_of_segments s (sides g) in
     let gs = of_class n (take i F) in
     let hs = of_class n (drop i F) in
-    stopped (on_segment s ∷ []) left (flat_map outs (of_class n F)) (flat_map outs gs) (flat_map outs hs) (ap (flat_map outs) (class_apart n F i) ∙ flat_map-append outs gs hs) h z
+    stopped (on_segment s ∷ []) left (flat_map outs (of_class n F)) (flat_map outs gs) (flat_map outs hs)
+        (ap (flat_map outs) (class_apart n F i) ∙ flat_map-append outs gs hs) h z
 
 -- ---- open ground
 others_kept : (f : Feature) (n : ℕ) (F : List Feature) → others f (of_class n F) ≡ filter (other_of n f) F
 others_kept f n F = kept_twice (λ (h : Feature). not (h.handle == f.handle)) (λ (h : Feature). h.class == n) F
 
-ground_from : (f : Feature) (gs hs k : List Feature) → others f hs ≡ others f gs ++ k → open_ground f hs ≡ uncovered (open_ground f gs) (map {A = Feature} outside k)
+ground_from : (f : Feature) (gs hs k : List Feature) → others f hs ≡ others f gs ++ k → open_ground f hs
+    ≡ uncovered (open_ground f gs) (map {A = Feature} outside k)
 ground_from f gs hs k e =
     let start = carve_of (box_round (env f) ∷ []) (outside f) in
-    ap (λ os. uncovered start (map {A = Feature} outside os)) e ∙ (ap (uncovered start) (map-append outside (others f gs) k) ∙ uncovered-append start (map {A = Feature} outside (others f gs)) (map {A = Feature} outside k))
+    ap (λ os. uncovered start (map {A = Feature} outside os)) e
+        ∙ (ap (uncovered start) (map-append outside (others f gs) k)
+        ∙ uncovered-append start (map {A = Feature} outside (others f gs)) (map {A = Feature} outside k))
 
-others_more : (f : Feature) (n : ℕ) (F : List Feature) (i : ℕ) (g : Feature) (b : Bool) → slice_get F i ≡ Some g → other_of n f g ≡ b → others f (of_class n (take (i + 1) F)) ≡ others f (of_class n (take i F)) ++ cond b (g ∷ []) []
-others_more f n F i g b e t = others_kept f n (take (i + 1) F) ∙ (kept_more (other_of n f) F i g b e t ∙ ap (λ gs. gs ++ cond b (g ∷ []) []) (sym (others_kept f n (take i F))))
+others_more : (f : Feature) (n : ℕ) (F : List Feature) (i : ℕ) (g : Feature) (b : Bool) → slice_get F i ≡ Some g → other_of n f g ≡ b
+    → others f (of_class n (take (i + 1) F)) ≡ others f (of_class n (take i F)) ++ cond b (g ∷ []) []
+others_more f n F i g b e t = others_kept f n (take (i + 1) F)
+    ∙ (kept_more (other_of n f) F i g b e t ∙ ap (λ gs. gs ++ cond b (g ∷ []) []) (sym (others_kept f n (take i F))))
 
-pub ground_more : (f : Feature) (n : ℕ) (F : List Feature) (i : ℕ) (g : Feature) (ground : List Cell) → slice_get F i ≡ Some g → other_of n f g ≡ true → ground ≡ open_ground f (of_class n (take i F))
+pub ground_more : (f : Feature) (n : ℕ) (F : List Feature) (i : ℕ) (g : Feature) (ground : List Cell) → slice_get F i ≡ Some g
+    → other_of n f g ≡ true → ground ≡ open_ground f (of_class n (take i F))
     → carve_of ground (outside g) ≡ open_ground f (of_class n (take (i + 1) F))
-ground_more f n F i g ground e t h = rw h (sym (ground_from f (of_class n (take i F)) (of_class n (take (i + 1) F)) (g ∷ []) (others_more f n F i g true e t)))
+ground_more f n F i g ground e t h = rw h
+    (sym (ground_from f (of_class n (take i F)) (of_class n (take (i + 1) F)) (g ∷ []) (others_more f n F i g true e t)))
 
-pub ground_same : (f : Feature) (n : ℕ) (F : List Feature) (i : ℕ) (g : Feature) (ground : List Cell) → slice_get F i ≡ Some g → other_of n f g ≡ false → ground ≡ open_ground f (of_class n (take i F)) → ground ≡ open_ground f (of_class n (take (i + 1) F))
-ground_same f n F i g ground e t h = h ∙ sym (ground_from f (of_class n (take i F)) (of_class n (take (i + 1) F)) [] (others_more f n F i g false e t))
+pub ground_same : (f : Feature) (n : ℕ) (F : List Feature) (i : ℕ) (g : Feature) (ground : List Cell) → slice_get F i ≡ Some g
+    → other_of n f g ≡ false → ground ≡ open_ground f (of_class n (take i F)) → ground ≡ open_ground f (of_class n (take (i + 1) F))
+ground_same f n F i g ground e t h = h ∙ sym
+    (ground_from f (of_class n (take i F)) (of_class n (take (i + 1) F)) [] (others_more f n F i g false e t))
 
-pub ground_none : (f : Feature) (n : ℕ) (F : List Feature) (i : ℕ) (ground : List Cell) → ground ≡ open_ground f (of_class n (take i F)) → length ground ≡ 0 → ground ≡ open_ground f (of_class n F)
+pub ground_none : (f : Feature) (n : ℕ) (F : List Feature) (i : ℕ) (ground : List Cell) → ground ≡ open_ground f (of_class n (take i F))
+    → length ground ≡ 0 → ground ≡ open_ground f (of_class n F)
 ground_none f n F i ground h z =
     let start = carve_of (box_round (env f) ∷ []) (outside f) in
     let gs = filter (other_of n f) (take i F) in
     let hs = filter (other_of n f) (drop i F) in
-    let left : ground ≡ uncovered start (map {A = Feature} outside gs) = h ∙ ap (λ os. uncovered start (map {A = Feature} outside os)) (others_kept f n (take i F)) in
-    stopped start ground (map {A = Feature} outside (others f (of_class n F))) (map {A = Feature} outside gs) (map {A = Feature} outside hs) (ap (map {A = Feature} outside) (others_kept f n F ∙ kept_apart (other_of n f) F i) ∙ map-append outside gs hs) left z
+    let left : ground ≡ uncovered start (map {A = Feature} outside gs) = h
+        ∙ ap (λ os. uncovered start (map {A = Feature} outside os)) (others_kept f n (take i F)) in
+    stopped start ground (map {A = Feature} outside (others f (of_class n F))) (map {A = Feature} outside gs)
+        (map {A = Feature} outside hs) (ap (map {A = Feature} outside) (others_kept f n F ∙ kept_apart (other_of n f) F i)
+        ∙ map-append outside gs hs) left z
 
-pub weak_more : (cs : List Cell) (i : ℕ) (c : Cell) → i < length cs → slice_get cs i ≡ Some c → map {A = Cell} weak_of (take (i + 1) cs) ≡ map {A = Cell} weak_of (take i cs) ++ weak_of c ∷ []
-weak_more cs i c l e = map_more weak_of cs i c l ∙ ap (λ d. map {A = Cell} weak_of (take i cs) ++ weak_of d ∷ []) (get_or_from_slice_get cs i c c e)
+pub weak_more : (cs : List Cell) (i : ℕ) (c : Cell) → i < length cs → slice_get cs i ≡ Some c → map {A = Cell} weak_of (take (i + 1) cs)
+    ≡ map {A = Cell} weak_of (take i cs) ++ weak_of c ∷ []
+weak_more cs i c l e = map_more weak_of cs i c l
+    ∙ ap (λ d. map {A = Cell} weak_of (take i cs) ++ weak_of d ∷ []) (get_or_from_slice_get cs i c c e)

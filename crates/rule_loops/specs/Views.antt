@@ -3,11 +3,13 @@
 -- of_class n F         the features of F whose class is n
 -- later_of n f g       g is of the class n, and its handle is above that of f
 -- other_of n f g       g is of the class n, and is not f
+-- beside n s g         g is of the class n, and its envelope meets the box of the segment s
 -- left_of_segment gs s what the features gs leave of the segment s: one of the lists of `sides_left`
 use Rattle.std.specs.Prelude.{ℕ, nat_lt, not, Bool, ◌==◌, ◌&&◌, List, [], ◌∷◌, flat_map, filter}
-use Rattle.plane_terms.specs.Segment.{Segment}
+use Rattle.plane_terms.specs.Rectangle.{rects_meet}
+use Rattle.plane_terms.specs.Segment.{Segment, box_of}
 use Rattle.plane_terms.specs.Cell.{Cell, on_segment}
-use Rattle.topology_terms.specs.Feature.{Feature, sides}
+use Rattle.topology_terms.specs.Feature.{Feature, sides, env}
 use Rattle.topology_terms.specs.Cells.{uncovered, out_of_segments}
 
 abbrev pub of_class : ℕ → List Feature → List Feature
@@ -18,6 +20,9 @@ later_of n f g = g.class == n && nat_lt f.handle g.handle
 
 abbrev pub other_of : ℕ → Feature → Feature → Bool
 other_of n f g = g.class == n && not (g.handle == f.handle)
+
+abbrev pub beside : ℕ → Segment → Feature → Bool
+beside n s g = g.class == n && rects_meet (box_of s) (env g)
 
 abbrev pub left_of_segment : List Feature → Segment → List Cell
 left_of_segment gs s = uncovered (on_segment s ∷ []) (flat_map (λ (g : Feature). out_of_segments s (sides g)) gs)

@@ -1,4 +1,4 @@
-ghost use Rattle.std.specs.Prelude.{◌≡◌, ◌==◌, List, filter, IfOk};
+ghost use Rattle.std.specs.Prelude.{◌≡◌, List, filter, IfOk};
 ghost use Rattle.plane_terms.specs.Cell as planes;
 ghost use Rattle.topology_terms.specs.Feature.{Feature, IsAscending};
 ghost use Rattle.topology_terms.specs.Plans as plans;
@@ -16,12 +16,7 @@ pub trait Common {
     ghost common: { Self → Feature → List planes.Cell };
 
     /// The cells in common with this partner; the count of judgements stays.
-    fn cells(
-        &self,
-        alloc: Global,
-        partner: &Feature,
-        work: &mut Work,
-    ) -> Result<Cells, NoMemory>
+    fn cells(&self, alloc: Global, partner: &Feature, work: &mut Work) -> Result<Cells, NoMemory>
         ensures cells { IfOk result (λ cells. cells ≡ common self.now partner.now) }
         ensures uncounted { work.new ≡ work.old };
 }

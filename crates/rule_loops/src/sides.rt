@@ -1,7 +1,7 @@
 ghost use Rattle.std.specs.Prelude.{◌≡◌, IfOk};
 ghost use Rattle.topology_terms.specs.Cells.{uncovered, out_of_segments};
 ghost use Rattle.topology_terms.specs.Plans as plans;
-ghost use Rattle.rule_loops.specs.Views.{of_class, left_of_segment};
+ghost use Rattle.rule_loops.specs.Views.{of_class, beside, left_of_segment};
 
 use convex_cell::{Cell, Cells};
 use grid_plane::{NoMemory, Seg};
@@ -30,6 +30,12 @@ fn off_segments(
     Ok(left)
 }
 
+fn is_beside(class: u16, segment: &Seg, other: &Feature) -> bool
+    ensures { result ≡ beside class segment.now other.now }
+{
+    other.class() == class && segment.env().meets(&other.shape().env())
+}
+
 // What the features of the class that are shown leave of a segment. Stops where nothing is left.
 fn segment_left(
     alloc: Global,
@@ -46,7 +52,7 @@ fn segment_left(
             return Ok(left);
         }
         let other = view.feature(i);
-        if other.class() == class {
+        if is_beside(class, segment, other) {
             left = off_segments(alloc, left, segment, other.shape().segs())?;
         }
     }

@@ -1,14 +1,7 @@
 ghost use Rattle.topology_terms.specs.Poster.{poster};
 ghost use Rattle.rule_laws.proofs.Posters.{poster_laws, poster_cuts, poster_views};
 
-use area_rules::{PolygonMustNotOverlap, PolygonMustNotOverlapWith};
-use cover_rules::{
-    LineMustBeCoveredByBoundaryOf, LineMustBeCoveredByFeatureClassOf,
-    PolygonAreaBoundaryMustBeCoveredByBoundaryOf, PolygonBoundaryMustBeCoveredBy,
-    PolygonMustBeCoveredByFeatureClassOf, PolygonMustCoverEachOther, PolygonMustNotHaveGaps,
-};
 use grid_plane::NoMemory;
-use point_rules::PointMustBeDisjoint;
 use rule_core::{Findings, RuleRow, RuleSet, View, Work, judge};
 use rule_words::RuleKind;
 use std::alloc::Global;
@@ -31,16 +24,46 @@ impl RuleSet for PosterRules {
         work: &mut Work,
     ) -> Result<Findings, NoMemory> {
         match row.kind {
-            RuleKind::PolygonMustNotOverlap => judge(&PolygonMustNotOverlap::new(*row), alloc, view, subject, work),
-            RuleKind::PolygonMustNotOverlapWith => judge(&PolygonMustNotOverlapWith::new(*row), alloc, view, subject, work),
-            RuleKind::PolygonMustNotHaveGaps => judge(&PolygonMustNotHaveGaps::new(*row), alloc, view, subject, work),
-            RuleKind::PolygonMustBeCoveredByFeatureClassOf => judge(&PolygonMustBeCoveredByFeatureClassOf::new(*row), alloc, view, subject, work),
-            RuleKind::PolygonMustCoverEachOther => judge(&PolygonMustCoverEachOther::new(*row), alloc, view, subject, work),
-            RuleKind::PolygonBoundaryMustBeCoveredBy => judge(&PolygonBoundaryMustBeCoveredBy::new(*row), alloc, view, subject, work),
-            RuleKind::PolygonAreaBoundaryMustBeCoveredByBoundaryOf => judge(&PolygonAreaBoundaryMustBeCoveredByBoundaryOf::new(*row), alloc, view, subject, work),
-            RuleKind::LineMustBeCoveredByFeatureClassOf => judge(&LineMustBeCoveredByFeatureClassOf::new(*row), alloc, view, subject, work),
-            RuleKind::LineMustBeCoveredByBoundaryOf => judge(&LineMustBeCoveredByBoundaryOf::new(*row), alloc, view, subject, work),
-            RuleKind::PointMustBeDisjoint => judge(&PointMustBeDisjoint::new(*row), alloc, view, subject, work),
+            RuleKind::PolygonMustNotOverlap => {
+                let rule = area_rules::PolygonMustNotOverlap::new(*row);
+                judge(&rule, alloc, view, subject, work)
+            }
+            RuleKind::PolygonMustNotOverlapWith => {
+                let rule = area_rules::PolygonMustNotOverlapWith::new(*row);
+                judge(&rule, alloc, view, subject, work)
+            }
+            RuleKind::PolygonMustNotHaveGaps => {
+                let rule = cover_rules::PolygonMustNotHaveGaps::new(*row);
+                judge(&rule, alloc, view, subject, work)
+            }
+            RuleKind::PolygonMustBeCoveredByFeatureClassOf => {
+                let rule = cover_rules::PolygonMustBeCoveredByFeatureClassOf::new(*row);
+                judge(&rule, alloc, view, subject, work)
+            }
+            RuleKind::PolygonMustCoverEachOther => {
+                let rule = cover_rules::PolygonMustCoverEachOther::new(*row);
+                judge(&rule, alloc, view, subject, work)
+            }
+            RuleKind::PolygonBoundaryMustBeCoveredBy => {
+                let rule = cover_rules::PolygonBoundaryMustBeCoveredBy::new(*row);
+                judge(&rule, alloc, view, subject, work)
+            }
+            RuleKind::PolygonAreaBoundaryMustBeCoveredByBoundaryOf => {
+                let rule = cover_rules::PolygonAreaBoundaryMustBeCoveredByBoundaryOf::new(*row);
+                judge(&rule, alloc, view, subject, work)
+            }
+            RuleKind::LineMustBeCoveredByFeatureClassOf => {
+                let rule = cover_rules::LineMustBeCoveredByFeatureClassOf::new(*row);
+                judge(&rule, alloc, view, subject, work)
+            }
+            RuleKind::LineMustBeCoveredByBoundaryOf => {
+                let rule = cover_rules::LineMustBeCoveredByBoundaryOf::new(*row);
+                judge(&rule, alloc, view, subject, work)
+            }
+            RuleKind::PointMustBeDisjoint => {
+                let rule = point_rules::PointMustBeDisjoint::new(*row);
+                judge(&rule, alloc, view, subject, work)
+            }
             _ => {
                 work.raise();
                 Ok(Findings::new(alloc))

@@ -14,13 +14,15 @@ use Rattle.wkt_terms.specs.Shapes.{IsShapeText}
 use Rattle.script_text.specs.Edits.{behind_editor}
 use Rattle.script_text.specs.Groups.{Group, group_of, NoneOf, IsPlain, IsBare, Skipped, Classes, Sessions, Edits, Validations, Marks, Listings}
 
-pub no_kind : (text : List ℕ) → (IsLine text (Word (codes "point") ∷ []) → ⊥) → (IsLine text (Word (codes "line") ∷ []) → ⊥) → (IsLine text (Word (codes "polygon") ∷ []) → ⊥)
+pub no_kind : (text : List ℕ) → (IsLine text (Word (codes "point") ∷ []) → ⊥) → (IsLine text (Word (codes "line") ∷ []) → ⊥)
+    → (IsLine text (Word (codes "polygon") ∷ []) → ⊥)
     → (k : Kind) → IsLine text (Word (kind_word k) ∷ []) → ⊥
 no_kind text p l g shapes.Point h = p h
 no_kind text p l g shapes.Line h = l h
 no_kind text p l g shapes.Polygon h = g h
 
-pub no_second : (text : List ℕ) → ((n : List ℕ) → IsLine text (Name n ∷ []) → ⊥) → (d : Option (List ℕ)) → IsLine text (second_class true d) → ⊥
+pub no_second : (text : List ℕ) → ((n : List ℕ) → IsLine text (Name n ∷ []) → ⊥) → (d : Option (List ℕ)) → IsLine text (second_class true d)
+    → ⊥
 no_second text none None h = h.0
 no_second text none (Some n) h = none n h
 
@@ -72,7 +74,8 @@ no_mark line mark unmark (form.Unmark r a b) g p = unmark r a b p
 no_mark line mark unmark f g p = absurd cc
 
 pub no_listing : (line : List ℕ)
-    → (HasForm line form.Dirty → ⊥) → (HasForm line form.Errors → ⊥) → (HasForm line form.Cells → ⊥) → (HasForm line form.Features → ⊥) → (HasForm line form.Rules → ⊥)
+    → (HasForm line form.Dirty → ⊥) → (HasForm line form.Errors → ⊥) → (HasForm line form.Cells → ⊥) → (HasForm line form.Features → ⊥)
+        → (HasForm line form.Rules → ⊥)
     → NoneOf Listings line
 no_listing line dirty errors cells features rules form.Dirty g p = dirty p
 no_listing line dirty errors cells features rules form.Errors g p = errors p
@@ -95,7 +98,8 @@ no_words line edits validations plain f other p = by (group_of f) refl
     by Marks e = plain.3 f e p
     by Listings e = plain.0 f e p
 
-pub no_form : (line : List ℕ) → is_skipped line ≡ false → ((f : Form) → group_of f ≢ Skipped → HasForm line f → ⊥) → (f : Form) → HasForm line f → ⊥
+pub no_form : (line : List ℕ) → is_skipped line ≡ false → ((f : Form) → group_of f ≢ Skipped → HasForm line f → ⊥) → (f : Form)
+    → HasForm line f → ⊥
 no_form line plain none form.Blank p = cc
 no_form line plain none f p = none f (λ e. cc) p
 

@@ -19,7 +19,8 @@ pub numeral : (text : List ℕ) → is_digits text ≡ true → IsNumeral text (
 numeral [] e = absurd cc
 numeral (b ∷ bs) e = record { some = λ q. cc; digits = grind (arith, nat_tests); value = refl }
 
-pub read : (field : List ℕ) (low high : ℕ) → is_digits field ≡ true → low ≤ value_of field → value_of field ≤ high → IsWithinText low high field (value_of field)
+pub read : (field : List ℕ) (low high : ℕ) → is_digits field ≡ true → low ≤ value_of field → value_of field ≤ high
+    → IsWithinText low high field (value_of field)
 read field low high e least most = record { numeral = numeral field e; at_least = least; at_most = most }
 
 pub one_number : (field : List ℕ) (low high m n : ℕ) → IsWithinText low high field m → IsWithinText low high field n → m ≡ n
@@ -28,14 +29,16 @@ one_number field low high m n p q = (digits_of field m p.numeral).value ∙ sym 
 pub not_digits : (field : List ℕ) (low high n : ℕ) → is_digits field ≡ false → IsWithinText low high field n → ⊥
 not_digits field low high n e h = let d = (digits_of field n h.numeral).digits in cc
 
-pub too_high : (field : List ℕ) (low high n : ℕ) → None ≡ (if nat_le (value_of field) high then Some (value_of field) else None) → IsWithinText low high field n → ⊥
+pub too_high : (field : List ℕ) (low high n : ℕ) → None ≡ (if nat_le (value_of field) high then Some (value_of field) else None)
+    → IsWithinText low high field n → ⊥
 too_high field low high n e h = by (nat_le (value_of field) high) refl e
   where
     by : (t : Bool) → nat_le (value_of field) high ≡ t → None ≡ (if t then Some (value_of field) else None) → ⊥
     by true w k = cc
     by false w k = let v = (digits_of field n h.numeral).value in omega (arith, leb-false (value_of field) high w, h.at_most)
 
-pub too_low : (field : List ℕ) (low high m n : ℕ) → Some m ≡ (if nat_le (value_of field) high then Some (value_of field) else None) → m < low → IsWithinText low high field n → ⊥
+pub too_low : (field : List ℕ) (low high m n : ℕ) → Some m ≡ (if nat_le (value_of field) high then Some (value_of field) else None)
+    → m < low → IsWithinText low high field n → ⊥
 too_low field low high m n e less h = by (nat_le (value_of field) high) refl e
   where
     by : (t : Bool) → nat_le (value_of field) high ≡ t → Some m ≡ (if t then Some (value_of field) else None) → ⊥
@@ -45,10 +48,12 @@ too_low field low high m n e less h = by (nat_le (value_of field) high) refl e
         omega (arith, h.at_least)
     by false w k = cc
 
-pub within : (field : List ℕ) (low high m : ℕ) → is_digits field ≡ true → Some m ≡ (if nat_le (value_of field) high then Some (value_of field) else None) → low ≤ m → IsWithinText low high field m
+pub within : (field : List ℕ) (low high m : ℕ) → is_digits field ≡ true
+    → Some m ≡ (if nat_le (value_of field) high then Some (value_of field) else None) → low ≤ m → IsWithinText low high field m
 within field low high m digits e least = by (nat_le (value_of field) high) refl e
   where
-    by : (t : Bool) → nat_le (value_of field) high ≡ t → Some m ≡ (if t then Some (value_of field) else None) → IsWithinText low high field m
+    by : (t : Bool) → nat_le (value_of field) high ≡ t → Some m ≡ (if t then Some (value_of field) else None)
+        → IsWithinText low high field m
     by true w k =
         let same : value_of field ≡ m = cc in
         subst (IsWithinText low high field) same (read field low high digits (omega arith) (leb-true (value_of field) high w))

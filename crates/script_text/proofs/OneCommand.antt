@@ -40,7 +40,8 @@ one_spelled line c d p q =
     (λ text x y a b m n. one_shape q.text x y (subst (λ t. IsShapeText t x) (same_text text p.text q.text a b) m) n)
     (λ text x y a b m n. one_rectangle q.window x y (subst (λ v. IsWindow v x) (one_window text p.window q.window a b) m) n)
     line c d p.spelled q.spelled p.meant q.meant
-    (sym (tagged (λ _. Rest p.text) (λ _. written p.window) line c p.spelled) ∙ tagged (λ _. Rest q.text) (λ _. written q.window) line d q.spelled)
+    (sym (tagged (λ _. Rest p.text) (λ _. written p.window) line c p.spelled)
+        ∙ tagged (λ _. Rest q.text) (λ _. written q.window) line d q.spelled)
 
 pub one_command : (line : List ℕ) (c d : Command) → IsCommandLine line c → IsCommandLine line d → c ≡ d
 one_command line c d p q = one_spelled line c d p.1 q.1
@@ -69,7 +70,8 @@ said t v form.Cells = form.Cells
 said t v form.Features = form.Features
 said t v form.Rules = form.Rules
 
-said_there : (line t : List ℕ) (v : Window) (c : Command) → IsLine line (pieces (λ _. Rest t) (λ _. written v) c) → HasForm line (said t v c)
+said_there : (line t : List ℕ) (v : Window) (c : Command) → IsLine line (pieces (λ _. Rest t) (λ _. written v) c)
+    → HasForm line (said t v c)
 said_there line t v form.Blank p = p
 said_there line t v other p = p
 

@@ -123,7 +123,8 @@ tagged s w line form.Features p = by_word line (codes "features") p.0
 tagged s w line form.Rules p = by_word line (codes "rules") p.0
 
 -- ---- and each form has its values from the line
-one_second : (takes : Bool) (text : List ℕ) (d e : Option (List ℕ)) → IsLine text (second_class takes d) → IsLine text (second_class takes e) → d ≡ e
+one_second : (takes : Bool) (text : List ℕ) (d e : Option (List ℕ)) → IsLine text (second_class takes d)
+    → IsLine text (second_class takes e) → d ≡ e
 one_second false text None None p q = refl
 one_second true text (Some n) (Some m) p q = cc
 one_second true text None e p q = absurd p.0
@@ -144,22 +145,26 @@ Shapes {S = S} s t M N = (text : List ℕ) (x y : S) → IsLine text (s x ∷ []
 abbrev Windows : {W : Type 0} → (W → List Piece) → (W → List Piece) → (W → Type 0) → (W → Type 0) → Type 0
 Windows {W = W} v w M N = (text : List ℕ) (x y : W) → IsLine text (v x) → IsLine text (w y) → M x → N y → x ≡ y
 
-pub one_of : {S W : Type 0} (s t : S → Piece) (v w : W → List Piece) (M N : S → Type 0) (O P : W → Type 0) → Shapes s t M N → Windows v w O P
+pub one_of : {S W : Type 0} (s t : S → Piece) (v w : W → List Piece) (M N : S → Type 0) (O P : W → Type 0) → Shapes s t M N
+    → Windows v w O P
     → (line : List ℕ) (c d : CommandOf S W) → IsLine line (pieces s v c) → IsLine line (pieces t w d) → Holds M O c → Holds N P d
     → tag c ≡ tag d → c ≡ d
 one_of s t v w M N O P shapes windows line form.Blank form.Blank p q m n e = refl
-one_of s t v w M N O P shapes windows line (form.Class x k) (form.Class y j) p q m n e = let same = one_kind k j (sym p.1.1.0 ∙ q.1.1.0) in cc
+one_of s t v w M N O P shapes windows line (form.Class x k) (form.Class y j) p q m n e = let same = one_kind k j (sym p.1.1.0 ∙ q.1.1.0) in
+    cc
 one_of s t v w M N O P shapes windows line (form.Rule j x d) (form.Rule k y c) p q m n e =
     let same = one_word j k (sym p.1.0 ∙ q.1.0) in
     let text = behind_first (behind_first (behind_first line)) in
     let takes = subst (λ i. IsLine text (second_class (is_some (dest_of i)) d)) same p.1.1.1 in
     let dest = one_second (is_some (dest_of k)) text d c takes q.1.1.1 in
     cc
-one_of s t v w M N O P shapes windows line (form.DropRule x) (form.DropRule y) p q m n e = ap form.DropRule (one_number (second line) 1 65535 x y p.1.0 q.1.0)
+one_of s t v w M N O P shapes windows line (form.DropRule x) (form.DropRule y) p q m n e =
+    ap form.DropRule (one_number (second line) 1 65535 x y p.1.0 q.1.0)
 one_of s t v w M N O P shapes windows line (form.Begin x) (form.Begin y) p q m n e = cc
 one_of s t v w M N O P shapes windows line (form.End x) (form.End y) p q m n e = cc
 one_of s t v w M N O P shapes windows line (form.Discard x) (form.Discard y) p q m n e = cc
-one_of s t v w M N O P shapes windows line (form.Add x a g) (form.Add y b h) p q m n e = let same = shapes (behind_fourth line) g h p.1.1.1.1 q.1.1.1.1 m n in cc
+one_of s t v w M N O P shapes windows line (form.Add x a g) (form.Add y b h) p q m n e = let same =
+    shapes (behind_fourth line) g h p.1.1.1.1 q.1.1.1.1 m n in cc
 one_of s t v w M N O P shapes windows line (form.Change x a g) (form.Change y b h) p q m n e =
     let number = one_number (fourth line) 1 4294967295 a b p.1.1.1.0 q.1.1.1.0 in
     let same = shapes (behind_fourth line) g h p.1.1.1.1 q.1.1.1.1 m n in
@@ -169,7 +174,8 @@ one_of s t v w M N O P shapes windows line (form.Delete x a) (form.Delete y b) p
     cc
 one_of s t v w M N O P shapes windows line (form.Undo x) (form.Undo y) p q m n e = cc
 one_of s t v w M N O P shapes windows line (form.Redo x) (form.Redo y) p q m n e = cc
-one_of s t v w M N O P shapes windows line (form.Validate g) (form.Validate h) p q m n e = ap form.Validate (windows (behind_first line) g h p.1 q.1 m n)
+one_of s t v w M N O P shapes windows line (form.Validate g) (form.Validate h) p q m n e =
+    ap form.Validate (windows (behind_first line) g h p.1 q.1 m n)
 one_of s t v w M N O P shapes windows line (form.Mark r a b) (form.Mark x y z) p q m n e =
     let rule = one_number (second line) 1 65535 r x p.1.0 q.1.0 in
     let subject = one_number (third line) 1 4294967295 a y p.1.1.0 q.1.1.0 in
@@ -215,5 +221,6 @@ trivial other = tt
 
 pub one_form : (line : List ℕ) (f g : Form) → HasForm line f → HasForm line g → f ≡ g
 one_form line f g p q =
-    one_of Rest Rest written written (λ _. Unit {0}) (λ _. Unit {0}) (λ _. Unit {0}) (λ _. Unit {0}) one_rest (λ text v w a b m n. one_window text v w a b)
+    one_of Rest Rest written written (λ _. Unit {0}) (λ _. Unit {0}) (λ _. Unit {0}) (λ _. Unit {0}) one_rest
+        (λ text v w a b m n. one_window text v w a b)
     line f g p q (trivial f) (trivial g) (sym (tagged Rest written line f p) ∙ tagged Rest written line g q)

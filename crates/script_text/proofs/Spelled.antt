@@ -50,14 +50,16 @@ add_fault n k t f e same w = subst (IsEditFault (form.Add n k t)) (sym same) (by
     by (wkt.Invalid fault) h = h
     by wkt.NoMemory h = tt
 
-edit_pieces : (n : List ℕ) (d : Edit) → pieces Rest written (edit_form n d) ≡ Word (codes "by") ∷ (Name n ∷ behind_editor (pieces Rest written (edit_form n d)))
+edit_pieces : (n : List ℕ) (d : Edit)
+    → pieces Rest written (edit_form n d) ≡ Word (codes "by") ∷ (Name n ∷ behind_editor (pieces Rest written (edit_form n d)))
 edit_pieces n (edit.Add class text) = refl
 edit_pieces n (edit.Change handle text) = refl
 edit_pieces n (edit.Delete handle) = refl
 edit_pieces n edit.Undo = refl
 edit_pieces n edit.Redo = refl
 
-pub edit_there : (line rest more n : List ℕ) (d : Edit) → first line ≡ codes "by" → rest ≡ behind line → first rest ≡ n → IsTrue (is_name n) → more ≡ behind rest
+pub edit_there : (line rest more n : List ℕ) (d : Edit) → first line ≡ codes "by" → rest ≡ behind line → first rest ≡ n → IsTrue (is_name n)
+    → more ≡ behind rest
     → IsLine more (behind_editor (pieces Rest written (edit_form n d))) → HasForm line (edit_form n d)
 edit_there line rest more n d word e name good f h =
     let ps = behind_editor (pieces Rest written (edit_form n d)) in
@@ -67,7 +69,8 @@ edit_there line rest more n d word e name good f h =
 
 edit_spelled : (line : List ℕ) (f : Form) (c : form.Command) → HasForm line f → IsEditOf f c → IsSpelling line c
 edit_spelled line (form.Add e k t) c h m = subst (IsSpelling line) (sym m.2) (record { text = t; window = All; spelled = h; meant = m.1 })
-edit_spelled line (form.Change e k t) c h m = subst (IsSpelling line) (sym m.2) (record { text = t; window = All; spelled = h; meant = m.1 })
+edit_spelled line (form.Change e k t) c h m =
+    subst (IsSpelling line) (sym m.2) (record { text = t; window = All; spelled = h; meant = m.1 })
 edit_spelled line (form.Delete e k) c h m = subst (IsSpelling line) (sym m) (record { text = []; window = All; spelled = h; meant = tt })
 edit_spelled line (form.Undo e) c h m = subst (IsSpelling line) (sym m) (record { text = []; window = All; spelled = h; meant = tt })
 edit_spelled line (form.Redo e) c h m = subst (IsSpelling line) (sym m) (record { text = []; window = All; spelled = h; meant = tt })
@@ -80,7 +83,8 @@ edit_read line f (Err (Refused r)) h m = (f, h, m)
 edit_read line f (Err NoMemory) h m = tt
 
 -- ---- windows
-pub numbers_read : (text u v w x : List ℕ) (a b c d : ℤ) → IsFor a (first text) → u ≡ behind text → IsFor b (first u) → v ≡ behind u → IsFor c (first v) → w ≡ behind v
+pub numbers_read : (text u v w x : List ℕ) (a b c d : ℤ) → IsFor a (first text) → u ≡ behind text → IsFor b (first u) → v ≡ behind u
+    → IsFor c (first v) → w ≡ behind v
     → IsFor d (first w) → x ≡ behind w → skip_blanks x ≡ [] → (r : Rectangle) × IsLine text (written (Numbers r)) × AreFor a b c d r
 numbers_read text u v w x a b c d f0 e0 f1 e1 f2 e2 f3 e3 over =
     let v1 : v ≡ behind (behind text) = e1 ∙ ap behind e0 in
@@ -99,7 +103,8 @@ window_made a b c d w r s e h =
     let same = same_rect a b c d r s (reach_x0 q i) (reach_y0 q i) (reach_x1 q i) (reach_y1 q i) in
     (e ∙ same, subst IsRectangle same i)
 
-pub no_window : (a b c d : ℤ) (r : Rectangle) (f : RectFault) (e : LineFault) → AreFor a b c d r → e ≡ window_fault f → IsRectFault f (rect_of a b c d) → IsNoWindow r e
+pub no_window : (a b c d : ℤ) (r : Rectangle) (f : RectFault) (e : LineFault) → AreFor a b c d r → e ≡ window_fault f
+    → IsRectFault f (rect_of a b c d) → IsNoWindow r e
 no_window a b c d r f e s same h = subst (IsNoWindow r) (sym same) (by f h)
   where
     out : (at : ℕ) → IsFirstOut at (numbers_of (rect_of a b c d)) → IsFirstOut at (numbers_of r)
@@ -107,7 +112,8 @@ no_window a b c d r f e s same h = subst (IsNoWindow r) (sym same) (by f h)
     out (suc zero) k = (within_too a r.x0 s.left k.0, beyond_too b r.y0 s.below k.1)
     out (suc (suc zero)) k = (within_too a r.x0 s.left k.0, (within_too b r.y0 s.below k.1.0, beyond_too c r.x1 s.right k.1.1))
     out (suc (suc (suc zero))) k =
-        (within_too a r.x0 s.left k.0, (within_too b r.y0 s.below k.1.0, (within_too c r.x1 s.right k.1.1.0, beyond_too d r.y1 s.above k.1.1.1)))
+        (within_too a r.x0 s.left k.0,
+            (within_too b r.y0 s.below k.1.0, (within_too c r.x1 s.right k.1.1.0, beyond_too d r.y1 s.above k.1.1.1)))
     out (suc (suc (suc (suc at)))) k = absurd k.1.1.1.1
 
     by : (g : RectFault) → IsRectFault g (rect_of a b c d) → IsNoWindow r (window_fault g)
@@ -115,22 +121,26 @@ no_window a b c d r f e s same h = subst (IsNoWindow r) (sym same) (by f h)
     by rect.Reversed k =
         let i = k.0 in
         let same = same_rect a b c d r s i.0 i.1.0 i.1.1.0 i.1.1.1.0 in (
-          (within_too a r.x0 s.left i.0, (within_too b r.y0 s.below i.1.0, (within_too c r.x1 s.right i.1.1.0, (within_too d r.y1 s.above i.1.1.1.0, tt)))),
+          (within_too a r.x0 s.left i.0,
+              (within_too b r.y0 s.below i.1.0, (within_too c r.x1 s.right i.1.1.0, (within_too d r.y1 s.above i.1.1.1.0, tt)))),
           subst (λ q. IsProper q → ⊥) same k.1,
         )
 
-pub no_validation : (line rest : List ℕ) → rest ≡ behind line → (IsLine rest (Word (codes "all") ∷ []) → ⊥) → ((r : Rectangle) → IsLine rest (written (Numbers r)) → ⊥)
+pub no_validation : (line rest : List ℕ) → rest ≡ behind line → (IsLine rest (Word (codes "all") ∷ []) → ⊥)
+    → ((r : Rectangle) → IsLine rest (written (Numbers r)) → ⊥)
     → NoneOf Validations line
 no_validation line rest e all numbers (form.Validate All) g p = all (subst (λ t. IsLine t (written All)) (sym e) p.1)
 no_validation line rest e all numbers (form.Validate (Numbers r)) g p = numbers r (subst (λ t. IsLine t (written (Numbers r))) (sym e) p.1)
 no_validation line rest e all numbers f g p = absurd cc
 
-pub validation_read : (line rest : List ℕ) (r : Rectangle) (x : Result Command LineFault) → first line ≡ codes "validate" → rest ≡ behind line → IsLine rest (written (Numbers r))
+pub validation_read : (line rest : List ℕ) (r : Rectangle) (x : Result Command LineFault) → first line ≡ codes "validate"
+    → rest ≡ behind line → IsLine rest (written (Numbers r))
     → MatchResult x (λ c. IsValidateOf r (command_of c)) (λ e. IsNoWindow r e) → IsRead line x
 validation_read line rest r (Ok c) word e h m =
     let last = subst (λ t. IsLine t (written (Numbers r))) e h in
     subst (IsSpelling line) (sym m.1) (record { text = []; window = Numbers r; spelled = (word, last); meant = m.2 })
-validation_read line rest r (Err (Refused f)) word e h m = (form.Validate (Numbers r), (word, subst (λ t. IsLine t (written (Numbers r))) e h), m)
+validation_read line rest r (Err (Refused f)) word e h m =
+    (form.Validate (Numbers r), (word, subst (λ t. IsLine t (written (Numbers r))) e h), m)
 validation_read line rest r (Err NoMemory) word e h m = tt
 
 -- ---- any line

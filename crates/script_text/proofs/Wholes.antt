@@ -32,11 +32,13 @@ parts text z h = elim h [
       subst (λ t. AreParts t z) (sym k.2) (record { digits = d.digits; value = k.4 ∙ ap (λ n. neg_ℤ (pos n)) d.value })
 ]
 
-pub whole : (text : List ℕ) → is_digits (behind_minus text) ≡ true → IsSigned text (signed (is_negative text) (value_of (behind_minus text)))
+pub whole : (text : List ℕ) → is_digits (behind_minus text) ≡ true
+    → IsSigned text (signed (is_negative text) (value_of (behind_minus text)))
 whole [] e = absurd cc
 whole (b ∷ bs) e = by (b == 45) refl e
   where
-    by : (t : Bool) → (b == 45) ≡ t → is_digits (if t then bs else b ∷ bs) ≡ true → IsSigned (b ∷ bs) (signed t (value_of (if t then bs else b ∷ bs)))
+    by : (t : Bool) → (b == 45) ≡ t → is_digits (if t then bs else b ∷ bs) ≡ true
+        → IsSigned (b ∷ bs) (signed t (value_of (if t then bs else b ∷ bs)))
     by true w h = inr (bs, value_of bs, ap (λ c. c ∷ bs) (eqb-true b 45 w), numeral bs h, refl)
     by false w h = inl (value_of (b ∷ bs), numeral (b ∷ bs) h, refl)
 
@@ -61,7 +63,8 @@ stands negative n = by (nat_le n 4194304) refl
     by false w = inr (refl, far negative n (leb-false n 4194304 w))
 
 pub read : (text : List ℕ) → is_digits (behind_minus text) ≡ true → IsFor (held (is_negative text) (value_of (behind_minus text))) text
-read text e = (signed (is_negative text) (value_of (behind_minus text)), whole text e, stands (is_negative text) (value_of (behind_minus text)))
+read text e =
+    (signed (is_negative text) (value_of (behind_minus text)), whole text e, stands (is_negative text) (value_of (behind_minus text)))
 
 -- a text writes one whole number at most
 pub one_signed : (text : List ℕ) (y z : ℤ) → IsSigned text y → IsSigned text z → y ≡ z

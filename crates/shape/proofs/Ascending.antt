@@ -8,6 +8,7 @@ use Rattle.std.specs.Ordering.{int_cmp, is_lt}
 use Rattle.plane_terms.specs.Lists.{Every, EveryPair}
 use Rattle.shape.specs.declared.numbered.Numbered.{Numbered}
 use Rattle.shape.specs.Sweep.{Ascends}
+use Rattle.plane_terms.proofs.ListLemmas.{every_by_index}
 
 abbrev pub key_of : Numbered → ℤ
 key_of n = n.seg.lo.x
@@ -15,16 +16,16 @@ key_of n = n.seg.lo.x
 no_less : (a b : ℤ) → is_lt (int_cmp b a) ≡ false → a ≤ℤ b
 no_less a b e = grind (arith, ints)
 
-every_at : {A : Type 0} (P : A → Type 0) (xs : List A) → ((j : ℕ) (d : A) → j < length xs → P (get_or xs j d)) → Every P xs
-every_at P [] f = tt
-every_at P (x ∷ xs) f = (f zero x (omega arith), every_at P xs (λ j d h. f (suc j) d (omega (arith, h))))
-
-pairs_at : {A : Type 0} (R : A → A → Type 0) (xs : List A) → ((i j : ℕ) (d : A) → i ≤ j → j < length xs → R (get_or xs i d) (get_or xs j d)) → EveryPair R xs
+pairs_at : {A : Type 0} (R : A → A → Type 0) (xs : List A) → ((i j : ℕ) (d : A) → i ≤ j → j < length xs → R (get_or xs i d) (get_or xs j d))
+    → EveryPair R xs
 pairs_at R [] f = tt
 pairs_at R (x ∷ xs) f = (
-  every_at (R x) xs (λ j d h. f zero (suc j) d (omega arith) (omega (arith, h))),
+  every_by_index (R x) xs (λ j d h. f zero (suc j) d (omega arith) (omega (arith, h))),
   pairs_at R xs (λ i j d l h. f (suc i) (suc j) d (omega (arith, l)) (omega (arith, h))),
 )
 
 pub ascends_by : (ns : List Numbered) → IsSortedByKey key_of int_cmp ns → Ascends ns
-ascends_by ns s = pairs_at (λ n m. n.seg.lo.x ≤ℤ m.seg.lo.x) ns (λ i j d l h. no_less (key_of (get_or ns i d)) (key_of (get_or ns j d)) (sorted_far (λ x y. is_lt (int_cmp (key_of x) (key_of y))) (ranks_by int_cmp_total key_of) ns s i j d l h))
+ascends_by ns s =
+    pairs_at (λ n m. n.seg.lo.x ≤ℤ m.seg.lo.x) ns
+    (λ i j d l h. no_less (key_of (get_or ns i d)) (key_of (get_or ns j d))
+    (sorted_far (λ x y. is_lt (int_cmp (key_of x) (key_of y))) (ranks_by int_cmp_total key_of) ns s i j d l h))

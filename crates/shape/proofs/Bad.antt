@@ -32,7 +32,8 @@ is_bad-true s t g h (inl c) = ap is_bad_share (means_one (share_of s t) Cross s 
 is_bad-true s t g h (inr o) = ap is_bad_share (means_one (share_of s t) Along s t (share_of-means s t g h) o)
 
 overlap_back : (s t : Segment) → Overlap s t → Overlap t s
-overlap_back s t o = record { p = o.p; q = o.q; apart = o.apart; p_on_s = o.p_on_t; p_on_t = o.p_on_s; q_on_s = o.q_on_t; q_on_t = o.q_on_s }
+overlap_back s t o =
+    record { p = o.p; q = o.q; apart = o.apart; p_on_s = o.p_on_t; p_on_t = o.p_on_s; q_on_s = o.q_on_t; q_on_t = o.q_on_s }
 
 pub bad_back : (s t : Segment) → AreBad s t → AreBad t s
 bad_back s t (inl c) = inl (cross_sym t s c)
@@ -61,11 +62,11 @@ bad_boxes s t g h e =
     let c = crossing (box_of s) (box_of t) m in
     tests _ _ _ _ _ _ _ _ c.0 c.1.0 c.1.1.0 c.1.1.1
 
-by_no : (b : Bool) → (b ≡ true → ⊥) → b ≡ false
+pub by_no : (b : Bool) → (b ≡ true → ⊥) → b ≡ false
 by_no true f = absurd (f refl)
 by_no false f = refl
 
-no_both : (b : Bool) → b ≡ true → b ≡ false → ⊥
+pub no_both : (b : Bool) → b ≡ true → b ≡ false → ⊥
 no_both true e f = cc
 no_both false e f = cc
 
@@ -93,13 +94,17 @@ simple_by Touch s t h n = record { apart = λ o. n (inr o); ends = record { each
     moved p m (inl e) = inl (end_same s h.meet.at p m e)
     moved p m (inr e) = inr (end_same t h.meet.at p m e)
 
-simple_with : (s : Segment) (ts : List Segment) → IsSegment s → Every IsSegment ts → ((j : ℕ) (t : Segment) → slice_get ts j ≡ Some t → ¬ (AreBad s t)) → Every (AreSimple s) ts
+simple_with : (s : Segment) (ts : List Segment) → IsSegment s → Every IsSegment ts
+    → ((j : ℕ) (t : Segment) → slice_get ts j ≡ Some t → ¬ (AreBad s t)) → Every (AreSimple s) ts
 simple_with s [] g h f = tt
-simple_with s (t ∷ ts) g h f = (simple_by (share_of s t) s t (share_of-means s t g h.0) (f zero t refl), simple_with s ts g h.1 (λ j u e. f (suc j) u e))
+simple_with s (t ∷ ts) g h f =
+    (simple_by (share_of s t) s t (share_of-means s t g h.0) (f zero t refl), simple_with s ts g h.1 (λ j u e. f (suc j) u e))
 
 pub all_simple : (ss : List Segment) → Every IsSegment ss → ((i j : ℕ) → ¬ (IsPair AreBad ss i j)) → EveryPair AreSimple ss
 all_simple [] h f = tt
 all_simple (s ∷ ss) h f = (
   simple_with s ss h.0 h.1 (λ j t e b. f zero (suc j) (record { ordered = omega arith; s = s; t = t; first = refl; second = e; says = b })),
-  all_simple ss h.1 (λ i j p. f (suc i) (suc j) (record { ordered = omega (arith, p.ordered); s = p.s; t = p.t; first = p.first; second = p.second; says = p.says })),
+  all_simple ss h.1
+      (λ i j p. f (suc i) (suc j)
+      (record { ordered = omega (arith, p.ordered); s = p.s; t = p.t; first = p.first; second = p.second; says = p.says })),
 )

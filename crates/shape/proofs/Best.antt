@@ -12,7 +12,8 @@ use Rattle.plane_terms.specs.ShapeFaults.{AreBad, IsPair, IsFirstPair, IsBefore}
 use Rattle.shape.specs.declared.numbered.Numbered.{Numbered}
 use Rattle.shape.specs.declared.pair.Pair.{Pair}
 use Rattle.shape.specs.Sweep.{numbered, numbered_segment, is_bad, pair_of, is_sooner, considered, best_with, best_among, Ascends, IsBoxed, IsFirstBad}
-use Rattle.shape.proofs.Bad.{bad_is, is_bad-true, bad_back, fine_past, fine_apart}
+use Rattle.shape.proofs.Bad.{bad_is, is_bad-true, bad_back, by_no, fine_past, fine_apart, no_both}
+use Rattle.plane_terms.proofs.ListLemmas.{every_map}
 
 -- ---- the order of pairs
 sooner_self : (p : Pair) → is_sooner p (Some p) ≡ false
@@ -25,7 +26,8 @@ sooner_trans : (p q : Pair) (best : Option Pair) → is_sooner p (Some q) ≡ tr
 sooner_trans p q None e f = refl
 sooner_trans p q (Some r) e f = numbers p.i p.j q.i q.j r.i r.j e f
   where
-    numbers : (a b c d e f : ℕ) → nat_lt a c || ((a == c) && nat_lt b d) ≡ true → nat_lt c e || ((c == e) && nat_lt d f) ≡ true → nat_lt a e || ((a == e) && nat_lt b f) ≡ true
+    numbers : (a b c d e f : ℕ) → nat_lt a c || ((a == c) && nat_lt b d) ≡ true → nat_lt c e || ((c == e) && nat_lt d f) ≡ true
+        → nat_lt a e || ((a == e) && nat_lt b f) ≡ true
     numbers a b c d e f g h = grind arith
 
 before_sooner : (a b i j : ℕ) → IsBefore a b i j → nat_lt a i || ((a == i) && nat_lt b j) ≡ true
@@ -38,14 +40,6 @@ before_sooner a b i j (inr h) = numbers h.0 h.1
 true_or_false : (b : Bool) → (b ≡ true) ⊎ (b ≡ false)
 true_or_false true = inl refl
 true_or_false false = inr refl
-
-no_both : (b : Bool) → b ≡ true → b ≡ false → ⊥
-no_both true e f = cc
-no_both false e f = cc
-
-by_no : (b : Bool) → (b ≡ true → ⊥) → b ≡ false
-by_no true f = absurd (f refl)
-by_no false f = refl
 
 -- ---- one pair considered
 record Held (n m : Numbered) (best : Option Pair) : Type 0 where
@@ -80,7 +74,11 @@ chosen_false false u v e = refl
 -- what is not sooner than the best so far is not sooner than the next best
 kept_after : (p : Pair) (n m : Numbered) (best : Option Pair) → is_sooner p best ≡ false → is_sooner p (considered n m best) ≡ false
 kept_after p n m best e = elim (true_or_false (test_of n m best)) [
-  | inl t ↦ subst (λ (r : Option Pair). is_sooner p r ≡ false) (sym (chosen_true (test_of n m best) (Some (pair_of n m)) best t)) (by_no (is_sooner p (Some (pair_of n m))) (λ s. no_both (is_sooner p best) (sooner_trans p (pair_of n m) best s (both_true (not (n.number == m.number)) (is_sooner (pair_of n m) best) (is_bad n.seg m.seg) t).1) e))
+  | inl t ↦ subst (λ (r : Option Pair). is_sooner p r ≡ false) (sym (chosen_true (test_of n m best) (Some (pair_of n m)) best t))
+      (by_no (is_sooner p (Some (pair_of n m)))
+      (λ s. no_both (is_sooner p best)
+      (sooner_trans p (pair_of n m) best s (both_true (not (n.number == m.number)) (is_sooner (pair_of n m) best) (is_bad n.seg m.seg) t).1)
+      e))
   | inr t ↦ subst (λ (r : Option Pair). is_sooner p r ≡ false) (sym (chosen_false (test_of n m best) (Some (pair_of n m)) best t)) e
 ]
 
@@ -89,11 +87,15 @@ Covered n m best = not (n.number == m.number) ≡ true → is_bad n.seg m.seg �
 
 covered : (n m : Numbered) (best : Option Pair) → Covered n m (considered n m best)
 covered n m best d b = elim (true_or_false (test_of n m best)) [
-  | inl t ↦ subst (λ (r : Option Pair). is_sooner (pair_of n m) r ≡ false) (sym (chosen_true (test_of n m best) (Some (pair_of n m)) best t)) (sooner_self (pair_of n m))
-  | inr t ↦ subst (λ (r : Option Pair). is_sooner (pair_of n m) r ≡ false) (sym (chosen_false (test_of n m best) (Some (pair_of n m)) best t)) (middle_false (not (n.number == m.number)) (is_sooner (pair_of n m) best) (is_bad n.seg m.seg) t d b)
+  | inl t ↦ subst (λ (r : Option Pair). is_sooner (pair_of n m) r ≡ false)
+      (sym (chosen_true (test_of n m best) (Some (pair_of n m)) best t)) (sooner_self (pair_of n m))
+  | inr t ↦ subst (λ (r : Option Pair). is_sooner (pair_of n m) r ≡ false)
+      (sym (chosen_false (test_of n m best) (Some (pair_of n m)) best t))
+      (middle_false (not (n.number == m.number)) (is_sooner (pair_of n m) best) (is_bad n.seg m.seg) t d b)
 ]
 
-kept_with : (p : Pair) (n : Numbered) (ms : List Numbered) (best : Option Pair) → is_sooner p best ≡ false → is_sooner p (best_with n ms best) ≡ false
+kept_with : (p : Pair) (n : Numbered) (ms : List Numbered) (best : Option Pair) → is_sooner p best ≡ false
+    → is_sooner p (best_with n ms best) ≡ false
 kept_with p n [] best e = e
 kept_with p n (m ∷ ms) best e = kept_with p n ms (considered n m best) (kept_after p n m best e)
 
@@ -103,16 +105,14 @@ kept_among p (n ∷ ns) best e = kept_among p ns (best_with n ns best) (kept_wit
 
 covered_with : (n : Numbered) (ms : List Numbered) (best : Option Pair) → Every (λ m. Covered n m (best_with n ms best)) ms
 covered_with n [] best = tt
-covered_with n (m ∷ ms) best = (λ d b. kept_with (pair_of n m) n ms (considered n m best) (covered n m best d b), covered_with n ms (considered n m best))
-
-every_map : {A : Type 0} (P Q : A → Type 0) → ((x : A) → P x → Q x) → (xs : List A) → Every P xs → Every Q xs
-every_map P Q f [] h = tt
-every_map P Q f (x ∷ xs) h = (f x h.0, every_map P Q f xs h.1)
+covered_with n (m ∷ ms) best =
+    (λ d b. kept_with (pair_of n m) n ms (considered n m best) (covered n m best d b), covered_with n ms (considered n m best))
 
 covered_among : (ns : List Numbered) (best : Option Pair) → EveryPair (λ n m. Covered n m (best_among ns best)) ns
 covered_among [] best = tt
 covered_among (n ∷ ns) best = (
-  every_map (λ m. Covered n m (best_with n ns best)) (λ m. Covered n m (best_among ns (best_with n ns best))) (λ m c d b. kept_among (pair_of n m) ns (best_with n ns best) (c d b)) ns (covered_with n ns best),
+  every_map (λ m. Covered n m (best_with n ns best)) (λ m. Covered n m (best_among ns (best_with n ns best)))
+      (λ m c d b. kept_among (pair_of n m) ns (best_with n ns best) (c d b)) ns (covered_with n ns best),
   covered_among ns (best_with n ns best),
 )
 
@@ -132,19 +132,23 @@ record From (ns : List Numbered) (p : Pair) : Type 0 where
 some_same : (p q : Pair) → Some p ≡ Some q → p ≡ q
 some_same p q e = cc
 
-from_considered : (all : List Numbered) (n m : Numbered) (best : Option Pair) → IsAmong n all → IsAmong m all → ((p : Pair) → best ≡ Some p → From all p) → (p : Pair) → considered n m best ≡ Some p → From all p
+from_considered : (all : List Numbered) (n m : Numbered) (best : Option Pair) → IsAmong n all → IsAmong m all
+    → ((p : Pair) → best ≡ Some p → From all p) → (p : Pair) → considered n m best ≡ Some p → From all p
 from_considered all n m best i j f p e = elim (true_or_false (test_of n m best)) [
   | inl t ↦
       let k = both_true (not (n.number == m.number)) (is_sooner (pair_of n m) best) (is_bad n.seg m.seg) t in
-      record { n = n; m = m; n_in = i; m_in = j; differ = k.0; bad = k.2; is = some_same (pair_of n m) p (sym (chosen_true (test_of n m best) (Some (pair_of n m)) best t) ∙ e) }
+      record { n = n; m = m; n_in = i; m_in = j; differ = k.0; bad = k.2;
+          is = some_same (pair_of n m) p (sym (chosen_true (test_of n m best) (Some (pair_of n m)) best t) ∙ e) }
   | inr t ↦ f p (sym (chosen_false (test_of n m best) (Some (pair_of n m)) best t) ∙ e)
 ]
 
-from_with : (all : List Numbered) (n : Numbered) (ms : List Numbered) (best : Option Pair) → IsAmong n all → Every (λ m. IsAmong m all) ms → ((p : Pair) → best ≡ Some p → From all p) → (p : Pair) → best_with n ms best ≡ Some p → From all p
+from_with : (all : List Numbered) (n : Numbered) (ms : List Numbered) (best : Option Pair) → IsAmong n all → Every (λ m. IsAmong m all) ms
+    → ((p : Pair) → best ≡ Some p → From all p) → (p : Pair) → best_with n ms best ≡ Some p → From all p
 from_with all n [] best i j f p e = f p e
 from_with all n (m ∷ ms) best i j f p e = from_with all n ms (considered n m best) i j.1 (from_considered all n m best i j.0 f) p e
 
-from_among : (all ns : List Numbered) (best : Option Pair) → Every (λ m. IsAmong m all) ns → ((p : Pair) → best ≡ Some p → From all p) → (p : Pair) → best_among ns best ≡ Some p → From all p
+from_among : (all ns : List Numbered) (best : Option Pair) → Every (λ m. IsAmong m all) ns → ((p : Pair) → best ≡ Some p → From all p)
+    → (p : Pair) → best_among ns best ≡ Some p → From all p
 from_among all [] best j f p e = f p e
 from_among all (n ∷ ns) best j f p e = from_among all ns (best_with n ns best) j.1 (from_with all n ns best j.0 j.1 f) p e
 
@@ -154,7 +158,8 @@ with_among R x y [] h i = absurd i
 with_among R x y (z ∷ zs) h (inl e) = subst (λ u. R x u) e h.0
 with_among R x y (z ∷ zs) h (inr i) = with_among R x y zs h.1 i
 
-either_way : {A : Type 0} (R : A → A → Type 0) (x y : A) (zs : List A) → (x ≡ y → ⊥) → EveryPair R zs → IsAmong x zs → IsAmong y zs → R x y ⊎ R y x
+either_way : {A : Type 0} (R : A → A → Type 0) (x y : A) (zs : List A) → (x ≡ y → ⊥) → EveryPair R zs → IsAmong x zs → IsAmong y zs
+    → R x y ⊎ R y x
 either_way R x y [] n h i j = absurd i
 either_way R x y (z ∷ zs) n h (inl e) (inl f) = absurd (n (sym e ∙ f))
 either_way R x y (z ∷ zs) n h (inl e) (inr j) = inl (subst (λ u. R u y) e (with_among R z y zs h.0 j))
@@ -180,7 +185,8 @@ every_among [] = tt
 every_among (x ∷ xs) = (inl refl, every_map (λ y. IsAmong y xs) (λ y. IsAmong y (x ∷ xs)) (λ y i. inr i) xs (every_among xs))
 
 -- ---- numbered segments
-numbered_among : (n i : ℕ) (ss : List Segment) (s : Segment) → slice_get ss i ≡ Some s → IsAmong (numbered_segment (n + i) s) (numbered n ss)
+numbered_among : (n i : ℕ) (ss : List Segment) (s : Segment) → slice_get ss i ≡ Some s
+    → IsAmong (numbered_segment (n + i) s) (numbered n ss)
 numbered_among n i [] s e = cc
 numbered_among n zero (t ∷ ts) s e = inl (same n (n + zero) t s (omega arith) (some e))
   where
@@ -189,7 +195,9 @@ numbered_among n zero (t ∷ ts) s e = inl (same n (n + zero) t s (omega arith) 
 
     some : Some t ≡ Some s → t ≡ s
     some e = cc
-numbered_among n (suc i) (t ∷ ts) s e = inr (subst (λ (k : ℕ). IsAmong (numbered_segment k s) (numbered (n + 1) ts)) {x = n + 1 + i} {y = n + suc i} (omega arith) (numbered_among (n + 1) i ts s e))
+numbered_among n (suc i) (t ∷ ts) s e =
+    inr (subst (λ (k : ℕ). IsAmong (numbered_segment k s) (numbered (n + 1) ts)) {x = n + 1 + i} {y = n + suc i} (omega arith)
+    (numbered_among (n + 1) i ts s e))
 
 record Placed (n : ℕ) (m : Numbered) (ss : List Segment) : Type 0 where
   at : ℕ
@@ -198,7 +206,8 @@ record Placed (n : ℕ) (m : Numbered) (ss : List Segment) : Type 0 where
 
 placed : (n : ℕ) (ss : List Segment) (m : Numbered) → IsAmong m (numbered n ss) → Placed n m ss
 placed n [] m i = absurd i
-placed n (s ∷ ss) m (inl e) = record { at = zero; sum = omega (arith, ap (λ (k : Numbered). k.number) e); is = ap (λ (k : Numbered). Some k.seg) e }
+placed n (s ∷ ss) m (inl e) =
+    record { at = zero; sum = omega (arith, ap (λ (k : Numbered). k.number) e); is = ap (λ (k : Numbered). Some k.seg) e }
 placed n (s ∷ ss) m (inr i) = let p = placed (n + 1) ss m i in record { at = suc p.at; sum = omega (arith, p.sum); is = p.is }
 
 placed_at : (ss : List Segment) (m : Numbered) → IsAmong m (numbered 0 ss) → slice_get ss m.number ≡ Some m.seg
@@ -238,7 +247,8 @@ lower_last n m h = by_test (nat_lt m.number n.number) (grind arith)
     by_test true e = cc
     by_test false e = refl
 
-not_sooner : (ss : List Segment) (ns : List Numbered) → IsPermutation (numbered 0 ss) ns → Every IsSegment ss → (i j : ℕ) → IsPair AreBad ss i j → is_sooner (pair_at i j) (best_among ns None) ≡ false
+not_sooner : (ss : List Segment) (ns : List Numbered) → IsPermutation (numbered 0 ss) ns → Every IsSegment ss → (i j : ℕ)
+    → IsPair AreBad ss i j → is_sooner (pair_at i j) (best_among ns None) ≡ false
 not_sooner ss ns p h i j q =
     let n = numbered_segment i q.s in
     let m = numbered_segment j q.t in
@@ -248,8 +258,10 @@ not_sooner ss ns p h i j q =
     let k = segment_at ss j q.t h q.second in
     let apart : n ≡ m → ⊥ = λ e. omega (arith, q.ordered, ap (λ (a : Numbered). a.number) e) in
     elim (either_way (λ a b. Covered a b (best_among ns None)) n m ns apart (covered_among ns None) n_in m_in) [
-      | inl c ↦ subst (λ (r : Pair). is_sooner r (best_among ns None) ≡ false) (lower_first n m q.ordered) (c (differ_by i j q.ordered) (is_bad-true q.s q.t g k q.says))
-      | inr c ↦ subst (λ (r : Pair). is_sooner r (best_among ns None) ≡ false) (lower_last n m q.ordered) (c (differ_back i j q.ordered) (is_bad-true q.t q.s k g (bad_back q.s q.t q.says)))
+      | inl c ↦ subst (λ (r : Pair). is_sooner r (best_among ns None) ≡ false) (lower_first n m q.ordered)
+          (c (differ_by i j q.ordered) (is_bad-true q.s q.t g k q.says))
+      | inr c ↦ subst (λ (r : Pair). is_sooner r (best_among ns None) ≡ false) (lower_last n m q.ordered)
+          (c (differ_back i j q.ordered) (is_bad-true q.t q.s k g (bad_back q.s q.t q.says)))
     ]
   where
     zero_sum : (i : ℕ) (s : Segment) → IsAmong (numbered_segment (0 + i) s) (numbered 0 ss) → IsAmong (numbered_segment i s) (numbered 0 ss)
@@ -261,7 +273,8 @@ cases_lt a b e = grind arith
 none_from : (all : List Numbered) (p : Pair) → None ≡ Some p → From all p
 none_from all p e = cc
 
-found_pair : (ss : List Segment) (ns : List Numbered) → IsPermutation (numbered 0 ss) ns → Every IsSegment ss → (p : Pair) → best_among ns None ≡ Some p → IsPair AreBad ss p.i p.j
+found_pair : (ss : List Segment) (ns : List Numbered) → IsPermutation (numbered 0 ss) ns → Every IsSegment ss → (p : Pair)
+    → best_among ns None ≡ Some p → IsPair AreBad ss p.i p.j
 found_pair ss ns q h p e =
     let f = from_among ns ns None (every_among ns) (none_from ns) p e in
     let i = placed_at ss f.n (moved ns (numbered 0 ss) f.n (IsPermutation-sym (numbered 0 ss) ns q) f.n_in) in
@@ -270,18 +283,23 @@ found_pair ss ns q h p e =
     let k = segment_at ss f.m.number f.m.seg h j in
     let b = bad_is f.n.seg f.m.seg g k f.bad in
     elim (cases_lt f.n.number f.m.number f.differ) [
-      | inl l ↦ subst (λ (r : Pair). IsPair AreBad ss r.i r.j) (sym (lower_first f.n f.m l) ∙ f.is) (record { ordered = l; s = f.n.seg; t = f.m.seg; first = i; second = j; says = b })
-      | inr l ↦ subst (λ (r : Pair). IsPair AreBad ss r.i r.j) (sym (lower_last f.m f.n l) ∙ f.is) (record { ordered = l; s = f.m.seg; t = f.n.seg; first = j; second = i; says = bad_back f.n.seg f.m.seg b })
+      | inl l ↦ subst (λ (r : Pair). IsPair AreBad ss r.i r.j) (sym (lower_first f.n f.m l) ∙ f.is)
+          (record { ordered = l; s = f.n.seg; t = f.m.seg; first = i; second = j; says = b })
+      | inr l ↦ subst (λ (r : Pair). IsPair AreBad ss r.i r.j) (sym (lower_last f.m f.n l) ∙ f.is)
+          (record { ordered = l; s = f.m.seg; t = f.n.seg; first = j; second = i; says = bad_back f.n.seg f.m.seg b })
     ]
 
-first_by : (ss : List Segment) (best : Option Pair) → ((p : Pair) → best ≡ Some p → IsPair AreBad ss p.i p.j) → ((i j : ℕ) → IsPair AreBad ss i j → is_sooner (pair_at i j) best ≡ false) → IsFirstBad ss best
+first_by : (ss : List Segment) (best : Option Pair) → ((p : Pair) → best ≡ Some p → IsPair AreBad ss p.i p.j)
+    → ((i j : ℕ) → IsPair AreBad ss i j → is_sooner (pair_at i j) best ≡ false) → IsFirstBad ss best
 first_by ss None f g = λ i j q. true_false (g i j q)
   where
     true_false : true ≡ false → ⊥
     true_false e = cc
-first_by ss (Some p) f g = record { pair = f p refl; first = λ a b l q. no_both (is_sooner (pair_at a b) (Some p)) (before_sooner a b p.i p.j l) (g a b q) }
+first_by ss (Some p) f g =
+    record { pair = f p refl; first = λ a b l q. no_both (is_sooner (pair_at a b) (Some p)) (before_sooner a b p.i p.j l) (g a b q) }
 
-pub best_is_first : (ss : List Segment) (ns : List Numbered) → IsPermutation (numbered 0 ss) ns → Every IsSegment ss → IsFirstBad ss (best_among ns None)
+pub best_is_first : (ss : List Segment) (ns : List Numbered) → IsPermutation (numbered 0 ss) ns → Every IsSegment ss
+    → IsFirstBad ss (best_among ns None)
 best_is_first ss ns p h = first_by ss (best_among ns None) (found_pair ss ns p h) (not_sooner ss ns p h)
 
 pub boxed_proper : (n : ℕ) (ss : List Segment) → Every IsBoxed (numbered n ss) → Every IsSegment ss
@@ -297,19 +315,29 @@ fine_considered n m best e = sym (chosen_false (test_of n m best) (Some (pair_of
     last_false true false c e = refl
     last_false false b c e = refl
 
-pub apart_considered : (n m : Numbered) (best : Option Pair) → IsBoxed n → IsBoxed m → rects_meet n.env m.env ≡ false → best ≡ considered n m best
+pub apart_considered : (n m : Numbered) (best : Option Pair) → IsBoxed n → IsBoxed m → rects_meet n.env m.env ≡ false
+    → best ≡ considered n m best
 apart_considered n m best g h e =
-    fine_considered n m best (fine_apart n.seg m.seg g.proper h.proper (subst (λ (r : Rectangle). rects_meet r (box_of m.seg) ≡ false) g.env (subst (λ (r : Rectangle). rects_meet n.env r ≡ false) h.env e)))
+    fine_considered n m best
+        (fine_apart n.seg m.seg g.proper h.proper
+        (subst (λ (r : Rectangle). rects_meet r (box_of m.seg) ≡ false) g.env
+        (subst (λ (r : Rectangle). rects_meet n.env r ≡ false) h.env e)))
 
-past_with : (n : Numbered) (ms : List Numbered) (best : Option Pair) → IsBoxed n → Every IsBoxed ms → Every (λ m. n.seg.hi.x <ℤ m.seg.lo.x) ms → best ≡ best_with n ms best
+past_with : (n : Numbered) (ms : List Numbered) (best : Option Pair) → IsBoxed n → Every IsBoxed ms
+    → Every (λ m. n.seg.hi.x <ℤ m.seg.lo.x) ms → best ≡ best_with n ms best
 past_with n [] best g h k = refl
-past_with n (m ∷ ms) best g h k = past_with n ms best g h.1 k.1 ∙ ap (λ (r : Option Pair). best_with n ms r) (fine_considered n m best (fine_past n.seg m.seg g.proper h.0.proper k.0))
+past_with n (m ∷ ms) best g h k =
+    past_with n ms best g h.1 k.1
+    ∙ ap (λ (r : Option Pair). best_with n ms r) (fine_considered n m best (fine_past n.seg m.seg g.proper h.0.proper k.0))
 
-pub past_all : (n m : Numbered) (whole ms : List Numbered) (best : Option Pair) → whole ≡ m ∷ ms → Ascends whole → IsBoxed n → Every IsBoxed whole → n.seg.hi.x <ℤ m.seg.lo.x → best ≡ best_with n whole best
+pub past_all : (n m : Numbered) (whole ms : List Numbered) (best : Option Pair) → whole ≡ m ∷ ms → Ascends whole → IsBoxed n
+    → Every IsBoxed whole → n.seg.hi.x <ℤ m.seg.lo.x → best ≡ best_with n whole best
 past_all n m whole ms best e a g h l =
     let a' : Ascends (m ∷ ms) = subst (λ (ks : List Numbered). Ascends ks) e a in
     let h' : Every IsBoxed (m ∷ ms) = subst (λ (ks : List Numbered). Every IsBoxed ks) e h in
-    past_with n (m ∷ ms) best g h' (l, every_map (λ k. m.seg.lo.x ≤ℤ k.seg.lo.x) (λ k. n.seg.hi.x <ℤ k.seg.lo.x) (λ k u. further n.seg.hi.x m.seg.lo.x k.seg.lo.x l u) ms a'.0) ∙ ap (λ (ks : List Numbered). best_with n ks best) (sym e)
+    past_with n (m ∷ ms) best g h'
+        (l, every_map (λ k. m.seg.lo.x ≤ℤ k.seg.lo.x) (λ k. n.seg.hi.x <ℤ k.seg.lo.x) (λ k u. further n.seg.hi.x m.seg.lo.x k.seg.lo.x l u)
+        ms a'.0) ∙ ap (λ (ks : List Numbered). best_with n ks best) (sym e)
   where
     further : (x y z : ℤ) → x <ℤ y → y ≤ℤ z → x <ℤ z
     further x y z l u = omega (arith, ints)
@@ -328,7 +356,8 @@ got (t ∷ ts) (suc i) s l e = got ts i s (omega (arith, l)) e
 some_segment : {s t : Segment} → Some s ≡ Some t → s ≡ t
 some_segment e = cc
 
-pub along_first : (ss : List Segment) (i j : ℕ) (s t : Segment) → IsFirstPair AreBad ss i j → s ≡ get_or ss i s → t ≡ get_or ss j t → Overlap s t → IsFirstPair Overlap ss i j
+pub along_first : (ss : List Segment) (i j : ℕ) (s t : Segment) → IsFirstPair AreBad ss i j → s ≡ get_or ss i s → t ≡ get_or ss j t
+    → Overlap s t → IsFirstPair Overlap ss i j
 along_first ss i j s t f e k o =
     record {
       pair = record {
@@ -342,7 +371,8 @@ along_first ss i j s t f e k o =
       first = f.first;
     }
 
-pub cross_first : (ss : List Segment) (i j : ℕ) (s t : Segment) → IsFirstPair AreBad ss i j → s ≡ get_or ss i s → t ≡ get_or ss j t → (Overlap s t → ⊥) → IsFirstPair CrossOnce ss i j
+pub cross_first : (ss : List Segment) (i j : ℕ) (s t : Segment) → IsFirstPair AreBad ss i j → s ≡ get_or ss i s → t ≡ get_or ss j t
+    → (Overlap s t → ⊥) → IsFirstPair CrossOnce ss i j
 cross_first ss i j s t f e k n =
     let a = got ss i s (get_below ss i f.pair.s f.pair.first) e in
     let b = got ss j t (get_below ss j f.pair.t f.pair.second) k in

@@ -6,14 +6,11 @@ use Rattle.plane_terms.specs.Lists.{Every}
 use Rattle.plane_terms.specs.Point.{Place, IsInReach}
 use Rattle.plane_terms.specs.Rectangle.{Rectangle, rect_at, rect_of, join_of}
 use Rattle.plane_terms.specs.Shape.{box_from, box_of_places}
+use Rattle.plane_terms.proofs.ListLemmas.{every_append}
 
 pub box_after : (r : Rectangle) (ps qs : List Place) → box_from r (ps ++ qs) ≡ box_from (box_from r ps) qs
 box_after r [] qs = refl
 box_after r (p ∷ ps) qs = box_after (join_of r (rect_at p)) ps qs
-
-pub every_both : {A : Type 0} (P : A → Type 0) (xs ys : List A) → Every P xs → Every P ys → Every P (xs ++ ys)
-every_both P [] ys h k = k
-every_both P (x ∷ xs) ys h k = (h.0, every_both P xs ys h.1 k)
 
 least_same : (v : ℤ) → int_min v v ≡ v
 least_same v = grind (arith, ints)
@@ -32,10 +29,14 @@ pub box_once : (p : Place) (ps : List Place) → box_from (rect_at p) (p ∷ ps)
 box_once p ps = ap (λ r. box_from r ps) (join_same p)
 
 -- ---- one ring more
-pub box_step : (wide new : Rectangle) (items now rest whole : List Place) → now ≡ items → new ≡ box_from wide now → whole ≡ items ++ rest → box_from new rest ≡ box_from wide whole
+pub box_step : (wide new : Rectangle) (items now rest whole : List Place) → now ≡ items → new ≡ box_from wide now → whole ≡ items ++ rest
+    → box_from new rest ≡ box_from wide whole
 box_step wide new items now rest whole e h k =
-    ap (λ (r : Rectangle). box_from r rest) h ∙ ap (λ (ps : List Place). box_from (box_from wide ps) rest) e ∙ sym (box_after wide items rest) ∙ ap (λ (ps : List Place). box_from wide ps) (sym k)
+    ap (λ (r : Rectangle). box_from r rest) h ∙ ap (λ (ps : List Place). box_from (box_from wide ps) rest) e
+        ∙ sym (box_after wide items rest) ∙ ap (λ (ps : List Place). box_from wide ps) (sym k)
 
-pub reach_step : (items now rest whole : List Place) → now ≡ items → Every IsInReach now → whole ≡ items ++ rest → Every IsInReach rest → Every IsInReach whole
+pub reach_step : (items now rest whole : List Place) → now ≡ items → Every IsInReach now → whole ≡ items ++ rest → Every IsInReach rest
+    → Every IsInReach whole
 reach_step items now rest whole e h k f =
-    subst (λ (ps : List Place). Every IsInReach ps) (sym k) (every_both IsInReach items rest (subst (λ (ps : List Place). Every IsInReach ps) e h) f)
+    subst (λ (ps : List Place). Every IsInReach ps) (sym k)
+        (every_append IsInReach items rest (subst (λ (ps : List Place). Every IsInReach ps) e h) f)

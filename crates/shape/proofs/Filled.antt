@@ -34,7 +34,8 @@ line_ringed [] e h = cc
 line_ringed (p ∷ ps) e (inl h) = cc
 line_ringed (p ∷ ps) e (inr h) = line_not_bare (p ∷ ps) h
 
-polygon_ringed : (ps : List (Vec Ring Global)) → (length ps == 0) ≡ false → has_bare_part (polygons_in ps) ≡ false → ¬ (LacksRings (polygon_shape ps))
+polygon_ringed : (ps : List (Vec Ring Global)) → (length ps == 0) ≡ false → has_bare_part (polygons_in ps) ≡ false
+    → ¬ (LacksRings (polygon_shape ps))
 polygon_ringed [] e b h = cc
 polygon_ringed (p ∷ ps) e b (inl h) = cc
 polygon_ringed (p ∷ ps) e b (inr h) = bare_none (polygons_in (p ∷ ps)) b h
@@ -56,14 +57,17 @@ no_zero n e = grind arith
 
 -- ---- lines
 line_long : (ps : List Ring) → first_short 2 0 (rings_in ps) ≡ None → Every (λ ring. 2 ≤ length ring) (rings_of (line_shape ps))
-line_long ps e = subst (λ (rs : List (List Place)). Every (λ ring. 2 ≤ length ring) rs) (sym (line_rings ps)) (none_short kind.Line 0 (rings_in ps) e)
+line_long ps e =
+    subst (λ (rs : List (List Place)). Every (λ ring. 2 ≤ length ring) rs) (sym (line_rings ps)) (none_short kind.Line 0 (rings_in ps) e)
 
 pub line_empty : (ps : List Ring) → (length ps == 0) ≡ true → IsFew (line_shape ps) 0
 line_empty [] e = inl (inl refl, refl)
 line_empty (p ∷ ps) e = absurd (no_zero (length ps) e)
 
 pub line_few : (ps : List Ring) (n : ℕ) → (length ps == 0) ≡ false → first_short 2 0 (rings_in ps) ≡ Some n → IsFew (line_shape ps) n
-line_few ps n e f = inr (line_ringed ps e, subst (λ (rs : List (List Place)). IsFirstOf (IsShort kind.Line) rs n) (sym (line_rings ps)) (short_first kind.Line n (rings_in ps) f))
+line_few ps n e f =
+    inr (line_ringed ps e, subst (λ (rs : List (List Place)). IsFirstOf (IsShort kind.Line) rs n) (sym (line_rings ps))
+    (short_first kind.Line n (rings_in ps) f))
 
 pub line_none_few : (ps : List Ring) → (length ps == 0) ≡ false → first_short 2 0 (rings_in ps) ≡ None → NoneFew (line_shape ps)
 line_none_few ps e f = few_none (line_shape ps) (line_ringed ps e) (line_long ps f)
@@ -71,7 +75,8 @@ line_none_few ps e f = few_none (line_shape ps) (line_ringed ps e) (line_long ps
 pub line_many : (ps : List Ring) (n : ℕ) → n ≡ 0 + length (all_vertices (rings_in ps)) → n ≡ length (vertices_of (line_shape ps))
 line_many ps n e = omega (arith, e, ap (λ (vs : List Place). length vs) (line_vertices ps))
 
-pub line_full : (ps : List Ring) (n : ℕ) → (length ps == 0) ≡ false → first_short 2 0 (rings_in ps) ≡ None → n ≡ 0 + length (all_vertices (rings_in ps)) → n ≤ 2000 → IsFull (line_shape ps)
+pub line_full : (ps : List Ring) (n : ℕ) → (length ps == 0) ≡ false → first_short 2 0 (rings_in ps) ≡ None
+    → n ≡ 0 + length (all_vertices (rings_in ps)) → n ≤ 2000 → IsFull (line_shape ps)
 line_full ps n e f h l = record { ringed = line_ringed ps e; long = line_long ps f; few = omega (arith, line_many ps n h, l) }
 
 -- ---- polygons
@@ -82,11 +87,16 @@ polygon_empty (p ∷ ps) e = absurd (no_zero (length ps) e)
 pub polygon_bare : (ps : List (Vec Ring Global)) → has_bare_part (polygons_in ps) ≡ true → IsFew (polygon_shape ps) 0
 polygon_bare ps e = inl (inr (bare_some (polygons_in ps) e), refl)
 
-pub polygon_few : (ps : List (Vec Ring Global)) (n : ℕ) → (length ps == 0) ≡ false → has_bare_part (polygons_in ps) ≡ false → first_short 3 0 (all_rings (polygons_in ps)) ≡ Some n → IsFew (polygon_shape ps) n
+pub polygon_few : (ps : List (Vec Ring Global)) (n : ℕ) → (length ps == 0) ≡ false → has_bare_part (polygons_in ps) ≡ false
+    → first_short 3 0 (all_rings (polygons_in ps)) ≡ Some n → IsFew (polygon_shape ps) n
 polygon_few ps n e b f = inr (polygon_ringed ps e b, short_first kind.Polygon n (all_rings (polygons_in ps)) f)
 
-pub polygon_none_few : (ps : List (Vec Ring Global)) → (length ps == 0) ≡ false → has_bare_part (polygons_in ps) ≡ false → first_short 3 0 (all_rings (polygons_in ps)) ≡ None → NoneFew (polygon_shape ps)
+pub polygon_none_few : (ps : List (Vec Ring Global)) → (length ps == 0) ≡ false → has_bare_part (polygons_in ps) ≡ false
+    → first_short 3 0 (all_rings (polygons_in ps)) ≡ None → NoneFew (polygon_shape ps)
 polygon_none_few ps e b f = few_none (polygon_shape ps) (polygon_ringed ps e b) (none_short kind.Polygon 0 (all_rings (polygons_in ps)) f)
 
-pub polygon_full : (ps : List (Vec Ring Global)) (n : ℕ) → (length ps == 0) ≡ false → has_bare_part (polygons_in ps) ≡ false → first_short 3 0 (all_rings (polygons_in ps)) ≡ None → n ≡ length (vertices_of (polygon_shape ps)) → n ≤ 2000 → IsFull (polygon_shape ps)
-polygon_full ps n e b f h l = record { ringed = polygon_ringed ps e b; long = none_short kind.Polygon 0 (all_rings (polygons_in ps)) f; few = omega (arith, h, l) }
+pub polygon_full : (ps : List (Vec Ring Global)) (n : ℕ) → (length ps == 0) ≡ false → has_bare_part (polygons_in ps) ≡ false
+    → first_short 3 0 (all_rings (polygons_in ps)) ≡ None → n ≡ length (vertices_of (polygon_shape ps)) → n ≤ 2000
+    → IsFull (polygon_shape ps)
+polygon_full ps n e b f h l =
+    record { ringed = polygon_ringed ps e b; long = none_short kind.Polygon 0 (all_rings (polygons_in ps)) f; few = omega (arith, h, l) }

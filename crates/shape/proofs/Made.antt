@@ -20,13 +20,15 @@ use Rattle.plane_terms.specs.declared.shape_fault.ShapeFault.{ShapeFault}
 use Rattle.plane_terms.specs.declared.shape_fault.ShapeFault.TheVariants.{TooFew, TooMany, Cross, Along, NoMemory}
 use Rattle.shape.proofs.Filled.{line_rings, none_few, none_many}
 use Rattle.shape.proofs.Places.{is_same, same_turned}
+use Rattle.plane_terms.proofs.ListLemmas.{every_left, every_right}
 
 -- ---- the parts that were kept make the shape
-line_parts : (ps : List Ring) → lines_in ps ≡ map (λ (r : List Place). r ∷ []) (rings_in ps)
+pub line_parts : (ps : List Ring) → lines_in ps ≡ map (λ (r : List Place). r ∷ []) (rings_in ps)
 line_parts [] = refl
 line_parts (p ∷ ps) = ap (λ rs. (p.items ∷ []) ∷ rs) (line_parts ps)
 
-kept_lines : (f : List Place → List Place) (ps : List Ring) → map (λ (part : List (List Place)). map f part) (lines_in ps) ≡ map (λ (r : List Place). r ∷ []) (map f (rings_in ps))
+kept_lines : (f : List Place → List Place) (ps : List Ring)
+    → map (λ (part : List (List Place)). map f part) (lines_in ps) ≡ map (λ (r : List Place). r ∷ []) (map f (rings_in ps))
 kept_lines f [] = refl
 kept_lines f (p ∷ ps) = ap (λ rs. (f p.items ∷ []) ∷ rs) (kept_lines f ps)
 
@@ -36,11 +38,14 @@ line parts = record { kind = kind.Line; parts = parts }
 abbrev polygon : List (List (List Place)) → Shape
 polygon parts = record { kind = kind.Polygon; parts = parts }
 
-pub line_made : (ps given : List Ring) → rings_in ps ≡ rings_by kind.Line (rings_in given) → line_shape ps ≡ shape_of kind.Line (lines_in given)
+pub line_made : (ps given : List Ring) → rings_in ps ≡ rings_by kind.Line (rings_in given)
+    → line_shape ps ≡ shape_of kind.Line (lines_in given)
 line_made ps given e =
-    ap (λ (parts : List (List (List Place))). line parts) (line_parts ps ∙ ap (λ rs. map (λ (r : List Place). r ∷ []) rs) e ∙ sym (kept_lines (ring_by kind.Line) given))
+    ap (λ (parts : List (List (List Place))). line parts) (line_parts ps ∙ ap (λ rs. map (λ (r : List Place). r ∷ []) rs) e
+        ∙ sym (kept_lines (ring_by kind.Line) given))
 
-pub polygon_made : (ps given : List (Vec Ring Global)) → polygons_in ps ≡ parts_by kind.Polygon (polygons_in given) → polygon_shape ps ≡ shape_of kind.Polygon (polygons_in given)
+pub polygon_made : (ps given : List (Vec Ring Global)) → polygons_in ps ≡ parts_by kind.Polygon (polygons_in given)
+    → polygon_shape ps ≡ shape_of kind.Polygon (polygons_in given)
 polygon_made ps given e = ap (λ (parts : List (List (List Place))). polygon parts) e
 
 -- ---- no more vertices are kept than were given
@@ -48,7 +53,8 @@ kept_short : (p : Place) (ps : List Place) → length (without_repeats (p ∷ ps
 kept_short p [] = omega arith
 kept_short p (q ∷ qs) = by_test (same_place p q) (kept_short q qs)
   where
-    by_test : (b : Bool) → length (without_repeats (q ∷ qs)) ≤ suc (length qs) → length (if b then without_repeats (q ∷ qs) else (p ∷ without_repeats (q ∷ qs))) ≤ suc (suc (length qs))
+    by_test : (b : Bool) → length (without_repeats (q ∷ qs)) ≤ suc (length qs)
+        → length (if b then without_repeats (q ∷ qs) else (p ∷ without_repeats (q ∷ qs))) ≤ suc (suc (length qs))
     by_test true h = omega (arith, h)
     by_test false h = omega (arith, h)
 
@@ -75,24 +81,32 @@ ring_short kind.Polygon ps = omega (arith, opened_short (without_repeats ps), re
 
 rings_short : (k : Kind) (rs : List (List Place)) → length (all_vertices (rings_by k rs)) ≤ length (all_vertices rs)
 rings_short k [] = omega arith
-rings_short k (r ∷ rs) = omega (arith, length-append (ring_by k r) (all_vertices (rings_by k rs)), length-append r (all_vertices rs), ring_short k r, rings_short k rs)
+rings_short k (r ∷ rs) =
+    omega (arith, length-append (ring_by k r) (all_vertices (rings_by k rs)), length-append r (all_vertices rs), ring_short k r,
+    rings_short k rs)
 
 all_kept : (k : Kind) (parts : List (List (List Place))) → all_rings (parts_by k parts) ≡ rings_by k (all_rings parts)
 all_kept k [] = refl
-all_kept k (part ∷ parts) = ap (λ (rs : List (List Place)). rings_by k part ++ rs) (all_kept k parts) ∙ sym (map-append (ring_by k) part (all_rings parts))
+all_kept k (part ∷ parts) =
+    ap (λ (rs : List (List Place)). rings_by k part ++ rs) (all_kept k parts) ∙ sym (map-append (ring_by k) part (all_rings parts))
 
-countable_by : (k : Kind) (parts given : List (List (List Place))) → all_rings parts ≡ rings_by k (all_rings given) → IsCountable given → IsCountable parts
+countable_by : (k : Kind) (parts given : List (List (List Place))) → all_rings parts ≡ rings_by k (all_rings given) → IsCountable given
+    → IsCountable parts
 countable_by k parts given e c =
     record {
       rings = omega (arith, c.rings, ap (λ (rs : List (List Place)). length rs) e, length-map (all_rings given) (ring_by k));
       vertices = omega (arith, c.vertices, ap (λ (rs : List (List Place)). length (all_vertices rs)) e, rings_short k (all_rings given));
     }
 
-pub line_countable : (ps given : List Ring) → rings_in ps ≡ rings_by kind.Line (rings_in given) → IsCountable (lines_in given) → IsCountable (lines_in ps)
-line_countable ps given e c = countable_by kind.Line (lines_in ps) (lines_in given) (line_rings ps ∙ e ∙ ap (rings_by kind.Line) (sym (line_rings given))) c
+pub line_countable : (ps given : List Ring) → rings_in ps ≡ rings_by kind.Line (rings_in given) → IsCountable (lines_in given)
+    → IsCountable (lines_in ps)
+line_countable ps given e c =
+    countable_by kind.Line (lines_in ps) (lines_in given) (line_rings ps ∙ e ∙ ap (rings_by kind.Line) (sym (line_rings given))) c
 
-pub polygon_countable : (ps given : List (Vec Ring Global)) → polygons_in ps ≡ parts_by kind.Polygon (polygons_in given) → IsCountable (polygons_in given) → IsCountable (polygons_in ps)
-polygon_countable ps given e c = countable_by kind.Polygon (polygons_in ps) (polygons_in given) (ap all_rings e ∙ all_kept kind.Polygon (polygons_in given)) c
+pub polygon_countable : (ps given : List (Vec Ring Global)) → polygons_in ps ≡ parts_by kind.Polygon (polygons_in given)
+    → IsCountable (polygons_in given) → IsCountable (polygons_in ps)
+polygon_countable ps given e c =
+    countable_by kind.Polygon (polygons_in ps) (polygons_in given) (ap all_rings e ∙ all_kept kind.Polygon (polygons_in given)) c
 
 -- ---- neighbours differ
 abbrev Starts : Place → List Place → Type 0
@@ -110,7 +124,8 @@ starts : (v : Place) (vs : List Place) → Starts v (without_repeats (v ∷ vs))
 starts v [] = (refl, tt)
 starts v (w ∷ ws) = by_test (same_place v w) refl (starts w ws)
   where
-    by_test : (b : Bool) → same_place v w ≡ b → Starts w (without_repeats (w ∷ ws)) → Starts v (if b then without_repeats (w ∷ ws) else (v ∷ without_repeats (w ∷ ws)))
+    by_test : (b : Bool) → same_place v w ≡ b → Starts w (without_repeats (w ∷ ws))
+        → Starts v (if b then without_repeats (w ∷ ws) else (v ∷ without_repeats (w ∷ ws)))
     by_test true e s = starts_same v w (without_repeats (w ∷ ws)) (is_same v w e) s
     by_test false e s = (refl, next v w (without_repeats (w ∷ ws)) e s)
 
@@ -146,38 +161,45 @@ turned p q e = same_turned p q ∙ e
 reversed : (q : Place) (qs : List Place) → reverse (q ∷ qs) ≡ reverse qs ++ q ∷ []
 reversed q qs = reverse-append (q ∷ []) qs
 
-closes : (p : Place) (rs : List Place) → NextDiffer (p ∷ reverse rs) → 1 ≤ length (skip_equal p rs) → NextDiffer (p ∷ reverse (skip_equal p rs) ++ p ∷ [])
+closes : (p : Place) (rs : List Place) → NextDiffer (p ∷ reverse rs) → 1 ≤ length (skip_equal p rs)
+    → NextDiffer (p ∷ reverse (skip_equal p rs) ++ p ∷ [])
 closes p [] h l = absurd (omega (arith, l))
 closes p (q ∷ qs) h l = by_test (same_place p q) refl (closes p qs) l
   where
     longer : NextDiffer (p ∷ reverse qs ++ q ∷ [])
     longer = subst (λ (us : List Place). NextDiffer (p ∷ us)) (reversed q qs) h
 
-    by_test : (b : Bool) → same_place p q ≡ b → (NextDiffer (p ∷ reverse qs) → 1 ≤ length (skip_equal p qs) → NextDiffer (p ∷ reverse (skip_equal p qs) ++ p ∷ [])) → 1 ≤ length (if b then skip_equal p qs else (q ∷ qs)) → NextDiffer (p ∷ reverse (if b then skip_equal p qs else (q ∷ qs)) ++ p ∷ [])
+    by_test : (b : Bool) → same_place p q ≡ b
+        → (NextDiffer (p ∷ reverse qs) → 1 ≤ length (skip_equal p qs) → NextDiffer (p ∷ reverse (skip_equal p qs) ++ p ∷ []))
+        → 1 ≤ length (if b then skip_equal p qs else (q ∷ qs))
+        → NextDiffer (p ∷ reverse (if b then skip_equal p qs else (q ∷ qs)) ++ p ∷ [])
     by_test true e f l = f (shorter (p ∷ reverse qs) (q ∷ []) longer) l
-    by_test false e f l = subst (λ (us : List Place). NextDiffer (p ∷ us ++ p ∷ [])) (sym (reversed q qs)) (one_more (p ∷ reverse qs) q p longer (turned p q e))
+    by_test false e f l =
+        subst (λ (us : List Place). NextDiffer (p ∷ us ++ p ∷ [])) (sym (reversed q qs))
+        (one_more (p ∷ reverse qs) q p longer (turned p q e))
 
 opened_closes : (vs : List Place) → NextDiffer vs → 2 ≤ length (opened vs) → IsClosing (opened vs)
 opened_closes [] h l = tt
 opened_closes (p ∷ ps) h l =
-    closes p (reverse ps) (subst (λ (us : List Place). NextDiffer (p ∷ us)) (sym (reverse-reverse ps)) h) (omega (arith, l, length-reverse (skip_equal p (reverse ps))))
+    closes p (reverse ps) (subst (λ (us : List Place). NextDiffer (p ∷ us)) (sym (reverse-reverse ps)) h)
+        (omega (arith, l, length-reverse (skip_equal p (reverse ps))))
 
-every_closes : (rs : List (List Place)) → Every (λ ring. 3 ≤ length ring) (rings_by kind.Polygon rs) → Every IsClosing (rings_by kind.Polygon rs)
+every_closes : (rs : List (List Place)) → Every (λ ring. 3 ≤ length ring) (rings_by kind.Polygon rs)
+    → Every IsClosing (rings_by kind.Polygon rs)
 every_closes [] h = tt
 every_closes (r ∷ rs) h = (opened_closes (without_repeats r) (kept_differ r) (omega (arith, h.0)), every_closes rs h.1)
 
-pub polygon_closes : (ps given : List (Vec Ring Global)) → polygons_in ps ≡ parts_by kind.Polygon (polygons_in given) → IsFull (polygon_shape ps) → Every IsClosing (all_rings (polygons_in ps))
+pub polygon_closes : (ps given : List (Vec Ring Global)) → polygons_in ps ≡ parts_by kind.Polygon (polygons_in given)
+    → IsFull (polygon_shape ps) → Every IsClosing (all_rings (polygons_in ps))
 polygon_closes ps given e f =
     let k = ap all_rings e ∙ all_kept kind.Polygon (polygons_in given) in
-    subst (λ (rs : List (List Place)). Every IsClosing rs) (sym k) (every_closes (all_rings (polygons_in given)) (subst (λ (rs : List (List Place)). Every (λ ring. 3 ≤ length ring) rs) k f.long))
-
-every_parted : {A : Type 0} (P : A → Type 0) (xs ys : List A) → Every P (xs ++ ys) → Every P xs × Every P ys
-every_parted P [] ys h = (tt, h)
-every_parted P (x ∷ xs) ys h = let k = every_parted P xs ys h.1 in ((h.0, k.0), k.1)
+    subst (λ (rs : List (List Place)). Every IsClosing rs) (sym k)
+        (every_closes (all_rings (polygons_in given)) (subst (λ (rs : List (List Place)). Every (λ ring. 3 ≤ length ring) rs) k f.long))
 
 pub in_parts : (parts : List (List (List Place))) → Every IsClosing (all_rings parts) → Every (Every IsClosing) parts
 in_parts [] h = tt
-in_parts (part ∷ parts) h = let k = every_parted IsClosing part (all_rings parts) h in (k.0, in_parts parts k.1)
+in_parts (part ∷ parts) h =
+    (every_left IsClosing part (all_rings parts) h, in_parts parts (every_right IsClosing part (all_rings parts) h))
 
 -- ---- it is a shape
 not_empty : {A : Type 0} (xs : List A) → (xs ≡ [] → ⊥) → 1 ≤ length xs
@@ -196,13 +218,16 @@ ringed_parts : (parts : List (List (List Place))) → ¬ (SomeOf (λ part. part 
 ringed_parts [] n = tt
 ringed_parts (part ∷ parts) n = (not_empty part (λ e. n (inl e)), ringed_parts parts (λ h. n (inr h)))
 
-pub line_drawn : (ps : List Ring) (segs : List Segment) (env : Rectangle) → IsFull (line_shape ps) → Every NextDiffer (rings_in ps) → Every IsInReach (vertices_of (line_shape ps)) → segs ≡ flat_map path (rings_in ps) → env ≡ envelope_of (line_shape ps) → IsDrawn (line_shape ps) segs env
+pub line_drawn : (ps : List Ring) (segs : List Segment) (env : Rectangle) → IsFull (line_shape ps) → Every NextDiffer (rings_in ps)
+    → Every IsInReach (vertices_of (line_shape ps)) → segs ≡ flat_map path (rings_in ps) → env ≡ envelope_of (line_shape ps)
+    → IsDrawn (line_shape ps) segs env
 line_drawn ps segs env f d r s e =
     record {
       valid = record {
         some = not_empty (lines_in ps) (λ h. f.ringed (inl h));
         parts = single_rings ps;
-        rings = both_of (λ ring. 2 ≤ length ring) NextDiffer (rings_of (line_shape ps)) f.long (subst (λ (rs : List (List Place)). Every NextDiffer rs) (sym (line_rings ps)) d);
+        rings = both_of (λ ring. 2 ≤ length ring) NextDiffer (rings_of (line_shape ps)) f.long
+            (subst (λ (rs : List (List Place)). Every NextDiffer rs) (sym (line_rings ps)) d);
         vertices = f.few;
         in_reach = r;
         simple = tt;
@@ -211,7 +236,10 @@ line_drawn ps segs env f d r s e =
       envelope = e;
     }
 
-pub polygon_drawn : (ps : List (Vec Ring Global)) (segs : List Segment) (env : Rectangle) → IsFull (polygon_shape ps) → Every IsClosing (all_rings (polygons_in ps)) → Every IsInReach (vertices_of (polygon_shape ps)) → segs ≡ segments_of (polygon_shape ps) → EveryPair AreSimple segs → env ≡ envelope_of (polygon_shape ps) → IsDrawn (polygon_shape ps) segs env
+pub polygon_drawn : (ps : List (Vec Ring Global)) (segs : List Segment) (env : Rectangle) → IsFull (polygon_shape ps)
+    → Every IsClosing (all_rings (polygons_in ps)) → Every IsInReach (vertices_of (polygon_shape ps))
+    → segs ≡ segments_of (polygon_shape ps) → EveryPair AreSimple segs → env ≡ envelope_of (polygon_shape ps)
+    → IsDrawn (polygon_shape ps) segs env
 polygon_drawn ps segs env f d r s a e =
     record {
       valid = record {
@@ -230,8 +258,14 @@ polygon_drawn ps segs env f d r s a e =
 pub full_flawless : (s : Shape) → IsFull s → (s.kind ≡ kind.Polygon → (i j : ℕ) → ¬ (IsPair AreBad (segments_of s) i j)) → IsFlawless s
 full_flawless s f g (TooFew n) h = absurd (none_few s f n h)
 full_flawless s f g (TooMany n) h = absurd (none_many s f n h.1)
-full_flawless s f g (Cross i j) h = absurd (g h.2 i j (record { ordered = h.3.pair.ordered; s = h.3.pair.s; t = h.3.pair.t; first = h.3.pair.first; second = h.3.pair.second; says = inl h.3.pair.says }))
-full_flawless s f g (Along i j) h = absurd (g h.2 i j (record { ordered = h.3.pair.ordered; s = h.3.pair.s; t = h.3.pair.t; first = h.3.pair.first; second = h.3.pair.second; says = inr h.3.pair.says }))
+full_flawless s f g (Cross i j) h =
+    absurd (g h.2 i j
+    (record { ordered = h.3.pair.ordered; s = h.3.pair.s; t = h.3.pair.t; first = h.3.pair.first; second = h.3.pair.second;
+    says = inl h.3.pair.says }))
+full_flawless s f g (Along i j) h =
+    absurd (g h.2 i j
+    (record { ordered = h.3.pair.ordered; s = h.3.pair.s; t = h.3.pair.t; first = h.3.pair.first; second = h.3.pair.second;
+    says = inr h.3.pair.says }))
 full_flawless s f g NoMemory h = refl
 
 pub pair_fault : (s : Shape) → s.kind ≡ kind.Polygon → IsFull s → (fault : ShapeFault) → IsPairFault (segments_of s) fault → IsFault s fault
@@ -258,4 +292,6 @@ closed_count (p ∷ ps) = omega (arith, path_count p (ps ++ p ∷ []), length-ap
 
 pub segments_count : (rs : List (List Place)) → length (flat_map closed_path rs) ≡ length (all_vertices rs)
 segments_count [] = refl
-segments_count (r ∷ rs) = omega (arith, length-append (closed_path r) (flat_map closed_path rs), length-append r (all_vertices rs), closed_count r, segments_count rs)
+segments_count (r ∷ rs) =
+    omega (arith, length-append (closed_path r) (flat_map closed_path rs), length-append r (all_vertices rs), closed_count r,
+    segments_count rs)

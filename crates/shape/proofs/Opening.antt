@@ -5,13 +5,17 @@ use Rattle.plane_terms.specs.Point.{Place, same_place}
 use Rattle.plane_terms.specs.Shape.{opened, skip_equal}
 use Rattle.shape.proofs.Places.{same_turned}
 
-closing_dropped : (f x : Place) (fs : List Place) → same_place f x ≡ true → opened (f ∷ fs ++ x ∷ []) ≡ opened (f ∷ fs)
+pub closing_dropped : (f x : Place) (fs : List Place) → same_place f x ≡ true → opened (f ∷ fs ++ x ∷ []) ≡ opened (f ∷ fs)
 closing_dropped f x fs e =
-    ap (λ (rs : List Place). f ∷ reverse (skip_equal f rs)) (reverse-append fs (x ∷ [])) ∙ ap (λ (b : Bool). f ∷ reverse (cond b (skip_equal f (reverse fs)) (x ∷ reverse fs))) e
+    ap (λ (rs : List Place). f ∷ reverse (skip_equal f rs)) (reverse-append fs (x ∷ []))
+        ∙ ap (λ (b : Bool). f ∷ reverse (cond b (skip_equal f (reverse fs)) (x ∷ reverse fs))) e
 
 other_stays : (f x : Place) (fs : List Place) → same_place f x ≡ false → opened (f ∷ fs ++ x ∷ []) ≡ f ∷ fs ++ x ∷ []
 other_stays f x fs e =
-    ap (λ (rs : List Place). f ∷ reverse (skip_equal f rs)) (reverse-append fs (x ∷ [])) ∙ ap (λ (b : Bool). f ∷ reverse (cond b (skip_equal f (reverse fs)) (x ∷ reverse fs))) e ∙ ap (λ (rs : List Place). f ∷ reverse rs) (sym (reverse-append fs (x ∷ []))) ∙ ap (λ (rs : List Place). f ∷ rs) (reverse-reverse (fs ++ x ∷ []))
+    ap (λ (rs : List Place). f ∷ reverse (skip_equal f rs)) (reverse-append fs (x ∷ []))
+        ∙ ap (λ (b : Bool). f ∷ reverse (cond b (skip_equal f (reverse fs)) (x ∷ reverse fs))) e
+        ∙ ap (λ (rs : List Place). f ∷ reverse rs) (sym (reverse-append fs (x ∷ [])))
+        ∙ ap (λ (rs : List Place). f ∷ rs) (reverse-reverse (fs ++ x ∷ []))
 
 last_at : (ws : List Place) (x d : Place) → get_or (ws ++ x ∷ []) (length ws) d ≡ x
 last_at [] x d = refl
@@ -21,14 +25,17 @@ pub at_place : {i j : ℕ} (xs : List Place) (d : Place) → i ≡ j → get_or 
 at_place {i} {j} xs d e = ap (λ (n : ℕ). get_or xs n d) e
 
 last_read : (f x d : Place) (fs : List Place) → d ≡ get_or (f ∷ fs ++ x ∷ []) (length (f ∷ fs ++ x ∷ []) - 1) d → d ≡ x
-last_read f x d fs e = e ∙ at_place {i = length (f ∷ fs ++ x ∷ []) - 1} {j = length (f ∷ fs)} (f ∷ fs ++ x ∷ []) d (omega (arith, length-append fs (x ∷ []))) ∙ last_at (f ∷ fs) x d
+last_read f x d fs e =
+    e ∙ at_place {i = length (f ∷ fs ++ x ∷ []) - 1} {j = length (f ∷ fs)} (f ∷ fs ++ x ∷ []) d (omega (arith, length-append fs (x ∷ [])))
+    ∙ last_at (f ∷ fs) x d
 
 -- a is the last, b the first
 test_is : (f x a b : Place) (v : Bool) → a ≡ x → b ≡ f → int_eq a.x b.x && int_eq a.y b.y ≡ v → same_place f x ≡ v
 test_is f x a b v e h t = same_turned x f ∙ subst (λ (q : Place). same_place x q ≡ v) h (subst (λ (p : Place). same_place p b ≡ v) e t)
 
 -- one more that closes is taken away
-pub open_step : (xs ys : List Place) (x a b : Place) → xs ≡ ys ++ x ∷ [] → 1 < length xs → a ≡ get_or xs (length xs - 1) a → b ≡ get_or xs 0 b → int_eq a.x b.x && int_eq a.y b.y ≡ true → opened ys ≡ opened xs
+pub open_step : (xs ys : List Place) (x a b : Place) → xs ≡ ys ++ x ∷ [] → 1 < length xs → a ≡ get_or xs (length xs - 1) a
+    → b ≡ get_or xs 0 b → int_eq a.x b.x && int_eq a.y b.y ≡ true → opened ys ≡ opened xs
 open_step xs [] x a b e l p q t = absurd (omega (arith, l, ap length e))
 open_step xs (f ∷ fs) x a b e l p q t =
     let p' : a ≡ get_or (f ∷ fs ++ x ∷ []) (length (f ∷ fs ++ x ∷ []) - 1) a = subst (λ us. a ≡ get_or us (length us - 1) a) e p in
@@ -41,7 +48,8 @@ split_last v (w ∷ ws) =
     let k = split_last w ws in
     (v ∷ k.0, k.1, ap (λ us. v ∷ us) k.2)
 
-open_split : (xs ys : List Place) (x a b : Place) → xs ≡ ys ++ x ∷ [] → 1 < length xs → a ≡ get_or xs (length xs - 1) a → b ≡ get_or xs 0 b → int_eq a.x b.x && int_eq a.y b.y ≡ false → xs ≡ opened xs
+open_split : (xs ys : List Place) (x a b : Place) → xs ≡ ys ++ x ∷ [] → 1 < length xs → a ≡ get_or xs (length xs - 1) a → b ≡ get_or xs 0 b
+    → int_eq a.x b.x && int_eq a.y b.y ≡ false → xs ≡ opened xs
 open_split xs [] x a b e l p q t = absurd (omega (arith, l, ap length e))
 open_split xs (f ∷ fs) x a b e l p q t =
     let p' : a ≡ get_or (f ∷ fs ++ x ∷ []) (length (f ∷ fs ++ x ∷ []) - 1) a = subst (λ us. a ≡ get_or us (length us - 1) a) e p in
@@ -49,7 +57,8 @@ open_split xs (f ∷ fs) x a b e l p q t =
     e ∙ sym (ap opened e ∙ other_stays f x fs (test_is f x a b false (last_read f x a fs p') q' t))
 
 -- where the last one differs, nothing is dropped
-pub open_end : (xs : List Place) (a b : Place) → 1 < length xs → a ≡ get_or xs (length xs - 1) a → b ≡ get_or xs 0 b → int_eq a.x b.x && int_eq a.y b.y ≡ false → xs ≡ opened xs
+pub open_end : (xs : List Place) (a b : Place) → 1 < length xs → a ≡ get_or xs (length xs - 1) a → b ≡ get_or xs 0 b
+    → int_eq a.x b.x && int_eq a.y b.y ≡ false → xs ≡ opened xs
 open_end [] a b l p q t = refl
 open_end (v ∷ vs) a b l p q t =
     let k = split_last v vs in

@@ -35,11 +35,14 @@ same_turned p q = numbers p.x p.y q.x q.y
 
 -- ---- equal neighbours once
 -- E x y: y is dropped after x, as std's `dedup` reads its test
-kept_from : (E : Place → Place → Bool) → ((x y : Place) → E x y ≡ same_place y x) → (p : Place) (ps : List Place) → dedup_from E p ps ≡ without_repeats (p ∷ ps)
+kept_from : (E : Place → Place → Bool) → ((x y : Place) → E x y ≡ same_place y x) → (p : Place) (ps : List Place)
+    → dedup_from E p ps ≡ without_repeats (p ∷ ps)
 kept_from E h p [] = refl
 kept_from E h p (q ∷ qs) = step (E q p) (same_place p q) (h q p) (is_same p q) (kept_from E h p qs) (kept_from E h q qs)
   where
-    step : (b v : Bool) → b ≡ v → (v ≡ true → p ≡ q) → dedup_from E p qs ≡ without_repeats (p ∷ qs) → dedup_from E q qs ≡ without_repeats (q ∷ qs) → cond b (dedup_from E p qs) (p ∷ dedup_from E q qs) ≡ cond v (without_repeats (q ∷ qs)) (p ∷ without_repeats (q ∷ qs))
+    step : (b v : Bool) → b ≡ v → (v ≡ true → p ≡ q) → dedup_from E p qs ≡ without_repeats (p ∷ qs)
+        → dedup_from E q qs ≡ without_repeats (q ∷ qs)
+        → cond b (dedup_from E p qs) (p ∷ dedup_from E q qs) ≡ cond v (without_repeats (q ∷ qs)) (p ∷ without_repeats (q ∷ qs))
     step true true e f k l = k ∙ ap (λ (r : Place). without_repeats (r ∷ qs)) (f refl)
     step true false e f k l = cc
     step false true e f k l = cc
@@ -57,7 +60,8 @@ pub same_lists : (xs ys : List Place) → Decides (pointwise (λ p q. int_eq p.x
 same_lists [] [] = (λ e. refl, λ e. refl)
 same_lists [] (y ∷ ys) = (λ e. cc, λ e. cc)
 same_lists (x ∷ xs) [] = (λ e. cc, λ e. cc)
-same_lists (x ∷ xs) (y ∷ ys) = (by_test (same_place x y) refl (same_lists xs ys).0, λ e. both (same_is x y (heads e)) ((same_lists xs ys).1 (tails e)))
+same_lists (x ∷ xs) (y ∷ ys) =
+    (by_test (same_place x y) refl (same_lists xs ys).0, λ e. both (same_is x y (heads e)) ((same_lists xs ys).1 (tails e)))
   where
     heads : {X : Type 0} {a b : X} {us vs : List X} → a ∷ us ≡ b ∷ vs → a ≡ b
     heads e = cc

@@ -115,7 +115,8 @@ impl Shape {
 
     /// The parts of a line, each the list of its vertices; of the other kinds there are none.
     pub fn lines(&self) -> &[Vec<GridPoint>]
-        ensures { self.now.kind ≡ kind.Line → lines_in result.now ≡ self.now.parts }
+        ensures parts { self.now.kind ≡ kind.Line → lines_in result.now ≡ self.now.parts }
+        ensures none { self.now.kind ≢ kind.Line → result.now ≡ [] }
     {
         match &self.form {
             Form::Line(line) => &line.parts,
@@ -126,7 +127,8 @@ impl Shape {
     /// The parts of a polygon, each the list of its rings, a ring the list of its vertices without the first again; of the
     /// other kinds there are none.
     pub fn polygons(&self) -> &[Vec<Vec<GridPoint>>]
-        ensures { self.now.kind ≡ kind.Polygon → polygons_in result.now ≡ self.now.parts }
+        ensures parts { self.now.kind ≡ kind.Polygon → polygons_in result.now ≡ self.now.parts }
+        ensures none { self.now.kind ≢ kind.Polygon → result.now ≡ [] }
     {
         match &self.form {
             Form::Polygon(polygon) => &polygon.parts,

@@ -1,4 +1,5 @@
 -- What the dirt covers after a rectangle more, and after a window is cut out.
+use Rattle.std.proofs.lemmas.Bool.{or_cases}
 pub use Rattle.std.proofs.lemmas.Bool.{cases_Bool as bool_cases}
 use Rattle.std.proofs.Common.{◌≡◌, ◌⊎◌, inl, inr, ℕ, ℤ, pos, ◌*ℤ◌, ◌≤ℤ◌, ◌<ℤ◌, Bool, true, false, not, arith, refl, List, [], ◌∷◌, ◌++◌}
 use Rattle.std.specs.Prelude.{int_lt, if◌then◌else◌}
@@ -9,7 +10,8 @@ use Rattle.std.specs.Prelude.{◌||◌, cond}
 use Rattle.plane_terms.specs.Point.{Point}
 use Rattle.plane_terms.specs.Rectangle.{Rectangle, RectHolds, is_within, rects_meet, rect_of}
 use Rattle.plane_terms.specs.Dirt.{Covers, add_dirt, piece_if, pieces, add_all, cut_from, cut_dirt}
-use Rattle.sound_laws.proofs.Planes.{scaled_le, within_Holds, within_from_test, holds_or_not, le_or_lt}
+use Rattle.number_laws.proofs.Order.{scaled_le}
+use Rattle.sound_laws.proofs.Planes.{within_Holds, within_from_test, holds_or_not, le_or_lt}
 
 -- a list covers a point or not
 pub covers_or_not : (d : List Rectangle) (p : Point) → Covers d p ⊎ (Covers d p → ⊥)
@@ -34,9 +36,6 @@ Covers_right (r ∷ d) e p h = inr (Covers_right d e p h)
 pub Covers_append : (d e : List Rectangle) (p : Point) → Covers (d ++ e) p → Covers d p ⊎ Covers e p
 Covers_append [] e p h = inr h
 Covers_append (r ∷ d) e p h = elim h [ inl k ↦ inl (inl k) | inr k ↦ elim (Covers_append d e p k) [ inl m ↦ inl (inr m) | inr m ↦ inr m ] ]
-
-or_cases : (a b : Bool) → (a || b) ≡ true → (a ≡ true) ⊎ (b ≡ true)
-or_cases a b e = grind arith
 
 by_test : (b : Bool) (d e : List Rectangle) (p : Point) → (b ≡ true → Covers d p) → (b ≡ false → Covers e p) → Covers (if b then d else e) p
 by_test true d e p h k = h refl

@@ -1,9 +1,16 @@
 -- Features by handle: the laws of a list that ascends by a key, for `feature_at`.
-use Rattle.std.proofs.Common.{◌≡◌, ◌<◌, ℕ, Bool, true, false, List, ◌∷◌, Option, Some, None}
+use Rattle.std.proofs.Common.{◌≡◌, ◌<◌, ℕ, Bool, true, false, List, ◌∷◌, Option, Some, None, length, get_or}
 use Rattle.std.specs.Prelude.{cond, ◌==◌}
 use Rattle.std.specs.List.{filter}
+use Rattle.std.specs.List.{HoldsAt}
+use Rattle.std.specs.List.Sorted.{IsPartitionPoint, IsNonDecreasingBy}
+use Rattle.std.specs.Ordering.{MatchOrdering, ordering_index}
+use Rattle.std.specs.declared.cmp.Ordering.{Ordering}
+use Rattle.std.specs.declared.cmp.Ordering.TheVariants.{Less, Equal, Greater}
 use Rattle.plane_terms.specs.Lists.{Every}
 use Rattle.topology_terms.specs.Feature.{Feature, by_handle, feature_at, IsAscending}
+use Rattle.sound_laws.proofs.Searches as searches
+use Rattle.sound_laws.proofs.Searches.{order_of}
 use Rattle.sound_laws.proofs.Keyed as keyed
 use Rattle.sound_laws.proofs.Keyed.{AreKeys, numbers}
 pub use Rattle.sound_laws.proofs.Keyed.{passing}
@@ -74,3 +81,23 @@ each_live P F u n = keyed.each_found by_handle handles P F u n
 pub live_each : (P : Feature → Type 0) (F : List Feature) (h : ℕ) (f : Feature) → Every P F → feature_at F h ≡ Some f → P f
 unfolding feature_at
 live_each P F h f all e = keyed.every_found by_handle handles P F h f all e
+
+-- ---- a binary search by handle
+pub handle_order : ℕ → Feature → Ordering
+handle_order h f = order_of by_handle handles f.handle h
+
+pub ordered_as : (o : Ordering) (f : Feature) (h : ℕ) → MatchOrdering o (f.handle < h) (f.handle ≡ h) (h < f.handle) → o ≡ handle_order h f
+unfolding handle_order
+ordered_as o f h s = searches.ordered_as by_handle handles o f.handle h s
+
+pub rises : (F : List Feature) (h : ℕ) → IsAscending F → IsNonDecreasingBy (λ f. ordering_index (handle_order h f)) F
+unfolding handle_order
+rises F h u = searches.rises by_handle handles F h u
+
+pub found_there : (F : List Feature) (h i : ℕ) (f : Feature) → IsAscending F → i < length F → f ≡ get_or F i f → HoldsAt (λ x. handle_order h x ≡ Equal) F i → feature_at F h ≡ Some f
+unfolding handle_order feature_at
+found_there F h i f u l is o = searches.found_there by_handle handles F h i f u l is o
+
+pub not_there : (F : List Feature) (h i : ℕ) → IsPartitionPoint (λ f. handle_order h f ≡ Less) (λ f. handle_order h f ≡ Greater) F i → feature_at F h ≡ None
+unfolding handle_order feature_at
+not_there F h i p = searches.not_there by_handle handles F h i p

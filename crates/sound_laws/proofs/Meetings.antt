@@ -5,7 +5,7 @@ use Rattle.std.proofs.lemmas.Int.{ints, clamps}
 use Rattle.plane_terms.specs.Point.{Place, Point}
 use Rattle.plane_terms.specs.Rectangle.{Rectangle, RectHolds, RectsMeet, IsProper, rect_at, join_of, rects_meet}
 use Rattle.plane_terms.specs.Shape.{Shape, box_from, box_of_places, vertices_of, envelope_of}
-use Rattle.sound_laws.proofs.Planes.{le_from_scaled}
+use Rattle.number_laws.proofs.Order.{le_from_scaled}
 use Rattle.sound_laws.proofs.Pieces.{meeting}
 
 join_proper : (r s : Rectangle) → IsProper r → IsProper (join_of r s)

@@ -8,7 +8,7 @@ use Rattle.plane_terms.specs.Point.{Point}
 use Rattle.plane_terms.specs.Lists.{Every}
 use Rattle.plane_terms.specs.Rectangle.{Rectangle, RectHolds, is_within, rects_meet, rect_of}
 use Rattle.plane_terms.specs.Dirt.{Covers, add_dirt, piece_if, pieces, add_all, cut_from, cut_dirt, AreLoose, IsLoose}
-use Rattle.sound_laws.proofs.Planes.{scaled_le}
+use Rattle.number_laws.proofs.Order.{scaled_le}
 use Rattle.sound_laws.proofs.Dirts.{Covers_append}
 
 from_test : (b : Bool) (d e : List Rectangle) (p : Point) → Covers (if b then d else e) p → ((b ≡ true) × Covers d p) ⊎ ((b ≡ false) × Covers e p)

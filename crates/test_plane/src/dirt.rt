@@ -3,21 +3,20 @@ use crate::given::rect;
 use dirty_area::Dirt;
 use std::test::Fail;
 
-// The window's border stays dirty where the dirt goes on beyond it, and a copy keeps what there was.
+// The window's border stays dirty where the dirt goes on beyond it, and the dirt that was cut is as it was.
 #[test]
 fn the_windows_border_stays_dirty(rt: HostRuntime) -> Result<(), Fail> {
     let alloc = rt.alloc();
     let mut dirt = Dirt::new(alloc);
     dirt.add(rect(5, 5, 15, 15)?)?;
     dirt.add(rect(6, 6, 7, 7)?)?;
-    let before = dirt.try_copy(alloc)?;
     let window = rect(0, 0, 10, 20)?;
-    dirt.cut(alloc, &window)?;
-    assert_eq!(rt; before.len(), 1);
-    assert!(rt; before.meets(&rect(5, 5, 6, 6)?));
-    assert!(rt; !dirt.meets(&rect(0, 0, 9, 20)?));
-    assert!(rt; dirt.meets(&rect(0, 0, 10, 5)?));
-    assert!(rt; dirt.meets_part(&window, &rect(10, 15, 20, 20)?));
-    assert!(rt; !dirt.meets_part(&window, &rect(11, 15, 20, 20)?));
+    let left = dirt.cut(alloc, &window)?;
+    assert_eq!(rt; dirt.len(), 1);
+    assert!(rt; dirt.meets(&rect(5, 5, 6, 6)?));
+    assert!(rt; !left.meets(&rect(0, 0, 9, 20)?));
+    assert!(rt; left.meets(&rect(0, 0, 10, 5)?));
+    assert!(rt; left.meets_part(&window, &rect(10, 15, 20, 20)?));
+    assert!(rt; !left.meets_part(&window, &rect(11, 15, 20, 20)?));
     Ok(())
 }

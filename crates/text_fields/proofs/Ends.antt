@@ -27,8 +27,13 @@ end_taken text j some within =
     let below : j - 1 < length text = omega arith in
     ap (λ k. take k text) e ∙ take-suc text (j - 1) 0 below
 
-pub end_goes_on : (text : List ℕ) (j : ℕ) → 0 < j → j ≤ length text → is_blank (get_or text (j - 1) 0) ≡ true → skip_end_blanks (take j text) ≡ skip_end_blanks (take (j - 1) text)
-end_goes_on text j some within blank = ap skip_end_blanks (end_taken text j some within) ∙ end_blank (take (j - 1) text) (get_or text (j - 1) 0) blank
+pub end_goes_on : (text : List ℕ) (j : ℕ) → 0 < j → j ≤ length text → is_blank (get_or text (j - 1) 0) ≡ true
+    → skip_end_blanks (take j text) ≡ skip_end_blanks (take (j - 1) text)
+end_goes_on text j some within blank =
+    ap skip_end_blanks (end_taken text j some within) ∙ end_blank (take (j - 1) text) (get_or text (j - 1) 0) blank
 
-pub end_is_cut : (text : List ℕ) (j : ℕ) → 0 < j → j ≤ length text → is_blank (get_or text (j - 1) 0) ≡ false → skip_end_blanks (take j text) ≡ take j text
-end_is_cut text j some within plain = ap skip_end_blanks (end_taken text j some within) ∙ (end_plain (take (j - 1) text) (get_or text (j - 1) 0) plain ∙ sym (end_taken text j some within))
+pub end_is_cut : (text : List ℕ) (j : ℕ) → 0 < j → j ≤ length text → is_blank (get_or text (j - 1) 0) ≡ false
+    → skip_end_blanks (take j text) ≡ take j text
+end_is_cut text j some within plain =
+    ap skip_end_blanks (end_taken text j some within)
+    ∙ (end_plain (take (j - 1) text) (get_or text (j - 1) 0) plain ∙ sym (end_taken text j some within))

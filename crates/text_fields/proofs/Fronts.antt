@@ -5,26 +5,31 @@ use Rattle.std.proofs.Math.Seq.{drop-cons, take-suc}
 use Rattle.text_terms.specs.Numbers.{value_from}
 use Rattle.wkt_terms.specs.Runs.{front_of, behind}
 
-pub front_goes_on : (p : ℕ → Bool) (text : List ℕ) (i : ℕ) → i < length text → p (get_or text i 0) ≡ true → take i text ++ front_of p (drop i text) ≡ take (i + 1) text ++ front_of p (drop (i + 1) text)
-front_goes_on p text i below is = rw (add-one, drop-cons text i 0 below, take-suc text i 0 below) (over (take i text) (get_or text i 0) (drop (suc i) text) is)
+pub front_goes_on : (p : ℕ → Bool) (text : List ℕ) (i : ℕ) → i < length text → p (get_or text i 0) ≡ true
+    → take i text ++ front_of p (drop i text) ≡ take (i + 1) text ++ front_of p (drop (i + 1) text)
+front_goes_on p text i below is =
+    rw (add-one, drop-cons text i 0 below, take-suc text i 0 below) (over (take i text) (get_or text i 0) (drop (suc i) text) is)
   where
     over : (before : List ℕ) (b : ℕ) (bs : List ℕ) → p b ≡ true → before ++ front_of p (b ∷ bs) ≡ (before ++ b ∷ []) ++ front_of p bs
     over before b bs is = rw (is, append_assoc before (b ∷ []) (front_of p bs)) refl
 
-pub behind_goes_on : (p : ℕ → Bool) (text : List ℕ) (i : ℕ) → i < length text → p (get_or text i 0) ≡ true → behind p (drop i text) ≡ behind p (drop (i + 1) text)
+pub behind_goes_on : (p : ℕ → Bool) (text : List ℕ) (i : ℕ) → i < length text → p (get_or text i 0) ≡ true
+    → behind p (drop i text) ≡ behind p (drop (i + 1) text)
 behind_goes_on p text i below is = rw (add-one, drop-cons text i 0 below, is) refl
 
 pub front_stops : (p : ℕ → Bool) (text : List ℕ) (i : ℕ) → i < length text → p (get_or text i 0) ≡ false → front_of p (drop i text) ≡ []
 front_stops p text i below other = rw (drop-cons text i 0 below, other) refl
 
-pub behind_stops : (p : ℕ → Bool) (text : List ℕ) (i : ℕ) → i < length text → p (get_or text i 0) ≡ false → behind p (drop i text) ≡ drop i text
+pub behind_stops : (p : ℕ → Bool) (text : List ℕ) (i : ℕ) → i < length text → p (get_or text i 0) ≡ false
+    → behind p (drop i text) ≡ drop i text
 behind_stops p text i below other = rw (drop-cons text i 0 below, other) refl
 
 pub value_grows : (n : ℕ) (ds : List ℕ) → n ≤ value_from n ds
 value_grows n [] = omega arith
 value_grows n (d ∷ ds) = omega (arith, value_grows (n * 10 + (d - 48)) ds)
 
-pub value_goes_on : (n : ℕ) (text : List ℕ) (i : ℕ) → i < length text → value_from n (drop i text) ≡ value_from (n * 10 + (get_or text i 0 - 48)) (drop (i + 1) text)
+pub value_goes_on : (n : ℕ) (text : List ℕ) (i : ℕ) → i < length text
+    → value_from n (drop i text) ≡ value_from (n * 10 + (get_or text i 0 - 48)) (drop (i + 1) text)
 value_goes_on n text i below = rw (add-one, drop-cons text i 0 below) refl
 
 all_of_front : (p : ℕ → Bool) (text : List ℕ) → list_all p (front_of p text) ≡ true
@@ -53,11 +58,14 @@ Stops p [] = Unit {0}
 Stops p (b ∷ bs) = p b ≡ false
 
 -- bytes of a class, and then none of it, are the run
-pub front_whole : (p : ℕ → Bool) (xs rest : List ℕ) → list_all p xs ≡ true → Stops p rest → (front_of p (xs ++ rest) ≡ xs) × (behind p (xs ++ rest) ≡ rest)
+pub front_whole : (p : ℕ → Bool) (xs rest : List ℕ) → list_all p xs ≡ true → Stops p rest
+    → (front_of p (xs ++ rest) ≡ xs) × (behind p (xs ++ rest) ≡ rest)
 front_whole p [] [] h s = (refl, refl)
 front_whole p [] (b ∷ rest) h s = (rw s refl, rw s refl)
 front_whole p (x ∷ xs) rest h s = at (p x) refl h (λ k. front_whole p xs rest k s)
   where
-    at : (y : Bool) → p x ≡ y → (y && list_all p xs) ≡ true → (list_all p xs ≡ true → (front_of p (xs ++ rest) ≡ xs) × (behind p (xs ++ rest) ≡ rest)) → (front_of p ((x ∷ xs) ++ rest) ≡ x ∷ xs) × (behind p ((x ∷ xs) ++ rest) ≡ rest)
+    at : (y : Bool) → p x ≡ y → (y && list_all p xs) ≡ true
+        → (list_all p xs ≡ true → (front_of p (xs ++ rest) ≡ xs) × (behind p (xs ++ rest) ≡ rest))
+        → (front_of p ((x ∷ xs) ++ rest) ≡ x ∷ xs) × (behind p ((x ∷ xs) ++ rest) ≡ rest)
     at true e k more = let m = more k in (rw e (ap (λ t. x ∷ t) m.0), rw e m.1)
     at false e k more = absurd cc

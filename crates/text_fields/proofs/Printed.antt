@@ -25,11 +25,13 @@ no_fraction negative d ds =
     let k : ltb 1 (2 * length (d ∷ ds) + length {A = ℕ} []) ≡ true = grind (arith, nat_tests) in
     rw k refl
 
-digits_number : (negative : Bool) (ds : List ℕ) → list_all is_digit ds ≡ true → 0 < length ds → number_in negative (front_of is_digit ds) (behind is_digit ds) ≡ within_reach negative (value_of ds)
+digits_number : (negative : Bool) (ds : List ℕ) → list_all is_digit ds ≡ true → 0 < length ds
+    → number_in negative (front_of is_digit ds) (behind is_digit ds) ≡ within_reach negative (value_of ds)
 digits_number negative [] h some = absurd (omega arith)
 digits_number negative (d ∷ ds) h some =
     let w = whole_run is_digit (d ∷ ds) h in
-    ap (λ t. number_in negative t (behind is_digit (d ∷ ds))) w.0 ∙ (ap (λ t. number_in negative (d ∷ ds) t) w.1 ∙ no_fraction negative d ds)
+    ap (λ t. number_in negative t (behind is_digit (d ∷ ds))) w.0
+        ∙ (ap (λ t. number_in negative (d ∷ ds) t) w.1 ∙ no_fraction negative d ds)
 
 unsign : (ds : List ℕ) → list_all is_digit ds ≡ true → (unsigned ds ≡ ds) × (is_negative ds ≡ false)
 unsign [] h = (refl, refl)
@@ -47,11 +49,13 @@ pub printed : (z : ℤ) → InReach z → number_of (signed_decimal z) ≡ Whole
 printed (pos n) h =
     let le : n ≤ 4194304 = omega (arith, ints, h.high) in
     let wide : n < 2 ^ 64 = omega arith in
-    number_of_digits (decimal n) (digits_decimal own n wide) (decimal_nonempty n wide) ∙ (ap (within_reach false) (digits_value-decimal own n wide) ∙ in_reach false n le)
+    number_of_digits (decimal n) (digits_decimal own n wide) (decimal_nonempty n wide)
+        ∙ (ap (within_reach false) (digits_value-decimal own n wide) ∙ in_reach false n le)
 printed (negsuc n) h =
     let le : suc n ≤ 4194304 = omega (arith, ints, h.low) in
     let wide : suc n < 2 ^ 64 = omega arith in
-    digits_number true (decimal (suc n)) (digits_decimal own (suc n) wide) (decimal_nonempty (suc n) wide) ∙ (ap (within_reach true) (digits_value-decimal own (suc n) wide) ∙ in_reach true (suc n) le)
+    digits_number true (decimal (suc n)) (digits_decimal own (suc n) wide) (decimal_nonempty (suc n) wide)
+        ∙ (ap (within_reach true) (digits_value-decimal own (suc n) wide) ∙ in_reach true (suc n) le)
 
 -- ---- what is written of a number is one run of number bytes
 
@@ -59,7 +63,8 @@ digits_are : (ds : List ℕ) → list_all is_digit ds ≡ true → list_all is_n
 digits_are [] h = refl
 digits_are (d ∷ ds) h = at (is_digit d) refl h (λ k. digits_are ds k)
   where
-    at : (y : Bool) → is_digit d ≡ y → (y && list_all is_digit ds) ≡ true → (list_all is_digit ds ≡ true → list_all is_number_byte ds ≡ true) → list_all is_number_byte (d ∷ ds) ≡ true
+    at : (y : Bool) → is_digit d ≡ y → (y && list_all is_digit ds) ≡ true
+        → (list_all is_digit ds ≡ true → list_all is_number_byte ds ≡ true) → list_all is_number_byte (d ∷ ds) ≡ true
     at true e k more = rw (e, more k) refl
     at false e k more = absurd cc
 
@@ -68,8 +73,10 @@ pub record IsNumberText (text : List ℕ) : Type 0 where
   pub some : 0 < length text
 
 pub number_text : (z : ℤ) → InReach z → IsNumberText (signed_decimal z)
-number_text (pos n) h = let wide : n < 2 ^ 64 = omega (arith, ints, h.high) in record { all = digits_are (decimal n) (digits_decimal own n wide); some = decimal_nonempty n wide }
-number_text (negsuc n) h = let wide : suc n < 2 ^ 64 = omega (arith, ints, h.low) in record { all = digits_are (decimal (suc n)) (digits_decimal own (suc n) wide); some = omega arith }
+number_text (pos n) h = let wide : n < 2 ^ 64 = omega (arith, ints, h.high) in
+    record { all = digits_are (decimal n) (digits_decimal own n wide); some = decimal_nonempty n wide }
+number_text (negsuc n) h = let wide : suc n < 2 ^ 64 = omega (arith, ints, h.low) in
+    record { all = digits_are (decimal (suc n)) (digits_decimal own (suc n) wide); some = omega arith }
 
 pub number_byte : (b : ℕ) → is_number_byte b ≡ true → (is_blank b ≡ false) × (is_letter b ≡ false)
 number_byte b h = (grind (arith, nat_tests), grind (arith, nat_tests))

@@ -10,7 +10,7 @@ ghost use Rattle.feature_store.specs.Keeps.{IsOfClass, IsStore};
 ghost use Rattle.feature_store.specs.Faults.{store_cause};
 ghost use Rattle.topo_core.specs.Faults.{edit_cause, row_cause, IsThereAt};
 ghost use Rattle.topo_core.specs.Topologies.{IsTopology};
-ghost use Rattle.topo_core.specs.Steps.{IsCounted};
+ghost use Rattle.topo_core.specs.Steps.{IsCounted, IsCountWithin};
 
 use crate::fault::ChangeFault;
 use crate::fitting::fit;
@@ -261,6 +261,7 @@ impl<R: KindRules> Topology<R> {
     pub fn validate(&mut self, window: Rect, work: &mut Work) -> Result<Summary, NoMemory>
         ensures ok { OnOk result (IsValidatedBy R.meaning window self.old self.new) }
         ensures judged { OnOk result (IsCounted window self.old work.old work.new) }
+        ensures stopped { OnErr result (IsCountWithin window self.old work.old work.new) }
         ensures summary { IfOk result (λ s. (s.judged ≡ work.new - work.old) × (s.errors ≡ length self.new.entries) × (s.dirty ≡ length self.new.dirt)) }
         ensures sound { IsSoundUnder R.meaning self.old → IsSoundUnder R.meaning self.new }
         ensures settled { IsSettledUnder R.meaning self.old → IsSettledUnder R.meaning self.new }

@@ -1,7 +1,6 @@
 -- Elements of lists, by place.
-use Rattle.std.proofs.Common.{◌≡◌, ℕ, ◌<◌, zero, suc, Bool, true, false, List, [], ◌∷◌, Some, sym, arith, take, length, get_or, cond, subst}
+use Rattle.std.proofs.Common.{◌≡◌, ℕ, ◌<◌, zero, suc, List, [], ◌∷◌, Some, sym, arith, take, length, get_or, subst}
 use Rattle.std.specs.Prelude.{slice_get, All}
-use Rattle.std.specs.List.{filter}
 use Rattle.std.specs.List.Sorted.{IsStrictlyIncreasing}
 use Rattle.std.proofs.lemmas.List.{get_or-take, length-take}
 use Rattle.std.proofs.lemmas.List.Elements.{All-from_get_or}
@@ -30,11 +29,3 @@ pub every_before : (F : List Feature) (i : ℕ) (f : Feature) → IsAscending F 
 every_before [] i f u l e = absurd (omega arith)
 every_before (g ∷ F) zero f u l e = tt
 every_before (g ∷ F) (suc i) f u l e = (every_at (λ (x : Feature). g.handle < x.handle) F i f u.0 (omega arith) e, every_before F i f u.1 (omega arith) e)
-
-pub every_kept : {A : Type 0} (P : A → Type 0) (test : A → Bool) (xs : List A) → Every P xs → Every P (filter test xs)
-every_kept P test [] h = tt
-every_kept {A} P test (x ∷ xs) h = pick (test x) (every_kept P test xs h.1)
-  where
-    pick : (b : Bool) → Every P (filter test xs) → Every P (cond b (x ∷ filter test xs) (filter test xs))
-    pick true k = (h.0, k)
-    pick false k = k

@@ -3,6 +3,5 @@ mod Filters
 mod Spots
 mod Nearby
 mod Dirtied
-mod Lookups
 mod CellFrames
 mod Settled

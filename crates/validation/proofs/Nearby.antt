@@ -15,7 +15,7 @@ use Rattle.std.proofs.lemmas.Grind.{flat_map-append}
 use Rattle.plane_terms.specs.Lists.{Every, SomeOf, IsThose}
 use Rattle.plane_terms.specs.Rectangle.{Rectangle, rects_meet, is_within, join_of}
 use Rattle.topology_terms.specs.Feature.{Feature, feature_at, env, IsAscending}
-use Rattle.sound_laws.proofs.FeatureLists.{at_handle, past_handle, handle_of}
+use Rattle.sound_laws.proofs.FeatureLists.{each_live, handle_of}
 use Rattle.validation_laws.specs.Parts.{live_of}
 use Rattle.validation_laws.specs.Views.{IsView}
 use Rattle.validation_laws.proofs.Handles.{IsAmong, among, contained, rising}
@@ -96,19 +96,8 @@ feature_spot r [] a h = absurd h
 feature_spot r (f ∷ F) a h = elim h [ inl k ↦ inl k | inr k ↦ inr (feature_spot r F a k) ]
 
 -- each feature of an ascending list is looked up under its own handle
-later_live : (f : Feature) (F xs : List Feature) → Every (λ (g : Feature). f.handle < g.handle) xs → Every (λ (g : Feature). feature_at F g.handle ≡ Some g) xs → Every (λ (g : Feature). feature_at (f ∷ F) g.handle ≡ Some g) xs
-later_live f F [] u v = tt
-later_live f F (g ∷ xs) u v = (past_handle f F g.handle (other f.handle g.handle u.0) ∙ v.0, later_live f F xs u.1 v.1)
-  where
-    other : (m n : ℕ) → m < n → (m == n) ≡ false
-    other m n l = grind (arith, nat_tests)
-
-each_live : (F : List Feature) → IsAscending F → Every (λ (f : Feature). feature_at F f.handle ≡ Some f) F
-each_live [] u = tt
-each_live (f ∷ F) u = (at_handle f F f.handle (own f.handle), later_live f F F u.0 (each_live F u.1))
-  where
-    own : (m : ℕ) → (m == m) ≡ true
-    own m = grind (arith, nat_tests)
+found_own : (F : List Feature) → IsAscending F → Every (λ (f : Feature). feature_at F f.handle ≡ Some f) F
+found_own F u = each_live (λ (f : Feature). feature_at F f.handle ≡ Some f) F u (λ h f e. subst (λ n. feature_at F n ≡ Some f) (sym (handle_of F h f e)) e)
 
 those_passing : (Q : Feature → Type 0) (test : Feature → Bool) (xs V : List Feature) → Every (λ (f : Feature). Q f ↔ (test f ≡ true)) xs → IsThose Q xs V → V ≡ filter test xs
 those_passing Q test [] V u h = h
@@ -182,7 +171,7 @@ view_near F V f box ss handles u moved w v near is =
       (λ h. kept_from box r F a (spot_feature r G a (some_moved (λ (s : Spot). (s.handle ≡ a) × (meets_spot r s ≡ true)) ss (map spot_of G) (IsPermutation-sym (map spot_of G) ss moved) ((near a).0 h)))),
       (λ h. (near a).1 (some_moved (λ (s : Spot). (s.handle ≡ a) × (meets_spot r s ≡ true)) (map spot_of G) ss moved (feature_spot r G a (kept_in box r F a w h)))),
     )) in
-    view_filtered F V f u (is ∙ those_passing (λ (g : Feature). P g.handle) test F (live_of F handles) (told_by r F F u (each_live F u)) those)
+    view_filtered F V f u (is ∙ those_passing (λ (g : Feature). P g.handle) test F (live_of F handles) (told_by r F F u (found_own F u)) those)
 
 -- ---- the reach
 pub own_part : (r : Rectangle) → is_within r r ≡ true

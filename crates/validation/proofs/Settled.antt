@@ -1,18 +1,18 @@
 -- A validation, from its selection, its new entries, its replacement and its cut.
-use Rattle.std.proofs.Common.{◌≡◌, ◌≢◌, ◌↔◌, ◌⊎◌, ℕ, ◌<◌, true, false, arith, List, [], ◌∷◌, Some, None, refl, Contains, inl, inr}
-use Rattle.std.specs.Prelude.{◌==◌}
-use Rattle.std.proofs.lemmas.Bool.Decides.{eqb_tells}
-use Rattle.plane_terms.specs.Lists.{Every, IsThose}
+use Rattle.std.proofs.Common.{◌≡◌, ◌↔◌, ℕ, ◌≤◌, List, refl, subst, arith, Contains, Result, Ok, Err}
+use Rattle.std.specs.Prelude.{OnErr}
+use Rattle.plane_terms.specs.Lists.{IsThose}
+use Rattle.plane_terms.proofs.ListLemmas.{those_one}
 use Rattle.plane_terms.specs.Rectangle.{Rectangle}
 use Rattle.plane_terms.specs.Dirt.{cut_dirt}
 use Rattle.topology_terms.specs.Feature.{Feature, IsAscending}
-use Rattle.topology_terms.specs.Broken.{Row}
 use Rattle.topology_terms.specs.Meaning.{Meaning}
 use Rattle.topology_terms.specs.Entry.{Entry}
-use Rattle.topology_terms.specs.Project.{Project, InForce, AreAscending, rule_at}
+use Rattle.topology_terms.specs.Project.{Project, InForce, AreAscending}
 use Rattle.topology_terms.specs.Changes.{IsSelected}
 use Rattle.topology_terms.specs.Settled.{IsValidatedBy}
 use Rattle.validation_laws.specs.Parts.{IsRising, IsJudging, live_of}
+use Rattle.topology_terms.specs.Counts.{raised, judged_of}
 use Rattle.validation_laws.specs.Replaced.{IsReplaced}
 use Rattle.validation_laws.proofs.Validating.{validated_by_parts}
 use Rattle.validation_laws.proofs.Counting.{live_those}
@@ -28,3 +28,18 @@ validated M w p rules F d new es after fresh selected h v u chosen judging repla
 pub selected_live : (w : Rectangle) (p : Project) (F : List Feature) (selected : List ℕ) → IsAscending F → IsRising selected → ((a : ℕ) → Contains selected a ↔ IsSelected p w a)
     → IsThose (λ (f : Feature). IsSelected p w f.handle) F (live_of F selected)
 selected_live w p F selected u v chosen = live_those (λ a. IsSelected p w a) F selected u v chosen
+
+-- no more are judged than are selected
+pub judged_upto : (w : Rectangle) (p : Project) (rules : List InForce) (F : List Feature) (selected : List ℕ) (old done : ℕ) → IsAscending F → IsRising selected → ((a : ℕ) → Contains selected a ↔ IsSelected p w a)
+    → done ≤ raised old (judged_of rules (live_of F selected)) → (fs : List Feature) → IsThose (λ (f : Feature). IsSelected p w f.handle) F fs → done ≤ raised old (judged_of rules fs)
+judged_upto w p rules F selected old done u v chosen l fs those =
+    let one = those_one (λ (f : Feature). IsSelected p w f.handle) F (live_of F selected) fs (selected_live w p F selected u v chosen) those in
+    subst (λ gs. done ≤ raised old (judged_of rules gs)) one l
+
+pub le_of_eq : (m n : ℕ) → m ≡ n → m ≤ n
+le_of_eq m n e = omega arith
+
+-- what holds is a clause of every refusal
+pub on_err : {A E : Type 0} (r : Result A E) (P : Type 0) → P → OnErr r P
+on_err (Ok x) P p = tt
+on_err (Err e) P p = p

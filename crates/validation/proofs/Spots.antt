@@ -4,6 +4,7 @@ use Rattle.std.specs.Prelude.{int_lt, int_le}
 use Rattle.std.specs.List.{filter, AllWithin}
 use Rattle.std.specs.List.Sorted.{IsPartitionedBy, IsPartitionPoint}
 use Rattle.std.specs.Ordering.{int_cmp, is_lt}
+use Rattle.std.proofs.lemmas.Bool.{cases_lt}
 use Rattle.std.proofs.lemmas.Int.{ints}
 use Rattle.std.proofs.lemmas.Cmp.{int_cmp_total}
 use Rattle.std.proofs.lemmas.List.{get_or_default}
@@ -55,16 +56,13 @@ between r w least greatest ss i k p q el eg n b =
     ∙ filter_back (meets_spot r) ss i b (λ j d l h. too_far_west r (get_or ss j d).env w (n j d (omega arith)) (rw el at (p.0 j d l h)))
 
 -- ---- how wide the widest is, one spot more
-below_or_last : (k i : ℕ) → k < i + 1 → (k < i) ⊎ (k ≡ i)
-below_or_last k i l = grind arith
-
 no_narrower : (a b v w : ℤ) → a ≤ℤ (b +ℤ v) → v ≤ℤ w → a ≤ℤ (b +ℤ w)
 no_narrower a b v w h l = omega (arith, ints)
 
 wider : (ss : List Spot) (i : ℕ) (s : Spot) (v w : ℤ) → i < length ss → s ≡ get_or ss i s → AllWithin (IsUpTo v) ss 0 i → v ≤ℤ w → IsUpTo w s → AllWithin (IsUpTo w) ss 0 (i + 1)
-wider ss i s v w l is h m u = λ k d low below. elim (below_or_last k i below) [
+wider ss i s v w l is h m u = λ k d low below. elim (cases_lt k i) [
   | inl q ↦ no_narrower (get_or ss k d).env.x1 (get_or ss k d).env.x0 v w (h k d low q) m
-  | inr e ↦ rw (e, get_or_default ss i d s l) (rw is at u)
+  | inr q ↦ let e : k ≡ i = omega arith in rw (e, get_or_default ss i d s l) (rw is at u)
 ]
 
 less : (a b : ℤ) → is_lt (int_cmp a b) ≡ true → a ≤ℤ b

@@ -1,4 +1,4 @@
-ghost use Rattle.std.specs.Prelude.{◌≡◌, ◌++◌, [], ◌∷◌, List, true, false, Some, IfOk, OnOk};
+ghost use Rattle.std.specs.Prelude.{◌≡◌, ◌≤◌, ◌++◌, [], ◌∷◌, List, true, false, Some, IfOk, OnOk, OnErr};
 ghost use Rattle.std.specs.Option.{option_to_list};
 ghost use Rattle.plane_terms.specs.Lists.{Every, Paired, how_many};
 ghost use Rattle.plane_terms.specs.Cell.{IsLeastFrame};
@@ -74,6 +74,7 @@ fn judge_live<R: RuleSet>(
     requires fits { R.meaning.Fits rule.now.row features.now }
     ensures part { OnOk result ((es : List terms.Entry) × (out.new.items ≡ out.old.items ++ es) × IsSubjectPart R.meaning features.now rule.now.number rule.now.row f.now.handle es) }
     ensures judged { OnOk result (work.new ≡ raised work.old (how_many (judged rule.now.row) (f.now ∷ []))) }
+    ensures stopped { OnErr result (work.new ≤ raised work.old (how_many (judged rule.now.row) (f.now ∷ []))) }
 {
     f.shape().env().corner_law();
     if !rule.row.judges(f.class()) {
@@ -97,6 +98,7 @@ fn judge_subject<R: RuleSet>(
     requires fits { R.meaning.Fits rule.now.row features.now }
     ensures part { OnOk result ((es : List terms.Entry) × (out.new.items ≡ out.old.items ++ es) × IsSubjectPart R.meaning features.now rule.now.number rule.now.row subject es) }
     ensures judged { OnOk result (work.new ≡ raised work.old (how_many (judged rule.now.row) (option_to_list (feature_at features.now subject)))) }
+    ensures stopped { OnErr result (work.new ≤ raised work.old (how_many (judged rule.now.row) (option_to_list (feature_at features.now subject)))) }
 {
     match features.find(subject) {
         Some(f) => judge_live(rules, alloc, rule, features, f, out, work),
@@ -117,6 +119,7 @@ fn judge_rule<R: RuleSet>(
     requires fits { R.meaning.Fits rule.now.row features.now }
     ensures part { OnOk result ((es : List terms.Entry) × (out.new.items ≡ out.old.items ++ es) × IsRulePart R.meaning features.now selected.now rule.now es) }
     ensures judged { OnOk result (work.new ≡ raised work.old (how_many (judged rule.now.row) (live_of features.now selected.now))) }
+    ensures stopped { OnErr result (work.new ≤ raised work.old (how_many (judged rule.now.row) (live_of features.now selected.now))) }
 {
     for i in 0..selected.len() {
         judge_subject(rules, alloc, rule, features, selected.at(i), out, work)?;
@@ -138,6 +141,7 @@ pub fn judge_all<R: RuleSet>(
     requires fits { Every (λ (q : projects.InForce). R.meaning.Fits q.row features.now) in_force.now }
     ensures part { OnOk result ((es : List terms.Entry) × (out.new.items ≡ out.old.items ++ es) × IsJudging R.meaning features.now in_force.now selected.now es) }
     ensures judged { OnOk result (work.new ≡ raised work.old (judged_of in_force.now (live_of features.now selected.now))) }
+    ensures stopped { OnErr result (work.new ≤ raised work.old (judged_of in_force.now (live_of features.now selected.now))) }
 {
     for rule in in_force {
         judge_rule(rules, alloc, rule, features, selected, out, work)?;

@@ -1,4 +1,4 @@
-ghost use Rattle.std.specs.Prelude.{◌≡◌, ℕ, List, [], Some, IfOk, OnOk, OnErr};
+ghost use Rattle.std.specs.Prelude.{◌≡◌, ◌≤◌, ℕ, List, [], Some, IfOk, OnOk, OnErr};
 ghost use Rattle.plane_terms.specs.Lists.{IsThose};
 ghost use Rattle.topology_terms.specs.Feature.{IsAscending};
 ghost use Rattle.topology_terms.specs.Feature as features_of;
@@ -39,6 +39,7 @@ fn rejudge<R: RuleSet>(
     ensures judging { IfOk result (λ es. IsJudging R.meaning features.now in_force.now selected.now es.items) }
     ensures ascending { IfOk result (λ es. entries_of.IsAscending es.items) }
     ensures judged { IfOk result (λ _. work.new ≡ raised work.old (judged_of in_force.now (live_of features.now selected.now))) }
+    ensures stopped { OnErr result (work.new ≤ raised work.old (judged_of in_force.now (live_of features.now selected.now))) }
 {
     let reach = reach_of(features, selected, window);
     let indexed = FeatureIndex::of(alloc, features, reach)?;
@@ -51,7 +52,8 @@ fn rejudge<R: RuleSet>(
 /// the entries of the selected subjects give way to the findings, and the window is cut out of the dirt.
 ///
 /// The count of judgements rises by exactly the number of pairs of a rule in force and a selected feature that it judges.
-/// After an `Err`, want of memory, errors and dirt are as they were: all growth comes before the first change.
+/// After an `Err`, out of memory, it has risen by no more, and errors and dirt are as they were: all growth comes before the
+/// first change.
 pub fn validate<R: RuleSet>(
     rules: &R,
     alloc: Global,
@@ -70,14 +72,14 @@ pub fn validate<R: RuleSet>(
     ensures sound { OnOk result ((p : Project) → HasParts p in_force.now features.now dirt.old errors.old → IsProject R.meaning p → IsSoundUnder R.meaning p → IsSoundUnder R.meaning (with_parts p dirt.new errors.new)) }
     ensures settled { OnOk result ((p : Project) → HasParts p in_force.now features.now dirt.old errors.old → IsProject R.meaning p → IsSettledUnder R.meaning p → IsSettledUnder R.meaning (with_parts p dirt.new errors.new)) }
     ensures judged { OnOk result ((p : Project) → HasParts p in_force.now features.now dirt.old errors.old → (fs : List features_of.Feature) × IsThose (λ (f : features_of.Feature). IsSelected p window.now f.handle) features.now fs × (work.new ≡ raised work.old (judged_of in_force.now fs))) }
+    ensures stopped { OnErr result ((p : Project) → HasParts p in_force.now features.now dirt.old errors.old → (fs : List features_of.Feature) → IsThose (λ (f : features_of.Feature). IsSelected p window.now f.handle) features.now fs → work.new ≤ raised work.old (judged_of in_force.now fs)) }
     ensures ordered { OnOk result (entries_of.IsAscending errors.new) }
     ensures errors_kept { OnErr result (errors.new ≡ errors.old) }
     ensures dirt_kept { OnErr result (dirt.new ≡ dirt.old) }
 {
     let selected = select(alloc, features, errors, dirt, window)?;
     let fresh = rejudge(rules, alloc, in_force, features, &selected, window, work)?;
-    let mut left = dirt.try_copy(alloc)?;
-    left.cut(alloc, window)?;
+    let left = dirt.cut(alloc, window)?;
     errors.replace(alloc, &selected, fresh)?;
     *dirt = left;
     Ok(())

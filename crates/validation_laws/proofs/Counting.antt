@@ -1,12 +1,12 @@
 -- The live features among selected handles, and how many of them rules judge.
-use Rattle.std.proofs.Common.{◌≡◌, ◌≢◌, ◌↔◌, ◌⊎◌, inl, inr, ℕ, ◌<◌, ◌+◌, suc, Bool, true, false, List, [], ◌∷◌, ◌++◌, Option, Some, None, refl, sym, ◌∙◌, ap, arith, take, length, get_or, Contains, cond}
+use Rattle.std.proofs.Common.{◌≡◌, ◌≢◌, ◌↔◌, ◌⊎◌, inl, inr, ℕ, ◌<◌, ◌≤◌, ◌+◌, suc, Bool, true, false, List, [], ◌∷◌, ◌++◌, Option, Some, None, refl, sym, ◌∙◌, ap, arith, drop, take, length, get_or, Contains, cond}
 use Rattle.std.specs.Prelude.{◌==◌}
 use Rattle.std.specs.Option.{option_to_list}
 use Rattle.std.specs.List.{sum_by}
 use Rattle.std.proofs.lemmas.Bool.Decides.{eqb_tells}
 use Rattle.std.proofs.lemmas.Bool.{eq-eqb, ne_eqb}
-use Rattle.std.proofs.lemmas.List.{take_more}
-use Rattle.std.proofs.lemmas.List.Sums.{sum_by_more}
+use Rattle.std.proofs.lemmas.List.{take_more, take-append-drop}
+use Rattle.std.proofs.lemmas.List.Sums.{sum_by_more, sum_by-take-le}
 use Rattle.std.proofs.lemmas.Grind.{flat_map-append}
 use Rattle.plane_terms.specs.Lists.{Every, IsThose, how_many}
 use Rattle.plane_terms.proofs.ListLemmas.{every_map}
@@ -55,6 +55,38 @@ judged_rule_more fs rules i rule before work new l e h k =
     let count : InForce → ℕ = λ (q : InForce). how_many (judged q.row) fs in
     let more : judged_of (take (i + 1) rules) fs ≡ judged_of (take i rules) fs + count rule = sum_by_more count rules i rule l ∙ ap (λ q. sum_by count (take i rules) + count q) (sym e) in
     rw more (k ∙ (ap (λ y. raised y (count rule)) h ∙ raised_more before (judged_of (take i rules) fs) (count rule)))
+
+-- ---- where memory runs out on the way
+pub raised_upto : (n j k : ℕ) → j ≤ k → raised n j ≤ raised n k
+raised_upto n j k l = omega arith
+
+pub not_raised : (n k : ℕ) → n ≤ raised n k
+not_raised n k = omega arith
+
+-- the subjects so far are no more than all
+live_front : (test : Feature → Bool) (F : List Feature) (selected : List ℕ) (i : ℕ) → how_many test (live_of F (take i selected)) ≤ how_many test (live_of F selected)
+live_front test F selected i =
+    let one : ℕ → List Feature = λ n. option_to_list (feature_at F n) in
+    let whole : live_of F selected ≡ live_of F (take i selected) ++ live_of F (drop i selected) = ap (live_of F) (sym (take-append-drop i selected)) ∙ flat_map-append one (take i selected) (drop i selected) in
+    let sum = how_many_joined test (live_of F (take i selected)) (live_of F (drop i selected)) in
+    rw (whole, sum) (omega arith)
+
+-- at this subject
+pub judged_within : (row : Row) (F : List Feature) (selected : List ℕ) (i a before work new : ℕ) → i < length selected → a ≡ get_or selected i a
+    → work ≡ raised before (how_many (judged row) (live_of F (take i selected))) → new ≤ raised work (how_many (judged row) (option_to_list (feature_at F a)))
+    → new ≤ raised before (how_many (judged row) (live_of F selected))
+judged_within row F selected i a before work new l e h k =
+    let more = judged_more row F selected i a before work (raised work (how_many (judged row) (option_to_list (feature_at F a)))) l e h refl in
+    let upto = raised_upto before (how_many (judged row) (live_of F (take (i + 1) selected))) (how_many (judged row) (live_of F selected)) (live_front (judged row) F selected (i + 1)) in
+    omega (arith, k, more, upto)
+
+-- under this rule
+pub judged_rule_within : (fs : List Feature) (rules : List InForce) (i : ℕ) (rule : InForce) (before work new : ℕ) → i < length rules → rule ≡ get_or rules i rule
+    → work ≡ raised before (judged_of (take i rules) fs) → new ≤ raised work (how_many (judged rule.row) fs) → new ≤ raised before (judged_of rules fs)
+judged_rule_within fs rules i rule before work new l e h k =
+    let more = judged_rule_more fs rules i rule before work (raised work (how_many (judged rule.row) fs)) l e h refl in
+    let upto = raised_upto before (judged_of (take (i + 1) rules) fs) (judged_of rules fs) (sum_by-take-le (λ (q : InForce). how_many (judged q.row) fs) rules (i + 1)) in
+    omega (arith, k, more, upto)
 
 -- ---- the live features are those whose handle is selected
 past_one : (o : Option Feature) (rest : List Feature) (h n : ℕ) → ((f : Feature) → o ≡ Some f → f.handle ≡ n) → n ≢ h → feature_at (option_to_list o ++ rest) h ≡ feature_at rest h

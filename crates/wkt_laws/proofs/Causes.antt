@@ -41,14 +41,16 @@ plain front t no_one other = (no_one, (λ h. other number.OffGrid h.0), (λ h. o
 named : (front : List Token) (w : Word) → (front ≡ [] → ⊥) → (w ≡ Modifier → Wants front Open → ⊥) → IsCause front (Named w) IsSyntax
 named front w some other = plain front (Named w) (λ h. elim h [ inl e ↦ some e | inr k ↦ other k.0 k.1 ]) (λ n e. cc)
 
-numeral : (front : List Token) (n : Number) → (EndsInNumber front → Wants front Close → ⊥) → (Wants front zero_number → ⊥) → IsCause front (Numeral n) IsSyntax
+numeral : (front : List Token) (n : Number) → (EndsInNumber front → Wants front Close → ⊥) → (Wants front zero_number → ⊥)
+    → IsCause front (Numeral n) IsSyntax
 numeral front n third first = ((λ h. third h.0 h.1), (λ h. first h.1), (λ h. first h.1))
 
 no_number : (front : List Token) → (EndsInNumber front → Wants front Close → ⊥) → IsCause front (Numeral number.NoNumber) IsSyntax
 no_number front third = ((λ h. third h.0 h.1), (λ h. let e = h.0 in cc), (λ h. let e = h.0 in cc))
 
 -- a state that wants neither an opening bracket nor a number, and behind which no third number comes
-others : (front : List Token) (t : Token) → (front ≡ [] → ⊥) → (Wants front Open → ⊥) → (Wants front zero_number → ⊥) → (EndsInNumber front → Wants front Close → ⊥) → IsCause front t IsSyntax
+others : (front : List Token) (t : Token) → (front ≡ [] → ⊥) → (Wants front Open → ⊥) → (Wants front zero_number → ⊥)
+    → (EndsInNumber front → Wants front Close → ⊥) → IsCause front t IsSyntax
 others front Open some opens first third = plain front Open (λ h. h) (λ n e. cc)
 others front Close some opens first third = plain front Close (λ h. h) (λ n e. cc)
 others front Comma some opens first third = plain front Comma (λ h. h) (λ n e. cc)
@@ -57,7 +59,8 @@ others front End some opens first third = plain front End (λ h. h) (λ n e. cc)
 others front (Named w) some opens first third = named front w some (λ e. opens)
 others front (Numeral n) some opens first third = numeral front n third first
 
-bracket : (front : List Token) (s then : State) → ((t : Token) → step s t ≡ at_open then t) → (front ≡ [] → ⊥) → At front s → (t : Token) → CauseOk front t (at_open then t)
+bracket : (front : List Token) (s then : State) → ((t : Token) → step s t ≡ at_open then t) → (front ≡ [] → ⊥) → At front s → (t : Token)
+    → CauseOk front t (at_open then t)
 bracket front s then is some a Open = tt
 bracket front s then is some a Close = plain front Close (λ h. h) (λ n e. cc)
 bracket front s then is some a Comma = plain front Comma (λ h. h) (λ n e. cc)
@@ -70,7 +73,8 @@ bracket front s then is some a (Named MultiLineString) = named front MultiLineSt
 bracket front s then is some a (Named Polygon) = named front Polygon some (λ e. absurd cc)
 bracket front s then is some a (Named MultiPolygon) = named front MultiPolygon some (λ e. absurd cc)
 bracket front s then is some a (Named Strange) = named front Strange some (λ e. absurd cc)
-bracket front s then is some a (Numeral n) = numeral front n (λ k. refused front s Close IsSyntax a (is Close)) (refused front s zero_number IsSyntax a (is zero_number))
+bracket front s then is some a (Numeral n) =
+    numeral front n (λ k. refused front s Close IsSyntax a (is Close)) (refused front s zero_number IsSyntax a (is zero_number))
 
 led : (group : Group) (more : List Token) → lead group ++ more ≡ [] → ⊥
 led OfLines more e = cc
@@ -80,7 +84,8 @@ led (OfPart parts) more e = cc
 headed : (owner : Owner) (more : List Token) → head owner ++ more ≡ [] → ⊥
 headed OfPoint more e = cc
 headed OfLine more e = cc
-headed (OneOf group pss) more e = led group ((Open ∷ before_next list pss) ++ more) (sym (append_assoc (lead group) (Open ∷ before_next list pss) more) ∙ e)
+headed (OneOf group pss) more e =
+    led group ((Open ∷ before_next list pss) ++ more) (sym (append_assoc (lead group) (Open ∷ before_next list pss) more) ∙ e)
 
 -- the last of a text
 last_is : (xs ys : List Token) (a b : Token) → xs ++ a ∷ [] ≡ ys ++ b ∷ [] → a ≡ b
@@ -91,20 +96,23 @@ last_is (x ∷ []) [] a b e = absurd cc
 last_is (x ∷ z ∷ xs) [] a b e = absurd cc
 last_is (x ∷ xs) (y ∷ ys) a b e = last_is xs ys a b cc
 
-ends_with : {A : Type 0} (f : A → List Token) (last : A → List Token) (t : A → Token) → ((x : A) → f x ≡ last x ++ t x ∷ []) → (xs : List A) → IsSome xs → (before : List Token) × (x : A) × (items f xs ≡ before ++ t x ∷ [])
+ends_with : {A : Type 0} (f : A → List Token) (last : A → List Token) (t : A → Token) → ((x : A) → f x ≡ last x ++ t x ∷ []) → (xs : List A)
+    → IsSome xs → (before : List Token) × (x : A) × (items f xs ≡ before ++ t x ∷ [])
 ends_with f last t is [] some = absurd some
 ends_with f last t is (x ∷ []) some = (last x, x, append-nil (f x) ∙ is x)
 ends_with f last t is (x ∷ y ∷ ys) some =
     let r = ends_with f last t is (y ∷ ys) tt in
     (f x ++ Comma ∷ r.0, r.1, ap (λ u. f x ++ Comma ∷ u) r.2 ∙ sym (append_assoc (f x) (Comma ∷ r.0) (t r.1 ∷ [])))
 
-position_ends : (ps : List Place) → IsSome ps → (before : List Token) × (p : Place) × (items position ps ≡ before ++ Numeral (number.Whole p.y) ∷ [])
+position_ends : (ps : List Place) → IsSome ps
+    → (before : List Token) × (p : Place) × (items position ps ≡ before ++ Numeral (number.Whole p.y) ∷ [])
 position_ends ps some = ends_with position (λ p. Numeral (number.Whole p.x) ∷ []) (λ p. Numeral (number.Whole p.y)) (λ p. refl) ps some
 
 list_ends : (pss : List (List Place)) → IsSome pss → (before : List Token) × (r : List Place) × (items list pss ≡ before ++ Close ∷ [])
 list_ends pss some = ends_with list (λ ps. Open ∷ items position ps) (λ ps. Close) (λ ps. refl) pss some
 
-lists_end : (parts : List (List (List Place))) → IsSome parts → (before : List Token) × (r : List (List Place)) × (items lists parts ≡ before ++ Close ∷ [])
+lists_end : (parts : List (List (List Place))) → IsSome parts
+    → (before : List Token) × (r : List (List Place)) × (items lists parts ≡ before ++ Close ∷ [])
 lists_end parts some = ends_with lists (λ pss. Open ∷ items list pss) (λ pss. Close) (λ pss. refl) parts some
 
 some_positions : (owner : Owner) (ps : List Place) → Closes owner ps → IsSome ps
@@ -116,7 +124,8 @@ some_positions (OneOf group pss) ps h = h.1
 after_number : (front : List Token) (owner : Owner) (ps : List Place) → At front (AfterPosition owner ps) → EndsInNumber front
 after_number front owner ps a =
     let r = position_ends ps (some_positions owner ps a.holds) in
-    (head owner ++ Open ∷ r.0, r.1.y, sym a.text ∙ (ap (λ u. head owner ++ Open ∷ u) r.2 ∙ sym (append_assoc (head owner) (Open ∷ r.0) (Numeral (number.Whole r.1.y) ∷ []))))
+    (head owner ++ Open ∷ r.0, r.1.y, sym a.text
+        ∙ (ap (λ u. head owner ++ Open ∷ u) r.2 ∙ sym (append_assoc (head owner) (Open ∷ r.0) (Numeral (number.Whole r.1.y) ∷ []))))
 
 -- what ends in a closing bracket ends in no number
 closing : (front before : List Token) → before ++ Close ∷ [] ≡ front → EndsInNumber front → ⊥
@@ -127,7 +136,8 @@ closing front before e n =
 after_list : (front : List Token) (group : Group) (pss : List (List Place)) → At front (AfterList group pss) → EndsInNumber front → ⊥
 after_list front group pss a =
     let r = list_ends pss a.holds.1.0 in
-    closing front (lead group ++ Open ∷ r.0) (append_assoc (lead group) (Open ∷ r.0) (Close ∷ []) ∙ (ap (λ u. lead group ++ Open ∷ u) (sym r.2) ∙ a.text))
+    closing front (lead group ++ Open ∷ r.0) (append_assoc (lead group) (Open ∷ r.0) (Close ∷ [])
+        ∙ (ap (λ u. lead group ++ Open ∷ u) (sym r.2) ∙ a.text))
 
 after_part : (front : List Token) (parts : List (List (List Place))) → At front (AfterPart parts) → EndsInNumber front → ⊥
 after_part front parts a =
@@ -149,20 +159,27 @@ caused front Start (Named Polygon) a = tt
 caused front Start (Named MultiPolygon) a = tt
 caused front Start (Named Modifier) a = inl (sym a.text)
 caused front Start (Named Strange) a = inl (sym a.text)
-caused front Start (Numeral n) a = numeral front n (λ k. refused front Start Close IsSyntax a refl) (refused front Start zero_number IsSyntax a refl)
+caused front Start (Numeral n) a =
+    numeral front n (λ k. refused front Start Close IsSyntax a refl) (refused front Start zero_number IsSyntax a refl)
 caused front Start Open a = plain front Open (λ h. h) (λ n e. cc)
 caused front Start Close a = plain front Close (λ h. h) (λ n e. cc)
 caused front Start Comma a = plain front Comma (λ h. h) (λ n e. cc)
 caused front Start Other a = plain front Other (λ h. h) (λ n e. cc)
 caused front Start End a = plain front End (λ h. h) (λ n e. cc)
 caused front BeforeParts t a = bracket front BeforeParts (BeforeLists (OfPart [])) (λ u. refl) (λ e. let k = a.text ∙ e in cc) a t
-caused front (BeforeLists group) t a = bracket front (BeforeLists group) (BeforeList (OneOf group [])) (λ u. refl) (λ e. led group [] (append-nil (lead group) ∙ (a.text ∙ e))) a t
-caused front (BeforeList owner) t a = bracket front (BeforeList owner) (BeforeX owner []) (λ u. refl) (λ e. headed owner [] (append-nil (head owner) ∙ (a.text ∙ e))) a t
+caused front (BeforeLists group) t a =
+    bracket front (BeforeLists group) (BeforeList (OneOf group [])) (λ u. refl) (λ e. led group [] (append-nil (lead group) ∙ (a.text ∙ e)))
+    a t
+caused front (BeforeList owner) t a =
+    bracket front (BeforeList owner) (BeforeX owner []) (λ u. refl) (λ e. headed owner [] (append-nil (head owner) ∙ (a.text ∙ e))) a t
 caused front (BeforeX owner ps) (Numeral (number.Whole x)) a = tt
-caused front (BeforeX owner ps) (Numeral number.OffGrid) a = (refl, wants front (BeforeX owner ps) (BeforeY owner ps (pos 0)) zero_number a (λ e. cc) refl)
-caused front (BeforeX owner ps) (Numeral number.OutOfReach) a = (refl, wants front (BeforeX owner ps) (BeforeY owner ps (pos 0)) zero_number a (λ e. cc) refl)
+caused front (BeforeX owner ps) (Numeral number.OffGrid) a =
+    (refl, wants front (BeforeX owner ps) (BeforeY owner ps (pos 0)) zero_number a (λ e. cc) refl)
+caused front (BeforeX owner ps) (Numeral number.OutOfReach) a =
+    (refl, wants front (BeforeX owner ps) (BeforeY owner ps (pos 0)) zero_number a (λ e. cc) refl)
 caused front (BeforeX owner ps) (Numeral number.NoNumber) a = no_number front (λ k. refused front (BeforeX owner ps) Close IsSyntax a refl)
-caused front (BeforeX owner ps) (Named w) a = named front w (λ e. headed owner _ (a.text ∙ e)) (λ e. refused front (BeforeX owner ps) Open IsSyntax a refl)
+caused front (BeforeX owner ps) (Named w) a =
+    named front w (λ e. headed owner _ (a.text ∙ e)) (λ e. refused front (BeforeX owner ps) Open IsSyntax a refl)
 caused front (BeforeX owner ps) Open a = plain front Open (λ h. h) (λ n e. cc)
 caused front (BeforeX owner ps) Close a = plain front Close (λ h. h) (λ n e. cc)
 caused front (BeforeX owner ps) Comma a = plain front Comma (λ h. h) (λ n e. cc)
@@ -171,28 +188,42 @@ caused front (BeforeX owner ps) End a = plain front End (λ h. h) (λ n e. cc)
 caused front (BeforeY owner ps x) (Numeral (number.Whole y)) a = tt
 caused front (BeforeY owner ps x) (Numeral number.OffGrid) a = (refl, wants front (BeforeY owner ps x) _ zero_number a (λ e. cc) refl)
 caused front (BeforeY owner ps x) (Numeral number.OutOfReach) a = (refl, wants front (BeforeY owner ps x) _ zero_number a (λ e. cc) refl)
-caused front (BeforeY owner ps x) (Numeral number.NoNumber) a = no_number front (λ k. refused front (BeforeY owner ps x) Close IsSyntax a refl)
-caused front (BeforeY owner ps x) (Named w) a = named front w (λ e. headed owner (Open ∷ before_next position ps ++ Numeral (number.Whole x) ∷ []) (sym (append_assoc (head owner) (Open ∷ before_next position ps) (Numeral (number.Whole x) ∷ [])) ∙ (a.text ∙ e))) (λ e. refused front (BeforeY owner ps x) Open IsSyntax a refl)
+caused front (BeforeY owner ps x) (Numeral number.NoNumber) a =
+    no_number front (λ k. refused front (BeforeY owner ps x) Close IsSyntax a refl)
+caused front (BeforeY owner ps x) (Named w) a =
+    named front w
+    (λ e. headed owner (Open ∷ before_next position ps ++ Numeral (number.Whole x) ∷ [])
+    (sym (append_assoc (head owner) (Open ∷ before_next position ps) (Numeral (number.Whole x) ∷ [])) ∙ (a.text ∙ e)))
+    (λ e. refused front (BeforeY owner ps x) Open IsSyntax a refl)
 caused front (BeforeY owner ps x) Open a = plain front Open (λ h. h) (λ n e. cc)
 caused front (BeforeY owner ps x) Close a = plain front Close (λ h. h) (λ n e. cc)
 caused front (BeforeY owner ps x) Comma a = plain front Comma (λ h. h) (λ n e. cc)
 caused front (BeforeY owner ps x) Other a = plain front Other (λ h. h) (λ n e. cc)
 caused front (BeforeY owner ps x) End a = plain front End (λ h. h) (λ n e. cc)
-caused front (AfterPosition owner ps) (Numeral n) a = (after_number front owner ps a, wants front (AfterPosition owner ps) _ Close a (λ e. cc) refl)
+caused front (AfterPosition owner ps) (Numeral n) a =
+    (after_number front owner ps a, wants front (AfterPosition owner ps) _ Close a (λ e. cc) refl)
 caused front (AfterPosition OfPoint ps) Comma a = plain front Comma (λ h. h) (λ n e. cc)
 caused front (AfterPosition OfLine ps) Comma a = tt
 caused front (AfterPosition (OneOf group pss) ps) Comma a = tt
 caused front (AfterPosition owner ps) Close a = tt
-caused front (AfterPosition owner ps) (Named w) a = named front w (λ e. headed owner _ (a.text ∙ e)) (λ e. refused front (AfterPosition owner ps) Open IsSyntax a refl)
+caused front (AfterPosition owner ps) (Named w) a =
+    named front w (λ e. headed owner _ (a.text ∙ e)) (λ e. refused front (AfterPosition owner ps) Open IsSyntax a refl)
 caused front (AfterPosition owner ps) Open a = plain front Open (λ h. h) (λ n e. cc)
 caused front (AfterPosition owner ps) Other a = plain front Other (λ h. h) (λ n e. cc)
 caused front (AfterPosition owner ps) End a = plain front End (λ h. h) (λ n e. cc)
 caused front (AfterList group pss) Comma a = tt
 caused front (AfterList group pss) Close a = tt
-caused front (AfterList group pss) t a = others front t (λ e. led group (Open ∷ items list pss) (a.text ∙ e)) (refused front (AfterList group pss) Open IsSyntax a refl) (refused front (AfterList group pss) zero_number IsSyntax a refl) (λ n w. after_list front group pss a n)
+caused front (AfterList group pss) t a =
+    others front t (λ e. led group (Open ∷ items list pss) (a.text ∙ e)) (refused front (AfterList group pss) Open IsSyntax a refl)
+    (refused front (AfterList group pss) zero_number IsSyntax a refl) (λ n w. after_list front group pss a n)
 caused front (AfterPart parts) Comma a = tt
 caused front (AfterPart parts) Close a = tt
-caused front (AfterPart parts) t a = others front t (λ e. let k = a.text ∙ e in cc) (refused front (AfterPart parts) Open IsSyntax a refl) (refused front (AfterPart parts) zero_number IsSyntax a refl) (λ n w. after_part front parts a n)
+caused front (AfterPart parts) t a =
+    others front t (λ e. let k = a.text ∙ e in
+    cc) (refused front (AfterPart parts) Open IsSyntax a refl) (refused front (AfterPart parts) zero_number IsSyntax a refl)
+    (λ n w. after_part front parts a n)
 caused front (Complete g) End a = tt
-caused front (Complete g) t a = others front t (λ e. spelled g (a.text ∙ e)) (refused front (Complete g) Open IsSyntax a refl) (refused front (Complete g) zero_number IsSyntax a refl) (λ n. refused front (Complete g) Close IsSyntax a refl)
+caused front (Complete g) t a =
+    others front t (λ e. spelled g (a.text ∙ e)) (refused front (Complete g) Open IsSyntax a refl)
+    (refused front (Complete g) zero_number IsSyntax a refl) (λ n. refused front (Complete g) Close IsSyntax a refl)
 caused front (Over g) t a = absurd a.unended

@@ -20,7 +20,8 @@ use Rattle.wkt_laws.specs.Steps.{Cause, Group, OfLines, OfPolygon, OfPart, Owner
 
 commas-snoc : {A : Type 0} (f : A → List Token) (xs : List A) (y : A) → commas f (xs ++ y ∷ []) ≡ commas f xs ++ Comma ∷ f y
 commas-snoc f [] y = ap (λ t. Comma ∷ t) (append-nil (f y))
-commas-snoc f (x ∷ xs) y = ap (λ t. Comma ∷ f x ++ t) (commas-snoc f xs y) ∙ ap (λ t. Comma ∷ t) (sym (append_assoc (f x) (commas f xs) (Comma ∷ f y)))
+commas-snoc f (x ∷ xs) y =
+    ap (λ t. Comma ∷ f x ++ t) (commas-snoc f xs y) ∙ ap (λ t. Comma ∷ t) (sym (append_assoc (f x) (commas f xs) (Comma ∷ f y)))
 
 -- what stands before the next item
 abbrev pub before_next : {A : Type 0} → (A → List Token) → List A → List Token
@@ -118,19 +119,23 @@ closes OfPoint (q ∷ ps) p h = absurd cc
 closes OfLine ps p h = IsSome-snoc ps p
 closes (OneOf group pss) ps p h = (h, IsSome-snoc ps p)
 
-y_text : (owner : Owner) (ps : List Place) (x y : ℤ) → so_far (AfterPosition owner (ps ++ place x y ∷ [])) ≡ so_far (BeforeY owner ps x) ++ Numeral (number.Whole y) ∷ []
+y_text : (owner : Owner) (ps : List Place) (x y : ℤ)
+    → so_far (AfterPosition owner (ps ++ place x y ∷ [])) ≡ so_far (BeforeY owner ps x) ++ Numeral (number.Whole y) ∷ []
 y_text owner ps x y = rw (items-snoc position ps (place x y)) (simp append_assoc)
 
-x_text : (owner : Owner) (ps : List Place) (x : ℤ) → so_far (BeforeY owner ps x) ≡ so_far (BeforeX owner ps) ++ Numeral (number.Whole x) ∷ []
+x_text : (owner : Owner) (ps : List Place) (x : ℤ)
+    → so_far (BeforeY owner ps x) ≡ so_far (BeforeX owner ps) ++ Numeral (number.Whole x) ∷ []
 x_text owner ps x = simp append_assoc
 
-at_x : (owner : Owner) (ps : List Place) (n : Number) → Keeps owner ps → Gives (BeforeX owner ps) (Numeral n) (step (BeforeX owner ps) (Numeral n))
+at_x : (owner : Owner) (ps : List Place) (n : Number) → Keeps owner ps
+    → Gives (BeforeX owner ps) (Numeral n) (step (BeforeX owner ps) (Numeral n))
 at_x owner ps (number.Whole x) h = record { text = x_text owner ps x; holds = h; unended = λ _. tt }
 at_x owner ps number.OffGrid h = tt
 at_x owner ps number.OutOfReach h = tt
 at_x owner ps number.NoNumber h = tt
 
-at_y : (owner : Owner) (ps : List Place) (x : ℤ) (n : Number) → Keeps owner ps → Gives (BeforeY owner ps x) (Numeral n) (step (BeforeY owner ps x) (Numeral n))
+at_y : (owner : Owner) (ps : List Place) (x : ℤ) (n : Number) → Keeps owner ps
+    → Gives (BeforeY owner ps x) (Numeral n) (step (BeforeY owner ps x) (Numeral n))
 at_y owner ps x (number.Whole y) h = record { text = y_text owner ps x y; holds = closes owner ps (place x y) h; unended = λ _. tt }
 at_y owner ps x number.OffGrid h = tt
 at_y owner ps x number.OutOfReach h = tt
@@ -147,18 +152,25 @@ at_close : (owner : Owner) (ps : List Place) → Closes owner ps → Gives (Afte
 at_close OfPoint [] h = absurd h
 at_close OfPoint (p ∷ ps) h = record { text = rw h refl; holds = tt; unended = λ _. tt }
 at_close OfLine ps h = record { text = refl; holds = h; unended = λ _. tt }
-at_close (OneOf group pss) ps h = record { text = rw (items-snoc list pss ps) (simp append_assoc); holds = (h.0.0, (IsSome-snoc pss ps, All-snoc IsSome pss ps h.0.1 h.1)); unended = λ _. tt }
+at_close (OneOf group pss) ps h =
+    record { text = rw (items-snoc list pss ps) (simp append_assoc);
+    holds = (h.0.0, (IsSome-snoc pss ps, All-snoc IsSome pss ps h.0.1 h.1)); unended = λ _. tt }
 
-at_list_comma : (group : Group) (pss : List (List Place)) → KeepsGroup group × AreSome pss → Adds (AfterList group pss) Comma (BeforeList (OneOf group pss))
+at_list_comma : (group : Group) (pss : List (List Place)) → KeepsGroup group × AreSome pss
+    → Adds (AfterList group pss) Comma (BeforeList (OneOf group pss))
 at_list_comma group [] h = absurd h.1.0
 at_list_comma group (ps ∷ pss) h = record { text = simp append_assoc; holds = (h.0, h.1.1); unended = λ _. tt }
 
-at_list_close : (group : Group) (pss : List (List Place)) → KeepsGroup group × AreSome pss → Adds (AfterList group pss) Close (ended group pss)
+at_list_close : (group : Group) (pss : List (List Place)) → KeepsGroup group × AreSome pss
+    → Adds (AfterList group pss) Close (ended group pss)
 at_list_close OfLines pss h = record { text = refl; holds = h.1; unended = λ _. tt }
 at_list_close OfPolygon pss h = record { text = refl; holds = h.1; unended = λ _. tt }
-at_list_close (OfPart parts) pss h = record { text = rw (items-snoc lists parts pss) (simp append_assoc); holds = (IsSome-snoc parts pss, All-snoc AreSome parts pss h.0 h.1); unended = λ _. tt }
+at_list_close (OfPart parts) pss h =
+    record { text = rw (items-snoc lists parts pss) (simp append_assoc);
+    holds = (IsSome-snoc parts pss, All-snoc AreSome parts pss h.0 h.1); unended = λ _. tt }
 
-at_part_comma : (parts : List (List (List Place))) → IsSome parts × AllByRecursion AreSome parts → Adds (AfterPart parts) Comma (BeforeLists (OfPart parts))
+at_part_comma : (parts : List (List (List Place))) → IsSome parts × AllByRecursion AreSome parts
+    → Adds (AfterPart parts) Comma (BeforeLists (OfPart parts))
 at_part_comma [] h = absurd h.0
 at_part_comma (part ∷ parts) h = record { text = refl; holds = h.1; unended = λ _. tt }
 
@@ -233,33 +245,41 @@ reads s (t ∷ ts) last h e =
 
 -- ---- what is the grammar's is read
 
-run_commas : (owner : Owner) (many : (ps : List Place) → after_comma owner ps ≡ Ok (BeforeX owner ps)) (ps qs : List Place) (rest : List Token) → run (AfterPosition owner ps) (commas position qs ++ rest) ≡ run (AfterPosition owner (ps ++ qs)) rest
+run_commas : (owner : Owner) (many : (ps : List Place) → after_comma owner ps ≡ Ok (BeforeX owner ps)) (ps qs : List Place)
+    (rest : List Token) → run (AfterPosition owner ps) (commas position qs ++ rest) ≡ run (AfterPosition owner (ps ++ qs)) rest
 run_commas owner many ps [] rest = ap (λ x. run (AfterPosition owner x) rest) (sym (append-nil ps))
 run_commas owner many ps (q ∷ qs) rest =
     rw (many ps) (run_commas owner many (ps ++ q ∷ []) qs rest ∙ ap (λ x. run (AfterPosition owner x) rest) (append_assoc ps (q ∷ []) qs))
 
-run_positions : (owner : Owner) (many : (ps : List Place) → after_comma owner ps ≡ Ok (BeforeX owner ps)) (ps : List Place) (rest : List Token) → IsSome ps → run (BeforeList owner) (list ps ++ rest) ≡ run (closed owner ps) rest
+run_positions : (owner : Owner) (many : (ps : List Place) → after_comma owner ps ≡ Ok (BeforeX owner ps)) (ps : List Place)
+    (rest : List Token) → IsSome ps → run (BeforeList owner) (list ps ++ rest) ≡ run (closed owner ps) rest
 run_positions owner many [] rest some = absurd some
-run_positions owner many (q ∷ qs) rest some = rw (append_assoc (commas position qs) (Close ∷ []) rest) (run_commas owner many (q ∷ []) qs (Close ∷ rest))
+run_positions owner many (q ∷ qs) rest some =
+    rw (append_assoc (commas position qs) (Close ∷ []) rest) (run_commas owner many (q ∷ []) qs (Close ∷ rest))
 
-run_more_lists : (group : Group) (pss more : List (List Place)) (rest : List Token) → AllByRecursion IsSome more → run (AfterList group pss) (commas list more ++ rest) ≡ run (AfterList group (pss ++ more)) rest
+run_more_lists : (group : Group) (pss more : List (List Place)) (rest : List Token) → AllByRecursion IsSome more
+    → run (AfterList group pss) (commas list more ++ rest) ≡ run (AfterList group (pss ++ more)) rest
 run_more_lists group pss [] rest full = ap (λ x. run (AfterList group x) rest) (sym (append-nil pss))
 run_more_lists group pss (r ∷ more) rest full =
-    let e : commas list (r ∷ more) ++ rest ≡ Comma ∷ (list r ++ (commas list more ++ rest)) = ap (λ x. Comma ∷ x) (append_assoc (list r) (commas list more) rest) in
+    let e : commas list (r ∷ more) ++ rest ≡ Comma ∷ (list r ++ (commas list more ++ rest)) =
+        ap (λ x. Comma ∷ x) (append_assoc (list r) (commas list more) rest) in
     ap (λ x. run (AfterList group pss) x) e ∙ (run_positions (OneOf group pss) (λ ps. refl) r (commas list more ++ rest) full.0
     ∙ (run_more_lists group (pss ++ r ∷ []) more rest full.1 ∙ ap (λ x. run (AfterList group x) rest) (append_assoc pss (r ∷ []) more)))
 
-run_lists : (group : Group) (pss : List (List Place)) (rest : List Token) → AreSome pss → run (BeforeLists group) (lists pss ++ rest) ≡ run (ended group pss) rest
+run_lists : (group : Group) (pss : List (List Place)) (rest : List Token) → AreSome pss
+    → run (BeforeLists group) (lists pss ++ rest) ≡ run (ended group pss) rest
 run_lists group [] rest full = absurd full.0
 run_lists group (r ∷ pss) rest full =
     let e : lists (r ∷ pss) ++ rest ≡ Open ∷ (list r ++ (commas list pss ++ Close ∷ rest)) = simp append_assoc in
     ap (λ x. run (BeforeLists group) x) e ∙ (run_positions (OneOf group []) (λ ps. refl) r (commas list pss ++ Close ∷ rest) full.1.0
     ∙ run_more_lists group (r ∷ []) pss (Close ∷ rest) full.1.1)
 
-run_more_parts : (parts more : List (List (List Place))) (rest : List Token) → AllByRecursion AreSome more → run (AfterPart parts) (commas lists more ++ rest) ≡ run (AfterPart (parts ++ more)) rest
+run_more_parts : (parts more : List (List (List Place))) (rest : List Token) → AllByRecursion AreSome more
+    → run (AfterPart parts) (commas lists more ++ rest) ≡ run (AfterPart (parts ++ more)) rest
 run_more_parts parts [] rest full = ap (λ x. run (AfterPart x) rest) (sym (append-nil parts))
 run_more_parts parts (p ∷ more) rest full =
-    let e : commas lists (p ∷ more) ++ rest ≡ Comma ∷ (lists p ++ (commas lists more ++ rest)) = ap (λ x. Comma ∷ x) (append_assoc (lists p) (commas lists more) rest) in
+    let e : commas lists (p ∷ more) ++ rest ≡ Comma ∷ (lists p ++ (commas lists more ++ rest)) =
+        ap (λ x. Comma ∷ x) (append_assoc (lists p) (commas lists more) rest) in
     ap (λ x. run (AfterPart parts) x) e ∙ (run_lists (OfPart parts) p (commas lists more ++ rest) full.0
     ∙ (run_more_parts (parts ++ p ∷ []) more rest full.1 ∙ ap (λ x. run (AfterPart x) rest) (append_assoc parts (p ∷ []) more)))
 
@@ -270,13 +290,15 @@ again (Lines pss) full = run_lists OfLines pss (End ∷ []) full
 again (APolygon rings) full = run_lists OfPolygon rings (End ∷ []) full
 again (Polygons []) full = absurd full.0
 again (Polygons (part ∷ parts)) full =
-    let e : (items lists (part ∷ parts) ++ Close ∷ []) ++ End ∷ [] ≡ lists part ++ (commas lists parts ++ Close ∷ End ∷ []) = simp append_assoc in
+    let e : (items lists (part ∷ parts) ++ Close ∷ []) ++ End ∷ [] ≡ lists part ++ (commas lists parts ++ Close ∷ End ∷ []) =
+        simp append_assoc in
     ap (λ x. run BeforeParts (Open ∷ x)) e ∙ (run_lists (OfPart []) part (commas lists parts ++ Close ∷ End ∷ []) full.1.0
     ∙ run_more_parts (part ∷ []) parts (Close ∷ End ∷ []) full.1.1)
 
 -- ---- the first token that does not fit
 
-append_over : (xs ys : List Token) → ((s : State) → run s (xs ++ ys) ≡ (run s xs >>= λ next. run next ys)) → (r : Result State Cause) → (r >>= λ n. run n (xs ++ ys)) ≡ ((r >>= λ n. run n xs) >>= λ next. run next ys)
+append_over : (xs ys : List Token) → ((s : State) → run s (xs ++ ys) ≡ (run s xs >>= λ next. run next ys)) → (r : Result State Cause)
+    → (r >>= λ n. run n (xs ++ ys)) ≡ ((r >>= λ n. run n xs) >>= λ next. run next ys)
 append_over xs ys h (Ok n) = h n
 append_over xs ys h (Err d) = refl
 
@@ -348,7 +370,8 @@ fits front s e o =
     let all = reads s (goes_on s) (Complete end.0) r.holds end.1 in
     (end.0, goes_on s, all.holds, ap (λ x. x ++ goes_on s) (sym r.text) ∙ sym all.text)
 
-pub stops : (front : List Token) (s : State) (t : Token) (c : Cause) → run Start front ≡ Ok s → step s t ≡ Err c → IsFront (front ++ t ∷ []) → ⊥
+pub stops : (front : List Token) (s : State) (t : Token) (c : Cause) → run Start front ≡ Ok s → step s t ≡ Err c → IsFront (front ++ t ∷ [])
+    → ⊥
 stops front s t c e f h =
     let g = h.0 in let more = h.1 in let full = h.2 in let same = h.3 in
     let all : run Start ((front ++ t ∷ []) ++ more) ≡ Ok (Over g) = ap (run Start) same ∙ again g full in

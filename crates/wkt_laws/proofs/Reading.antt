@@ -42,14 +42,17 @@ behind_token-le (b ∷ bs) = at (is_letter b) (is_number_byte b)
 
 StartsWith-le : (text : List ℕ) (ts : List Token) (rest : List ℕ) → StartsWith text ts rest → length rest ≤ length text
 StartsWith-le text [] rest h = omega (arith, ap length h)
-StartsWith-le text (t ∷ ts) rest h = omega (arith, StartsWith-le (behind_token (skip_blanks text)) ts rest h.1, behind_token-le (skip_blanks text), skip_blanks-le text)
+StartsWith-le text (t ∷ ts) rest h =
+    omega (arith, StartsWith-le (behind_token (skip_blanks text)) ts rest h.1, behind_token-le (skip_blanks text), skip_blanks-le text)
 
-StartsWith-snoc : (text : List ℕ) (ts : List Token) (rest : List ℕ) (t : Token) → StartsWith text ts rest → token_at (skip_blanks rest) ≡ t → StartsWith text (ts ++ t ∷ []) (behind_token (skip_blanks rest))
+StartsWith-snoc : (text : List ℕ) (ts : List Token) (rest : List ℕ) (t : Token) → StartsWith text ts rest → token_at (skip_blanks rest) ≡ t
+    → StartsWith text (ts ++ t ∷ []) (behind_token (skip_blanks rest))
 StartsWith-snoc text [] rest t h e = (ap (λ x. token_at (skip_blanks x)) h ∙ e, ap (λ x. behind_token (skip_blanks x)) h)
 StartsWith-snoc text (u ∷ ts) rest t h e = (h.0, StartsWith-snoc (behind_token (skip_blanks text)) ts rest t h.1 e)
 
 -- one text has one list of tokens: of two, one goes on from the other
-StartsWith-same : (text : List ℕ) (xs ys : List Token) (l m : List ℕ) → StartsWith text xs l → StartsWith text ys m → ((more : List Token) × (ys ≡ xs ++ more)) ⊎ ((more : List Token) × (xs ≡ ys ++ more))
+StartsWith-same : (text : List ℕ) (xs ys : List Token) (l m : List ℕ) → StartsWith text xs l → StartsWith text ys m
+    → ((more : List Token) × (ys ≡ xs ++ more)) ⊎ ((more : List Token) × (xs ≡ ys ++ more))
 StartsWith-same text [] ys l m h k = inl (ys, refl)
 StartsWith-same text (x ∷ xs) [] l m h k = inr (x ∷ xs, refl)
 StartsWith-same text (x ∷ xs) (y ∷ ys) l m h k =
@@ -62,10 +65,12 @@ StartsWith-same text (x ∷ xs) (y ∷ ys) l m h k =
 pub begins : (text : List ℕ) → Read text (skip_blanks text) Start
 begins text = record { done = []; left = text; begins = refl; skipped = refl; ran = refl; unended = tt }
 
-pub goes_on : (text rest : List ℕ) (s next : State) → Read text rest s → (token_at rest ≡ End → ⊥) → step s (token_at rest) ≡ Ok next → Read text (skip_blanks (behind_token rest)) next
+pub goes_on : (text rest : List ℕ) (s next : State) → Read text rest s → (token_at rest ≡ End → ⊥) → step s (token_at rest) ≡ Ok next
+    → Read text (skip_blanks (behind_token rest)) next
 goes_on text rest s next r more e =
     let h = reads Start r.done s tt r.ran in
-    let a : Adds s (token_at rest) next = subst (λ (x : Result State Cause). Gives s (token_at rest) x) e (adds s (token_at rest) h.holds) in
+    let a : Adds s (token_at rest) next =
+        subst (λ (x : Result State Cause). Gives s (token_at rest) x) e (adds s (token_at rest) h.holds) in
     let ran : run Start (r.done ++ token_at rest ∷ []) ≡ Ok next = run-append Start r.done (token_at rest ∷ []) ∙ rw (r.ran, e) refl in
     record {
       done = r.done ++ token_at rest ∷ [];
@@ -76,7 +81,8 @@ goes_on text rest s next r more e =
       unended = a.unended more;
     }
 
-pub stopped : (text rest : List ℕ) (s : State) (c : Cause) → Read text rest s → step s (token_at rest) ≡ Err c → FirstFault text (length text - length rest) c
+pub stopped : (text rest : List ℕ) (s : State) (c : Cause) → Read text rest s → step s (token_at rest) ≡ Err c
+    → FirstFault text (length text - length rest) c
 stopped text rest s c r e =
     let short = StartsWith-le text r.done r.left r.begins in
     let h = reads Start r.done s tt r.ran in
@@ -86,7 +92,8 @@ stopped text rest s c r e =
     record {
       front = r.done;
       token = token_at rest;
-      why = subst (λ (x : Result State Cause). CauseOk r.done (token_at rest) x) e (caused r.done s (token_at rest) (record { ran = r.ran; text = text_is; holds = h.holds; unended = r.unended }));
+      why = subst (λ (x : Result State Cause). CauseOk r.done (token_at rest) x) e
+          (caused r.done s (token_at rest) (record { ran = r.ran; text = text_is; holds = h.holds; unended = r.unended }));
       place = record {
         rest = r.left;
         begins = r.begins;
@@ -101,9 +108,12 @@ pub completed : (text : List ℕ) (s : State) (g : Geometry) → Read text [] s 
 completed text s g r e =
     let ran : run Start (r.done ++ End ∷ []) ≡ Ok (Over g) = run-append Start r.done (End ∷ []) ∙ rw (r.ran, e) refl in
     let all = reads Start (r.done ++ End ∷ []) (Over g) tt ran in
-    let b : StartsWith text (r.done ++ End ∷ []) (behind_token (skip_blanks r.left)) = StartsWith-snoc text r.done r.left End r.begins (ap token_at r.skipped) in
+    let b : StartsWith text (r.done ++ End ∷ []) (behind_token (skip_blanks r.left)) =
+        StartsWith-snoc text r.done r.left End r.begins (ap token_at r.skipped) in
     let nothing : behind_token (skip_blanks r.left) ≡ [] = ap behind_token r.skipped in
-    (all.holds, subst (λ (ts : List Token). StartsWith text ts []) (sym all.text) (subst (λ (l : List ℕ). StartsWith text (r.done ++ End ∷ []) l) nothing b))
+    (all.holds,
+        subst (λ (ts : List Token). StartsWith text ts []) (sym all.text)
+        (subst (λ (l : List ℕ). StartsWith text (r.done ++ End ∷ []) l) nothing b))
 
 -- ---- a text of the grammar has no fault, and one value
 
@@ -132,7 +142,8 @@ no_nil : (ys : List Token) (u : Token) (more : List Token) → [] ≡ ys ++ u �
 no_nil [] u more e = cc
 no_nil (y ∷ ys) u more e = cc
 
-snoc_split : (front ys : List Token) (t u : Token) (more : List Token) → front ++ t ∷ [] ≡ ys ++ u ∷ more → (rest : List Token) × (front ≡ ys ++ rest)
+snoc_split : (front ys : List Token) (t u : Token) (more : List Token) → front ++ t ∷ [] ≡ ys ++ u ∷ more
+    → (rest : List Token) × (front ≡ ys ++ rest)
 snoc_split front [] t u more e = (front, refl)
 snoc_split [] (y ∷ ys) t u more e = absurd (no_nil ys u more cc)
 snoc_split (x ∷ front) (y ∷ ys) t u more e = let r = snoc_split front ys t u more cc in (r.0, cc)
@@ -150,9 +161,11 @@ not_past front rest g full b e =
     sym (run_over (spelling g ++ End ∷ []) (rest ++ (b.1 ++ End ∷ [])) g (again g full)) ∙ (ap (run Start) (sym whole) ∙ again b.0 b.2) in
     no_more rest b.1 (over_last g b.0 (rest ++ (b.1 ++ End ∷ [])) k)
 
-past : (text : List ℕ) (at : ℕ) (front : List Token) (t : Token) (g : Geometry) (more : List Token) → IsFull g → StopsAt text at front t → front ++ t ∷ [] ≡ (spelling g ++ End ∷ []) ++ more → ⊥
+past : (text : List ℕ) (at : ℕ) (front : List Token) (t : Token) (g : Geometry) (more : List Token) → IsFull g → StopsAt text at front t
+    → front ++ t ∷ [] ≡ (spelling g ++ End ∷ []) ++ more → ⊥
 past text at front t g [] full s e = s.stops (g, [], full, append-nil (front ++ t ∷ []) ∙ (e ∙ append-nil (spelling g ++ End ∷ [])))
-past text at front t g (u ∷ more) full s e = let r = snoc_split front (spelling g ++ End ∷ []) t u more e in not_past front r.0 g full s.fits r.1
+past text at front t g (u ∷ more) full s e = let r = snoc_split front (spelling g ++ End ∷ []) t u more e in
+    not_past front r.0 g full s.fits r.1
 
 pub no_fault : (text : List ℕ) (g : Geometry) (at : ℕ) (front : List Token) (t : Token) → IsWkt text g → StopsAt text at front t → ⊥
 no_fault text g at front t p s =
@@ -167,7 +180,9 @@ pub not_end : (rest : List ℕ) → 0 < length rest → token_at rest ≡ End �
 not_end [] some e = omega arith
 not_end (b ∷ bs) some e = at (is_letter b) (is_number_byte b) (b == 40) (b == 41) (b == 44) e
   where
-    at : (l n o c m : Bool) → cond l (Named (word_of (front_of is_letter (b ∷ bs)))) (cond n (Numeral (number_of (front_of is_number_byte (b ∷ bs)))) (cond o Open (cond c Close (cond m Comma Other)))) ≡ End → ⊥
+    at : (l n o c m : Bool)
+        → cond l (Named (word_of (front_of is_letter (b ∷ bs))))
+        (cond n (Numeral (number_of (front_of is_number_byte (b ∷ bs)))) (cond o Open (cond c Close (cond m Comma Other)))) ≡ End → ⊥
     at true n o c m h = cc
     at false true o c m h = cc
     at false false true c m h = cc
@@ -179,7 +194,9 @@ behind_token-lt : (rest : List ℕ) → 0 < length rest → length (behind_token
 behind_token-lt [] some = omega arith
 behind_token-lt (b ∷ bs) some = at (is_letter b) (is_number_byte b) refl refl
   where
-    at : (l n : Bool) → is_letter b ≡ l → is_number_byte b ≡ n → length (cond l (cond (is_letter b) (behind is_letter bs) (b ∷ bs)) (cond n (cond (is_number_byte b) (behind is_number_byte bs) (b ∷ bs)) bs)) < length (b ∷ bs)
+    at : (l n : Bool) → is_letter b ≡ l → is_number_byte b ≡ n
+        → length (cond l (cond (is_letter b) (behind is_letter bs) (b ∷ bs))
+        (cond n (cond (is_number_byte b) (behind is_number_byte bs) (b ∷ bs)) bs)) < length (b ∷ bs)
     at true n p q = rw p (omega (arith, behind-le is_letter bs))
     at false true p q = rw q (omega (arith, behind-le is_number_byte bs))
     at false false p q = omega arith

@@ -1,19 +1,19 @@
 -- What a text says of a shape, and back.
 --
 -- is_closed ring         the ring's first and last places are the same
--- without_last ring      the ring without its last place
 -- rings_in g             all rings, through all polygons
 -- AreClosed g            each ring is closed
 -- IsFirstOpen rings n    the ring n, counted from 0, is the first that is not closed
--- kind_in g, parts_in g  the kind and the parts that a geometry says, its rings without their last places
--- shape_in g             the shape that these parts make: equal neighbours are kept once
+-- kind_in g, parts_in g  the kind and the parts that a geometry says
+-- shape_in g             the shape that these parts make: equal neighbours are kept once, and the last place of a ring, which is its first
+--                        again, goes
 -- IsShapeText text s     the text spells a geometry whose rings are closed and whose shape this is, and it is valid
 -- closed ring            the ring with its first place again at its end
 -- of_lines parts         the geometry of a line: one part is a LINESTRING, more are a MULTILINESTRING
 -- of_polygons parts      the geometry of a polygon: each ring is closed; one part is a POLYGON, more are a MULTIPOLYGON
 -- geometry_in s          the geometry of a shape
 -- shape_text s           its written form
-use Rattle.std.specs.Prelude.{ℕ, zero, suc, ◌≡◌, ◌-◌, Bool, true, false, List, [], ◌∷◌, ◌++◌, length, take, map, flat_map}
+use Rattle.std.specs.Prelude.{ℕ, zero, suc, ◌≡◌, Bool, true, false, List, [], ◌∷◌, ◌++◌, map, flat_map}
 use Rattle.plane_terms.specs.Lists.{Every}
 use Rattle.plane_terms.specs.Point.{Place, same_place}
 use Rattle.plane_terms.specs.Shape.{Shape, IsShape, rings_of, shape_of, place_of, last_of}
@@ -28,9 +28,6 @@ use Rattle.wkt_terms.specs.Written.{written}
 abbrev pub is_closed : List Place → Bool
 is_closed [] = true
 is_closed (p ∷ ps) = same_place p (last_of p ps)
-
-abbrev pub without_last : List Place → List Place
-without_last ring = take (length ring - 1) ring
 
 abbrev pub rings_in : Geometry → List (List Place)
 rings_in (APoint p) = []
@@ -58,8 +55,8 @@ abbrev pub parts_in : Geometry → List (List (List Place))
 parts_in (APoint p) = ((p ∷ []) ∷ []) ∷ []
 parts_in (ALine ps) = (ps ∷ []) ∷ []
 parts_in (Lines pss) = map (λ ps. ps ∷ []) pss
-parts_in (APolygon rings) = map without_last rings ∷ []
-parts_in (Polygons parts) = map (λ part. map without_last part) parts
+parts_in (APolygon rings) = rings ∷ []
+parts_in (Polygons parts) = parts
 
 abbrev pub shape_in : Geometry → Shape
 shape_in g = shape_of (kind_in g) (parts_in g)

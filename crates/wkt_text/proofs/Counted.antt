@@ -3,18 +3,16 @@
 -- real ts                how many of the tokens are not the end
 -- total w xs             the sum of what w weighs of each
 -- countable              the parts of what a text of 1,048,576 bytes spells can be counted
--- countable_opened       so can they where each ring has lost its last place
 use Rattle.std.proofs.Common.{ℕ, ◌≡◌, ◌<◌, ◌≤◌, ◌+◌, ◌-◌, ◌^◌, List, [], ◌∷◌, ◌++◌, map, length, length-append, refl, ap, ◌∙◌, sym, subst, arith}
 use Rattle.std.specs.Prelude.{flat_map}
-use Rattle.std.proofs.lemmas.List.{length-map, length-take}
+use Rattle.std.proofs.lemmas.List.{length-map}
 use Rattle.plane_terms.specs.Point.{Place}
 use Rattle.shape.specs.Given.{all_rings, all_vertices, IsCountable}
 use Rattle.text_terms.specs.Fields.{skip_blanks}
 use Rattle.wkt_terms.specs.Grammar.{Geometry, APoint, ALine, Lines, APolygon, Polygons, IsWkt, position, commas, items, list, lists, spelling}
-use Rattle.wkt_terms.specs.Shapes.{without_last}
+use Rattle.wkt_terms.specs.Shapes.{parts_in}
 use Rattle.wkt_terms.specs.Tokens.{Token, Open, Close, Comma, Named, Numeral, Other, End, StartsWith, token_at, behind_token}
 use Rattle.wkt_laws.proofs.Reading.{skip_blanks-le, shorter}
-use Rattle.wkt_text.specs.Given.{given_in}
 
 abbrev one : Token → ℕ
 one Open = 1
@@ -78,7 +76,8 @@ list-ge ps = omega (arith, total_one ps, items-ge position (λ p. 1) (λ p. omeg
 lists-ge : (w : List Place → ℕ) → ((ps : List Place) → w ps ≤ real (list ps)) → (pss : List (List Place)) → total w pss ≤ real (lists pss)
 lists-ge w h pss = omega (arith, items-ge list w h pss, real-append (items list pss) (Close ∷ []))
 
-parts-ge : (w : List (List Place) → ℕ) → ((pss : List (List Place)) → w pss ≤ real (lists pss)) → (parts : List (List (List Place))) → total w parts ≤ real (spelling (Polygons parts))
+parts-ge : (w : List (List Place) → ℕ) → ((pss : List (List Place)) → w pss ≤ real (lists pss)) → (parts : List (List (List Place)))
+    → total w parts ≤ real (spelling (Polygons parts))
 parts-ge w h parts = omega (arith, items-ge lists w h parts, real-append (items lists parts) (Close ∷ []))
 
 -- places, and rings
@@ -91,7 +90,8 @@ rings parts = total length parts
 vertices_are : (parts : List (List (List Place))) → length (all_vertices (all_rings parts)) ≡ vertices parts
 vertices_are [] = refl
 vertices_are (pss ∷ parts) =
-    length_joined (pss ++ all_rings parts) ∙ (total-append pss (all_rings parts) ∙ ap (λ n. total length pss + n) (sym (length_joined (all_rings parts)) ∙ vertices_are parts))
+    length_joined (pss ++ all_rings parts)
+        ∙ (total-append pss (all_rings parts) ∙ ap (λ n. total length pss + n) (sym (length_joined (all_rings parts)) ∙ vertices_are parts))
   where
     total-append : (xs ys : List (List Place)) → total length (xs ++ ys) ≡ total length xs + total length ys
     total-append [] ys = omega arith
@@ -108,7 +108,9 @@ places-ge : (ps : List Place) → length ps ≤ real (list ps)
 places-ge ps = omega (arith, list-ge ps)
 
 alone : (pss : List (List Place)) → Counts (map (λ ps. ps ∷ []) pss) (real (lists pss))
-alone pss = record { of_rings = omega (arith, one_each pss, lists-ge (λ ps. 1) rings-ge pss); of_vertices = omega (arith, all_each pss, lists-ge length places-ge pss) }
+alone pss =
+    record { of_rings = omega (arith, one_each pss, lists-ge (λ ps. 1) rings-ge pss);
+    of_vertices = omega (arith, all_each pss, lists-ge length places-ge pss) }
   where
     one_each : (qss : List (List Place)) → rings (map (λ ps. ps ∷ []) qss) ≡ total (λ ps. 1) qss
     one_each [] = refl
@@ -121,38 +123,22 @@ alone pss = record { of_rings = omega (arith, one_each pss, lists-ge (λ ps. 1) 
 part_rings : (pss : List (List Place)) → length pss ≤ real (lists pss)
 part_rings pss = omega (arith, total_one pss, lists-ge (λ ps. 1) rings-ge pss)
 
-counts : (g : Geometry) → Counts (given_in g) (real (spelling g))
+counts : (g : Geometry) → Counts (parts_in g) (real (spelling g))
 counts (APoint p) = record { of_rings = omega arith; of_vertices = omega arith }
 counts (ALine ps) = record { of_rings = omega (arith, list-ge ps); of_vertices = omega (arith, list-ge ps) }
 counts (Lines pss) = record { of_rings = omega (arith, (alone pss).of_rings); of_vertices = omega (arith, (alone pss).of_vertices) }
 counts (APolygon pss) = record { of_rings = omega (arith, part_rings pss); of_vertices = omega (arith, lists-ge length places-ge pss) }
-counts (Polygons parts) = record { of_rings = parts-ge length part_rings parts; of_vertices = parts-ge (λ pss. total length pss) (lists-ge length places-ge) parts }
+counts (Polygons parts) =
+    record { of_rings = parts-ge length part_rings parts;
+    of_vertices = parts-ge (λ pss. total length pss) (lists-ge length places-ge) parts }
 
 pub countable_by : (parts : List (List (List Place))) (n : ℕ) → n < 2 ^ 32 → Counts parts n → IsCountable parts
-countable_by parts n small c = record { rings = omega (arith, small, c.of_rings, length_joined parts); vertices = omega (arith, small, c.of_vertices, vertices_are parts) }
+countable_by parts n small c =
+    record { rings = omega (arith, small, c.of_rings, length_joined parts);
+    vertices = omega (arith, small, c.of_vertices, vertices_are parts) }
 
-pub countable : (text : List ℕ) (g : Geometry) → length text ≤ 1048576 → IsWkt text g → IsCountable (given_in g)
+pub countable : (text : List ℕ) (g : Geometry) → length text ≤ 1048576 → IsWkt text g → IsCountable (parts_in g)
 countable text g short w =
     let n = real (spelling g) in
     let all : real (spelling g ++ End ∷ []) ≡ n + 0 = real-append (spelling g) (End ∷ []) in
-    countable_by (given_in g) n (omega (arith, short, all, real-le text (spelling g ++ End ∷ []) [] w.1, skip_blanks-le text)) (counts g)
-
--- ---- without last places
-
-opened-le : (pss : List (List Place)) → total length (map without_last pss) ≤ total length pss
-opened-le [] = omega arith
-opened-le (ps ∷ pss) = omega (arith, length-take (length ps - 1) ps, opened-le pss)
-
-pub countable_opened : (parts : List (List (List Place))) → IsCountable parts → IsCountable (map (λ part. map without_last part) parts)
-countable_opened parts c = record {
-  rings = omega (arith, c.rings, length_joined parts, length_joined (map (λ part. map without_last part) parts), same_rings parts);
-  vertices = omega (arith, c.vertices, vertices_are parts, vertices_are (map (λ part. map without_last part) parts), fewer parts);
-}
-  where
-    same_rings : (qs : List (List (List Place))) → rings (map (λ part. map without_last part) qs) ≡ rings qs
-    same_rings [] = refl
-    same_rings (q ∷ qs) = omega (arith, length-map q without_last, same_rings qs)
-
-    fewer : (qs : List (List (List Place))) → vertices (map (λ part. map without_last part) qs) ≤ vertices qs
-    fewer [] = omega arith
-    fewer (q ∷ qs) = omega (arith, opened-le q, fewer qs)
+    countable_by (parts_in g) n (omega (arith, short, all, real-le text (spelling g ++ End ∷ []) [] w.1, skip_blanks-le text)) (counts g)

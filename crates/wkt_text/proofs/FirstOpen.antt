@@ -12,19 +12,17 @@ use Rattle.plane_terms.specs.Lists.{Every}
 use Rattle.plane_terms.specs.Point.{Place, same_place}
 use Rattle.plane_terms.specs.Shape.{last_of}
 use Rattle.wkt_terms.specs.Shapes.{is_closed, IsFirstOpen}
-use Rattle.wkt_laws.specs.Seen.{Ring, lists_of, parts_of}
+use Rattle.shape.specs.Given.{Ring, rings_in as lists_of, polygons_in as parts_of}
 use Rattle.shape.specs.Given.{all_rings}
 use Rattle.wkt_text.specs.Open.{first_open}
+use Rattle.shape.proofs.Ends.{last_is}
 
-pub last_at : (p : Place) (ps : List Place) (d : Place) → last_of p ps ≡ get_or (p ∷ ps) (length ps) d
-last_at p [] d = refl
-last_at p (q ∷ qs) d = last_at q qs d
-
-pub closed_is : (xs : List Place) (x y : Place) → 1 ≤ length xs → x ≡ get_or xs 0 x → y ≡ get_or xs (length xs - 1) y → same_place x y ≡ is_closed xs
+pub closed_is : (xs : List Place) (x y : Place) → 1 ≤ length xs → x ≡ get_or xs 0 x → y ≡ get_or xs (length xs - 1) y
+    → same_place x y ≡ is_closed xs
 closed_is [] x y some first last = absurd (omega arith)
 closed_is (p ∷ ps) x y some first last =
     let at : length (p ∷ ps) - 1 ≡ length ps = omega arith in
-    let e : y ≡ last_of p ps = last ∙ (ap (λ k. get_or (p ∷ ps) k y) at ∙ sym (last_at p ps y)) in
+    let e : y ≡ last_of p ps = last ∙ (ap (λ k. get_or (p ∷ ps) k y) at ∙ sym (last_is p ps y)) in
     ap (λ v. same_place v y) first ∙ ap (λ v. same_place p v) e
 
 -- ---- rings behind rings
@@ -33,7 +31,9 @@ first_after : (n : ℕ) (xs ys : List (List Place)) → first_open n xs ≡ None
 first_after n [] ys e = ap (λ (m : ℕ). first_open m ys) (omega arith)
 first_after n (x ∷ xs) ys e = by_test (is_closed x) (first_after (n + 1) xs ys) e
   where
-    by_test : (b : Bool) → (first_open (n + 1) xs ≡ None → first_open (n + 1) (xs ++ ys) ≡ first_open (n + 1 + length xs) ys) → cond b (first_open (n + 1) xs) (Some n) ≡ None → cond b (first_open (n + 1) (xs ++ ys)) (Some n) ≡ first_open (n + suc (length xs)) ys
+    by_test : (b : Bool) → (first_open (n + 1) xs ≡ None → first_open (n + 1) (xs ++ ys) ≡ first_open (n + 1 + length xs) ys)
+        → cond b (first_open (n + 1) xs) (Some n) ≡ None
+        → cond b (first_open (n + 1) (xs ++ ys)) (Some n) ≡ first_open (n + suc (length xs)) ys
     by_test true f e = f e ∙ ap (λ (m : ℕ). first_open m ys) (omega arith)
     by_test false f e = cc
 
@@ -41,7 +41,8 @@ first_before : (n k : ℕ) (xs ys : List (List Place)) → first_open n xs ≡ S
 first_before n k [] ys e = cc
 first_before n k (x ∷ xs) ys e = by_test (is_closed x) (first_before (n + 1) k xs ys) e
   where
-    by_test : (b : Bool) → (first_open (n + 1) xs ≡ Some k → first_open (n + 1) (xs ++ ys) ≡ Some k) → cond b (first_open (n + 1) xs) (Some n) ≡ Some k → cond b (first_open (n + 1) (xs ++ ys)) (Some n) ≡ Some k
+    by_test : (b : Bool) → (first_open (n + 1) xs ≡ Some k → first_open (n + 1) (xs ++ ys) ≡ Some k)
+        → cond b (first_open (n + 1) xs) (Some n) ≡ Some k → cond b (first_open (n + 1) (xs ++ ys)) (Some n) ≡ Some k
     by_test true f e = f e
     by_test false f e = e
 
@@ -53,24 +54,33 @@ Part = Vec Ring Global
 abbrev pub left : List Part → ℕ → List (List Place)
 left parts i = all_rings (parts_of (drop i parts))
 
-part_left : (parts : List Part) (i : ℕ) (p : Part) → i < length parts → p ≡ get_or parts i p → left parts i ≡ lists_of p.items ++ left parts (i + 1)
+part_left : (parts : List Part) (i : ℕ) (p : Part) → i < length parts → p ≡ get_or parts i p
+    → left parts i ≡ lists_of p.items ++ left parts (i + 1)
 part_left parts i p below is =
     let next : i + 1 ≡ suc i = omega arith in
-    rw next (ap (λ ps. all_rings (parts_of ps)) (drop-cons parts i p below) ∙ ap (λ (v : Part). lists_of v.items ++ all_rings (parts_of (drop (suc i) parts))) (sym is))
+    rw next (ap (λ ps. all_rings (parts_of ps)) (drop-cons parts i p below)
+        ∙ ap (λ (v : Part). lists_of v.items ++ all_rings (parts_of (drop (suc i) parts))) (sym is))
 
-pub in_part : (from : ℕ) (parts : List Part) (i : ℕ) (p : Part) (o : Option ℕ) → i < length parts → p ≡ get_or parts i p → is_some o ≡ true → o ≡ first_open from (lists_of p.items) → first_open from (left parts i) ≡ o
+pub in_part : (from : ℕ) (parts : List Part) (i : ℕ) (p : Part) (o : Option ℕ) → i < length parts → p ≡ get_or parts i p → is_some o ≡ true
+    → o ≡ first_open from (lists_of p.items) → first_open from (left parts i) ≡ o
 in_part from parts i p None below is some e = cc
-in_part from parts i p (Some k) below is some e = ap (first_open from) (part_left parts i p below is) ∙ first_before from k (lists_of p.items) (left parts (i + 1)) (sym e)
+in_part from parts i p (Some k) below is some e =
+    ap (first_open from) (part_left parts i p below is) ∙ first_before from k (lists_of p.items) (left parts (i + 1)) (sym e)
 
-pub past_part : (from : ℕ) (parts : List Part) (i : ℕ) (p : Part) (o : Option ℕ) → i < length parts → p ≡ get_or parts i p → is_some o ≡ false → o ≡ first_open from (lists_of p.items) → first_open from (left parts i) ≡ first_open (from + length p.items) (left parts (i + 1))
+pub past_part : (from : ℕ) (parts : List Part) (i : ℕ) (p : Part) (o : Option ℕ) → i < length parts → p ≡ get_or parts i p
+    → is_some o ≡ false → o ≡ first_open from (lists_of p.items)
+    → first_open from (left parts i) ≡ first_open (from + length p.items) (left parts (i + 1))
 past_part from parts i p (Some k) below is none e = cc
 past_part from parts i p None below is none e =
     ap (first_open from) (part_left parts i p below is) ∙ (first_after from (lists_of p.items) (left parts (i + 1)) (sym e)
     ∙ ap (λ n. first_open (from + n) (left parts (i + 1))) (length-map p.items (λ list. list.items)))
 
-pub counted : (parts : List Part) (i : ℕ) (p : Part) → i < length parts → p ≡ get_or parts i p → length (left parts i) ≡ length p.items + length (left parts (i + 1))
+pub counted : (parts : List Part) (i : ℕ) (p : Part) → i < length parts → p ≡ get_or parts i p
+    → length (left parts i) ≡ length p.items + length (left parts (i + 1))
 counted parts i p below is =
-    ap length (part_left parts i p below is) ∙ (length-append (lists_of p.items) (left parts (i + 1)) ∙ ap (λ n. n + length (left parts (i + 1))) (length-map p.items (λ list. list.items)))
+    ap length (part_left parts i p below is)
+        ∙ (length-append (lists_of p.items) (left parts (i + 1))
+        ∙ ap (λ n. n + length (left parts (i + 1))) (length-map p.items (λ list. list.items)))
 
 -- ---- what the number says
 
@@ -86,7 +96,8 @@ open_from n m (x ∷ xs) e = by_test (is_closed x) refl (open_from (n + 1) m xs)
     same : Some n ≡ Some m → m ≡ n + zero
     same e = let k : n ≡ m = cc in omega (arith, k)
 
-    by_test : (b : Bool) → is_closed x ≡ b → (first_open (n + 1) xs ≡ Some m → OpenAt (n + 1) m xs) → cond b (first_open (n + 1) xs) (Some n) ≡ Some m → OpenAt n m (x ∷ xs)
+    by_test : (b : Bool) → is_closed x ≡ b → (first_open (n + 1) xs ≡ Some m → OpenAt (n + 1) m xs)
+        → cond b (first_open (n + 1) xs) (Some n) ≡ Some m → OpenAt n m (x ∷ xs)
     by_test true t f e =
         let r = f e in
         record { at = suc r.at; sum = omega (arith, r.sum); first = (t, r.first) }
@@ -102,7 +113,8 @@ none_from : (n : ℕ) (rings : List (List Place)) → first_open n rings ≡ Non
 none_from n [] e = tt
 none_from n (x ∷ xs) e = by_test (is_closed x) refl (none_from (n + 1) xs) e
   where
-    by_test : (b : Bool) → is_closed x ≡ b → (first_open (n + 1) xs ≡ None → Every (λ ring. is_closed ring ≡ true) xs) → cond b (first_open (n + 1) xs) (Some n) ≡ None → (is_closed x ≡ true) × Every (λ ring. is_closed ring ≡ true) xs
+    by_test : (b : Bool) → is_closed x ≡ b → (first_open (n + 1) xs ≡ None → Every (λ ring. is_closed ring ≡ true) xs)
+        → cond b (first_open (n + 1) xs) (Some n) ≡ None → (is_closed x ≡ true) × Every (λ ring. is_closed ring ≡ true) xs
     by_test true t f e = (t, f e)
     by_test false t f e = cc
 

@@ -5,3 +5,5 @@ pub mod Results
 pub mod Polygons
 pub mod Writing
 pub mod Again
+pub mod Geometries
+pub mod Pushing

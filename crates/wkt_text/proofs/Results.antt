@@ -68,7 +68,8 @@ no_fault_of text (NotClosed ring) s t h = whole_of text h.0 (NotClosed ring) s t
 no_fault_of text (Invalid f) s t h = whole_of text h.0 (Invalid f) s t h.1 h.2
 no_fault_of text NoMemory s t h = refl
 
-pub only : (text : List ℕ) (r : Result Shape WktFault) → IsFound text r → (s : Shape) → IsShapeText text s → MatchResult r (λ u. u ≡ s) (λ e. e ≡ NoMemory)
+pub only : (text : List ℕ) (r : Result Shape WktFault) → IsFound text r → (s : Shape) → IsShapeText text s
+    → MatchResult r (λ u. u ≡ s) (λ e. e ≡ NoMemory)
 only text (Ok u) f s t =
     let same : f.geometry ≡ t.geometry = one_value text f.geometry t.geometry f.spelled t.spelled in
     f.shape ∙ (ap shape_in same ∙ sym t.shape)

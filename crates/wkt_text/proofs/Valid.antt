@@ -1,6 +1,6 @@
 -- A valid shape has no fault.
 --
--- every_at, pair_at     what holds of each, or of each pair, holds of those at these places
+-- every_got, pair_at     what holds of each, or of each pair, holds of those at these places
 -- valid_flawless        the promise
 use Rattle.std.proofs.Common.{ℕ, zero, suc, ◌≡◌, ◌<◌, ◌≤◌, ◌⊎◌, inl, inr, List, [], ◌∷◌, length, Some, ap, subst, arith}
 use Rattle.std.specs.Prelude.{slice_get}
@@ -13,16 +13,13 @@ use Rattle.plane_terms.specs.declared.kind.Kind.TheVariants as kind
 use Rattle.shape.specs.Counts.{IsFull}
 use Rattle.plane_terms.specs.ShapeFaults.{IsPair, AreBad, IsFlawless, least}
 use Rattle.shape.proofs.Made.{full_flawless}
+use Rattle.plane_terms.proofs.ListLemmas.{every_got}
 
-every_at : {A : Type 0} (P : A → Type 0) (xs : List A) (i : ℕ) (x : A) → Every P xs → slice_get xs i ≡ Some x → P x
-every_at P [] i x h e = cc
-every_at P (y ∷ ys) zero x h e = let same : y ≡ x = cc in subst (λ (z : _). P z) same h.0
-every_at P (y ∷ ys) (suc i) x h e = every_at P ys i x h.1 e
-
-pair_at : {A : Type 0} (R : A → A → Type 0) (xs : List A) (i j : ℕ) (x y : A) → EveryPair R xs → i < j → slice_get xs i ≡ Some x → slice_get xs j ≡ Some y → R x y
+pair_at : {A : Type 0} (R : A → A → Type 0) (xs : List A) (i j : ℕ) (x y : A) → EveryPair R xs → i < j → slice_get xs i ≡ Some x
+    → slice_get xs j ≡ Some y → R x y
 pair_at R [] i j x y h l e k = cc
 pair_at R (z ∷ zs) i zero x y h l e k = absurd (omega (arith, l))
-pair_at R (z ∷ zs) zero (suc j) x y h l e k = let same : z ≡ x = cc in subst (λ (u : _). R u y) same (every_at (R z) zs j y h.0 k)
+pair_at R (z ∷ zs) zero (suc j) x y h l e k = let same : z ≡ x = cc in subst (λ (u : _). R u y) same (every_got (R z) zs j y h.0 k)
 pair_at R (z ∷ zs) (suc i) (suc j) x y h l e k = pair_at R zs i j x y h.1 (omega (arith, l)) e k
 
 simple_fine : (s t : Segment) → AreSimple s t → AreBad s t → ⊥

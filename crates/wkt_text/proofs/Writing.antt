@@ -10,7 +10,7 @@ use Rattle.shape.specs.Given.{lines_in, polygons_in}
 use Rattle.wkt_terms.specs.Grammar.{APoint}
 use Rattle.wkt_terms.specs.Shapes.{of_lines, of_polygons, geometry_by, shape_text}
 use Rattle.wkt_terms.specs.Written.{written}
-use Rattle.wkt_laws.specs.Seen.{Ring, lists_of, parts_of}
+use Rattle.shape.specs.Given.{Ring, rings_in as lists_of, polygons_in as parts_of}
 
 alone : (lists : List Ring) → flat_map (λ part. part) (lines_in lists) ≡ lists_of lists
 alone [] = refl
@@ -19,10 +19,12 @@ alone (ring ∷ lists) = ap (λ t. ring.items ∷ t) (alone lists)
 pub point_text : (s : Shape) (p : Place) → kind.Point ≡ s.kind → p ≡ place_of s → shape_text s ≡ written (APoint p)
 point_text s p k e = ap (λ (j : Kind). written (geometry_by j s)) (sym k) ∙ ap (λ q. written (APoint q)) (sym e)
 
-pub line_text : (s : Shape) (lists : List Ring) → kind.Line ≡ s.kind → (s.kind ≡ kind.Line → lines_in lists ≡ s.parts) → shape_text s ≡ written (of_lines (lists_of lists))
+pub line_text : (s : Shape) (lists : List Ring) → kind.Line ≡ s.kind → (s.kind ≡ kind.Line → lines_in lists ≡ s.parts)
+    → shape_text s ≡ written (of_lines (lists_of lists))
 line_text s lists k e =
     let rings : rings_of s ≡ lists_of lists = ap (λ parts. flat_map (λ part. part) parts) (sym (e (sym k))) ∙ alone lists in
     ap (λ (j : Kind). written (geometry_by j s)) (sym k) ∙ ap (λ r. written (of_lines r)) rings
 
-pub polygon_text : (s : Shape) (parts : List (Vec Ring Global)) → kind.Polygon ≡ s.kind → (s.kind ≡ kind.Polygon → polygons_in parts ≡ s.parts) → shape_text s ≡ written (of_polygons (parts_of parts))
+pub polygon_text : (s : Shape) (parts : List (Vec Ring Global)) → kind.Polygon ≡ s.kind
+    → (s.kind ≡ kind.Polygon → polygons_in parts ≡ s.parts) → shape_text s ≡ written (of_polygons (parts_of parts))
 polygon_text s parts k e = ap (λ (j : Kind). written (geometry_by j s)) (sym k) ∙ ap (λ ps. written (of_polygons ps)) (sym (e (sym k)))

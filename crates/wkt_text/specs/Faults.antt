@@ -3,7 +3,7 @@
 -- IsShapeFault s e       the parts of s make no shape, and e carries the first fault that applies; want of memory may come at any time
 -- IsPolygonFault ps e    the same of the parts ps of a polygon as they are written, or e is the number of the first ring that is not closed
 -- IsWholeFault g e       the same of a geometry
-use Rattle.std.specs.Prelude.{ℕ, ◌≡◌, true, List, map}
+use Rattle.std.specs.Prelude.{ℕ, ◌≡◌, true, List}
 use Rattle.plane_terms.specs.Lists.{Every}
 use Rattle.plane_terms.specs.Point.{Place}
 use Rattle.plane_terms.specs.Shape.{Shape, shape_of}
@@ -12,7 +12,7 @@ use Rattle.plane_terms.specs.ShapeFaults.{IsFault}
 use Rattle.shape.specs.Given.{all_rings}
 use Rattle.plane_terms.specs.declared.shape_fault.ShapeFault.TheVariants as shape
 use Rattle.wkt_terms.specs.Grammar.{Geometry}
-use Rattle.wkt_terms.specs.Shapes.{is_closed, without_last, rings_in, shape_in, AreClosed, IsFirstOpen}
+use Rattle.wkt_terms.specs.Shapes.{is_closed, rings_in, shape_in, AreClosed, IsFirstOpen}
 use Rattle.wkt_terms.specs.declared.wkt_fault.WktFault.{WktFault}
 use Rattle.wkt_terms.specs.declared.wkt_fault.WktFault.TheVariants.{Syntax, OffGrid, OutOfReach, Unsupported, NotClosed, Invalid, NoMemory}
 
@@ -28,8 +28,8 @@ IsShapeFault s NoMemory = Unit {0}
 abbrev pub closed_rings : List (List (List Place)) → Type 0
 closed_rings parts = Every (λ ring. is_closed ring ≡ true) (all_rings parts)
 
-abbrev pub opened_shape : List (List (List Place)) → Shape
-opened_shape parts = shape_of kind.Polygon (map (λ part. map without_last part) parts)
+abbrev pub polygon_by : List (List (List Place)) → Shape
+polygon_by parts = shape_of kind.Polygon parts
 
 abbrev pub IsPolygonFault : List (List (List Place)) → WktFault → Type 0
 IsPolygonFault parts (Syntax at) = ⊥
@@ -37,7 +37,7 @@ IsPolygonFault parts (OffGrid at) = ⊥
 IsPolygonFault parts (OutOfReach at) = ⊥
 IsPolygonFault parts (Unsupported at) = ⊥
 IsPolygonFault parts (NotClosed ring) = IsFirstOpen (all_rings parts) ring
-IsPolygonFault parts (Invalid f) = closed_rings parts × IsShapeFault (opened_shape parts) (Invalid f)
+IsPolygonFault parts (Invalid f) = closed_rings parts × IsShapeFault (polygon_by parts) (Invalid f)
 IsPolygonFault parts NoMemory = Unit {0}
 
 abbrev pub IsWholeFault : Geometry → WktFault → Type 0

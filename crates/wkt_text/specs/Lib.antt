@@ -1,3 +1,7 @@
+pub mod Appended
+pub mod Closed
 pub mod Faults
-pub mod Given
+pub mod Meanings
 pub mod Open
+pub mod States
+pub mod Stops

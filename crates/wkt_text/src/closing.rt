@@ -1,7 +1,7 @@
 ghost use Rattle.std.specs.Prelude.{◌≡◌, ◌<◌, ◌+◌, ◌^◌, length, flat_map};
 ghost use Rattle.plane_terms.specs.Point.{same_place};
 ghost use Rattle.wkt_terms.specs.Shapes.{is_closed};
-ghost use Rattle.wkt_laws.specs.Seen.{lists_of, parts_of};
+ghost use Rattle.shape.specs.Given.{rings_in as lists_of, polygons_in as parts_of};
 ghost use Rattle.shape.specs.Given.{all_rings};
 ghost use Rattle.wkt_text.specs.Open.{first_open};
 

@@ -1,12 +1,12 @@
 ghost use Rattle.std.specs.Prelude.{List, ℕ};
 ghost use Rattle.plane_terms.specs.Shape.{Shape};
 ghost use Rattle.plane_terms.specs.ShapeFaults.{IsFault};
-ghost use Rattle.wkt_geometry.specs.Faults.{place_of, Refuses};
+ghost use Rattle.wkt_text.specs.Stops.{place_of, Refuses};
 ghost use Rattle.wkt_terms.specs.WktFaults.{IsWktFault};
 ghost use Rattle.wkt_text.specs.Faults.{IsShapeFault};
 
 use plane_terms::ShapeFault;
-use wkt_geometry::{Cause, TextFault};
+use crate::stop::{Cause, TextFault};
 use wkt_terms::WktFault;
 
 /// A fault of the tokens.

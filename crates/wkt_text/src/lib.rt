@@ -1,13 +1,20 @@
-// Well-known text: shapes, read and written.
+// Well-known text: shapes, read a token at a time, and written.
 #![tactic(auto)]
 
 mod closing;
 mod fault;
-mod opening;
+mod geometry;
+mod lists;
 mod parts;
+mod place;
 mod read;
+mod rings;
+mod spelling;
+mod state;
+mod stop;
+mod token;
 mod write;
 
-pub use wkt_terms::WktFault;
 pub use read::read_wkt;
+pub use wkt_terms::WktFault;
 pub use write::write_wkt;

@@ -1,21 +1,19 @@
 ghost use Rattle.std.specs.Prelude.{◌≡◌, [], ◌∷◌, MatchResult};
-ghost use Rattle.wkt_laws.specs.Seen.{lists_of};
+ghost use Rattle.shape.specs.Given.{rings_in as lists_of};
 ghost use Rattle.plane_terms.specs.Shape.{shape_of, IsShape};
 ghost use Rattle.plane_terms.specs.declared.kind.Kind.TheVariants as kind;
 ghost use Rattle.shape.specs.Given.{lines_in, polygons_in, IsCountable};
-ghost use Rattle.wkt_terms.specs.Shapes.{shape_in, AreClosed};
-ghost use Rattle.wkt_geometry.specs.States.{geometry_of};
-ghost use Rattle.wkt_text.specs.Faults.{closed_rings, opened_shape, IsShapeFault, IsPolygonFault, IsWholeFault};
-ghost use Rattle.wkt_text.specs.Given.{given_in};
+ghost use Rattle.wkt_terms.specs.Shapes.{parts_in, shape_in, AreClosed};
+ghost use Rattle.wkt_text.specs.States.{geometry_of};
+ghost use Rattle.wkt_text.specs.Faults.{closed_rings, polygon_by, IsShapeFault, IsPolygonFault, IsWholeFault};
 
 use crate::closing::first_open;
 use crate::fault::shape_fault;
 use wkt_terms::WktFault;
-use crate::opening::open_parts;
 use grid_plane::GridPoint;
 use shape::Shape;
 use std::alloc::Global;
-use wkt_geometry::Geometry;
+use crate::geometry::Geometry;
 
 fn line_of(alloc: Global, parts: Vec<Vec<GridPoint>>) -> Result<Shape, WktFault>
     requires { IsCountable (lines_in parts.items) }
@@ -29,8 +27,8 @@ fn line_of(alloc: Global, parts: Vec<Vec<GridPoint>>) -> Result<Shape, WktFault>
     }
 }
 
-// The polygon of these parts, whose rings have no last positions.
-fn opened_polygon(alloc: Global, parts: Vec<Vec<Vec<GridPoint>>>) -> Result<Shape, WktFault>
+// The polygon of these parts; it drops the last position of each ring, which is its first again.
+fn closed_polygon(alloc: Global, parts: Vec<Vec<Vec<GridPoint>>>) -> Result<Shape, WktFault>
     requires { IsCountable (polygons_in parts.items) }
     ensures { MatchResult result
         (λ s. (s ≡ shape_of kind.Polygon (polygons_in parts.items)) × IsShape s)
@@ -42,17 +40,16 @@ fn opened_polygon(alloc: Global, parts: Vec<Vec<Vec<GridPoint>>>) -> Result<Shap
     }
 }
 
-fn polygon_of(alloc: Global, mut parts: Vec<Vec<Vec<GridPoint>>>) -> Result<Shape, WktFault>
+fn polygon_of(alloc: Global, parts: Vec<Vec<Vec<GridPoint>>>) -> Result<Shape, WktFault>
     requires { IsCountable (polygons_in parts.items) }
     ensures { MatchResult result
-        (λ s. closed_rings (polygons_in parts.items) × (s ≡ opened_shape (polygons_in parts.items)) × IsShape s)
+        (λ s. closed_rings (polygons_in parts.items) × (s ≡ polygon_by (polygons_in parts.items)) × IsShape s)
         (λ e. IsPolygonFault (polygons_in parts.items) e) }
 {
     if let Some(ring) = first_open(&parts) {
         return Err(WktFault::NotClosed { ring });
     }
-    open_parts(&mut parts);
-    opened_polygon(alloc, parts)
+    closed_polygon(alloc, parts)
 }
 
 // One part alone.
@@ -94,7 +91,7 @@ fn line_of_one(alloc: Global, places: Vec<GridPoint>) -> Result<Shape, WktFault>
 fn polygon_of_one(alloc: Global, rings: Vec<Vec<GridPoint>>) -> Result<Shape, WktFault>
     requires { IsCountable (lists_of rings.items ∷ []) }
     ensures { MatchResult result
-        (λ s. closed_rings (lists_of rings.items ∷ []) × (s ≡ opened_shape (lists_of rings.items ∷ [])) × IsShape s)
+        (λ s. closed_rings (lists_of rings.items ∷ []) × (s ≡ polygon_by (lists_of rings.items ∷ [])) × IsShape s)
         (λ e. IsPolygonFault (lists_of rings.items ∷ []) e) }
 {
     match one_polygon(alloc, rings) {
@@ -105,7 +102,7 @@ fn polygon_of_one(alloc: Global, rings: Vec<Vec<GridPoint>>) -> Result<Shape, Wk
 
 /// The shape of what a text spells.
 pub fn shape_of(alloc: Global, geometry: Geometry) -> Result<Shape, WktFault>
-    requires { IsCountable (given_in (geometry_of geometry)) }
+    requires { IsCountable (parts_in (geometry_of geometry)) }
     ensures { MatchResult result
         (λ s. AreClosed (geometry_of geometry) × (s ≡ shape_in (geometry_of geometry)) × IsShape s)
         (λ e. IsWholeFault (geometry_of geometry) e) }

@@ -8,7 +8,7 @@ use wkt_terms::WktFault;
 use crate::parts::shape_of;
 use shape::Shape;
 use std::alloc::Global;
-use wkt_geometry::read_geometry;
+use crate::spelling::read_geometry;
 
 fn read_shape(alloc: Global, text: &[u8]) -> Result<Shape, WktFault>
     requires { length text.now ≤ 1048576 }

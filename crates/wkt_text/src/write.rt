@@ -1,12 +1,14 @@
 ghost use Rattle.std.specs.Prelude.{◌≡◌, ◌++◌};
 ghost use Rattle.plane_terms.specs.Shape.{IsShape};
 ghost use Rattle.wkt_terms.specs.Shapes.{shape_text, IsShapeText};
-ghost use Rattle.wkt_writer.specs.Appended.{Appends};
+ghost use Rattle.wkt_text.specs.Appended.{Appends};
 
 use grid_plane::NoMemory;
 use shape::{Kind, Shape};
 use std::alloc::AllocError;
-use wkt_writer::{push_line, push_point, push_polygon};
+use crate::lists::push_line;
+use crate::place::push_point;
+use crate::rings::push_polygon;
 
 fn push_shape(out: &mut Vec<u8>, shape: &Shape) -> Result<(), AllocError>
     ensures { Appends result out.old.items out.new.items (shape_text shape.now) × IsShape shape.now }

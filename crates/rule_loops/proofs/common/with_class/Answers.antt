@@ -10,7 +10,9 @@ use Rattle.rule_loops.proofs.common.with_class.Goals as goal
 
 pub push_cells-requires : goal.push_cells-requires
 push_cells-requires g c =
-    rw (c.loop-i.invariant.found, c.handle.ensures) (found_below (g.C.Common.common c.args.common.now) (λ (x : Feature). x.class == c.args.class) c.args.view.now c.loop-i.i c.feature-other.result.now c.requires c.feature-other.ensures)
+    rw (c.loop-i.invariant.found, c.handle.ensures)
+        (found_below (g.C.Common.common c.args.common.now)
+        (λ (x : Feature). x.class == c.args.class) c.args.view.now c.loop-i.i c.feature-other.result.now c.requires c.feature-other.ensures)
 
 pub loop-i-preserved : goal.loop-i-preserved
 loop-i-preserved g c =
@@ -22,14 +24,18 @@ loop-i-preserved g c =
     let i = c.loop-i.i in
     elim c.if-class.branch [
       | then-class+in_ok-cells+in_ok-push_cells w ↦
-          let part : finding_of w.handle.result w.in_ok-cells.cells ≡ finding_of h.handle (cells h) = rw (w.handle.ensures, w.in_ok-cells.ensures.cells) refl in
+          let part : finding_of w.handle.result w.in_ok-cells.cells
+              ≡ finding_of h.handle (cells h) = rw (w.handle.ensures, w.in_ok-cells.ensures.cells) refl in
           record {
-            found = found_more cells test V i h c.loop-i.findings (finding_of w.handle.result w.in_ok-cells.cells) c.if-class.findings c.feature-other.ensures (class_is h.class c.class.result n c.class.ensures w.if-class.true) c.loop-i.invariant.found part
+            found = found_more cells test V i h c.loop-i.findings
+                (finding_of w.handle.result w.in_ok-cells.cells) c.if-class.findings c.feature-other.ensures
+                (class_is h.class c.class.result n c.class.ensures w.if-class.true) c.loop-i.invariant.found part
                 (w.findings-is ∙ w.in_ok-push_cells.ensures);
-            uncounted = w.work-is ∙ (w.cells.ensures.uncounted ∙ c.loop-i.invariant.uncounted)
+            uncounted = w.work-is ∙ (w.cells.ensures.uncounted ∙ c.loop-i.invariant.uncounted);
           }
       | else-class w ↦ record {
-          found = w.findings-is ∙ found_same cells test V i h c.loop-i.findings c.feature-other.ensures (class_is_not h.class c.class.result n c.class.ensures w.if-class.false) c.loop-i.invariant.found;
-          uncounted = w.work-is ∙ c.loop-i.invariant.uncounted
-        }
+        found = w.findings-is ∙ found_same cells test V i h c.loop-i.findings c.feature-other.ensures
+            (class_is_not h.class c.class.result n c.class.ensures w.if-class.false) c.loop-i.invariant.found;
+        uncounted = w.work-is ∙ c.loop-i.invariant.uncounted;
+      }
     ]

@@ -9,7 +9,9 @@ use Rattle.rule_loops.proofs.common.with_later.Goals as goal
 
 pub push_cells-requires : goal.push_cells-requires
 push_cells-requires g c =
-    rw (c.loop-i.invariant.found, c.handle.ensures) (found_below (g.C.Common.common c.args.common.now) (later_of c.args.class c.args.subject.now) c.args.view.now c.loop-i.i c.feature-other.result.now c.requires c.feature-other.ensures)
+    rw (c.loop-i.invariant.found, c.handle.ensures)
+        (found_below (g.C.Common.common c.args.common.now)
+        (later_of c.args.class c.args.subject.now) c.args.view.now c.loop-i.i c.feature-other.result.now c.requires c.feature-other.ensures)
 
 pub loop-i-preserved : goal.loop-i-preserved
 loop-i-preserved g c =
@@ -20,14 +22,18 @@ loop-i-preserved g c =
     let i = c.loop-i.i in
     elim c.if-is_later.branch [
       | then-is_later+in_ok-cells+in_ok-push_cells w ↦
-          let part : finding_of w.handle.result w.in_ok-cells.cells ≡ finding_of h.handle (cells h) = rw (w.handle.ensures, w.in_ok-cells.ensures.cells) refl in
+          let part : finding_of w.handle.result w.in_ok-cells.cells
+              ≡ finding_of h.handle (cells h) = rw (w.handle.ensures, w.in_ok-cells.ensures.cells) refl in
           record {
-            found = found_more cells test V i h c.loop-i.findings (finding_of w.handle.result w.in_ok-cells.cells) c.if-is_later.findings c.feature-other.ensures (sym c.is_later.ensures ∙ w.if-is_later.true) c.loop-i.invariant.found part
+            found = found_more cells test V i h c.loop-i.findings
+                (finding_of w.handle.result w.in_ok-cells.cells) c.if-is_later.findings c.feature-other.ensures
+                (sym c.is_later.ensures ∙ w.if-is_later.true) c.loop-i.invariant.found part
                 (w.findings-is ∙ w.in_ok-push_cells.ensures);
-            uncounted = w.work-is ∙ (w.cells.ensures.uncounted ∙ c.loop-i.invariant.uncounted)
+            uncounted = w.work-is ∙ (w.cells.ensures.uncounted ∙ c.loop-i.invariant.uncounted);
           }
       | else-is_later w ↦ record {
-          found = w.findings-is ∙ found_same cells test V i h c.loop-i.findings c.feature-other.ensures (sym c.is_later.ensures ∙ w.if-is_later.false) c.loop-i.invariant.found;
-          uncounted = w.work-is ∙ c.loop-i.invariant.uncounted
-        }
+        found = w.findings-is ∙ found_same cells test V i h c.loop-i.findings c.feature-other.ensures
+            (sym c.is_later.ensures ∙ w.if-is_later.false) c.loop-i.invariant.found;
+        uncounted = w.work-is ∙ c.loop-i.invariant.uncounted;
+      }
     ]

@@ -1,12 +1,13 @@
 use Rattle.std.proofs.Common.{◌≡◌, sym, ◌∙◌, ap, refl}
 use Rattle.topology_terms.specs.Feature.{sides}
 use Rattle.topology_terms.specs.Cells.{uncovered, out_of_segments}
-use Rattle.rule_loops.proofs.More.{segment_more, segment_same, segment_none, class_is, class_is_not}
-use Rattle.rule_loops.proofs.sides.segment_left.Goals.{then-class+in_ok-left, else-class}
+use Rattle.rule_loops.proofs.More.{segment_more, segment_same, segment_none}
+use Rattle.rule_loops.proofs.sides.segment_left.Goals.{then-is_beside+in_ok-left, else-is_beside}
 use Rattle.rule_loops.proofs.sides.segment_left.Goals as goal
 
 pub returns-then-len-eq0 : goal.returns-then-len-eq0
-returns-then-len-eq0 c = segment_none c.args.segment.now c.args.class c.args.view.now c.loop-i.i c.loop-i.left c.loop-i.invariant (sym c.len.ensures ∙ c.if-len-eq0.true)
+returns-then-len-eq0 c = segment_none c.args.segment.now c.args.class c.args.view.now c.loop-i.i c.loop-i.left c.loop-i.invariant
+    (sym c.len.ensures ∙ c.if-len-eq0.true)
 
 pub loop-i-preserved : goal.loop-i-preserved
 loop-i-preserved c =
@@ -15,9 +16,13 @@ loop-i-preserved c =
     let n = c.args.class in
     let V = c.args.view.now in
     let i = c.loop-i.i in
-    elim c.if-class.branch [
-      | then-class+in_ok-left w ↦
+    elim c.if-is_beside.branch [
+      | then-is_beside+in_ok-left w ↦
           let of : w.segs.result.now ≡ sides g = rw (w.segs.ensures.value, w.shape.ensures) refl in
-          w.left-is ∙ (w.in_ok-left.ensures ∙ (ap (λ ts. uncovered c.loop-i.left (out_of_segments s ts)) of ∙ segment_more s n V i g c.loop-i.left c.feature-other.ensures (class_is g.class c.class.result n c.class.ensures w.if-class.true) c.loop-i.invariant))
-      | else-class w ↦ w.left-is ∙ segment_same s n V i g c.loop-i.left c.feature-other.ensures (class_is_not g.class c.class.result n c.class.ensures w.if-class.false) c.loop-i.invariant
+          w.left-is ∙ (w.in_ok-left.ensures
+              ∙ (ap (λ ts. uncovered c.loop-i.left (out_of_segments s ts)) of
+              ∙ segment_more s n V i g c.loop-i.left c.feature-other.ensures
+              (sym c.is_beside.ensures ∙ w.if-is_beside.true) c.loop-i.invariant))
+      | else-is_beside w ↦ w.left-is ∙ segment_same s n V i g c.loop-i.left c.feature-other.ensures
+          (sym c.is_beside.ensures ∙ w.if-is_beside.false) c.loop-i.invariant
     ]

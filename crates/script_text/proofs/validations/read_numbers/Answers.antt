@@ -10,7 +10,8 @@ pub returns-in_err-y0 : goal.returns-in_err-y0
 returns-in_err-y0 c = rw c.from_residual-in_err-y0.ensures (λ r p. (rw c.in_ok-x0.ensures.1 at c.in_err-y0.ensures) r.y0 p.1.0)
 
 pub returns-in_err-x1 : goal.returns-in_err-x1
-returns-in_err-x1 c = rw c.from_residual-in_err-x1.ensures (λ r p. (rw (c.in_ok-y0.ensures.1, c.in_ok-x0.ensures.1) at c.in_err-x1.ensures) r.x1 p.1.1.0)
+returns-in_err-x1 c =
+    rw c.from_residual-in_err-x1.ensures (λ r p. (rw (c.in_ok-y0.ensures.1, c.in_ok-x0.ensures.1) at c.in_err-x1.ensures) r.x1 p.1.1.0)
 
 pub returns-in_err-y1 : goal.returns-in_err-y1
 returns-in_err-y1 c =

@@ -13,6 +13,7 @@ loop-part-preserved c =
     let now = all_vertices (rings_in c.deref.result.now) in
     let e = ap (λ rs. all_vertices (rings_in rs)) c.deref.ensures.value in
     let d = part_dropped c.args.parts.now i c.part-item.result c.loop-part-test.true c.part-item.is in (
-      box_step c.loop-part.wide c.widen_by_rings-wide.result items now rest whole e c.widen_by_rings-wide.ensures.value d ∙ c.loop-part.invariant.0,
+      box_step c.loop-part.wide c.widen_by_rings-wide.result items now rest whole e c.widen_by_rings-wide.ensures.value d
+          ∙ c.loop-part.invariant.0,
       λ f. c.loop-part.invariant.1 (reach_step items now rest whole e c.widen_by_rings-wide.ensures.reach d f),
     )

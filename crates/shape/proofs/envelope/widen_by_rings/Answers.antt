@@ -11,6 +11,7 @@ loop-ring-preserved c =
     let whole = all_vertices (rings_in (drop i c.args.rings.now)) in
     let r = c.ring-item.result in
     let d = ring_dropped c.args.rings.now i r c.loop-ring-test.true c.ring-item.is in (
-      box_step c.loop-ring.wide c.widen-wide.result r.items c.deref.result.now rest whole c.deref.ensures.value c.widen-wide.ensures.value d ∙ c.loop-ring.invariant.0,
+      box_step c.loop-ring.wide c.widen-wide.result r.items c.deref.result.now rest whole c.deref.ensures.value c.widen-wide.ensures.value d
+          ∙ c.loop-ring.invariant.0,
       λ f. c.loop-ring.invariant.1 (reach_step r.items c.deref.result.now rest whole c.deref.ensures.value c.widen-wide.ensures.reach d f),
     )

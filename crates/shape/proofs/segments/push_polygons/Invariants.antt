@@ -6,4 +6,7 @@ use Rattle.shape.specs.Kept.{IsClosing}
 use Rattle.shape.proofs.segments.push_polygons.Given as goal
 
 abbrev pub invariant-loop-part : goal.invariant-loop-part
-invariant-loop-part l = Every (Every IsClosing) (polygons_in (drop l.part-index l.parts)) × (l.segs.items ++ flat_map closed_path (all_rings (polygons_in (drop l.part-index l.parts))) ≡ l.initial.segs.items ++ flat_map closed_path (all_rings (polygons_in l.parts)))
+invariant-loop-part l =
+    Every (Every IsClosing) (polygons_in (drop l.part-index l.parts))
+    × (l.segs.items ++ flat_map closed_path (all_rings (polygons_in (drop l.part-index l.parts))) ≡ l.initial.segs.items ++ flat_map
+    closed_path (all_rings (polygons_in l.parts)))

@@ -3,4 +3,7 @@ use Rattle.plane_terms.specs.Shape.{path, NextDiffer}
 use Rattle.shape.proofs.segments.push_ring.Given as goal
 
 abbrev pub invariant-loop-to : goal.invariant-loop-to
-invariant-loop-to l = NextDiffer (l.from ∷ drop l.to-index l.rest ++ l.first ∷ []) × (l.segs.items ++ path (l.from ∷ drop l.to-index l.rest ++ l.first ∷ []) ≡ l.initial.segs.items ++ path (l.first ∷ l.rest ++ l.first ∷ []))
+invariant-loop-to l =
+    NextDiffer (l.from ∷ drop l.to-index l.rest ++ l.first ∷ [])
+    × (l.segs.items ++ path (l.from ∷ drop l.to-index l.rest ++ l.first ∷ []) ≡ l.initial.segs.items ++ path
+    (l.first ∷ l.rest ++ l.first ∷ []))

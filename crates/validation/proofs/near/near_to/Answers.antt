@@ -1,7 +1,8 @@
 use Rattle.std.proofs.Common.{◌<◌, take}
 use Rattle.plane_terms.specs.Rectangle.{rects_meet}
 use Rattle.topology_terms.specs.Feature.{Feature, env}
-use Rattle.validation.proofs.Elements.{every_before, every_kept}
+use Rattle.plane_terms.proofs.ListLemmas.{every_filter}
+use Rattle.validation.proofs.Elements.{every_before}
 use Rattle.validation.proofs.near.near_to.Goals as goal
 
 pub push-requires : goal.push-requires
@@ -10,4 +11,4 @@ push-requires c =
     let F = c.args.features.now in
     let i = c.loop-g.g-index in
     let f = c.g-item.result in
-    rw c.loop-g.invariant (every_kept (λ (g : Feature). g.handle < f.handle) test (take i F) (every_before F i f c.requires c.loop-g-test.true c.g-item.is))
+    rw c.loop-g.invariant (every_filter (λ (g : Feature). g.handle < f.handle) test (take i F) (every_before F i f c.requires c.loop-g-test.true c.g-item.is))

@@ -1,6 +1,7 @@
 use Rattle.std.proofs.Common.{◌≡◌}
 use Rattle.validation_laws.proofs.Judging.{judging_ascends}
 use Rattle.sound_laws.proofs.RuleLists.{each_rule}
+use Rattle.validation.proofs.Settled.{on_err}
 use Rattle.validation.proofs.window.rejudge.Goals as goal
 
 pub judge_all-requires-clause-fits : goal.judge_all-requires-clause-fits
@@ -14,3 +15,6 @@ returns-clause-ascending g c =
 
 pub returns-clause-judged : goal.returns-clause-judged
 returns-clause-judged g c = rw c.in_ok-indexed.ensures at c.in_ok-judge_all.ensures.judged
+
+pub returns-in_err-judge_all-clause-stopped : goal.returns-in_err-judge_all-clause-stopped
+returns-in_err-judge_all-clause-stopped g c = on_err c.from_residual-in_err-judge_all.result _ (rw c.in_ok-indexed.ensures at c.in_err-judge_all.ensures.stopped)

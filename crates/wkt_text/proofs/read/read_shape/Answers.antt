@@ -1,4 +1,4 @@
-use Rattle.wkt_geometry.specs.States.{geometry_of}
+use Rattle.wkt_text.specs.States.{geometry_of}
 use Rattle.wkt_text.proofs.Counted.{countable}
 use Rattle.wkt_text.proofs.read.read_shape.Goals as goal
 

@@ -10,6 +10,9 @@ returns-in-Line-Line c =
     let qs = c.in-Line-Line.other.parts.items in
     let a = ap shape_in (sym c.in-Line-Line.is-0) ∙ c.self.view_is in
     let b = ap shape_in (sym c.in-Line-Line.is-1) ∙ c.other.view_is in (
-      λ t. sym a ∙ same_lines ps qs (ap rings_in (sym c.deref.ensures.value) ∙ c.are_same_rings.ensures.0 t ∙ ap rings_in c.deref-in-Line-Line.ensures.value) ∙ b,
-      λ e. c.are_same_rings.ensures.1 (ap rings_in c.deref.ensures.value ∙ same_rings ps qs (a ∙ e ∙ sym b) ∙ ap rings_in (sym c.deref-in-Line-Line.ensures.value)),
+      λ t. sym a
+          ∙ same_lines ps qs (ap rings_in (sym c.deref.ensures.value) ∙ c.are_same_rings.ensures.0 t
+          ∙ ap rings_in c.deref-in-Line-Line.ensures.value) ∙ b,
+      λ e. c.are_same_rings.ensures.1 (ap rings_in c.deref.ensures.value ∙ same_rings ps qs (a ∙ e ∙ sym b)
+          ∙ ap rings_in (sym c.deref-in-Line-Line.ensures.value)),
     )

@@ -1,4 +1,4 @@
-use Rattle.std.proofs.Common.{◌≡◌, subst, sym, refl}
+use Rattle.std.proofs.Common.{◌≡◌, ◌≤◌, subst, sym, refl}
 use Rattle.plane_terms.specs.Lists.{IsThose}
 use Rattle.topology_terms.specs.Feature.{Feature}
 use Rattle.topology_terms.specs.Changes.{IsSelected}
@@ -35,3 +35,10 @@ returns-clause-settled g c = λ k. validated_settled_kept g.R.RuleSet.meaning g.
 
 pub returns-clause-ordered : goal.returns-clause-ordered
 returns-clause-ordered g c = ordered _ (validated_keeps g.R.RuleSet.meaning g.met.R.RuleSet.right g.met.R.KindRules.kinds c.args.window (project_of c.self.inside.store c.self.inside.rules.items c.self.inside.dirt c.self.inside.entries) _ c.self.invariant (c.in_ok-validate.ensures.step (project_of c.self.inside.store c.self.inside.rules.items c.self.inside.dirt c.self.inside.entries) (record { rules = sym c.deref.ensures.value; features = sym c.features.ensures.value; dirt = refl; entries = refl })) c.in_ok-validate.ensures.ordered)
+
+pub returns-in_err-validate-clause-stopped : goal.returns-in_err-validate-clause-stopped
+returns-in_err-validate-clause-stopped g c =
+    let p = project_of c.self.inside.store c.self.inside.rules.items c.self.inside.dirt c.self.inside.entries in
+    rw (← c.self.view_is) (λ fs those. subst (λ rules. c.validate.new.work ≤ raised c.args.work.now (judged_of rules fs)) c.deref.ensures.value
+        (c.in_err-validate.ensures.stopped p (record { rules = sym c.deref.ensures.value; features = sym c.features.ensures.value; dirt = refl; entries = refl }) fs
+        (subst (λ F. IsThose (λ (f : Feature). IsSelected p c.args.window f.handle) F fs) (sym c.features.ensures.value) those)))

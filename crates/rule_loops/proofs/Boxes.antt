@@ -1,0 +1,37 @@
+-- A segment whose box does not meet the envelope of a feature has no segment of the feature beside it.
+use Rattle.std.proofs.Common.{◌≡◌, Bool, true, false, List, [], ◌∷◌, refl, ap, arith, map}
+use Rattle.std.specs.List.{filter}
+use Rattle.std.proofs.lemmas.Int.{ints, clamps}
+use Rattle.plane_terms.specs.Lists.{Every}
+use Rattle.plane_terms.specs.Rectangle.{Rectangle, IsWithin, rects_meet}
+use Rattle.plane_terms.specs.Segment.{Segment, box_of}
+use Rattle.plane_terms.specs.Cell.{out_of_segment}
+use Rattle.topology_terms.specs.Feature.{Feature, sides, env}
+use Rattle.topology_terms.specs.Cells.{box_meets, out_of_segments}
+use Rattle.rule_laws.proofs.Envelopes.{BothEnds, LiesIn, segments_ends}
+
+box_within : (t : Segment) (r : Rectangle) → BothEnds (LiesIn r) t → IsWithin (box_of t) r
+box_within t r h = let a = h.0 in let b = h.1 in record {
+  left = a.left;
+  right = b.right;
+  below = omega (arith, ints, clamps);
+  above = omega (arith, ints, clamps)
+}
+
+meets_wider : (b c r : Rectangle) → IsWithin c r → rects_meet b c ≡ true → rects_meet b r ≡ true
+meets_wider b c r w h = grind (arith, ints)
+
+off_box : (s t : Segment) (r : Rectangle) → BothEnds (LiesIn r) t → rects_meet (box_of s) r ≡ false → box_meets s t ≡ false
+off_box s t r h n = by_test (box_meets s t) refl
+  where
+    by_test : (b : Bool) → box_meets s t ≡ b → b ≡ false
+    by_test true e = let m = meets_wider (box_of s) (box_of t) r (box_within t r h) e in cc
+    by_test false e = refl
+
+none_kept : (s : Segment) (r : Rectangle) (ts : List Segment) → Every (BothEnds (LiesIn r)) ts → rects_meet (box_of s) r ≡ false
+    → filter (box_meets s) ts ≡ []
+none_kept s r [] h n = refl
+none_kept s r (t ∷ ts) h n = rw (off_box s t r h.0 n) (none_kept s r ts h.1 n)
+
+pub none_beside : (s : Segment) (g : Feature) → rects_meet (box_of s) (env g) ≡ false → out_of_segments s (sides g) ≡ []
+none_beside s g n = ap (map {A = Segment} out_of_segment) (none_kept s (env g) (sides g) (segments_ends g.shape) n)

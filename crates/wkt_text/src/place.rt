@@ -1,0 +1,43 @@
+ghost use Rattle.std.specs.Fmt.{signed_decimal};
+ghost use Rattle.wkt_terms.specs.Grammar.{APoint};
+ghost use Rattle.wkt_terms.specs.Written.{place_text, written};
+ghost use Rattle.wkt_text.specs.Appended.{Appends};
+
+use grid_plane::GridPoint;
+use itoa::Buffer;
+use std::alloc::AllocError;
+
+/// Appends the text, or nothing where memory runs out.
+pub fn push_text(out: &mut Vec<u8>, text: &[u8]) -> Result<(), AllocError>
+    ensures { Appends result out.old.items out.new.items text.now }
+{
+    out.extend_from_slice(text)
+}
+
+fn push_number(out: &mut Vec<u8>, number: i32) -> Result<(), AllocError>
+    ensures { Appends result out.old.items out.new.items (signed_decimal number) }
+{
+    let mut buffer = Buffer::new();
+    push_text(out, buffer.format(number).as_bytes())?;
+    Ok(())
+}
+
+/// Appends the two coordinates with a space between them.
+pub fn push_place(out: &mut Vec<u8>, place: &GridPoint) -> Result<(), AllocError>
+    ensures { Appends result out.old.items out.new.items (place_text place.now) }
+{
+    push_number(out, place.x())?;
+    push_text(out, b" ")?;
+    push_number(out, place.y())?;
+    Ok(())
+}
+
+/// Appends the written form of a point; after want of memory a front of it.
+pub fn push_point(out: &mut Vec<u8>, place: &GridPoint) -> Result<(), AllocError>
+    ensures { Appends result out.old.items out.new.items (written (APoint place.now)) }
+{
+    push_text(out, b"POINT (")?;
+    push_place(out, place)?;
+    push_text(out, b")")?;
+    Ok(())
+}

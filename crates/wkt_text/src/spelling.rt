@@ -1,0 +1,77 @@
+ghost use Rattle.std.specs.Prelude.{◌≡◌, ◌≤◌, ◌-◌, length, Ok, None, MatchResult};
+ghost use Rattle.text_terms.specs.Fields.{skip_blanks};
+ghost use Rattle.wkt_terms.specs.Grammar as grammar;
+ghost use Rattle.wkt_terms.specs.Grammar.{IsWkt};
+ghost use Rattle.wkt_terms.specs.Tokens as tokens;
+ghost use Rattle.wkt_terms.specs.Tokens.{token_at, behind_token};
+ghost use Rattle.wkt_laws.specs.Steps as steps;
+ghost use Rattle.wkt_laws.specs.Steps.{step};
+ghost use Rattle.wkt_text.specs.States.{geometry_of, state_of};
+ghost use Rattle.wkt_text.specs.Stops.{place_of, Refuses, HasStopped};
+
+use crate::stop::{Cause, Stop, TextFault};
+use crate::geometry::Geometry;
+use crate::state::{State, step};
+use crate::token::{Token, next_token};
+use std::alloc::Global;
+use text_fields::skip_blanks;
+
+// Takes the token at the front of what is left, which is not empty.
+fn advance<'a>(
+    alloc: Global,
+    text: &[u8],
+    rest: &'a [u8],
+    state: State,
+) -> Result<(State, &'a [u8]), TextFault>
+    requires part { length rest.now ≤ length text.now }
+    requires limit { length text.now ≤ 1048576 }
+    ensures { MatchResult result
+        (λ x. (step (state_of state) (token_at rest.now) ≡ Ok (state_of x.0)) × (x.1.now ≡ skip_blanks (behind_token rest.now)))
+        (λ e. HasStopped (step (state_of state) (token_at rest.now)) (length text.now - length rest.now) (place_of e)) }
+{
+    let (token, behind) = next_token(rest);
+    match step(alloc, state, token) {
+        Ok(next) => Ok((next, skip_blanks(behind))),
+        Err(stop) => Err(stop.at((text.len() - rest.len()) as u32)),
+    }
+}
+
+// The end is reached.
+fn finish(alloc: Global, text: &[u8], state: State) -> Result<Geometry, TextFault>
+    requires limit { length text.now ≤ 1048576 }
+    ensures { MatchResult result
+        (λ g. step (state_of state) tokens.End ≡ Ok (steps.Over (geometry_of g)))
+        (λ e. HasStopped (step (state_of state) tokens.End) (length text.now) (place_of e)) }
+{
+    let at = text.len() as u32;
+    match step(alloc, state, Token::End) {
+        Ok(State::Over(geometry)) => Ok(geometry),
+        Ok(_) => Err(Stop::Refused(Cause::Syntax).at(at)),
+        Err(stop) => Err(stop.at(at)),
+    }
+}
+
+fn read_all(alloc: Global, text: &[u8]) -> Result<Geometry, TextFault>
+    requires { length text.now ≤ 1048576 }
+    ensures { MatchResult result (λ g. IsWkt text.now (geometry_of g)) (λ e. Refuses text.now (place_of e)) }
+{
+    let mut state = State::Start;
+    let mut rest = skip_blanks(text);
+    while !rest.is_empty() {
+        let (next, behind) = advance(alloc, text, rest, state)?;
+        state = next;
+        rest = behind;
+    }
+    finish(alloc, text, state)
+}
+
+/// The geometry that a text of at most 1,048,576 bytes spells, or the first token that does not fit, with its place and the cause.
+///
+/// The grammar is taken from the well-known text of OGC 06-103r4.
+pub fn read_geometry(alloc: Global, text: &[u8]) -> Result<Geometry, TextFault>
+    requires { length text.now ≤ 1048576 }
+    ensures found { MatchResult result (λ g. IsWkt text.now (geometry_of g)) (λ e. Refuses text.now (place_of e)) }
+    ensures only { (g : grammar.Geometry) → IsWkt text.now g → MatchResult result (λ h. geometry_of h ≡ g) (λ e. place_of e ≡ None) }
+{
+    read_all(alloc, text)
+}

@@ -1,8 +1,0 @@
-use Rattle.std.proofs.Common.{drop}
-use Rattle.wkt_terms.specs.Written.{place_text}
-use Rattle.wkt_laws.specs.Commas.{comma_texts}
-use Rattle.wkt_writer.specs.Appended.{Pushed}
-use Rattle.wkt_writer.proofs.lists.push_more_places.Given as goal
-
-abbrev pub invariant-loop-place : goal.invariant-loop-place
-invariant-loop-place l = Pushed l.initial.out.items l.out.items (comma_texts place_text l.places) (comma_texts place_text (drop l.place-index l.places))

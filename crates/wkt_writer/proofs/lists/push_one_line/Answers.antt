@@ -1,9 +1,0 @@
-use Rattle.std.proofs.Common.{refl}
-use Rattle.wkt_writer.proofs.Pushing.{cut, then_cut, failed}
-use Rattle.wkt_writer.proofs.lists.push_one_line.Goals as goal
-
-pub returns-in_err-push_text : goal.returns-in_err-push_text
-returns-in_err-push_text c = failed c.from_residual.result _ _ _ _ c.from_residual.ensures.0 refl (cut _ _ _ _ c.in_err-push_text.ensures)
-
-pub returns-in_err-push_list : goal.returns-in_err-push_list
-returns-in_err-push_list c = failed c.from_residual-in_err-push_list.result _ _ _ _ c.from_residual-in_err-push_list.ensures.0 refl (then_cut _ _ _ _ _ c.in_ok-push_text.ensures (c.in_err-push_list.ensures))

@@ -1,9 +1,0 @@
-use Rattle.std.proofs.Common.{drop}
-use Rattle.wkt_writer.specs.Closed.{rings_text}
-use Rattle.wkt_laws.specs.Seen.{parts_of}
-use Rattle.wkt_laws.specs.Commas.{comma_texts}
-use Rattle.wkt_writer.specs.Appended.{Pushed}
-use Rattle.wkt_writer.proofs.rings.push_more_parts.Given as goal
-
-abbrev pub invariant-loop-part : goal.invariant-loop-part
-invariant-loop-part l = Pushed l.initial.out.items l.out.items (comma_texts rings_text (parts_of l.parts)) (comma_texts rings_text (parts_of (drop l.part-index l.parts)))
