@@ -78,8 +78,9 @@ class Grid:
 
     def whole_offset(self, remarks: Iterable[str]) -> Place:
         """The origin of a tile's grid in units of that of the whole, which its remark lines say."""
-        x, y = next((line.split()[3:] for line in remarks if line.startswith('# grid whole ')), (decimal_text(self.x), decimal_text(self.y)))
-        dx, dy = (self.x - exact(x)) / self.resolution, (self.y - exact(y)) / self.resolution
+        said = next((line.split()[3:] for line in remarks if line.startswith('# grid whole ')), [])
+        x, y = map(exact, said) if said else (self.x, self.y)
+        dx, dy = (self.x - x) / self.resolution, (self.y - y) / self.resolution
         if dx.denominator != 1 or dy.denominator != 1:
             raise GridError('the origin of the tile is not on the grid of the whole')
         return dx.numerator, dy.numerator
@@ -126,8 +127,9 @@ def chosen_grid(resolution: Fraction, extent: Extent, crs: str) -> Grid:
     try:
         return Grid(resolution, middle_origin(resolution, x0, x1), middle_origin(resolution, y0, y1), crs)
     except GridError:
+        sizes = float(x1 - x0), float(y1 - y0), decimal_text(resolution), decimal_text(2 * REACH * resolution)
         raise GridError('the extent is %.10g wide and %.10g high, and a grid of %s holds %s each way: take a coarser one, or split '
-                        'the source with tools/tiles' % (x1 - x0, y1 - y0, decimal_text(resolution), decimal_text(2 * REACH * resolution))) from None
+                        'the source with tools/tiles' % sizes) from None
 
 
 def whole_grid(resolution: Fraction, origin: Optional[tuple[Fraction, Fraction]], extent: Extent, crs: str) -> Grid:

@@ -86,18 +86,22 @@ def put_label(sheet: Sheet, feature: Drawn, text: str) -> None:
 def put_error(sheet: Sheet, marked: Marked, of: str, ring: int) -> None:
     """The cells of an error; where they are too small to be seen, a ring round them."""
     if marked.cover.polygons:
-        sheet.put('<path d="%s" fill="%s" fill-opacity="0.5" fill-rule="evenodd" stroke="%s" stroke-width="0.8"/>' % (sheet.data(marked.rings, True), of, of))
+        style = 'fill="%s" fill-opacity="0.5" fill-rule="evenodd" stroke="%s" stroke-width="0.8"' % (of, of)
+        sheet.put('<path d="%s" %s/>' % (sheet.data(marked.rings, True), style))
     if marked.cover.lines:
         sheet.put('<path d="%s" fill="none" stroke="%s" stroke-width="2.4"/>' % (sheet.data(marked.cover.lines, False), of))
     x0, y1 = sheet.at(marked.error.frame[:2])
     x1, y0 = sheet.at(marked.error.frame[2:])
     if max(x1 - x0, y1 - y0) < ring:
-        sheet.put('<circle cx="%.1f" cy="%.1f" r="%d" fill="none" stroke="%s" stroke-width="1.4"/>' % ((x0 + x1) / 2, (y0 + y1) / 2, ring, of))
+        at = (x0 + x1) / 2, (y0 + y1) / 2
+        sheet.put('<circle cx="%.1f" cy="%.1f" r="%d" fill="none" stroke="%s" stroke-width="1.4"/>' % (at + (ring, of)))
 
 
 def put_dirt(sheet: Sheet, frame: Frame) -> None:
-    x0, y0, x1, y1 = (max(frame[0], sheet.window[0]), max(frame[1], sheet.window[1]), min(frame[2], sheet.window[2]), min(frame[3], sheet.window[3]))
-    sheet.put('<path d="%s" fill="url(#dirt)" stroke="%s" stroke-width="1.2"/>' % (sheet.data([[(x0, y0), (x1, y0), (x1, y1), (x0, y1)]], True), YELLOW))
+    x0, y0 = max(frame[0], sheet.window[0]), max(frame[1], sheet.window[1])
+    x1, y1 = min(frame[2], sheet.window[2]), min(frame[3], sheet.window[3])
+    corners = [(x0, y0), (x1, y0), (x1, y1), (x0, y1)]
+    sheet.put('<path d="%s" fill="url(#dirt)" stroke="%s" stroke-width="1.2"/>' % (sheet.data([corners], True), YELLOW))
 
 
 def put_legend(sheet: Sheet, entries: list[tuple[str, str]]) -> None:
@@ -124,7 +128,8 @@ def legend_of(scene: Scene, features: list[Drawn], errors: list[Marked], dirt: l
         count = sum(m.error.rule == rule and m.error.mark == 'error' for m in errors)
         entries.append((colour(rules, rule, OF_RULE), '%s, %s' % (rule_text(scene, rule), format(count, ','))))
     marked = sum(m.error.mark != 'error' for m in errors)
-    return entries + ([(GREY, 'exceptions, %s' % format(marked, ','))] if marked else []) + ([(YELLOW, 'dirty, %s' % format(len(dirt), ','))] if dirt else [])
+    more = (GREY, 'exceptions', marked), (YELLOW, 'dirty', len(dirt))
+    return entries + [(of, '%s, %s' % (text, format(count, ','))) for of, text, count in more if count]
 
 
 def svg_of(scene: Scene, window: Optional[Frame]) -> str:
@@ -153,8 +158,10 @@ def svg_of(scene: Scene, window: Optional[Frame]) -> str:
 
 def page_of(sheet: Sheet) -> str:
     wide, high = sheet.width + LEGEND, max(sheet.height, 220)
-    head = ['<svg xmlns="http://www.w3.org/2000/svg" width="%.0f" height="%.0f" viewBox="0 0 %.0f %.0f" font-family="sans-serif" font-size="11">' % (wide, high, wide, high),
-            '<defs><pattern id="dirt" width="6" height="6" patternUnits="userSpaceOnUse"><path d="M0 6 L6 0" stroke="%s" stroke-opacity="0.6"/></pattern>' % YELLOW,
+    size = 'width="%.0f" height="%.0f" viewBox="0 0 %.0f %.0f"' % (wide, high, wide, high)
+    head = ['<svg xmlns="http://www.w3.org/2000/svg" %s font-family="sans-serif" font-size="11">' % size,
+            '<defs><pattern id="dirt" width="6" height="6" patternUnits="userSpaceOnUse">',
+            '<path d="M0 6 L6 0" stroke="%s" stroke-opacity="0.6"/></pattern>' % YELLOW,
             '<clipPath id="window"><rect width="%.0f" height="%.0f"/></clipPath></defs>' % (sheet.width, sheet.height),
             '<rect width="100%" height="100%" fill="#ffffff"/>']
     return '\n'.join(head + sheet.lines + ['</svg>', ''])

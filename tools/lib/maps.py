@@ -6,7 +6,7 @@ import json
 import os
 import re
 import tempfile
-from typing import Iterator, NamedTuple, Optional, Union
+from typing import NamedTuple, Optional, Union
 from xml.sax.saxutils import escape
 
 from .cells import Cover, cover_of

@@ -10,7 +10,6 @@ from typing import Iterable
 from .grid import Grid
 from .mapping import OF_CLASS, OF_RULE, colour, rule_text
 from .outlines import Point
-from .replies import Rule
 from .scenes import Drawn, Marked, Scene, box_of
 
 TEMPLATE = os.path.join(os.path.dirname(os.path.abspath(__file__)), 'page.html')
@@ -48,8 +47,8 @@ def data_of(scene: Scene) -> dict:
     count_of = {name: sum(feature.of_class == name for feature in scene.features) for name in names}
     return {'classes': [{'name': name, 'kind': kind, 'count': count_of[name], 'colour': colour(names, name, OF_CLASS)}
                         for name, kind in scene.ending.classes.items()],
-            'rules': [{'word': rule_text(scene, rule), 'colour': colour(rules, rule, OF_RULE), 'count': sum(m.error.rule == rule for m in scene.errors)}
-                      for rule in rules],
+            'rules': [{'word': rule_text(scene, rule), 'colour': colour(rules, rule, OF_RULE),
+                       'count': sum(marked.error.rule == rule for marked in scene.errors)} for rule in rules],
             'features': [feature_data(feature, names, scene) for feature in scene.features],
             'errors': [error_data(marked, rules, scene) for marked in scene.errors],
             'dirt': scene.dirt, 'box': box_of(scene), 'grid': [float(grid.resolution), float(grid.x), float(grid.y)],

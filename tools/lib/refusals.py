@@ -8,9 +8,10 @@ from .replies import Answer, Ending
 from .rules import KINDS_OF, nearest
 from .texts import KINDS, lists_of, misfit_of, sides_of, tokens_of
 
-FORMS = {'class': 'class NAME KIND', 'rule': 'rule WORD ORIGIN', 'droprule': 'droprule R', 'begin': 'begin EDITOR', 'end': 'end EDITOR',
-         'discard': 'discard EDITOR', 'by': 'by EDITOR add CLASS WKT', 'validate': 'validate X0 Y0 X1 Y1', 'dirty': 'dirty', 'errors': 'errors',
-         'cells': 'cells', 'features': 'features', 'rules': 'rules', 'mark': 'mark R SUBJECT OTHER', 'unmark': 'unmark R SUBJECT OTHER'}
+FORMS = {'class': 'class NAME KIND', 'rule': 'rule WORD ORIGIN', 'droprule': 'droprule R', 'begin': 'begin EDITOR',
+         'end': 'end EDITOR', 'discard': 'discard EDITOR', 'by': 'by EDITOR add CLASS WKT', 'validate': 'validate X0 Y0 X1 Y1',
+         'dirty': 'dirty', 'errors': 'errors', 'cells': 'cells', 'features': 'features', 'rules': 'rules',
+         'mark': 'mark R SUBJECT OTHER', 'unmark': 'unmark R SUBJECT OTHER'}
 DEEDS = {'add': 'by EDITOR add CLASS WKT', 'change': 'by EDITOR change H WKT', 'delete': 'by EDITOR delete H', 'undo': 'by EDITOR undo',
          'redo': 'by EDITOR redo'}
 NUMBERS = {'H': 4294967295, 'SUBJECT': 4294967295, 'OTHER': 4294967295, 'R': 65535}
@@ -80,7 +81,8 @@ def piece_fault(piece: str, text: str) -> str:
     if piece == 'KIND':
         return choice_fault(text, ['point', 'line', 'polygon'], 'kind')
     if piece == 'WORD':
-        return choice_fault(text, list(KINDS_OF), 'word of a rule') if nearest(text, KINDS_OF) or text in KINDS_OF else 'no rule has the word `%s`' % text
+        is_near = text in KINDS_OF or nearest(text, KINDS_OF)
+        return choice_fault(text, list(KINDS_OF), 'word of a rule') if is_near else 'no rule has the word `%s`' % text
     if piece in NUMBERS:
         return number_fault(text, NUMBERS[piece], piece != 'OTHER')
     if piece[0] in 'XY':
@@ -129,7 +131,8 @@ def no_form(of: Refused) -> str:
 
 
 def off_grid(of: Refused) -> str:
-    return 'the coordinate `%s` has a fraction, and coordinates are whole numbers of grid units; tools/from-ogr puts data onto a grid' % token_at(of)
+    return ('the coordinate `%s` has a fraction, and coordinates are whole numbers of grid units; tools/from-ogr puts data onto a grid'
+            % token_at(of))
 
 
 def beyond_reach(of: Refused) -> str:
@@ -141,7 +144,7 @@ def not_supported(of: Refused) -> str:
     token = token_at(of)
     if of.details[0] == '0':
         return '`%s` is no shape here; there are %s' % (token, ', '.join(KINDS))
-    return '`%s` at byte %s of the text of the shape: a shape has two coordinates in each position, and is not empty' % (token, of.details[0])
+    return '`%s` at byte %s of the text of the shape: a position has two coordinates, and a shape is not empty' % (token, of.details[0])
 
 
 def not_closed(of: Refused) -> str:

@@ -5,7 +5,7 @@ import json
 from dataclasses import dataclass, field
 from typing import BinaryIO, Iterator, NamedTuple, Optional
 
-from .grid import Grid, Place, grid_of
+from .grid import Grid, grid_of
 
 MOST_BYTES = 1048576
 LISTINGS = ('errors', 'cells', 'dirty', 'features', 'rules')

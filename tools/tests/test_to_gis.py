@@ -10,7 +10,7 @@ from lib.maps import Rounding, are_valid, geometries_of
 from lib.grid import Grid
 from lib.outlines import doubled_area, outlines_of
 from lib.replies import half_of
-from working import TOOLS, Case, by_lines, polygon, rectangle
+from working import TOOLS, Case, by_lines
 
 UNIT = Grid(Fraction(1), Fraction(0), Fraction(0))
 
@@ -27,8 +27,10 @@ class Layers(Case):
         self.assertEqual([(row['subject_id'], row['other_id'], row['word'], row['mark'], row['v'], row['s']) for row in rows],
                          [(a, b, 'polygon_must_not_overlap', 'error', 1, 31467) for a, b in
                           (('03/06', '03/07'), ('10/13', '10/13a'), ('19/18', '19/19'))])
-        for row, area in zip(rows, (26.51325, 797.0997485, 0.0529905)):
-            self.assertAlmostEqual(row['a'], area, 6)
+        common = self.rows('town.gpkg', 'SELECT ST_Area(ST_Intersection(a.geom, b.geom)) AS a FROM parcels a, parcels b WHERE '
+                           "(a.parcel, b.parcel) IN (VALUES ('03/06', '03/07'), ('10/13', '10/13a'), ('19/18', '19/19')) ORDER BY a.fid")
+        for row, of_both in zip(rows, common):
+            self.assertAlmostEqual(row['a'], of_both['a'], 5)
 
     def errors(self, *lines: str, words=()) -> dict:
         """The layers of a script with two classes of lots, as GeoJSON, by name."""

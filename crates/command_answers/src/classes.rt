@@ -5,7 +5,7 @@ ghost use Rattle.script_terms.specs.Answer.{Answers};
 ghost use Rattle.script_terms.specs.Refusing.{row_of, is_nowhere};
 ghost use Rattle.reply_text.specs.Replies.{said_of};
 
-use crate::refused::refused;
+use crate::refused::{reply_to_class, reply_to_rule};
 use crate::world::World;
 use grid_plane::{Name, NoMemory};
 use rule_set::is_built;
@@ -20,15 +20,11 @@ pub const NOT_BUILT: Reply = Reply::Refused(Refusal::Line(LineRefusal::NotALine)
 
 impl World {
     /// `class NAME KIND`
-    #[tactic(auto, using(crate::proofs::Answering::class_added, crate::proofs::Answering::class_refused))]
     pub(crate) fn answer_class(&mut self, name: Name, kind: Kind) -> Result<Reply, NoMemory>
         ensures answers { IfOk result (λ r. Answers self.old (Class name kind) (said_of self.new.project r) self.new) }
         ensures err { OnErr result (self.new ≡ self.old) }
     {
-        match self.topology.add_class(name, kind) {
-            Ok(number) => Ok(Reply::Number(u32::from(number))),
-            Err(fault) => refused(fault.cause()),
-        }
+        reply_to_class(self.topology.add_class(name, kind))
     }
 
     // The row that a line names, where the classes that it names are there.
@@ -46,7 +42,7 @@ impl World {
     }
 
     /// `rule WORD ORIGIN [DEST]`
-    #[tactic(auto, using(crate::proofs::Answering::rule_added, crate::proofs::Answering::rule_refused, crate::proofs::Answering::no_class))]
+    #[tactic(auto, using(crate::proofs::Answering::no_class))]
     pub(crate) fn answer_rule(
         &mut self,
         kind: RuleKind,
@@ -62,10 +58,7 @@ impl World {
         let Some(row) = self.row_of(kind, origin, dest) else {
             return Ok(Reply::Refused(Refusal::Change(Cause::NoClass)));
         };
-        match self.topology.add_rule(row) {
-            Ok(number) => Ok(Reply::Number(u32::from(number))),
-            Err(fault) => refused(fault.cause()),
-        }
+        reply_to_rule(self.topology.add_rule(row))
     }
 
     /// `droprule R`

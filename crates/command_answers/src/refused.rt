@@ -1,20 +1,21 @@
-ghost use Rattle.std.specs.Prelude.{◌≡◌, None, Err, IsSomeAnd, IfOk, OnErr, MatchResult};
+ghost use Rattle.std.specs.Prelude.{◌≡◌, None, Err, IfOk, OnErr, MatchResult};
 ghost use Rattle.topology_terms.specs.Project.{Project};
-ghost use Rattle.script_terms.specs.Refusal.{Change};
-ghost use Rattle.script_terms.specs.Reply.{Done, Number, Refused};
-ghost use Rattle.topo_core.specs.Faults.{edit_cause};
+ghost use Rattle.script_terms.specs.Reply.{Done, Number};
+ghost use Rattle.feature_store.specs.Faults.{store_cause};
+ghost use Rattle.topo_core.specs.Faults.{edit_cause, row_cause};
 ghost use Rattle.topo_core.specs.declared.fault.ChangeFault.{ChangeFault};
 ghost use Rattle.reply_text.specs.Replies.{said_of};
+ghost use Rattle.command_answers.specs.Refusals.{SaysCause};
 
+use feature_store::StoreFault;
 use grid_plane::NoMemory;
 use reply_text::{Refusal, Reply};
-use topo_core::{ChangeFault, Feature};
+use topo_core::{ChangeFault, Feature, RuleFault};
 use topology_terms::Cause;
 
-/// What is answered where the topology was not changed: its cause; and out of memory where a call told none.
-pub fn refused(cause: Option<Cause>) -> Result<Reply, NoMemory>
-    ensures said { IfOk result (λ r. IsSomeAnd cause (λ c. (p : Project) → said_of p r ≡ Refused (Change c))) }
-    ensures spent { OnErr result (cause ≡ None) }
+// What is answered where the topology was not changed: its cause; and out of memory where a call told none.
+fn refused(cause: Option<Cause>) -> Result<Reply, NoMemory>
+    ensures { IfOk result (SaysCause cause) }
 {
     match cause {
         Some(cause) => Ok(Reply::Refused(Refusal::Change(cause))),
@@ -22,28 +23,67 @@ pub fn refused(cause: Option<Cause>) -> Result<Reply, NoMemory>
     }
 }
 
+// What is answered where no class was added.
+fn refused_class(fault: StoreFault) -> Result<Reply, NoMemory>
+    ensures { IfOk result (SaysCause (store_cause fault)) }
+{
+    refused(fault.cause())
+}
+
+// What is answered where no feature was added, changed or deleted.
+fn refused_change(fault: ChangeFault) -> Result<Reply, NoMemory>
+    ensures { IfOk result (SaysCause (edit_cause fault)) }
+{
+    refused(fault.cause())
+}
+
+// What is answered where no rule was put in force.
+fn refused_rule(fault: RuleFault) -> Result<Reply, NoMemory>
+    ensures { IfOk result (SaysCause (row_cause fault)) }
+{
+    refused(fault.cause())
+}
+
+/// What is answered to a class that was added, or to why none was.
+pub fn reply_to_class(added: Result<u16, StoreFault>) -> Result<Reply, NoMemory>
+    ensures spent { OnErr result ((e : StoreFault) × (added ≡ Err e)) }
+    ensures said { IfOk result (λ r. MatchResult added (λ n. (p : Project) → said_of p r ≡ Number n) (λ e. SaysCause (store_cause e) r)) }
+{
+    match added {
+        Ok(number) => Ok(Reply::Number(u32::from(number))),
+        Err(fault) => refused_class(fault),
+    }
+}
+
 /// What is answered to a feature that was added, or to why none was.
 pub fn reply_to_add(added: Result<u32, ChangeFault>) -> Result<Reply, NoMemory>
     ensures spent { OnErr result ((e : ChangeFault) × (added ≡ Err e)) }
-    ensures said { IfOk result (λ r. MatchResult added
-        (λ h. (p : Project) → said_of p r ≡ Number h)
-        (λ e. IsSomeAnd (edit_cause e) (λ c. (p : Project) → said_of p r ≡ Refused (Change c)))) }
+    ensures said { IfOk result (λ r. MatchResult added (λ h. (p : Project) → said_of p r ≡ Number h) (λ e. SaysCause (edit_cause e) r)) }
 {
     match added {
         Ok(handle) => Ok(Reply::Number(handle)),
-        Err(fault) => refused(fault.cause()),
+        Err(fault) => refused_change(fault),
     }
 }
 
 /// What is answered to a feature that was changed or deleted, or to why none was.
 pub fn reply_to_change(changed: Result<Feature, ChangeFault>) -> Result<Reply, NoMemory>
     ensures spent { OnErr result ((e : ChangeFault) × (changed ≡ Err e)) }
-    ensures said { IfOk result (λ r. MatchResult changed
-        (λ f. (p : Project) → said_of p r ≡ Done)
-        (λ e. IsSomeAnd (edit_cause e) (λ c. (p : Project) → said_of p r ≡ Refused (Change c)))) }
+    ensures said { IfOk result (λ r. MatchResult changed (λ f. (p : Project) → said_of p r ≡ Done) (λ e. SaysCause (edit_cause e) r)) }
 {
     match changed {
         Ok(_) => Ok(Reply::Done),
-        Err(fault) => refused(fault.cause()),
+        Err(fault) => refused_change(fault),
+    }
+}
+
+/// What is answered to a rule that was put in force, or to why none was.
+pub fn reply_to_rule(added: Result<u16, RuleFault>) -> Result<Reply, NoMemory>
+    ensures spent { OnErr result ((e : RuleFault) × (added ≡ Err e)) }
+    ensures said { IfOk result (λ r. MatchResult added (λ n. (p : Project) → said_of p r ≡ Number n) (λ e. SaysCause (row_cause e) r)) }
+{
+    match added {
+        Ok(number) => Ok(Reply::Number(u32::from(number))),
+        Err(fault) => refused_rule(fault),
     }
 }

@@ -34,7 +34,8 @@ all_not : {A : Type 0} (P : A → Type 0) (xs : List A) (k : ℕ) → k < length
 all_not P [] k l h a = absurd (omega arith)
 all_not P (x ∷ xs) k l h a = h x (a k x l)
 
-pub all_is : {A : Type 0} (P : A → Type 0) (r : Bool) (xs : List A) → MatchBool r (AllWithin P xs 0 (length xs)) ((k : ℕ) × (k < length xs) × HoldsAt (λ x. ¬ (P x)) xs k) → IsTrue r ↔ All P xs
+pub all_is : {A : Type 0} (P : A → Type 0) (r : Bool) (xs : List A)
+    → MatchBool r (AllWithin P xs 0 (length xs)) ((k : ℕ) × (k < length xs) × HoldsAt (λ x. ¬ (P x)) xs k) → IsTrue r ↔ All P xs
 all_is P true xs h = ((λ _. All-from_all_within P xs h), (λ _. refl))
 all_is P false xs h = ((λ t. absurd (false≢true t)), (λ s. absurd (all_not P xs h.0 h.1 h.2 s)))
 
@@ -46,27 +47,33 @@ pub so_at : (q : Place) (T : Point → Type 0) → ((p : Point) → IsAt q p →
 so_at q T h p i = (h p i).0 refl
 
 -- ---- what is looked up is in the list
-pub live_point : (ps : List PlainPoint) (h : ℕ) (f : Feature) → feature_at (features_of ps) h ≡ Some f → (x : PlainPoint) × Contains ps x × (feature_of x ≡ f) × (x.handle ≡ h)
+pub live_point : (ps : List PlainPoint) (h : ℕ) (f : Feature) → feature_at (features_of ps) h ≡ Some f
+    → (x : PlainPoint) × Contains ps x × (feature_of x ≡ f) × (x.handle ≡ h)
 unfolding feature_at
 live_point [] h f e = cc
 live_point (x ∷ ps) h f e = elim (bool_cases (x.handle == h)) [
-  | inl t ↦ let l : Some (feature_of x) ≡ Some f = sym (at_handle (feature_of x) (features_of ps) h t) ∙ e in (x, (0, omega arith, refl), cc, same_handle x.handle h t)
-  | inr t ↦ let y = live_point ps h f (sym (past_handle (feature_of x) (features_of ps) h t) ∙ e) in (y.0, (suc y.1.0, omega (arith, y.1.1), y.1.2), y.2, y.3)
+  | inl t ↦ let l : Some (feature_of x) ≡ Some f = sym (at_handle (feature_of x) (features_of ps) h t)
+      ∙ e in (x, (0, omega arith, refl), cc, same_handle x.handle h t)
+  | inr t ↦ let y = live_point ps h f (sym (past_handle (feature_of x) (features_of ps) h t) ∙ e) in
+      (y.0, (suc y.1.0, omega (arith, y.1.1), y.1.2), y.2, y.3)
 ]
 
-pub live_entry : (es : List PlainEntry) (r a b : ℕ) (e : Entry) → entry_at (entries_of es) r a b ≡ Some e → (x : PlainEntry) × Contains es x × (entry_of x ≡ e)
+pub live_entry : (es : List PlainEntry) (r a b : ℕ) (e : Entry) → entry_at (entries_of es) r a b ≡ Some e
+    → (x : PlainEntry) × Contains es x × (entry_of x ≡ e)
 unfolding entry_at
 live_entry [] r a b e h = cc
 live_entry (x ∷ es) r a b e h = elim (bool_cases (has_key (entry_of x) r a b)) [
   | inl t ↦ let l : Some (entry_of x) ≡ Some e = sym (at_key (entry_of x) (entries_of es) r a b t) ∙ h in (x, (0, omega arith, refl), cc)
-  | inr t ↦ let y = live_entry es r a b e (sym (past_key (entry_of x) (entries_of es) r a b t) ∙ h) in (y.0, (suc y.1.0, omega (arith, y.1.1), y.1.2), y.2)
+  | inr t ↦ let y = live_entry es r a b e (sym (past_key (entry_of x) (entries_of es) r a b t) ∙ h) in
+      (y.0, (suc y.1.0, omega (arith, y.1.1), y.1.2), y.2)
 ]
 
 -- ---- the one rule
 abbrev pub one_rule : ℕ → List InForce
 one_rule class = record { number = 1; row = row_of class } ∷ []
 
-picked : (b : Bool) (q : InForce) (found : Row) → option_map (λ (x : InForce). x.row) (cond b (Some q) None) ≡ Some found → (b ≡ true) × (found ≡ q.row)
+picked : (b : Bool) (q : InForce) (found : Row) → option_map (λ (x : InForce). x.row) (cond b (Some q) None) ≡ Some found
+    → (b ≡ true) × (found ≡ q.row)
 picked true q found e = (refl, cc)
 picked false q found e = cc
 
@@ -84,12 +91,18 @@ not_whole class F a h = h
 
 -- ---- the sentence on points
 abbrev pub AtEntries : ℕ → List PlainPoint → List Rectangle → List PlainEntry → Type 0
-AtEntries class ps d es = All (λ (e : PlainEntry). (p : Point) → IsAt e.place p → SaysAt d (entries_of es) (row_of class) (features_of ps) e.subject e.other p) es
+AtEntries class ps d es =
+    All (λ (e : PlainEntry). (p : Point) → IsAt e.place p
+    → SaysAt d (entries_of es) (row_of class) (features_of ps) e.subject e.other p) es
 
 abbrev pub AtPoints : ℕ → List PlainPoint → List Rectangle → List PlainEntry → Type 0
-AtPoints class ps d es = All (λ (f : PlainPoint). All (λ (g : PlainPoint). (p : Point) → IsAt f.place p → SaysAt d (entries_of es) (row_of class) (features_of ps) f.handle g.handle p) ps) ps
+AtPoints class ps d es =
+    All (λ (f : PlainPoint).
+    All (λ (g : PlainPoint). (p : Point) → IsAt f.place p
+    → SaysAt d (entries_of es) (row_of class) (features_of ps) f.handle g.handle p) ps) ps
 
-told_is_broken : (class : ℕ) (ps : List PlainPoint) (d : List Rectangle) (es : List PlainEntry) → AtEntries class ps d es → (q : Point) → ¬ (Covers d q) → (a b : ℕ) → HasCellsAt (entries_of es) 1 a b q → BrokenAt (row_of class) (features_of ps) a b q
+told_is_broken : (class : ℕ) (ps : List PlainPoint) (d : List Rectangle) (es : List PlainEntry) → AtEntries class ps d es → (q : Point)
+    → ¬ (Covers d q) → (a b : ℕ) → HasCellsAt (entries_of es) 1 a b q → BrokenAt (row_of class) (features_of ps) a b q
 told_is_broken class ps d es all q n a b w =
     let x = live_entry es 1 a b w.0 w.1 in
     let key = entry_key (entries_of es) 1 a b w.0 w.1 in
@@ -97,11 +110,14 @@ told_is_broken class ps d es all q n a b w =
     let i = (cells_points x.0.place q).0 (subst P (sym x.2) w.2) in
     let s : x.0.subject ≡ a = ap (λ (z : Entry). z.subject) x.2 ∙ key.1 in
     let o : x.0.other ≡ b = ap (λ (z : Entry). z.other) x.2 ∙ key.2 in
-    let says = All-contains (λ (e : PlainEntry). (p : Point) → IsAt e.place p → SaysAt d (entries_of es) (row_of class) (features_of ps) e.subject e.other p) es x.0 all x.1 in
+    let says = All-contains
+    (λ (e : PlainEntry). (p : Point) → IsAt e.place p
+    → SaysAt d (entries_of es) (row_of class) (features_of ps) e.subject e.other p) es x.0 all x.1 in
     let there : SaysAt d (entries_of es) (row_of class) (features_of ps) a b q = rw (s, o) at (says q i) in
     (there n).0 w
 
-broken_is_told : (class : ℕ) (ps : List PlainPoint) (d : List Rectangle) (es : List PlainEntry) → AtPoints class ps d es → (q : Point) → ¬ (Covers d q) → (a b : ℕ) → BrokenAt (row_of class) (features_of ps) a b q → HasCellsAt (entries_of es) 1 a b q
+broken_is_told : (class : ℕ) (ps : List PlainPoint) (d : List Rectangle) (es : List PlainEntry) → AtPoints class ps d es → (q : Point)
+    → ¬ (Covers d q) → (a b : ℕ) → BrokenAt (row_of class) (features_of ps) a b q → HasCellsAt (entries_of es) 1 a b q
 broken_is_told class ps d es all q n a b h =
     let v = broken_subject class (features_of ps) a b q h in
     let w = broken_partner class (features_of ps) a b q h in
@@ -109,19 +125,24 @@ broken_is_told class ps d es all q n a b h =
     let y = live_point ps b w.f w.live.live in
     let P : Feature → Type 0 = λ z. IsAt (place z) q in
     let i : IsAt x.0.place q = subst P (sym x.2) v.here in
-    let Q : PlainPoint → PlainPoint → Type 0 = λ f g. (p : Point) → IsAt f.place p → SaysAt d (entries_of es) (row_of class) (features_of ps) f.handle g.handle p in
+    let Q : PlainPoint → PlainPoint → Type 0 = λ f g. (p : Point) → IsAt f.place p
+    → SaysAt d (entries_of es) (row_of class) (features_of ps) f.handle g.handle p in
     let says = All-contains (Q x.0) ps y.0 (All-contains (λ f. All (Q f) ps) ps x.0 all x.1) y.1 in
     let there : SaysAt d (entries_of es) (row_of class) (features_of ps) a b q = rw (x.3, y.3) at (says q i) in
     (there n).1 h
 
 -- ---- the project
 abbrev plain : Project → ℕ → List PlainPoint → List Rectangle → List PlainEntry → Project
-plain p class ps d es = record { classes = p.classes; rules = one_rule class; features = features_of ps; next = p.next; dirt = d; entries = entries_of es }
+plain p class ps d es =
+    record { classes = p.classes; rules = one_rule class; features = features_of ps; next = p.next; dirt = d; entries = entries_of es }
 
-is_plain : (p : Project) (class : ℕ) (ps : List PlainPoint) (d : List Rectangle) (es : List PlainEntry) → Shows p class ps d es → p ≡ plain p class ps d es
-is_plain p class ps d es s = λ i. record { classes = p.classes; rules = s.rules i; features = s.features i; next = p.next; dirt = s.dirt i; entries = s.entries i }
+is_plain : (p : Project) (class : ℕ) (ps : List PlainPoint) (d : List Rectangle) (es : List PlainEntry) → Shows p class ps d es
+    → p ≡ plain p class ps d es
+is_plain p class ps d es s = λ i.
+    record { classes = p.classes; rules = s.rules i; features = s.features i; next = p.next; dirt = s.dirt i; entries = s.entries i }
 
-plain_headline : (p : Project) (class : ℕ) (ps : List PlainPoint) (d : List Rectangle) (es : List PlainEntry) → IsAscending (entries_of es) → AtEntries class ps d es → AtPoints class ps d es → Headline (plain p class ps d es)
+plain_headline : (p : Project) (class : ℕ) (ps : List PlainPoint) (d : List Rectangle) (es : List PlainEntry)
+    → IsAscending (entries_of es) → AtEntries class ps d es → AtPoints class ps d es → Headline (plain p class ps d es)
 plain_headline p class ps d es asc told kept = record {
   points = λ r row e q n a b.
       let u = the_rule class r row e in
@@ -142,17 +163,25 @@ plain_headline p class ps d es asc told kept = record {
   by_key = asc;
 }
 
-pub headline_from_checks : (p : Project) (class : ℕ) (ps : List PlainPoint) (d : List Rectangle) (es : List PlainEntry) → Shows p class ps d es → IsAscending (entries_of es) → AtEntries class ps d es → AtPoints class ps d es → Headline p
-headline_from_checks p class ps d es s asc told kept = let P : Project → Type 0 = Headline in subst P (sym (is_plain p class ps d es s)) (plain_headline p class ps d es asc told kept)
+pub headline_from_checks : (p : Project) (class : ℕ) (ps : List PlainPoint) (d : List Rectangle) (es : List PlainEntry)
+    → Shows p class ps d es → IsAscending (entries_of es) → AtEntries class ps d es → AtPoints class ps d es → Headline p
+headline_from_checks p class ps d es s asc told kept =
+    let P : Project → Type 0 = Headline in
+    subst P (sym (is_plain p class ps d es s)) (plain_headline p class ps d es asc told kept)
 
-plain_of : (p : Project) (class : ℕ) (ps : List PlainPoint) (d : List Rectangle) (es : List PlainEntry) → Shows p class ps d es → Headline p → Headline (plain p class ps d es)
+plain_of : (p : Project) (class : ℕ) (ps : List PlainPoint) (d : List Rectangle) (es : List PlainEntry) → Shows p class ps d es
+    → Headline p → Headline (plain p class ps d es)
 plain_of p class ps d es s h = let P : Project → Type 0 = Headline in subst P (is_plain p class ps d es s) h
 
-pub ascending_from_headline : (p : Project) (class : ℕ) (ps : List PlainPoint) (d : List Rectangle) (es : List PlainEntry) → Shows p class ps d es → Headline p → IsAscending (entries_of es)
+pub ascending_from_headline : (p : Project) (class : ℕ) (ps : List PlainPoint) (d : List Rectangle) (es : List PlainEntry)
+    → Shows p class ps d es → Headline p → IsAscending (entries_of es)
 ascending_from_headline p class ps d es s h = (plain_of p class ps d es s h).by_key
 
-pub entries_from_headline : (p : Project) (class : ℕ) (ps : List PlainPoint) (d : List Rectangle) (es : List PlainEntry) → Shows p class ps d es → Headline p → AtEntries class ps d es
+pub entries_from_headline : (p : Project) (class : ℕ) (ps : List PlainPoint) (d : List Rectangle) (es : List PlainEntry)
+    → Shows p class ps d es → Headline p → AtEntries class ps d es
 entries_from_headline p class ps d es s h = λ k e l q i n. (plain_of p class ps d es s h).points 1 (row_of class) (rule_1 class) q n _ _
 
-pub points_from_headline : (p : Project) (class : ℕ) (ps : List PlainPoint) (d : List Rectangle) (es : List PlainEntry) → Shows p class ps d es → Headline p → AtPoints class ps d es
-points_from_headline p class ps d es s h = λ k f l m g j q i n. (plain_of p class ps d es s h).points 1 (row_of class) (rule_1 class) q n _ _
+pub points_from_headline : (p : Project) (class : ℕ) (ps : List PlainPoint) (d : List Rectangle) (es : List PlainEntry)
+    → Shows p class ps d es → Headline p → AtPoints class ps d es
+points_from_headline p class ps d es s h = λ k f l m g j q i n.
+    (plain_of p class ps d es s h).points 1 (row_of class) (rule_1 class) q n _ _

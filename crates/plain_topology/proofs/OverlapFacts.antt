@@ -17,11 +17,13 @@ unfolding feature_at
 feature_at-find [] h = refl
 feature_at-find (f ∷ F) h = ap (λ o. cond (f.handle == h) (Some f) o) (feature_at-find F h)
 
-pub matched : {A : Type 0} (v : A → Feature) (o : Option A) (r : Option Feature) → r ≡ option_map v o → MatchOption o (r ≡ None) (λ f. r ≡ Some (v f))
+pub matched : {A : Type 0} (v : A → Feature) (o : Option A) (r : Option Feature) → r ≡ option_map v o
+    → MatchOption o (r ≡ None) (λ f. r ≡ Some (v f))
 matched v None r e = e
 matched v (Some f) r e = e
 
-pub overlap_with : (class other : ℕ) (F : List Feature) (a b : ℕ) (p : Point) → (IsInsideOf F class a p × IsInsideOf F other b p) ↔ BrokenAt (overlap_with_row class other) F a b p
+pub overlap_with : (class other : ℕ) (F : List Feature) (a b : ℕ) (p : Point)
+    → (IsInsideOf F class a p × IsInsideOf F other b p) ↔ BrokenAt (overlap_with_row class other) F a b p
 unfolding BrokenAt
 overlap_with class other F a b p = (
   (λ h. record { f = h.0.f; g = h.1.f; subject = h.0.live; partner = h.1.live; inside_a = h.0.inside; inside_b = h.1.inside }),
@@ -29,9 +31,18 @@ overlap_with class other F a b p = (
 )
 
 -- in one class, the first one first
-pub overlap_first : (class : ℕ) (F : List Feature) (a b : ℕ) (p : Point) → ((a < b) × BrokenAt (overlap_with_row class class) F a b p) ↔ BrokenAt (overlap_row class) F a b p
+pub overlap_first : (class : ℕ) (F : List Feature) (a b : ℕ) (p : Point)
+    → ((a < b) × BrokenAt (overlap_with_row class class) F a b p) ↔ BrokenAt (overlap_row class) F a b p
 unfolding BrokenAt
 overlap_first class F a b p = (
-  (λ h. record { f = h.1.f; g = h.1.g; subject = h.1.subject; partner = h.1.partner; first = h.0; inside_a = h.1.inside_a; inside_b = h.1.inside_b }),
+  (λ h. record {
+    f = h.1.f;
+    g = h.1.g;
+    subject = h.1.subject;
+    partner = h.1.partner;
+    first = h.0;
+    inside_a = h.1.inside_a;
+    inside_b = h.1.inside_b;
+  }),
   (λ k. (k.first, record { f = k.f; g = k.g; subject = k.subject; partner = k.partner; inside_a = k.inside_a; inside_b = k.inside_b })),
 )

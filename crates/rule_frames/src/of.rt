@@ -1,4 +1,4 @@
-ghost use Rattle.std.specs.Prelude.{◌≡◌, IfOk};
+ghost use Rattle.std.specs.Prelude.{◌≡◌};
 ghost use Rattle.topology_terms.specs.Poster.{poster};
 ghost use Rattle.rule_laws.proofs.Posters.{poster_laws, poster_cuts, poster_views};
 

@@ -1,9 +1,9 @@
 -- A segment whose box does not meet the envelope of a feature has no segment of the feature beside it.
-use Rattle.std.proofs.Common.{◌≡◌, Bool, true, false, List, [], ◌∷◌, refl, sym, ◌∙◌, ap, arith, cond, map}
+use Rattle.std.proofs.Common.{◌≡◌, Bool, true, false, List, [], ◌∷◌, refl, ap, arith, map}
 use Rattle.std.specs.List.{filter}
 use Rattle.std.proofs.lemmas.Int.{ints, clamps}
 use Rattle.plane_terms.specs.Lists.{Every}
-use Rattle.plane_terms.specs.Rectangle.{Rectangle, IsWithin, rect_at, rects_meet}
+use Rattle.plane_terms.specs.Rectangle.{Rectangle, IsWithin, rects_meet}
 use Rattle.plane_terms.specs.Segment.{Segment, box_of}
 use Rattle.plane_terms.specs.Cell.{out_of_segment}
 use Rattle.topology_terms.specs.Feature.{Feature, sides, env}
@@ -15,7 +15,7 @@ box_within t r h = let a = h.0 in let b = h.1 in record {
   left = a.left;
   right = b.right;
   below = omega (arith, ints, clamps);
-  above = omega (arith, ints, clamps)
+  above = omega (arith, ints, clamps);
 }
 
 meets_wider : (b c r : Rectangle) → IsWithin c r → rects_meet b c ≡ true → rects_meet b r ≡ true

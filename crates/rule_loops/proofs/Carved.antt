@@ -1,5 +1,5 @@
 -- Cells carved by one list after the other: by two rows of lists, and where nothing is left.
-use Rattle.std.proofs.Common.{◌≡◌, List, [], ◌∷◌, ◌++◌, refl, sym, ◌∙◌, length, arith}
+use Rattle.std.proofs.Common.{◌≡◌, List, [], ◌∷◌, ◌++◌, refl, length, arith}
 use Rattle.plane_terms.specs.Cell.{Cell}
 use Rattle.plane_terms.specs.Carve.{carve_of}
 use Rattle.topology_terms.specs.Cells.{uncovered}

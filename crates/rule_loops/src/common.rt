@@ -1,4 +1,4 @@
-ghost use Rattle.std.specs.Prelude.{◌≡◌, ◌==◌, List, filter, IfOk};
+ghost use Rattle.std.specs.Prelude.{◌≡◌, List, filter, IfOk};
 ghost use Rattle.plane_terms.specs.Cell as planes;
 ghost use Rattle.topology_terms.specs.Feature.{Feature, IsAscending};
 ghost use Rattle.topology_terms.specs.Plans as plans;

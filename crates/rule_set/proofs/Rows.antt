@@ -1,5 +1,5 @@
 -- Rows of kinds that are not built.
-use Rattle.std.proofs.Common.{◌≡◌, ℕ, true, false, List, [], Some, refl}
+use Rattle.std.proofs.Common.{◌≡◌, ℕ, false, List, [], Some, refl}
 use Rattle.topology_terms.specs.Feature.{Feature, feature_at}
 use Rattle.topology_terms.specs.Broken.{Row}
 use Rattle.topology_terms.specs.Built.{is_built}

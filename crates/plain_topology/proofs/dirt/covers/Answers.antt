@@ -8,6 +8,7 @@ use Rattle.plain_topology.proofs.dirt.covers.Goals as goal
 pub returns : goal.returns
 returns c = λ p i.
     some_is (λ r. RectHolds r p) c.any.result c.args.dirt.now
-    (cases_from_any _ _ _ (λ (r : Rectangle). RectHolds r p) (λ (r : Rectangle). ¬ (RectHolds r p)) c.any.ensures.ran (YieldsList-from_slice c.args.dirt.now cc)
+    (cases_from_any _ _ _ (λ (r : Rectangle). RectHolds r p) (λ (r : Rectangle). ¬ (RectHolds r p)) c.any.ensures.ran
+    (YieldsList-from_slice c.args.dirt.now cc)
     (λ x q k. search (rules, tests))
     (λ x q k. search (rules, tests)))

@@ -18,7 +18,10 @@ returns-then-is_between c = λ p i.
           })),
       (λ r.
           let held = h.1 r in
-          c.is_between-then-is_between.ensures.1 (omega (arith, ints, held.below, c.y0.ensures.value, c.y.ensures.value), omega (arith, ints, held.above, c.y1.ensures.value, c.y.ensures.value))),
+          c.is_between-then-is_between.ensures.1 (
+            omega (arith, ints, held.below, c.y0.ensures.value, c.y.ensures.value),
+            omega (arith, ints, held.above, c.y1.ensures.value, c.y.ensures.value),
+          )),
     )
 
 pub returns-else-is_between : goal.returns-else-is_between
@@ -27,5 +30,8 @@ returns-else-is_between c = λ p i.
       (λ b. absurd (false≢true (sym c.if-is_between.false ∙ b))),
       (λ r.
           let held = h.1 r in
-          c.is_between.ensures.1 (omega (arith, ints, held.left, c.x0.ensures.value, c.x.ensures.value), omega (arith, ints, held.right, c.x1.ensures.value, c.x.ensures.value))),
+          c.is_between.ensures.1 (
+            omega (arith, ints, held.left, c.x0.ensures.value, c.x.ensures.value),
+            omega (arith, ints, held.right, c.x1.ensures.value, c.x.ensures.value),
+          )),
     )

@@ -13,5 +13,6 @@ pub returns : goal.returns
 returns c =
     let a = c.args.subject in
     let b = c.args.other in
-    let f = find_from_yields_List (λ (e : PlainEntry). (e.subject == a) && (e.other == b)) _ _ c.find.result c.find.ensures.ran (YieldsList-from_slice c.args.entries.now cc) (λ x b q k. search (rules, tests)) in
+    let f = find_from_yields_List (λ (e : PlainEntry). (e.subject == a) && (e.other == b)) _ _ c.find.result c.find.ensures.ran
+    (YieldsList-from_slice c.args.entries.now cc) (λ x b q k. search (rules, tests)) in
     ap (option_map entry_of) (c.copied.ensures ∙ f) ∙ sym (entry_at-entries c.args.entries.now a b)

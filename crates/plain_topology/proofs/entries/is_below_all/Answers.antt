@@ -11,6 +11,7 @@ pub returns : goal.returns
 returns c =
     let e = entry_of c.args.e.now in
     every_entry (IsKeyBelow e) c.all.result c.args.others.now
-    (cases_from_all _ _ _ (λ (f : PlainEntry). IsKeyBelow e (entry_of f)) (λ (f : PlainEntry). ¬ (IsKeyBelow e (entry_of f))) c.all.ensures.ran (YieldsList-from_slice c.args.others.now cc)
+    (cases_from_all _ _ _ (λ (f : PlainEntry). IsKeyBelow e (entry_of f))
+    (λ (f : PlainEntry). ¬ (IsKeyBelow e (entry_of f))) c.all.ensures.ran (YieldsList-from_slice c.args.others.now cc)
     (λ x q k. search (rules, tests))
     (λ x q k. search (rules, tests)))

@@ -12,7 +12,8 @@ returns-then-says_at_entries c = λ p s.
     let es = c.args.entries.now in
     elim c.if-do_ascend.branch [
       | then-do_ascend w ↦ (
-        (λ b. headline_from_checks p class ps d es s (c.do_ascend.ensures.0 w.if-do_ascend.true) (w.says_at_entries.ensures.0 (sym w.value-is ∙ c.if-says_at_entries.true)) (c.says_at_points.ensures.0 b)),
+        (λ b. headline_from_checks p class ps d es s (c.do_ascend.ensures.0 w.if-do_ascend.true)
+            (w.says_at_entries.ensures.0 (sym w.value-is ∙ c.if-says_at_entries.true)) (c.says_at_points.ensures.0 b)),
         (λ h. c.says_at_points.ensures.1 (points_from_headline p class ps d es s h)),
       )
       | else-do_ascend w ↦ absurd (false≢true (sym w.if-do_ascend.false ∙ (sym w.value-is ∙ c.if-says_at_entries.true)))

@@ -9,7 +9,9 @@ use Rattle.plain_topology.proofs.headline.says_at_entries.Goals as goal
 
 pub returns : goal.returns
 returns c =
-    let T : PlainEntry → Point → Type 0 = λ e p. SaysAt c.args.dirt.now (entries_of c.args.entries.now) (row_of c.args.class) (features_of c.args.points.now) e.subject e.other p in
+    let T : PlainEntry → Point → Type 0 =
+    λ e p. SaysAt c.args.dirt.now (entries_of c.args.entries.now) (row_of c.args.class)
+    (features_of c.args.points.now) e.subject e.other p in
     let P : PlainEntry → Type 0 = λ e. (p : Point) → IsAt e.place p → T e p in
     all_is P c.all.result c.args.entries.now
     (cases_from_all _ _ _ P (λ e. ¬ (P e)) c.all.ensures.ran (YieldsList-from_slice c.args.entries.now cc)

@@ -9,7 +9,9 @@ use Rattle.plain_topology.proofs.headline.says_at_partners.Goals as goal
 
 pub returns : goal.returns
 returns c =
-    let T : PlainPoint → Point → Type 0 = λ g p. SaysAt c.args.dirt.now (entries_of c.args.entries.now) (row_of c.args.class) (features_of c.args.points.now) c.args.f.handle g.handle p in
+    let T : PlainPoint → Point → Type 0 =
+    λ g p. SaysAt c.args.dirt.now (entries_of c.args.entries.now) (row_of c.args.class)
+    (features_of c.args.points.now) c.args.f.handle g.handle p in
     let P : PlainPoint → Type 0 = λ g. (p : Point) → IsAt c.args.f.place p → T g p in
     all_is P c.all.result c.args.points.now
     (cases_from_all _ _ _ P (λ g. ¬ (P g)) c.all.ensures.ran (YieldsList-from_slice c.args.points.now cc)

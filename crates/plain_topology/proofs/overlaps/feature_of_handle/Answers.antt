@@ -11,5 +11,6 @@ pub returns : goal.returns
 returns c =
     let h = c.args.handle in
     let F = c.args.features.now in
-    let f = find_from_yields_List (λ (p : Feature). p.handle == h) _ _ c.find.result c.find.ensures.ran (YieldsList-from_slice F cc) (λ x b q k. search (rules, tests)) in
+    let f = find_from_yields_List (λ (p : Feature). p.handle == h) _ _ c.find.result c.find.ensures.ran (YieldsList-from_slice F cc)
+    (λ x b q k. search (rules, tests)) in
     matched _ c.find.result _ (feature_at-find F h ∙ sym f)

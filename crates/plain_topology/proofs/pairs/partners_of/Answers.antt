@@ -5,7 +5,9 @@ use Rattle.plain_topology.proofs.PairFacts.{ok_partners, partners_nowhere}
 use Rattle.plain_topology.proofs.pairs.partners_of.Goals as goal
 
 pub returns-in-Some-clause-exact : goal.returns-in-Some-clause-exact
-returns-in-Some-clause-exact c = ok_partners (λ (v : Vec ℕ Global). v.items) c.partners_at.result c.args.class (features_of c.args.points.now) c.args.a c.in-Some.subject c.in-Some.ensures c.partners_at.ensures.exact
+returns-in-Some-clause-exact c =
+    ok_partners (λ (v : Vec ℕ Global). v.items) c.partners_at.result c.args.class
+    (features_of c.args.points.now) c.args.a c.in-Some.subject c.in-Some.ensures c.partners_at.ensures.exact
 
 pub returns-in-None-clause-exact : goal.returns-in-None-clause-exact
 returns-in-None-clause-exact c = λ b.

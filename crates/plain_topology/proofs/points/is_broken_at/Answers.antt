@@ -22,6 +22,12 @@ pub returns-else-is_there : goal.returns-else-is_there
 returns-else-is_there c = λ p i.
     let F = features_of c.args.points.now in
     elim c.if-a-b.branch [
-      | then-a-b w ↦ ((λ b. absurd (false≢true (sym c.if-is_there.false ∙ b))), (λ h. w.value-is ∙ (w.is_there.ensures p i).1 (broken_subject c.args.class F c.args.a c.args.b p h)))
-      | else-a-b w ↦ ((λ b. absurd (false≢true (sym c.if-is_there.false ∙ b))), (λ h. let l = broken_first c.args.class F c.args.a c.args.b p h in absurd (omega arith)))
+      | then-a-b w ↦ (
+        (λ b. absurd (false≢true (sym c.if-is_there.false ∙ b))),
+        (λ h. w.value-is ∙ (w.is_there.ensures p i).1 (broken_subject c.args.class F c.args.a c.args.b p h)),
+      )
+      | else-a-b w ↦ (
+        (λ b. absurd (false≢true (sym c.if-is_there.false ∙ b))),
+        (λ h. let l = broken_first c.args.class F c.args.a c.args.b p h in absurd (omega arith)),
+      )
     ]

@@ -12,5 +12,6 @@ use Rattle.plain_topology.proofs.points.point_of.Goals as goal
 pub returns : goal.returns
 returns c =
     let h = c.args.handle in
-    let f = find_from_yields_List (λ (p : PlainPoint). p.handle == h) _ _ c.find.result c.find.ensures.ran (YieldsList-from_slice c.args.points.now cc) (λ x b q k. search (rules, tests)) in
+    let f = find_from_yields_List (λ (p : PlainPoint). p.handle == h) _ _ c.find.result c.find.ensures.ran
+    (YieldsList-from_slice c.args.points.now cc) (λ x b q k. search (rules, tests)) in
     ap (option_map feature_of) (c.copied.ensures ∙ f) ∙ sym (feature_at-features c.args.points.now h)

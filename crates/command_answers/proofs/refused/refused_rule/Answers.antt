@@ -1,0 +1,4 @@
+use Rattle.command_answers.proofs.refused.refused_rule.Goals as goal
+
+pub returns : goal.returns
+returns c = rw c.cause.ensures at c.refused.ensures
