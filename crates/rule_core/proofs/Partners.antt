@@ -76,10 +76,10 @@ more cells test F i g b e t = ap (pair_findings cells) (kept_more test F i g b e
 pub found_more : (cells : Feature → List Cell) (test : Feature → Bool) (F : List Feature) (i : ℕ) (g : Feature)
     (found part new : List Finding) → slice_get F i ≡ Some g → test g ≡ true
     → found ≡ pair_findings cells (filter test (take i F)) → part ≡ finding_of g.handle (cells g) → new ≡ found ++ part → new
-        ≡ pair_findings cells (filter test (take (i + 1) F))
+    ≡ pair_findings cells (filter test (take (i + 1) F))
 found_more cells test F i g found part new e t h k n =
     let m = more cells test F i g true e t
-        ∙ ap (λ xs. pair_findings cells (filter test (take i F)) ++ xs) (append-nil (finding_of g.handle (cells g))) in
+    ∙ ap (λ xs. pair_findings cells (filter test (take i F)) ++ xs) (append-nil (finding_of g.handle (cells g))) in
     n ∙ (rw (h, k) refl ∙ sym m)
 
 -- with a feature more that is none

@@ -4,4 +4,4 @@ mod Spots
 mod Nearby
 mod Dirtied
 mod CellFrames
-mod Settled
+pub mod Settled

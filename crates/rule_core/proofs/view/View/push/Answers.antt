@@ -9,5 +9,5 @@ pub invariant_of-self-2 : goal.invariant_of-self-2
 invariant_of-self-2 c =
     let before = map (λ f. f.now) c.self.inside.features.items in
     let e : map (λ f. f.now) c.push.new.self.items ≡ before ++ c.args.f.now ∷ [] = ap (λ l. map (λ f. f.now) l) c.in_ok-push.ensures.items
-        ∙ map-append (λ f. f.now) c.self.inside.features.items (c.args.f ∷ []) in
+    ∙ map-append (λ f. f.now) c.self.inside.features.items (c.args.f ∷ []) in
     subst IsAscending (sym e) (ascending_last by_handle handles before c.args.f.now c.self.invariant (rw (← c.self.view_is) at c.requires))

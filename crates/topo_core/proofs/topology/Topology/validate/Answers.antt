@@ -8,6 +8,7 @@ use Rattle.topology_terms.specs.Counts.{raised, judged_of}
 use Rattle.topo_core.specs.Topologies.{project_of}
 use Rattle.topo_core.proofs.Whole.{ordered, fitting}
 use Rattle.topo_core.proofs.Kept.{validated_keeps, validated_sound_kept, validated_settled_kept}
+use Rattle.validation.proofs.Settled.{on_err}
 use Rattle.topo_core.proofs.topology.Topology.validate.Goals as goal
 
 pub validate-requires-clause-fits : goal.validate-requires-clause-fits
@@ -39,6 +40,6 @@ returns-clause-ordered g c = ordered _ (validated_keeps g.R.RuleSet.meaning g.me
 pub returns-in_err-validate-clause-stopped : goal.returns-in_err-validate-clause-stopped
 returns-in_err-validate-clause-stopped g c =
     let p = project_of c.self.inside.store c.self.inside.rules.items c.self.inside.dirt c.self.inside.entries in
-    rw (← c.self.view_is) (λ fs those. subst (λ rules. c.validate.new.work ≤ raised c.args.work.now (judged_of rules fs)) c.deref.ensures.value
+    on_err c.from_residual.result _ (rw (← c.self.view_is) (λ fs those. subst (λ rules. c.validate.new.work ≤ raised c.args.work.now (judged_of rules fs)) c.deref.ensures.value
     (c.in_err-validate.ensures.stopped p (record { rules = sym c.deref.ensures.value; features = sym c.features.ensures.value; dirt = refl; entries = refl }) fs
-    (subst (λ F. IsThose (λ (f : Feature). IsSelected p c.args.window f.handle) F fs) (sym c.features.ensures.value) those)))
+    (subst (λ F. IsThose (λ (f : Feature). IsSelected p c.args.window f.handle) F fs) (sym c.features.ensures.value) those))))
