@@ -48,12 +48,12 @@ def layers_of(sources: list[str], wanted: list[str]) -> list[Layer]:
 
 
 def classes_of(layers: list[Layer]) -> list[Class]:
-    """A class for each layer that has features with a shape; what is passed over is told."""
+    """A class for each layer that has geometries; what is passed over is told."""
     classes: list[Class] = []
     for layer in layers:
         kind = kind_of_layer(layer)
         if kind is None:
-            say('layer %s: passed over, since no feature of it is of a kind that a class takes' % layer.name)
+            say('layer %s: passed over, since it has no geometries' % layer.name)
             continue
         name = class_name(layer.name, {each.name for each in classes})
         if name != layer.name:

@@ -80,7 +80,7 @@ def layer_of(source: str, name: str) -> Layer:
     text = run(['ogrinfo', '-ro', '-so', '-wkt_format', 'WKT2_2019', source, name])
     told = dict(re.findall(r'^([A-Z][\w ]*): (.*)$', text, re.M))
     numbers = re.fullmatch(r'\((\S+), (\S+)\) - \((\S+), (\S+)\)', told.get('Extent', ''))
-    crs = re.search(r'^Layer SRS WKT:\n(.*?)\nData axis to CRS', text, re.M | re.S)
+    crs = re.search(r'^Layer SRS WKT:\n(?!\w+\["Undefined)(.*?)\nData axis to CRS', text, re.M | re.S)
     return Layer(source, name, re.sub('^3D|^MEASURED|[^A-Z]', '', told.get('Geometry', '').upper().replace(' ', '')),
                  int(told.get('Feature Count', 0)),
                  tuple(Fraction(Decimal(n)) for n in numbers.groups()) if numbers else None,

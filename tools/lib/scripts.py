@@ -39,12 +39,14 @@ def class_name(layer: str, taken: set[str]) -> str:
 
 
 def kind_of_layer(layer: Layer) -> Optional[str]:
-    """The kind of a layer's features: of its type, or where that leaves it open of the first one that has a kind."""
-    kind = KINDS.get(layer.type)
-    if kind is None and layer.type != 'NONE':
-        words = (feature.wkt.split(' ', 1)[0] for feature in features_of(layer))
-        kind = next((KINDS[word] for word in words if word in KINDS), None)
-    return kind
+    """The kind of a layer's features: of its type, or where that leaves it open of the first one that has a kind; where none has one,
+    polygon, so that each is told of. None where the layer has no geometries."""
+    if layer.type == 'NONE':
+        return None
+    if layer.type in KINDS:
+        return KINDS[layer.type]
+    words = (feature.wkt.split(' ', 1)[0] for feature in features_of(layer))
+    return next((KINDS[word] for word in words if word in KINDS), 'polygon')
 
 
 class Converter:

@@ -98,6 +98,19 @@ class Unfit(Case):
             self.assertEqual([(row['fid'], row['handle']) for row in csv.DictReader(table)],
                              [('1', '1'), ('2', ''), ('3', ''), ('4', ''), ('5', ''), ('6', ''), ('7', '2'), ('8', '')])
 
+    def test_a_layer_of_curves_alone_and_one_without_geometries(self):
+        with open(self.path('curves.csv'), 'w') as out:
+            out.write('nr,WKT\n1,"CURVEPOLYGON (CIRCULARSTRING (0 0, 4 0, 4 4, 0 4, 0 0))"\n')
+        self.run_words(['ogr2ogr', '-nlt', 'CURVEPOLYGON', '-oo', 'GEOM_POSSIBLE_NAMES=WKT', 'c.gpkg', 'curves.csv'])
+        with open(self.path('names.csv'), 'w') as out:
+            out.write('nr,name\n1,a\n')
+        self.run_words(['ogr2ogr', '-update', 'c.gpkg', 'names.csv'])
+        done = self.tool('from-ogr', 'c.gpkg', '--grid', '1')
+        self.assertEqual(done.status, 1)
+        self.assertIn('curves 1: left out: CURVEPOLYGON may hold curves', done.told)
+        self.assertIn('layer names: passed over, since it has no geometries', done.told)
+        self.assertNotIn('# grid crs', done.out)
+
     def test_points_are_split_and_counted(self):
         source = self.source('p.gpkg', [{'type': 'MultiPoint', 'coordinates': [[1, 2], [3, 4]]}, {'type': 'Point', 'coordinates': [5, 6]}],
                              '-nlt', 'GEOMETRY', layer='wells')

@@ -1,5 +1,7 @@
 """tools/tiles: the merged errors of 16 tiles of a town are those of one run over all, under all rules that are built."""
 import os
+import shlex
+import shutil
 import subprocess
 import unittest
 from concurrent.futures import ThreadPoolExecutor
@@ -7,7 +9,7 @@ from concurrent.futures import ThreadPoolExecutor
 import town_source
 from lib.replies import errors_of
 from lib.rules import KINDS_OF
-from working import PROGRAM, Case, by_lines, rectangle
+from working import PROGRAM, TOOLS, Case, by_lines, rectangle
 
 CLASSES = {'polygon': ('parcels', 'easements'), 'line': ('streets', 'kerbs'), 'point': ('wells', 'taps')}
 TILES = 16
@@ -32,7 +34,7 @@ class Tiles(Case):
     def test_a_town_in_tiles_and_whole(self):
         rules = self.built_rules()
         self.assertGreaterEqual(len(rules), 3)
-        rows = int(os.environ.get('TOWN_ROWS', 200 if len(rules) < 6 else 60))
+        rows = int(os.environ.get('TOWN_ROWS', 60))
         town_source.write_town(rows, self.path('town.gpkg'))
         words = ['town.gpkg', '--grid', '0.01', '--origin', *town_source.ORIGIN, '--id', 'nr']
         for rule in rules:
@@ -70,6 +72,21 @@ class Ends(Case):
         self.assertEqual(self.tool('to-gis', 'tiles', 'far-errors.gpkg').status, 0)
         rows = self.rows('far-errors.gpkg', 'SELECT subject, other, ST_MinX(geom) AS x0, ST_MaxX(geom) AS x1 FROM error_polygons ORDER BY subject')
         self.assertEqual([tuple(row.values()) for row in rows], [(1, 2, 5, 10), (3, 4, 20009, 20010)])
+
+    @unittest.skipUnless(shutil.which('snakemake'), 'snakemake is not installed')
+    def test_the_snakefile(self):
+        self.source('four.gpkg', [rectangle(x, 0, x + 11, 10) for x in range(0, 40, 10)], layer='lots')
+        root = os.path.dirname(TOOLS)
+        with open(self.path('topo'), 'w', encoding='utf-8') as out:
+            out.write('#!/bin/sh\nexec %s "$@"\n' % shlex.join(PROGRAM))
+        os.chmod(self.path('topo'), 0o755)
+        done = self.run_words(['snakemake', '-s', os.path.join(root, 'examples', 'Snakefile'), '--cores', '2', '--config', 'source=four.gpkg',
+                               'grid=1', 'tiles=2', 'tools=' + TOOLS, 'rules=polygon_must_not_overlap lots'])
+        self.assertEqual(done.status, 0, done.told)
+        with open(self.path('tiles/errors.txt'), encoding='utf-8') as errors:
+            self.assertEqual([line.split(' cells')[0] for line in errors if not line.startswith('cell')],
+                             ['error 1 1 2', 'error 1 2 3', 'error 1 3 4', 'total 3\n'])
+        self.assertEqual(self.rows('tiles/errors.gpkg', 'SELECT count(*) AS n FROM error_polygons'), [{'n': 3}])
 
     def test_tiles_without_replies(self):
         self.source('a.gpkg', [rectangle(0, 0, 1, 1)])
