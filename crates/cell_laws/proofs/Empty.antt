@@ -18,12 +18,16 @@ all_pairs hs q m =
     All-weaker (λ h. Holds h q) (λ h. FlatHolds h q.x q.w × PairsHold hs h q.x q.w) (λ h n.
     let e = edges_at h q n in (
       e.flat,
-      some_both (λ l. pos 0 <ℤ l.b) (λ l. AllowedBy q.y 1 (line_of q.x q.w l)) (λ l. All (λ g. IfSome (high_of g) (λ u. Compatible l u q.x q.w)) hs) (low_of h) (low_rising h) e.low (λ l r a.
+      some_both (λ l. pos 0 <ℤ l.b) (λ l. AllowedBy q.y 1 (line_of q.x q.w l))
+          (λ l. All (λ g. IfSome (high_of g) (λ u. Compatible l u q.x q.w)) hs) (low_of h) (low_rising h) e.low (λ l r a.
           All-weaker (λ g. Holds g q) (λ g. IfSome (high_of g) (λ u. Compatible l u q.x q.w)) (λ g n.
-          some_both (λ u. pos 0 <ℤ u.b) (λ u. AllowedBy (neg_ℤ q.y) 1 (line_of q.x q.w u)) (λ u. Compatible l u q.x q.w) (high_of g) (high_rising g) (edges_at g q n).high (λ u s b.
+          some_both (λ u. pos 0 <ℤ u.b) (λ u. AllowedBy (neg_ℤ q.y) 1 (line_of q.x q.w u)) (λ u. Compatible l u q.x q.w) (high_of g)
+          (high_rising g) (edges_at g q n).high (λ u s b.
           compatible_at l.b (level l q.x q.w) u.b (level u q.x q.w) l.strict u.strict q.y 1 (lit< tt) r s a b)) hs k),
     )) hs k
 
 pub by_recursion : (hs : List HalfPlane) (h : HalfPlane) (x : ℤ) (w : ℕ) → PairsHold hs h x w → PairHolds hs x w h
 by_recursion hs h x w k =
-    some_both (λ l. pos 0 <ℤ l.b) (λ l. All (λ g. IfSome (high_of g) (λ u. Compatible l u x w)) hs) (λ l. AllByRecursion (λ g. IfSome (high_of g) (λ u. Compatible l u x w)) hs) (low_of h) (low_rising h) k (λ l r a. recursion_from_All (λ g. IfSome (high_of g) (λ u. Compatible l u x w)) hs a)
+    some_both (λ l. pos 0 <ℤ l.b) (λ l. All (λ g. IfSome (high_of g) (λ u. Compatible l u x w)) hs)
+    (λ l. AllByRecursion (λ g. IfSome (high_of g) (λ u. Compatible l u x w)) hs) (low_of h) (low_rising h) k
+    (λ l r a. recursion_from_All (λ g. IfSome (high_of g) (λ u. Compatible l u x w)) hs a)

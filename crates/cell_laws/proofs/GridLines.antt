@@ -18,16 +18,20 @@ by_value : (S : ℤ → Type 0) (P : Type 0) (u v : ℤ) → u ≡ v → S v ↔
 by_value S P u v e k = (λ h. k.0 (subst S e h), λ h. subst S (sym e) (k.1 h))
 
 x_value : (v : ℤ) (p : Point) → value_at (x_over v) p ≡ p.x -ℤ v *ℤ pos p.w
-x_value v p = same_by (num (pos 1) ⊗ num p.x ⊕ num (pos 0) ⊗ num p.y ⊕ neg (num v) ⊗ num (pos p.w)) (num p.x ⊖ num v ⊗ num (pos p.w)) (omega arith)
+x_value v p = same_by (num (pos 1) ⊗ num p.x ⊕ num (pos 0) ⊗ num p.y ⊕ neg (num v) ⊗ num (pos p.w)) (num p.x ⊖ num v ⊗ num (pos p.w))
+    (omega arith)
 
 x_value_back : (v : ℤ) (p : Point) → value_at (x_under v) p ≡ v *ℤ pos p.w -ℤ p.x
-x_value_back v p = same_by (num (negsuc 0) ⊗ num p.x ⊕ num (pos 0) ⊗ num p.y ⊕ num v ⊗ num (pos p.w)) (num v ⊗ num (pos p.w) ⊖ num p.x) (omega arith)
+x_value_back v p = same_by (num (negsuc 0) ⊗ num p.x ⊕ num (pos 0) ⊗ num p.y ⊕ num v ⊗ num (pos p.w)) (num v ⊗ num (pos p.w) ⊖ num p.x)
+    (omega arith)
 
 y_value : (v : ℤ) (p : Point) → value_at (y_over v) p ≡ p.y -ℤ v *ℤ pos p.w
-y_value v p = same_by (num (pos 0) ⊗ num p.x ⊕ num (pos 1) ⊗ num p.y ⊕ neg (num v) ⊗ num (pos p.w)) (num p.y ⊖ num v ⊗ num (pos p.w)) (omega arith)
+y_value v p = same_by (num (pos 0) ⊗ num p.x ⊕ num (pos 1) ⊗ num p.y ⊕ neg (num v) ⊗ num (pos p.w)) (num p.y ⊖ num v ⊗ num (pos p.w))
+    (omega arith)
 
 y_value_back : (v : ℤ) (p : Point) → value_at (y_under v) p ≡ v *ℤ pos p.w -ℤ p.y
-y_value_back v p = same_by (num (pos 0) ⊗ num p.x ⊕ num (negsuc 0) ⊗ num p.y ⊕ num v ⊗ num (pos p.w)) (num v ⊗ num (pos p.w) ⊖ num p.y) (omega arith)
+y_value_back v p = same_by (num (pos 0) ⊗ num p.x ⊕ num (negsuc 0) ⊗ num p.y ⊕ num v ⊗ num (pos p.w)) (num v ⊗ num (pos p.w) ⊖ num p.y)
+    (omega arith)
 
 pub x_over_holds : (v : ℤ) (p : Point) → Holds (x_over v) p ↔ ((v *ℤ pos p.w) <ℤ p.x)
 x_over_holds v p = by_value (λ z. pos 0 <ℤ z) _ _ _ (x_value v p) (over_gap p.x (v *ℤ pos p.w))

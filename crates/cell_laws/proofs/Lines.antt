@@ -1,5 +1,6 @@
 -- One unknown: two constraints, and lists of them.
-use Rattle.std.proofs.Common.{◌≡◌, ℕ, ◌*◌, ◌<◌, Bool, true, false, ℤ, pos, ◌+ℤ◌, ◌-ℤ◌, ◌*ℤ◌, neg_ℤ, ◌≤ℤ◌, ◌<ℤ◌, negsuc, arith, refl, sym, subst, ap, suc, zero}
+use Rattle.std.proofs.Common.{◌≡◌, ℕ, ◌*◌, ◌<◌, Bool, true, false, ℤ, pos, ◌+ℤ◌, ◌-ℤ◌, ◌*ℤ◌, neg_ℤ, ◌≤ℤ◌, ◌<ℤ◌, negsuc, arith, refl, sym}
+use Rattle.std.proofs.Common.{subst, ap, suc, zero}
 use Rattle.std.proofs.lemmas.Int.{ints}
 use Rattle.std.proofs.Math.Nat.{mul-pos}
 use Rattle.cell_laws.specs.Bounds.{Above, Allows, either}
@@ -48,37 +49,58 @@ Above-right false r v h = h
 -- ---- two constraints, one that bounds t from below and one that bounds it from above
 
 -- at a common point they are compatible
-pub compatible_at : (m k n l : ℤ) (s r : Bool) (t : ℤ) (w : ℕ) → 0 < w → pos 0 <ℤ m → pos 0 <ℤ n → Allows m k s t w → Allows n l r (neg_ℤ t) w → Above (either s r) (k *ℤ n +ℤ l *ℤ m)
+pub compatible_at : (m k n l : ℤ) (s r : Bool) (t : ℤ) (w : ℕ) → 0 < w → pos 0 <ℤ m → pos 0 <ℤ n → Allows m k s t w
+    → Allows n l r (neg_ℤ t) w → Above (either s r) (k *ℤ n +ℤ l *ℤ m)
 compatible_at m k n l s r t w p pm pn h g =
-    let e : n *ℤ (m *ℤ t +ℤ k *ℤ pos w) +ℤ m *ℤ (n *ℤ neg_ℤ t +ℤ l *ℤ pos w) ≡ pos w *ℤ (k *ℤ n +ℤ l *ℤ m) = same_by (num n ⊗ (num m ⊗ num t ⊕ num k ⊗ num (pos w)) ⊕ num m ⊗ (num n ⊗ neg (num t) ⊕ num l ⊗ num (pos w))) (num (pos w) ⊗ (num k ⊗ num n ⊕ num l ⊗ num m)) (omega arith) in
+    let e : n *ℤ (m *ℤ t +ℤ k *ℤ pos w) +ℤ m *ℤ (n *ℤ neg_ℤ t +ℤ l *ℤ pos w)
+    ≡ pos w *ℤ (k *ℤ n +ℤ l *ℤ m) = same_by (num n ⊗ (num m ⊗ num t ⊕ num k ⊗ num (pos w)) ⊕ num m ⊗
+    (num n ⊗ neg (num t) ⊕ num l ⊗ num (pos w))) (num (pos w) ⊗ (num k ⊗ num n ⊕ num l ⊗ num m)) (omega arith) in
     let sum = Above-sum s r _ _ (Above-scaled s n _ pn h) (Above-scaled r m _ pm g) in
     Above-unscaled (either s r) (pos w) _ (omega (arith, ints)) (subst (λ v. Above (either s r) v) e sum)
 
 -- compatible ones have a common point, the middle
-pub compatible_point : (m k n l : ℤ) (s r : Bool) → pos 0 <ℤ m → pos 0 <ℤ n → Above (either s r) (k *ℤ n +ℤ l *ℤ m) → (t : ℤ) × (w : ℕ) × (0 < w) × Allows m k s t w × Allows n l r (neg_ℤ t) w
+pub compatible_point : (m k n l : ℤ) (s r : Bool) → pos 0 <ℤ m → pos 0 <ℤ n → Above (either s r) (k *ℤ n +ℤ l *ℤ m)
+    → (t : ℤ) × (w : ℕ) × (0 < w) × Allows m k s t w × Allows n l r (neg_ℤ t) w
 compatible_point (pos m) k (pos n) l s r pm pn h =
     let qm : 0 < m = omega (arith, ints) in
     let qn : 0 < n = omega (arith, ints) in
     let t = l *ℤ pos m -ℤ k *ℤ pos n in
     let w = 2 * (m * n) in
-    let e : pos m *ℤ (k *ℤ pos n +ℤ l *ℤ pos m) ≡ pos m *ℤ t +ℤ k *ℤ pos w = same_by (num (pos m) ⊗ (num k ⊗ num (pos n) ⊕ num l ⊗ num (pos m))) (num (pos m) ⊗ (num l ⊗ num (pos m) ⊖ num k ⊗ num (pos n)) ⊕ num k ⊗ num (pos w)) (omega arith) in
-    let f : pos n *ℤ (k *ℤ pos n +ℤ l *ℤ pos m) ≡ pos n *ℤ neg_ℤ t +ℤ l *ℤ pos w = same_by (num (pos n) ⊗ (num k ⊗ num (pos n) ⊕ num l ⊗ num (pos m))) (num (pos n) ⊗ (neg (num l ⊗ num (pos m) ⊖ num k ⊗ num (pos n))) ⊕ num l ⊗ num (pos w)) (omega arith) in
-    (t, w, omega (arith, mul-pos qm qn), subst (λ v. Above s v) e (Above-scaled s (pos m) _ pm (Above-left s r _ h)), subst (λ v. Above r v) f (Above-scaled r (pos n) _ pn (Above-right s r _ h)))
+    let e : pos m *ℤ (k *ℤ pos n +ℤ l *ℤ pos m)
+    ≡ pos m *ℤ t +ℤ k *ℤ pos w = same_by (num (pos m) ⊗ (num k ⊗ num (pos n) ⊕ num l ⊗ num (pos m)))
+    (num (pos m) ⊗ (num l ⊗ num (pos m) ⊖ num k ⊗ num (pos n)) ⊕ num k ⊗ num (pos w)) (omega arith) in
+    let f : pos n *ℤ (k *ℤ pos n +ℤ l *ℤ pos m) ≡ pos n *ℤ neg_ℤ t +ℤ l *ℤ pos w = same_by
+    (num (pos n) ⊗ (num k ⊗ num (pos n) ⊕ num l ⊗ num (pos m)))
+    (num (pos n) ⊗ (neg (num l ⊗ num (pos m) ⊖ num k ⊗ num (pos n))) ⊕ num l ⊗ num (pos w)) (omega arith) in (
+      t,
+      w,
+      omega (arith, mul-pos qm qn),
+      subst (λ v. Above s v) e (Above-scaled s (pos m) _ pm (Above-left s r _ h)),
+      subst
+          (λ v. Above r v) f (Above-scaled r (pos n) _ pn (Above-right s r _ h)),
+    )
 compatible_point m k n l s r pm pn h = absurd (omega (arith, ints))
 
 -- of two that bound t from below, the one with the lesser k / m is the tighter
-pub tighter_less : (m k n l : ℤ) (s r : Bool) (t : ℤ) (w : ℕ) → 0 < w → pos 0 <ℤ m → pos 0 <ℤ n → (k *ℤ n) <ℤ (l *ℤ m) → Allows m k s t w → Allows n l r t w
+pub tighter_less : (m k n l : ℤ) (s r : Bool) (t : ℤ) (w : ℕ) → 0 < w → pos 0 <ℤ m → pos 0 <ℤ n → (k *ℤ n) <ℤ (l *ℤ m) → Allows m k s t w
+    → Allows n l r t w
 tighter_less m k n l s r t w p pm pn less h =
-    let e : m *ℤ (n *ℤ t +ℤ l *ℤ pos w) ≡ n *ℤ (m *ℤ t +ℤ k *ℤ pos w) +ℤ (l *ℤ m -ℤ k *ℤ n) *ℤ pos w = same_by (num m ⊗ (num n ⊗ num t ⊕ num l ⊗ num (pos w))) (num n ⊗ (num m ⊗ num t ⊕ num k ⊗ num (pos w)) ⊕ (num l ⊗ num m ⊖ num k ⊗ num n) ⊗ num (pos w)) (omega arith) in
+    let e : m *ℤ (n *ℤ t +ℤ l *ℤ pos w) ≡ n *ℤ (m *ℤ t +ℤ k *ℤ pos w) +ℤ (l *ℤ m -ℤ k *ℤ n) *ℤ pos w = same_by
+    (num m ⊗ (num n ⊗ num t ⊕ num l ⊗ num (pos w)))
+    (num n ⊗ (num m ⊗ num t ⊕ num k ⊗ num (pos w)) ⊕ (num l ⊗ num m ⊖ num k ⊗ num n) ⊗ num (pos w)) (omega arith) in
     let a : pos 0 ≤ℤ (n *ℤ (m *ℤ t +ℤ k *ℤ pos w)) = product_at_least n _ (omega (arith, ints)) (Above-weak s _ h) in
-    let b : pos 0 <ℤ ((l *ℤ m -ℤ k *ℤ n) *ℤ pos w) = product_over (l *ℤ m -ℤ k *ℤ n) (pos w) (omega (arith, ints)) (omega (arith, ints)) in
+    let b : pos 0 <ℤ ((l *ℤ m -ℤ k *ℤ n) *ℤ pos w) = product_over (l *ℤ m -ℤ k *ℤ n) (pos w) (omega (arith, ints))
+    (omega (arith, ints)) in
     let c : pos 0 <ℤ (m *ℤ (n *ℤ t +ℤ l *ℤ pos w)) = subst (λ v. pos 0 <ℤ v) (sym e) (omega (arith, ints)) in
     Above-any r _ (Above-unscaled true m _ pm c)
 
 -- at equal ones the strict one is
-pub tighter_same : (m k n l : ℤ) (s r : Bool) (t : ℤ) (w : ℕ) → pos 0 <ℤ m → pos 0 <ℤ n → k *ℤ n ≡ l *ℤ m → either s r ≡ s → Allows m k s t w → Allows n l r t w
+pub tighter_same : (m k n l : ℤ) (s r : Bool) (t : ℤ) (w : ℕ) → pos 0 <ℤ m → pos 0 <ℤ n → k *ℤ n ≡ l *ℤ m → either s r ≡ s
+    → Allows m k s t w → Allows n l r t w
 tighter_same m k n l s r t w pm pn same op h =
-    let e : n *ℤ (m *ℤ t +ℤ k *ℤ pos w) ≡ m *ℤ (n *ℤ t +ℤ l *ℤ pos w) = same_by (num n ⊗ (num m ⊗ num t ⊕ num k ⊗ num (pos w))) (num m ⊗ (num n ⊗ num t ⊕ num l ⊗ num (pos w))) (omega (arith, ap (λ x. x * w) (same_read (num k ⊗ num n) (num l ⊗ num m) same))) in
+    let e : n *ℤ (m *ℤ t +ℤ k *ℤ pos w) ≡ m *ℤ (n *ℤ t +ℤ l *ℤ pos w) = same_by (num n ⊗ (num m ⊗ num t ⊕ num k ⊗ num (pos w)))
+    (num m ⊗ (num n ⊗ num t ⊕ num l ⊗ num (pos w)))
+    (omega (arith, ap (λ x. x * w) (same_read (num k ⊗ num n) (num l ⊗ num m) same))) in
     let a = Above-right s r _ (subst (λ b. Above b (m *ℤ t +ℤ k *ℤ pos w)) (sym op) h) in
     Above-unscaled r m _ pm (subst (λ v. Above r v) e (Above-scaled r n _ pn a))
 

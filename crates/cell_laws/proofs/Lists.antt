@@ -3,7 +3,8 @@ use Rattle.std.proofs.Common.{◌↔◌, List, [], ◌∷◌, ◌++◌, ◌⊎�
 use Rattle.std.specs.List.{AllByRecursion}
 use Rattle.plane_terms.specs.Lists.{SomeOf}
 
-pub all_append : {A : Type 0} (P : A → Type 0) (xs ys : List A) → AllByRecursion P (xs ++ ys) ↔ (AllByRecursion P xs × AllByRecursion P ys)
+pub all_append : {A : Type 0} (P : A → Type 0) (xs ys : List A)
+    → AllByRecursion P (xs ++ ys) ↔ (AllByRecursion P xs × AllByRecursion P ys)
 all_append P [] ys = (λ h. (tt, h), λ h. h.1)
 all_append P (x ∷ xs) ys =
     let e = all_append P xs ys in

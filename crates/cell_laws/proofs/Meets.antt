@@ -26,19 +26,23 @@ same_op Zero Over e = absurd cc
 same_op Zero AtLeast e = absurd cc
 same_op Zero Zero e = refl
 
-same_record : {a b c u v w : ℤ} {o r : Op} → a ≡ u → b ≡ v → c ≡ w → o ≡ r → ◌≡◌ {A = HalfPlane} (record { a = a; b = b; c = c; op = o }) (record { a = u; b = v; c = w; op = r })
+same_record : {a b c u v w : ℤ} {o r : Op} → a ≡ u → b ≡ v → c ≡ w → o ≡ r
+    → ◌≡◌ {A = HalfPlane} (record { a = a; b = b; c = c; op = o }) (record { a = u; b = v; c = w; op = r })
 same_record e f g h = rw (e, f, g, h) refl
 
 pub same_half-is : (h g : HalfPlane) → same_half h g ≡ true → h ≡ g
 same_half-is h g e =
-    let k = (Decides-and _ _ (Decides-int_eq h.a g.a) (Decides-and _ _ (Decides-int_eq h.b g.b) (Decides-and _ _ (Decides-int_eq h.c g.c) (Decides-eqb (op_number h.op) (op_number g.op))))).0 e in
+    let k = (Decides-and _ _ (Decides-int_eq h.a g.a)
+    (Decides-and _ _ (Decides-int_eq h.b g.b)
+    (Decides-and _ _ (Decides-int_eq h.c g.c) (Decides-eqb (op_number h.op) (op_number g.op))))).0 e in
     same_record k.0 k.1.0 k.1.1.0 (same_op h.op g.op k.1.1.1)
 
 any_holds : (h : HalfPlane) (c : Cell) (p : Point) → list_any (same_half h) c ≡ true → InCell c p → Holds h p
 any_holds h [] p e m = absurd (false≢true e)
 any_holds h (g ∷ gs) p e m = by_cases (same_half h g) refl e (λ f. any_holds h gs p f m.1)
   where
-    by_cases : (b : Bool) → same_half h g ≡ b → b || list_any (same_half h) gs ≡ true → (list_any (same_half h) gs ≡ true → Holds h p) → Holds h p
+    by_cases : (b : Bool) → same_half h g ≡ b → b || list_any (same_half h) gs ≡ true → (list_any (same_half h) gs ≡ true → Holds h p)
+        → Holds h p
     by_cases true f e rest = subst (λ k. Holds k p) (sym (same_half-is h g f)) m.0
     by_cases false f e rest = rest e
 
@@ -52,7 +56,9 @@ pub meet_points : (c d : Cell) (p : Point) → InCell (meet_of c d) p ↔ (InCel
 meet_points c [] p = (λ m. (m, tt), λ m. m.0)
 meet_points c (h ∷ hs) p = by_cases (list_any (same_half h) c) refl (meet_points c hs p) (meet_points (c ++ h ∷ []) hs p)
   where
-    by_cases : (b : Bool) → list_any (same_half h) c ≡ b → InCell (meet_of c hs) p ↔ (InCell c p × InCell hs p) → InCell (meet_of (c ++ h ∷ []) hs) p ↔ (InCell (c ++ h ∷ []) p × InCell hs p) → InCell (cond b (meet_of c hs) (meet_of (c ++ h ∷ []) hs)) p ↔ (InCell c p × (Holds h p × InCell hs p))
+    by_cases : (b : Bool) → list_any (same_half h) c ≡ b → InCell (meet_of c hs) p ↔ (InCell c p × InCell hs p)
+        → InCell (meet_of (c ++ h ∷ []) hs) p ↔ (InCell (c ++ h ∷ []) p × InCell hs p)
+        → InCell (cond b (meet_of c hs) (meet_of (c ++ h ∷ []) hs)) p ↔ (InCell c p × (Holds h p × InCell hs p))
     by_cases true e k n =
         (λ m. let a = k.0 m in (a.0, (any_holds h c p e a.0, a.1)), λ m. k.1 (m.0, m.1.1))
     by_cases false e n k =
@@ -64,9 +70,21 @@ pub kept_points : (cs : List Cell) (p : Point) → InCells (kept cs) p ↔ InCel
 kept_points [] p = (λ h. h, λ h. h)
 kept_points (c ∷ cs) p = by_cases (has_point c) refl (kept_points cs p)
   where
-    by_cases : (b : Bool) → has_point c ≡ b → InCells (kept cs) p ↔ InCells cs p → InCells (cond b (c ∷ kept cs) (kept cs)) p ↔ (InCell c p ⊎ InCells cs p)
-    by_cases true e rest = (λ h. elim h [ inl a ↦ inl a | inr k ↦ inr (rest.0 k) ], λ h. elim h [ inl a ↦ inl a | inr k ↦ inr (rest.1 k) ])
-    by_cases false e rest = (λ h. inr (rest.0 h), λ h. elim h [ inl a ↦ absurd (false≢true (sym e ∙ (has_point-true c).1 (p, a))) | inr k ↦ rest.1 k ])
+    by_cases : (b : Bool) → has_point c ≡ b → InCells (kept cs) p ↔ InCells cs p → InCells (cond b (c ∷ kept cs) (kept cs)) p
+        ↔ (InCell c p ⊎ InCells cs p)
+    by_cases true e rest = (
+      λ h. elim h [ inl a ↦ inl a | inr k ↦ inr (rest.0 k) ],
+      λ h. elim h [
+        | inl a ↦ inl a
+        | inr k ↦ inr
+            (rest.1 k)
+      ],
+    )
+    by_cases false e rest = (
+      λ h. inr
+          (rest.0 h),
+      λ h. elim h [ inl a ↦ absurd (false≢true (sym e ∙ (has_point-true c).1 (p, a))) | inr k ↦ rest.1 k ],
+    )
 
 pub kept_have_points : (cs : List Cell) → HavePoints (kept cs)
 kept_have_points [] = tt

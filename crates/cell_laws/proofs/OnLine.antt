@@ -65,11 +65,13 @@ level dx dy x y d e h =
     last u v e = omega (arith, ints)
 
 -- the cross product taken from the other end
-cross_high : (lx ly hx hy x y w : ℤ) → (hx -ℤ lx) *ℤ (y -ℤ hy *ℤ w) -ℤ (hy -ℤ ly) *ℤ (x -ℤ hx *ℤ w) ≡ (hx -ℤ lx) *ℤ (y -ℤ ly *ℤ w) -ℤ (hy -ℤ ly) *ℤ (x -ℤ lx *ℤ w)
+cross_high : (lx ly hx hy x y w : ℤ) → (hx -ℤ lx) *ℤ (y -ℤ hy *ℤ w) -ℤ (hy -ℤ ly) *ℤ (x -ℤ hx *ℤ w)
+    ≡ (hx -ℤ lx) *ℤ (y -ℤ ly *ℤ w) -ℤ (hy -ℤ ly) *ℤ (x -ℤ lx *ℤ w)
 cross_high lx ly hx hy x y w =
     let dx = num hx ⊖ num lx in
     let dy = num hy ⊖ num ly in
-    same_by (dx ⊗ (num y ⊖ num hy ⊗ num w) ⊖ dy ⊗ (num x ⊖ num hx ⊗ num w)) (dx ⊗ (num y ⊖ num ly ⊗ num w) ⊖ dy ⊗ (num x ⊖ num lx ⊗ num w)) (omega arith)
+    same_by (dx ⊗ (num y ⊖ num hy ⊗ num w) ⊖ dy ⊗ (num x ⊖ num hx ⊗ num w))
+    (dx ⊗ (num y ⊖ num ly ⊗ num w) ⊖ dy ⊗ (num x ⊖ num lx ⊗ num w)) (omega arith)
 
 nought : (u v : ℤ) → u ≡ v → u -ℤ v ≡ pos 0
 nought u v e = omega (arith, ints)
@@ -89,7 +91,8 @@ from_lo s p g o = elim g.ordered [
         | inl l ↦ inl l
         | inr l ↦
             let e : s.lo.x *ℤ pos p.w ≡ p.x = omega (arith, ints, k.0) in
-            let f = level (s.hi.x -ℤ s.lo.x) (s.hi.y -ℤ s.lo.y) (p.x -ℤ s.lo.x *ℤ pos p.w) (p.y -ℤ s.lo.y *ℤ pos p.w) (omega (arith, ints)) o.straight (nought p.x (s.lo.x *ℤ pos p.w) (sym e)) in
+            let f = level (s.hi.x -ℤ s.lo.x) (s.hi.y -ℤ s.lo.y) (p.x -ℤ s.lo.x *ℤ pos p.w) (p.y -ℤ s.lo.y *ℤ pos p.w)
+            (omega (arith, ints)) o.straight (nought p.x (s.lo.x *ℤ pos p.w) (sym e)) in
             inr (e, omega (arith, ints, f))
       ]
   | inr h ↦
@@ -110,7 +113,9 @@ to_hi s p g o = elim g.ordered [
         | inl l ↦ inl l
         | inr l ↦
             let e : p.x ≡ s.hi.x *ℤ pos p.w = omega (arith, ints, k.1) in
-            let f = level (s.hi.x -ℤ s.lo.x) (s.hi.y -ℤ s.lo.y) (p.x -ℤ s.hi.x *ℤ pos p.w) (p.y -ℤ s.hi.y *ℤ pos p.w) (omega (arith, ints)) (cross_high s.lo.x s.lo.y s.hi.x s.hi.y p.x p.y (pos p.w) ∙ o.straight) (nought p.x (s.hi.x *ℤ pos p.w) e) in
+            let f = level (s.hi.x -ℤ s.lo.x) (s.hi.y -ℤ s.lo.y) (p.x -ℤ s.hi.x *ℤ pos p.w) (p.y -ℤ s.hi.y *ℤ pos p.w)
+            (omega (arith, ints)) (cross_high s.lo.x s.lo.y s.hi.x s.hi.y p.x p.y (pos p.w)
+            ∙ o.straight) (nought p.x (s.hi.x *ℤ pos p.w) e) in
             inr (e, omega (arith, ints, f))
       ]
   | inr h ↦
@@ -146,33 +151,62 @@ only_high : (a b : ℤ) → b ≡ pos 0 *ℤ a +ℤ pos 1 *ℤ b
 only_high a b = same_by (num b) (num (pos 0) ⊗ num a ⊕ num (pos 1) ⊗ num b) (omega arith)
 
 pub on_lo : (s : Segment) → OnSegment s (point_at s.lo)
-on_lo s = on_mixed s (point_at s.lo) (pos 1) (pos 0) (record { n_least = omega (arith, ints); m_least = omega (arith, ints); w_is = refl; x_is = only_low s.lo.x s.hi.x; y_is = only_low s.lo.y s.hi.y })
+on_lo s = on_mixed s (point_at s.lo) (pos 1) (pos 0)
+    (record {
+      n_least = omega (arith, ints);
+      m_least = omega
+          (arith, ints);
+      w_is = refl;
+      x_is = only_low s.lo.x s.hi.x;
+      y_is = only_low s.lo.y s.hi.y;
+    })
 
 pub on_hi : (s : Segment) → OnSegment s (point_at s.hi)
-on_hi s = on_mixed s (point_at s.hi) (pos 0) (pos 1) (record { n_least = omega (arith, ints); m_least = omega (arith, ints); w_is = refl; x_is = only_high s.lo.x s.hi.x; y_is = only_high s.lo.y s.hi.y })
+on_hi s = on_mixed s (point_at s.hi) (pos 0) (pos 1)
+    (record {
+      n_least = omega (arith, ints);
+      m_least = omega
+          (arith, ints);
+      w_is = refl;
+      x_is = only_high s.lo.x s.hi.x;
+      y_is = only_high s.lo.y s.hi.y;
+    })
 
 -- on the line, and from lo to hi
-pub along_up : (lx ly hx hy x y : ℤ) → lx <ℤ hx → ly ≤ℤ hy → (hx -ℤ lx) *ℤ (y -ℤ ly) -ℤ (hy -ℤ ly) *ℤ (x -ℤ lx) ≡ pos 0 → lx ≤ℤ x → x ≤ℤ hx → (ly ≤ℤ y) × (y ≤ℤ hy)
+pub along_up : (lx ly hx hy x y : ℤ) → lx <ℤ hx → ly ≤ℤ hy → (hx -ℤ lx) *ℤ (y -ℤ ly) -ℤ (hy -ℤ ly) *ℤ (x -ℤ lx) ≡ pos 0 → lx ≤ℤ x
+    → x ≤ℤ hx → (ly ≤ℤ y) × (y ≤ℤ hy)
 along_up lx ly hx hy x y d u e l r =
     let dx = num hx ⊖ num lx in
     let dy = num hy ⊖ num ly in
     let z = same_read (dx ⊗ (num y ⊖ num ly) ⊖ dy ⊗ (num x ⊖ num lx)) (num (pos 0)) e in
-    let a = le_read (num (pos 0)) (dy ⊗ (num x ⊖ num lx)) (product_at_least (hy -ℤ ly) (x -ℤ lx) (omega (arith, ints)) (omega (arith, ints))) in
-    let b = le_read (num (pos 0)) (dy ⊗ (num hx ⊖ num x)) (product_at_least (hy -ℤ ly) (hx -ℤ x) (omega (arith, ints)) (omega (arith, ints))) in
-    let low = least_unscaled (hx -ℤ lx) (y -ℤ ly) (omega (arith, ints)) (le_by (num (pos 0)) (dx ⊗ (num y ⊖ num ly)) (omega (arith, z, a))) in
-    let high = least_unscaled (hx -ℤ lx) (hy -ℤ y) (omega (arith, ints)) (le_by (num (pos 0)) (dx ⊗ (num hy ⊖ num y)) (omega (arith, z, b))) in
+    let a = le_read (num (pos 0)) (dy ⊗ (num x ⊖ num lx)) (product_at_least (hy -ℤ ly) (x -ℤ lx) (omega (arith, ints))
+    (omega (arith, ints))) in
+    let b = le_read (num (pos 0)) (dy ⊗ (num hx ⊖ num x)) (product_at_least (hy -ℤ ly) (hx -ℤ x) (omega (arith, ints))
+    (omega (arith, ints))) in
+    let low = least_unscaled (hx -ℤ lx) (y -ℤ ly) (omega (arith, ints))
+    (le_by (num (pos 0)) (dx ⊗ (num y ⊖ num ly)) (omega (arith, z, a))) in
+    let high = least_unscaled (hx -ℤ lx) (hy -ℤ y) (omega (arith, ints))
+    (le_by (num (pos 0)) (dx ⊗ (num hy ⊖ num y)) (omega (arith, z, b))) in
     (omega (arith, ints, low), omega (arith, ints, high))
 
 -- the mirror image of a falling segment rises
-pub mirrored : (lx ly hx hy x y : ℤ) → (hx -ℤ lx) *ℤ (neg_ℤ y -ℤ neg_ℤ ly) -ℤ (neg_ℤ hy -ℤ neg_ℤ ly) *ℤ (x -ℤ lx) ≡ neg_ℤ ((hx -ℤ lx) *ℤ (y -ℤ ly) -ℤ (hy -ℤ ly) *ℤ (x -ℤ lx))
+pub mirrored : (lx ly hx hy x y : ℤ) → (hx -ℤ lx) *ℤ (neg_ℤ y -ℤ neg_ℤ ly) -ℤ (neg_ℤ hy -ℤ neg_ℤ ly) *ℤ (x -ℤ lx)
+    ≡ neg_ℤ ((hx -ℤ lx) *ℤ (y -ℤ ly) -ℤ (hy -ℤ ly) *ℤ (x -ℤ lx))
 mirrored lx ly hx hy x y =
     let dx = num hx ⊖ num lx in
-    same_by (dx ⊗ (neg (num y) ⊖ neg (num ly)) ⊖ (neg (num hy) ⊖ neg (num ly)) ⊗ (num x ⊖ num lx)) (neg (dx ⊗ (num y ⊖ num ly) ⊖ (num hy ⊖ num ly) ⊗ (num x ⊖ num lx))) (omega arith)
+    same_by (dx ⊗ (neg (num y) ⊖ neg (num ly)) ⊖ (neg (num hy) ⊖ neg (num ly)) ⊗ (num x ⊖ num lx))
+    (neg (dx ⊗ (num y ⊖ num ly) ⊖ (num hy ⊖ num ly) ⊗ (num x ⊖ num lx))) (omega arith)
 
-pub on_from_order : (t : Segment) (q : Place) → IsSegment t → turn t q ≡ pos 0 → Upto t.lo.x t.lo.y q.x q.y → Upto q.x q.y t.hi.x t.hi.y → OnSegment t (point_at q)
+pub on_from_order : (t : Segment) (q : Place) → IsSegment t → turn t q ≡ pos 0 → Upto t.lo.x t.lo.y q.x q.y → Upto q.x q.y t.hi.x t.hi.y
+    → OnSegment t (point_at q)
 on_from_order t q g e l r = elim g.ordered [
   | inl h ↦ record { straight = scaled; across = inl (unit_le t.lo.x q.x (x_low l), le_unit q.x t.hi.x (x_high r)); along = ordinates h }
-  | inr h ↦ record { straight = scaled; across = inl (unit_le t.lo.x q.x (x_low l), le_unit q.x t.hi.x (x_high r)); along = inl (unit_le t.lo.y q.y (y_low h), le_unit q.y t.hi.y (y_high h)) }
+  | inr h ↦ record {
+    straight = scaled;
+    across = inl (unit_le t.lo.x q.x (x_low l), le_unit q.x t.hi.x (x_high r));
+    along = inl
+        (unit_le t.lo.y q.y (y_low h), le_unit q.y t.hi.y (y_high h));
+  }
 ]
   where
     scaled : cross t (point_at q) ≡ pos 0
@@ -201,7 +235,8 @@ on_from_order t q g e l r = elim g.ordered [
     ordinates : t.lo.x <ℤ t.hi.x → IsBetween (t.lo.y *ℤ pos 1) (t.hi.y *ℤ pos 1) q.y
     ordinates h = elim (cases_order_ℤ t.hi.y t.lo.y) [
       | inl k ↦
-          let m = along_up t.lo.x (neg_ℤ t.lo.y) t.hi.x (neg_ℤ t.hi.y) q.x (neg_ℤ q.y) h (omega (arith, ints)) (mirrored t.lo.x t.lo.y t.hi.x t.hi.y q.x q.y ∙ rw e refl) (x_low l) (x_high r) in
+          let m = along_up t.lo.x (neg_ℤ t.lo.y) t.hi.x (neg_ℤ t.hi.y) q.x (neg_ℤ q.y) h (omega (arith, ints))
+          (mirrored t.lo.x t.lo.y t.hi.x t.hi.y q.x q.y ∙ rw e refl) (x_low l) (x_high r) in
           inr (omega (arith, ints, m.1), omega (arith, ints, m.0))
       | inr k ↦
           let m = along_up t.lo.x t.lo.y t.hi.x t.hi.y q.x q.y h k e (x_low l) (x_high r) in
@@ -233,8 +268,17 @@ differ_by : (a b : Place) → Before a.x a.y b.x b.y → ¬ (AreSame (point_at a
 differ_by a b (inl h) = λ e. omega (arith, ints, e.0)
 differ_by a b (inr h) = λ e. omega (arith, ints, h.1, e.1)
 
-overlap_by : (s t : Segment) (a b : Place) → OnSegment s (point_at a) → OnSegment t (point_at a) → OnSegment s (point_at b) → OnSegment t (point_at b) → Before a.x a.y b.x b.y → Overlap s t
-overlap_by s t a b i j k l h = record { p = point_at a; q = point_at b; apart = differ_by a b h; p_on_s = i; p_on_t = j; q_on_s = k; q_on_t = l }
+overlap_by : (s t : Segment) (a b : Place) → OnSegment s (point_at a) → OnSegment t (point_at a) → OnSegment s (point_at b)
+    → OnSegment t (point_at b) → Before a.x a.y b.x b.y → Overlap s t
+overlap_by s t a b i j k l h = record {
+  p = point_at a;
+  q = point_at b;
+  apart = differ_by a b h;
+  p_on_s = i;
+  p_on_t = j;
+  q_on_s = k;
+  q_on_t = l;
+}
 
 pub record OnOneLine (s t : Segment) : Type 0 where
   pub a : turn t s.lo ≡ pos 0
@@ -242,7 +286,8 @@ pub record OnOneLine (s t : Segment) : Type 0 where
   pub c : turn s t.lo ≡ pos 0
   pub d : turn s t.hi ≡ pos 0
 
-pub overlap : (s t : Segment) → IsSegment s → IsSegment t → OnOneLine s t → Before t.lo.x t.lo.y s.hi.x s.hi.y → Before s.lo.x s.lo.y t.hi.x t.hi.y → Overlap s t
+pub overlap : (s t : Segment) → IsSegment s → IsSegment t → OnOneLine s t → Before t.lo.x t.lo.y s.hi.x s.hi.y
+    → Before s.lo.x s.lo.y t.hi.x t.hi.y → Overlap s t
 overlap s t g h z ts st =
     let s_up = upto_from_before t.lo.x t.lo.y s.hi.x s.hi.y ts in
     let t_up = upto_from_before s.lo.x s.lo.y t.hi.x t.hi.y st in
@@ -250,13 +295,15 @@ overlap s t g h z ts st =
       | inl k ↦
           let on_t = on_from_order t s.lo h z.a (upto_from_before t.lo.x t.lo.y s.lo.x s.lo.y k) t_up in
           elim (cases_before s.hi.x s.hi.y t.hi.x t.hi.y) [
-            | inl l ↦ overlap_by s t s.lo s.hi (on_lo s) on_t (on_hi s) (on_from_order t s.hi h z.b s_up (upto_from_before s.hi.x s.hi.y t.hi.x t.hi.y l)) g.ordered
+            | inl l ↦ overlap_by s t s.lo s.hi (on_lo s) on_t (on_hi s)
+                (on_from_order t s.hi h z.b s_up (upto_from_before s.hi.x s.hi.y t.hi.x t.hi.y l)) g.ordered
             | inr l ↦ overlap_by s t s.lo t.hi (on_lo s) on_t (on_from_order s t.hi g z.d t_up l) (on_hi t) st
           ]
       | inr k ↦
           let on_s = on_from_order s t.lo g z.c k s_up in
           elim (cases_before s.hi.x s.hi.y t.hi.x t.hi.y) [
-            | inl l ↦ overlap_by s t t.lo s.hi on_s (on_lo t) (on_hi s) (on_from_order t s.hi h z.b s_up (upto_from_before s.hi.x s.hi.y t.hi.x t.hi.y l)) ts
+            | inl l ↦ overlap_by s t t.lo s.hi on_s (on_lo t) (on_hi s)
+                (on_from_order t s.hi h z.b s_up (upto_from_before s.hi.x s.hi.y t.hi.x t.hi.y l)) ts
             | inr l ↦ overlap_by s t t.lo t.hi on_s (on_lo t) (on_from_order s t.hi g z.d t_up l) (on_hi t) h.ordered
           ]
     ]

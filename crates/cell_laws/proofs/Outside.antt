@@ -16,7 +16,8 @@ use Rattle.cell_laws.proofs.GridLines.{x_over_holds, x_under_holds, y_over_holds
 -- ---- a half-plane, and those that hold where it does not
 pub turned_value : (h : HalfPlane) (o : Op) (p : Point) → value_at (turned h o) p ≡ neg_ℤ (value_at h p)
 turned_value h o p =
-    same_by (neg (num h.a) ⊗ num p.x ⊕ neg (num h.b) ⊗ num p.y ⊕ neg (num h.c) ⊗ num (pos p.w)) (neg (num h.a ⊗ num p.x ⊕ num h.b ⊗ num p.y ⊕ num h.c ⊗ num (pos p.w))) (omega arith)
+    same_by (neg (num h.a) ⊗ num p.x ⊕ neg (num h.b) ⊗ num p.y ⊕ neg (num h.c) ⊗ num (pos p.w))
+    (neg (num h.a ⊗ num p.x ⊕ num h.b ⊗ num p.y ⊕ num h.c ⊗ num (pos p.w))) (omega arith)
 
 abbrev Apart : Op → ℤ → Type 0
 Apart Over v = (pos 0 ≤ℤ neg_ℤ v) ⊎ ⊥
@@ -41,11 +42,27 @@ not_both Zero v h (inr (inl k)) = omega (arith, ints)
 not_both Zero v h (inr (inr k)) = k
 
 without_is : (h : HalfPlane) (o : Op) (p : Point) → SomeOf (λ g. Holds g p) (without_by o h) ↔ Apart o (value_at h p)
-without_is h Over p = (λ k. elim k [ inl a ↦ inl (subst (λ v. pos 0 ≤ℤ v) (turned_value h AtLeast p) a) | inr b ↦ inr b ], λ k. elim k [ inl a ↦ inl (subst (λ v. pos 0 ≤ℤ v) (sym (turned_value h AtLeast p)) a) | inr b ↦ inr b ])
-without_is h AtLeast p = (λ k. elim k [ inl a ↦ inl (subst (λ v. pos 0 <ℤ v) (turned_value h Over p) a) | inr b ↦ inr b ], λ k. elim k [ inl a ↦ inl (subst (λ v. pos 0 <ℤ v) (sym (turned_value h Over p)) a) | inr b ↦ inr b ])
+without_is h Over p = (
+  λ k. elim k [ inl a ↦ inl (subst (λ v. pos 0 ≤ℤ v) (turned_value h AtLeast p) a) | inr b ↦ inr b ],
+  λ k. elim
+      k [ inl a ↦ inl (subst (λ v. pos 0 ≤ℤ v) (sym (turned_value h AtLeast p)) a) | inr b ↦ inr b ],
+)
+without_is h AtLeast p = (
+  λ k. elim k [ inl a ↦ inl (subst (λ v. pos 0 <ℤ v) (turned_value h Over p) a) | inr b ↦ inr b ],
+  λ k. elim
+      k [ inl a ↦ inl (subst (λ v. pos 0 <ℤ v) (sym (turned_value h Over p)) a) | inr b ↦ inr b ],
+)
 without_is h Zero p = (
-  λ k. elim k [ inl a ↦ inl a | inr b ↦ inr (elim b [ inl c ↦ inl (subst (λ v. pos 0 <ℤ v) (turned_value h Over p) c) | inr d ↦ inr d ]) ],
-  λ k. elim k [ inl a ↦ inl a | inr b ↦ inr (elim b [ inl c ↦ inl (subst (λ v. pos 0 <ℤ v) (sym (turned_value h Over p)) c) | inr d ↦ inr d ]) ],
+  λ k. elim k [
+    | inl a ↦ inl a
+    | inr b ↦ inr
+        (elim b [ inl c ↦ inl (subst (λ v. pos 0 <ℤ v) (turned_value h Over p) c) | inr d ↦ inr d ])
+  ],
+  λ k. elim k [
+    | inl a ↦ inl a
+    | inr b ↦ inr
+        (elim b [ inl c ↦ inl (subst (λ v. pos 0 <ℤ v) (sym (turned_value h Over p)) c) | inr d ↦ inr d ])
+  ],
 )
 
 holds_or_not : (h : HalfPlane) (p : Point) → Holds h p ⊎ SomeOf (λ g. Holds g p) (without h)
@@ -55,7 +72,8 @@ holds_not_without : (h : HalfPlane) (p : Point) → Holds h p → SomeOf (λ g. 
 holds_not_without h p a b = not_both h.op (value_at h p) a ((without_is h h.op p).0 b)
 
 -- ---- out of a cell
-more_points : (before : Cell) (p : Point) (gs : Cell) → InCells (map {A = HalfPlane} (λ g. before ++ g ∷ []) gs) p ↔ (InCell before p × SomeOf (λ g. Holds g p) gs)
+more_points : (before : Cell) (p : Point) (gs : Cell) → InCells (map {A = HalfPlane} (λ g. before ++ g ∷ []) gs) p
+    ↔ (InCell before p × SomeOf (λ g. Holds g p) gs)
 more_points before p [] = (λ h. absurd h, λ h. h.1)
 more_points before p (g ∷ gs) =
     let e = all_append (λ h. Holds h p) before (g ∷ []) in

@@ -16,5 +16,9 @@ level_out k t w = same_by (num (pos 0) ⊗ num t ⊕ num k ⊗ num (pos w)) (num
 
 -- with no slope
 pub level_allows : (m k : ℤ) (s : Bool) (t : ℤ) (w : ℕ) → 0 < w → m ≡ pos 0 → Allows m k s t w ↔ Above s k
-level_allows m k s t w p e =
-    (λ h. Above-unscaled s (pos w) k (omega (arith, ints)) (subst (Above s) (level_out k t w) (subst (λ z. Allows z k s t w) e h)), λ h. subst (λ z. Allows z k s t w) (sym e) (subst (Above s) (sym (level_out k t w)) (Above-scaled s (pos w) k (omega (arith, ints)) h)))
+level_allows m k s t w p e = (
+  λ h. Above-unscaled s (pos w) k (omega (arith, ints))
+      (subst (Above s) (level_out k t w) (subst (λ z. Allows z k s t w) e h)),
+  λ h. subst (λ z. Allows z k s t w) (sym e)
+      (subst (Above s) (sym (level_out k t w)) (Above-scaled s (pos w) k (omega (arith, ints)) h)),
+)

@@ -1,5 +1,6 @@
 -- What `share_of` says of two segments, and that it says it alone.
-use Rattle.std.proofs.Common.{◌≡◌, ℕ, ◌<◌, ℤ, pos, ◌-ℤ◌, ◌*ℤ◌, ◌≤ℤ◌, ◌<ℤ◌, arith, refl, sym, subst, ◌⊎◌, inl, inr, ◌∙◌, Bool, true, false, cond, ◌&&◌, ◌||◌, ◌↔◌}
+use Rattle.std.proofs.Common.{◌≡◌, ℕ, ◌<◌, ℤ, pos, ◌-ℤ◌, ◌*ℤ◌, ◌≤ℤ◌, ◌<ℤ◌, arith, refl, sym, subst, ◌⊎◌, inl, inr, ◌∙◌, Bool, true, false}
+use Rattle.std.proofs.Common.{cond, ◌&&◌, ◌||◌, ◌↔◌}
 use Rattle.std.specs.Bool.{Decides}
 use Rattle.std.specs.Ordering.{int_eq}
 use Rattle.std.proofs.lemmas.Bool.Decides.{Decides-and, Decides-or, Decides-int_eq}
@@ -10,10 +11,12 @@ use Rattle.plane_terms.specs.Segment.{Segment, IsSegment, IsEndOf, SharePoint, O
 use Rattle.number_laws.proofs.Ring.{num, ◌⊖◌, ◌⊗◌, same_by}
 use Rattle.number_laws.proofs.Order.{zero_unscaled, cases_order_ℤ}
 use Rattle.number_laws.proofs.Tests.{Decides-int_lt}
-use Rattle.plane_terms.specs.Share.{AreSame, MeetOnce, CrossOnce, TouchOnce, turn, one_side, share_on_line, is_beside, is_parallel, has_end_on, share_of}
+use Rattle.plane_terms.specs.Share.{AreSame, MeetOnce, CrossOnce, TouchOnce, turn, one_side, share_on_line, is_beside, is_parallel}
+use Rattle.plane_terms.specs.Share.{has_end_on, share_of}
 use Rattle.plane_terms.specs.declared.share.Share.{Share}
 use Rattle.plane_terms.specs.declared.share.Share.TheVariants.{Nothing, Along, Cross, Touch}
-use Rattle.cell_laws.proofs.Meeting.{NoneShared, apart_over, apart_under, apart_sym, turns_differ, Straddle, NoEnds, SomeEnd, cross_once, touch_once, cross_sym, touch_sym}
+use Rattle.cell_laws.proofs.Meeting.{NoneShared, apart_over, apart_under, apart_sym, turns_differ, Straddle, NoEnds, SomeEnd, cross_once}
+use Rattle.cell_laws.proofs.Meeting.{touch_once, cross_sym, touch_sym}
 use Rattle.cell_laws.proofs.OnLine.{Before, Upto, cases_before, not_before, apart_before, touch_at, overlap, OnOneLine, both_upto}
 
 abbrev pub Means : Share → Segment → Segment → Type 0
@@ -51,7 +54,8 @@ cases_sides a b = elim (cases_order_ℤ (pos 0) a) [
 ]
 
 Decides-one_side : (a b : ℤ) → Decides (one_side a b) (OneSide a b)
-Decides-one_side a b = Decides-or _ _ (Decides-and _ _ (Decides-int_lt (pos 0) a) (Decides-int_lt (pos 0) b)) (Decides-and _ _ (Decides-int_lt a (pos 0)) (Decides-int_lt b (pos 0)))
+Decides-one_side a b = Decides-or _ _ (Decides-and _ _ (Decides-int_lt (pos 0) a) (Decides-int_lt (pos 0) b))
+    (Decides-and _ _ (Decides-int_lt a (pos 0)) (Decides-int_lt b (pos 0)))
 
 read_one_side : (a b : ℤ) → one_side a b ≡ true → OneSide a b
 read_one_side a b e = (Decides-one_side a b).0 e
@@ -69,14 +73,19 @@ read_differ : (a b : ℤ) → int_eq a b ≡ false → ¬ (a ≡ b)
 read_differ a b e = λ h. false≢true (sym e ∙ same_is a b h)
 
 -- ---- the choice, by the values of its tests
-line_by : (s t : Segment) (a b c d : Bool) → (a ≡ true → NoneShared s t) → (b ≡ true → NoneShared s t) → (c ≡ true → d ≡ true → Overlap s t) → (a ≡ false → c ≡ false → TouchOnce s t) → (b ≡ false → d ≡ false → TouchOnce s t) → Means (cond (a || b) Nothing (cond (c && d) Along Touch)) s t
+line_by : (s t : Segment) (a b c d : Bool) → (a ≡ true → NoneShared s t) → (b ≡ true → NoneShared s t)
+    → (c ≡ true → d ≡ true → Overlap s t) → (a ≡ false → c ≡ false → TouchOnce s t) → (b ≡ false → d ≡ false → TouchOnce s t)
+    → Means (cond (a || b) Nothing (cond (c && d) Along Touch)) s t
 line_by s t true b c d f g h i j = f refl
 line_by s t false true c d f g h i j = g refl
 line_by s t false false true true f g h i j = h refl refl
 line_by s t false false false d f g h i j = i refl refl
 line_by s t false false true false f g h i j = j refl refl
 
-choose : (s t : Segment) (a b c d e : Bool) (line : Share) → (a ≡ true → NoneShared s t) → (b ≡ true → NoneShared s t) → (a ≡ false → b ≡ false → c ≡ true → Means line s t) → (a ≡ false → b ≡ false → c ≡ false → (d ≡ true) ⊎ (e ≡ true) → TouchOnce s t) → (a ≡ false → b ≡ false → c ≡ false → d ≡ false → e ≡ false → CrossOnce s t) → Means (cond (a || b) Nothing (cond c line (cond (d || e) Touch Cross))) s t
+choose : (s t : Segment) (a b c d e : Bool) (line : Share) → (a ≡ true → NoneShared s t) → (b ≡ true → NoneShared s t)
+    → (a ≡ false → b ≡ false → c ≡ true → Means line s t) → (a ≡ false → b ≡ false → c ≡ false → (d ≡ true) ⊎ (e ≡ true) → TouchOnce s t)
+    → (a ≡ false → b ≡ false → c ≡ false → d ≡ false → e ≡ false → CrossOnce s t)
+    → Means (cond (a || b) Nothing (cond c line (cond (d || e) Touch Cross))) s t
 choose s t true b c d e line u v w x y = u refl
 choose s t false true c d e line u v w x y = v refl
 choose s t false false true d e line u v w x y = w refl refl refl
@@ -93,7 +102,11 @@ read_end a b e = by_cases (int_eq a (pos 0)) refl e
     by_cases false f e = inr (read_same b (pos 0) e)
 
 read_no_end : (a b : ℤ) → int_eq a (pos 0) || int_eq b (pos 0) ≡ false → ¬ (a ≡ pos 0) × ¬ (b ≡ pos 0)
-read_no_end a b e = (λ h. false≢true (sym e ∙ rw (same_is a (pos 0) h) refl), λ h. false≢true (sym (by_cases (int_eq a (pos 0)) e) ∙ same_is b (pos 0) h))
+read_no_end a b e = (
+  λ h. false≢true (sym e ∙ rw (same_is a (pos 0) h) refl),
+  λ h. false≢true (sym (by_cases (int_eq a (pos 0)) e)
+      ∙ same_is b (pos 0) h),
+)
   where
     by_cases : (v : Bool) → v || int_eq b (pos 0) ≡ false → int_eq b (pos 0) ≡ false
     by_cases true e = absurd (false≢true (sym e))
@@ -120,7 +133,8 @@ at_zero : (a b : ℤ) → TwoSides a b → a ≡ b → (a ≡ pos 0) × (b ≡ p
 at_zero a b (inl (h, k)) e = (omega (arith, ints), omega (arith, ints))
 at_zero a b (inr (h, k)) e = (omega (arith, ints), omega (arith, ints))
 
-one_line : (s t : Segment) → TwoSides (turn t s.lo) (turn t s.hi) → TwoSides (turn s t.lo) (turn s t.hi) → turn t s.lo ≡ turn t s.hi → OnOneLine s t
+one_line : (s t : Segment) → TwoSides (turn t s.lo) (turn t s.hi) → TwoSides (turn s t.lo) (turn s t.hi) → turn t s.lo ≡ turn t s.hi
+    → OnOneLine s t
 one_line s t h k e =
     let z = at_zero (turn t s.lo) (turn t s.hi) h e in
     let y = at_zero (turn s t.lo) (turn s t.hi) k (too (turn t s.lo) (turn t s.hi) (turn s t.lo) (turn s t.hi) (turns_differ s t) e) in
@@ -130,7 +144,8 @@ one_line s t h k e =
     too a b c d f e = omega (arith, ints)
 
 -- which of the two goes from left to right
-straddles : (s t : Segment) → TwoSides (turn t s.lo) (turn t s.hi) → TwoSides (turn s t.lo) (turn s t.hi) → ¬ (turn t s.lo ≡ turn t s.hi) → Straddle s t ⊎ Straddle t s
+straddles : (s t : Segment) → TwoSides (turn t s.lo) (turn t s.hi) → TwoSides (turn s t.lo) (turn s t.hi) → ¬ (turn t s.lo ≡ turn t s.hi)
+    → Straddle s t ⊎ Straddle t s
 straddles s t (inl (h, k)) y n =
     let d = below (turn t s.lo) (turn t s.hi) h k n in
     let o = other (turn t s.lo) (turn t s.hi) (turn s t.lo) (turn s t.hi) (turns_differ s t) d y in
@@ -173,18 +188,29 @@ share_of-means s t g h =
     (λ e. beside s t g (read_one_side a b e))
     (λ e. apart_sym s t (beside t s h (read_one_side c d e)))
     (λ e f z. line_means s t g h (one_line s t (read_two_sides a b e) (read_two_sides c d f) (read_same a b z)))
-    (λ e f z n. touches s t (straddles s t (read_two_sides a b e) (read_two_sides c d f) (read_differ a b z)) (elim n [ inl x ↦ inl (read_end a b x) | inr x ↦ inr (read_end c d x) ]))
+    (λ e f z n. touches s t (straddles s t (read_two_sides a b e) (read_two_sides c d f) (read_differ a b z)) (elim n [
+      | inl x ↦ inl
+          (read_end a b x)
+      | inr x ↦ inr (read_end c d x)
+    ]))
     (λ e f z k l.
     let m = read_no_end a b k in
     let n = read_no_end c d l in
-    crosses s t (straddles s t (read_two_sides a b e) (read_two_sides c d f) (read_differ a b z)) (record { a = m.0; b = m.1; c = n.0; d = n.1 }))
+    crosses s t (straddles s t (read_two_sides a b e) (read_two_sides c d f) (read_differ a b z)) (record {
+      a = m.0;
+      b = m.1;
+      c = n.0;
+      d = n.1;
+    }))
 
 -- ---- no two of the four hold together
 -- two that are the same as a third
 third : (a p q : ℤ) (aw pw qw : ℕ) → 0 < aw → a *ℤ pos pw ≡ p *ℤ pos aw → a *ℤ pos qw ≡ q *ℤ pos aw → p *ℤ pos qw ≡ q *ℤ pos pw
 third a p q aw pw qw o e f =
-    let x : p *ℤ pos aw *ℤ pos qw ≡ q *ℤ pos aw *ℤ pos pw = rw (← e, ← f) (same_by (num a ⊗ num (pos pw) ⊗ num (pos qw)) (num a ⊗ num (pos qw) ⊗ num (pos pw)) (omega arith)) in
-    even (p *ℤ pos qw) (q *ℤ pos pw) (zero_unscaled (pos aw) (p *ℤ pos qw -ℤ q *ℤ pos pw) (omega (arith, ints)) (taken p q (pos aw) (pos pw) (pos qw) ∙ nought (p *ℤ pos aw *ℤ pos qw) (q *ℤ pos aw *ℤ pos pw) x))
+    let x : p *ℤ pos aw *ℤ pos qw ≡ q *ℤ pos aw *ℤ pos pw = rw (← e, ← f)
+    (same_by (num a ⊗ num (pos pw) ⊗ num (pos qw)) (num a ⊗ num (pos qw) ⊗ num (pos pw)) (omega arith)) in
+    even (p *ℤ pos qw) (q *ℤ pos pw) (zero_unscaled (pos aw) (p *ℤ pos qw -ℤ q *ℤ pos pw) (omega (arith, ints))
+    (taken p q (pos aw) (pos pw) (pos qw) ∙ nought (p *ℤ pos aw *ℤ pos qw) (q *ℤ pos aw *ℤ pos pw) x))
   where
     taken : (p q a u v : ℤ) → a *ℤ (p *ℤ v -ℤ q *ℤ u) ≡ p *ℤ a *ℤ v -ℤ q *ℤ a *ℤ u
     taken p q a u v = same_by (num a ⊗ (num p ⊗ num v ⊖ num q ⊗ num u)) (num p ⊗ num a ⊗ num v ⊖ num q ⊗ num a ⊗ num u) (omega arith)
@@ -203,15 +229,18 @@ together u v e = omega (arith, ints)
 
 pub same_third : (a p q : Point) → AreSame a p → AreSame a q → AreSame p q
 same_third a p q h k = (
-  apart (p.x *ℤ pos q.w) (q.x *ℤ pos p.w) (third a.x p.x q.x a.w p.w q.w a.positive (together (a.x *ℤ pos p.w) (p.x *ℤ pos a.w) h.0) (together (a.x *ℤ pos q.w) (q.x *ℤ pos a.w) k.0)),
-  apart (p.y *ℤ pos q.w) (q.y *ℤ pos p.w) (third a.y p.y q.y a.w p.w q.w a.positive (together (a.y *ℤ pos p.w) (p.y *ℤ pos a.w) h.1) (together (a.y *ℤ pos q.w) (q.y *ℤ pos a.w) k.1)),
+  apart (p.x *ℤ pos q.w) (q.x *ℤ pos p.w) (third a.x p.x q.x a.w p.w q.w a.positive (together (a.x *ℤ pos p.w) (p.x *ℤ pos a.w) h.0)
+      (together (a.x *ℤ pos q.w) (q.x *ℤ pos a.w) k.0)),
+  apart (p.y *ℤ pos q.w) (q.y *ℤ pos p.w) (third a.y p.y q.y a.w p.w q.w a.positive (together (a.y *ℤ pos p.w) (p.y *ℤ pos a.w) h.1)
+      (together (a.y *ℤ pos q.w) (q.y *ℤ pos a.w) k.1)),
 )
 
 -- a point that is the same as a grid point is at it
 moved : (x p q : ℤ) (pw qw : ℕ) → 0 < pw → p *ℤ pos qw ≡ q *ℤ pos pw → p ≡ x *ℤ pos pw → q ≡ x *ℤ pos qw
 moved x p q pw qw o e f =
     let g : x *ℤ pos pw *ℤ pos qw ≡ q *ℤ pos pw = rw (← f) e in
-    even q (x *ℤ pos qw) (zero_unscaled (pos pw) (q -ℤ x *ℤ pos qw) (omega (arith, ints)) (taken x q (pos pw) (pos qw) ∙ nought (q *ℤ pos pw) (x *ℤ pos pw *ℤ pos qw) (sym g)))
+    even q (x *ℤ pos qw) (zero_unscaled (pos pw) (q -ℤ x *ℤ pos qw) (omega (arith, ints)) (taken x q (pos pw) (pos qw)
+    ∙ nought (q *ℤ pos pw) (x *ℤ pos pw *ℤ pos qw) (sym g)))
   where
     taken : (x q u v : ℤ) → u *ℤ (q -ℤ x *ℤ v) ≡ q *ℤ u -ℤ x *ℤ u *ℤ v
     taken x q u v = same_by (num u ⊗ (num q ⊖ num x ⊗ num v)) (num q ⊗ num u ⊖ num x ⊗ num u ⊗ num v) (omega arith)
@@ -223,7 +252,12 @@ moved x p q pw qw o e f =
     even u v e = omega (arith, ints)
 
 at_same : (at : Place) (p q : Point) → AreSame p q → IsAt at p → IsAt at q
-at_same at p q e a = record { x = moved at.x p.x q.x p.w q.w p.positive (together (p.x *ℤ pos q.w) (q.x *ℤ pos p.w) e.0) a.x; y = moved at.y p.y q.y p.w q.w p.positive (together (p.y *ℤ pos q.w) (q.y *ℤ pos p.w) e.1) a.y }
+at_same at p q e a = record {
+  x = moved at.x p.x q.x p.w q.w p.positive
+      (together (p.x *ℤ pos q.w) (q.x *ℤ pos p.w) e.0) a.x;
+  y = moved at.y p.y q.y p.w q.w p.positive
+      (together (p.y *ℤ pos q.w) (q.y *ℤ pos p.w) e.1) a.y;
+}
 
 pub end_same : (s : Segment) (p q : Point) → AreSame p q → IsEndOf s p → IsEndOf s q
 end_same s p q e (inl a) = inl (at_same s.lo p q e a)

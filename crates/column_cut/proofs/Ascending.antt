@@ -1,5 +1,6 @@
 -- What a sort and the dropping of doubles leave is the ascending list of the numbers, each once.
-use Rattle.std.proofs.Common.{◌≡◌, ℕ, zero, suc, ◌<◌, ℤ, ◌<ℤ◌, arith, sym, subst, refl, inl, inr, List, [], ◌∷◌, ◌++◌, length, get_or, Bool, true, false, cond}
+use Rattle.std.proofs.Common.{◌≡◌, ℕ, zero, suc, ◌<◌, ℤ, ◌<ℤ◌, arith, sym, subst, refl, inl, inr, List, [], ◌∷◌, ◌++◌, length, get_or}
+use Rattle.std.proofs.Common.{Bool, true, false, cond}
 use Rattle.std.proofs.lemmas.Grind.{common_steps}
 use Rattle.std.proofs.lemmas.Int.{ints}
 use Rattle.std.specs.List.{Contains, dedup}
@@ -13,7 +14,7 @@ use Rattle.plane_terms.specs.Lists.{Every}
 use Rattle.plane_terms.specs.Segment.{Segment}
 use Rattle.plane_terms.specs.Columns.{put, abscissas, ordinates}
 use Rattle.column_laws.specs.Rising.{IsRising}
-use Rattle.column_laws.proofs.Every.{every_map}
+use Rattle.plane_terms.proofs.ListLemmas.{every_map}
 use Rattle.column_laws.proofs.Numbers.{every-put, IsRising-put, among-put, among-put_other, from-put}
 use Rattle.column_cut.specs.Vertices.{ascending, xs_of, ys_at, is_at}
 use Rattle.column_cut.proofs.Unique.{IsAmong, same_by_members}
@@ -51,7 +52,11 @@ every_ascending P (v ∷ vs) h = every-put P v (ascending vs) h.0 (every_ascendi
 rising_from_sorted : (xs : List ℤ) → IsStrictlySortedBy int_cmp xs → IsRising xs
 unfolding IsStrictlySortedBy
 rising_from_sorted [] h = tt
-rising_from_sorted (x ∷ xs) h = (every_map (λ y. int_cmp x y ≡ Less) (λ y. x <ℤ y) (λ y e. int_ranked x y Less (sym e)) xs h.0, rising_from_sorted xs h.1)
+rising_from_sorted (x ∷ xs) h = (
+  every_map (λ y. int_cmp x y ≡ Less) (λ y. x <ℤ y)
+      (λ y e. int_ranked x y Less (sym e)) xs h.0,
+  rising_from_sorted xs h.1,
+)
 
 not_both : (a b : ℤ) → a <ℤ b → b <ℤ a → ⊥
 not_both a b h k = omega (arith, ints)
@@ -61,10 +66,12 @@ distinct_is vs sorted p s =
     same_by_members (λ a b. a <ℤ b) not_both (dedup int_eq sorted) (ascending vs)
     (rising_from_sorted (dedup int_eq sorted) (IsStrictlySortedBy-dedup int_cmp_total (λ x y. refl) sorted s)) (ascending-rising vs)
     (λ z m.
-    let c = Contains-permutation sorted vs z (IsPermutation-sym vs sorted p) (Contains-from_dedup int_eq sorted z (contains_from_among (dedup int_eq sorted) z m)) in
+    let c = Contains-permutation sorted vs z (IsPermutation-sym vs sorted p)
+    (Contains-from_dedup int_eq sorted z (contains_from_among (dedup int_eq sorted) z m)) in
     among_ascending z vs (among_from_contains vs c.0 z c.1 c.2))
     (λ z m.
-    let c = Contains-dedup int_eq_equiv (λ x y. (signed_Decides x y).0) sorted z (Contains-permutation vs sorted z p (contains_from_among vs z (from_ascending z vs m))) in
+    let c = Contains-dedup int_eq_equiv (λ x y. (signed_Decides x y).0) sorted z
+    (Contains-permutation vs sorted z p (contains_from_among vs z (from_ascending z vs m))) in
     among_from_contains (dedup int_eq sorted) c.0 z c.1 c.2)
 
 -- ---- the coordinates of the vertices
@@ -77,14 +84,17 @@ ordinates_are x [] = refl
 ordinates_are x (s ∷ ss) = by_tests (is_at s.lo.x x) (is_at s.hi.x x) (ordinates_are x ss)
   where
     by_tests : (a b : Bool) → ascending (ys_at x ss) ≡ ordinates x ss →
-        ascending (cond b (s.hi.y ∷ cond a (s.lo.y ∷ ys_at x ss) (ys_at x ss)) (cond a (s.lo.y ∷ ys_at x ss) (ys_at x ss))) ≡ cond b (put s.hi.y (cond a (put s.lo.y (ordinates x ss)) (ordinates x ss))) (cond a (put s.lo.y (ordinates x ss)) (ordinates x ss))
+        ascending (cond b (s.hi.y ∷ cond a (s.lo.y ∷ ys_at x ss) (ys_at x ss)) (cond a (s.lo.y ∷ ys_at x ss) (ys_at x ss)))
+        ≡ cond b (put s.hi.y (cond a (put s.lo.y (ordinates x ss)) (ordinates x ss)))
+        (cond a (put s.lo.y (ordinates x ss)) (ordinates x ss))
     by_tests true true e = rw e refl
     by_tests true false e = rw e refl
     by_tests false true e = rw e refl
     by_tests false false e = e
 
 -- ---- the loop that collects ordinates
-pub push_ends : (vs rest : List ℤ) (a b : Bool) (low high : ℤ) → ((vs ++ cond b (high ∷ []) []) ++ cond a (low ∷ []) []) ++ rest ≡ vs ++ cond b (high ∷ cond a (low ∷ rest) rest) (cond a (low ∷ rest) rest)
+pub push_ends : (vs rest : List ℤ) (a b : Bool) (low high : ℤ) → ((vs ++ cond b (high ∷ []) []) ++ cond a (low ∷ []) []) ++ rest
+    ≡ vs ++ cond b (high ∷ cond a (low ∷ rest) rest) (cond a (low ∷ rest) rest)
 push_ends vs rest true true low high = grind (arith, common_steps)
 push_ends vs rest true false low high = grind (arith, common_steps)
 push_ends vs rest false true low high = grind (arith, common_steps)

@@ -1,5 +1,6 @@
 -- Heights on an upright line: where a half-plane holds nowhere, and a slot with a stretch that it does not reach.
-use Rattle.std.proofs.Common.{◌≡◌, ◌≤◌, ◌^◌, ℤ, pos, ◌+ℤ◌, ◌-ℤ◌, ◌*ℤ◌, neg_ℤ, ◌≤ℤ◌, ◌<ℤ◌, arith, sym, subst, inl, inr, unsigned_abs, true, false, FitsSigned, to_z, of_z, w64, int_le}
+use Rattle.std.proofs.Common.{◌≡◌, ◌≤◌, ◌^◌, ℤ, pos, ◌+ℤ◌, ◌-ℤ◌, ◌*ℤ◌, neg_ℤ, ◌≤ℤ◌, ◌<ℤ◌, arith, sym, subst, inl, inr, unsigned_abs, true}
+use Rattle.std.proofs.Common.{false, FitsSigned, to_z, of_z, w64, int_le}
 use Rattle.std.proofs.lemmas.Int.{ints}
 use Rattle.plane_terms.specs.Point.{Point}
 use Rattle.plane_terms.specs.HalfPlane.{HalfPlane, Holds, Says, value_at, x_is, y_over, y_under}
@@ -29,7 +30,8 @@ falls a b c x y py w =
     same_by (num a ⊗ (num x ⊗ num w) ⊕ num b ⊗ num py ⊕ num c ⊗ num w)
     (neg (num b ⊗ (num y ⊗ num w ⊖ num py)) ⊖ (neg (num a ⊗ num x ⊕ num b ⊗ num y ⊕ num c) ⊗ num w)) (omega arith)
 
-rises : (a b c x y py w : ℤ) → a *ℤ (x *ℤ w) +ℤ b *ℤ py +ℤ c *ℤ w ≡ neg_ℤ (neg_ℤ b *ℤ (py -ℤ y *ℤ w)) -ℤ (neg_ℤ (a *ℤ x +ℤ b *ℤ y +ℤ c) *ℤ w)
+rises : (a b c x y py w : ℤ) → a *ℤ (x *ℤ w) +ℤ b *ℤ py +ℤ c *ℤ w
+    ≡ neg_ℤ (neg_ℤ b *ℤ (py -ℤ y *ℤ w)) -ℤ (neg_ℤ (a *ℤ x +ℤ b *ℤ y +ℤ c) *ℤ w)
 rises a b c x y py w =
     same_by (num a ⊗ (num x ⊗ num w) ⊕ num b ⊗ num py ⊕ num c ⊗ num w)
     (neg (neg (num b) ⊗ (num py ⊖ num y ⊗ num w)) ⊖ (neg (num a ⊗ num x ⊕ num b ⊗ num y ⊕ num c) ⊗ num w)) (omega arith)
@@ -52,14 +54,16 @@ module _ (h : HalfPlane) (x y : ℤ) (p : Point) (under : (h.a *ℤ x +ℤ h.b *
   pub above_fails : h.b <ℤ pos 0 → Holds (y_over y) p → ¬ (Holds h p)
   above_fails b l =
       let d = (y_over_holds y p).0 l in
-      fails (less _ _ _ (rises h.a h.b h.c x y p.y (pos p.w)) (product_over (neg_ℤ h.b) (p.y -ℤ y *ℤ pos p.w) (omega (arith, ints)) (omega (arith, ints, d))) rest)
+      fails (less _ _ _ (rises h.a h.b h.c x y p.y (pos p.w)) (product_over (neg_ℤ h.b) (p.y -ℤ y *ℤ pos p.w) (omega (arith, ints))
+      (omega (arith, ints, d))) rest)
 
 -- ---- as the code computes it
 module _ (p q r : ℤ) (f : unsigned_abs p ≤ 2 ^ 46) (g : unsigned_abs q ≤ 2 ^ 46) (k : unsigned_abs r ≤ 2 ^ 46) where
   pub sum_fits : FitsSigned w64 (to_z w64 (of_z w64 (to_z w64 (of_z w64 p) +ℤ to_z w64 (of_z w64 q))) +ℤ to_z w64 (of_z w64 r))
   sum_fits = omega (arith, ints)
 
-  pub sum_back : to_z w64 (of_z w64 (to_z w64 (of_z w64 (to_z w64 (of_z w64 p) +ℤ to_z w64 (of_z w64 q))) +ℤ to_z w64 (of_z w64 r))) ≡ p +ℤ q +ℤ r
+  pub sum_back : to_z w64 (of_z w64 (to_z w64 (of_z w64 (to_z w64 (of_z w64 p) +ℤ to_z w64 (of_z w64 q))) +ℤ to_z w64 (of_z w64 r)))
+      ≡ p +ℤ q +ℤ r
   sum_back = omega (arith, ints)
 
   pub sum_small : unsigned_abs (p +ℤ q +ℤ r) ≤ 2 ^ 48

@@ -1,5 +1,6 @@
 -- The steps of the loops that push cells, and what lies last.
-use Rattle.std.proofs.Common.{◌≡◌, ℕ, suc, ◌+◌, ◌-◌, ◌<◌, ℤ, arith, sym, ap, refl, ◌∙◌, List, [], ◌∷◌, ◌++◌, append_assoc, length, get_or, drop, Option, Some, None, subst}
+use Rattle.std.proofs.Common.{◌≡◌, ℕ, suc, ◌+◌, ◌-◌, ◌<◌, ℤ, arith, sym, ap, refl, ◌∙◌, List, [], ◌∷◌, ◌++◌, append_assoc, length, get_or}
+use Rattle.std.proofs.Common.{drop, Option, Some, None, subst}
 use Rattle.std.specs.Prelude.{slice_get, Result, Ok, Err, OnOk, unwrap_or}
 use Rattle.std.specs.Option.{option_copied}
 use denote.Ref.{Bor}
@@ -12,11 +13,14 @@ use Rattle.plane_terms.specs.Decide.{has_point}
 use Rattle.plane_terms.specs.Columns.{last}
 
 -- what F makes of a list, piece by piece: the cells of the next one are pushed
-pub push_step : {X : Type 0} (F : List X → List Cell) (one : X → List Cell) → ((g : X) (gs : List X) → F (g ∷ gs) ≡ one g ++ F gs) → (gs : List X) (i : ℕ) (g : X) → i < length gs → g ≡ get_or gs i g → (old new whole : List Cell) → old ++ kept (F (drop i gs)) ≡ whole → new ≡ old ++ kept (one g) → new ++ kept (F (drop (i + 1) gs)) ≡ whole
+pub push_step : {X : Type 0} (F : List X → List Cell) (one : X → List Cell) → ((g : X) (gs : List X) → F (g ∷ gs) ≡ one g ++ F gs)
+    → (gs : List X) (i : ℕ) (g : X) → i < length gs → g ≡ get_or gs i g → (old new whole : List Cell)
+    → old ++ kept (F (drop i gs)) ≡ whole → new ≡ old ++ kept (one g) → new ++ kept (F (drop (i + 1) gs)) ≡ whole
 push_step F one step gs i g l is old new whole before pushed =
     let next : drop i gs ≡ g ∷ drop (i + 1) gs = drop_more gs i g l ∙ ap (λ y. y ∷ drop (i + 1) gs) (sym is) in
     let rest = F (drop (i + 1) gs) in
-    let f : kept (F (drop i gs)) ≡ kept (one g) ++ kept rest = ap (λ hs. kept (F hs)) next ∙ ap kept (step g (drop (i + 1) gs)) ∙ filter-append has_point (one g) rest in
+    let f : kept (F (drop i gs)) ≡ kept (one g) ++ kept rest = ap (λ hs. kept (F hs)) next ∙ ap kept (step g (drop (i + 1) gs))
+    ∙ filter-append has_point (one g) rest in
     ap (λ cs. cs ++ kept rest) pushed ∙ append_assoc old (kept (one g)) (kept rest) ∙ ap (λ cs. old ++ cs) (sym f) ∙ before
 
 -- ---- the last of a list
@@ -35,11 +39,15 @@ copied_or : (r : Option (Bor ℤ)) (d : Bor ℤ) → (unwrap_or r d).now ≡ unw
 copied_or (Some b) d = refl
 copied_or None d = refl
 
-pub last_is : (r : Option (Bor ℤ)) (d : Bor ℤ) (xs : List ℤ) → option_copied r ≡ slice_get xs (length xs - 1) → (unwrap_or r d).now ≡ last d.now xs
+pub last_is : (r : Option (Bor ℤ)) (d : Bor ℤ) (xs : List ℤ) → option_copied r ≡ slice_get xs (length xs - 1)
+    → (unwrap_or r d).now ≡ last d.now xs
 last_is r d xs e = copied_or r d ∙ ap (λ o. unwrap_or o d.now) e ∙ unwrap_or-slice_get xs (length xs - 1) d.now ∙ sym (last_at d.now xs)
 
 -- ---- the cells of a wall, and then those of the column to its right, from the same slots
-pub strip_done : {E : Type 0} (r : Result (Unit {0}) E) (F G : List Cell → List Cell) (made slots : List Cell) → made ≡ slots → (old mid new : List Cell) → mid ≡ old ++ kept (F made) → OnOk r (new ≡ mid ++ kept (G made)) → OnOk r (new ≡ old ++ kept (F slots ++ G slots))
+pub strip_done : {E : Type 0} (r : Result (Unit {0}) E) (F G : List Cell → List Cell) (made slots : List Cell) → made ≡ slots
+    → (old mid new : List Cell) → mid ≡ old ++ kept (F made) → OnOk r (new ≡ mid ++ kept (G made))
+    → OnOk r (new ≡ old ++ kept (F slots ++ G slots))
 strip_done (Ok u) F G made slots e old mid new f g =
-    subst (λ s. new ≡ old ++ kept (F s ++ G s)) e (g ∙ ap (λ cs. cs ++ kept (G made)) f ∙ append_assoc old (kept (F made)) (kept (G made)) ∙ ap (λ cs. old ++ cs) (sym (filter-append has_point (F made) (G made))))
+    subst (λ s. new ≡ old ++ kept (F s ++ G s)) e (g ∙ ap (λ cs. cs ++ kept (G made)) f ∙ append_assoc old (kept (F made)) (kept (G made))
+    ∙ ap (λ cs. old ++ cs) (sym (filter-append has_point (F made) (G made))))
 strip_done (Err v) F G made slots e old mid new f g = g

@@ -23,11 +23,13 @@ module _ {X : Type 0} (R : X → X → Type 0) (asym : (a b : X) → R a b → R
       let xx : R x x = subst (R x) (k ∙ sym e) xz in
       absurd (asym x x xx xx)
 
-  pub same_by_members : (xs ys : List X) → EveryPair R xs → EveryPair R ys → ((z : X) → IsAmong z xs → IsAmong z ys) → ((z : X) → IsAmong z ys → IsAmong z xs) → xs ≡ ys
+  pub same_by_members : (xs ys : List X) → EveryPair R xs → EveryPair R ys → ((z : X) → IsAmong z xs → IsAmong z ys)
+      → ((z : X) → IsAmong z ys → IsAmong z xs) → xs ≡ ys
   same_by_members [] [] f g h k = refl
   same_by_members [] (y ∷ ys) f g h k = absurd (k y (inl refl))
   same_by_members (x ∷ xs) [] f g h k = absurd (h x (inl refl))
   same_by_members (x ∷ xs) (y ∷ ys) f g h k =
       let e = head_same x y xs ys f.0 g.0 (h x (inl refl)) (k y (inl refl)) in
-      let t = same_by_members xs ys f.1 g.1 (λ z m. tail_member x y xs ys f.0 e z m (h z (inr m))) (λ z m. tail_member y x ys xs g.0 (sym e) z m (k z (inr m))) in
+      let t = same_by_members xs ys f.1 g.1 (λ z m. tail_member x y xs ys f.0 e z m (h z (inr m)))
+      (λ z m. tail_member y x ys xs g.0 (sym e) z m (k z (inr m))) in
       ap (λ a. a ∷ xs) e ∙ ap (λ zs. y ∷ zs) t

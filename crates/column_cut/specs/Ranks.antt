@@ -13,7 +13,8 @@ is_under a b = int_lt (b.level *ℤ a.width) (a.level *ℤ b.width)
 
 pub record IsRank (x y : ℤ) (r : Ranked) : Type 0 where
   pub width : r.width ≡ r.segment.hi.x -ℤ r.segment.lo.x
-  pub level : r.level ≡ (pos 2 *ℤ r.segment.lo.x -ℤ (x +ℤ y)) *ℤ (r.segment.hi.y -ℤ r.segment.lo.y) -ℤ (pos 2 *ℤ r.segment.lo.y) *ℤ (r.segment.hi.x -ℤ r.segment.lo.x)
+  pub level : r.level ≡ (pos 2 *ℤ r.segment.lo.x -ℤ (x +ℤ y)) *ℤ (r.segment.hi.y -ℤ r.segment.lo.y) -ℤ (pos 2 *ℤ r.segment.lo.y) *ℤ
+      (r.segment.hi.x -ℤ r.segment.lo.x)
 
 pub record IsRankOf (x y : ℤ) (s : Segment) (r : Ranked) : Type 0 where
   pub segment : r.segment ≡ s

@@ -156,7 +156,7 @@ fn outside_of(alloc: Global, segments: &[Seg]) -> Result<Cells, NoMemory>
 }
 
 /// The cells of the inside of a polygon, over the list of its segments: column by column from the left, in each first its
-/// wall. Of a list whose segments meet at ends alone they hold exactly the points inside. The only error is want of memory.
+/// wall. Of a list whose segments meet at ends alone they hold exactly the points inside. The only error is out of memory.
 pub fn inside(alloc: Global, segments: &[Seg]) -> Result<Cells, NoMemory>
     ensures value { IfOk result (λ cells. cells ≡ inside_cells segments.now) }
     ensures points { IfOk result (λ cells. IsSimpleList segments.now → (p : Point) → InCells cells p ↔ IsInside segments.now p) }
@@ -166,7 +166,7 @@ pub fn inside(alloc: Global, segments: &[Seg]) -> Result<Cells, NoMemory>
 
 /// The cells of what is neither inside a polygon nor on its boundary: first all that is left of it, then column by column,
 /// last all that is right of it. Of a list whose segments meet at ends alone they hold exactly those points.
-/// The only error is want of memory.
+/// The only error is out of memory.
 pub fn outside(alloc: Global, segments: &[Seg]) -> Result<Cells, NoMemory>
     ensures value { IfOk result (λ cells. cells ≡ outside_cells segments.now) }
     ensures points { IfOk result (λ cells. IsSimpleList segments.now → (p : Point) → InCells cells p ↔ IsOutside segments.now p) }

@@ -1,5 +1,6 @@
 -- The cells of `inside` hold exactly the points inside, and those of `outside` the points neither inside nor on the boundary.
-use Rattle.std.proofs.Common.{◌≡◌, ℤ, pos, ◌+ℤ◌, ◌*ℤ◌, ◌≤ℤ◌, ◌<ℤ◌, arith, sym, subst, refl, ◌⊎◌, inl, inr, Bool, true, false, ◌&&◌, List, [], ◌∷◌, ◌++◌, Some, None}
+use Rattle.std.proofs.Common.{◌≡◌, ℤ, pos, ◌+ℤ◌, ◌*ℤ◌, ◌≤ℤ◌, ◌<ℤ◌, arith, sym, subst, refl, ◌⊎◌, inl, inr, Bool, true, false, ◌&&◌, List}
+use Rattle.std.proofs.Common.{[], ◌∷◌, ◌++◌, Some, None}
 use Rattle.std.proofs.lemmas.Int.{ints}
 use Rattle.std.specs.Int.RustNames.{int_le}
 use Rattle.plane_terms.specs.Point.{Point}
@@ -12,7 +13,7 @@ use Rattle.cell_laws.proofs.Lists.{some_append}
 use Rattle.cell_laws.proofs.GridLines.{x_over_holds, x_under_holds, x_is_holds}
 use Rattle.column_laws.specs.Rising.{IsRising}
 use Rattle.column_laws.specs.Slots.{IsFree, IsJudged}
-use Rattle.column_laws.proofs.Every.{every_map}
+use Rattle.plane_terms.proofs.ListLemmas.{every_map}
 use Rattle.column_laws.proofs.Lines.{IsWithin}
 use Rattle.column_laws.proofs.Intervals.{StandsAt, StandsAt-next, from_first}
 use Rattle.column_laws.proofs.Slots.{IsIn-append, IsIn-left, IsIn-right}
@@ -83,7 +84,8 @@ free_at_last x s h = record { low = inl (last_end x s.lo.x h.0); high = inl (las
 
 no_column : (x : ℤ) (ss : List Segment) → Every (EndsAt x []) ss → column x (x +ℤ pos 1) ss ≡ []
 no_column x [] h = refl
-no_column x (s ∷ ss) h = rw (and_false (int_le s.lo.x x) (int_le (x +ℤ pos 1) s.hi.x) (past x s.hi.x (last_end x s.hi.x h.0.1))) (no_column x ss h.1)
+no_column x (s ∷ ss) h = rw (and_false (int_le s.lo.x x) (int_le (x +ℤ pos 1) s.hi.x) (past x s.hi.x (last_end x s.hi.x h.0.1)))
+    (no_column x ss h.1)
   where
     and_false : (b c : Bool) → c ≡ false → (b && c) ≡ false
     and_false true c e = e
@@ -101,29 +103,41 @@ module _ (even : Bool) (ss : List Segment) (valid : IsSimpleList ss) (p : Point)
       let r = on_out x (slots even None (column x y ss)) (intervals (is_covered x ss) None (ordinates x ss)) p h in
       wall_out x ss p r.0 even y d valid.proper valid.simple f r.1 r.2
 
-  wall_exact_in : (x y : ℤ) → x <ℤ y → Every (IsFree x y) ss → p.x ≡ x *ℤ pos p.w → IsJudged even ss p → InCells (wall even x ss (column x y ss)) p
+  wall_exact_in : (x y : ℤ) → x <ℤ y → Every (IsFree x y) ss → p.x ≡ x *ℤ pos p.w → IsJudged even ss p
+      → InCells (wall even x ss (column x y ss)) p
   wall_exact_in x y d f e j =
       on_in x (slots even None (column x y ss)) (intervals (is_covered x ss) None (ordinates x ss)) p e
-      (strip_in even x y ss d valid.simple f p (record { right = omega (arith, ints, e); left = omega (arith, ints, e, lt_scaled x y p.w p.positive d) }) j)
+      (strip_in even x y ss d valid.simple f p (record {
+        right = omega (arith, ints, e);
+        left = omega
+            (arith, ints, e, lt_scaled x y p.w p.positive d);
+      }) j)
       (wall_interval x ss p e j.clear)
 
   last_wall : (x : ℤ) → Every (EndsAt x []) ss → Every (IsFree x (x +ℤ pos 1)) ss
   last_wall x h = every_map (EndsAt x []) (IsFree x (x +ℤ pos 1)) (λ s. free_at_last x s) ss h
 
-  pub cells_out : (x : ℤ) (xs : List ℤ) → IsRising (x ∷ xs) → Every (EndsAt x xs) ss → InCells (cells_from even ss x xs) p → IsJudged even ss p
-  cells_out x [] r h k = wall_exact_out x (x +ℤ pos 1) (one_more x) (last_wall x h) (subst (λ c. InCells (wall even x ss c) p) (sym (no_column x ss h)) k)
+  pub cells_out : (x : ℤ) (xs : List ℤ) → IsRising (x ∷ xs) → Every (EndsAt x xs) ss → InCells (cells_from even ss x xs) p
+      → IsJudged even ss p
+  cells_out x [] r h k = wall_exact_out x (x +ℤ pos 1) (one_more x) (last_wall x h)
+      (subst (λ c. InCells (wall even x ss c) p) (sym (no_column x ss h)) k)
   cells_out x (y ∷ ys) r h k =
       let f = every_map (EndsAt x (y ∷ ys)) (IsFree x y) (λ s. free_by_ends x y ys r.1 s) ss h in
-      elim (some_cases (wall even x ss (column x y ss)) (in_column x y (slots even None (column x y ss)) ++ cells_from even ss y ys) p k) [
+      elim (some_cases (wall even x ss (column x y ss))
+      (in_column x y (slots even None (column x y ss)) ++ cells_from even ss y ys) p k) [
         | inl k ↦ wall_exact_out x y r.0.0 f k
         | inr k ↦ elim (some_cases (in_column x y (slots even None (column x y ss))) (cells_from even ss y ys) p k) [
-          | inl k ↦ let c = column_out x y (slots even None (column x y ss)) p k in strip_out even x y ss r.0.0 valid.proper valid.simple f p c.0 c.1
-          | inr k ↦ cells_out y ys r.1 (every_map (EndsAt x (y ∷ ys)) (EndsAt y ys) (λ s e. (StandsAt-next (Some x) y ys r s.lo.x e.0, StandsAt-next (Some x) y ys r s.hi.x e.1)) ss h) k
+          | inl k ↦ let c = column_out x y (slots even None (column x y ss)) p k in strip_out even x y ss r.0.0 valid.proper valid.simple
+              f p c.0 c.1
+          | inr k ↦ cells_out y ys r.1 (every_map (EndsAt x (y ∷ ys)) (EndsAt y ys)
+              (λ s e. (StandsAt-next (Some x) y ys r s.lo.x e.0, StandsAt-next (Some x) y ys r s.hi.x e.1)) ss h) k
         ]
       ]
 
-  pub cells_in : (x : ℤ) (xs : List ℤ) → IsRising (x ∷ xs) → Every (EndsAt x xs) ss → (x *ℤ pos p.w) ≤ℤ p.x → p.x ≤ℤ (last x xs *ℤ pos p.w) → IsJudged even ss p → InCells (cells_from even ss x xs) p
-  cells_in x [] r h a b j = subst (λ c. InCells (wall even x ss c) p) (no_column x ss h) (wall_exact_in x (x +ℤ pos 1) (one_more x) (last_wall x h) (both p.x (x *ℤ pos p.w) a b) j)
+  pub cells_in : (x : ℤ) (xs : List ℤ) → IsRising (x ∷ xs) → Every (EndsAt x xs) ss → (x *ℤ pos p.w) ≤ℤ p.x
+      → p.x ≤ℤ (last x xs *ℤ pos p.w) → IsJudged even ss p → InCells (cells_from even ss x xs) p
+  cells_in x [] r h a b j = subst (λ c. InCells (wall even x ss c) p) (no_column x ss h)
+      (wall_exact_in x (x +ℤ pos 1) (one_more x) (last_wall x h) (both p.x (x *ℤ pos p.w) a b) j)
     where
       both : (u v : ℤ) → v ≤ℤ u → u ≤ℤ v → u ≡ v
       both u v h k = omega (arith, ints)
@@ -134,10 +148,15 @@ module _ (even : Bool) (ss : List Segment) (valid : IsSimpleList ss) (p : Point)
       let rest = cells_from even ss y ys in
       elim (cases_order_ℤ p.x (y *ℤ pos p.w)) [
         | inl k ↦ elim (cases_order_ℤ (x *ℤ pos p.w) p.x) [
-          | inl l ↦ some_right walls (columns ++ rest) p (some_left columns rest p (column_in x y (slots even None (column x y ss)) p (record { right = l; left = k }) (strip_in even x y ss r.0.0 valid.simple f p (record { right = a; left = k }) j)))
+          | inl l ↦ some_right walls (columns ++ rest) p
+              (some_left columns rest p (column_in x y (slots even None (column x y ss)) p (record { right = l; left = k })
+              (strip_in even x y ss r.0.0 valid.simple f p (record { right = a; left = k }) j)))
           | inr l ↦ some_left walls (columns ++ rest) p (wall_exact_in x y r.0.0 f (both p.x (x *ℤ pos p.w) a l) j)
         ]
-        | inr k ↦ some_right walls (columns ++ rest) p (some_right columns rest p (cells_in y ys r.1 (every_map (EndsAt x (y ∷ ys)) (EndsAt y ys) (λ s e. (StandsAt-next (Some x) y ys r s.lo.x e.0, StandsAt-next (Some x) y ys r s.hi.x e.1)) ss h) k b j))
+        | inr k ↦ some_right walls (columns ++ rest) p
+            (some_right columns rest p (cells_in y ys r.1
+            (every_map (EndsAt x (y ∷ ys)) (EndsAt y ys)
+            (λ s e. (StandsAt-next (Some x) y ys r s.lo.x e.0, StandsAt-next (Some x) y ys r s.hi.x e.1)) ss h) k b j))
       ]
     where
       both : (u v : ℤ) → v ≤ℤ u → u ≤ℤ v → u ≡ v

@@ -2,10 +2,6 @@
 use Rattle.std.proofs.Common.{◌≡◌, refl, Bool, true, false, cond, List, [], ◌∷◌}
 use Rattle.plane_terms.specs.Lists.{Every}
 
-pub every_map : {A : Type 0} (P Q : A → Type 0) → ((x : A) → P x → Q x) → (xs : List A) → Every P xs → Every Q xs
-every_map P Q f [] h = tt
-every_map P Q f (x ∷ xs) h = (f x h.0, every_map P Q f xs h.1)
-
 pub every_both : {A : Type 0} (P Q : A → Type 0) → (xs : List A) → Every P xs → Every Q xs → Every (λ x. P x × Q x) xs
 every_both P Q [] h k = tt
 every_both P Q (x ∷ xs) h k = ((h.0, k.0), every_both P Q xs h.1 k.1)

@@ -1,5 +1,6 @@
 -- The two theorems.
-use Rattle.std.proofs.Common.{◌≡◌, ◌⊎◌, ℤ, pos, ◌*ℤ◌, ◌≤ℤ◌, ◌<ℤ◌, arith, sym, ap, refl, inl, inr, ◌∙◌, Bool, true, false, ◌&&◌, List, [], ◌∷◌, Some}
+use Rattle.std.proofs.Common.{◌≡◌, ◌⊎◌, ℤ, pos, ◌*ℤ◌, ◌≤ℤ◌, ◌<ℤ◌, arith, sym, ap, refl, inl, inr, ◌∙◌, Bool, true, false, ◌&&◌, List, []}
+use Rattle.std.proofs.Common.{◌∷◌, Some}
 use Rattle.std.proofs.lemmas.Int.{ints}
 use Rattle.std.proofs.lemmas.Bool.{false≢true, false_from_ne_true}
 use Rattle.std.specs.Int.RustNames.{int_le, int_lt}
@@ -15,7 +16,7 @@ use Rattle.cell_laws.proofs.GridLines.{x_over_holds, x_under_holds}
 use Rattle.cell_laws.proofs.Meets.{kept_points}
 use Rattle.column_laws.specs.Rising.{IsRising}
 use Rattle.column_laws.specs.Slots.{IsJudged, IsBeside, slot_cells}
-use Rattle.column_laws.proofs.Every.{every_map}
+use Rattle.plane_terms.proofs.ListLemmas.{every_map}
 use Rattle.column_laws.proofs.Numbers.{IsRising-put, IsAmong, among-put, among-put_other}
 use Rattle.column_laws.proofs.Intervals.{StandsAt, StandsAt-next, from_first}
 use Rattle.column_laws.proofs.Strip.{clear_by_each}
@@ -34,7 +35,12 @@ abscissas-each [] = tt
 abscissas-each (s ∷ ss) =
     let xs = abscissas ss in (
       (among-put s.lo.x (put s.hi.x xs), among-put_other s.hi.x s.lo.x (put s.hi.x xs) (among-put s.hi.x xs)),
-      every_map (EndsAmong xs) (EndsAmong (put s.lo.x (put s.hi.x xs))) (λ t h. (among-put_other t.lo.x s.lo.x (put s.hi.x xs) (among-put_other t.lo.x s.hi.x xs h.0), among-put_other t.hi.x s.lo.x (put s.hi.x xs) (among-put_other t.hi.x s.hi.x xs h.1))) ss (abscissas-each ss),
+      every_map (EndsAmong xs) (EndsAmong (put s.lo.x (put s.hi.x xs)))
+          (λ t h. (
+            among-put_other t.lo.x s.lo.x (put s.hi.x xs) (among-put_other t.lo.x s.hi.x xs h.0),
+            among-put_other t.hi.x s.lo.x
+                (put s.hi.x xs) (among-put_other t.hi.x s.hi.x xs h.1),
+          )) ss (abscissas-each ss),
     )
 
 among_at : (x v : ℤ) (xs : List ℤ) → IsAmong v (x ∷ xs) → StandsAt (Some x) xs v
@@ -67,7 +73,8 @@ left_away x p l s h k =
     let a = scaled_le x s.lo.x p.w h in
     let b = scaled_le x s.hi.x p.w k in
     record {
-      counts_not = first (int_le (s.lo.x *ℤ pos p.w) p.x) (int_lt p.x (s.hi.x *ℤ pos p.w) && int_lt (pos 0) (cross s p)) (fails (s.lo.x *ℤ pos p.w) p.x (x *ℤ pos p.w) a l);
+      counts_not = first (int_le (s.lo.x *ℤ pos p.w) p.x) (int_lt p.x (s.hi.x *ℤ pos p.w) && int_lt (pos 0) (cross s p))
+          (fails (s.lo.x *ℤ pos p.w) p.x (x *ℤ pos p.w) a l);
       off = λ o. elim o.across [ inl c ↦ omega (arith, ints, c.0, a, l) | inr c ↦ omega (arith, ints, c.0, b, l) ];
     }
   where
@@ -82,7 +89,8 @@ right_away x p l s h k =
     let a = scaled_le s.lo.x x p.w h in
     let b = scaled_le s.hi.x x p.w k in
     record {
-      counts_not = second (int_le (s.lo.x *ℤ pos p.w) p.x) (int_lt p.x (s.hi.x *ℤ pos p.w)) (int_lt (pos 0) (cross s p)) (fails (s.hi.x *ℤ pos p.w) p.x (x *ℤ pos p.w) b l);
+      counts_not = second (int_le (s.lo.x *ℤ pos p.w) p.x) (int_lt p.x (s.hi.x *ℤ pos p.w)) (int_lt (pos 0) (cross s p))
+          (fails (s.hi.x *ℤ pos p.w) p.x (x *ℤ pos p.w) b l);
       off = λ o. elim o.across [ inl c ↦ omega (arith, ints, c.1, b, l) | inr c ↦ omega (arith, ints, c.1, a, l) ];
     }
   where
@@ -99,10 +107,13 @@ module _ (ss : List Segment) (p : Point) where
   ends x xs e = every_map (EndsAmong (x ∷ xs)) (EndsAt x xs) (λ s m. (among_at x s.lo.x xs m.0, among_at x s.hi.x xs m.1)) ss e
 
   left_of_all : (x : ℤ) (xs : List ℤ) → IsRising (x ∷ xs) → Every (EndsAmong (x ∷ xs)) ss → p.x <ℤ (x *ℤ pos p.w) → Every (IsAway p) ss
-  left_of_all x xs r e l = every_map (EndsAmong (x ∷ xs)) (IsAway p) (λ s m. left_away x p l s (from_first x xs r s.lo.x m.0) (from_first x xs r s.hi.x m.1)) ss e
+  left_of_all x xs r e l = every_map (EndsAmong (x ∷ xs)) (IsAway p) (λ s m. left_away x p l s (from_first x xs r s.lo.x m.0)
+      (from_first x xs r s.hi.x m.1)) ss e
 
-  right_of_all : (x : ℤ) (xs : List ℤ) → IsRising (x ∷ xs) → Every (EndsAmong (x ∷ xs)) ss → (last x xs *ℤ pos p.w) <ℤ p.x → Every (IsAway p) ss
-  right_of_all x xs r e l = every_map (EndsAt x xs) (IsAway p) (λ s m. right_away (last x xs) p l s (below_last x xs r s.lo.x m.0) (below_last x xs r s.hi.x m.1)) ss (ends x xs e)
+  right_of_all : (x : ℤ) (xs : List ℤ) → IsRising (x ∷ xs) → Every (EndsAmong (x ∷ xs)) ss → (last x xs *ℤ pos p.w) <ℤ p.x
+      → Every (IsAway p) ss
+  right_of_all x xs r e l = every_map (EndsAt x xs) (IsAway p) (λ s m. right_away (last x xs) p l s (below_last x xs r s.lo.x m.0)
+      (below_last x xs r s.hi.x m.1)) ss (ends x xs e)
 
   pub beside_away : (xs : List ℤ) → IsRising xs → Every (EndsAmong xs) ss → IsBeside xs p → Every (IsAway p) ss
   beside_away [] r e h = none_at_all ss e
@@ -118,11 +129,13 @@ module _ (ss : List Segment) (p : Point) where
 
 module _ (ss : List Segment) (p : Point) (valid : IsSimpleList ss) where
   -- ---- the cells of one parity
-  pub slots_clear : (even : Bool) (xs : List ℤ) → IsRising xs → Every (EndsAmong xs) ss → InCells (slot_cells even ss xs) p → IsJudged even ss p
+  pub slots_clear : (even : Bool) (xs : List ℤ) → IsRising xs → Every (EndsAmong xs) ss → InCells (slot_cells even ss xs) p
+      → IsJudged even ss p
   slots_clear even [] r e h = absurd h
   slots_clear even (x ∷ xs) r e h = cells_out even ss valid p x xs r (ends ss p x xs e) h
 
-  pub slots_enough : (even : Bool) (xs : List ℤ) → IsRising xs → Every (EndsAmong xs) ss → IsJudged even ss p → IsBeside xs p ⊎ InCells (slot_cells even ss xs) p
+  pub slots_enough : (even : Bool) (xs : List ℤ) → IsRising xs → Every (EndsAmong xs) ss → IsJudged even ss p
+      → IsBeside xs p ⊎ InCells (slot_cells even ss xs) p
   slots_enough even [] r e j = inl tt
   slots_enough even (x ∷ xs) r e j =
       elim (cases_order_ℤ p.x (x *ℤ pos p.w)) [
@@ -142,7 +155,11 @@ module _ (ss : List Segment) (p : Point) (valid : IsSimpleList ss) where
 
   inside_in : (xs : List ℤ) → IsRising xs → Every (EndsAmong xs) ss → IsJudged false ss p → InCells (inside_by ss xs) p
   inside_in [] r e j = both_parities (beside_judged ss p [] r e tt) j
-  inside_in (x ∷ xs) r e j = elim (slots_enough false (x ∷ xs) r e j) [ inl h ↦ both_parities (beside_judged ss p (x ∷ xs) r e h) j | inr h ↦ h ]
+  inside_in (x ∷ xs) r e j = elim (slots_enough false (x ∷ xs) r e j) [
+    | inl h ↦ both_parities
+        (beside_judged ss p (x ∷ xs) r e h) j
+    | inr h ↦ h
+  ]
 
   outside_out : (xs : List ℤ) → IsRising xs → Every (EndsAmong xs) ss → InCells (outside_by ss xs) p → IsJudged true ss p
   outside_out [] r e h = beside_judged ss p [] r e tt
@@ -159,7 +176,8 @@ module _ (ss : List Segment) (p : Point) (valid : IsSimpleList ss) where
       elim (slots_enough true (x ∷ xs) r e j) [
         | inl h ↦ elim h [
           | inl k ↦ inl ((x_under_holds x p).1 k, tt)
-          | inr l ↦ inr (some_right (cells_from true ss x xs) ((x_over (last x xs) ∷ []) ∷ []) p (inl ((x_over_holds (last x xs) p).1 l, tt)))
+          | inr l ↦ inr (some_right (cells_from true ss x xs) ((x_over (last x xs) ∷ []) ∷ []) p
+              (inl ((x_over_holds (last x xs) p).1 l, tt)))
         ]
         | inr h ↦ inr (some_left (cells_from true ss x xs) ((x_over (last x xs) ∷ []) ∷ []) p h)
       ]
@@ -168,14 +186,22 @@ module _ (ss : List Segment) (p : Point) (valid : IsSimpleList ss) where
 pub inside_is_exact : InsideIsExact
 inside_is_exact ss valid p =
     let k = kept_points (inside_by ss (abscissas ss)) p in (
-      (λ h. let j = inside_out ss p valid (abscissas ss) (abscissas-rising ss) (abscissas-each ss) (k.0 h) in record { clear = j.clear; odd = j.parity }),
-      (λ i. k.1 (inside_in ss p valid (abscissas ss) (abscissas-rising ss) (abscissas-each ss) (record { clear = i.clear; parity = i.odd }))),
+      (λ h. let j = inside_out ss p valid (abscissas ss) (abscissas-rising ss) (abscissas-each ss)
+          (k.0 h) in record { clear = j.clear; odd = j.parity }),
+      (λ i. k.1 (inside_in ss p valid (abscissas ss) (abscissas-rising ss) (abscissas-each ss) (record {
+        clear = i.clear;
+        parity = i.odd;
+      }))),
     )
 
 -- those of `outside` exactly the points neither inside nor on the boundary
 pub outside_is_exact : OutsideIsExact
 outside_is_exact ss valid p =
     let k = kept_points (outside_by ss (abscissas ss)) p in (
-      (λ h. let j = outside_out ss p valid (abscissas ss) (abscissas-rising ss) (abscissas-each ss) (k.0 h) in record { clear = j.clear; even = λ e. false≢true (sym j.parity ∙ e) }),
-      (λ i. k.1 (outside_in ss p valid (abscissas ss) (abscissas-rising ss) (abscissas-each ss) (record { clear = i.clear; parity = false_from_ne_true (is_odd (how_many (λ s. counts s p) ss)) i.even }))),
+      (λ h. let j = outside_out ss p valid (abscissas ss) (abscissas-rising ss) (abscissas-each ss)
+          (k.0 h) in record { clear = j.clear; even = λ e. false≢true (sym j.parity ∙ e) }),
+      (λ i. k.1 (outside_in ss p valid (abscissas ss) (abscissas-rising ss) (abscissas-each ss) (record {
+        clear = i.clear;
+        parity = false_from_ne_true (is_odd (how_many (λ s. counts s p) ss)) i.even;
+      }))),
     )

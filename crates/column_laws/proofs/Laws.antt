@@ -6,8 +6,9 @@ use Rattle.plane_terms.specs.Segment.{Segment}
 use Rattle.plane_terms.specs.Polygon.{counts}
 use Rattle.plane_terms.specs.Columns.{abscissas, column}
 use Rattle.column_laws.specs.Slots.{IsAcross, IsBelow, ColumnsHaveOneOrder, SlotsAreClear, SlotsCount, SlotsAreEnough, NoneCountsBeside}
-use Rattle.column_laws.proofs.Every.{every_map}
-use Rattle.column_laws.proofs.Segments.{Lower, left_is}
+use Rattle.plane_terms.proofs.ListLemmas.{every_map}
+use Rattle.cell_laws.proofs.HalfPlanes.{left_value}
+use Rattle.column_laws.proofs.Segments.{Lower}
 use Rattle.column_laws.proofs.Order.{Chain, chain-column}
 use Rattle.column_laws.proofs.Slots.{slot_counts}
 use Rattle.column_laws.proofs.Strip.{same_count}
@@ -15,8 +16,8 @@ use Rattle.column_laws.proofs.Exact.{abscissas-rising, abscissas-each, none_coun
 
 below_from_lower : (x y : ℤ) (s t : Segment) → Lower x y s t → IsBelow x y s t
 below_from_lower x y s t l = record {
-  over = λ p a h. subst (λ v. pos 0 <ℤ v) (left_is s p) (l.over p a (subst (λ v. pos 0 <ℤ v) (sym (left_is t p)) h));
-  under = λ p a h. subst (λ v. v <ℤ pos 0) (left_is t p) (l.under p a (subst (λ v. v <ℤ pos 0) (sym (left_is s p)) h));
+  over = λ p a h. subst (λ v. pos 0 <ℤ v) (left_value s p) (l.over p a (subst (λ v. pos 0 <ℤ v) (sym (left_value t p)) h));
+  under = λ p a h. subst (λ v. v <ℤ pos 0) (left_value t p) (l.under p a (subst (λ v. v <ℤ pos 0) (sym (left_value s p)) h));
 }
 
 below_by_chain : (x y : ℤ) (ss : List Segment) → Chain x y ss → EveryPair (IsBelow x y) ss
@@ -42,7 +43,10 @@ parity_of false = (true, refl)
 pub slots_are_enough : SlotsAreEnough
 slots_are_enough ss valid p clear =
     let e = parity_of (is_odd (how_many (λ s. counts s p) ss)) in
-    elim (slots_enough ss p valid e.0 (abscissas ss) (abscissas-rising ss) (abscissas-each ss) (record { clear = clear; parity = e.1 })) [ inl h ↦ inl h | inr h ↦ inr (e.0, h) ]
+    elim (slots_enough ss p valid e.0 (abscissas ss) (abscissas-rising ss) (abscissas-each ss) (record { clear = clear; parity = e.1 })) [
+      | inl h ↦ inl h
+      | inr h ↦ inr (e.0, h)
+    ]
 
 pub none_counts_beside : NoneCountsBeside
 none_counts_beside ss p h =

@@ -5,7 +5,7 @@ use Rattle.std.specs.Int.RustNames.{int_lt}
 use Rattle.plane_terms.specs.Lists.{Every}
 use Rattle.plane_terms.specs.Columns.{put}
 use Rattle.column_laws.specs.Rising.{IsRising}
-use Rattle.column_laws.proofs.Every.{every_map}
+use Rattle.plane_terms.proofs.ListLemmas.{every_map}
 
 abbrev pub IsAmong : ℤ → List ℤ → Type 0
 IsAmong v [] = ⊥
@@ -17,7 +17,8 @@ every_among P (x ∷ xs) h v (inl e) = subst P (sym e) h.0
 every_among P (x ∷ xs) h v (inr m) = every_among P xs h.1 v m
 
 -- the three cases of `put`
-put_cases : (P : List ℤ → Type 0) (v x : ℤ) (xs more : List ℤ) → (v <ℤ x → P (v ∷ x ∷ xs)) → (x <ℤ v → P (x ∷ more)) → (v ≡ x → P (x ∷ xs)) → P (cond (int_lt v x) (v ∷ x ∷ xs) (cond (int_lt x v) (x ∷ more) (x ∷ xs)))
+put_cases : (P : List ℤ → Type 0) (v x : ℤ) (xs more : List ℤ) → (v <ℤ x → P (v ∷ x ∷ xs)) → (x <ℤ v → P (x ∷ more))
+    → (v ≡ x → P (x ∷ xs)) → P (cond (int_lt v x) (v ∷ x ∷ xs) (cond (int_lt x v) (x ∷ more) (x ∷ xs)))
 put_cases P v x xs more f g h = by_cases (int_lt v x) (int_lt x v) refl refl
   where
     under : (v x : ℤ) → int_lt v x ≡ true → v <ℤ x
@@ -50,11 +51,13 @@ among-put v (x ∷ xs) = put_cases (IsAmong v) v x xs (put v xs) (λ e. inl refl
 pub among-put_other : (u v : ℤ) (xs : List ℤ) → IsAmong u xs → IsAmong u (put v xs)
 among-put_other u v [] m = absurd m
 among-put_other u v (x ∷ xs) (inl e) = put_cases (IsAmong u) v x xs (put v xs) (λ k. inr (inl e)) (λ k. inl e) (λ k. inl e)
-among-put_other u v (x ∷ xs) (inr m) = put_cases (IsAmong u) v x xs (put v xs) (λ k. inr (inr m)) (λ k. inr (among-put_other u v xs m)) (λ k. inr m)
+among-put_other u v (x ∷ xs) (inr m) = put_cases (IsAmong u) v x xs (put v xs) (λ k. inr (inr m)) (λ k. inr (among-put_other u v xs m))
+    (λ k. inr m)
 
 pub from-put : (u v : ℤ) (xs : List ℤ) → IsAmong u (put v xs) → (u ≡ v) ⊎ IsAmong u xs
 from-put u v [] m = m
-from-put u v (x ∷ xs) m = put_cases (λ ys. IsAmong u ys → (u ≡ v) ⊎ IsAmong u (x ∷ xs)) v x xs (put v xs) (λ e k. k) (λ e. after (from-put u v xs)) (λ e k. inr k) m
+from-put u v (x ∷ xs) m = put_cases (λ ys. IsAmong u ys → (u ≡ v) ⊎ IsAmong u (x ∷ xs)) v x xs (put v xs) (λ e k. k)
+    (λ e. after (from-put u v xs)) (λ e k. inr k) m
   where
     after : (IsAmong u (put v xs) → (u ≡ v) ⊎ IsAmong u xs) → (u ≡ x) ⊎ IsAmong u (put v xs) → (u ≡ v) ⊎ ((u ≡ x) ⊎ IsAmong u xs)
     after f (inl e) = inr (inl e)

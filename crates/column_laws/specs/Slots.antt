@@ -10,7 +10,7 @@
 -- IsBeside xs p         p lies left of the first or right of the last of them; of none at all, every point does
 --
 -- ColumnsHaveOneOrder   the segments of a column, of a simple list, are each below the later ones over the whole strip, its walls included
--- SlotsAreClear         a point of a slot's cell, in a column or on a wall, is on no segment, and as the slot's parity says so many run below it
+-- SlotsAreClear         a point of a slot's cell, in a column or on a wall, is on no segment, and so many run below it as the slot's parity says
 -- SlotsCount            below a point of the slot j of a column, its left wall included, exactly j segments run
 -- SlotsAreEnough        each point that is on no segment lies in a slot's cell, or beside them all
 -- NoneCountsBeside      a point beside them all is on no segment, and none runs below it; so for every list
@@ -62,14 +62,17 @@ abbrev pub ColumnsHaveOneOrder : Type 0
 ColumnsHaveOneOrder = (ss : List Segment) → IsSimpleList ss → (x y : ℤ) → x <ℤ y → EveryPair (IsBelow x y) (column x y ss)
 
 abbrev pub SlotsAreClear : Type 0
-SlotsAreClear = (ss : List Segment) → IsSimpleList ss → (even : Bool) (p : Point) → InCells (slot_cells even ss (abscissas ss)) p → IsJudged even ss p
+SlotsAreClear = (ss : List Segment) → IsSimpleList ss → (even : Bool) (p : Point) → InCells (slot_cells even ss (abscissas ss)) p
+    → IsJudged even ss p
 
 abbrev pub SlotsCount : Type 0
-SlotsCount = (ss : List Segment) → IsSimpleList ss → (x y : ℤ) → x <ℤ y → Every (IsFree x y) ss → (j : ℕ) (c : Cell) → slot_at j None (column x y ss) ≡ Some c
+SlotsCount = (ss : List Segment) → IsSimpleList ss → (x y : ℤ) → x <ℤ y → Every (IsFree x y) ss → (j : ℕ) (c : Cell)
+    → slot_at j None (column x y ss) ≡ Some c
     → (p : Point) → IsFrom x y p → InCell c p → how_many (λ s. counts s p) ss ≡ j
 
 abbrev pub SlotsAreEnough : Type 0
-SlotsAreEnough = (ss : List Segment) → IsSimpleList ss → (p : Point) → ¬ (OnBoundary ss p) → IsBeside (abscissas ss) p ⊎ ((even : Bool) × InCells (slot_cells even ss (abscissas ss)) p)
+SlotsAreEnough = (ss : List Segment) → IsSimpleList ss → (p : Point) → ¬ (OnBoundary ss p)
+    → IsBeside (abscissas ss) p ⊎ ((even : Bool) × InCells (slot_cells even ss (abscissas ss)) p)
 
 abbrev pub NoneCountsBeside : Type 0
 NoneCountsBeside = (ss : List Segment) (p : Point) → IsBeside (abscissas ss) p → ¬ (OnBoundary ss p) × (how_many (λ s. counts s p) ss ≡ 0)

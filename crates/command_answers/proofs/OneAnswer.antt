@@ -7,7 +7,7 @@ use Rattle.topology_terms.specs.Changes.{IsClassAdded, IsFeatureAdded, IsFeature
 use Rattle.topology_terms.specs.Counts.{judged_of}
 use Rattle.topology_terms.specs.Entry.{Entry, entry_at}
 use Rattle.topology_terms.specs.Entry as entries
-use Rattle.topology_terms.specs.Feature.{Feature, feature_at, IsSetAt}
+use Rattle.topology_terms.specs.Feature.{Class as AClass, Feature, feature_at, IsSetAt}
 use Rattle.topology_terms.specs.Feature as features
 use Rattle.topology_terms.specs.Meaning.{Finding, finding_at, CutsRight}
 use Rattle.topology_terms.specs.Poster.{poster}
@@ -40,12 +40,12 @@ pub record AreSame (p q : Project) : Type 0 where
 
 by_parts : (p q : Project) → AreSame p q → p ≡ q
 by_parts p q h =
-    ap (λ x. record { classes = x; rules = p.rules; features = p.features; next = p.next; dirt = p.dirt; entries = p.entries }) h.classes
-    ∙ (ap (λ x. record { classes = q.classes; rules = x; features = p.features; next = p.next; dirt = p.dirt; entries = p.entries }) h.rules
-    ∙ (ap (λ x. record { classes = q.classes; rules = q.rules; features = x; next = p.next; dirt = p.dirt; entries = p.entries }) h.features
-    ∙ (ap (λ x. record { classes = q.classes; rules = q.rules; features = q.features; next = x; dirt = p.dirt; entries = p.entries }) h.next
-    ∙ (ap (λ x. record { classes = q.classes; rules = q.rules; features = q.features; next = q.next; dirt = x; entries = p.entries }) h.dirt
-    ∙ ap (λ x. record { classes = q.classes; rules = q.rules; features = q.features; next = q.next; dirt = q.dirt; entries = x }) h.entries))))
+    ap (λ (x : List AClass). record { classes = x; rules = p.rules; features = p.features; next = p.next; dirt = p.dirt; entries = p.entries }) h.classes
+    ∙ (ap (λ (x : List InForce). record { classes = q.classes; rules = x; features = p.features; next = p.next; dirt = p.dirt; entries = p.entries }) h.rules
+    ∙ (ap (λ (x : List Feature). record { classes = q.classes; rules = q.rules; features = x; next = p.next; dirt = p.dirt; entries = p.entries }) h.features
+    ∙ (ap (λ (x : ℕ). record { classes = q.classes; rules = q.rules; features = q.features; next = x; dirt = p.dirt; entries = p.entries }) h.next
+    ∙ (ap (λ (x : List Rectangle). record { classes = q.classes; rules = q.rules; features = q.features; next = q.next; dirt = x; entries = p.entries }) h.dirt
+    ∙ ap (λ (x : List Entry). record { classes = q.classes; rules = q.rules; features = q.features; next = q.next; dirt = q.dirt; entries = x }) h.entries))))
 
 same_state : (t u : State) → t.project ≡ u.project → t.editor ≡ u.editor → t ≡ u
 same_state t u p e = ap (λ (q : Project). record { project = q; editor = t.editor }) p ∙ ap (λ (o : Option (List ℕ)). record { project = u.project; editor = o }) e
@@ -119,9 +119,6 @@ mark_same (Some w) d e same h k =
     let back : IsUnchanged w e → IsUnchanged w d = λ x. record { whole = x.whole ∙ sym (ap (λ (y : Entry). y.whole) same); frame = x.frame ∙ sym (ap (λ (y : Entry). y.frame) same); cells = x.cells ∙ sym (ap (λ (y : Entry). y.cells) same) } in
     both_true d.marked e.marked (λ m. let y = h.0 m in k.1 (y.0, over y.1)) (λ m. let y = k.0 m in h.1 (y.0, back y.1))
 
-with_mark : Entry → Bool → Entry
-with_mark e m = record e { marked = m }
-
 option_same : (o d e : Option Entry) → unmark_option d ≡ unmark_option e → ((x : Entry) → d ≡ Some x → KeepsMark o x) → ((x : Entry) → e ≡ Some x → KeepsMark o x) → d ≡ e
 option_same o None None same h k = refl
 option_same o None (Some e) same h k = absurd cc
@@ -129,7 +126,7 @@ option_same o (Some d) None same h k = absurd cc
 option_same o (Some d) (Some e) same h k =
     let bare : unmark d ≡ unmark e = cc in
     let marks : d.marked ≡ e.marked = mark_same o d e bare (h d refl) (k e refl) in
-    ap (λ (x : Entry). Some (record x { marked = d.marked })) bare ∙ ap (λ m. Some (record e { marked = m })) marks
+    ap (λ (x : Entry). Some (record x { marked = d.marked })) bare ∙ ap (λ (m : Bool). Some (record e { marked = m })) marks
 
 row_or_none : (o : Option Row) → ((row : Row) × (o ≡ Some row)) ⊎ (o ≡ None)
 row_or_none None = inr refl

@@ -28,5 +28,6 @@ off_after s q g e = λ o.
 pub on_at : (s : Segment) (q : Place) → OnSegment s (point_at q) ↔ HoldsAt q (OnSegment s)
 on_at s q = (λ o p a. on_all_at s q o p a, λ h. h (point_at q) (at_itself q))
 
-pub on_within : (s : Segment) (q : Place) → IsSegment s → comes_before q s.lo ≡ false → comes_before s.hi q ≡ false → turn s q ≡ pos 0 → OnSegment s (point_at q)
+pub on_within : (s : Segment) (q : Place) → IsSegment s → comes_before q s.lo ≡ false → comes_before s.hi q ≡ false → turn s q ≡ pos 0
+    → OnSegment s (point_at q)
 on_within s q g e f z = on_from_order s q g z (read_not_before q s.lo e) (read_not_before s.hi q f)

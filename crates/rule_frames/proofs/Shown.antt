@@ -49,5 +49,5 @@ seen_cut row V a f shown e xs h =
     let j : judged row f ≡ true = rw same at shown.judged in
     let ys = cut_by (plan_of row.kind) row V f in
     let same_plan : ys ≡ cut_plan (plan_of row.kind) row V f =
-        plan_seen (plan_of row.kind) row V f (λ who. around_seen who row V a f shown e) in
+    plan_seen (plan_of row.kind) row V f (λ who. around_seen who row V a f shown e) in
     (f, e, rw j (h ∙ sym (if_both (is_built row.kind) ys ∙ ap (λ (zs : List Finding). if is_built row.kind then zs else []) same_plan)))

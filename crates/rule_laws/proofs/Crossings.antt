@@ -14,7 +14,7 @@ use Rattle.plane_terms.specs.Shape.{Shape, envelope_of, path, closed_path, last_
 use Rattle.plane_terms.specs.declared.kind.Kind.TheVariants as shapes
 use Rattle.number_laws.proofs.Ring.{num, neg, ◌⊖◌, ◌⊗◌, lt_by, lt_read, le_by, le_read}
 use Rattle.number_laws.proofs.Order.{scaled_le, product_at_least, product_over, over_unscaled, least_unscaled, cases_order_ℤ}
-use Rattle.column_laws.proofs.Every.{every_map}
+use Rattle.plane_terms.proofs.ListLemmas.{every_map}
 use Rattle.rule_laws.proofs.Envelopes.{LiesIn, BothEnds, segments_ends}
 
 -- ---- parity

@@ -15,7 +15,7 @@ box_within t r h = let a = h.0 in let b = h.1 in record {
   left = a.left;
   right = b.right;
   below = omega (arith, ints, clamps);
-  above = omega (arith, ints, clamps)
+  above = omega (arith, ints, clamps);
 }
 
 meets_wider : (b c r : Rectangle) → IsWithin c r → rects_meet b c ≡ true → rects_meet b r ≡ true

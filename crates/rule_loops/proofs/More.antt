@@ -44,8 +44,8 @@ pub left_more : (f : Feature) (n : ℕ) (F : List Feature) (i : ℕ) (g : Featur
 left_more f n F i g cells e t h =
     let gs = of_class n (take i F) in
     rw h (sym (ap (area_left f) (class_more n F i g true e t)
-        ∙ (ap (uncovered (inside f)) (map-append outside gs (g ∷ []))
-        ∙ uncovered-append (inside f) (map {A = Feature} outside gs) (outside g ∷ []))))
+    ∙ (ap (uncovered (inside f)) (map-append outside gs (g ∷ []))
+    ∙ uncovered-append (inside f) (map {A = Feature} outside gs) (outside g ∷ []))))
 
 pub left_same : (f : Feature) (n : ℕ) (F : List Feature) (i : ℕ) (g : Feature) (cells : List Cell) → slice_get F i ≡ Some g
     → (g.class == n) ≡ false → cells ≡ area_left f (of_class n (take i F)) → cells ≡ area_left f (of_class n (take (i + 1) F))
@@ -57,7 +57,7 @@ left_none f n F i cells h z =
     let gs = of_class n (take i F) in
     let hs = of_class n (drop i F) in
     stopped (inside f) cells (map {A = Feature} outside (of_class n F)) (map {A = Feature} outside gs) (map {A = Feature} outside hs)
-        (ap (map {A = Feature} outside) (class_apart n F i) ∙ map-append outside gs hs) h z
+    (ap (map {A = Feature} outside) (class_apart n F i) ∙ map-append outside gs hs) h z
 
 -- ---- what segments leave of a segment
 chosen_more : (s : Segment) (ts : List Segment) (i : ℕ) (t : Segment) (b : Bool) → i < length ts → t ≡ get_or ts i t → box_meets s t ≡ b
@@ -72,8 +72,8 @@ pub off_more : (s : Segment) (ts : List Segment) (i : ℕ) (t : Segment) (cs lef
 off_more s ts i t cs left l e m h =
     let us = filter (box_meets s) (take i ts) in
     rw h (sym (ap (λ vs. uncovered cs (map {A = Segment} out_of_segment vs)) (chosen_more s ts i t true l e m)
-        ∙ (ap (uncovered cs) (map-append out_of_segment us (t ∷ []))
-        ∙ uncovered-append cs (map {A = Segment} out_of_segment us) (out_of_segment t ∷ []))))
+    ∙ (ap (uncovered cs) (map-append out_of_segment us (t ∷ []))
+    ∙ uncovered-append cs (map {A = Segment} out_of_segment us) (out_of_segment t ∷ []))))
 
 pub off_same : (s : Segment) (ts : List Segment) (i : ℕ) (t : Segment) (cs left : List Cell) → i < length ts → t ≡ get_or ts i t
     → box_meets s t ≡ false → left ≡ uncovered cs (out_of_segments s (take i ts))
@@ -88,7 +88,7 @@ off_none s ts i cs left h z =
     let us = filter (box_meets s) (take i ts) in
     let vs = filter (box_meets s) (drop i ts) in
     stopped cs left (out_of_segments s ts) (map {A = Segment} out_of_segment us) (map {A = Segment} out_of_segment vs)
-        (ap (map {A = Segment} out_of_segment) (kept_apart (box_meets s) ts i) ∙ map-append out_of_segment us vs) h z
+    (ap (map {A = Segment} out_of_segment) (kept_apart (box_meets s) ts i) ∙ map-append out_of_segment us vs) h z
 
 -- ---- what features leave of a segment
 by_class : (s : Segment) (n : ℕ) (F : List Feature) (i : ℕ) (g : Feature) (left : List Cell) → slice_get F i ≡ Some g → (g.class == n)
@@ -98,8 +98,8 @@ by_class s n F i g left e t h =
     let outs : Feature → List (List Cell) = λ (g : Feature). out_of_segments s (sides g) in
     let gs = of_class n (take i F) in
     rw h (sym (ap (λ hs. left_of_segment hs s) (class_more n F i g true e t)
-        ∙ (ap (uncovered (on_segment s ∷ [])) (flat_map-append outs gs (g ∷ []) ∙ ap (λ l. flat_map outs gs ++ l) (append-nil (outs g)))
-        ∙ uncovered-append (on_segment s ∷ []) (flat_map outs gs) (outs g))))
+    ∙ (ap (uncovered (on_segment s ∷ [])) (flat_map-append outs gs (g ∷ []) ∙ ap (λ l. flat_map outs gs ++ l) (append-nil (outs g)))
+    ∙ uncovered-append (on_segment s ∷ []) (flat_map outs gs) (outs g))))
 
 of_beside : (n : ℕ) (s : Segment) (g : Feature) → beside n s g ≡ true → (g.class == n) ≡ true
 of_beside n s g e = both (g.class == n) (rects_meet (box_of s) (env g)) e
@@ -130,7 +130,7 @@ segment_none s n F i left h z =
     let gs = of_class n (take i F) in
     let hs = of_class n (drop i F) in
     stopped (on_segment s ∷ []) left (flat_map outs (of_class n F)) (flat_map outs gs) (flat_map outs hs)
-        (ap (flat_map outs) (class_apart n F i) ∙ flat_map-append outs gs hs) h z
+    (ap (flat_map outs) (class_apart n F i) ∙ flat_map-append outs gs hs) h z
 
 -- ---- open ground
 others_kept : (f : Feature) (n : ℕ) (F : List Feature) → others f (of_class n F) ≡ filter (other_of n f) F
@@ -141,8 +141,8 @@ ground_from : (f : Feature) (gs hs k : List Feature) → others f hs ≡ others 
 ground_from f gs hs k e =
     let start = carve_of (box_round (env f) ∷ []) (outside f) in
     ap (λ os. uncovered start (map {A = Feature} outside os)) e
-        ∙ (ap (uncovered start) (map-append outside (others f gs) k)
-        ∙ uncovered-append start (map {A = Feature} outside (others f gs)) (map {A = Feature} outside k))
+    ∙ (ap (uncovered start) (map-append outside (others f gs) k)
+    ∙ uncovered-append start (map {A = Feature} outside (others f gs)) (map {A = Feature} outside k))
 
 others_more : (f : Feature) (n : ℕ) (F : List Feature) (i : ℕ) (g : Feature) (b : Bool) → slice_get F i ≡ Some g → other_of n f g ≡ b
     → others f (of_class n (take (i + 1) F)) ≡ others f (of_class n (take i F)) ++ cond b (g ∷ []) []
@@ -167,10 +167,10 @@ ground_none f n F i ground h z =
     let gs = filter (other_of n f) (take i F) in
     let hs = filter (other_of n f) (drop i F) in
     let left : ground ≡ uncovered start (map {A = Feature} outside gs) = h
-        ∙ ap (λ os. uncovered start (map {A = Feature} outside os)) (others_kept f n (take i F)) in
+    ∙ ap (λ os. uncovered start (map {A = Feature} outside os)) (others_kept f n (take i F)) in
     stopped start ground (map {A = Feature} outside (others f (of_class n F))) (map {A = Feature} outside gs)
-        (map {A = Feature} outside hs) (ap (map {A = Feature} outside) (others_kept f n F ∙ kept_apart (other_of n f) F i)
-        ∙ map-append outside gs hs) left z
+    (map {A = Feature} outside hs) (ap (map {A = Feature} outside) (others_kept f n F ∙ kept_apart (other_of n f) F i)
+    ∙ map-append outside gs hs) left z
 
 pub weak_more : (cs : List Cell) (i : ℕ) (c : Cell) → i < length cs → slice_get cs i ≡ Some c → map {A = Cell} weak_of (take (i + 1) cs)
     ≡ map {A = Cell} weak_of (take i cs) ++ weak_of c ∷ []

@@ -14,9 +14,9 @@ use Rattle.command_answers.proofs.OneAnswer.{one_answer}
 
 same_outcome : (o p : Outcome) → o.text ≡ p.text → o.after ≡ p.after → o.refused ≡ p.refused → o ≡ p
 same_outcome o p t a r =
-    ap (λ x. record { text = x; after = o.after; refused = o.refused }) t
-    ∙ (ap (λ x. record { text = p.text; after = x; refused = o.refused }) a
-    ∙ ap (λ x. record { text = p.text; after = p.after; refused = x }) r)
+    ap (λ (x : List ℕ). record { text = x; after = o.after; refused = o.refused }) t
+    ∙ (ap (λ (x : State). record { text = p.text; after = x; refused = o.refused }) a
+    ∙ ap (λ (x : Bool). record { text = p.text; after = p.after; refused = x }) r)
 
 replies : (o p : Outcome) (reply said : Reply) → o.text ≡ reply_text reply → o.refused ≡ is_refusal reply → p.text ≡ reply_text said → p.refused ≡ is_refusal said
     → reply ≡ said → o.after ≡ p.after → o ≡ p

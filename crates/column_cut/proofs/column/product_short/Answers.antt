@@ -4,9 +4,11 @@ use Rattle.column_cut.proofs.Ranking.{product_back, product_fits_short, product_
 use Rattle.column_cut.proofs.column.product_short.Goals as goal
 
 pub returns-clause-value : goal.returns-clause-value
-returns-clause-value c = product_back w128 c.args.k c.args.m c.ranges.k c.ranges.m (product_fits_short c.args.k c.args.m c.requires.k_fits c.requires.m_fits)
+returns-clause-value c = product_back w128 c.args.k c.args.m c.ranges.k c.ranges.m
+    (product_fits_short c.args.k c.args.m c.requires.k_fits c.requires.m_fits)
 
 pub returns-clause-fits : goal.returns-clause-fits
 returns-clause-fits c =
-    let e = product_back w128 c.args.k c.args.m c.ranges.k c.ranges.m (product_fits_short c.args.k c.args.m c.requires.k_fits c.requires.m_fits) in
+    let e = product_back w128 c.args.k c.args.m c.ranges.k c.ranges.m
+    (product_fits_short c.args.k c.args.m c.requires.k_fits c.requires.m_fits) in
     subst (λ (z : ℤ). unsigned_abs z ≤ 2 ^ 47) (sym e) (product_short_bound c.args.k c.args.m c.requires.k_fits c.requires.m_fits)

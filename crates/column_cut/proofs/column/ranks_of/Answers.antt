@@ -12,8 +12,12 @@ loop-segment-preserved c =
     let y = c.args.right.now in
     let ss = c.args.segments.now in
     elim c.if-spans.branch [
-      | then-spans+in_ok-push w ↦ step_taken x y ss c.loop-segment.segment-index c.segment-item.result c.loop-segment-test.true c.segment-item.is c.loop-segment.ranks.items c.loop-segment.invariant (sym c.spans.ensures ∙ w.if-spans.true) _ w.rank.ensures _ (ap (λ v. v.items) w.ranks-is ∙ w.in_ok-push.ensures.items)
-      | else-spans w ↦ subst (λ v. AllZip (IsRankOf x y) (filter (passes x y) (take (c.loop-segment.segment-index + 1) ss)) v.items) (sym w.ranks-is) (step_left x y ss c.loop-segment.segment-index c.segment-item.result c.loop-segment-test.true c.segment-item.is c.loop-segment.ranks.items c.loop-segment.invariant (sym c.spans.ensures ∙ w.if-spans.false))
+      | then-spans+in_ok-push w ↦ step_taken x y ss c.loop-segment.segment-index c.segment-item.result c.loop-segment-test.true
+          c.segment-item.is c.loop-segment.ranks.items c.loop-segment.invariant (sym c.spans.ensures ∙ w.if-spans.true) _ w.rank.ensures _
+          (ap (λ v. v.items) w.ranks-is ∙ w.in_ok-push.ensures.items)
+      | else-spans w ↦ subst (λ v. AllZip (IsRankOf x y) (filter (passes x y) (take (c.loop-segment.segment-index + 1) ss)) v.items)
+          (sym w.ranks-is) (step_left x y ss c.loop-segment.segment-index c.segment-item.result c.loop-segment-test.true c.segment-item.is
+          c.loop-segment.ranks.items c.loop-segment.invariant (sym c.spans.ensures ∙ w.if-spans.false))
     ]
 
 pub returns : goal.returns

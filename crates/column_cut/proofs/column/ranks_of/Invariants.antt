@@ -4,4 +4,5 @@ use Rattle.column_cut.specs.Ranks.{IsRankOf, passes}
 use Rattle.column_cut.proofs.column.ranks_of.Given as goal
 
 abbrev pub invariant-loop-segment : goal.invariant-loop-segment
-invariant-loop-segment l = AllZip (IsRankOf l.left l.right) (filter (passes l.left l.right) (take l.segment-index l.segments)) l.ranks.items
+invariant-loop-segment l = AllZip (IsRankOf l.left l.right)
+    (filter (passes l.left l.right) (take l.segment-index l.segments)) l.ranks.items

@@ -8,5 +8,6 @@ use Rattle.column_cut.proofs.cut.push_each.Given as goal
 abbrev pub invariant-loop-right : goal.invariant-loop-right
 invariant-loop-right l = record {
   rising : IsRising (l.left ∷ drop l.right-index l.rest);
-  done : l.cells ++ kept (strips (is_even l.parity) l.segments l.left (drop l.right-index l.rest)) ≡ l.initial.cells ++ kept (strips (is_even l.parity) l.segments l.first l.rest);
+  done : l.cells ++ kept (strips (is_even l.parity) l.segments l.left (drop l.right-index l.rest))
+      ≡ l.initial.cells ++ kept (strips (is_even l.parity) l.segments l.first l.rest);
 }

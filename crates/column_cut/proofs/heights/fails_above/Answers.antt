@@ -12,5 +12,7 @@ returns c =
     let x = c.args.x.now in
     let y = c.args.y.now in
     let slope : c.args.half.now.b <ℤ pos 0 = omega (arith, ints) in
-    let f : int_le (to_z w64 (of_z w64 c.value_at.result)) (pos 0) ≡ true → (p : Point) → Holds (x_is x) p → Holds (y_over y) p → ¬ (Holds h p) = λ e p on l. above_fails h x y p (read_under c.value_at.result _ c.value_at.ensures.fits c.value_at.ensures.value e) on slope l in
+    let f : int_le (to_z w64 (of_z w64 c.value_at.result)) (pos 0) ≡ true → (p : Point) → Holds (x_is x) p → Holds (y_over y) p
+    → ¬ (Holds h p) = λ e p on l. above_fails h x y p
+    (read_under c.value_at.result _ c.value_at.ensures.fits c.value_at.ensures.value e) on slope l in
     OnTrue_from _ _ f

@@ -4,7 +4,8 @@ use Rattle.column_cut.proofs.Fails.{sum_fits, sum_back, sum_small}
 use Rattle.column_cut.proofs.heights.value_at.Goals as goal
 
 pub overflow_add-result-2 : goal.overflow_add-result-2
-overflow_add-result-2 c = sum_fits c.product.result c.product-2.result c.c.result c.product.ensures.fits c.product-2.ensures.fits (subst (λ v. unsigned_abs v ≤ 2 ^ 46) (sym c.c.ensures.value) c.c.ensures.valid.c_fits)
+overflow_add-result-2 c = sum_fits c.product.result c.product-2.result c.c.result c.product.ensures.fits c.product-2.ensures.fits
+    (subst (λ v. unsigned_abs v ≤ 2 ^ 46) (sym c.c.ensures.value) c.c.ensures.valid.c_fits)
 
 pub returns-clause-value : goal.returns-clause-value
 returns-clause-value c =
@@ -15,9 +16,15 @@ returns-clause-value c =
     let py : to_z w32 (of_z w32 c.value-2.result) ≡ c.args.y.now = omega (arith, ints) in
     let a : c.product.result ≡ c.args.half.now.a *ℤ c.args.x.now = rw (pa, px) at c.product.ensures.value in
     let b : c.product-2.result ≡ c.args.half.now.b *ℤ c.args.y.now = rw (pb, py) at c.product-2.ensures.value in
-    rw (sum_back c.product.result c.product-2.result c.c.result c.product.ensures.fits c.product-2.ensures.fits small, ← a, ← b, c.c.ensures.value) refl
+    rw (
+      sum_back c.product.result c.product-2.result c.c.result c.product.ensures.fits c.product-2.ensures.fits small,
+      ← a,
+      ← b,
+      c.c.ensures.value,
+    ) refl
 
 pub returns-clause-fits : goal.returns-clause-fits
 returns-clause-fits c =
     let small = subst (λ v. unsigned_abs v ≤ 2 ^ 46) (sym c.c.ensures.value) c.c.ensures.valid.c_fits in
-    rw (sum_back c.product.result c.product-2.result c.c.result c.product.ensures.fits c.product-2.ensures.fits small) (sum_small c.product.result c.product-2.result c.c.result c.product.ensures.fits c.product-2.ensures.fits small)
+    rw (sum_back c.product.result c.product-2.result c.c.result c.product.ensures.fits c.product-2.ensures.fits small)
+    (sum_small c.product.result c.product-2.result c.c.result c.product.ensures.fits c.product-2.ensures.fits small)

@@ -9,4 +9,6 @@ pub loop-stretch-preserved : goal.loop-stretch-preserved
 loop-stretch-preserved c =
     let x = c.args.x.now in
     let slot = slot_cell c.args.slot.now in
-    push_step (λ ws. at_wall x slot (map stretch_cell ws)) (λ w. (x_is x ∷ slot ++ stretch_cell w) ∷ []) (λ g gs. refl) c.args.stretches.now c.loop-stretch.stretch-index c.stretch-item.result c.loop-stretch-test.true c.stretch-item.is c.loop-stretch.cells c.push_piece.new.cells _ c.loop-stretch.invariant c.in_ok-push_piece.ensures
+    push_step (λ ws. at_wall x slot (map stretch_cell ws)) (λ w. (x_is x ∷ slot ++ stretch_cell w) ∷ [])
+    (λ g gs. refl) c.args.stretches.now c.loop-stretch.stretch-index c.stretch-item.result c.loop-stretch-test.true c.stretch-item.is
+    c.loop-stretch.cells c.push_piece.new.cells _ c.loop-stretch.invariant c.in_ok-push_piece.ensures

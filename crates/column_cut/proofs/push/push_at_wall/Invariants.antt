@@ -5,4 +5,5 @@ use Rattle.column_cut.specs.Pieces.{slot_cell, stretch_cell}
 use Rattle.column_cut.proofs.push.push_at_wall.Given as goal
 
 abbrev pub invariant-loop-stretch : goal.invariant-loop-stretch
-invariant-loop-stretch l = l.cells ++ kept (at_wall l.x (slot_cell l.slot) (map stretch_cell (drop l.stretch-index l.stretches))) ≡ l.initial.cells ++ kept (at_wall l.x (slot_cell l.slot) (map stretch_cell l.stretches))
+invariant-loop-stretch l = l.cells ++ kept (at_wall l.x (slot_cell l.slot) (map stretch_cell (drop l.stretch-index l.stretches)))
+    ≡ l.initial.cells ++ kept (at_wall l.x (slot_cell l.slot) (map stretch_cell l.stretches))

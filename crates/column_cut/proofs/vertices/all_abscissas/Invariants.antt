@@ -5,4 +5,8 @@ use Rattle.column_cut.specs.Vertices.{xs_of}
 use Rattle.column_cut.proofs.vertices.all_abscissas.Given as goal
 
 abbrev pub invariant-loop-segment : goal.invariant-loop-segment
-invariant-loop-segment l = record { value : l.values.items ++ xs_of (drop l.segment-index l.segments) ≡ xs_of l.segments; reach : Every InReach l.values.items }
+invariant-loop-segment l = record {
+  value : l.values.items ++ xs_of (drop l.segment-index l.segments)
+      ≡ xs_of l.segments;
+  reach : Every InReach l.values.items;
+}

@@ -5,4 +5,8 @@ use Rattle.column_cut.specs.Vertices.{ys_at}
 use Rattle.column_cut.proofs.vertices.all_ordinates.Given as goal
 
 abbrev pub invariant-loop-segment : goal.invariant-loop-segment
-invariant-loop-segment l = record { value : l.values.items ++ ys_at l.x (drop l.segment-index l.segments) ≡ ys_at l.x l.segments; reach : Every InReach l.values.items }
+invariant-loop-segment l = record {
+  value : l.values.items ++ ys_at l.x (drop l.segment-index l.segments)
+      ≡ ys_at l.x l.segments;
+  reach : Every InReach l.values.items;
+}

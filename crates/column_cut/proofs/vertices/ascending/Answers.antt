@@ -5,4 +5,5 @@ use Rattle.column_cut.proofs.Ascending.{every_ascending}
 use Rattle.column_cut.proofs.vertices.ascending.Goals as goal
 
 pub coordinates-requires : goal.coordinates-requires
-coordinates-requires c = subst (Every InReach) (sym (c.deref.ensures.value ∙ c.in_ok-distinct.ensures)) (every_ascending InReach c.args.values.items c.requires)
+coordinates-requires c = subst (Every InReach) (sym (c.deref.ensures.value ∙ c.in_ok-distinct.ensures))
+    (every_ascending InReach c.args.values.items c.requires)

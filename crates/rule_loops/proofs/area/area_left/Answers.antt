@@ -19,7 +19,7 @@ loop-i-preserved c =
       | then-class+in_ok-outside_of+in_ok-cells-2 w ↦ record {
         left = w.cells-is ∙ (w.in_ok-cells-2.ensures.value ∙ (ap (carve_of c.loop-i.cells) w.in_ok-outside_of.ensures.cells
             ∙ left_more f n V i g c.loop-i.cells c.feature-other.ensures
-                (class_is g.class c.class.result n c.class.ensures w.if-class.true) c.loop-i.invariant.left));
+            (class_is g.class c.class.result n c.class.ensures w.if-class.true) c.loop-i.invariant.left));
         uncounted = w.work-is ∙ (w.outside_of.ensures.uncounted ∙ c.loop-i.invariant.uncounted);
       }
       | else-class w ↦ record {

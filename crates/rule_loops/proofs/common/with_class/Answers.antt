@@ -11,8 +11,8 @@ use Rattle.rule_loops.proofs.common.with_class.Goals as goal
 pub push_cells-requires : goal.push_cells-requires
 push_cells-requires g c =
     rw (c.loop-i.invariant.found, c.handle.ensures)
-        (found_below (g.C.Common.common c.args.common.now)
-        (λ (x : Feature). x.class == c.args.class) c.args.view.now c.loop-i.i c.feature-other.result.now c.requires c.feature-other.ensures)
+    (found_below (g.C.Common.common c.args.common.now)
+    (λ (x : Feature). x.class == c.args.class) c.args.view.now c.loop-i.i c.feature-other.result.now c.requires c.feature-other.ensures)
 
 pub loop-i-preserved : goal.loop-i-preserved
 loop-i-preserved g c =
@@ -25,7 +25,7 @@ loop-i-preserved g c =
     elim c.if-class.branch [
       | then-class+in_ok-cells+in_ok-push_cells w ↦
           let part : finding_of w.handle.result w.in_ok-cells.cells
-              ≡ finding_of h.handle (cells h) = rw (w.handle.ensures, w.in_ok-cells.ensures.cells) refl in
+          ≡ finding_of h.handle (cells h) = rw (w.handle.ensures, w.in_ok-cells.ensures.cells) refl in
           record {
             found = found_more cells test V i h c.loop-i.findings
                 (finding_of w.handle.result w.in_ok-cells.cells) c.if-class.findings c.feature-other.ensures

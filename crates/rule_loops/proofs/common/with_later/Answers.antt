@@ -10,8 +10,8 @@ use Rattle.rule_loops.proofs.common.with_later.Goals as goal
 pub push_cells-requires : goal.push_cells-requires
 push_cells-requires g c =
     rw (c.loop-i.invariant.found, c.handle.ensures)
-        (found_below (g.C.Common.common c.args.common.now)
-        (later_of c.args.class c.args.subject.now) c.args.view.now c.loop-i.i c.feature-other.result.now c.requires c.feature-other.ensures)
+    (found_below (g.C.Common.common c.args.common.now)
+    (later_of c.args.class c.args.subject.now) c.args.view.now c.loop-i.i c.feature-other.result.now c.requires c.feature-other.ensures)
 
 pub loop-i-preserved : goal.loop-i-preserved
 loop-i-preserved g c =
@@ -23,7 +23,7 @@ loop-i-preserved g c =
     elim c.if-is_later.branch [
       | then-is_later+in_ok-cells+in_ok-push_cells w ↦
           let part : finding_of w.handle.result w.in_ok-cells.cells
-              ≡ finding_of h.handle (cells h) = rw (w.handle.ensures, w.in_ok-cells.ensures.cells) refl in
+          ≡ finding_of h.handle (cells h) = rw (w.handle.ensures, w.in_ok-cells.ensures.cells) refl in
           record {
             found = found_more cells test V i h c.loop-i.findings
                 (finding_of w.handle.result w.in_ok-cells.cells) c.if-is_later.findings c.feature-other.ensures

@@ -19,7 +19,7 @@ loop-i-preserved c =
       | then-is_other+in_ok-outside_of+in_ok-ground-2 w ↦ record {
         ground = w.ground-is ∙ (w.in_ok-ground-2.ensures.value ∙ (ap (carve_of c.loop-i.ground) w.in_ok-outside_of.ensures.cells
             ∙ ground_more f n V i g c.loop-i.ground c.feature-other.ensures
-                (sym c.is_other.ensures ∙ w.if-is_other.true) c.loop-i.invariant.ground));
+            (sym c.is_other.ensures ∙ w.if-is_other.true) c.loop-i.invariant.ground));
         uncounted = w.work-is ∙ (w.outside_of.ensures.uncounted ∙ c.loop-i.invariant.uncounted);
       }
       | else-is_other w ↦ record {

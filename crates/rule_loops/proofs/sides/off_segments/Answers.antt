@@ -19,9 +19,9 @@ loop-other-preserved c =
     elim c.if-meets.branch [
       | then-meets+in_ok-out_of_seg+in_ok-left w ↦
           w.left-is ∙ (w.in_ok-left.ensures.value
-              ∙ (ap (carve_of c.loop-other.left) w.in_ok-out_of_seg.ensures.value
-              ∙ off_more s ts i t c.args.cells c.loop-other.left c.loop-other-test.true c.other-item.is
-              (sym meets ∙ w.if-meets.true) c.loop-other.invariant))
+          ∙ (ap (carve_of c.loop-other.left) w.in_ok-out_of_seg.ensures.value
+          ∙ off_more s ts i t c.args.cells c.loop-other.left c.loop-other-test.true c.other-item.is
+          (sym meets ∙ w.if-meets.true) c.loop-other.invariant))
       | else-meets w ↦ w.left-is ∙ off_same s ts i t c.args.cells c.loop-other.left c.loop-other-test.true c.other-item.is
           (sym meets ∙ w.if-meets.false) c.loop-other.invariant
     ]

@@ -20,9 +20,9 @@ loop-i-preserved c =
       | then-is_beside+in_ok-left w ↦
           let of : w.segs.result.now ≡ sides g = rw (w.segs.ensures.value, w.shape.ensures) refl in
           w.left-is ∙ (w.in_ok-left.ensures
-              ∙ (ap (λ ts. uncovered c.loop-i.left (out_of_segments s ts)) of
-              ∙ segment_more s n V i g c.loop-i.left c.feature-other.ensures
-              (sym c.is_beside.ensures ∙ w.if-is_beside.true) c.loop-i.invariant))
+          ∙ (ap (λ ts. uncovered c.loop-i.left (out_of_segments s ts)) of
+          ∙ segment_more s n V i g c.loop-i.left c.feature-other.ensures
+          (sym c.is_beside.ensures ∙ w.if-is_beside.true) c.loop-i.invariant))
       | else-is_beside w ↦ w.left-is ∙ segment_same s n V i g c.loop-i.left c.feature-other.ensures
           (sym c.is_beside.ensures ∙ w.if-is_beside.false) c.loop-i.invariant
     ]

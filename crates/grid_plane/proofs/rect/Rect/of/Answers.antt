@@ -9,7 +9,10 @@ returns-then-x0-x1-clause-refused c = (
     reach_read _ c.ranges.x0 (c.is_in_reach.ensures.0 c.if-not-is_in_reach.false),
     (
       reach_read _ c.ranges.y0 (c.is_in_reach-2.ensures.0 c.if-not-is_in_reach-2.false),
-      (reach_read _ c.ranges.x1 (c.is_in_reach-3.ensures.0 c.if-not-is_in_reach-3.false), (reach_read _ c.ranges.y1 (c.is_in_reach-4.ensures.0 c.if-not-is_in_reach-4.false), tt)),
+      (
+        reach_read _ c.ranges.x1 (c.is_in_reach-3.ensures.0 c.if-not-is_in_reach-3.false),
+        (reach_read _ c.ranges.y1 (c.is_in_reach-4.ensures.0 c.if-not-is_in_reach-4.false), tt),
+      ),
     ),
   ),
   λ g. omega (arith, ints, g.wide),
@@ -21,7 +24,10 @@ returns-then-y0-y1-clause-refused c = (
     reach_read _ c.ranges.x0 (c.is_in_reach.ensures.0 c.if-not-is_in_reach.false),
     (
       reach_read _ c.ranges.y0 (c.is_in_reach-2.ensures.0 c.if-not-is_in_reach-2.false),
-      (reach_read _ c.ranges.x1 (c.is_in_reach-3.ensures.0 c.if-not-is_in_reach-3.false), (reach_read _ c.ranges.y1 (c.is_in_reach-4.ensures.0 c.if-not-is_in_reach-4.false), tt)),
+      (
+        reach_read _ c.ranges.x1 (c.is_in_reach-3.ensures.0 c.if-not-is_in_reach-3.false),
+        (reach_read _ c.ranges.y1 (c.is_in_reach-4.ensures.0 c.if-not-is_in_reach-4.false), tt),
+      ),
     ),
   ),
   λ g. omega (arith, ints, g.high),

@@ -24,6 +24,10 @@ pub returns : goal.returns
 returns c =
     let s = c.args.self.now in
     let first : comes_before c.args.p s.lo ≡ false = rw c.lo.ensures.value at (sym c.comes_before.ensures ∙ c.if-comes_before.false) in
-    let second : comes_before s.hi c.args.p ≡ false = rw c.hi.ensures.value at (sym c.comes_before-2.ensures ∙ c.if-comes_before-2.false) in
-    let fits : SFits w64 c.turn.result = search rules in
-    (λ t. (on_at s c.args.p).0 (on_within s _ c.lo.ensures.valid.proper first second (sym c.turn.ensures ∙ bits_zero c.turn.result fits t)), λ o. zero_bits c.turn.result (c.turn.ensures ∙ turn_on s _ ((on_at s c.args.p).1 o)))
+    let second : comes_before s.hi c.args.p ≡ false = rw c.hi.ensures.value at (sym c.comes_before-2.ensures
+    ∙ c.if-comes_before-2.false) in
+    let fits : SFits w64 c.turn.result = search rules in (
+      λ t. (on_at s c.args.p).0 (on_within s _ c.lo.ensures.valid.proper first second (sym c.turn.ensures
+          ∙ bits_zero c.turn.result fits t)),
+      λ o. zero_bits c.turn.result (c.turn.ensures ∙ turn_on s _ ((on_at s c.args.p).1 o)),
+    )

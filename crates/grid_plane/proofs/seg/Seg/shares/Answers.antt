@@ -13,11 +13,13 @@ apart : (c : goal.Then-not-meets) → NoneShared c.args.self.now c.args.other.no
 apart c =
     let s = c.args.self.now in
     let t = c.args.other.now in
-    apart_by_box s t c.env.ensures.valid.proper c.env-2.ensures.valid.proper (λ (k : RectsMeet (box_of s) (box_of t)). false≢true (sym c.if-not-meets.true ∙ c.meets.ensures.meaning.1 (rw (c.env.ensures.value, c.env-2.ensures.value) k)))
+    apart_by_box s t c.env.ensures.valid.proper c.env-2.ensures.valid.proper (λ (k : RectsMeet (box_of s) (box_of t)). false≢true
+    (sym c.if-not-meets.true ∙ c.meets.ensures.meaning.1 (rw (c.env.ensures.value, c.env-2.ensures.value) k)))
 
 pub returns-then-not-meets-clause-value : goal.returns-then-not-meets-clause-value
 returns-then-not-meets-clause-value c =
-    means_one Nothing _ _ _ (apart c) (share_of-means c.args.self.now c.args.other.now c.env.ensures.valid.proper c.env-2.ensures.valid.proper)
+    means_one Nothing _ _ _ (apart c)
+    (share_of-means c.args.self.now c.args.other.now c.env.ensures.valid.proper c.env-2.ensures.valid.proper)
 
 pub returns-then-not-meets-clause-nothing : goal.returns-then-not-meets-clause-nothing
 returns-then-not-meets-clause-nothing c = none_shared Nothing _ _ (exactly Nothing _ _ (apart c) Nothing)

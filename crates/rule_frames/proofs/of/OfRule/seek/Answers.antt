@@ -14,5 +14,5 @@ returns-clause-cut g c =
     let a = c.args.subject in
     let shown : IsShown row V a = subst (λ (r : Row). IsShown r V a) (sym c.self.view_is) c.requires.shown in
     IfOk-weaker c.cut.result _ (λ xs. IsCutting c.args.self.now V a xs)
-        (λ xs h. subst (λ (r : Row). IsCutting r V a xs) c.self.view_is
-        (seen_cut row V a c.subject.result.now shown c.subject.ensures xs h)) c.cut.ensures.cut
+    (λ xs h. subst (λ (r : Row). IsCutting r V a xs) c.self.view_is
+    (seen_cut row V a c.subject.result.now shown c.subject.ensures xs h)) c.cut.ensures.cut
