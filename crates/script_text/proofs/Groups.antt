@@ -75,7 +75,7 @@ no_mark line mark unmark f g p = absurd cc
 
 pub no_listing : (line : List ℕ)
     → (HasForm line form.Dirty → ⊥) → (HasForm line form.Errors → ⊥) → (HasForm line form.Cells → ⊥) → (HasForm line form.Features → ⊥)
-        → (HasForm line form.Rules → ⊥)
+    → (HasForm line form.Rules → ⊥)
     → NoneOf Listings line
 no_listing line dirty errors cells features rules form.Dirty g p = dirty p
 no_listing line dirty errors cells features rules form.Errors g p = errors p

@@ -41,7 +41,7 @@ one_spelled line c d p q =
     (λ text x y a b m n. one_rectangle q.window x y (subst (λ v. IsWindow v x) (one_window text p.window q.window a b) m) n)
     line c d p.spelled q.spelled p.meant q.meant
     (sym (tagged (λ _. Rest p.text) (λ _. written p.window) line c p.spelled)
-        ∙ tagged (λ _. Rest q.text) (λ _. written q.window) line d q.spelled)
+    ∙ tagged (λ _. Rest q.text) (λ _. written q.window) line d q.spelled)
 
 pub one_command : (line : List ℕ) (c d : Command) → IsCommandLine line c → IsCommandLine line d → c ≡ d
 one_command line c d p q = one_spelled line c d p.1 q.1

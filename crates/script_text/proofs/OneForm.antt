@@ -222,5 +222,5 @@ trivial other = tt
 pub one_form : (line : List ℕ) (f g : Form) → HasForm line f → HasForm line g → f ≡ g
 one_form line f g p q =
     one_of Rest Rest written written (λ _. Unit {0}) (λ _. Unit {0}) (λ _. Unit {0}) (λ _. Unit {0}) one_rest
-        (λ text v w a b m n. one_window text v w a b)
+    (λ text v w a b m n. one_window text v w a b)
     line f g p q (trivial f) (trivial g) (sym (tagged Rest written line f p) ∙ tagged Rest written line g q)

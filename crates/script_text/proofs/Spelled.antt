@@ -111,9 +111,10 @@ no_window a b c d r f e s same h = subst (IsNoWindow r) (sym same) (by f h)
     out zero k = beyond_too a r.x0 s.left k
     out (suc zero) k = (within_too a r.x0 s.left k.0, beyond_too b r.y0 s.below k.1)
     out (suc (suc zero)) k = (within_too a r.x0 s.left k.0, (within_too b r.y0 s.below k.1.0, beyond_too c r.x1 s.right k.1.1))
-    out (suc (suc (suc zero))) k =
-        (within_too a r.x0 s.left k.0,
-            (within_too b r.y0 s.below k.1.0, (within_too c r.x1 s.right k.1.1.0, beyond_too d r.y1 s.above k.1.1.1)))
+    out (suc (suc (suc zero))) k = (
+      within_too a r.x0 s.left k.0,
+      (within_too b r.y0 s.below k.1.0, (within_too c r.x1 s.right k.1.1.0, beyond_too d r.y1 s.above k.1.1.1)),
+    )
     out (suc (suc (suc (suc at)))) k = absurd k.1.1.1.1
 
     by : (g : RectFault) → IsRectFault g (rect_of a b c d) → IsNoWindow r (window_fault g)
@@ -121,8 +122,10 @@ no_window a b c d r f e s same h = subst (IsNoWindow r) (sym same) (by f h)
     by rect.Reversed k =
         let i = k.0 in
         let same = same_rect a b c d r s i.0 i.1.0 i.1.1.0 i.1.1.1.0 in (
-          (within_too a r.x0 s.left i.0,
-              (within_too b r.y0 s.below i.1.0, (within_too c r.x1 s.right i.1.1.0, (within_too d r.y1 s.above i.1.1.1.0, tt)))),
+          (
+            within_too a r.x0 s.left i.0,
+            (within_too b r.y0 s.below i.1.0, (within_too c r.x1 s.right i.1.1.0, (within_too d r.y1 s.above i.1.1.1.0, tt))),
+          ),
           subst (λ q. IsProper q → ⊥) same k.1,
         )
 

@@ -137,8 +137,15 @@ from_considered : (all : List Numbered) (n m : Numbered) (best : Option Pair) �
 from_considered all n m best i j f p e = elim (true_or_false (test_of n m best)) [
   | inl t ↦
       let k = both_true (not (n.number == m.number)) (is_sooner (pair_of n m) best) (is_bad n.seg m.seg) t in
-      record { n = n; m = m; n_in = i; m_in = j; differ = k.0; bad = k.2;
-          is = some_same (pair_of n m) p (sym (chosen_true (test_of n m best) (Some (pair_of n m)) best t) ∙ e) }
+      record {
+        n = n;
+        m = m;
+        n_in = i;
+        m_in = j;
+        differ = k.0;
+        bad = k.2;
+        is = some_same (pair_of n m) p (sym (chosen_true (test_of n m best) (Some (pair_of n m)) best t) ∙ e);
+      }
   | inr t ↦ f p (sym (chosen_false (test_of n m best) (Some (pair_of n m)) best t) ∙ e)
 ]
 
@@ -319,9 +326,9 @@ pub apart_considered : (n m : Numbered) (best : Option Pair) → IsBoxed n → I
     → best ≡ considered n m best
 apart_considered n m best g h e =
     fine_considered n m best
-        (fine_apart n.seg m.seg g.proper h.proper
-        (subst (λ (r : Rectangle). rects_meet r (box_of m.seg) ≡ false) g.env
-        (subst (λ (r : Rectangle). rects_meet n.env r ≡ false) h.env e)))
+    (fine_apart n.seg m.seg g.proper h.proper
+    (subst (λ (r : Rectangle). rects_meet r (box_of m.seg) ≡ false) g.env
+    (subst (λ (r : Rectangle). rects_meet n.env r ≡ false) h.env e)))
 
 past_with : (n : Numbered) (ms : List Numbered) (best : Option Pair) → IsBoxed n → Every IsBoxed ms
     → Every (λ m. n.seg.hi.x <ℤ m.seg.lo.x) ms → best ≡ best_with n ms best
@@ -335,9 +342,11 @@ pub past_all : (n m : Numbered) (whole ms : List Numbered) (best : Option Pair) 
 past_all n m whole ms best e a g h l =
     let a' : Ascends (m ∷ ms) = subst (λ (ks : List Numbered). Ascends ks) e a in
     let h' : Every IsBoxed (m ∷ ms) = subst (λ (ks : List Numbered). Every IsBoxed ks) e h in
-    past_with n (m ∷ ms) best g h'
-        (l, every_map (λ k. m.seg.lo.x ≤ℤ k.seg.lo.x) (λ k. n.seg.hi.x <ℤ k.seg.lo.x) (λ k u. further n.seg.hi.x m.seg.lo.x k.seg.lo.x l u)
-        ms a'.0) ∙ ap (λ (ks : List Numbered). best_with n ks best) (sym e)
+    past_with n (m ∷ ms) best g h' (
+      l,
+      every_map (λ k. m.seg.lo.x ≤ℤ k.seg.lo.x) (λ k. n.seg.hi.x <ℤ k.seg.lo.x) (λ k u. further n.seg.hi.x m.seg.lo.x k.seg.lo.x l u)
+          ms a'.0,
+    ) ∙ ap (λ (ks : List Numbered). best_with n ks best) (sym e)
   where
     further : (x y z : ℤ) → x <ℤ y → y ≤ℤ z → x <ℤ z
     further x y z l u = omega (arith, ints)

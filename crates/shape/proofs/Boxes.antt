@@ -33,10 +33,10 @@ pub box_step : (wide new : Rectangle) (items now rest whole : List Place) → no
     → box_from new rest ≡ box_from wide whole
 box_step wide new items now rest whole e h k =
     ap (λ (r : Rectangle). box_from r rest) h ∙ ap (λ (ps : List Place). box_from (box_from wide ps) rest) e
-        ∙ sym (box_after wide items rest) ∙ ap (λ (ps : List Place). box_from wide ps) (sym k)
+    ∙ sym (box_after wide items rest) ∙ ap (λ (ps : List Place). box_from wide ps) (sym k)
 
 pub reach_step : (items now rest whole : List Place) → now ≡ items → Every IsInReach now → whole ≡ items ++ rest → Every IsInReach rest
     → Every IsInReach whole
 reach_step items now rest whole e h k f =
     subst (λ (ps : List Place). Every IsInReach ps) (sym k)
-        (every_append IsInReach items rest (subst (λ (ps : List Place). Every IsInReach ps) e h) f)
+    (every_append IsInReach items rest (subst (λ (ps : List Place). Every IsInReach ps) e h) f)

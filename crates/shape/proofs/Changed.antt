@@ -72,7 +72,7 @@ pub written : {X : Type 0} (n : ℕ) (new old : List X) → length new ≡ lengt
     → take n (new ++ drop (length new) old) ≡ new
 written n new old e k =
     ap (λ (rest : List _). take n (new ++ rest)) (drop_all (length new) old (omega (arith, e))) ∙ ap (λ xs. take n xs) (append-nil new)
-        ∙ take_whole n new (omega (arith, e, k))
+    ∙ take_whole n new (omega (arith, e, k))
   where
     take_whole : {X : Type 0} (n : ℕ) (xs : List X) → length xs ≤ n → take n xs ≡ xs
     take_whole n xs h = take_all n xs h

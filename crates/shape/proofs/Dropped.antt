@@ -22,4 +22,4 @@ pub part_dropped : (ps : List (Vec Ring Global)) (i : ℕ) (p : Vec Ring Global)
     (all_rings (polygons_in (drop (i + 1) ps)))
 part_dropped ps i p h e =
     ap (λ (qs : List (Vec Ring Global)). all_vertices (all_rings (polygons_in qs))) (item_dropped ps i p h e)
-        ∙ flat_map-append (λ (ring : List Place). ring) (rings_in p.items) (all_rings (polygons_in (drop (i + 1) ps)))
+    ∙ flat_map-append (λ (ring : List Place). ring) (rings_in p.items) (all_rings (polygons_in (drop (i + 1) ps)))

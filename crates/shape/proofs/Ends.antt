@@ -30,7 +30,7 @@ first_end ([] ∷ rs) k d e h l = absurd (omega (arith, h.0))
 first_end ((q ∷ qs) ∷ rs) zero d e h l = refl
 first_end ((q ∷ qs) ∷ rs) (suc k) d e h l =
     at_number {i = 2 * suc k} {j = suc (suc (2 * k))} (q ∷ last_of q qs ∷ flat_map two_ends rs) (omega arith)
-        ∙ first_end rs k d e h.1 (omega (arith, l))
+    ∙ first_end rs k d e h.1 (omega (arith, l))
 
 last_end : (rings : List (List Place)) (k : ℕ) (d : Place) (e : List Place) → AreLong rings → k < length rings
     → slice_get (flat_map two_ends rings) (2 * k + 1) ≡ Some (get_or (get_or rings k e) (length (get_or rings k e) - 1) d)
@@ -39,7 +39,7 @@ last_end ([] ∷ rs) k d e h l = absurd (omega (arith, h.0))
 last_end ((q ∷ qs) ∷ rs) zero d e h l = ap Some (last_is q qs d ∙ at_place (q ∷ qs) d (omega arith))
 last_end ((q ∷ qs) ∷ rs) (suc k) d e h l =
     at_number {i = 2 * suc k + 1} {j = suc (suc (2 * k + 1))} (q ∷ last_of q qs ∷ flat_map two_ends rs) (omega arith)
-        ∙ last_end rs k d e h.1 (omega (arith, l))
+    ∙ last_end rs k d e h.1 (omega (arith, l))
 
 -- ---- of parts as the code holds them
 pub end_within : (ps : List Ring) (i k : ℕ) → AreLong (rings_in ps) → i < length (flat_map two_ends (rings_in ps)) → k + k ≤ i
@@ -65,10 +65,10 @@ pub end_first : (ps : List Ring) (i k : ℕ) (p : Ring) (q : Place) → AreLong 
     → q ≡ get_or p.items 0 q → slice_get (flat_map two_ends (rings_in ps)) i ≡ Some q
 end_first ps i k p q h l e n a =
     at_number {i = i} {j = 2 * k} (flat_map two_ends (rings_in ps)) n ∙ first_end (rings_in ps) k q p.items h (in_rings ps k l)
-        ∙ ap (λ (r : List Place). Some (get_or r 0 q)) (sym (part_is ps k p l e)) ∙ ap Some (sym a)
+    ∙ ap (λ (r : List Place). Some (get_or r 0 q)) (sym (part_is ps k p l e)) ∙ ap Some (sym a)
 
 pub end_last : (ps : List Ring) (i k : ℕ) (p : Ring) (q : Place) → AreLong (rings_in ps) → k < length ps → p ≡ get_or ps k p → i ≡ 2 * k + 1
     → q ≡ get_or p.items (length p.items - 1) q → slice_get (flat_map two_ends (rings_in ps)) i ≡ Some q
 end_last ps i k p q h l e n a =
     at_number {i = i} {j = 2 * k + 1} (flat_map two_ends (rings_in ps)) n ∙ last_end (rings_in ps) k q p.items h (in_rings ps k l)
-        ∙ ap (λ (r : List Place). Some (get_or r (length r - 1) q)) (sym (part_is ps k p l e)) ∙ ap Some (sym a)
+    ∙ ap (λ (r : List Place). Some (get_or r (length r - 1) q)) (sym (part_is ps k p l e)) ∙ ap Some (sym a)

@@ -66,8 +66,11 @@ line_empty (p ∷ ps) e = absurd (no_zero (length ps) e)
 
 pub line_few : (ps : List Ring) (n : ℕ) → (length ps == 0) ≡ false → first_short 2 0 (rings_in ps) ≡ Some n → IsFew (line_shape ps) n
 line_few ps n e f =
-    inr (line_ringed ps e, subst (λ (rs : List (List Place)). IsFirstOf (IsShort kind.Line) rs n) (sym (line_rings ps))
-    (short_first kind.Line n (rings_in ps) f))
+    inr (
+      line_ringed ps e,
+      subst (λ (rs : List (List Place)). IsFirstOf (IsShort kind.Line) rs n) (sym (line_rings ps))
+          (short_first kind.Line n (rings_in ps) f),
+    )
 
 pub line_none_few : (ps : List Ring) → (length ps == 0) ≡ false → first_short 2 0 (rings_in ps) ≡ None → NoneFew (line_shape ps)
 line_none_few ps e f = few_none (line_shape ps) (line_ringed ps e) (line_long ps f)

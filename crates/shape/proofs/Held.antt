@@ -44,8 +44,13 @@ held_rings ps h = long_of (rings_in ps) (subst (λ (rs : List (List Place)). Eve
 
 pub held_long : (ps : List Ring) (n : ℕ) → IsShape (line_shape ps) → n ≡ length ps → 2 * n ≡ length (ends_of (line_shape ps))
 held_long ps n h e =
-    omega (arith, e, ends_counted (rings_in ps) (held_rings ps h), length-map ps (λ (ring : Ring). ring.items),
-    ap (λ (qs : List Place). length qs) (held_ends ps))
+    omega (
+      arith,
+      e,
+      ends_counted (rings_in ps) (held_rings ps h),
+      length-map ps (λ (ring : Ring). ring.items),
+      ap (λ (qs : List Place). length qs) (held_ends ps),
+    )
 
 -- ---- equal parts
 pub same_lines : (ps qs : List Ring) → rings_in ps ≡ rings_in qs → line_shape ps ≡ line_shape qs
@@ -78,14 +83,14 @@ line_box_by ps p q r k l f h =
     let m = head_of p.items q (omega (arith, long.0)) f in
     let rest = all_vertices (rings_in k.0) in
     box_whole (all_vertices (rings_in ps)) q (m.0 ++ rest) r (ap (λ (qs : List Ring). all_vertices (rings_in qs)) k.1
-        ∙ ap (λ (vs : List Place). vs ++ rest) m.1) h
+    ∙ ap (λ (vs : List Place). vs ++ rest) m.1) h
 
 pub line_box : (ps : List Ring) (p : Ring) (q : Place) (r : Rectangle) → IsFull (line_shape ps) → p ≡ get_or ps 0 p → q ≡ get_or p.items 0 q
     → r ≡ box_from (rect_at q) (all_vertices (rings_in ps)) → r ≡ envelope_of (line_shape ps)
 unfolding envelope_of
 line_box ps p q r full e f h =
     line_box_by ps p q r (head_of ps p (some_parts lines_in ps refl (λ z. full.ringed (inl z))) e) full.long f h
-        ∙ ap box_of_places (sym (line_vertices ps))
+    ∙ ap box_of_places (sym (line_vertices ps))
 
 polygon_box_by : (ps : List (Vec Ring Global)) (p : Vec Ring Global) (ring : Ring) (q : Place) (r : Rectangle)
     (k : (qs : List (Vec Ring Global)) × (ps ≡ p ∷ qs)) → ¬ (SomeOf (λ part. part ≡ []) (polygons_in ps))
@@ -100,8 +105,8 @@ polygon_box_by ps p ring q r k n l e f h =
     let o = head_of ring.items q (omega (arith, long'.0)) f in
     let rest = all_vertices (rings_in m.0 ++ others) in
     box_whole (all_vertices (all_rings (polygons_in ps))) q (o.0 ++ rest) r
-        (ap (λ (qs : List (Vec Ring Global)). all_vertices (all_rings (polygons_in qs))) k.1
-        ∙ ap (λ (rs : List Ring). all_vertices (rings_in rs ++ others)) m.1 ∙ ap (λ (vs : List Place). vs ++ rest) o.1) h
+    (ap (λ (qs : List (Vec Ring Global)). all_vertices (all_rings (polygons_in qs))) k.1
+    ∙ ap (λ (rs : List Ring). all_vertices (rings_in rs ++ others)) m.1 ∙ ap (λ (vs : List Place). vs ++ rest) o.1) h
   where
     some_rings : (xs : List Ring) → (rings_in xs ≡ [] → ⊥) → 1 ≤ length xs
     some_rings [] n = absurd (n refl)
@@ -113,4 +118,4 @@ pub polygon_box : (ps : List (Vec Ring Global)) (p : Vec Ring Global) (ring : Ri
 unfolding envelope_of
 polygon_box ps p ring q r full e f g h =
     polygon_box_by ps p ring q r (head_of ps p (some_parts polygons_in ps refl (λ z. full.ringed (inl z))) e)
-        (λ z. full.ringed (inr z)) full.long f g h
+    (λ z. full.ringed (inr z)) full.long f g h

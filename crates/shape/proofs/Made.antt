@@ -42,7 +42,7 @@ pub line_made : (ps given : List Ring) → rings_in ps ≡ rings_by kind.Line (r
     → line_shape ps ≡ shape_of kind.Line (lines_in given)
 line_made ps given e =
     ap (λ (parts : List (List (List Place))). line parts) (line_parts ps ∙ ap (λ rs. map (λ (r : List Place). r ∷ []) rs) e
-        ∙ sym (kept_lines (ring_by kind.Line) given))
+    ∙ sym (kept_lines (ring_by kind.Line) given))
 
 pub polygon_made : (ps given : List (Vec Ring Global)) → polygons_in ps ≡ parts_by kind.Polygon (polygons_in given)
     → polygon_shape ps ≡ shape_of kind.Polygon (polygons_in given)
@@ -82,8 +82,13 @@ ring_short kind.Polygon ps = omega (arith, opened_short (without_repeats ps), re
 rings_short : (k : Kind) (rs : List (List Place)) → length (all_vertices (rings_by k rs)) ≤ length (all_vertices rs)
 rings_short k [] = omega arith
 rings_short k (r ∷ rs) =
-    omega (arith, length-append (ring_by k r) (all_vertices (rings_by k rs)), length-append r (all_vertices rs), ring_short k r,
-    rings_short k rs)
+    omega (
+      arith,
+      length-append (ring_by k r) (all_vertices (rings_by k rs)),
+      length-append r (all_vertices rs),
+      ring_short k r,
+      rings_short k rs,
+    )
 
 all_kept : (k : Kind) (parts : List (List (List Place))) → all_rings (parts_by k parts) ≡ rings_by k (all_rings parts)
 all_kept k [] = refl
@@ -182,7 +187,7 @@ opened_closes : (vs : List Place) → NextDiffer vs → 2 ≤ length (opened vs)
 opened_closes [] h l = tt
 opened_closes (p ∷ ps) h l =
     closes p (reverse ps) (subst (λ (us : List Place). NextDiffer (p ∷ us)) (sym (reverse-reverse ps)) h)
-        (omega (arith, l, length-reverse (skip_equal p (reverse ps))))
+    (omega (arith, l, length-reverse (skip_equal p (reverse ps))))
 
 every_closes : (rs : List (List Place)) → Every (λ ring. 3 ≤ length ring) (rings_by kind.Polygon rs)
     → Every IsClosing (rings_by kind.Polygon rs)
@@ -194,7 +199,7 @@ pub polygon_closes : (ps given : List (Vec Ring Global)) → polygons_in ps ≡ 
 polygon_closes ps given e f =
     let k = ap all_rings e ∙ all_kept kind.Polygon (polygons_in given) in
     subst (λ (rs : List (List Place)). Every IsClosing rs) (sym k)
-        (every_closes (all_rings (polygons_in given)) (subst (λ (rs : List (List Place)). Every (λ ring. 3 ≤ length ring) rs) k f.long))
+    (every_closes (all_rings (polygons_in given)) (subst (λ (rs : List (List Place)). Every (λ ring. 3 ≤ length ring) rs) k f.long))
 
 pub in_parts : (parts : List (List (List Place))) → Every IsClosing (all_rings parts) → Every (Every IsClosing) parts
 in_parts [] h = tt
@@ -260,12 +265,24 @@ full_flawless s f g (TooFew n) h = absurd (none_few s f n h)
 full_flawless s f g (TooMany n) h = absurd (none_many s f n h.1)
 full_flawless s f g (Cross i j) h =
     absurd (g h.2 i j
-    (record { ordered = h.3.pair.ordered; s = h.3.pair.s; t = h.3.pair.t; first = h.3.pair.first; second = h.3.pair.second;
-    says = inl h.3.pair.says }))
+    (record {
+      ordered = h.3.pair.ordered;
+      s = h.3.pair.s;
+      t = h.3.pair.t;
+      first = h.3.pair.first;
+      second = h.3.pair.second;
+      says = inl h.3.pair.says;
+    }))
 full_flawless s f g (Along i j) h =
     absurd (g h.2 i j
-    (record { ordered = h.3.pair.ordered; s = h.3.pair.s; t = h.3.pair.t; first = h.3.pair.first; second = h.3.pair.second;
-    says = inr h.3.pair.says }))
+    (record {
+      ordered = h.3.pair.ordered;
+      s = h.3.pair.s;
+      t = h.3.pair.t;
+      first = h.3.pair.first;
+      second = h.3.pair.second;
+      says = inr h.3.pair.says;
+    }))
 full_flawless s f g NoMemory h = refl
 
 pub pair_fault : (s : Shape) → s.kind ≡ kind.Polygon → IsFull s → (fault : ShapeFault) → IsPairFault (segments_of s) fault → IsFault s fault
@@ -293,5 +310,10 @@ closed_count (p ∷ ps) = omega (arith, path_count p (ps ++ p ∷ []), length-ap
 pub segments_count : (rs : List (List Place)) → length (flat_map closed_path rs) ≡ length (all_vertices rs)
 segments_count [] = refl
 segments_count (r ∷ rs) =
-    omega (arith, length-append (closed_path r) (flat_map closed_path rs), length-append r (all_vertices rs), closed_count r,
-    segments_count rs)
+    omega (
+      arith,
+      length-append (closed_path r) (flat_map closed_path rs),
+      length-append r (all_vertices rs),
+      closed_count r,
+      segments_count rs,
+    )

@@ -8,14 +8,14 @@ use Rattle.shape.proofs.Places.{same_turned}
 pub closing_dropped : (f x : Place) (fs : List Place) → same_place f x ≡ true → opened (f ∷ fs ++ x ∷ []) ≡ opened (f ∷ fs)
 closing_dropped f x fs e =
     ap (λ (rs : List Place). f ∷ reverse (skip_equal f rs)) (reverse-append fs (x ∷ []))
-        ∙ ap (λ (b : Bool). f ∷ reverse (cond b (skip_equal f (reverse fs)) (x ∷ reverse fs))) e
+    ∙ ap (λ (b : Bool). f ∷ reverse (cond b (skip_equal f (reverse fs)) (x ∷ reverse fs))) e
 
 other_stays : (f x : Place) (fs : List Place) → same_place f x ≡ false → opened (f ∷ fs ++ x ∷ []) ≡ f ∷ fs ++ x ∷ []
 other_stays f x fs e =
     ap (λ (rs : List Place). f ∷ reverse (skip_equal f rs)) (reverse-append fs (x ∷ []))
-        ∙ ap (λ (b : Bool). f ∷ reverse (cond b (skip_equal f (reverse fs)) (x ∷ reverse fs))) e
-        ∙ ap (λ (rs : List Place). f ∷ reverse rs) (sym (reverse-append fs (x ∷ [])))
-        ∙ ap (λ (rs : List Place). f ∷ rs) (reverse-reverse (fs ++ x ∷ []))
+    ∙ ap (λ (b : Bool). f ∷ reverse (cond b (skip_equal f (reverse fs)) (x ∷ reverse fs))) e
+    ∙ ap (λ (rs : List Place). f ∷ reverse rs) (sym (reverse-append fs (x ∷ [])))
+    ∙ ap (λ (rs : List Place). f ∷ rs) (reverse-reverse (fs ++ x ∷ []))
 
 last_at : (ws : List Place) (x d : Place) → get_or (ws ++ x ∷ []) (length ws) d ≡ x
 last_at [] x d = refl

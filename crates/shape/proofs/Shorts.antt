@@ -69,8 +69,11 @@ short_at k n m (x ∷ xs) e = by_test (nat_lt (length x) (least k)) refl (short_
     by_test true t f e = record { at = zero; sum = same e; first = lt_true (length x) (least k) t }
     by_test false t f e =
         let s = f e in
-        record { at = suc s.at; sum = omega (arith, s.sum);
-            first = (λ (h : length x < least k). omega (arith, h, lt_false (length x) (least k) t), s.first) }
+        record {
+          at = suc s.at;
+          sum = omega (arith, s.sum);
+          first = (λ (h : length x < least k). omega (arith, h, lt_false (length x) (least k) t), s.first);
+        }
 
 pub short_first : (k : Kind) (m : ℕ) (rings : List (List Place)) → first_short (least k) 0 rings ≡ Some m → IsFirstOf (IsShort k) rings m
 short_first k m rings e =
@@ -114,7 +117,7 @@ pub short_in_part : (n : ℕ) (ps : List (Vec Ring Global)) (i : ℕ) (p : Vec R
     → is_some r ≡ true → r ≡ first_short 3 n (rings_in p.items) → first_short 3 n (all_rings (polygons_in (drop i ps))) ≡ r
 short_in_part n ps i p r h e t f =
     ap (λ (qs : List (Vec Ring Global)). first_short 3 n (all_rings (polygons_in qs))) (item_dropped ps i p h e)
-        ∙ some_after n (rings_in p.items) (all_rings (polygons_in (drop (i + 1) ps))) r t f
+    ∙ some_after n (rings_in p.items) (all_rings (polygons_in (drop (i + 1) ps))) r t f
 
 pub short_past_part : (n : ℕ) (ps : List (Vec Ring Global)) (i : ℕ) (p : Vec Ring Global) (r : Option ℕ) → i < length ps → p ≡ get_or ps i p
     → is_some r ≡ false → r ≡ first_short 3 n (rings_in p.items)
@@ -122,12 +125,12 @@ pub short_past_part : (n : ℕ) (ps : List (Vec Ring Global)) (i : ℕ) (p : Vec
 short_past_part n ps i p r h e t f =
     let rest = all_rings (polygons_in (drop (i + 1) ps)) in
     ap (λ (qs : List (Vec Ring Global)). first_short 3 n (all_rings (polygons_in qs))) (item_dropped ps i p h e)
-        ∙ none_after n (rings_in p.items) rest r t f
-        ∙ ap (λ (m : ℕ). first_short 3 (n + m) rest) (length-map p.items (λ (ring : Ring). ring.items))
+    ∙ none_after n (rings_in p.items) rest r t f
+    ∙ ap (λ (m : ℕ). first_short 3 (n + m) rest) (length-map p.items (λ (ring : Ring). ring.items))
 
 pub counted_past_part : (ps : List (Vec Ring Global)) (i : ℕ) (p : Vec Ring Global) → i < length ps → p ≡ get_or ps i p
     → length (all_rings (polygons_in (drop i ps))) ≡ length p.items + length (all_rings (polygons_in (drop (i + 1) ps)))
 counted_past_part ps i p h e =
     let rest = all_rings (polygons_in (drop (i + 1) ps)) in
     ap (λ (qs : List (Vec Ring Global)). length (all_rings (polygons_in qs))) (item_dropped ps i p h e)
-        ∙ length-append (rings_in p.items) rest ∙ ap (λ (m : ℕ). m + length rest) (length-map p.items (λ (ring : Ring). ring.items))
+    ∙ length-append (rings_in p.items) rest ∙ ap (λ (m : ℕ). m + length rest) (length-map p.items (λ (ring : Ring). ring.items))

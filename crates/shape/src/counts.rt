@@ -4,8 +4,8 @@ ghost use Rattle.shape.specs.Counts.{first_short, has_bare_part, IsFull};
 ghost use Rattle.plane_terms.specs.ShapeFaults.{IsFault};
 ghost use Rattle.shape.specs.Form.{line_shape, polygon_shape};
 
-use plane_terms::ShapeFault;
 use grid_plane::GridPoint;
+use plane_terms::ShapeFault;
 
 /// The most vertices that a shape may have.
 const MOST: u32 = 2000;

@@ -8,11 +8,11 @@ ghost use Rattle.shape.specs.Form.{line_shape, IsDrawn};
 
 use crate::counts::check_line;
 use crate::envelope::box_of_line;
-use plane_terms::ShapeFault;
 use crate::same::copy_of_rings;
 use crate::segments::push_paths;
 use crate::vertices::kept_parts;
 use grid_plane::{GridPoint, NoMemory, Rect, Seg};
+use plane_terms::ShapeFault;
 use std::alloc::Global;
 
 /// The parts of a line, each from its first vertex to its last, and what follows from them.

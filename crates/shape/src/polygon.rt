@@ -10,12 +10,12 @@ ghost use Rattle.shape.specs.Form.{polygon_shape, IsDrawn};
 
 use crate::counts::check_polygon;
 use crate::envelope::box_of_polygon;
-use plane_terms::ShapeFault;
 use crate::same::copy_of_parts;
 use crate::segments::push_polygons;
 use crate::sweep::check_pairs;
 use crate::vertices::closed_parts;
 use grid_plane::{GridPoint, NoMemory, Rect, Seg};
+use plane_terms::ShapeFault;
 use std::alloc::Global;
 
 /// The parts of a polygon, each a list of rings, a ring without its first vertex again; and what follows from them.

@@ -8,14 +8,13 @@ ghost use Rattle.plane_terms.specs.declared.kind.Kind.TheVariants as kind;
 ghost use Rattle.shape.specs.Given.{lines_in, polygons_in, IsCountable};
 ghost use Rattle.plane_terms.specs.ShapeFaults.{IsFault, IsFlawless};
 
-use plane_terms::ShapeFault;
 use crate::form::Form;
 use crate::line::Line;
 use crate::polygon::Polygon;
 use crate::same::{are_same_parts, are_same_rings};
 use crate::segments::segments_law;
 use grid_plane::{GridPoint, NoMemory, Rect, Seg};
-use plane_terms::Kind;
+use plane_terms::{Kind, ShapeFault};
 use std::alloc::Global;
 use std::marker::Model;
 

@@ -7,10 +7,10 @@ ghost use Rattle.plane_terms.specs.Shape.{AreSimple};
 ghost use Rattle.plane_terms.specs.ShapeFaults.{IsPair, AreBad};
 ghost use Rattle.shape.specs.Sweep.{numbered, is_bad, pair_of, is_sooner, considered, numbered_segment, best_with, best_among, Ascends, IsBoxed, IsFirstBad, IsPairFault};
 
-use plane_terms::ShapeFault;
 use crate::numbered::Numbered;
 use crate::pair::Pair;
 use grid_plane::{NoMemory, Seg, Share};
+use plane_terms::ShapeFault;
 use std::alloc::Global;
 
 fn is_bad(s: &Seg, t: &Seg) -> bool

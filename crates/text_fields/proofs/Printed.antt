@@ -31,7 +31,7 @@ digits_number negative [] h some = absurd (omega arith)
 digits_number negative (d ∷ ds) h some =
     let w = whole_run is_digit (d ∷ ds) h in
     ap (λ t. number_in negative t (behind is_digit (d ∷ ds))) w.0
-        ∙ (ap (λ t. number_in negative (d ∷ ds) t) w.1 ∙ no_fraction negative d ds)
+    ∙ (ap (λ t. number_in negative (d ∷ ds) t) w.1 ∙ no_fraction negative d ds)
 
 unsign : (ds : List ℕ) → list_all is_digit ds ≡ true → (unsigned ds ≡ ds) × (is_negative ds ≡ false)
 unsign [] h = (refl, refl)
@@ -50,12 +50,12 @@ printed (pos n) h =
     let le : n ≤ 4194304 = omega (arith, ints, h.high) in
     let wide : n < 2 ^ 64 = omega arith in
     number_of_digits (decimal n) (digits_decimal own n wide) (decimal_nonempty n wide)
-        ∙ (ap (within_reach false) (digits_value-decimal own n wide) ∙ in_reach false n le)
+    ∙ (ap (within_reach false) (digits_value-decimal own n wide) ∙ in_reach false n le)
 printed (negsuc n) h =
     let le : suc n ≤ 4194304 = omega (arith, ints, h.low) in
     let wide : suc n < 2 ^ 64 = omega arith in
     digits_number true (decimal (suc n)) (digits_decimal own (suc n) wide) (decimal_nonempty (suc n) wide)
-        ∙ (ap (within_reach true) (digits_value-decimal own (suc n) wide) ∙ in_reach true (suc n) le)
+    ∙ (ap (within_reach true) (digits_value-decimal own (suc n) wide) ∙ in_reach true (suc n) le)
 
 -- ---- what is written of a number is one run of number bytes
 

@@ -123,9 +123,12 @@ some_positions (OneOf group pss) ps h = h.1
 
 after_number : (front : List Token) (owner : Owner) (ps : List Place) → At front (AfterPosition owner ps) → EndsInNumber front
 after_number front owner ps a =
-    let r = position_ends ps (some_positions owner ps a.holds) in
-    (head owner ++ Open ∷ r.0, r.1.y, sym a.text
-        ∙ (ap (λ u. head owner ++ Open ∷ u) r.2 ∙ sym (append_assoc (head owner) (Open ∷ r.0) (Numeral (number.Whole r.1.y) ∷ []))))
+    let r = position_ends ps (some_positions owner ps a.holds) in (
+      head owner ++ Open ∷ r.0,
+      r.1.y,
+      sym a.text
+          ∙ (ap (λ u. head owner ++ Open ∷ u) r.2 ∙ sym (append_assoc (head owner) (Open ∷ r.0) (Numeral (number.Whole r.1.y) ∷ []))),
+    )
 
 -- what ends in a closing bracket ends in no number
 closing : (front before : List Token) → before ++ Close ∷ [] ≡ front → EndsInNumber front → ⊥
@@ -137,7 +140,7 @@ after_list : (front : List Token) (group : Group) (pss : List (List Place)) → 
 after_list front group pss a =
     let r = list_ends pss a.holds.1.0 in
     closing front (lead group ++ Open ∷ r.0) (append_assoc (lead group) (Open ∷ r.0) (Close ∷ [])
-        ∙ (ap (λ u. lead group ++ Open ∷ u) (sym r.2) ∙ a.text))
+    ∙ (ap (λ u. lead group ++ Open ∷ u) (sym r.2) ∙ a.text))
 
 after_part : (front : List Token) (parts : List (List (List Place))) → At front (AfterPart parts) → EndsInNumber front → ⊥
 after_part front parts a =

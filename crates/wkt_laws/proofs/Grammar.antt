@@ -153,8 +153,11 @@ at_close OfPoint [] h = absurd h
 at_close OfPoint (p ∷ ps) h = record { text = rw h refl; holds = tt; unended = λ _. tt }
 at_close OfLine ps h = record { text = refl; holds = h; unended = λ _. tt }
 at_close (OneOf group pss) ps h =
-    record { text = rw (items-snoc list pss ps) (simp append_assoc);
-    holds = (h.0.0, (IsSome-snoc pss ps, All-snoc IsSome pss ps h.0.1 h.1)); unended = λ _. tt }
+    record {
+      text = rw (items-snoc list pss ps) (simp append_assoc);
+      holds = (h.0.0, (IsSome-snoc pss ps, All-snoc IsSome pss ps h.0.1 h.1));
+      unended = λ _. tt;
+    }
 
 at_list_comma : (group : Group) (pss : List (List Place)) → KeepsGroup group × AreSome pss
     → Adds (AfterList group pss) Comma (BeforeList (OneOf group pss))
@@ -166,8 +169,11 @@ at_list_close : (group : Group) (pss : List (List Place)) → KeepsGroup group �
 at_list_close OfLines pss h = record { text = refl; holds = h.1; unended = λ _. tt }
 at_list_close OfPolygon pss h = record { text = refl; holds = h.1; unended = λ _. tt }
 at_list_close (OfPart parts) pss h =
-    record { text = rw (items-snoc lists parts pss) (simp append_assoc);
-    holds = (IsSome-snoc parts pss, All-snoc AreSome parts pss h.0 h.1); unended = λ _. tt }
+    record {
+      text = rw (items-snoc lists parts pss) (simp append_assoc);
+      holds = (IsSome-snoc parts pss, All-snoc AreSome parts pss h.0 h.1);
+      unended = λ _. tt;
+    }
 
 at_part_comma : (parts : List (List (List Place))) → IsSome parts × AllByRecursion AreSome parts
     → Adds (AfterPart parts) Comma (BeforeLists (OfPart parts))
@@ -262,7 +268,7 @@ run_more_lists : (group : Group) (pss more : List (List Place)) (rest : List Tok
 run_more_lists group pss [] rest full = ap (λ x. run (AfterList group x) rest) (sym (append-nil pss))
 run_more_lists group pss (r ∷ more) rest full =
     let e : commas list (r ∷ more) ++ rest ≡ Comma ∷ (list r ++ (commas list more ++ rest)) =
-        ap (λ x. Comma ∷ x) (append_assoc (list r) (commas list more) rest) in
+    ap (λ x. Comma ∷ x) (append_assoc (list r) (commas list more) rest) in
     ap (λ x. run (AfterList group pss) x) e ∙ (run_positions (OneOf group pss) (λ ps. refl) r (commas list more ++ rest) full.0
     ∙ (run_more_lists group (pss ++ r ∷ []) more rest full.1 ∙ ap (λ x. run (AfterList group x) rest) (append_assoc pss (r ∷ []) more)))
 
@@ -279,7 +285,7 @@ run_more_parts : (parts more : List (List (List Place))) (rest : List Token) →
 run_more_parts parts [] rest full = ap (λ x. run (AfterPart x) rest) (sym (append-nil parts))
 run_more_parts parts (p ∷ more) rest full =
     let e : commas lists (p ∷ more) ++ rest ≡ Comma ∷ (lists p ++ (commas lists more ++ rest)) =
-        ap (λ x. Comma ∷ x) (append_assoc (lists p) (commas lists more) rest) in
+    ap (λ x. Comma ∷ x) (append_assoc (lists p) (commas lists more) rest) in
     ap (λ x. run (AfterPart parts) x) e ∙ (run_lists (OfPart parts) p (commas lists more ++ rest) full.0
     ∙ (run_more_parts (parts ++ p ∷ []) more rest full.1 ∙ ap (λ x. run (AfterPart x) rest) (append_assoc parts (p ∷ []) more)))
 
@@ -291,7 +297,7 @@ again (APolygon rings) full = run_lists OfPolygon rings (End ∷ []) full
 again (Polygons []) full = absurd full.0
 again (Polygons (part ∷ parts)) full =
     let e : (items lists (part ∷ parts) ++ Close ∷ []) ++ End ∷ [] ≡ lists part ++ (commas lists parts ++ Close ∷ End ∷ []) =
-        simp append_assoc in
+    simp append_assoc in
     ap (λ x. run BeforeParts (Open ∷ x)) e ∙ (run_lists (OfPart []) part (commas lists parts ++ Close ∷ End ∷ []) full.1.0
     ∙ run_more_parts (part ∷ []) parts (Close ∷ End ∷ []) full.1.1)
 

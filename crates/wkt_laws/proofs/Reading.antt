@@ -70,7 +70,7 @@ pub goes_on : (text rest : List ℕ) (s next : State) → Read text rest s → (
 goes_on text rest s next r more e =
     let h = reads Start r.done s tt r.ran in
     let a : Adds s (token_at rest) next =
-        subst (λ (x : Result State Cause). Gives s (token_at rest) x) e (adds s (token_at rest) h.holds) in
+    subst (λ (x : Result State Cause). Gives s (token_at rest) x) e (adds s (token_at rest) h.holds) in
     let ran : run Start (r.done ++ token_at rest ∷ []) ≡ Ok next = run-append Start r.done (token_at rest ∷ []) ∙ rw (r.ran, e) refl in
     record {
       done = r.done ++ token_at rest ∷ [];
@@ -109,11 +109,12 @@ completed text s g r e =
     let ran : run Start (r.done ++ End ∷ []) ≡ Ok (Over g) = run-append Start r.done (End ∷ []) ∙ rw (r.ran, e) refl in
     let all = reads Start (r.done ++ End ∷ []) (Over g) tt ran in
     let b : StartsWith text (r.done ++ End ∷ []) (behind_token (skip_blanks r.left)) =
-        StartsWith-snoc text r.done r.left End r.begins (ap token_at r.skipped) in
-    let nothing : behind_token (skip_blanks r.left) ≡ [] = ap behind_token r.skipped in
-    (all.holds,
-        subst (λ (ts : List Token). StartsWith text ts []) (sym all.text)
-        (subst (λ (l : List ℕ). StartsWith text (r.done ++ End ∷ []) l) nothing b))
+    StartsWith-snoc text r.done r.left End r.begins (ap token_at r.skipped) in
+    let nothing : behind_token (skip_blanks r.left) ≡ [] = ap behind_token r.skipped in (
+      all.holds,
+      subst (λ (ts : List Token). StartsWith text ts []) (sym all.text)
+          (subst (λ (l : List ℕ). StartsWith text (r.done ++ End ∷ []) l) nothing b),
+    )
 
 -- ---- a text of the grammar has no fault, and one value
 

@@ -57,9 +57,9 @@ IsRead {A = A} ft fs P = (t : List ℕ) (x : A) (rest : List ℕ) (ts : List Tok
 place_read : IsRead place_text position IsInReach
 place_read t p rest ts m h lead s more =
     let e : Leads t (signed_decimal p.x ++ (32 ∷ (signed_decimal p.y ++ rest))) =
-        lead ∙ ap skip_blanks (append_assoc (signed_decimal p.x) (32 ∷ signed_decimal p.y) rest) in
+    lead ∙ ap skip_blanks (append_assoc (signed_decimal p.x) (32 ∷ signed_decimal p.y) rest) in
     number_read t p.x (32 ∷ (signed_decimal p.y ++ rest)) (Numeral (Whole p.y) ∷ ts) m h.x e refl
-        (number_read (32 ∷ (signed_decimal p.y ++ rest)) p.y rest ts m h.y refl s more)
+    (number_read (32 ∷ (signed_decimal p.y ++ rest)) p.y rest ts m h.y refl s more)
 
 commas_read : {A : Type 0} (ft : A → List ℕ) (fs : A → List Token) (P : A → Type 0) (one : IsRead ft fs P) (xs : List A) (rest : List ℕ)
     (ts : List Token) (m : List ℕ) → AllByRecursion P xs → Stops is_number_byte rest → StartsWith rest ts m
@@ -68,10 +68,15 @@ commas_read ft fs P one [] rest ts m h s more = (more, s)
 commas_read ft fs P one (x ∷ xs) rest ts m h s more =
     let k = commas_read ft fs P one xs rest ts m h.1 s more in
     let lead : Leads (32 ∷ ((ft x ++ comma_texts ft xs) ++ rest)) (ft x ++ (comma_texts ft xs ++ rest)) =
-        ap skip_blanks (append_assoc (ft x) (comma_texts ft xs) rest) in
-    let b = one (32 ∷ ((ft x ++ comma_texts ft xs) ++ rest)) x (comma_texts ft xs ++ rest) (commas fs xs ++ ts) m h.0 lead k.1 k.0 in
-    ((refl, subst (λ (us : List Token). StartsWith (32 ∷ ((ft x ++ comma_texts ft xs) ++ rest)) us m)
-        (sym (append_assoc (fs x) (commas fs xs) ts)) b), refl)
+    ap skip_blanks (append_assoc (ft x) (comma_texts ft xs) rest) in
+    let b = one (32 ∷ ((ft x ++ comma_texts ft xs) ++ rest)) x (comma_texts ft xs ++ rest) (commas fs xs ++ ts) m h.0 lead k.1 k.0 in (
+      (
+        refl,
+        subst (λ (us : List Token). StartsWith (32 ∷ ((ft x ++ comma_texts ft xs) ++ rest)) us m)
+            (sym (append_assoc (fs x) (commas fs xs) ts)) b,
+      ),
+      refl,
+    )
 
 pub listed_items : {A : Type 0} (f : A → List ℕ) (x : A) (xs : List A) → listed (map f (x ∷ xs)) ≡ f x ++ comma_texts f xs
 listed_items f x [] = sym (append-nil (f x))
@@ -84,11 +89,11 @@ items_read ft fs P one [] rest ts m h some s more = absurd some
 items_read ft fs P one (x ∷ xs) rest ts m h some s more =
     let k = commas_read ft fs P one xs rest ts m h.1 s more in
     let lead : Leads ((ft x ++ comma_texts ft xs) ++ rest) (ft x ++ (comma_texts ft xs ++ rest)) =
-        ap skip_blanks (append_assoc (ft x) (comma_texts ft xs) rest) in
+    ap skip_blanks (append_assoc (ft x) (comma_texts ft xs) rest) in
     let b = one ((ft x ++ comma_texts ft xs) ++ rest) x (comma_texts ft xs ++ rest) (commas fs xs ++ ts) m h.0 lead k.1 k.0 in
     let c : StartsWith ((ft x ++ comma_texts ft xs) ++ rest) (items fs (x ∷ xs) ++ ts) m =
-        subst (λ (us : List Token). StartsWith ((ft x ++ comma_texts ft xs) ++ rest) us m) (sym (append_assoc (fs x) (commas fs xs) ts)) b
-        in
+    subst (λ (us : List Token). StartsWith ((ft x ++ comma_texts ft xs) ++ rest) us m) (sym (append_assoc (fs x) (commas fs xs) ts)) b
+    in
     subst (λ (u : List ℕ). StartsWith (u ++ rest) (items fs (x ∷ xs) ++ ts) m) (sym (listed_items ft x xs)) c
 
 -- items in brackets
@@ -106,10 +111,12 @@ brackets_read : {A : Type 0} (ft : A → List ℕ) (fs : A → List Token) (P : 
 brackets_read ft fs P one t xs rest ts m h lead s more =
     let k = items_read ft fs P one xs (41 ∷ rest) (Close ∷ ts) m h.0 h.1 refl (refl, more) in
     let text : (listed (map ft xs) ++ 41 ∷ []) ++ rest ≡ listed (map ft xs) ++ 41 ∷ rest =
-        append_assoc (listed (map ft xs)) (41 ∷ []) rest in
-    let tokens : (items fs xs ++ Close ∷ []) ++ ts ≡ items fs xs ++ Close ∷ ts = append_assoc (items fs xs) (Close ∷ []) ts in
-    (ap token_at lead, subst (λ (u : List ℕ). StartsWith u ((items fs xs ++ Close ∷ []) ++ ts) m) (sym (ap behind_token lead ∙ text))
-        (subst (λ (us : List Token). StartsWith (listed (map ft xs) ++ 41 ∷ rest) us m) (sym tokens) k))
+    append_assoc (listed (map ft xs)) (41 ∷ []) rest in
+    let tokens : (items fs xs ++ Close ∷ []) ++ ts ≡ items fs xs ++ Close ∷ ts = append_assoc (items fs xs) (Close ∷ []) ts in (
+      ap token_at lead,
+      subst (λ (u : List ℕ). StartsWith u ((items fs xs ++ Close ∷ []) ++ ts) m) (sym (ap behind_token lead ∙ text))
+          (subst (λ (us : List Token). StartsWith (listed (map ft xs) ++ 41 ∷ rest) us m) (sym tokens) k),
+    )
 
 list_read : IsRead list_text list (AreGood IsInReach)
 list_read = brackets_read place_text position IsInReach place_read
@@ -140,15 +147,30 @@ pub written_read : (g : Geometry) → IsFull g → IsInGrid g → IsWkt (written
 written_read (APoint p) full h =
     let text = signed_decimal p.x ++ 32 ∷ (signed_decimal p.y ++ 41 ∷ []) in
     let lead : Leads text (place_text p ++ 41 ∷ []) =
-        ap skip_blanks (sym (append_assoc (signed_decimal p.x) (32 ∷ signed_decimal p.y) (41 ∷ []))) in
+    ap skip_blanks (sym (append_assoc (signed_decimal p.x) (32 ∷ signed_decimal p.y) (41 ∷ []))) in
     (full, (refl, (refl, place_read text p (41 ∷ []) (Close ∷ End ∷ []) [] h lead refl (refl, (refl, refl)))))
 written_read (ALine ps) full h = (full, (refl, whole list_text list (AreGood IsInReach) list_read (32 ∷ list_text ps) ps (h, full) refl))
-written_read (Lines pss) full h =
-    (full, (refl, whole lists_text lists (AreGood (AreGood IsInReach)) lists_read (32 ∷ lists_text pss) pss
-    (good_lists pss h full.1, full.0) refl))
-written_read (APolygon rings) full h =
-    (full, (refl, whole lists_text lists (AreGood (AreGood IsInReach)) lists_read (32 ∷ lists_text rings) rings
-    (good_lists rings h full.1, full.0) refl))
-written_read (Polygons parts) full h =
-    (full, (refl, whole (brackets_text lists_text) (in_brackets lists) (AreGood (AreGood (AreGood IsInReach))) parts_read
-    (32 ∷ brackets_text lists_text parts) parts (good_parts parts h full.1, full.0) refl))
+written_read (Lines pss) full h = (
+  full,
+  (
+    refl,
+    whole lists_text lists (AreGood (AreGood IsInReach)) lists_read (32 ∷ lists_text pss) pss
+        (good_lists pss h full.1, full.0) refl,
+  ),
+)
+written_read (APolygon rings) full h = (
+  full,
+  (
+    refl,
+    whole lists_text lists (AreGood (AreGood IsInReach)) lists_read (32 ∷ lists_text rings) rings
+        (good_lists rings h full.1, full.0) refl,
+  ),
+)
+written_read (Polygons parts) full h = (
+  full,
+  (
+    refl,
+    whole (brackets_text lists_text) (in_brackets lists) (AreGood (AreGood (AreGood IsInReach))) parts_read
+        (32 ∷ brackets_text lists_text parts) parts (good_parts parts h full.1, full.0) refl,
+  ),
+)

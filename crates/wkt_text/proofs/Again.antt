@@ -50,7 +50,7 @@ opened_same : (p : Place) (ps : List Place) → IsRing kind.Polygon (p ∷ ps) �
 opened_same p ps h =
     let at : length (p ∷ ps) - 1 ≡ length ps = omega arith in
     let last : last_of p ps ≡ get_or (p ∷ ps) (length (p ∷ ps) - 1) (last_of p ps) =
-        last_at p ps (last_of p ps) ∙ ap (λ k. get_or (p ∷ ps) k (last_of p ps)) (sym at) in
+    last_at p ps (last_of p ps) ∙ ap (λ k. get_or (p ∷ ps) k (last_of p ps)) (sym at) in
     sym (open_end (p ∷ ps) (last_of p ps) p (omega (arith, h.0)) last refl (last_unlike p ps p h.1))
 
 -- a ring that is closed is the ring again
@@ -149,7 +149,7 @@ line_again parts h =
     let rings = flat_map (λ part. part) parts in
     let m = line_parts parts h.parts h.rings in
     let back : shape_in (of_lines rings) ≡ shape_by kind.Line parts =
-        lines_shape rings ∙ (ap (shape_of kind.Line) m.back ∙ ap (shape_by kind.Line) m.kept_all) in
+    lines_shape rings ∙ (ap (shape_of kind.Line) m.back ∙ ap (shape_by kind.Line) m.kept_all) in
     record {
       geometry = of_lines rings;
       spelled =
@@ -231,7 +231,7 @@ polygon_again : (parts : List (List (List Place))) → IsShape (shape_by kind.Po
 polygon_again parts h =
     let each = in_each (IsRing kind.Polygon) parts h.rings in
     let back : shape_in (of_polygons parts) ≡ shape_by kind.Polygon parts =
-        polygons_shape parts ∙ ap (shape_by kind.Polygon) (parts_back parts each) in
+    polygons_shape parts ∙ ap (shape_by kind.Polygon) (parts_back parts each) in
     let reach = in_each (λ ring. Every IsInReach ring) parts (in_each IsInReach (flat_map (λ part. part) parts) h.in_reach) in
     record {
       geometry = of_polygons parts;

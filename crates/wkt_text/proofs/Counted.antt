@@ -91,7 +91,7 @@ vertices_are : (parts : List (List (List Place))) → length (all_vertices (all_
 vertices_are [] = refl
 vertices_are (pss ∷ parts) =
     length_joined (pss ++ all_rings parts)
-        ∙ (total-append pss (all_rings parts) ∙ ap (λ n. total length pss + n) (sym (length_joined (all_rings parts)) ∙ vertices_are parts))
+    ∙ (total-append pss (all_rings parts) ∙ ap (λ n. total length pss + n) (sym (length_joined (all_rings parts)) ∙ vertices_are parts))
   where
     total-append : (xs ys : List (List Place)) → total length (xs ++ ys) ≡ total length xs + total length ys
     total-append [] ys = omega arith
@@ -109,8 +109,10 @@ places-ge ps = omega (arith, list-ge ps)
 
 alone : (pss : List (List Place)) → Counts (map (λ ps. ps ∷ []) pss) (real (lists pss))
 alone pss =
-    record { of_rings = omega (arith, one_each pss, lists-ge (λ ps. 1) rings-ge pss);
-    of_vertices = omega (arith, all_each pss, lists-ge length places-ge pss) }
+    record {
+      of_rings = omega (arith, one_each pss, lists-ge (λ ps. 1) rings-ge pss);
+      of_vertices = omega (arith, all_each pss, lists-ge length places-ge pss);
+    }
   where
     one_each : (qss : List (List Place)) → rings (map (λ ps. ps ∷ []) qss) ≡ total (λ ps. 1) qss
     one_each [] = refl
@@ -129,13 +131,17 @@ counts (ALine ps) = record { of_rings = omega (arith, list-ge ps); of_vertices =
 counts (Lines pss) = record { of_rings = omega (arith, (alone pss).of_rings); of_vertices = omega (arith, (alone pss).of_vertices) }
 counts (APolygon pss) = record { of_rings = omega (arith, part_rings pss); of_vertices = omega (arith, lists-ge length places-ge pss) }
 counts (Polygons parts) =
-    record { of_rings = parts-ge length part_rings parts;
-    of_vertices = parts-ge (λ pss. total length pss) (lists-ge length places-ge) parts }
+    record {
+      of_rings = parts-ge length part_rings parts;
+      of_vertices = parts-ge (λ pss. total length pss) (lists-ge length places-ge) parts;
+    }
 
 pub countable_by : (parts : List (List (List Place))) (n : ℕ) → n < 2 ^ 32 → Counts parts n → IsCountable parts
 countable_by parts n small c =
-    record { rings = omega (arith, small, c.of_rings, length_joined parts);
-    vertices = omega (arith, small, c.of_vertices, vertices_are parts) }
+    record {
+      rings = omega (arith, small, c.of_rings, length_joined parts);
+      vertices = omega (arith, small, c.of_vertices, vertices_are parts);
+    }
 
 pub countable : (text : List ℕ) (g : Geometry) → length text ≤ 1048576 → IsWkt text g → IsCountable (parts_in g)
 countable text g short w =

@@ -59,7 +59,7 @@ part_left : (parts : List Part) (i : ℕ) (p : Part) → i < length parts → p 
 part_left parts i p below is =
     let next : i + 1 ≡ suc i = omega arith in
     rw next (ap (λ ps. all_rings (parts_of ps)) (drop-cons parts i p below)
-        ∙ ap (λ (v : Part). lists_of v.items ++ all_rings (parts_of (drop (suc i) parts))) (sym is))
+    ∙ ap (λ (v : Part). lists_of v.items ++ all_rings (parts_of (drop (suc i) parts))) (sym is))
 
 pub in_part : (from : ℕ) (parts : List Part) (i : ℕ) (p : Part) (o : Option ℕ) → i < length parts → p ≡ get_or parts i p → is_some o ≡ true
     → o ≡ first_open from (lists_of p.items) → first_open from (left parts i) ≡ o
@@ -79,8 +79,8 @@ pub counted : (parts : List Part) (i : ℕ) (p : Part) → i < length parts → 
     → length (left parts i) ≡ length p.items + length (left parts (i + 1))
 counted parts i p below is =
     ap length (part_left parts i p below is)
-        ∙ (length-append (lists_of p.items) (left parts (i + 1))
-        ∙ ap (λ n. n + length (left parts (i + 1))) (length-map p.items (λ list. list.items)))
+    ∙ (length-append (lists_of p.items) (left parts (i + 1))
+    ∙ ap (λ n. n + length (left parts (i + 1))) (length-map p.items (λ list. list.items)))
 
 -- ---- what the number says
 

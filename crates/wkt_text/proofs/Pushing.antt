@@ -109,7 +109,7 @@ pub commas_by : {A B : Type 0} (f : B → List ℕ) (g : A → B) (xs : List A) 
 commas_by f g xs i x v below is seen =
     let next : i + 1 ≡ suc i = omega arith in
     rw next (ap (λ vs. comma_texts f (map g vs)) (drop-cons xs i x below)
-        ∙ ap (λ w. comma ++ (f w ++ comma_texts f (map g (drop (suc i) xs)))) (sym (seen ∙ ap g is)))
+    ∙ ap (λ w. comma ++ (f w ++ comma_texts f (map g (drop (suc i) xs)))) (sym (seen ∙ ap g is)))
 
 -- the comma before an item was cut short, or the item was
 pub comma_cut : (old now new text left next : List ℕ) → left ≡ comma ++ next → Pushed old now text left → IsCut now new comma

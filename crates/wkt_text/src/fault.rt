@@ -5,8 +5,8 @@ ghost use Rattle.wkt_text.specs.Stops.{place_of, Refuses};
 ghost use Rattle.wkt_terms.specs.WktFaults.{IsWktFault};
 ghost use Rattle.wkt_text.specs.Faults.{IsShapeFault};
 
-use plane_terms::ShapeFault;
 use crate::stop::{Cause, TextFault};
+use plane_terms::ShapeFault;
 use wkt_terms::WktFault;
 
 /// A fault of the tokens.

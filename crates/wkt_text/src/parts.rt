@@ -9,11 +9,11 @@ ghost use Rattle.wkt_text.specs.Faults.{closed_rings, polygon_by, IsShapeFault, 
 
 use crate::closing::first_open;
 use crate::fault::shape_fault;
-use wkt_terms::WktFault;
+use crate::geometry::Geometry;
 use grid_plane::GridPoint;
 use shape::Shape;
 use std::alloc::Global;
-use crate::geometry::Geometry;
+use wkt_terms::WktFault;
 
 fn line_of(alloc: Global, parts: Vec<Vec<GridPoint>>) -> Result<Shape, WktFault>
     requires { IsCountable (lines_in parts.items) }

@@ -4,11 +4,11 @@ ghost use Rattle.wkt_terms.specs.Shapes.{IsShapeText};
 ghost use Rattle.wkt_terms.specs.WktFaults.{IsWktFault};
 
 use crate::fault::text_fault;
-use wkt_terms::WktFault;
 use crate::parts::shape_of;
+use crate::spelling::read_geometry;
 use shape::Shape;
 use std::alloc::Global;
-use crate::spelling::read_geometry;
+use wkt_terms::WktFault;
 
 fn read_shape(alloc: Global, text: &[u8]) -> Result<Shape, WktFault>
     requires { length text.now ≤ 1048576 }

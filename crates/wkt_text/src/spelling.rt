@@ -9,9 +9,9 @@ ghost use Rattle.wkt_laws.specs.Steps.{step};
 ghost use Rattle.wkt_text.specs.States.{geometry_of, state_of};
 ghost use Rattle.wkt_text.specs.Stops.{place_of, Refuses, HasStopped};
 
-use crate::stop::{Cause, Stop, TextFault};
 use crate::geometry::Geometry;
 use crate::state::{State, step};
+use crate::stop::{Cause, Stop, TextFault};
 use crate::token::{Token, next_token};
 use std::alloc::Global;
 use text_fields::skip_blanks;

@@ -7,8 +7,8 @@ ghost use Rattle.wkt_text.specs.Meanings.{token_meant};
 ghost use Rattle.shape.specs.Given.{rings_in as lists_of, polygons_in as parts_of};
 ghost use Rattle.wkt_text.specs.States.{Gives, IsNumberAt, group_of, owner_of, state_of};
 
-use crate::stop::{Cause, Stop};
 use crate::geometry::Geometry;
+use crate::stop::{Cause, Stop};
 use crate::token::{Token, Word};
 use grid_plane::GridPoint;
 use std::alloc::Global;

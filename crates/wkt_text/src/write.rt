@@ -3,12 +3,12 @@ ghost use Rattle.plane_terms.specs.Shape.{IsShape};
 ghost use Rattle.wkt_terms.specs.Shapes.{shape_text, IsShapeText};
 ghost use Rattle.wkt_text.specs.Appended.{Appends};
 
-use grid_plane::NoMemory;
-use shape::{Kind, Shape};
-use std::alloc::AllocError;
 use crate::lists::push_line;
 use crate::place::push_point;
 use crate::rings::push_polygon;
+use grid_plane::NoMemory;
+use shape::{Kind, Shape};
+use std::alloc::AllocError;
 
 fn push_shape(out: &mut Vec<u8>, shape: &Shape) -> Result<(), AllocError>
     ensures { Appends result out.old.items out.new.items (shape_text shape.now) × IsShape shape.now }

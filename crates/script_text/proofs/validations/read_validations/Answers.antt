@@ -7,7 +7,7 @@ pub returns-in_err-x0 : goal.returns-in_err-x0
 returns-in_err-x0 c =
     rw c.from_residual-in_err-x0.ensures
     (no_validation c.args.line.now c.in_ok-rest.rest.now c.in_ok-rest.ensures.1 (λ h. false≢true (c.if-is_only.ensures.1 h))
-        (λ r h. c.in_err-x0.ensures r h))
+    (λ r h. c.in_err-x0.ensures r h))
 
 pub returns : goal.returns
 returns c =

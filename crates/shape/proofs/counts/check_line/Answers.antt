@@ -22,4 +22,4 @@ returns-then-count-gt-MOST-clause-refused c = (
 pub returns-clause-full : goal.returns-clause-full
 returns-clause-full c =
     line_full c.args.parts.now c.count_vertices-count.result (sym c.is_empty.ensures ∙ c.if-is_empty.false) (sym c.first_short.ensures
-        ∙ c.in_default.is) c.count_vertices-count.ensures (omega (arith, c.if-count-gt-MOST.false))
+    ∙ c.in_default.is) c.count_vertices-count.ensures (omega (arith, c.if-count-gt-MOST.false))

@@ -11,8 +11,8 @@ use Rattle.shape.proofs.envelope.box_of_line.Goals as goal
 pub returns-clause-value : goal.returns-clause-value
 returns-clause-value c =
     line_box c.args.parts.now c.index-parts-0.result c.index.result.now c.widen_by_rings.result c.requires c.index-parts-0.is
-        c.index.ensures (c.widen_by_rings.ensures.value
-        ∙ ap (λ (r : Rectangle). box_from r (all_vertices (rings_in c.args.parts.now))) c.round.ensures.value)
+    c.index.ensures (c.widen_by_rings.ensures.value
+    ∙ ap (λ (r : Rectangle). box_from r (all_vertices (rings_in c.args.parts.now))) c.round.ensures.value)
 
 pub returns-clause-reach : goal.returns-clause-reach
 returns-clause-reach c =

@@ -8,5 +8,5 @@ use Rattle.shape.proofs.envelope.box_of_polygon.Goals as goal
 pub returns-clause-value : goal.returns-clause-value
 returns-clause-value c =
     polygon_box c.args.parts.now c.index-parts-0.result c.index.result.now c.index-2.result.now c.widen_by_parts.result c.requires
-        c.index-parts-0.is c.index.ensures c.index-2.ensures (c.widen_by_parts.ensures.value
-        ∙ ap (λ (r : Rectangle). box_from r (all_vertices (all_rings (polygons_in c.args.parts.now)))) c.round.ensures.value)
+    c.index-parts-0.is c.index.ensures c.index-2.ensures (c.widen_by_parts.ensures.value
+    ∙ ap (λ (r : Rectangle). box_from r (all_vertices (all_rings (polygons_in c.args.parts.now)))) c.round.ensures.value)

@@ -8,7 +8,7 @@ use Rattle.shape.proofs.sweep.check_pairs.Goals as goal
 pub returns-in_default-clause-simple : goal.returns-in_default-clause-simple
 returns-in_default-clause-simple c =
     all_simple c.args.segs.now c.in_ok-i.ensures.proper
-        (subst (λ (best : Option Pair). IsFirstBad c.args.segs.now best) c.in_default.is c.in_ok-i.ensures.first)
+    (subst (λ (best : Option Pair). IsFirstBad c.args.segs.now best) c.in_default.is c.in_ok-i.ensures.first)
 
 pub bounds-segs-i : goal.bounds-segs-i
 bounds-segs-i c =
@@ -24,7 +24,7 @@ pub returns-in-Along-clause-refused : goal.returns-in-Along-clause-refused
 returns-in-Along-clause-refused c =
     let f = subst (λ (best : Option Pair). IsFirstBad c.args.segs.now best) c.in-Some.is c.in_ok-i.ensures.first in
     along_first c.args.segs.now c.in-Some.field-0.i c.in-Some.field-0.j c.index-segs-i.result c.index-segs-j.result f c.index-segs-i.is
-        c.index-segs-j.is (c.shares.ensures.along.0 c.in-Along.is)
+    c.index-segs-j.is (c.shares.ensures.along.0 c.in-Along.is)
 
 pub returns-in_default-shares : goal.returns-in_default-shares
 returns-in_default-shares c =

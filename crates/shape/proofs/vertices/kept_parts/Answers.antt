@@ -9,7 +9,7 @@ use Rattle.shape.proofs.vertices.kept_parts.Goals as goal
 pub returns : goal.returns
 returns c =
     let same =
-        lengths (λ (r : Ring). r.items) (ring_by kind.Line) c.keep_parts.new.parts c.deref_mut.result.now c.args.parts.items
-        c.keep_parts.ensures c.deref_mut.ensures.value in
+    lengths (λ (r : Ring). r.items) (ring_by kind.Line) c.keep_parts.new.parts c.deref_mut.result.now c.args.parts.items
+    c.keep_parts.ensures c.deref_mut.ensures.value in
     ap rings_in (written c.args.parts.len c.keep_parts.new.parts c.args.parts.items same (omega (arith, c.args.parts.ok)))
-        ∙ c.keep_parts.ensures ∙ ap (λ (rs : List Ring). rings_by kind.Line (rings_in rs)) c.deref_mut.ensures.value
+    ∙ c.keep_parts.ensures ∙ ap (λ (rs : List Ring). rings_by kind.Line (rings_in rs)) c.deref_mut.ensures.value

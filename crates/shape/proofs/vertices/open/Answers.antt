@@ -16,7 +16,7 @@ loop-ring-preserved c =
     let e = c.pop.ensures.items ∙ ap (λ (o : Option Place). c.pop.new.self.items ++ option_to_list o) (c.pop.ensures.value a some) in
     let same = at_place {i = vec_len c.loop-ring.ring - 1} {j = length xs - 1} xs a (omega (arith, c.loop-ring.ring.ok)) in
     open_step xs c.pop.new.self.items (get_or xs (length xs - 1) a) a b (e ∙ ap (λ (x : Place). c.pop.new.self.items ++ x ∷ []) same) long
-        (c.index.ensures ∙ last) c.index-in-loop-ring.ensures (sym c.eq.ensures ∙ c.if-eq.true) ∙ c.loop-ring.invariant
+    (c.index.ensures ∙ last) c.index-in-loop-ring.ensures (sym c.eq.ensures ∙ c.if-eq.true) ∙ c.loop-ring.invariant
 
 pub returns-else-eq : goal.returns-else-eq
 returns-else-eq c =

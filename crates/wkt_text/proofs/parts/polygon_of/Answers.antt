@@ -15,6 +15,6 @@ returns-in-Some c =
 pub returns : goal.returns
 returns c =
     polygon_from (parts_of c.args.parts.items) c.closed_polygon.result
-        (none_open (all_rings (parts_of c.args.parts.items))
-        (ap (λ (ps : List (Vec Ring Global)). first_open 0 (all_rings (parts_of ps))) (sym c.deref.ensures.value)
-        ∙ sym c.in_default.ensures)) c.closed_polygon.ensures
+    (none_open (all_rings (parts_of c.args.parts.items))
+    (ap (λ (ps : List (Vec Ring Global)). first_open 0 (all_rings (parts_of ps))) (sym c.deref.ensures.value)
+    ∙ sym c.in_default.ensures)) c.closed_polygon.ensures

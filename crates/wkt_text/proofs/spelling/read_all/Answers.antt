@@ -13,8 +13,8 @@ pub returns-in_err-next : goal.returns-in_err-next
 returns-in_err-next c =
     let p = err_from_is_err_and c.from_residual.result c.from_residual.ensures.1 in
     rw (p.1, p.2)
-        (refuses c.args.text.now c.loop-rest.rest.now (state_of c.loop-rest.state) (place_of c.in_err-next.field-0.0)
-        c.loop-rest.invariant.read c.in_err-next.ensures)
+    (refuses c.args.text.now c.loop-rest.rest.now (state_of c.loop-rest.state) (place_of c.in_err-next.field-0.0)
+    c.loop-rest.invariant.read c.in_err-next.ensures)
 
 pub loop-rest-smaller : goal.loop-rest-smaller
 loop-rest-smaller c = shorter c.loop-rest.rest.now c.in_ok-next.behind.now (grind arith) c.in_ok-next.ensures.1

@@ -16,11 +16,11 @@ end-requires-clause-long c =
 pub end-requires-clause-within : goal.end-requires-clause-within
 end-requires-clause-within c =
     let same = held_ends c.in-Line.line.parts.items ∙ ap (λ (f : Form). ends_of (shape_in f)) (sym c.in-Line.is)
-        ∙ ap ends_of c.self.view_is in
+    ∙ ap ends_of c.self.view_is in
     omega (arith, c.requires, ap (λ (qs : List Place). length qs) same)
 
 pub returns-in-Line : goal.returns-in-Line
 returns-in-Line c =
     let same = held_ends c.in-Line.line.parts.items ∙ ap (λ (f : Form). ends_of (shape_in f)) (sym c.in-Line.is)
-        ∙ ap ends_of c.self.view_is in
+    ∙ ap ends_of c.self.view_is in
     ap (λ (qs : List Place). slice_get qs c.args.i) (sym same) ∙ c.end.ensures

@@ -11,5 +11,5 @@ returns-in-Line c =
     let ps = c.in-Line.line.parts.items in
     let d : IsFormed (form.Line c.in-Line.line) = subst (λ (f : Form). IsFormed f) c.in-Line.is c.self.invariant in
     let same =
-        ap (λ (f : Form). length (ends_of (shape_in f))) (sym c.in-Line.is) ∙ ap (λ (s : Shape). length (ends_of s)) c.self.view_is in
+    ap (λ (f : Form). length (ends_of (shape_in f))) (sym c.in-Line.is) ∙ ap (λ (s : Shape). length (ends_of s)) c.self.view_is in
     held_long ps c.len.result d.valid (omega (arith, c.len.ensures, c.in-Line.line.parts.ok)) ∙ same
