@@ -1,5 +1,5 @@
 -- What a call of the topology answers is what the command is answered.
-use Rattle.std.proofs.Common.{◌≡◌, ◌+◌, ℕ, true, false, List, length, Option, Some, None, ap, ◌∙◌}
+use Rattle.std.proofs.Common.{◌≡◌, ◌+◌, ℕ, true, false, List, length, Option, Some, None, ap, subst, ◌∙◌}
 use Rattle.std.specs.Prelude.{Result, Ok, Err, IfOk, OnOk, IfErr, OnErr, IsSomeAnd, MatchResult}
 use Rattle.plane_terms.specs.Shape.{Shape}
 use Rattle.plane_terms.specs.declared.kind.Kind.{Kind}
@@ -99,3 +99,12 @@ rule_replied s t k origin dest row (Ok n) (Ok r) built there is same ok may err 
     rw (said t.project) (rule_added s t k origin dest n built there (rw is at may) (rw is at ok) same)
 rule_replied s t k origin dest row (Err e) (Ok r) built there is same ok may err kept said =
     rule_refused s t k origin dest (row_cause e) (said_of t.project r) built there (rw is at err) (said_at (row_cause e) t.project r said) (same_state s t kept same)
+
+-- the same of the state as it is seen
+pub rule_replied_to : {E : Type 0} (q s t : State) (k : RuleKind) (origin : List ℕ) (dest : Option (List ℕ)) (row : Row) (added : Result ℕ RuleFault) (reply : Result Reply E)
+    → s ≡ q → is_built k ≡ true → is_nowhere s.project dest ≡ false → row ≡ row_of s.project k origin dest → t.editor ≡ s.editor
+    → IfOk added (λ n. IsRuleAdded n row s.project t.project) → OnOk added (rule_cause s.project row ≡ None)
+    → IfErr added (λ e. Tells (row_cause e) (rule_cause s.project row)) → OnErr added (t.project ≡ s.project)
+    → IfOk reply (Says row_cause added (λ n r. (p : Project) → said_of p r ≡ Number n)) → IfOk reply (λ r. Answers q (Rule k origin dest) (said_of t.project r) t)
+rule_replied_to q s t k origin dest row added reply seen built there is same ok may err kept said =
+    subst (λ (x : State). IfOk reply (λ r. Answers x (Rule k origin dest) (said_of t.project r) t)) seen (rule_replied s t k origin dest row added reply built there is same ok may err kept said)
