@@ -1,0 +1,4 @@
+pub mod Grounds
+pub mod Moves
+pub mod Faults
+pub mod SessionsCalls
