@@ -13,11 +13,11 @@ pub each_still : (may can : ℕ → Option Feature → Type 0) (ts : List KeptSt
 each_still may can [] still m = tt
 each_still may can (t ∷ ts) still m = (still t.handle t.kept m.0, each_still may can ts still m.1)
 
-each_front : (may : ℕ → Option Feature → Type 0) (ts : List KeptStep) (t : KeptStep) → MayEach may (ts ++ t ∷ []) → MayEach may ts × may t.handle t.kept
+pub each_front : (may : ℕ → Option Feature → Type 0) (ts : List KeptStep) (t : KeptStep) → MayEach may (ts ++ t ∷ []) → MayEach may ts × may t.handle t.kept
 each_front may [] t m = (tt, m.0)
 each_front may (s ∷ ts) t m = let r = each_front may ts t m.1 in ((m.0, r.0), r.1)
 
-each_end : (may : ℕ → Option Feature → Type 0) (ts : List KeptStep) (t : KeptStep) → MayEach may ts → may t.handle t.kept → MayEach may (ts ++ t ∷ [])
+pub each_end : (may : ℕ → Option Feature → Type 0) (ts : List KeptStep) (t : KeptStep) → MayEach may ts → may t.handle t.kept → MayEach may (ts ++ t ∷ [])
 each_end may [] t m l = (l, tt)
 each_end may (s ∷ ts) t m l = (m.0, each_end may ts t m.1 l)
 

@@ -4,9 +4,10 @@
 -- IsRoomMade name old new      the sessions are as they were, but for room
 -- IsBegun name old new         a session of this name came, without steps
 -- IsNoted name t old new       the step is the last done one of the session of this name, and its undone ones went
--- AreUndone, AreRedone         the last done step of the session of this name was undone on the ground; its first undone one was done again
+-- IsUndone, IsRedone         the last done step of the session of this name was undone on the ground; its first undone one was done again
+-- IsStill same g h             the ground is as it was, or the same as it
 -- IsDiscarded, IsDiscardedInPart     its done steps were undone on the ground, the last one first, and it went; the last ones were, and it stays
-use Rattle.std.specs.Prelude.{◌≡◌, ◌<◌, ℕ, [], length, List, Option, Some, None}
+use Rattle.std.specs.Prelude.{◌≡◌, ◌⊎◌, ◌<◌, ℕ, [], length, List, Option, Some, None}
 use Rattle.topology_terms.specs.Feature.{Feature}
 use Rattle.session_terms.specs.Kept.{KeptStep, KeptSession}
 use Rattle.session_terms.specs.KeptChanges.{IsKeptNoted, IsSameButRoom, IsKeptChange, kept_named, with_kept_opened, without_kept}
@@ -49,6 +50,9 @@ pub record IsRedone {G : Type 0} (swapped : ℕ → Option Feature → Option Fe
   pub is : KeptSession
   pub change : IsKeptChange name was is old new
   pub redone : IsRedoneOn swapped was is g h
+
+abbrev pub IsStill : {G : Type 0} → (G → G → Type 0) → G → G → Type 0
+IsStill same g h = (h ≡ g) ⊎ same g h
 
 pub record IsDiscarded {G : Type 0} (swapped : ℕ → Option Feature → Option Feature → G → G → Type 0) (name : List ℕ) (old new : List KeptSession) (g h : G) : Type 0 where
   pub was : KeptSession

@@ -1,7 +1,7 @@
 ghost use Rattle.std.specs.Prelude.{◌≡◌, ◌≢◌, ◌≤◌, ℕ, List, [], length, is_some, None, Some, MatchOption, IfOk, IfErr, OnOk, OnErr};
 ghost use Rattle.session_terms.specs.KeptChanges.{kept_named, kept_holder, without_kept};
 ghost use Rattle.edit_session.specs.Faults.{HasRoom, IsBeginFault, IsEndFault, IsSessionFault, IsUndoFault, IsRedoFault};
-ghost use Rattle.edit_session.specs.SessionsCalls.{MayNamed, IsRoomMade, IsBegun, IsNoted, IsUndone, IsRedone, IsDiscarded, IsDiscardFault};
+ghost use Rattle.edit_session.specs.SessionsCalls.{MayNamed, IsStill, IsRoomMade, IsBegun, IsNoted, IsUndone, IsRedone, IsDiscarded, IsDiscardFault};
 
 use crate::fault::SessionFault;
 use crate::ground_of::Ground;
@@ -79,6 +79,7 @@ impl Sessions {
         ensures done { OnOk result (IsUndone G.swapped name.now self.old self.new ground.old ground.new) }
         ensures refused { IfErr result (IsUndoFault self.old name.now) }
         ensures kept { OnErr result (self.new ≡ self.old) }
+        ensures same { OnErr result (IsStill G.same ground.old ground.new) }
     {
         let Some(index) = index_of(&self.sessions, name) else {
             return Err(SessionFault::NoSession);
@@ -98,6 +99,7 @@ impl Sessions {
         ensures done { OnOk result (IsRedone G.swapped name.now self.old self.new ground.old ground.new) }
         ensures refused { IfErr result (IsRedoFault self.old name.now) }
         ensures kept { OnErr result (self.new ≡ self.old) }
+        ensures same { OnErr result (IsStill G.same ground.old ground.new) }
     {
         let Some(index) = index_of(&self.sessions, name) else {
             return Err(SessionFault::NoSession);
