@@ -1,24 +1,25 @@
 -- What a call of the sessions answers is what the line of a session is answered.
 use Rattle.std.proofs.Common.{◌≡◌, ◌≢◌, ◌<◌, ◌++◌, ℕ, Bool, true, false, List, [], ◌∷◌, length, Option, Some, None, refl, sym, ◌∙◌, ap, subst, inl, inr, arith, eqb, length-append}
 use Rattle.std.proofs.lemmas.Bool.Decides.{nat_tests}
-use Rattle.std.specs.Prelude.{Result, Ok, Err, IfOk, OnOk, IfErr, OnErr, IsSomeAnd, MatchResult, is_some, not}
+use Rattle.std.specs.Prelude.{Result, Ok, Err, IfOk, OnOk, IfErr, OnErr, IsSomeAnd, MatchResult, is_some, not, bytes_eq}
 use Rattle.topology_terms.specs.Causes.{when, first_of}
+use Rattle.topology_terms.specs.declared.cause.Cause.TheVariants.{NoFeature}
 use Rattle.topology_terms.specs.Feature.{Feature, feature_at}
 use Rattle.topology_terms.specs.Poster.{poster}
 use Rattle.topology_terms.specs.Project.{Project}
 use Rattle.topology_terms.specs.Session.{EditStep, Session, session_of}
-use Rattle.line_terms.specs.Commands.{Command, Begin, End, Discard, Undo, Redo}
+use Rattle.line_terms.specs.Commands.{Command, Begin, End, Discard, Delete, Undo, Redo}
 use Rattle.session_terms.specs.Kept.{KeptStep, KeptSession, seen_session, seen}
-use Rattle.session_terms.specs.KeptChanges.{kept_named, without_kept}
+use Rattle.session_terms.specs.KeptChanges.{kept_named, without_kept, kept_holder}
 use Rattle.edit_session.specs.Faults.{IsBeginFault, IsEndFault, IsUndoFault, IsRedoFault}
 use Rattle.edit_session.specs.SessionsCalls as calls
 use Rattle.edit_session.specs.declared.fault.SessionFault.{SessionFault}
 use Rattle.edit_session.specs.declared.fault.SessionFault.TheVariants as fault
-use Rattle.topology_ground.specs.Grounds.{IsGroundSwap}
+use Rattle.edit_session.specs.OverTopologies.{IsGroundSwap}
 use Rattle.script_terms.proofs.Bridges.{there_seen}
 use Rattle.script_terms.specs.Answer.{Answers, IsDone}
-use Rattle.script_terms.specs.Refusal.{Refusal, SessionOpen, SessionsFull, NoSession, NothingToUndo, NothingToRedo}
-use Rattle.script_terms.specs.Refusing.{refusal_of, steps_of}
+use Rattle.script_terms.specs.Refusal.{Refusal, Change, SessionOpen, SessionsFull, NoSession, HeldBy, NothingToUndo, NothingToRedo}
+use Rattle.script_terms.specs.Refusing.{refusal_of, steps_of, held_by}
 use Rattle.script_terms.specs.Reply.{Done, Refused}
 use Rattle.script_terms.specs.State.{State, is_open}
 use Rattle.reply_text.specs.Replies.{said_of}
@@ -26,7 +27,7 @@ use Rattle.reply_text.specs.declared.reply.Reply.{Reply}
 use Rattle.command_answers.specs.Refusals.{SaysRefusal, session_refusal}
 use Rattle.command_answers.specs.Worlds.{state_of, IsWorld}
 use Rattle.command_answers.proofs.Answering.{refused, done}
-use Rattle.command_answers.proofs.KeptLists.{open_seen, length_seen}
+use Rattle.command_answers.proofs.KeptLists.{open_seen, length_seen, holder_seen}
 use Rattle.command_answers.proofs.Sessions.{begin_done, begin_world, end_done, end_world, undo_done, undo_world, redo_done, redo_world, discard_done, discard_world, part_world}
 
 -- ---- why a line is refused
@@ -228,3 +229,28 @@ discard_kept p q ss ts name (Err fault.NothingToRedo) w ok err = absurd err
 pub left_after : {T : Type 0} (p : Project) (ss ts : List KeptSession) (called : Result T SessionFault) → OnErr called (ts ≡ ss) → OnErr called (state_of p ts ≡ state_of p ss)
 left_after p ss ts (Ok u) kept = tt
 left_after p ss ts (Err e) kept = ap (state_of p) kept
+
+-- ---- who holds a handle
+pub held_none : (o : Option (List ℕ)) (editor : List ℕ) → o ≡ None → held_by o editor ≡ None
+held_none o editor e = rw e refl
+
+pub held_own : (o : Option (List ℕ)) (name editor : List ℕ) → o ≡ Some name → bytes_eq name editor ≡ true → held_by o editor ≡ None
+held_own o name editor e t = rw (e, t) refl
+
+pub held_other : (o : Option (List ℕ)) (name editor : List ℕ) → o ≡ Some name → bytes_eq name editor ≡ false → held_by o editor ≡ Some (HeldBy name)
+held_other o name editor e t = rw (e, t) refl
+
+pub edit_absent : (p : Project) (ss : List KeptSession) (name : List ℕ) (h : ℕ) → is_open (state_of p ss) name ≡ true → feature_at p.features h ≡ None → refusal_of (state_of p ss) (Delete name h) ≡ Some (Change NoFeature)
+edit_absent p ss name h open none = rw (open, none) refl
+
+edit_by : (p : Project) (ss : List KeptSession) (name : List ℕ) (h : ℕ) (f : Feature) → is_open (state_of p ss) name ≡ true → feature_at p.features h ≡ Some f
+    → refusal_of (state_of p ss) (Delete name h) ≡ first_of (held_by (kept_holder ss h) name ∷ [])
+edit_by p ss name h f open live = rw (open, live, holder_seen (feature_at p.features) ss h) refl
+
+pub edit_free : (p : Project) (ss : List KeptSession) (name : List ℕ) (h : ℕ) (f : Feature) → is_open (state_of p ss) name ≡ true → feature_at p.features h ≡ Some f → held_by (kept_holder ss h) name ≡ None
+    → refusal_of (state_of p ss) (Delete name h) ≡ None
+edit_free p ss name h f open live none = edit_by p ss name h f open live ∙ ap (λ o. first_of (o ∷ [])) none
+
+pub edit_held : (p : Project) (ss : List KeptSession) (name : List ℕ) (h : ℕ) (f : Feature) (n : List ℕ) → is_open (state_of p ss) name ≡ true → feature_at p.features h ≡ Some f
+    → held_by (kept_holder ss h) name ≡ Some (HeldBy n) → refusal_of (state_of p ss) (Delete name h) ≡ Some (HeldBy n)
+edit_held p ss name h f n open live held = edit_by p ss name h f open live ∙ ap (λ o. first_of (o ∷ [])) held

@@ -21,9 +21,9 @@ use Rattle.edit_session.specs.Grounds.{IsMayStand, may_in}
 use Rattle.edit_session.specs.Moves.{MayAll, IsStepUndone, AreUndoneOn}
 use Rattle.edit_session.specs.SessionsCalls as calls
 use Rattle.edit_session.proofs.Moves.{may_same, may_undone, may_redone, each_still, each_end}
-use Rattle.topology_ground.specs.Grounds.{IsGroundSwap}
-use Rattle.topology_ground.specs.Grounds as grounds
-use Rattle.topology_ground.proofs.Undoing.{chain_sound, chain_settled}
+use Rattle.edit_session.specs.OverTopologies.{IsGroundSwap}
+use Rattle.edit_session.specs.OverTopologies as grounds
+use Rattle.edit_session.proofs.Undoing.{chain_sound, chain_settled}
 use Rattle.script_terms.specs.Answer.{IsBegun, IsEnded, IsUndone, IsRedone, IsDiscarded, AreTakenBack, IsNoted, LeavesNoted, set_step, added_step}
 use Rattle.script_terms.specs.Keeping.{IsKeeping}
 use Rattle.script_terms.specs.State.{State}

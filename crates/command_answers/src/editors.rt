@@ -4,6 +4,7 @@ ghost use Rattle.session_terms.specs.KeptChanges.{kept_holder};
 ghost use Rattle.script_terms.specs.Answer.{Answers};
 ghost use Rattle.script_terms.specs.Refusal as refusals;
 ghost use Rattle.script_terms.specs.Refusing.{held_by, refusal_of};
+ghost use Rattle.script_terms.specs.State.{is_open};
 ghost use Rattle.reply_text.specs.Replies.{said_of};
 ghost use Rattle.reply_text.specs.Replies as seen;
 
@@ -21,6 +22,7 @@ fn copy_of(name: &Name) -> Name
 }
 
 // The editor of another session, where one holds the handle.
+#[tactic(auto, using(crate::proofs::Editors::held_none, crate::proofs::Editors::held_own, crate::proofs::Editors::held_other))]
 fn other_holder(sessions: &Sessions, editor: &Name, handle: u32) -> Option<Name>
     ensures { MatchOption result (held_by (kept_holder sessions.now handle) editor.now ≡ None)
         (λ n. held_by (kept_holder sessions.now handle) editor.now ≡ Some (refusals.HeldBy n)) }
@@ -33,17 +35,26 @@ fn other_holder(sessions: &Sessions, editor: &Name, handle: u32) -> Option<Name>
 }
 
 impl World {
+    /// Whether the session of this editor is open.
+    #[tactic(auto, using(crate::proofs::KeptLists::open_seen))]
+    pub(crate) fn is_open(&self, editor: &Name) -> bool
+        ensures { result ≡ is_open self.now editor.now }
+    {
+        self.sessions.is_open(editor)
+    }
+
     // Why this editor does not change the feature, whatever the change: no session, no feature, or another session holds it.
+    #[tactic(auto, using(crate::proofs::Editors::edit_free, crate::proofs::Editors::edit_held, crate::proofs::Editors::edit_absent))]
     pub(crate) fn edit_refusal(&self, editor: &Name, handle: u32) -> Option<Refusal>
         ensures { MatchOption result (refusal_of self.now (Delete editor.now handle) ≡ None)
             (λ r. refusal_of self.now (Delete editor.now handle) ≡ Some (seen.refusal_of r)) }
     {
-        if !self.sessions.is_open(editor) {
+        if !self.is_open(editor) {
             return Some(Refusal::NoSession);
         }
-        if self.topology.store().get(handle).is_none() {
+        let Some(_) = self.topology.store().get(handle) else {
             return Some(Refusal::Change(Cause::NoFeature));
-        }
+        };
         let holder = other_holder(&self.sessions, editor, handle)?;
         Some(Refusal::HeldBy(holder))
     }

@@ -14,6 +14,7 @@ use topology_terms::Cause;
 
 impl World {
     /// `by EDITOR add CLASS SHAPE`
+    #[tactic(auto, using(crate::proofs::Replying::add_replied))]
     pub(crate) fn answer_add(
         &mut self,
         editor: &Name,
@@ -23,7 +24,7 @@ impl World {
         ensures answers { IfOk result (λ r. Answers self.old (Add editor.now class.now shape) (said_of self.new.project r) self.new) }
         ensures err { OnErr result (self.new ≡ self.old) }
     {
-        if !self.sessions.is_open(editor) {
+        if !self.is_open(editor) {
             return Ok(Reply::Refused(Refusal::NoSession));
         }
         let Some(class) = self.topology.store().class_by_name(class) else {
@@ -34,6 +35,7 @@ impl World {
     }
 
     /// `by EDITOR change H SHAPE`
+    #[tactic(auto, using(crate::proofs::Answering::change_stopped))]
     pub(crate) fn answer_change(
         &mut self,
         editor: &Name,
@@ -52,6 +54,7 @@ impl World {
     }
 
     /// `by EDITOR delete H`
+    #[tactic(auto, using(crate::proofs::Answering::delete_stopped))]
     pub(crate) fn answer_delete(&mut self, editor: &Name, handle: u32) -> Result<Reply, NoMemory>
         ensures answers { IfOk result (λ r. Answers self.old (Delete editor.now handle) (said_of self.new.project r) self.new) }
         ensures err { OnErr result (self.new ≡ self.old) }

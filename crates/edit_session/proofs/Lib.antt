@@ -1,2 +1,3 @@
 pub mod Moves
 mod Places
+pub mod Undoing

@@ -6,7 +6,7 @@ use Rattle.topology_terms.specs.Settled.{IsSettledUnder}
 use Rattle.topology_terms.specs.Sound.{IsSoundUnder}
 use Rattle.session_terms.specs.Kept.{KeptStep, KeptSession}
 use Rattle.edit_session.specs.Moves.{AreUndoneOn}
-use Rattle.topology_ground.specs.Grounds.{IsGroundSwap}
+use Rattle.edit_session.specs.OverTopologies.{IsGroundSwap}
 
 pub chain_sound : (M : Meaning) (ts : List KeptStep) (s u : KeptSession) (p q : Project) → AreUndoneOn (IsGroundSwap M) ts s u p q → IsSoundUnder M p → IsSoundUnder M q
 chain_sound M [] s u p q c k = subst (IsSoundUnder M) (sym c.1) k

@@ -1,9 +1,9 @@
 ghost use Rattle.std.specs.Prelude.{◌≡◌};
 ghost use Rattle.topology_terms.specs.Feature.{feature_at};
 ghost use Rattle.edit_session.specs.Grounds.{IsMayStand};
-ghost use Rattle.topology_ground.specs.Grounds.{IsGroundSwap, may_again, may_still, same_live, same_may};
+ghost use Rattle.edit_session.specs.OverTopologies.{IsGroundSwap, may_again, may_still, same_live, same_may};
 
-use edit_session::Ground;
+use crate::ground_of::Ground;
 use grid_plane::NoMemory;
 use shape::Feature;
 use topo_core::{KindRules, Topology};
