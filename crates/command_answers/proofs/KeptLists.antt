@@ -73,7 +73,7 @@ with_twice (o ∷ ss) m u n = by (bytes_eq o.name m.name) refl (with_twice ss m 
   where
     by : (b : Bool) → bytes_eq o.name m.name ≡ b → with_kept (with_kept ss m) u ≡ with_kept ss u → with_kept (if b then m ∷ ss else o ∷ with_kept ss m) u ≡ with_kept (o ∷ ss) u
     by true k r = rw (n, own_name m.name, k) refl
-    by false k r = rw (n, k) (ap (λ xs. o ∷ xs) r)
+    by false k r = let q : bytes_eq o.name u.name ≡ false = ap (bytes_eq o.name) n ∙ k in rw q (ap (λ xs. o ∷ xs) r)
 
 -- the session itself changes nothing
 pub with_same : (ss : List KeptSession) (name : List ℕ) (s : KeptSession) → kept_named ss name ≡ Some s → with_kept ss s ≡ ss
@@ -83,8 +83,8 @@ with_same (o ∷ ss) name s e = by (bytes_eq o.name name) refl e (λ r. with_sam
     by : (b : Bool) → bytes_eq o.name name ≡ b → (if b then Some o else kept_named ss name) ≡ Some s → (kept_named ss name ≡ Some s → with_kept ss s ≡ ss) → with_kept (o ∷ ss) s ≡ o ∷ ss
     by true k e r = let same : o ≡ s = cc in rw (← same, own_name o.name) refl
     by false k e r =
-        let n : s.name ≡ name = name_of ss name s e in
-        rw (n, k) (ap (λ xs. o ∷ xs) (r e))
+        let q : bytes_eq o.name s.name ≡ false = ap (bytes_eq o.name) (name_of ss name s e) ∙ k in
+        rw q (ap (λ xs. o ∷ xs) (r e))
 
 -- ---- what is seen of them
 is_some_map : {A B : Type 0} (f : A → B) (o : Option A) → is_some (option_map f o) ≡ is_some o

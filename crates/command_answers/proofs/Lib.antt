@@ -3,7 +3,7 @@ pub mod KeptLists
 pub mod Sessions
 pub mod Noting
 pub mod Answering
-pub mod Editors
+pub mod SessionLines
 pub mod Headlines
 pub mod OneAnswer
 pub mod Replying

@@ -77,7 +77,7 @@ abbrev moved : State
 moved = record { project = wells (well 1 (pos 0) (pos 0) ∷ well 2 (pos 2) (pos 2) ∷ []) 3 d3; sessions = session ann (moved_step ∷ []) [] ∷ session bob [] [] ∷ [] }
 
 split_2 : (x : Feature) → x.handle ≡ 2 → (post : Option Feature) → IsSplit 2 (well 1 (pos 0) (pos 0) ∷ []) (Some x) []
-split_2 x own post = record { before = (omega arith, tt); own = own; above = tt }
+split_2 x own post = record { before = (omega arith, tt); own = own; after = tt }
 
 may_move : refusal_of both (Change ann 2 (point (pos 2) (pos 2))) ≡ None
 unfolding feature_at
@@ -86,8 +86,8 @@ may_move = refl
 ann_moves : IsDone both (Change ann 2 (point (pos 2) (pos 2))) Done moved
 unfolding feature_at add_dirt envelope_of
 ann_moves = (refl, record {
-  set = record { edit = record { features = set_between 2 (well 1 (pos 0) (pos 0) ∷ []) [] (Some (well 2 (pos 1) (pos 1))) (Some (well 2 (pos 2) (pos 2))) (split_2 (well 2 (pos 1) (pos 1)) refl None) (split_2 (well 2 (pos 2) (pos 2)) refl None); dirt = refl; classes = refl; rules = refl; entries = refl }; next = refl };
-  noted = (session ann [] [], record { there = refl; name = refl; sessions = refl });
+  project = record { edit = record { features = set_between 2 (well 1 (pos 0) (pos 0) ∷ []) [] (Some (well 2 (pos 1) (pos 1))) (Some (well 2 (pos 2) (pos 2))) (split_2 (well 2 (pos 1) (pos 1)) refl None) (split_2 (well 2 (pos 2) (pos 2)) refl None); dirt = refl; classes = refl; rules = refl; entries = refl }; next = refl };
+  noted = record { session = session ann [] []; change = record { there = refl; name = refl; sessions = refl } };
 })
 
 -- ---- by bob change 2 POINT (3 3)
@@ -114,9 +114,11 @@ may_add = refl
 bob_adds : IsDone moved (Add bob (codes "wells") (point (pos 4) (pos 4))) (Number 3) three
 unfolding feature_at add_dirt envelope_of
 bob_adds = (3, refl, record {
-  number = refl; absent = refl; next = refl;
-  edit = record { features = set_between 3 (well 1 (pos 0) (pos 0) ∷ well 2 (pos 2) (pos 2) ∷ []) [] None (Some (well 3 (pos 4) (pos 4))) (record { before = (omega arith, (omega arith, tt)); own = tt; above = tt }) (record { before = (omega arith, (omega arith, tt)); own = refl; above = tt }); dirt = refl; classes = refl; rules = refl; entries = refl };
-  noted = (session bob [] [], record { there = refl; name = refl; sessions = refl });
+  project = record {
+    number = refl; absent = refl; next = refl;
+    edit = record { features = set_between 3 (well 1 (pos 0) (pos 0) ∷ well 2 (pos 2) (pos 2) ∷ []) [] None (Some (well 3 (pos 4) (pos 4))) (record { before = (omega arith, (omega arith, tt)); own = tt; after = tt }) (record { before = (omega arith, (omega arith, tt)); own = refl; after = tt }); dirt = refl; classes = refl; rules = refl; entries = refl };
+  };
+  noted = record { session = session bob [] []; change = record { there = refl; name = refl; sessions = refl } };
 })
 
 -- ---- by ann undo: bob's well stays. What ann held stays held until ann edits again, or ends
@@ -130,7 +132,7 @@ ann_undoes = (refl, record {
   step = moved_step; was = session ann (moved_step ∷ []) []; is = session ann [] (moved_step ∷ []);
   session = record { there = refl; name = refl; sessions = refl };
   undone = record { name = refl; done = refl; undone = refl };
-  set = record { edit = record { features = set_between 2 (well 1 (pos 0) (pos 0) ∷ []) (well 3 (pos 4) (pos 4) ∷ []) (Some (well 2 (pos 2) (pos 2))) (Some (well 2 (pos 1) (pos 1))) (record { before = (omega arith, tt); own = refl; above = (omega arith, tt) }) (record { before = (omega arith, tt); own = refl; above = (omega arith, tt) }); dirt = refl; classes = refl; rules = refl; entries = refl }; next = refl };
+  set = record { edit = record { features = set_between 2 (well 1 (pos 0) (pos 0) ∷ []) (well 3 (pos 4) (pos 4) ∷ []) (Some (well 2 (pos 2) (pos 2))) (Some (well 2 (pos 1) (pos 1))) (record { before = (omega arith, tt); own = refl; after = (omega arith, tt) }) (record { before = (omega arith, tt); own = refl; after = (omega arith, tt) }); dirt = refl; classes = refl; rules = refl; entries = refl }; next = refl };
 })
 
 still_held : refusal_of ann_back (Change bob 2 (point (pos 3) (pos 3))) ≡ Some (HeldBy ann)
@@ -149,7 +151,7 @@ bob_undoes = (refl, record {
   step = third; was = session bob (third ∷ []) []; is = session bob [] (third ∷ []);
   session = record { there = refl; name = refl; sessions = refl };
   undone = record { name = refl; done = refl; undone = refl };
-  set = record { edit = record { features = set_between 3 (well 1 (pos 0) (pos 0) ∷ well 2 (pos 1) (pos 1) ∷ []) [] (Some (well 3 (pos 4) (pos 4))) None (record { before = (omega arith, (omega arith, tt)); own = refl; above = tt }) (record { before = (omega arith, (omega arith, tt)); own = tt; above = tt }); dirt = refl; classes = refl; rules = refl; entries = refl }; next = refl };
+  set = record { edit = record { features = set_between 3 (well 1 (pos 0) (pos 0) ∷ well 2 (pos 1) (pos 1) ∷ []) [] (Some (well 3 (pos 4) (pos 4))) None (record { before = (omega arith, (omega arith, tt)); own = refl; after = tt }) (record { before = (omega arith, (omega arith, tt)); own = tt; after = tt }); dirt = refl; classes = refl; rules = refl; entries = refl }; next = refl };
 })
 
 bob_has_none : refusal_of bob_back (Undo bob) ≡ Some NothingToUndo
@@ -161,7 +163,7 @@ bob_redoes = (refl, record {
   step = third; was = session bob [] (third ∷ []); is = session bob (third ∷ []) [];
   session = record { there = refl; name = refl; sessions = refl };
   undone = record { name = refl; done = refl; undone = refl };
-  set = record { edit = record { features = set_between 3 (well 1 (pos 0) (pos 0) ∷ well 2 (pos 1) (pos 1) ∷ []) [] None (Some (well 3 (pos 4) (pos 4))) (record { before = (omega arith, (omega arith, tt)); own = tt; above = tt }) (record { before = (omega arith, (omega arith, tt)); own = refl; above = tt }); dirt = refl; classes = refl; rules = refl; entries = refl }; next = refl };
+  set = record { edit = record { features = set_between 3 (well 1 (pos 0) (pos 0) ∷ well 2 (pos 1) (pos 1) ∷ []) [] None (Some (well 3 (pos 4) (pos 4))) (record { before = (omega arith, (omega arith, tt)); own = tt; after = tt }) (record { before = (omega arith, (omega arith, tt)); own = refl; after = tt }); dirt = refl; classes = refl; rules = refl; entries = refl }; next = refl };
 })
 
 listed : reply_text (FeatureList ann_back.project) ≡ codes "feature 1 wells POINT (0 0)" ++ 10 ∷ codes "feature 2 wells POINT (1 1)" ++ 10 ∷ codes "feature 3 wells POINT (4 4)" ++ 10 ∷ codes "total 3" ++ 10 ∷ []
@@ -219,7 +221,7 @@ returns = (refl, record {
   step = gone; was = session ann (gone ∷ []) []; is = session ann [] (gone ∷ []);
   session = record { there = refl; name = refl; sessions = refl };
   undone = record { name = refl; done = refl; undone = refl };
-  set = record { edit = record { features = set_between 1 [] (lot 2 (pos 5) (pos 15) ∷ []) None (Some (lot 1 (pos 0) (pos 10))) (record { before = tt; own = tt; above = (omega arith, tt) }) (record { before = tt; own = refl; above = (omega arith, tt) }); dirt = refl; classes = refl; rules = refl; entries = refl }; next = refl };
+  set = record { edit = record { features = set_between 1 [] (lot 2 (pos 5) (pos 15) ∷ []) None (Some (lot 1 (pos 0) (pos 10))) (record { before = tt; own = tt; after = (omega arith, tt) }) (record { before = tt; own = refl; after = (omega arith, tt) }); dirt = refl; classes = refl; rules = refl; entries = refl }; next = refl };
 })
 
 dirty_again : reply_text (DirtyList returned.project) ≡ codes "dirty 0 0 10 10" ++ 10 ∷ codes "total 1" ++ 10 ∷ []

@@ -12,7 +12,7 @@ use Rattle.topology_terms.specs.Settled.{IsSettled}
 use Rattle.topology_terms.specs.Sound.{IsSound}
 use Rattle.topology_terms.specs.Session.{EditStep, Session, session_of}
 use Rattle.feature_store.specs.Keeps.{IsOfClass, IsGiven}
-use Rattle.session_terms.specs.Kept.{KeptStep, KeptSession, done_of, seen_session, seen}
+use Rattle.session_terms.specs.Kept.{KeptStep, KeptSession, stood, done_of, seen_session, seen}
 use Rattle.session_terms.specs.KeptChanges.{IsSet, IsKeptUndone, IsKeptRedone, IsKeptNoted, IsSameButRoom, IsKeptChange, kept_named, with_kept, without_kept}
 use Rattle.session_terms.specs.Steps.{IsUndoneTo, with_opened, without, AreAllApart, IsAlone, HoldsNone}
 use Rattle.session_terms.proofs.Seen.{seen_opened, seen_without, all_seen}
@@ -171,7 +171,7 @@ chain_seen : (at : ℕ → Option Feature) (ts : List KeptStep) (s u : KeptSessi
     → seen (feature_at q.features) ss ≡ seen (feature_at p.features) ss
 chain_seen at [] s u p q ss c h = ap (λ (r : Project). seen (feature_at r.features) ss) c.1
 chain_seen at (t ∷ ts) s u p q ss c h =
-    let f = each_first _ (done_of at ts) (seen (feature_at p.features) ss) h in
+    let f = each_first (record { handle = t.handle; before = t.kept; after = stood at ts t.handle }) (done_of at ts) (seen (feature_at p.features) ss) h in
     let r = chain_seen at ts s c.0 p c.1 ss c.2 f.1 in
     let none = subst (λ xs. Every (λ (o : Session). HoldsNone o t.handle) xs) (sym r) f.0 in
     all_seen (feature_at c.1.features) (feature_at q.features) t.handle ss c.3.swap.set.edit.features.others none ∙ r

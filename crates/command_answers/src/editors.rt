@@ -22,7 +22,7 @@ fn copy_of(name: &Name) -> Name
 }
 
 // The editor of another session, where one holds the handle.
-#[tactic(auto, using(crate::proofs::Editors::held_none, crate::proofs::Editors::held_own, crate::proofs::Editors::held_other))]
+#[tactic(auto, using(crate::proofs::SessionLines::held_none, crate::proofs::SessionLines::held_own, crate::proofs::SessionLines::held_other))]
 fn other_holder(sessions: &Sessions, editor: &Name, handle: u32) -> Option<Name>
     ensures { MatchOption result (held_by (kept_holder sessions.now handle) editor.now ≡ None)
         (λ n. held_by (kept_holder sessions.now handle) editor.now ≡ Some (refusals.HeldBy n)) }
@@ -44,7 +44,7 @@ impl World {
     }
 
     // Why this editor does not change the feature, whatever the change: no session, no feature, or another session holds it.
-    #[tactic(auto, using(crate::proofs::Editors::edit_free, crate::proofs::Editors::edit_held, crate::proofs::Editors::edit_absent))]
+    #[tactic(auto, using(crate::proofs::SessionLines::edit_free, crate::proofs::SessionLines::edit_held, crate::proofs::SessionLines::edit_absent))]
     pub(crate) fn edit_refusal(&self, editor: &Name, handle: u32) -> Option<Refusal>
         ensures { MatchOption result (refusal_of self.now (Delete editor.now handle) ≡ None)
             (λ r. refusal_of self.now (Delete editor.now handle) ≡ Some (seen.refusal_of r)) }

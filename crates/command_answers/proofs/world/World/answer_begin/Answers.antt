@@ -1,4 +1,4 @@
-use Rattle.command_answers.proofs.Editors.{begin_replied, begin_kept, left_after}
+use Rattle.command_answers.proofs.SessionLines.{begin_replied, begin_kept, left_after}
 use Rattle.command_answers.proofs.Replying.{kept_by}
 use Rattle.command_answers.proofs.world.World.answer_begin.Goals as goal
 

@@ -1,7 +1,7 @@
 use Rattle.edit_session.specs.Moves.{MayAll}
 use Rattle.command_answers.proofs.KeptLists.{named_has}
 use Rattle.command_answers.proofs.Sessions.{May}
-use Rattle.command_answers.proofs.Editors.{discard_replied, discard_kept}
+use Rattle.command_answers.proofs.SessionLines.{discard_replied, discard_kept}
 use Rattle.command_answers.proofs.world.World.answer_discard.Goals as goal
 
 pub discard-requires : goal.discard-requires

@@ -1,4 +1,4 @@
-use Rattle.command_answers.proofs.Editors.{end_replied, end_kept, left_after}
+use Rattle.command_answers.proofs.SessionLines.{end_replied, end_kept, left_after}
 use Rattle.command_answers.proofs.Replying.{kept_by}
 use Rattle.command_answers.proofs.world.World.answer_end.Goals as goal
 

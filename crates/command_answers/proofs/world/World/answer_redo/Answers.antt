@@ -1,7 +1,7 @@
 use Rattle.edit_session.specs.Moves.{MayAll}
 use Rattle.command_answers.proofs.KeptLists.{named_has}
 use Rattle.command_answers.proofs.Sessions.{May}
-use Rattle.command_answers.proofs.Editors.{redo_replied, redo_kept, still_after}
+use Rattle.command_answers.proofs.SessionLines.{redo_replied, redo_kept, still_after}
 use Rattle.command_answers.proofs.Replying.{kept_by}
 use Rattle.command_answers.proofs.world.World.answer_redo.Goals as goal
 

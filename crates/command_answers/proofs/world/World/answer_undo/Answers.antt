@@ -1,7 +1,7 @@
 use Rattle.edit_session.specs.Moves.{MayAll}
 use Rattle.command_answers.proofs.KeptLists.{named_has}
 use Rattle.command_answers.proofs.Sessions.{May}
-use Rattle.command_answers.proofs.Editors.{undo_replied, undo_kept, still_after}
+use Rattle.command_answers.proofs.SessionLines.{undo_replied, undo_kept, still_after}
 use Rattle.command_answers.proofs.Replying.{kept_by}
 use Rattle.command_answers.proofs.world.World.answer_undo.Goals as goal
 
