@@ -1,13 +1,13 @@
 -- What is refused leaves the state, and what is done is the command's.
 use Rattle.std.proofs.Common.{◌≡◌, ◌⊎◌, inl, inr, ℕ, ◌+◌, ◌-◌, ◌≤◌, ◌<◌, ap, ◌∙◌, Bool, true, false, List, [], ◌∷◌, length, Option, Some, None, refl, arith}
-use Rattle.std.specs.Prelude.{min, max, IsSomeAnd}
+use Rattle.std.specs.Prelude.{min, max, not, IsSomeAnd}
 use Rattle.plane_terms.specs.Lists.{Every}
 use Rattle.plane_terms.specs.Rectangle.{Rectangle}
 use Rattle.plane_terms.specs.Shape.{Shape}
 use Rattle.plane_terms.specs.declared.kind.Kind.{Kind}
 use Rattle.rule_words.specs.declared.rule_kind.RuleKind.{RuleKind}
 use Rattle.topology_terms.specs.Changes.{IsClassAdded, IsFeatureAdded, IsFeatureSet, IsRuleAdded, IsRuleDropped, reshaped}
-use Rattle.topology_terms.specs.Causes.{Tells, first_of, class_cause, add_cause, change_cause, delete_cause, rule_cause, drop_cause}
+use Rattle.topology_terms.specs.Causes.{Tells, when, first_of, class_cause, add_cause, change_cause, delete_cause, rule_cause, drop_cause}
 use Rattle.topology_terms.specs.Feature.{Feature, feature_at}
 use Rattle.topology_terms.specs.Lookups.{class_number}
 use Rattle.topology_terms.specs.Poster.{poster}
@@ -24,7 +24,7 @@ use Rattle.line_terms.specs.Commands.{Command, Class, Rule, DropRule, Add, Chang
 use Rattle.script_terms.specs.Refusal.{Refusal, NoSession, Change}
 use Rattle.script_terms.specs.Reply.{Reply, Done, Number, Judged, Refused}
 use Rattle.script_terms.specs.State.{State, is_open}
-use Rattle.script_terms.specs.Refusing.{refusal_of, row_of, is_nowhere, changes}
+use Rattle.script_terms.specs.Refusing.{refusal_of, row_of, is_nowhere, changes, held}
 use Rattle.script_terms.specs.Answer.{Answers, IsDone, LeavesNoted, added_step, set_step}
 use Rattle.command_answers.proofs.Counts.{fewer_chosen, few_handles, few_judged}
 use Rattle.script_terms.proofs.Runs.{first_none, changes_none}
@@ -68,10 +68,10 @@ edit_stopped None None (Some x) d r e = e
 edit_stopped None None None d r e = cc
 
 change_refusal : (s : State) (editor : List ℕ) (h : ℕ) (shape : Shape) → refusal_of s (Delete editor h) ≡ None → refusal_of s (AChange editor h shape) ≡ changes (change_cause s.project.features h shape.kind)
-change_refusal s editor h shape may = edit_passed _ _ _ (changes (change_cause s.project.features h shape.kind)) may
+change_refusal s editor h shape may = edit_passed (when (not (is_open s editor)) NoSession) (changes (delete_cause s.project.features h)) (held s editor h) (changes (change_cause s.project.features h shape.kind)) may
 
 pub change_stopped : (s : State) (editor : List ℕ) (h : ℕ) (shape : Shape) (r : Refusal) → refusal_of s (Delete editor h) ≡ Some r → Answers s (AChange editor h shape) (Refused r) s
-change_stopped s editor h shape r e = refused s s (AChange editor h shape) (Refused r) r (edit_stopped _ _ _ (changes (change_cause s.project.features h shape.kind)) r e) refl refl
+change_stopped s editor h shape r e = refused s s (AChange editor h shape) (Refused r) r (edit_stopped (when (not (is_open s editor)) NoSession) (changes (delete_cause s.project.features h)) (held s editor h) (changes (change_cause s.project.features h shape.kind)) r e) refl refl
 
 pub delete_stopped : (s : State) (editor : List ℕ) (h : ℕ) (r : Refusal) → refusal_of s (Delete editor h) ≡ Some r → Answers s (Delete editor h) (Refused r) s
 delete_stopped s editor h r e = refused s s (Delete editor h) (Refused r) r e refl refl
@@ -129,7 +129,9 @@ change_refused s t editor h shape o reply free tells said same =
 
 -- a deletion that is not refused finds its feature
 deletes : (s : State) (editor : List ℕ) (h : ℕ) → refusal_of s (Delete editor h) ≡ None → delete_cause s.project.features h ≡ None
-deletes s editor h free = changes_none (delete_cause s.project.features h) (first_none (changes (delete_cause s.project.features h)) _ (first_none _ _ free).1).0
+deletes s editor h free =
+    let a = first_none (when (not (is_open s editor)) NoSession) (changes (delete_cause s.project.features h) ∷ held s editor h ∷ []) free in
+    changes_none (delete_cause s.project.features h) (first_none (changes (delete_cause s.project.features h)) (held s editor h ∷ []) a.1).0
 
 pub delete_refused : (s t : State) (editor : List ℕ) (h : ℕ) (o : Option Cause) (reply : Reply) → refusal_of s (Delete editor h) ≡ None
     → Tells o (delete_cause s.project.features h) → IsSomeAnd o (λ x. reply ≡ Refused (Change x)) → t ≡ s → Answers s (Delete editor h) reply t

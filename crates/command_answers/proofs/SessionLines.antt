@@ -241,16 +241,16 @@ pub held_other : (o : Option (List ℕ)) (name editor : List ℕ) → o ≡ Some
 held_other o name editor e t = rw (e, t) refl
 
 pub edit_absent : (p : Project) (ss : List KeptSession) (name : List ℕ) (h : ℕ) → is_open (state_of p ss) name ≡ true → feature_at p.features h ≡ None → refusal_of (state_of p ss) (Delete name h) ≡ Some (Change NoFeature)
-edit_absent p ss name h open none = rw (open, none) refl
+edit_absent p ss name h there none = rw (there, none) refl
 
 edit_by : (p : Project) (ss : List KeptSession) (name : List ℕ) (h : ℕ) (f : Feature) → is_open (state_of p ss) name ≡ true → feature_at p.features h ≡ Some f
     → refusal_of (state_of p ss) (Delete name h) ≡ first_of (held_by (kept_holder ss h) name ∷ [])
-edit_by p ss name h f open live = rw (open, live, holder_seen (feature_at p.features) ss h) refl
+edit_by p ss name h f there live = rw (there, live, holder_seen (feature_at p.features) ss h) refl
 
 pub edit_free : (p : Project) (ss : List KeptSession) (name : List ℕ) (h : ℕ) (f : Feature) → is_open (state_of p ss) name ≡ true → feature_at p.features h ≡ Some f → held_by (kept_holder ss h) name ≡ None
     → refusal_of (state_of p ss) (Delete name h) ≡ None
-edit_free p ss name h f open live none = edit_by p ss name h f open live ∙ ap (λ o. first_of (o ∷ [])) none
+edit_free p ss name h f there live none = edit_by p ss name h f there live ∙ ap (λ o. first_of (o ∷ [])) none
 
 pub edit_held : (p : Project) (ss : List KeptSession) (name : List ℕ) (h : ℕ) (f : Feature) (n : List ℕ) → is_open (state_of p ss) name ≡ true → feature_at p.features h ≡ Some f
     → held_by (kept_holder ss h) name ≡ Some (HeldBy n) → refusal_of (state_of p ss) (Delete name h) ≡ Some (HeldBy n)
-edit_held p ss name h f n open live held = edit_by p ss name h f open live ∙ ap (λ o. first_of (o ∷ [])) held
+edit_held p ss name h f n there live held = edit_by p ss name h f there live ∙ ap (λ o. first_of (o ∷ [])) held

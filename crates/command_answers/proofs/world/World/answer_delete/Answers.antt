@@ -10,6 +10,6 @@ pub returns-clause-err : goal.returns-clause-err
 returns-clause-err c =
     rw (← c.self.view_is) (kept_by _ c.delete_noted.result c.reply_to_change.result c.reply_to_change.ensures.spent (room_after c.self.inside.topology c.delete_noted.new.topology c.args.editor.now c.self.inside.sessions c.delete_noted.new.sessions c.delete_noted.result c.delete_noted.ensures.err c.delete_noted.ensures.room))
 
-pub invariant_of-self-2 : goal.invariant_of-self-2
-invariant_of-self-2 c =
+pub invariant_of-self : goal.invariant_of-self
+invariant_of-self c =
     set_kept c.self.inside.topology c.delete_noted.new.topology c.self.inside.sessions c.delete_noted.new.sessions c.args.editor.now c.args.handle None c.delete_noted.result c.topology_law.ensures.store c.self.invariant c.order_law.ensures (rw c.self.view_is c.in-None.ensures) c.delete_noted.ensures.ok c.delete_noted.ensures.noted c.delete_noted.ensures.live c.delete_noted.ensures.err c.delete_noted.ensures.room c.delete_noted.ensures.sound c.delete_noted.ensures.settled
