@@ -1,7 +1,7 @@
 """The commands of the documents with their outputs: blocks marked `console`, in which a line that begins with `$ ` is a command.
 
 The blocks of a page are one session, in an empty folder with links to the tools, the examples and the program as `./topo`. What a
-command writes, to both of its streams, is compared with the lines below it; a line `..` stands for any lines.
+command writes, to both of its streams, is compared with the lines below it, but for lines of progress; a line `..` stands for any lines.
 """
 from __future__ import annotations
 
@@ -14,6 +14,7 @@ import tempfile
 from typing import Iterator, NamedTuple
 
 LINKS = 'tools', 'examples'
+PROGRESS = re.compile('[0-9,]+ of [0-9,]+ features')
 NEEDS = {'ogr2ogr': 'gdal-bin', 'parallel': 'parallel'}
 
 
@@ -65,6 +66,6 @@ def wrong_commands(root: str, program: list[str], name: str, page: str) -> Itera
         prepare(folder, root, program)
         for command in commands:
             done = subprocess.run(['bash', '-c', command.text], cwd=folder, stdout=subprocess.PIPE, stderr=subprocess.STDOUT)
-            said = [line.rstrip() for line in done.stdout.decode('utf-8', 'replace').splitlines()]
+            said = [line.rstrip() for line in done.stdout.decode('utf-8', 'replace').splitlines() if not PROGRESS.fullmatch(line)]
             if not is_shown(said, [line.rstrip() for line in command.shown]):
                 yield '%s: `%s` writes %r' % (name, command.text, '\n'.join(said)[:600])

@@ -3,6 +3,7 @@ from __future__ import annotations
 
 import csv
 import os
+import re
 import sys
 import time
 from fractions import Fraction
@@ -125,7 +126,7 @@ class Report:
         self.shown[sort] = self.shown.get(sort, 0) + 1
         if sort == 'left out' or self.shown[sort] <= SHOWN:
             say('%s: %s' % (self.name(of, feature), text))
-        if sort != 'left out' and self.shown[sort] == SHOWN:
+        elif self.shown[sort] == SHOWN + 1:
             say('.. the rest of these are in the table alone (--table)')
 
     def row(self, of: Class, feature: Feature, handle: str, moved: str, note: str) -> None:
@@ -142,7 +143,7 @@ class Report:
         moved = moved_text(taken.moved)
         self.added += 1
         for note in taken.notes:
-            self.show(note.split()[-1], of, feature, note)
+            self.show(re.sub(r'\d+', 'N', note), of, feature, note)
         if taken.moved:
             self.moved, self.most = self.moved + 1, max(self.most, taken.moved)
             self.show('moved', of, feature, 'moved by %s at most' % moved)

@@ -66,7 +66,7 @@ class Maps(Case):
         """What the page says that it has drawn."""
         words = [BROWSER, '--headless', '--no-sandbox', '--disable-gpu', '--window-size=1200,800', '--user-data-dir=' + self.path('browser'),
                  '--dump-dom', 'file://' + self.path(page)]
-        done = subprocess.run(words, capture_output=True, timeout=60)
+        done = subprocess.run(words, capture_output=True, timeout=300)
         return re.search(r'data-drawn="([^"]*)"', done.stdout.decode())[1]
 
 

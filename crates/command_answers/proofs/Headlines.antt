@@ -1,20 +1,19 @@
 -- What every topology of the rules keeps is the invariant of a run's states; and with no dirt it is told exactly everywhere.
-use Rattle.std.proofs.Common.{◌≡◌, List, [], sym, subst}
-use Rattle.topology_terms.specs.Meaning.{Laws}
+use Rattle.std.proofs.Common.{◌≡◌, List, [], map, sym, subst, ap, ◌∙◌}
+use Rattle.topology_terms.specs.Meaning.{Meaning, Laws}
 use Rattle.topology_terms.specs.Poster.{poster}
-use Rattle.topology_terms.specs.Project.{Project}
+use Rattle.topology_terms.specs.Project.{Project, empty_project}
+use Rattle.topology_terms.specs.Scratch.{unmarked, IsFromScratch}
 use Rattle.topology_terms.specs.Settled.{IsSettled}
 use Rattle.topology_terms.specs.Sound.{IsSound}
 use Rattle.sound_laws.proofs.Scratch.{settled_scratch}
 use Rattle.sound_laws.proofs.Settling.{clean_points, clean_live, clean_whole}
-use Rattle.topo_core.specs.Kinds.{TakesKinds}
 use Rattle.topo_core.specs.Topologies.{IsTopology}
-use Rattle.topo_core.proofs.Whole.{valid}
 use Rattle.script_terms.specs.Headline.{Headline, Invariant, IsExact}
 use Rattle.script_terms.proofs.Runs.{empty_keeps}
-use Rattle.topology_terms.specs.Project.{empty_project}
 use Rattle.session_terms.specs.Kept.{KeptSession}
-use Rattle.command_answers.specs.Worlds.{IsWorld}
+use Rattle.command_answers.specs.Worlds.{state_of, IsWorld}
+use Rattle.script_terms.specs.State.{empty_state}
 
 headline : (p : Project) → IsTopology p → IsSound p → Headline p
 headline p t s = record {
@@ -29,16 +28,17 @@ headline p t s = record {
   by_key = t.order;
 }
 
-kinds : TakesKinds poster
-kinds = record { fits = λ row F fits. fits }
+-- the rules by their cuttings alone, whatever the features
+abbrev by_cuttings : Meaning
+by_cuttings = record { Fits = λ row F. Unit {0}; BrokenAt = poster.BrokenAt; BrokenWhole = poster.BrokenWhole; IsCutting = poster.IsCutting }
+
+scratch : (p : Project) → IsTopology p → IsSettled p → p.dirt ≡ [] → IsFromScratch poster p (map unmarked p.entries)
+scratch p t k clean =
+    let s = settled_scratch by_cuttings p (record { fits = λ n row e. tt; made = t.made }) (record { cut = k.cut; frames = k.frames }) t.order clean in
+    record { ascending = s.ascending; bare = s.bare; anew = s.anew }
 
 pub invariant : (p : Project) → IsTopology p → IsSound p → IsSettled p → Invariant p
-invariant p t s k = record {
-  sound = s;
-  settled = k;
-  headline = headline p t s;
-  scratch = λ clean. settled_scratch poster p (valid poster kinds p t) k t.order clean;
-}
+invariant p t s k = record { sound = s; settled = k; headline = headline p t s; scratch = scratch p t k }
 
 pub exact : (p : Project) → Laws poster → IsTopology p → IsSound p → p.dirt ≡ [] → IsExact p
 exact p L t s clean = record {
@@ -54,3 +54,6 @@ empty p ss e f sound settled = subst (λ xs. IsWorld p xs) (sym f) (by p (sym e)
     by q d s k =
         let P : Project → Type 0 = λ r. IsSound r → IsSettled r → IsWorld r [] in
         subst P d (λ x y. record { sound = x; settled = y; keeping = empty_keeps; may = tt }) s k
+
+pub empty_seen : (p : Project) (ss : List KeptSession) → p ≡ empty_project → ss ≡ [] → state_of p ss ≡ empty_state
+empty_seen p ss e f = ap (λ (q : Project). state_of q ss) e ∙ ap (state_of empty_project) f

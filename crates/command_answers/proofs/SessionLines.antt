@@ -103,7 +103,7 @@ some_done : (xs ys : List EditStep) (t : EditStep) → xs ≡ ys ++ t ∷ [] →
 some_done xs ys t e = let l : length (ys ++ t ∷ []) ≡ length xs = ap length (sym e) in grind (arith, nat_tests, l, length-append ys (t ∷ []))
 
 some_undone : (xs ys : List EditStep) (t : EditStep) → xs ≡ t ∷ ys → eqb (length xs) 0 ≡ false
-some_undone xs ys t e = rw e refl
+some_undone xs ys t e = let l : length (t ∷ ys) ≡ length xs = ap length (sym e) in grind (arith, nat_tests, l)
 
 undo_free : (p q : Project) (ss ts : List KeptSession) (name : List ℕ) → IsWorld p ss → calls.IsUndone (IsGroundSwap poster) name ss ts p q → refusal_of (state_of p ss) (Undo name) ≡ None
 undo_free p q ss ts name w d =

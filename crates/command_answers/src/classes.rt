@@ -8,11 +8,11 @@ ghost use Rattle.reply_text.specs.Replies.{said_of};
 use crate::refused::{reply_to_class, reply_to_rule};
 use crate::world::World;
 use grid_plane::{Name, NoMemory};
-use rule_set::is_built;
-use reply_text::{Refusal, Reply};
-use rule_words::{Kind, RuleKind};
-use rule_core::RuleRow;
 use line_terms::LineRefusal;
+use reply_text::{Refusal, Reply};
+use rule_core::RuleRow;
+use rule_set::is_built;
+use rule_words::{Kind, RuleKind};
 use topology_terms::Cause;
 
 /// What is answered to a command or a rule that is not built yet.
