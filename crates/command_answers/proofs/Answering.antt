@@ -1,13 +1,13 @@
 -- What is refused leaves the state, and what is done is the command's.
 use Rattle.std.proofs.Common.{◌≡◌, ◌⊎◌, inl, inr, ℕ, ◌+◌, ◌-◌, ◌≤◌, ◌<◌, ap, ◌∙◌, Bool, true, false, List, [], ◌∷◌, length, Option, Some, None, refl, arith}
-use Rattle.std.specs.Prelude.{min, max, IsSomeAnd}
+use Rattle.std.specs.Prelude.{min, max, not, IsSomeAnd}
 use Rattle.plane_terms.specs.Lists.{Every}
 use Rattle.plane_terms.specs.Rectangle.{Rectangle}
 use Rattle.plane_terms.specs.Shape.{Shape}
 use Rattle.plane_terms.specs.declared.kind.Kind.{Kind}
 use Rattle.rule_words.specs.declared.rule_kind.RuleKind.{RuleKind}
 use Rattle.topology_terms.specs.Changes.{IsClassAdded, IsFeatureAdded, IsFeatureSet, IsRuleAdded, IsRuleDropped, reshaped}
-use Rattle.topology_terms.specs.Causes.{Tells, first_of, class_cause, add_cause, change_cause, delete_cause, rule_cause, drop_cause}
+use Rattle.topology_terms.specs.Causes.{Tells, when, first_of, class_cause, add_cause, change_cause, delete_cause, rule_cause, drop_cause}
 use Rattle.topology_terms.specs.Feature.{Feature, feature_at}
 use Rattle.topology_terms.specs.Lookups.{class_number}
 use Rattle.topology_terms.specs.Poster.{poster}
@@ -24,9 +24,10 @@ use Rattle.line_terms.specs.Commands.{Command, Class, Rule, DropRule, Add, Chang
 use Rattle.script_terms.specs.Refusal.{Refusal, NoSession, Change}
 use Rattle.script_terms.specs.Reply.{Reply, Done, Number, Judged, Refused}
 use Rattle.script_terms.specs.State.{State, is_open}
-use Rattle.script_terms.specs.Refusing.{refusal_of, row_of, is_nowhere, changes}
-use Rattle.script_terms.specs.Answer.{Answers, IsDone}
+use Rattle.script_terms.specs.Refusing.{refusal_of, row_of, is_nowhere, changes, held}
+use Rattle.script_terms.specs.Answer.{Answers, IsDone, LeavesNoted, added_step, set_step}
 use Rattle.command_answers.proofs.Counts.{fewer_chosen, few_handles, few_judged}
+use Rattle.script_terms.proofs.Runs.{first_none, changes_none}
 
 pub refused : (s t : State) (c : Command) (reply : Reply) (r : Refusal) → refusal_of s c ≡ Some r → reply ≡ Refused r → t ≡ s → Answers s c reply t
 refused s t c reply r e said same = rw e (said, record { same = same })
@@ -52,11 +53,28 @@ add_refusal : (s : State) (editor class : List ℕ) (shape : Shape) (n : ℕ) �
     → refusal_of s (Add editor class shape) ≡ changes (add_cause s.project.classes s.project.next n shape.kind)
 add_refusal s editor class shape n opened named = rw (opened, named) (only (changes (add_cause s.project.classes s.project.next n shape.kind)))
 
-change_refusal : (s : State) (editor : List ℕ) (h : ℕ) (shape : Shape) → is_open s editor ≡ true → refusal_of s (AChange editor h shape) ≡ changes (change_cause s.project.features h shape.kind)
-change_refusal s editor h shape opened = rw opened (only (changes (change_cause s.project.features h shape.kind)))
+-- an edit is refused as a deletion is, and then for its own cause
+edit_passed : (a b c d : Option Refusal) → first_of (a ∷ b ∷ c ∷ []) ≡ None → first_of (a ∷ b ∷ c ∷ d ∷ []) ≡ d
+edit_passed (Some x) b c d e = cc
+edit_passed None (Some x) c d e = cc
+edit_passed None None (Some x) d e = cc
+edit_passed None None None None e = refl
+edit_passed None None None (Some x) e = refl
 
-delete_refusal : (s : State) (editor : List ℕ) (h : ℕ) → is_open s editor ≡ true → refusal_of s (Delete editor h) ≡ changes (delete_cause s.project.features h)
-delete_refusal s editor h opened = rw opened (only (changes (delete_cause s.project.features h)))
+edit_stopped : (a b c d : Option Refusal) (r : Refusal) → first_of (a ∷ b ∷ c ∷ []) ≡ Some r → first_of (a ∷ b ∷ c ∷ d ∷ []) ≡ Some r
+edit_stopped (Some x) b c d r e = e
+edit_stopped None (Some x) c d r e = e
+edit_stopped None None (Some x) d r e = e
+edit_stopped None None None d r e = cc
+
+change_refusal : (s : State) (editor : List ℕ) (h : ℕ) (shape : Shape) → refusal_of s (Delete editor h) ≡ None → refusal_of s (AChange editor h shape) ≡ changes (change_cause s.project.features h shape.kind)
+change_refusal s editor h shape may = edit_passed (when (not (is_open s editor)) NoSession) (changes (delete_cause s.project.features h)) (held s editor h) (changes (change_cause s.project.features h shape.kind)) may
+
+pub change_stopped : (s : State) (editor : List ℕ) (h : ℕ) (shape : Shape) (r : Refusal) → refusal_of s (Delete editor h) ≡ Some r → Answers s (AChange editor h shape) (Refused r) s
+change_stopped s editor h shape r e = refused s s (AChange editor h shape) (Refused r) r (edit_stopped (when (not (is_open s editor)) NoSession) (changes (delete_cause s.project.features h)) (held s editor h) (changes (change_cause s.project.features h shape.kind)) r e) refl refl
+
+pub delete_stopped : (s : State) (editor : List ℕ) (h : ℕ) (r : Refusal) → refusal_of s (Delete editor h) ≡ Some r → Answers s (Delete editor h) (Refused r) s
+delete_stopped s editor h r e = refused s s (Delete editor h) (Refused r) r e refl refl
 
 rule_refusal : (s : State) (k : RuleKind) (origin : List ℕ) (dest : Option (List ℕ)) → is_built k ≡ true → is_nowhere s.project dest ≡ false
     → refusal_of s (Rule k origin dest) ≡ changes (rule_cause s.project (row_of s.project k origin dest))
@@ -64,32 +82,31 @@ rule_refusal s k origin dest built there = rw (built, there) (only (changes (rul
 
 -- ---- what is done
 pub class_added : (s t : State) (name : List ℕ) (k : Kind) (n : ℕ) → class_cause s.project.classes name ≡ None → n ≡ length s.project.classes + 1
-    → IsClassAdded name k s.project t.project → t.editor ≡ s.editor → Answers s (Class name k) (Number n) t
-class_added s t name k n may number h same = did s t (Class name k) (Number n) (class_cause s.project.classes name) refl may (ap Number number, record { project = h; editor = same })
+    → IsClassAdded name k s.project t.project → t.sessions ≡ s.sessions → Answers s (Class name k) (Number n) t
+class_added s t name k n may number h same = did s t (Class name k) (Number n) (class_cause s.project.classes name) refl may (ap Number number, record { project = h; sessions = same })
 
 pub feature_added : (s t : State) (editor class : List ℕ) (shape : Shape) (n h : ℕ) → is_open s editor ≡ true → class_number s.project class ≡ Some n
-    → add_cause s.project.classes s.project.next n shape.kind ≡ None → IsFeatureAdded n shape h s.project t.project → t.editor ≡ s.editor
+    → add_cause s.project.classes s.project.next n shape.kind ≡ None → LeavesNoted editor (added_step h n shape) (IsFeatureAdded n shape h) s t
     → Answers s (Add editor class shape) (Number h) t
-feature_added s t editor class shape n h opened named may more same =
+feature_added s t editor class shape n h opened named may more =
     did s t (Add editor class shape) (Number h) (add_cause s.project.classes s.project.next n shape.kind) (add_refusal s editor class shape n opened named) may
-    (h, refl, rw named (record { project = more; editor = same }))
+    (h, refl, rw named more)
 
-pub feature_changed : (s t : State) (editor : List ℕ) (h : ℕ) (shape : Shape) → is_open s editor ≡ true → change_cause s.project.features h shape.kind ≡ None
-    → IsFeatureSet h (reshaped (feature_at s.project.features h) shape) s.project t.project → t.editor ≡ s.editor → Answers s (AChange editor h shape) Done t
-feature_changed s t editor h shape opened may k same =
-    did s t (AChange editor h shape) Done (change_cause s.project.features h shape.kind) (change_refusal s editor h shape opened) may (refl, record { project = k; editor = same })
+pub feature_changed : (s t : State) (editor : List ℕ) (h : ℕ) (shape : Shape) → refusal_of s (Delete editor h) ≡ None → change_cause s.project.features h shape.kind ≡ None
+    → (let after = reshaped (feature_at s.project.features h) shape in LeavesNoted editor (set_step s.project h after) (IsFeatureSet h after) s t) → Answers s (AChange editor h shape) Done t
+feature_changed s t editor h shape free may k =
+    did s t (AChange editor h shape) Done (change_cause s.project.features h shape.kind) (change_refusal s editor h shape free) may (refl, k)
 
-pub feature_deleted : (s t : State) (editor : List ℕ) (h : ℕ) → is_open s editor ≡ true → delete_cause s.project.features h ≡ None
-    → IsFeatureSet h None s.project t.project → t.editor ≡ s.editor → Answers s (Delete editor h) Done t
-feature_deleted s t editor h opened may k same =
-    did s t (Delete editor h) Done (delete_cause s.project.features h) (delete_refusal s editor h opened) may (refl, record { project = k; editor = same })
+pub feature_deleted : (s t : State) (editor : List ℕ) (h : ℕ) → refusal_of s (Delete editor h) ≡ None
+    → LeavesNoted editor (set_step s.project h None) (IsFeatureSet h None) s t → Answers s (Delete editor h) Done t
+feature_deleted s t editor h free k = done s t (Delete editor h) Done free (refl, k)
 
 pub rule_added : (s t : State) (k : RuleKind) (origin : List ℕ) (dest : Option (List ℕ)) (n : ℕ) → is_built k ≡ true → is_nowhere s.project dest ≡ false
-    → rule_cause s.project (row_of s.project k origin dest) ≡ None → IsRuleAdded n (row_of s.project k origin dest) s.project t.project → t.editor ≡ s.editor
+    → rule_cause s.project (row_of s.project k origin dest) ≡ None → IsRuleAdded n (row_of s.project k origin dest) s.project t.project → t.sessions ≡ s.sessions
     → Answers s (Rule k origin dest) (Number n) t
 rule_added s t k origin dest n built there may added same =
     did s t (Rule k origin dest) (Number n) (rule_cause s.project (row_of s.project k origin dest)) (rule_refusal s k origin dest built there) may
-    (n, refl, record { project = added; editor = same })
+    (n, refl, record { project = added; sessions = same })
 
 -- ---- what is refused
 pub class_refused : (s t : State) (name : List ℕ) (k : Kind) (o : Option Cause) (reply : Reply) → Tells o (class_cause s.project.classes name)
@@ -105,15 +122,21 @@ pub add_refused : (s t : State) (editor class : List ℕ) (shape : Shape) (n : �
 add_refused s t editor class shape n o reply opened named tells said same =
     told s t (Add editor class shape) reply o (add_cause s.project.classes s.project.next n shape.kind) (add_refusal s editor class shape n opened named) tells said same
 
-pub change_refused : (s t : State) (editor : List ℕ) (h : ℕ) (shape : Shape) (o : Option Cause) (reply : Reply) → is_open s editor ≡ true
+pub change_refused : (s t : State) (editor : List ℕ) (h : ℕ) (shape : Shape) (o : Option Cause) (reply : Reply) → refusal_of s (Delete editor h) ≡ None
     → Tells o (change_cause s.project.features h shape.kind) → IsSomeAnd o (λ x. reply ≡ Refused (Change x)) → t ≡ s → Answers s (AChange editor h shape) reply t
-change_refused s t editor h shape o reply opened tells said same =
-    told s t (AChange editor h shape) reply o (change_cause s.project.features h shape.kind) (change_refusal s editor h shape opened) tells said same
+change_refused s t editor h shape o reply free tells said same =
+    told s t (AChange editor h shape) reply o (change_cause s.project.features h shape.kind) (change_refusal s editor h shape free) tells said same
 
-pub delete_refused : (s t : State) (editor : List ℕ) (h : ℕ) (o : Option Cause) (reply : Reply) → is_open s editor ≡ true
+-- a deletion that is not refused finds its feature
+deletes : (s : State) (editor : List ℕ) (h : ℕ) → refusal_of s (Delete editor h) ≡ None → delete_cause s.project.features h ≡ None
+deletes s editor h free =
+    let a = first_none (when (not (is_open s editor)) NoSession) (changes (delete_cause s.project.features h) ∷ held s editor h ∷ []) free in
+    changes_none (delete_cause s.project.features h) (first_none (changes (delete_cause s.project.features h)) (held s editor h ∷ []) a.1).0
+
+pub delete_refused : (s t : State) (editor : List ℕ) (h : ℕ) (o : Option Cause) (reply : Reply) → refusal_of s (Delete editor h) ≡ None
     → Tells o (delete_cause s.project.features h) → IsSomeAnd o (λ x. reply ≡ Refused (Change x)) → t ≡ s → Answers s (Delete editor h) reply t
-delete_refused s t editor h o reply opened tells said same =
-    told s t (Delete editor h) reply o (delete_cause s.project.features h) (delete_refusal s editor h opened) tells said same
+delete_refused s t editor h None reply free tells said same = absurd said
+delete_refused s t editor h (Some x) reply free tells said same = let none = deletes s editor h free in absurd cc
 
 pub rule_refused : (s t : State) (k : RuleKind) (origin : List ℕ) (dest : Option (List ℕ)) (o : Option Cause) (reply : Reply) → is_built k ≡ true
     → is_nowhere s.project dest ≡ false → Tells o (rule_cause s.project (row_of s.project k origin dest))
@@ -121,8 +144,8 @@ pub rule_refused : (s t : State) (k : RuleKind) (origin : List ℕ) (dest : Opti
 rule_refused s t k origin dest o reply built there tells said same =
     told s t (Rule k origin dest) reply o (rule_cause s.project (row_of s.project k origin dest)) (rule_refusal s k origin dest built there) tells said same
 
-pub rule_dropped : (s t : State) (n : ℕ) → drop_cause s.project.rules n ≡ None → IsRuleDropped n s.project t.project → t.editor ≡ s.editor → Answers s (DropRule n) Done t
-rule_dropped s t n may dropped same = did s t (DropRule n) Done (drop_cause s.project.rules n) refl may (refl, record { project = dropped; editor = same })
+pub rule_dropped : (s t : State) (n : ℕ) → drop_cause s.project.rules n ≡ None → IsRuleDropped n s.project t.project → t.sessions ≡ s.sessions → Answers s (DropRule n) Done t
+rule_dropped s t n may dropped same = did s t (DropRule n) Done (drop_cause s.project.rules n) refl may (refl, record { project = dropped; sessions = same })
 
 pub no_rule : (s t : State) (n : ℕ) → drop_cause s.project.rules n ≡ Some cause.NoRule → t ≡ s → Answers s (DropRule n) (Refused (Change cause.NoRule)) t
 no_rule s t n none same = refused s t (DropRule n) (Refused (Change cause.NoRule)) (Change cause.NoRule) (ap changes none) refl same
@@ -150,7 +173,7 @@ handles_of next [] h = (tt, tt)
 handles_of next (f ∷ F) h = let rest = handles_of next F h.1 in ((h.0.from_1, rest.0), (h.0.before, rest.1))
 
 pub validated : (s t : State) (w : Rectangle) (judged errors dirty done_count : ℕ) → IsTopology s.project → s.project.next ≤ 4294967295 → IsValidatedBy poster w s.project t.project → IsCounted w s.project 0 done_count →
-    judged ≡ done_count - 0 → errors ≡ length t.project.entries → dirty ≡ length t.project.dirt → t.editor ≡ s.editor → Answers s (Validate w) (Judged judged errors dirty) t
+    judged ≡ done_count - 0 → errors ≡ length t.project.entries → dirty ≡ length t.project.dirt → t.sessions ≡ s.sessions → Answers s (Validate w) (Judged judged errors dirty) t
 validated s t w judged errors dirty count law next v counted j e d same =
     let F = s.project.features in
     let handles = handles_of s.project.next F law.store.given in
@@ -161,4 +184,4 @@ validated s t w judged errors dirty count law next v counted j e d same =
     let bound : judged_of s.project.rules counted.subjects ≤ 1099511627776 = (let r = law.few in omega (arith, most, r)) in
     let is : judged ≡ judged_of s.project.rules counted.subjects = (j ∙ (ap (λ n. n - 0) counted.count ∙ exact (judged_of s.project.rules counted.subjects) bound)) in
     done s t (Validate w) (Judged judged errors dirty) refl
-    (judged, errors, dirty, refl, record { project = record { validated = v; selected = counted.subjects; those = counted.those; judged_is = is; errors_is = e; dirty_is = d }; editor = same })
+    (judged, errors, dirty, refl, record { project = record { validated = v; selected = counted.subjects; those = counted.those; judged_is = is; errors_is = e; dirty_is = d }; sessions = same })

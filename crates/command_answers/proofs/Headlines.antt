@@ -1,8 +1,8 @@
 -- What every topology of the rules keeps is the invariant of a run's states; and with no dirt it is told exactly everywhere.
-use Rattle.std.proofs.Common.{◌≡◌, [], map}
+use Rattle.std.proofs.Common.{◌≡◌, List, [], map, sym, subst, ap, ◌∙◌}
 use Rattle.topology_terms.specs.Meaning.{Meaning, Laws}
 use Rattle.topology_terms.specs.Poster.{poster}
-use Rattle.topology_terms.specs.Project.{Project}
+use Rattle.topology_terms.specs.Project.{Project, empty_project}
 use Rattle.topology_terms.specs.Scratch.{unmarked, IsFromScratch}
 use Rattle.topology_terms.specs.Settled.{IsSettled}
 use Rattle.topology_terms.specs.Sound.{IsSound}
@@ -10,6 +10,10 @@ use Rattle.sound_laws.proofs.Scratch.{settled_scratch}
 use Rattle.sound_laws.proofs.Settling.{clean_points, clean_live, clean_whole}
 use Rattle.topo_core.specs.Topologies.{IsTopology}
 use Rattle.script_terms.specs.Headline.{Headline, Invariant, IsExact}
+use Rattle.script_terms.proofs.Runs.{empty_keeps}
+use Rattle.session_terms.specs.Kept.{KeptSession}
+use Rattle.command_answers.specs.Worlds.{state_of, IsWorld}
+use Rattle.script_terms.specs.State.{empty_state}
 
 headline : (p : Project) → IsTopology p → IsSound p → Headline p
 headline p t s = record {
@@ -42,3 +46,14 @@ exact p L t s clean = record {
   features = λ r row e a. clean_whole poster L p s clean r row e a;
   live = λ r a b x found. let row = t.made.ruled r a b x found in clean_live poster p s clean r row.0 row.1 a b x found;
 }
+
+pub empty : (p : Project) (ss : List KeptSession) → p ≡ empty_project → ss ≡ [] → IsSound p → IsSettled p → IsWorld p ss
+empty p ss e f sound settled = subst (λ xs. IsWorld p xs) (sym f) (by p (sym e) sound settled)
+  where
+    by : (q : Project) → empty_project ≡ q → IsSound q → IsSettled q → IsWorld q []
+    by q d s k =
+        let P : Project → Type 0 = λ r. IsSound r → IsSettled r → IsWorld r [] in
+        subst P d (λ x y. record { sound = x; settled = y; keeping = empty_keeps; may = tt }) s k
+
+pub empty_seen : (p : Project) (ss : List KeptSession) → p ≡ empty_project → ss ≡ [] → state_of p ss ≡ empty_state
+empty_seen p ss e f = ap (λ (q : Project). state_of q ss) e ∙ ap (state_of empty_project) f

@@ -1,5 +1,10 @@
 pub mod Counts
+pub mod KeptLists
+pub mod Sessions
+pub mod Noting
 pub mod Answering
+pub mod SessionLines
 pub mod Headlines
 pub mod OneAnswer
 pub mod Replying
+mod SessionRows

@@ -1,5 +1,5 @@
 -- A command has one reply, and leaves one state.
-use Rattle.std.proofs.Common.{◌≡◌, ◌≢◌, ◌↔◌, ◌⊎◌, inl, inr, ℕ, ◌<◌, ◌≤◌, Bool, true, false, List, [], ◌∷◌, length, Option, Some, None, refl, sym, ◌∙◌, ap, subst, arith}
+use Rattle.std.proofs.Common.{◌≡◌, ◌≢◌, ◌↔◌, ◌⊎◌, inl, inr, ℕ, ◌<◌, ◌≤◌, Bool, true, false, List, [], ◌∷◌, ◌++◌, length, Option, Some, None, refl, sym, ◌∙◌, ap, subst, arith}
 use Rattle.plane_terms.specs.Lists.{IsThose}
 use Rattle.plane_terms.specs.Rectangle.{Rectangle}
 use Rattle.topology_terms.specs.Broken.{Row}
@@ -9,10 +9,13 @@ use Rattle.topology_terms.specs.Entry.{Entry, entry_at}
 use Rattle.topology_terms.specs.Entry as entries
 use Rattle.topology_terms.specs.Feature.{Class as AClass, Feature, feature_at, IsSetAt}
 use Rattle.topology_terms.specs.Feature as features
+use Rattle.topology_terms.specs.Lookups.{class_number}
 use Rattle.topology_terms.specs.Meaning.{Finding, finding_at, CutsRight}
 use Rattle.topology_terms.specs.Poster.{poster}
 use Rattle.topology_terms.specs.Project.{Project, InForce, IsOrdered, AreAscending, by_number, rule_at}
 use Rattle.topology_terms.specs.Settled.{AreAlike, IsValidatedBy}
+use Rattle.topology_terms.specs.Session.{EditStep, Session, session_of, with_step}
+use Rattle.session_terms.specs.Steps.{with_session}
 use Rattle.sound_laws.proofs.FeatureLists.{same_features}
 use Rattle.sound_laws.proofs.Lists.{unmark, unmark_option, same_entries, entry_key}
 use Rattle.sound_laws.proofs.Edits.{same_or_not}
@@ -22,8 +25,9 @@ use Rattle.line_terms.specs.Commands.{Command, Blank, Class, Rule, DropRule, Beg
 use Rattle.script_terms.specs.Refusal.{Refusal}
 use Rattle.script_terms.specs.Reply.{Reply, Number, Judged, Refused}
 use Rattle.script_terms.specs.State.{State}
-use Rattle.script_terms.specs.Refusing.{refusal_of}
-use Rattle.script_terms.specs.Answer.{Answers, IsDone, IsSame, IsBegun, IsValidation, Leaves, answers_by}
+use Rattle.script_terms.proofs.Restoring.{taken_at}
+use Rattle.script_terms.specs.Refusing.{refusal_of, number_or_0}
+use Rattle.script_terms.specs.Answer.{Answers, IsDone, IsSame, IsBegun, IsNoted, IsUndone, IsRedone, IsDiscarded, AreTakenBack, IsValidation, Leaves, answers_by, added_step}
 
 -- the same reply, and the same state
 abbrev pub Same : Reply → State → Reply → State → Type 0
@@ -47,8 +51,8 @@ by_parts p q h =
     ∙ (ap (λ (x : List Rectangle). record { classes = q.classes; rules = q.rules; features = q.features; next = q.next; dirt = x; entries = p.entries }) h.dirt
     ∙ ap (λ (x : List Entry). record { classes = q.classes; rules = q.rules; features = q.features; next = q.next; dirt = q.dirt; entries = x }) h.entries))))
 
-same_state : (t u : State) → t.project ≡ u.project → t.editor ≡ u.editor → t ≡ u
-same_state t u p e = ap (λ (q : Project). record { project = q; editor = t.editor }) p ∙ ap (λ (o : Option (List ℕ)). record { project = u.project; editor = o }) e
+same_state : (t u : State) → t.project ≡ u.project → t.sessions ≡ u.sessions → t ≡ u
+same_state t u p e = ap (λ (q : Project). record { project = q; sessions = t.sessions }) p ∙ ap (λ (ss : List Session). record { project = u.project; sessions = ss }) e
 
 -- ---- the changes
 set_same : (h : ℕ) (after : Option Feature) (F G H : List Feature) → features.IsAscending G → features.IsAscending H → IsSetAt h after F G → IsSetAt h after F H → G ≡ H
@@ -183,8 +187,94 @@ those_same P (x ∷ xs) ys zs (inr h) (inr k) = those_same P xs ys zs h.1 k.1
 kept_same : (s t u : State) → IsSame s t → IsSame s u → t ≡ u
 kept_same s t u i j = i.same ∙ sym j.same
 
-left_same : (s t u : State) → t.editor ≡ s.editor → u.editor ≡ s.editor → AreSame t.project u.project → t ≡ u
+left_same : (s t u : State) → t.sessions ≡ s.sessions → u.sessions ≡ s.sessions → AreSame t.project u.project → t ≡ u
 left_same s t u e f h = same_state t u (by_parts t.project u.project h) (e ∙ sym f)
+
+-- ---- the sessions
+some_same : {A : Type 0} (o : Option A) (x y : A) → o ≡ Some x → o ≡ Some y → x ≡ y
+some_same o x y i j = let e : Some x ≡ Some y = sym i ∙ j in cc
+
+noted_same : (editor : List ℕ) (s t u : State) (x y : EditStep) → IsNoted editor x s.sessions t.sessions → IsNoted editor y s.sessions u.sessions → x ≡ y → AreSame t.project u.project → t ≡ u
+noted_same editor s t u x y i j step h =
+    let was : i.session ≡ j.session = some_same (session_of s.sessions editor) i.session j.session i.change.there j.change.there in
+    let is : with_step i.session x ≡ with_step j.session y = ap (λ (z : Session). with_step z x) was ∙ ap (with_step j.session) step in
+    same_state t u (by_parts t.project u.project h) (i.change.sessions ∙ (ap (with_session s.sessions) is ∙ sym j.change.sessions))
+
+end_step : (xs ys : List EditStep) (x y : EditStep) → xs ++ x ∷ [] ≡ ys ++ y ∷ [] → (xs ≡ ys) × (x ≡ y)
+end_step [] [] x y e = (refl, cc)
+end_step [] (b ∷ []) x y e = cc
+end_step [] (b ∷ c ∷ ys) x y e = cc
+end_step (a ∷ []) [] x y e = cc
+end_step (a ∷ c ∷ xs) [] x y e = cc
+end_step (a ∷ xs) (b ∷ ys) x y e = let h : a ≡ b = cc in let t : xs ++ x ∷ [] ≡ ys ++ y ∷ [] = cc in let r = end_step xs ys x y t in (rw (h, r.0) refl, r.1)
+
+head_step : (x y : EditStep) (xs ys : List EditStep) → x ∷ xs ≡ y ∷ ys → (x ≡ y) × (xs ≡ ys)
+head_step x y xs ys e = (cc, cc)
+
+parts_same : (s u : Session) → s.name ≡ u.name → s.done ≡ u.done → s.undone ≡ u.undone → s ≡ u
+parts_same s u n d k =
+    ap (λ (x : List ℕ). record { name = x; done = s.done; undone = s.undone }) n
+    ∙ (ap (λ (x : List EditStep). record { name = u.name; done = x; undone = s.undone }) d
+    ∙ ap (λ (x : List EditStep). record { name = u.name; done = u.done; undone = x }) k)
+
+set_project : (h : ℕ) (after : Option Feature) (s p q : Project) → IsOrdered p → IsOrdered q → IsFeatureSet h after s p → IsFeatureSet h after s q → p ≡ q
+set_project h after s p q v w i j = by_parts p q (edit_same h after s p q v w i.edit j.edit (i.next ∙ sym j.next))
+
+undo_same : (editor : List ℕ) (s t u : State) → IsOrdered t.project → IsOrdered u.project → IsUndone editor s t → IsUndone editor s u → t ≡ u
+undo_same editor s t u v w i j =
+    let was : i.was ≡ j.was = some_same (session_of s.sessions editor) i.was j.was i.session.there j.session.there in
+    let e = end_step i.is.done j.is.done i.step j.step (sym i.undone.done ∙ (ap (λ (z : Session). z.done) was ∙ j.undone.done)) in
+    let left : i.is.undone ≡ j.is.undone = i.undone.undone ∙ (ap (λ (z : EditStep). z ∷ i.was.undone) e.1 ∙ (ap (λ (z : Session). j.step ∷ z.undone) was ∙ sym j.undone.undone)) in
+    let is : i.is ≡ j.is = parts_same i.is j.is (i.undone.name ∙ (ap (λ (z : Session). z.name) was ∙ sym j.undone.name)) e.0 left in
+    let set = subst (λ (z : EditStep). IsFeatureSet z.handle z.before s.project t.project) e.1 i.set in
+    same_state t u (set_project j.step.handle j.step.before s.project t.project u.project v w set j.set) (i.session.sessions ∙ (ap (with_session s.sessions) is ∙ sym j.session.sessions))
+
+redo_same : (editor : List ℕ) (s t u : State) → IsOrdered t.project → IsOrdered u.project → IsRedone editor s t → IsRedone editor s u → t ≡ u
+redo_same editor s t u v w i j =
+    let was : i.was ≡ j.was = some_same (session_of s.sessions editor) i.was j.was i.session.there j.session.there in
+    let e = head_step i.step j.step i.is.undone j.is.undone (sym i.undone.undone ∙ (ap (λ (z : Session). z.undone) was ∙ j.undone.undone)) in
+    let left : i.is.done ≡ j.is.done = i.undone.done ∙ (ap (λ (z : EditStep). i.was.done ++ z ∷ []) e.0 ∙ (ap (λ (z : Session). z.done ++ j.step ∷ []) was ∙ sym j.undone.done)) in
+    let is : i.is ≡ j.is = parts_same i.is j.is (sym i.undone.name ∙ (ap (λ (z : Session). z.name) was ∙ j.undone.name)) left e.1 in
+    let set = subst (λ (z : EditStep). IsFeatureSet z.handle z.after s.project t.project) e.0 i.set in
+    same_state t u (set_project j.step.handle j.step.after s.project t.project u.project v w set j.set) (i.session.sessions ∙ (ap (with_session s.sessions) is ∙ sym j.session.sessions))
+
+-- steps that are taken back: all but the features, and the look-up of those, is told step by step
+pub record SameRest (p q : Project) : Type 0 where
+  pub classes : q.classes ≡ p.classes
+  pub rules : q.rules ≡ p.rules
+  pub next : q.next ≡ p.next
+  pub entries : q.entries ≡ p.entries
+
+taken_rest : (ts : List EditStep) (s p : Project) → AreTakenBack ts s p → SameRest s p
+taken_rest [] s p i = record { classes = ap (λ (x : Project). x.classes) i; rules = ap (λ (x : Project). x.rules) i; next = ap (λ (x : Project). x.next) i; entries = ap (λ (x : Project). x.entries) i }
+taken_rest (x ∷ ts) s p i =
+    let r = taken_rest ts s i.0 i.1 in
+    record { classes = i.2.edit.classes ∙ r.classes; rules = i.2.edit.rules ∙ r.rules; next = i.2.next ∙ r.next; entries = i.2.edit.entries ∙ r.entries }
+
+taken_dirt : (ts : List EditStep) (s p q : Project) → AreTakenBack ts s p → AreTakenBack ts s q → p.dirt ≡ q.dirt
+taken_dirt [] s p q i j = ap (λ (x : Project). x.dirt) (i ∙ sym j)
+taken_dirt (x ∷ ts) s p q i j =
+    let m = i.0 in
+    let n = j.0 in
+    let look : feature_at m.features x.handle ≡ feature_at n.features x.handle = taken_at ts s m x.handle i.1 ∙ sym (taken_at ts s n x.handle j.1) in
+    i.2.edit.dirt ∙ (ap (λ d. add_envelope (add_envelope d (feature_at m.features x.handle)) x.before) (taken_dirt ts s m n i.1 j.1)
+    ∙ (ap (λ o. add_envelope (add_envelope n.dirt o) x.before) look ∙ sym j.2.edit.dirt))
+
+discard_same : (editor : List ℕ) (s t u : State) → IsOrdered t.project → IsOrdered u.project → IsDiscarded editor s t → IsDiscarded editor s u → t ≡ u
+discard_same editor s t u v w i j =
+    let ts = i.session.done in
+    let session : i.session ≡ j.session = some_same (session_of s.sessions editor) i.session j.session i.there j.there in
+    let back = subst (λ (z : Session). AreTakenBack z.done s.project u.project) (sym session) j.taken_back in
+    let m = taken_rest ts s.project t.project i.taken_back in
+    let n = taken_rest ts s.project u.project back in
+    same_state t u (by_parts t.project u.project (record {
+      classes = m.classes ∙ sym n.classes;
+      rules = m.rules ∙ sym n.rules;
+      features = same_features t.project.features u.project.features v.features w.features (λ k. taken_at ts s.project t.project k i.taken_back ∙ sym (taken_at ts s.project u.project k back));
+      next = m.next ∙ sym n.next;
+      dirt = taken_dirt ts s.project t.project u.project i.taken_back back;
+      entries = m.entries ∙ sym n.entries;
+    })) (i.sessions ∙ sym j.sessions)
 
 judged_same : (a b c x y z : ℕ) → a ≡ x → b ≡ y → c ≡ z → Judged a b c ≡ Judged x y z
 judged_same a b c x y z i j k = rw (i, j, k) refl
@@ -193,7 +283,7 @@ pub one_done : CutsRight poster → (s t u : State) (c : Command) (reply said : 
 one_done C s t u Blank reply said v w d e = (d.0 ∙ sym e.0, kept_same s t u d.1 e.1)
 one_done C s t u (Class name k) reply said v w d e = (
   d.0 ∙ sym e.0,
-  left_same s t u d.1.editor e.1.editor (record {
+  left_same s t u d.1.sessions e.1.sessions (record {
     classes = d.1.project.classes ∙ sym e.1.project.classes;
     rules = d.1.project.rules ∙ sym e.1.project.rules;
     features = d.1.project.features ∙ sym e.1.project.features;
@@ -204,21 +294,22 @@ one_done C s t u (Class name k) reply said v w d e = (
 )
 one_done C s t u (Rule k origin dest) reply said v w (m, d, i) (n, e, j) =
     let same : m ≡ n = least_same s.project t.project u.project m n _ i.project j.project in
-    (d ∙ (ap Number same ∙ sym e), left_same s t u i.editor j.editor (rule_same s.project t.project u.project n _ v w (rw same at i.project) j.project))
-one_done C s t u (DropRule r) reply said v w d e = (d.0 ∙ sym e.0, left_same s t u d.1.editor e.1.editor (dropped_same s.project t.project u.project r v w d.1.project e.1.project))
-one_done C s t u (Begin editor) reply said v w d e = (d.0 ∙ sym e.0, same_state t u (d.1.project ∙ sym e.1.project) (d.1.editor ∙ sym e.1.editor))
-one_done C s t u (End editor) reply said v w d e = absurd d
-one_done C s t u (Discard editor) reply said v w d e = absurd d
+    (d ∙ (ap Number same ∙ sym e), left_same s t u i.sessions j.sessions (rule_same s.project t.project u.project n _ v w (rw same at i.project) j.project))
+one_done C s t u (DropRule r) reply said v w d e = (d.0 ∙ sym e.0, left_same s t u d.1.sessions e.1.sessions (dropped_same s.project t.project u.project r v w d.1.project e.1.project))
+one_done C s t u (Begin editor) reply said v w d e = (d.0 ∙ sym e.0, same_state t u (d.1.project ∙ sym e.1.project) (d.1.sessions ∙ sym e.1.sessions))
+one_done C s t u (End editor) reply said v w d e = (d.0 ∙ sym e.0, same_state t u (d.1.project ∙ sym e.1.project) (d.1.sessions ∙ sym e.1.sessions))
+one_done C s t u (Discard editor) reply said v w d e = (d.0 ∙ sym e.0, discard_same editor s t u v w d.1 e.1)
 one_done C s t u (Add editor class shape) reply said v w (g, d, i) (h, e, j) =
     let same : g ≡ h = i.project.number ∙ sym j.project.number in
     let k = rw same at i.project.edit in
-    (d ∙ (ap Number same ∙ sym e), left_same s t u i.editor j.editor (edit_same h _ s.project t.project u.project v w k j.project.edit (i.project.next ∙ sym j.project.next)))
+    (d ∙ (ap Number same ∙ sym e),
+     noted_same editor s t u _ _ i.noted j.noted (ap (λ (n : ℕ). added_step n (number_or_0 (class_number s.project class)) shape) same) (edit_same h _ s.project t.project u.project v w k j.project.edit (i.project.next ∙ sym j.project.next)))
 one_done C s t u (Change editor h shape) reply said v w d e =
-    (d.0 ∙ sym e.0, left_same s t u d.1.editor e.1.editor (edit_same h _ s.project t.project u.project v w d.1.project.edit e.1.project.edit (d.1.project.next ∙ sym e.1.project.next)))
+    (d.0 ∙ sym e.0, noted_same editor s t u _ _ d.1.noted e.1.noted refl (edit_same h _ s.project t.project u.project v w d.1.project.edit e.1.project.edit (d.1.project.next ∙ sym e.1.project.next)))
 one_done C s t u (Delete editor h) reply said v w d e =
-    (d.0 ∙ sym e.0, left_same s t u d.1.editor e.1.editor (edit_same h None s.project t.project u.project v w d.1.project.edit e.1.project.edit (d.1.project.next ∙ sym e.1.project.next)))
-one_done C s t u (Undo editor) reply said v w d e = absurd d
-one_done C s t u (Redo editor) reply said v w d e = absurd d
+    (d.0 ∙ sym e.0, noted_same editor s t u _ _ d.1.noted e.1.noted refl (edit_same h None s.project t.project u.project v w d.1.project.edit e.1.project.edit (d.1.project.next ∙ sym e.1.project.next)))
+one_done C s t u (Undo editor) reply said v w d e = (d.0 ∙ sym e.0, undo_same editor s t u v w d.1 e.1)
+one_done C s t u (Redo editor) reply said v w d e = (d.0 ∙ sym e.0, redo_same editor s t u v w d.1 e.1)
 one_done C s t u (Validate win) reply said v w (j1, e1, d1, is1, l1) (j2, e2, d2, is2, l2) =
     let p = l1.project in
     let q = l2.project in
@@ -227,7 +318,7 @@ one_done C s t u (Validate win) reply said v w (j1, e1, d1, is1, l1) (j2, e2, d2
     let judged : j1 ≡ j2 = p.judged_is ∙ (ap (λ fs. judged_of s.project.rules fs) chosen ∙ sym q.judged_is) in
     let errors : e1 ≡ e2 = p.errors_is ∙ (ap length parts.entries ∙ sym q.errors_is) in
     let dirty : d1 ≡ d2 = p.dirty_is ∙ (ap length parts.dirt ∙ sym q.dirty_is) in
-    (is1 ∙ (judged_same j1 e1 d1 j2 e2 d2 judged errors dirty ∙ sym is2), left_same s t u l1.editor l2.editor parts)
+    (is1 ∙ (judged_same j1 e1 d1 j2 e2 d2 judged errors dirty ∙ sym is2), left_same s t u l1.sessions l2.sessions parts)
 one_done C s t u (Mark r h g) reply said v w d e = absurd d
 one_done C s t u (Unmark r h g) reply said v w d e = absurd d
 one_done C s t u Dirty reply said v w d e = (d.0 ∙ sym e.0, kept_same s t u d.1 e.1)

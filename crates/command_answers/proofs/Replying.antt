@@ -1,5 +1,5 @@
 -- What a call of the topology answers is what the command is answered.
-use Rattle.std.proofs.Common.{◌≡◌, ◌+◌, ℕ, true, false, List, length, Option, Some, None, ap, subst, ◌∙◌}
+use Rattle.std.proofs.Common.{◌≡◌, ◌+◌, ℕ, true, false, List, length, Option, Some, None, ap, ◌∙◌, sym, subst, inl, inr}
 use Rattle.std.specs.Prelude.{Result, Ok, Err, IfOk, OnOk, IfErr, OnErr, IsSomeAnd, MatchResult}
 use Rattle.plane_terms.specs.Shape.{Shape}
 use Rattle.plane_terms.specs.declared.kind.Kind.{Kind}
@@ -10,7 +10,10 @@ use Rattle.topology_terms.specs.Causes.{Tells, class_cause, add_cause, change_ca
 use Rattle.topology_terms.specs.Changes.{IsClassAdded, IsFeatureAdded, IsFeatureSet, IsRuleAdded, reshaped}
 use Rattle.topology_terms.specs.Feature.{Feature, feature_at}
 use Rattle.topology_terms.specs.Lookups.{class_number}
-use Rattle.topology_terms.specs.Project.{Project}
+use Rattle.topology_terms.specs.Project.{Project, IsOrdered}
+use Rattle.topology_terms.specs.Settled.{IsSettled}
+use Rattle.topology_terms.specs.Sound.{IsSound}
+use Rattle.feature_store.specs.Keeps.{IsStore}
 use Rattle.topology_terms.specs.declared.cause.Cause.{Cause}
 use Rattle.feature_store.specs.Faults.{store_cause}
 use Rattle.feature_store.specs.declared.fault.StoreFault.{StoreFault}
@@ -20,12 +23,16 @@ use Rattle.topo_core.specs.declared.rule_fault.RuleFault.{RuleFault}
 use Rattle.line_terms.specs.Commands.{Class, Rule, Add, Change as AChange, Delete}
 use Rattle.script_terms.specs.Answer.{Answers}
 use Rattle.script_terms.specs.Refusal.{Change}
-use Rattle.script_terms.specs.Refusing.{row_of, is_nowhere}
+use Rattle.script_terms.specs.Refusing.{row_of, is_nowhere, refusal_of}
 use Rattle.script_terms.specs.Reply.{Done, Number, Refused}
 use Rattle.script_terms.specs.State.{State, is_open}
+use Rattle.session_terms.specs.Kept.{KeptStep, KeptSession}
+use Rattle.edit_session.specs.SessionsCalls as calls
+use Rattle.command_answers.specs.Worlds.{state_of, IsWorld, IsRoomAlone}
 use Rattle.reply_text.specs.Replies.{said_of}
 use Rattle.reply_text.specs.declared.reply.Reply.{Reply}
 use Rattle.command_answers.specs.Refusals.{SaysCause}
+use Rattle.command_answers.proofs.Noting.{set_done, set_world, add_done, add_world, seen_same, stays_world, class_world, room_done, room_world}
 use Rattle.command_answers.proofs.Answering.{class_added, class_refused, rule_added, rule_refused, feature_added, add_refused, feature_changed, change_refused, feature_deleted, delete_refused}
 
 abbrev Says : {T F : Type 0} → (F → Option Cause) → Result T F → (T → Reply → Type 0) → Reply → Type 0
@@ -41,70 +48,103 @@ kept_by P called (Ok r) spent kept = tt
 kept_by P (Ok x) (Err e) spent kept = let no = spent.1 in absurd cc
 kept_by P (Err f) (Err e) spent kept = kept
 
-pub same_state : (s t : State) → t.project ≡ s.project → t.editor ≡ s.editor → t ≡ s
-same_state s t p e = ap (λ (q : Project). record { project = q; editor = t.editor }) p ∙ ap (λ (o : Option (List ℕ)). record { project = s.project; editor = o }) e
-
 -- the project is the old one, so the state is
-pub same_after : {T F : Type 0} (s : State) (p : Project) (called : Result T F) → OnErr called (p ≡ s.project) → OnErr called (record { project = p; editor = s.editor } ≡ s)
-same_after s p (Ok x) kept = tt
-same_after s p (Err e) kept = ap (λ (q : Project). record { project = q; editor = s.editor }) kept
+pub same_state : (p q : Project) (ss : List KeptSession) → q ≡ p → state_of q ss ≡ state_of p ss
+same_state p q ss e = ap (λ (r : Project). state_of r ss) e
 
-pub add_replied : {E : Type 0} (s t : State) (editor class : List ℕ) (shape : Shape) (n : ℕ) (added : Result ℕ ChangeFault) (reply : Result Reply E)
-    → is_open s editor ≡ true → class_number s.project class ≡ Some n → t.editor ≡ s.editor
-    → IfOk added (λ h. IsFeatureAdded n shape h s.project t.project) → OnOk added (add_cause s.project.classes s.project.next n shape.kind ≡ None)
-    → IfErr added (λ e. Tells (edit_cause e) (add_cause s.project.classes s.project.next n shape.kind)) → OnErr added (t.project ≡ s.project)
-    → IfOk reply (Says edit_cause added (λ h r. (p : Project) → said_of p r ≡ Number h)) → IfOk reply (λ r. Answers s (Add editor class shape) (said_of t.project r) t)
-add_replied s t editor class shape n added (Err e) opened named same ok may err kept said = tt
-add_replied s t editor class shape n (Ok h) (Ok r) opened named same ok may err kept said = rw (said t.project) (feature_added s t editor class shape n h opened named may ok same)
-add_replied s t editor class shape n (Err e) (Ok r) opened named same ok may err kept said =
-    add_refused s t editor class shape n (edit_cause e) (said_of t.project r) opened named err (said_at (edit_cause e) t.project r said) (same_state s t kept same)
+-- and the sessions are the old ones, but for room
+pub room_state : (p q : Project) (name : List ℕ) (ss ts : List KeptSession) → q ≡ p → IsRoomAlone name ss ts → state_of q ts ≡ state_of p ss
+room_state p q name ss ts e (inl s) = same_state p q ts e ∙ ap (state_of p) s
+room_state p q name ss ts e (inr r) = same_state p q ts e ∙ room_done p name ss ts r
 
-pub change_replied : {E : Type 0} (s t : State) (editor : List ℕ) (h : ℕ) (shape : Shape) (changed : Result Feature ChangeFault) (reply : Result Reply E)
-    → is_open s editor ≡ true → t.editor ≡ s.editor
-    → OnOk changed (IsFeatureSet h (reshaped (feature_at s.project.features h) shape) s.project t.project)
-    → OnOk changed (change_cause s.project.features h shape.kind ≡ None)
-    → IfErr changed (λ e. Tells (edit_cause e) (change_cause s.project.features h shape.kind)) → OnErr changed (t.project ≡ s.project)
-    → IfOk reply (Says edit_cause changed (λ f r. (p : Project) → said_of p r ≡ Done)) → IfOk reply (λ r. Answers s (AChange editor h shape) (said_of t.project r) t)
-change_replied s t editor h shape changed (Err e) opened same ok may err kept said = tt
-change_replied s t editor h shape (Ok f) (Ok r) opened same ok may err kept said = rw (said t.project) (feature_changed s t editor h shape opened may ok same)
-change_replied s t editor h shape (Err e) (Ok r) opened same ok may err kept said =
-    change_refused s t editor h shape (edit_cause e) (said_of t.project r) opened err (said_at (edit_cause e) t.project r said) (same_state s t kept same)
+pub same_after : {T F : Type 0} (p q : Project) (ss : List KeptSession) (called : Result T F) → OnErr called (q ≡ p) → OnErr called (state_of q ss ≡ state_of p ss)
+same_after p q ss (Ok x) kept = tt
+same_after p q ss (Err e) kept = same_state p q ss kept
 
-pub delete_replied : {E : Type 0} (s t : State) (editor : List ℕ) (h : ℕ) (deleted : Result Feature ChangeFault) (reply : Result Reply E)
-    → is_open s editor ≡ true → t.editor ≡ s.editor
-    → OnOk deleted (IsFeatureSet h None s.project t.project) → OnOk deleted (delete_cause s.project.features h ≡ None)
-    → IfErr deleted (λ e. Tells (edit_cause e) (delete_cause s.project.features h)) → OnErr deleted (t.project ≡ s.project)
-    → IfOk reply (Says edit_cause deleted (λ f r. (p : Project) → said_of p r ≡ Done)) → IfOk reply (λ r. Answers s (Delete editor h) (said_of t.project r) t)
-delete_replied s t editor h deleted (Err e) opened same ok may err kept said = tt
-delete_replied s t editor h (Ok f) (Ok r) opened same ok may err kept said = rw (said t.project) (feature_deleted s t editor h opened may ok same)
-delete_replied s t editor h (Err e) (Ok r) opened same ok may err kept said =
-    delete_refused s t editor h (edit_cause e) (said_of t.project r) opened err (said_at (edit_cause e) t.project r said) (same_state s t kept same)
+pub room_after : {T F : Type 0} (p q : Project) (name : List ℕ) (ss ts : List KeptSession) (called : Result T F) → OnErr called (q ≡ p) → OnErr called (IsRoomAlone name ss ts) → OnErr called (state_of q ts ≡ state_of p ss)
+room_after p q name ss ts (Ok x) kept room = tt
+room_after p q name ss ts (Err e) kept room = room_state p q name ss ts kept room
 
-pub class_replied : {E : Type 0} (s t : State) (name : List ℕ) (k : Kind) (added : Result ℕ StoreFault) (reply : Result Reply E) → t.editor ≡ s.editor
-    → OnOk added (IsClassAdded name k s.project t.project) → IfOk added (λ n. n ≡ length s.project.classes + 1) → OnOk added (class_cause s.project.classes name ≡ None)
-    → IfErr added (λ e. Tells (store_cause e) (class_cause s.project.classes name)) → OnErr added (t.project ≡ s.project)
-    → IfOk reply (Says store_cause added (λ n r. (p : Project) → said_of p r ≡ Number n)) → IfOk reply (λ r. Answers s (Class name k) (said_of t.project r) t)
-class_replied s t name k added (Err e) same ok number may err kept said = tt
-class_replied s t name k (Ok n) (Ok r) same ok number may err kept said = rw (said t.project) (class_added s t name k n may number ok same)
-class_replied s t name k (Err e) (Ok r) same ok number may err kept said =
-    class_refused s t name k (store_cause e) (said_of t.project r) err (said_at (store_cause e) t.project r said) (same_state s t kept same)
+room_kept : (p q : Project) (name : List ℕ) (ss ts : List KeptSession) → q ≡ p → IsRoomAlone name ss ts → IsWorld p ss → IsWorld q ts
+room_kept p q name ss ts e (inl s) w = subst (λ (r : Project). IsWorld r ts) (sym e) (subst (IsWorld p) (sym s) w)
+room_kept p q name ss ts e (inr r) w = subst (λ (r : Project). IsWorld r ts) (sym e) (room_world p name ss ts r w)
 
-pub rule_replied : {E : Type 0} (s t : State) (k : RuleKind) (origin : List ℕ) (dest : Option (List ℕ)) (row : Row) (added : Result ℕ RuleFault) (reply : Result Reply E)
-    → is_built k ≡ true → is_nowhere s.project dest ≡ false → row ≡ row_of s.project k origin dest → t.editor ≡ s.editor
-    → IfOk added (λ n. IsRuleAdded n row s.project t.project) → OnOk added (rule_cause s.project row ≡ None)
-    → IfErr added (λ e. Tells (row_cause e) (rule_cause s.project row)) → OnErr added (t.project ≡ s.project)
-    → IfOk reply (Says row_cause added (λ n r. (p : Project) → said_of p r ≡ Number n)) → IfOk reply (λ r. Answers s (Rule k origin dest) (said_of t.project r) t)
-rule_replied s t k origin dest row added (Err e) built there is same ok may err kept said = tt
-rule_replied s t k origin dest row (Ok n) (Ok r) built there is same ok may err kept said =
-    rw (said t.project) (rule_added s t k origin dest n built there (rw is at may) (rw is at ok) same)
-rule_replied s t k origin dest row (Err e) (Ok r) built there is same ok may err kept said =
-    rule_refused s t k origin dest (row_cause e) (said_of t.project r) built there (rw is at err) (said_at (row_cause e) t.project r said) (same_state s t kept same)
+-- ---- a feature is added
+pub add_replied : {E : Type 0} (p q : Project) (ss ts : List KeptSession) (editor class : List ℕ) (shape : Shape) (n : ℕ) (added : Result ℕ ChangeFault) (reply : Result Reply E)
+    → IsWorld p ss → is_open (state_of p ss) editor ≡ true → class_number p class ≡ Some n
+    → IfOk added (λ h. IsFeatureAdded n shape h p q) → IfOk added (λ h. calls.IsNoted editor (record { handle = h; kept = None }) ss ts) → OnOk added (add_cause p.classes p.next n shape.kind ≡ None)
+    → IfErr added (λ e. Tells (edit_cause e) (add_cause p.classes p.next n shape.kind)) → OnErr added (q ≡ p) → OnErr added (IsRoomAlone editor ss ts)
+    → IfOk reply (Says edit_cause added (λ h r. (p : Project) → said_of p r ≡ Number h)) → IfOk reply (λ r. Answers (state_of p ss) (Add editor class shape) (said_of q r) (state_of q ts))
+add_replied p q ss ts editor class shape n added (Err e) w opened named ok noted may err kept room said = tt
+add_replied p q ss ts editor class shape n (Ok h) (Ok r) w opened named ok noted may err kept room said =
+    rw (said q) (feature_added (state_of p ss) (state_of q ts) editor class shape n h opened named may (add_done p q editor ss ts n shape h w ok noted))
+add_replied p q ss ts editor class shape n (Err e) (Ok r) w opened named ok noted may err kept room said =
+    add_refused (state_of p ss) (state_of q ts) editor class shape n (edit_cause e) (said_of q r) opened named err (said_at (edit_cause e) q r said) (room_state p q editor ss ts kept room)
 
--- the same of the state as it is seen
-pub rule_replied_to : {E : Type 0} (q s t : State) (k : RuleKind) (origin : List ℕ) (dest : Option (List ℕ)) (row : Row) (added : Result ℕ RuleFault) (reply : Result Reply E)
-    → s ≡ q → is_built k ≡ true → is_nowhere s.project dest ≡ false → row ≡ row_of s.project k origin dest → t.editor ≡ s.editor
-    → IfOk added (λ n. IsRuleAdded n row s.project t.project) → OnOk added (rule_cause s.project row ≡ None)
-    → IfErr added (λ e. Tells (row_cause e) (rule_cause s.project row)) → OnErr added (t.project ≡ s.project)
-    → IfOk reply (Says row_cause added (λ n r. (p : Project) → said_of p r ≡ Number n)) → IfOk reply (λ r. Answers q (Rule k origin dest) (said_of t.project r) t)
-rule_replied_to q s t k origin dest row added reply seen built there is same ok may err kept said =
-    subst (λ (x : State). IfOk reply (λ r. Answers x (Rule k origin dest) (said_of t.project r) t)) seen (rule_replied s t k origin dest row added reply built there is same ok may err kept said)
+pub add_kept : (p q : Project) (ss ts : List KeptSession) (editor : List ℕ) (shape : Shape) (n : ℕ) (added : Result ℕ ChangeFault) → IsStore p.classes p.features p.next → IsWorld p ss
+    → IfOk added (λ h. IsFeatureAdded n shape h p q) → IfOk added (λ h. calls.IsNoted editor (record { handle = h; kept = None }) ss ts) → OnErr added (q ≡ p) → OnErr added (IsRoomAlone editor ss ts)
+    → (IsSound p → IsSound q) → (IsSettled p → IsSettled q) → IsWorld q ts
+add_kept p q ss ts editor shape n (Ok h) store w ok noted kept room sound settled = add_world p q editor ss ts n shape h store w ok noted (sound w.sound) (settled w.settled)
+add_kept p q ss ts editor shape n (Err e) store w ok noted kept room sound settled = room_kept p q editor ss ts kept room w
+
+-- ---- a feature is changed, or deleted
+pub change_replied : {E T : Type 0} (p q : Project) (ss ts : List KeptSession) (editor : List ℕ) (h : ℕ) (shape : Shape) (changed : Result T ChangeFault) (reply : Result Reply E)
+    → IsWorld p ss → IsOrdered p → refusal_of (state_of p ss) (Delete editor h) ≡ None
+    → OnOk changed (IsFeatureSet h (reshaped (feature_at p.features h) shape) p q) → OnOk changed (calls.IsNoted editor (record { handle = h; kept = feature_at p.features h }) ss ts)
+    → OnOk changed (change_cause p.features h shape.kind ≡ None)
+    → IfErr changed (λ e. Tells (edit_cause e) (change_cause p.features h shape.kind)) → OnErr changed (q ≡ p) → OnErr changed (IsRoomAlone editor ss ts)
+    → IfOk reply (Says edit_cause changed (λ f r. (p : Project) → said_of p r ≡ Done)) → IfOk reply (λ r. Answers (state_of p ss) (AChange editor h shape) (said_of q r) (state_of q ts))
+change_replied p q ss ts editor h shape changed (Err e) w ord free ok noted may err kept room said = tt
+change_replied p q ss ts editor h shape (Ok f) (Ok r) w ord free ok noted may err kept room said =
+    rw (said q) (feature_changed (state_of p ss) (state_of q ts) editor h shape free may (set_done p q editor ss ts h (reshaped (feature_at p.features h) shape) w ord free ok noted))
+change_replied p q ss ts editor h shape (Err e) (Ok r) w ord free ok noted may err kept room said =
+    change_refused (state_of p ss) (state_of q ts) editor h shape (edit_cause e) (said_of q r) free err (said_at (edit_cause e) q r said) (room_state p q editor ss ts kept room)
+
+pub delete_replied : {E T : Type 0} (p q : Project) (ss ts : List KeptSession) (editor : List ℕ) (h : ℕ) (deleted : Result T ChangeFault) (reply : Result Reply E)
+    → IsWorld p ss → IsOrdered p → refusal_of (state_of p ss) (Delete editor h) ≡ None
+    → OnOk deleted (IsFeatureSet h None p q) → OnOk deleted (calls.IsNoted editor (record { handle = h; kept = feature_at p.features h }) ss ts)
+    → IfErr deleted (λ e. Tells (edit_cause e) (delete_cause p.features h)) → OnErr deleted (q ≡ p) → OnErr deleted (IsRoomAlone editor ss ts)
+    → IfOk reply (Says edit_cause deleted (λ f r. (p : Project) → said_of p r ≡ Done)) → IfOk reply (λ r. Answers (state_of p ss) (Delete editor h) (said_of q r) (state_of q ts))
+delete_replied p q ss ts editor h deleted (Err e) w ord free ok noted err kept room said = tt
+delete_replied p q ss ts editor h (Ok f) (Ok r) w ord free ok noted err kept room said =
+    rw (said q) (feature_deleted (state_of p ss) (state_of q ts) editor h free (set_done p q editor ss ts h None w ord free ok noted))
+delete_replied p q ss ts editor h (Err e) (Ok r) w ord free ok noted err kept room said =
+    delete_refused (state_of p ss) (state_of q ts) editor h (edit_cause e) (said_of q r) free err (said_at (edit_cause e) q r said) (room_state p q editor ss ts kept room)
+
+pub set_kept : {T : Type 0} (p q : Project) (ss ts : List KeptSession) (editor : List ℕ) (h : ℕ) (after : Option Feature) (changed : Result T ChangeFault) → IsStore p.classes p.features p.next → IsWorld p ss → IsOrdered p
+    → refusal_of (state_of p ss) (Delete editor h) ≡ None → OnOk changed (IsFeatureSet h after p q) → OnOk changed (calls.IsNoted editor (record { handle = h; kept = feature_at p.features h }) ss ts)
+    → OnOk changed ((f : Feature) × (feature_at p.features h ≡ Some f)) → OnErr changed (q ≡ p) → OnErr changed (IsRoomAlone editor ss ts)
+    → (IsSound p → IsSound q) → (IsSettled p → IsSettled q) → IsWorld q ts
+set_kept p q ss ts editor h after (Ok u) store w ord free ok noted live kept room sound settled = set_world p q editor ss ts h live.0 after store w ord free live.1 ok noted (sound w.sound) (settled w.settled)
+set_kept p q ss ts editor h after (Err e) store w ord free ok noted live kept room sound settled = room_kept p q editor ss ts kept room w
+
+-- ---- a class, or a rule
+pub class_replied : {E : Type 0} (p q : Project) (ss : List KeptSession) (name : List ℕ) (k : Kind) (added : Result ℕ StoreFault) (reply : Result Reply E)
+    → OnOk added (IsClassAdded name k p q) → IfOk added (λ n. n ≡ length p.classes + 1) → OnOk added (class_cause p.classes name ≡ None)
+    → IfErr added (λ e. Tells (store_cause e) (class_cause p.classes name)) → OnErr added (q ≡ p)
+    → IfOk reply (Says store_cause added (λ n r. (p : Project) → said_of p r ≡ Number n)) → IfOk reply (λ r. Answers (state_of p ss) (Class name k) (said_of q r) (state_of q ss))
+class_replied p q ss name k added (Err e) ok number may err kept said = tt
+class_replied p q ss name k (Ok n) (Ok r) ok number may err kept said = rw (said q) (class_added (state_of p ss) (state_of q ss) name k n may number ok (seen_same p q ss ok.features))
+class_replied p q ss name k (Err e) (Ok r) ok number may err kept said =
+    class_refused (state_of p ss) (state_of q ss) name k (store_cause e) (said_of q r) err (said_at (store_cause e) q r said) (same_state p q ss kept)
+
+pub class_kept : (p q : Project) (ss : List KeptSession) (name : List ℕ) (k : Kind) (added : Result ℕ StoreFault) → IsWorld p ss → OnOk added (IsClassAdded name k p q) → OnErr added (q ≡ p)
+    → (IsSound p → IsSound q) → (IsSettled p → IsSettled q) → IsWorld q ss
+class_kept p q ss name k (Ok n) w ok kept sound settled = class_world p q ss (record { name = name; kind = k }) ok.classes ok.features ok.next (sound w.sound) (settled w.settled) w
+class_kept p q ss name k (Err e) w ok kept sound settled = subst (λ (r : Project). IsWorld r ss) (sym kept) w
+
+pub rule_replied : {E : Type 0} (p q : Project) (ss : List KeptSession) (k : RuleKind) (origin : List ℕ) (dest : Option (List ℕ)) (row : Row) (added : Result ℕ RuleFault) (reply : Result Reply E)
+    → is_built k ≡ true → is_nowhere p dest ≡ false → row ≡ row_of p k origin dest
+    → IfOk added (λ n. IsRuleAdded n row p q) → OnOk added (rule_cause p row ≡ None)
+    → IfErr added (λ e. Tells (row_cause e) (rule_cause p row)) → OnErr added (q ≡ p)
+    → IfOk reply (Says row_cause added (λ n r. (p : Project) → said_of p r ≡ Number n)) → IfOk reply (λ r. Answers (state_of p ss) (Rule k origin dest) (said_of q r) (state_of q ss))
+rule_replied p q ss k origin dest row added (Err e) built there is ok may err kept said = tt
+rule_replied p q ss k origin dest row (Ok n) (Ok r) built there is ok may err kept said =
+    rw (said q) (rule_added (state_of p ss) (state_of q ss) k origin dest n built there (rw is at may) (rw is at ok) (seen_same p q ss ok.features))
+rule_replied p q ss k origin dest row (Err e) (Ok r) built there is ok may err kept said =
+    rule_refused (state_of p ss) (state_of q ss) k origin dest (row_cause e) (said_of q r) built there (rw is at err) (said_at (row_cause e) q r said) (same_state p q ss kept)
+
+pub rule_kept : (p q : Project) (ss : List KeptSession) (row : Row) (added : Result ℕ RuleFault) → IsWorld p ss → IfOk added (λ n. IsRuleAdded n row p q) → OnErr added (q ≡ p)
+    → (IsSound p → IsSound q) → (IsSettled p → IsSettled q) → IsWorld q ss
+rule_kept p q ss row (Ok n) w ok kept sound settled = stays_world p q ss ok.features ok.next ok.classes (sound w.sound) (settled w.settled) w
+rule_kept p q ss row (Err e) w ok kept sound settled = subst (λ (r : Project). IsWorld r ss) (sym kept) w

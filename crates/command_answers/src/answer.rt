@@ -1,4 +1,4 @@
-ghost use Rattle.std.specs.Prelude.{◌≡◌, IfOk, OnErr};
+ghost use Rattle.std.specs.Prelude.{◌≡◌, IfOk};
 ghost use Rattle.topology_terms.specs.Project.{IsOrdered};
 ghost use Rattle.line_terms.specs.Commands as commands;
 ghost use Rattle.script_text.specs.Seen.{command_of};
@@ -25,32 +25,29 @@ pub fn one_answer_law()
 
 impl World {
     /// Does what the command asks for, and answers what the reply says; a listing lists the state as it is then. After want
-    /// of memory nothing has changed.
+    /// of memory nothing has changed, but that of a discard the last steps may be undone, and its session is open.
     pub fn answer(&mut self, command: Command) -> Result<Reply, NoMemory>
-        ensures answers { IfOk result (λ r. Answers self.old (command_of command) (said_of self.new.project r) self.new) }
-        ensures err { OnErr result (self.new ≡ self.old) }
+        ensures { IfOk result (λ r. Answers self.old (command_of command) (said_of self.new.project r) self.new) }
     {
         match command {
             Command::Blank => Ok(Reply::Nothing),
             Command::Class(name, kind) => self.answer_class(name, kind),
             Command::Rule(kind, origin, dest) => self.answer_rule(kind, &origin, &dest),
             Command::DropRule(rule) => Ok(self.answer_drop_rule(rule)),
-            Command::Begin(editor) => Ok(self.answer_begin(editor)),
+            Command::Begin(editor) => self.answer_begin(editor),
+            Command::End(editor) => self.answer_end(&editor),
+            Command::Discard(editor) => self.answer_discard(&editor),
             Command::Add(editor, class, shape) => self.answer_add(&editor, &class, shape),
             Command::Change(editor, handle, shape) => self.answer_change(&editor, handle, shape),
             Command::Delete(editor, handle) => self.answer_delete(&editor, handle),
+            Command::Undo(editor) => self.answer_undo(&editor),
+            Command::Redo(editor) => self.answer_redo(&editor),
             Command::Validate(window) => self.answer_validate(window),
             Command::Dirty => Ok(Reply::DirtyList),
             Command::Errors => Ok(Reply::ErrorList),
             Command::Cells => Ok(Reply::CellList),
             Command::Features => Ok(Reply::FeatureList),
-            Command::End(_)
-            | Command::Discard(_)
-            | Command::Undo(_)
-            | Command::Redo(_)
-            | Command::Mark(..)
-            | Command::Unmark(..)
-            | Command::Rules => Ok(NOT_BUILT),
+            Command::Mark(..) | Command::Unmark(..) | Command::Rules => Ok(NOT_BUILT),
         }
     }
 }

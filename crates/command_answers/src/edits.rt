@@ -1,9 +1,9 @@
 ghost use Rattle.std.specs.Prelude.{◌≡◌, IfOk, OnErr};
-ghost use Rattle.line_terms.specs.Commands.{Begin, Add, Change, Delete, Validate};
+ghost use Rattle.line_terms.specs.Commands.{Add, Change, Delete, Validate};
 ghost use Rattle.script_terms.specs.Answer.{Answers};
 ghost use Rattle.reply_text.specs.Replies.{said_of};
 
-use crate::classes::NOT_BUILT;
+use crate::noted::{add_noted, change_noted, delete_noted};
 use crate::refused::{reply_to_add, reply_to_change};
 use crate::world::World;
 use grid_plane::{Name, NoMemory, Rect};
@@ -13,17 +13,6 @@ use shape::Shape;
 use topology_terms::Cause;
 
 impl World {
-    /// `begin EDITOR`
-    pub(crate) fn answer_begin(&mut self, editor: Name) -> Reply
-        ensures { Answers self.old (Begin editor) (said_of self.new.project result) self.new }
-    {
-        if self.editor.is_some() {
-            return NOT_BUILT;
-        }
-        self.editor = Some(editor);
-        Reply::Done
-    }
-
     /// `by EDITOR add CLASS SHAPE`
     #[tactic(auto, using(crate::proofs::Replying::add_replied))]
     pub(crate) fn answer_add(
@@ -41,11 +30,12 @@ impl World {
         let Some(class) = self.topology.store().class_by_name(class) else {
             return Ok(Reply::Refused(Refusal::Change(Cause::NoClass)));
         };
-        reply_to_add(self.topology.add(class, shape))
+        self.topology.topology_law();
+        reply_to_add(add_noted(&mut self.topology, &mut self.sessions, editor, class, shape))
     }
 
     /// `by EDITOR change H SHAPE`
-    #[tactic(auto, using(crate::proofs::Replying::change_replied))]
+    #[tactic(auto, using(crate::proofs::Answering::change_stopped))]
     pub(crate) fn answer_change(
         &mut self,
         editor: &Name,
@@ -55,22 +45,26 @@ impl World {
         ensures answers { IfOk result (λ r. Answers self.old (Change editor.now handle shape) (said_of self.new.project r) self.new) }
         ensures err { OnErr result (self.new ≡ self.old) }
     {
-        if !self.is_open(editor) {
-            return Ok(Reply::Refused(Refusal::NoSession));
+        if let Some(refusal) = self.edit_refusal(editor, handle) {
+            return Ok(Reply::Refused(refusal));
         }
-        reply_to_change(self.topology.change(handle, shape))
+        self.topology.topology_law();
+        self.topology.order_law();
+        reply_to_change(change_noted(&mut self.topology, &mut self.sessions, editor, handle, shape))
     }
 
     /// `by EDITOR delete H`
-    #[tactic(auto, using(crate::proofs::Replying::delete_replied))]
+    #[tactic(auto, using(crate::proofs::Answering::delete_stopped))]
     pub(crate) fn answer_delete(&mut self, editor: &Name, handle: u32) -> Result<Reply, NoMemory>
         ensures answers { IfOk result (λ r. Answers self.old (Delete editor.now handle) (said_of self.new.project r) self.new) }
         ensures err { OnErr result (self.new ≡ self.old) }
     {
-        if !self.is_open(editor) {
-            return Ok(Reply::Refused(Refusal::NoSession));
+        if let Some(refusal) = self.edit_refusal(editor, handle) {
+            return Ok(Reply::Refused(refusal));
         }
-        reply_to_change(self.topology.delete(handle))
+        self.topology.topology_law();
+        self.topology.order_law();
+        reply_to_change(delete_noted(&mut self.topology, &mut self.sessions, editor, handle))
     }
 
     /// `validate X0 Y0 X1 Y1`, and `validate all`

@@ -3,7 +3,9 @@
 
 mod answer;
 mod classes;
+mod editors;
 mod edits;
+mod noted;
 mod refused;
 mod world;
 

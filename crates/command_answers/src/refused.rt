@@ -5,12 +5,14 @@ ghost use Rattle.feature_store.specs.Faults.{store_cause};
 ghost use Rattle.topo_core.specs.Faults.{edit_cause, row_cause};
 ghost use Rattle.topo_core.specs.declared.fault.ChangeFault.{ChangeFault};
 ghost use Rattle.reply_text.specs.Replies.{said_of};
-ghost use Rattle.command_answers.specs.Refusals.{SaysCause};
+ghost use Rattle.edit_session.specs.declared.fault.SessionFault.{SessionFault};
+ghost use Rattle.command_answers.specs.Refusals.{SaysCause, SaysRefusal, session_refusal};
 
+use edit_session::SessionFault;
 use feature_store::StoreFault;
 use grid_plane::NoMemory;
 use reply_text::{Refusal, Reply};
-use topo_core::{ChangeFault, Feature, RuleFault};
+use topo_core::{ChangeFault, RuleFault};
 use topology_terms::Cause;
 
 // What is answered where the topology was not changed: its cause; and out of memory where a call told none.
@@ -67,7 +69,7 @@ pub fn reply_to_add(added: Result<u32, ChangeFault>) -> Result<Reply, NoMemory>
 }
 
 /// What is answered to a feature that was changed or deleted, or to why none was.
-pub fn reply_to_change(changed: Result<Feature, ChangeFault>) -> Result<Reply, NoMemory>
+pub fn reply_to_change(changed: Result<(), ChangeFault>) -> Result<Reply, NoMemory>
     ensures spent { OnErr result ((e : ChangeFault) × (changed ≡ Err e)) }
     ensures said { IfOk result (λ r. MatchResult changed (λ f. (p : Project) → said_of p r ≡ Done) (λ e. SaysCause (edit_cause e) r)) }
 {
@@ -85,5 +87,30 @@ pub fn reply_to_rule(added: Result<u16, RuleFault>) -> Result<Reply, NoMemory>
     match added {
         Ok(number) => Ok(Reply::Number(u32::from(number))),
         Err(fault) => refused_rule(fault),
+    }
+}
+
+/// What is answered where a session has begun, has ended or has taken a step, or why not.
+pub fn reply_to_session(done: Result<(), SessionFault>) -> Result<Reply, NoMemory>
+    ensures spent { OnErr result ((e : SessionFault) × (done ≡ Err e)) }
+    ensures said { IfOk result (λ r. MatchResult done (λ u. (p : Project) → said_of p r ≡ Done) (λ e. SaysRefusal (session_refusal e) r)) }
+{
+    match done {
+        Ok(()) => Ok(Reply::Done),
+        Err(fault) => refused_session(fault),
+    }
+}
+
+// What is answered where no session has begun or ended, and no step was undone or done again.
+fn refused_session(fault: SessionFault) -> Result<Reply, NoMemory>
+    ensures { IfOk result (SaysRefusal (session_refusal fault)) }
+{
+    match fault {
+        SessionFault::OpenAlready => Ok(Reply::Refused(Refusal::SessionOpen)),
+        SessionFault::SessionsFull => Ok(Reply::Refused(Refusal::SessionsFull)),
+        SessionFault::NoSession => Ok(Reply::Refused(Refusal::NoSession)),
+        SessionFault::NothingToUndo => Ok(Reply::Refused(Refusal::NothingToUndo)),
+        SessionFault::NothingToRedo => Ok(Reply::Refused(Refusal::NothingToRedo)),
+        SessionFault::NoMemory => Err(NoMemory),
     }
 }

@@ -1,51 +1,53 @@
 ghost use Rattle.std.specs.Prelude.{◌≡◌, []};
 ghost use Rattle.topology_terms.specs.Project.{IsOrdered};
-ghost use Rattle.script_terms.specs.State.{empty_state, is_open};
+ghost use Rattle.script_terms.specs.State.{empty_state};
+ghost use Rattle.script_terms.specs.Keeping.{IsKeeping};
 ghost use Rattle.script_terms.specs.Headline.{Invariant, IsExact};
 
-use grid_plane::Name;
+use edit_session::Sessions;
 use rule_set::{PosterRules, poster_law};
 use std::alloc::Global;
 use std::marker::Model;
 use topo_core::Topology;
 
-/// The state of a run: the topology, and the editor of the open session. In every state the printed errors are exactly what
-/// is broken off the printed dirty areas, and are cut as the rules cut them.
+/// The state of a run: the topology, and the open sessions. In every state the printed errors are exactly what is broken off the
+/// printed dirty areas, and are cut as the rules cut them; no handle has steps in two sessions, and each can be undone.
 #[derive(Drop)]
 pub struct World {
     pub(crate) topology: Topology<PosterRules>,
-    pub(crate) editor: Option<Name>,
+    pub(crate) sessions: Sessions,
 }
 
 impl Model for World {
     ghost use Rattle.script_terms.specs.State.{State};
-    ghost use Rattle.topology_terms.specs.Sound.{IsSound};
-    ghost use Rattle.topology_terms.specs.Settled.{IsSettled};
+    ghost use Rattle.command_answers.specs.Worlds.{state_of, IsWorld};
 
     ghost Value = { State };
 
-    ghost view = { λ w. record { project = w.topology; editor = w.editor } };
+    ghost view = { λ w. state_of w.topology w.sessions };
 
-    ghost invariant = { λ w. IsSound w.topology × IsSettled w.topology };
+    ghost invariant = { λ w. IsWorld w.topology w.sessions };
 }
 
 impl World {
     /// The empty project, and no session.
+    #[tactic(auto, using(crate::proofs::Headlines::empty))]
     pub fn new(alloc: Global) -> World
         ensures { result ≡ empty_state }
     {
         World {
             topology: Topology::new(alloc, PosterRules),
-            editor: None,
+            sessions: Sessions::new(alloc),
         }
     }
 
     /// The law of every state: it is sound and settled, the headline holds, and with no dirt the errors, marks aside, are those
-    /// of one full validation from scratch; and its lists stand in order.
+    /// of one full validation from scratch; its lists stand in order; and the sessions' steps fit one another and what stands.
     #[tactic(auto, using(crate::proofs::Headlines::invariant))]
     pub fn headline_law(&self)
         ensures invariant { Invariant self.now.project }
         ensures ordered { IsOrdered self.now.project }
+        ensures keeping { IsKeeping self.now }
     {
         self.topology.topology_law();
         self.topology.order_law();
@@ -66,15 +68,5 @@ impl World {
         ensures { result.now ≡ self.now.project }
     {
         &self.topology
-    }
-
-    /// Whether the session of this editor is open.
-    pub(crate) fn is_open(&self, editor: &Name) -> bool
-        ensures { result ≡ is_open self.now editor.now }
-    {
-        match &self.editor {
-            Some(name) => name.bytes() == editor.bytes(),
-            None => false,
-        }
     }
 }

@@ -12,7 +12,12 @@ use Rattle.reply_text.specs.declared.reply.Reply.TheVariants as reply
 
 abbrev pub refusal_of : Refusal → refusals.Refusal
 refusal_of (refusal.Line r) = refusals.Line r
+refusal_of refusal.SessionOpen = refusals.SessionOpen
+refusal_of refusal.SessionsFull = refusals.SessionsFull
 refusal_of refusal.NoSession = refusals.NoSession
+refusal_of (refusal.HeldBy name) = refusals.HeldBy name
+refusal_of refusal.NothingToUndo = refusals.NothingToUndo
+refusal_of refusal.NothingToRedo = refusals.NothingToRedo
 refusal_of (refusal.Change c) = refusals.Change c
 
 abbrev pub said_of : Project → Reply → replies.Reply

@@ -1,21 +1,31 @@
 ghost use Rattle.std.specs.Prelude.{◌≡◌, ◌++◌, OnOk};
-ghost use Rattle.script_terms.specs.Refusal.{refusal_text, cause_code, line_refusal_text, shape_fault_text, with_number, with_pair};
+ghost use Rattle.script_terms.specs.Refusal.{HeldBy, refusal_text, cause_code, line_refusal_text, shape_fault_text, with_number, with_pair};
 ghost use Rattle.line_terms.specs.declared.line_refusal.LineRefusal.TheVariants.{Invalid};
 ghost use Rattle.reply_text.specs.Replies.{refusal_of};
 
 use crate::numbers::{push_number, push_text};
-use grid_plane::NoMemory;
+use grid_plane::{Name, NoMemory};
 use line_terms::LineRefusal;
 use plane_terms::ShapeFault;
 use topology_terms::Cause;
 
 /// Why a line is refused.
-#[derive(Clone, Copy, PartialEq, Eq, Debug)]
+#[derive(Drop)]
 pub enum Refusal {
     /// The line is no command's.
     Line(LineRefusal),
+    /// The editor's session is open already.
+    SessionOpen,
+    /// 16 sessions are open.
+    SessionsFull,
     /// The editor has no open session.
     NoSession,
+    /// The feature is held by the session of this editor.
+    HeldBy(Name),
+    /// No step of the editor's session is done.
+    NothingToUndo,
+    /// No step of the editor's session is undone.
+    NothingToRedo,
     /// The topology is not changed, for this cause.
     Change(Cause),
 }
@@ -90,13 +100,25 @@ fn push_cause(out: &mut Vec<u8>, cause: Cause) -> Result<(), NoMemory>
     }
 }
 
-/// Appends the code of the refusal and what stands behind it: the place of a number, the parts of a shape.
-pub fn push_refusal(out: &mut Vec<u8>, refusal: Refusal) -> Result<(), NoMemory>
-    ensures { OnOk result (out.new.items ≡ out.old.items ++ refusal_text (refusal_of refusal)) }
+fn push_held_by(out: &mut Vec<u8>, name: &Name) -> Result<(), NoMemory>
+    ensures { OnOk result (out.new.items ≡ out.old.items ++ refusal_text (HeldBy name.now)) }
+{
+    push_text(out, b"E20 ")?;
+    push_text(out, name.bytes())
+}
+
+/// Appends the code of the refusal and what stands behind it: the place of a number, the parts of a shape, the name of an editor.
+pub fn push_refusal(out: &mut Vec<u8>, refusal: &Refusal) -> Result<(), NoMemory>
+    ensures { OnOk result (out.new.items ≡ out.old.items ++ refusal_text (refusal_of refusal.now)) }
 {
     match refusal {
-        Refusal::Line(refusal) => push_line_refusal(out, refusal),
+        Refusal::Line(refusal) => push_line_refusal(out, *refusal),
+        Refusal::SessionOpen => push_text(out, b"E10"),
+        Refusal::SessionsFull => push_text(out, b"E11"),
         Refusal::NoSession => push_text(out, b"E12"),
-        Refusal::Change(cause) => push_cause(out, cause),
+        Refusal::HeldBy(name) => push_held_by(out, name),
+        Refusal::NothingToUndo => push_text(out, b"E22"),
+        Refusal::NothingToRedo => push_text(out, b"E23"),
+        Refusal::Change(cause) => push_cause(out, *cause),
     }
 }

@@ -12,7 +12,7 @@ use grid_plane::NoMemory;
 use topo_core::{KindRules, Summary, Topology};
 
 /// What a line is answered. A listing lists the topology that it is said of.
-#[derive(Clone, Copy)]
+#[derive(Drop)]
 pub enum Reply {
     /// The line is skipped.
     Nothing,
@@ -54,8 +54,8 @@ pub fn push_judged(out: &mut Vec<u8>, summary: Summary) -> Result<(), NoMemory>
     push_text(out, b"\n")
 }
 
-pub fn push_refused(out: &mut Vec<u8>, refusal: Refusal) -> Result<(), NoMemory>
-    ensures { OnOk result (out.new.items ≡ out.old.items ++ reply_text (Refused (refusal_of refusal))) }
+pub fn push_refused(out: &mut Vec<u8>, refusal: &Refusal) -> Result<(), NoMemory>
+    ensures { OnOk result (out.new.items ≡ out.old.items ++ reply_text (Refused (refusal_of refusal.now))) }
 {
     push_text(out, b"refused ")?;
     push_refusal(out, refusal)?;
@@ -67,15 +67,15 @@ pub fn push_refused(out: &mut Vec<u8>, refusal: Refusal) -> Result<(), NoMemory>
 pub fn push_reply<R: KindRules>(
     out: &mut Vec<u8>,
     topology: &Topology<R>,
-    reply: Reply,
+    reply: &Reply,
 ) -> Result<(), NoMemory>
-    ensures { OnOk result (out.new.items ≡ out.old.items ++ reply_text (said_of topology.now reply)) }
+    ensures { OnOk result (out.new.items ≡ out.old.items ++ reply_text (said_of topology.now reply.now)) }
 {
     match reply {
         Reply::Nothing => Ok(()),
         Reply::Done => push_text(out, b"ok\n"),
-        Reply::Number(number) => push_given(out, number),
-        Reply::Judged(summary) => push_judged(out, summary),
+        Reply::Number(number) => push_given(out, *number),
+        Reply::Judged(summary) => push_judged(out, *summary),
         Reply::Refused(refusal) => push_refused(out, refusal),
         Reply::DirtyList => push_dirty_list(out, topology.dirt()),
         Reply::ErrorList => push_error_list(out, topology.errors()),

@@ -15,7 +15,7 @@ use Rattle.topology_terms.specs.Project.{Project, rule_at}
 use Rattle.plane_terms.specs.declared.shape_fault.ShapeFault.TheVariants as fault
 use Rattle.line_terms.specs.declared.line_refusal.LineRefusal.TheVariants as line
 use Rattle.line_terms.specs.Commands.{Class, Rule, DropRule, Begin, Add, Change as AChange, Delete, Undo}
-use Rattle.script_terms.specs.Refusal.{Line, NoSession, Change}
+use Rattle.script_terms.specs.Refusal.{Line, SessionOpen, NoSession, NothingToUndo, Change}
 use Rattle.script_terms.specs.Reply.{Judged, Refused, CellList, DirtyList, ErrorList, FeatureList, reply_text}
 use Rattle.script_terms.specs.State.{State}
 use Rattle.script_terms.specs.Refusing.{not_built, refusal_of}
@@ -38,7 +38,7 @@ wells = record {
 }
 
 abbrev open_ann : State
-open_ann = record { project = wells; editor = Some (codes "ann") }
+open_ann = record { project = wells; sessions = record { name = codes "ann"; done = []; undone = [] } ∷ [] }
 
 -- ---- the replies of the row
 cells : reply_text (CellList wells) ≡ codes "error 1 1 2 cells 3 4 3 4" ++ 10 ∷ codes "cell 1 0 -3 =, 0 1 -4 =" ++ 10 ∷ codes "total 1" ++ 10 ∷ []
@@ -90,8 +90,11 @@ no_such_rule : refusal_of open_ann (DropRule 2) ≡ Some (Change NoRule)
 unfolding rule_at
 no_such_rule = refl
 
-second_session : refusal_of open_ann (Begin (codes "bob")) ≡ Some not_built
+second_session : refusal_of open_ann (Begin (codes "bob")) ≡ None
 second_session = refl
+
+begun_again : refusal_of open_ann (Begin (codes "ann")) ≡ Some SessionOpen
+begun_again = refl
 
 no_such_feature : refusal_of open_ann (Delete (codes "ann") 3) ≡ Some (Change NoFeature)
 unfolding feature_at
@@ -101,7 +104,7 @@ moved : refusal_of open_ann (AChange (codes "ann") 2 (point (pos 5) (pos 4))) �
 unfolding feature_at
 moved = refl
 
-undone : refusal_of open_ann (Undo (codes "ann")) ≡ Some not_built
+undone : refusal_of open_ann (Undo (codes "ann")) ≡ Some NothingToUndo
 undone = refl
 
 -- ---- the words of refusals

@@ -1,6 +1,7 @@
 -- Why a line is refused, and the words of each refusal.
 --
--- Refusal            a fault of the line's own; no session of the editor is open; or why the project is not changed
+-- Refusal            a fault of the line's own; what is wrong with the editor's session; the handle is held by the session of this name; or why the project
+--                    is not changed
 -- shape_fault_text f     what is wrong with a shape, and the numbers that say where
 -- cause_code c       the code of a cause
 -- refusal_text r     the code, and what stands behind it
@@ -17,7 +18,12 @@ use Rattle.line_terms.specs.declared.line_refusal.LineRefusal.TheVariants.{NotAL
 
 pub data Refusal : Type 0 where
   Line : LineRefusal → Refusal
+  SessionOpen : Refusal
+  SessionsFull : Refusal
   NoSession : Refusal
+  HeldBy : List ℕ → Refusal
+  NothingToUndo : Refusal
+  NothingToRedo : Refusal
   Change : Cause → Refusal
 
 abbrev pub with_number : List ℕ → ℕ → List ℕ
@@ -58,5 +64,10 @@ cause_code cause.HandlesSpent = codes "E21"
 
 abbrev pub refusal_text : Refusal → List ℕ
 refusal_text (Line r) = line_refusal_text r
+refusal_text SessionOpen = codes "E10"
+refusal_text SessionsFull = codes "E11"
 refusal_text NoSession = codes "E12"
+refusal_text (HeldBy name) = codes "E20 " ⧺ name
+refusal_text NothingToUndo = codes "E22"
+refusal_text NothingToRedo = codes "E23"
 refusal_text (Change c) = cause_code c

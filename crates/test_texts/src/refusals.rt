@@ -1,4 +1,5 @@
 // The text of each refusal.
+use grid_plane::Name;
 use reply_text::{Cause, Refusal, Reply, push_reply};
 use rule_set::PosterRules;
 use script_text::LineRefusal;
@@ -6,7 +7,7 @@ use shape::ShapeFault;
 use std::test::Fail;
 use topo_core::Topology;
 
-const REFUSALS: [Refusal; 22] = [
+const REFUSALS: [Refusal; 26] = [
     Refusal::Line(LineRefusal::NotALine),
     Refusal::Line(LineRefusal::TooLong),
     Refusal::Change(Cause::ClassTaken),
@@ -16,6 +17,8 @@ const REFUSALS: [Refusal; 22] = [
     Refusal::Change(Cause::RuleThere),
     Refusal::Change(Cause::RulesFull),
     Refusal::Change(Cause::NoRule),
+    Refusal::SessionOpen,
+    Refusal::SessionsFull,
     Refusal::NoSession,
     Refusal::Change(Cause::WrongKind),
     Refusal::Line(LineRefusal::OffGrid { at: 7 }),
@@ -28,6 +31,8 @@ const REFUSALS: [Refusal; 22] = [
     Refusal::Line(LineRefusal::Invalid(ShapeFault::Along { i: 1, j: 3 })),
     Refusal::Change(Cause::NoFeature),
     Refusal::Change(Cause::HandlesSpent),
+    Refusal::NothingToUndo,
+    Refusal::NothingToRedo,
     Refusal::Line(LineRefusal::Reversed),
 ];
 
@@ -40,6 +45,8 @@ refused E06
 refused E07
 refused E08
 refused E09
+refused E10
+refused E11
 refused E12
 refused E13
 refused E14 7
@@ -52,6 +59,8 @@ refused E18 cross 0 2
 refused E18 along 1 3
 refused E19
 refused E21
+refused E22
+refused E23
 refused E24
 ";
 
@@ -61,8 +70,23 @@ fn each_refusal_once(rt: HostRuntime) -> Result<(), Fail> {
     let topology = Topology::new(alloc, PosterRules);
     let mut out = Vec::new(alloc);
     for refusal in REFUSALS {
-        push_reply(&mut out, &topology, Reply::Refused(refusal))?;
+        push_reply(&mut out, &topology, &Reply::Refused(refusal))?;
     }
     assert_eq!(rt; out.as_slice(), TEXT);
+    Ok(())
+}
+
+#[test]
+fn a_holder_is_named(rt: HostRuntime) -> Result<(), Fail> {
+    let alloc = rt.alloc();
+    let topology = Topology::new(alloc, PosterRules);
+    let name = Name::of(b"ann").ok_or("no name")?;
+    let mut out = Vec::new(alloc);
+    push_reply(
+        &mut out,
+        &topology,
+        &Reply::Refused(Refusal::HeldBy(name)),
+    )?;
+    assert_eq!(rt; out.as_slice(), b"refused E20 ann\n".as_slice());
     Ok(())
 }

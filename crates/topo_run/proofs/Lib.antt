@@ -4,3 +4,4 @@ pub mod Stepping
 pub mod Texts
 pub mod Words
 pub mod OneRun
+pub mod Restores

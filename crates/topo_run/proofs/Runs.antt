@@ -10,6 +10,8 @@ use Rattle.std.proofs.KnownBytes.{Appends-nil, Appends-trans}
 use Rattle.script_terms.specs.State.{State, empty_state}
 use Rattle.script_terms.specs.Run.{Outcome, Step, Run, text_of, any_refused, last_state, EachInvariant, WritesRun, WritesPrefix}
 use Rattle.script_terms.specs.Headline.{Invariant}
+use Rattle.script_terms.proofs.Runs.{run_keeps, empty_keeps}
+use Rattle.topology_terms.specs.Project.{IsOrdered, empty_project}
 use Rattle.topo_run.proofs.Stepping.{Takes}
 
 pub record SoFar (start : State) (all rest : List (List ℕ)) (now : State) (before written : Option (List ℕ)) (pending : List ℕ) (refused : Bool) : Type 0 where
@@ -87,16 +89,22 @@ pub takes : {start now next : State} {all lines : List (List ℕ)} {line : List 
 takes {start} {now} {next} {all} {lines} {line} {rest} {before} {written} {pending} {more} {refused} {bad} far is taken =
     goes_on {o = record { text = taken.0; after = next; refused = bad }} (subst (λ (ls : List (List ℕ)). SoFar start all ls now before written pending refused) is far) taken.2 taken.3 taken.1
 
+pub empty_ordered : IsOrdered empty_project
+empty_ordered = record { rules = tt; features = tt; next = tt; entries = tt }
+
 -- all lines were answered, and what was pending is written
 pub ends : {now : State} {all lines : List (List ℕ)} {before written after : Option (List ℕ)} {pending bytes : List ℕ} {refused : Bool} →
     SoFar empty_state all lines now before written pending refused → lines ≡ [] → bytes ≡ pending → Appends written after bytes → WritesRun empty_state all before after refused
-ends {now} {all} {lines} {before} {written} {after} {pending} {bytes} {refused} far none same more = record {
-  outcomes = far.outcomes;
-  run = rw (far.split, none, append-nil far.done) far.run;
-  written = rw far.text (Appends-trans before written after far.front pending far.appended (subst (λ (t : List ℕ). Appends written after t) same more));
-  any = far.any;
-  invariant = far.invariant;
-}
+ends {now} {all} {lines} {before} {written} {after} {pending} {bytes} {refused} far none same more =
+    let run : Run empty_state all far.outcomes = rw (far.split, none, append-nil far.done) far.run in
+    record {
+      outcomes = far.outcomes;
+      run = run;
+      written = rw far.text (Appends-trans before written after far.front pending far.appended (subst (λ (t : List ℕ). Appends written after t) same more));
+      any = far.any;
+      invariant = far.invariant;
+      keeping = run_keeps empty_state all far.outcomes empty_keeps empty_ordered run;
+    }
 
 -- what was written so far is a prefix
 pub stops : {now : State} {all rest : List (List ℕ)} {before written : Option (List ℕ)} {pending : List ℕ} {refused : Bool} → SoFar empty_state all rest now before written pending refused → WritesPrefix empty_state all before written
@@ -109,6 +117,7 @@ stops {now} {all} {rest} {before} {written} {pending} {refused} far = record {
   is_prefix = (pending, far.text);
   written = far.appended;
   invariant = far.invariant;
+  keeping = run_keeps empty_state far.done far.outcomes empty_keeps empty_ordered far.run;
 }
 
 -- what holds anyway

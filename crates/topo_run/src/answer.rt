@@ -11,8 +11,8 @@ use reply_text::push_reply;
 use script_text::{LineFault, read_line};
 use std::alloc::Global;
 
-fn is_refusal(reply: Reply) -> bool
-    ensures { (p : Project) → result ≡ run.is_refusal (said_of p reply) }
+fn is_refusal(reply: &Reply) -> bool
+    ensures { (p : Project) → result ≡ run.is_refusal (said_of p reply.now) }
 {
     matches!(reply, Reply::Refused(_))
 }
@@ -33,14 +33,14 @@ pub fn answer_line(
         Ok(command) => {
             let reply = world.answer(command)?;
             world.headline_law();
-            push_reply(out, world.topology(), reply)?;
-            Ok(is_refusal(reply))
+            push_reply(out, world.topology(), &reply)?;
+            Ok(is_refusal(&reply))
         }
         Err(LineFault::Refused(refusal)) => {
             push_reply(
                 out,
                 world.topology(),
-                Reply::Refused(Refusal::Line(refusal)),
+                &Reply::Refused(Refusal::Line(refusal)),
             )?;
             Ok(true)
         }

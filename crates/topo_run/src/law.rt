@@ -1,7 +1,10 @@
-ghost use Rattle.std.specs.Prelude.{◌≡◌, ℕ, List};
+ghost use Rattle.std.specs.Prelude.{◌≡◌, ℕ, List, false};
 ghost use Rattle.plane_terms.specs.Lists.{Every};
-ghost use Rattle.script_terms.specs.Run.{HasOneFault, Outcome, Run};
-ghost use Rattle.script_terms.specs.State.{State};
+ghost use Rattle.line_terms.specs.Commands.{Undo, Discard};
+ghost use Rattle.line_terms.specs.Lines.{IsCommandLine};
+ghost use Rattle.script_terms.specs.Restored.{IsRestored, IsAllRestored};
+ghost use Rattle.script_terms.specs.Run.{HasOneFault, Outcome, Run, Step, last_state};
+ghost use Rattle.script_terms.specs.State.{State, empty_state};
 
 use rule_set::poster_law;
 
@@ -13,4 +16,16 @@ pub fn one_run_law()
     ensures { (s : State) (lines : List (List ℕ)) (os ps : List Outcome) → Every HasOneFault lines → Run s lines os → Run s lines ps → os ≡ ps }
 {
     poster_law();
+}
+
+/// The law of undos over runs: whatever the editors have done before, a line that undoes and is not refused puts back at one handle
+/// what stood there before the editor's last done step, and no other feature changes; a discard puts back at each handle of the
+/// session's done steps what stood there before the first of them.
+#[tactic(auto, using(crate::proofs::Restores::undo_over, crate::proofs::Restores::discard_over))]
+pub fn exact_undo_law()
+    ensures undo { (lines : List (List ℕ)) (os : List Outcome) (line editor : List ℕ) (o : Outcome) → Run empty_state lines os → Step (last_state empty_state os) line o
+        → IsCommandLine line (Undo editor) → o.refused ≡ false → IsRestored editor (last_state empty_state os) o.after }
+    ensures discard { (lines : List (List ℕ)) (os : List Outcome) (line editor : List ℕ) (o : Outcome) → Run empty_state lines os → Step (last_state empty_state os) line o
+        → IsCommandLine line (Discard editor) → o.refused ≡ false → IsAllRestored editor (last_state empty_state os) o.after }
+{
 }

@@ -10,5 +10,5 @@ mod replay;
 mod status;
 mod write;
 
-pub use law::one_run_law;
+pub use law::{exact_undo_law, one_run_law};
 pub use program::{USAGE, run};

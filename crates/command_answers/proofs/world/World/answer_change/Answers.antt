@@ -1,14 +1,20 @@
-use Rattle.std.proofs.Common.{refl, rules, sym}
+use Rattle.std.proofs.Common.{◌≡◌, None, sym, subst}
+use Rattle.line_terms.specs.Commands.{Delete}
+use Rattle.script_terms.specs.Refusing.{refusal_of}
 use Rattle.script_terms.specs.State.{State}
-use Rattle.command_answers.proofs.Replying.{kept_by, same_after, change_replied}
+use Rattle.topology_terms.specs.Changes.{reshaped}
+use Rattle.topology_terms.specs.Feature.{feature_at}
+use Rattle.command_answers.proofs.Replying.{kept_by, room_after, change_replied, set_kept}
 use Rattle.command_answers.proofs.world.World.answer_change.Goals as goal
 
 pub returns-clause-answers : goal.returns-clause-answers
 returns-clause-answers c =
-    let s : State = record { project = c.self.inside.topology; editor = c.self.inside.editor } in
-    rw (← c.self.view_is) (change_replied s _ c.args.editor.now c.args.handle c.args.shape c.change.result c.reply_to_change.result (search rules) refl c.change.ensures.ok c.change.ensures.may c.change.ensures.refused c.change.ensures.err c.reply_to_change.ensures.said)
+    rw (← c.self.view_is) (change_replied c.self.inside.topology c.change_noted.new.topology c.self.inside.sessions c.change_noted.new.sessions c.args.editor.now c.args.handle c.args.shape c.change_noted.result c.reply_to_change.result c.self.invariant c.order_law.ensures (subst (λ (z : State). refusal_of z (Delete c.args.editor.now c.args.handle) ≡ None) (sym c.self.view_is) c.in_default.ensures) c.change_noted.ensures.ok c.change_noted.ensures.noted c.change_noted.ensures.may c.change_noted.ensures.refused c.change_noted.ensures.err c.change_noted.ensures.room c.reply_to_change.ensures.said)
 
 pub returns-clause-err : goal.returns-clause-err
 returns-clause-err c =
-    let s : State = record { project = c.self.inside.topology; editor = c.self.inside.editor } in
-    rw (← c.self.view_is) (kept_by _ c.change.result c.reply_to_change.result c.reply_to_change.ensures.spent (same_after s _ c.change.result c.change.ensures.err))
+    rw (← c.self.view_is) (kept_by _ c.change_noted.result c.reply_to_change.result c.reply_to_change.ensures.spent (room_after c.self.inside.topology c.change_noted.new.topology c.args.editor.now c.self.inside.sessions c.change_noted.new.sessions c.change_noted.result c.change_noted.ensures.err c.change_noted.ensures.room))
+
+pub invariant_of-self : goal.invariant_of-self
+invariant_of-self c =
+    set_kept c.self.inside.topology c.change_noted.new.topology c.self.inside.sessions c.change_noted.new.sessions c.args.editor.now c.args.handle (reshaped (feature_at c.self.inside.topology.features c.args.handle) c.args.shape) c.change_noted.result c.topology_law.ensures.store c.self.invariant c.order_law.ensures (subst (λ (z : State). refusal_of z (Delete c.args.editor.now c.args.handle) ≡ None) (sym c.self.view_is) c.in_default.ensures) c.change_noted.ensures.ok c.change_noted.ensures.noted c.change_noted.ensures.live c.change_noted.ensures.err c.change_noted.ensures.room c.change_noted.ensures.sound c.change_noted.ensures.settled

@@ -1,14 +1,18 @@
-use Rattle.std.proofs.Common.{refl, rules, sym}
+use Rattle.std.proofs.Common.{◌≡◌, None, sym, subst}
+use Rattle.line_terms.specs.Commands.{Delete}
+use Rattle.script_terms.specs.Refusing.{refusal_of}
 use Rattle.script_terms.specs.State.{State}
-use Rattle.command_answers.proofs.Replying.{kept_by, same_after, delete_replied}
+use Rattle.command_answers.proofs.Replying.{kept_by, room_after, delete_replied, set_kept}
 use Rattle.command_answers.proofs.world.World.answer_delete.Goals as goal
 
 pub returns-clause-answers : goal.returns-clause-answers
 returns-clause-answers c =
-    let s : State = record { project = c.self.inside.topology; editor = c.self.inside.editor } in
-    rw (← c.self.view_is) (delete_replied s _ c.args.editor.now c.args.handle c.delete.result c.reply_to_change.result (search rules) refl c.delete.ensures.ok c.delete.ensures.may c.delete.ensures.refused c.delete.ensures.err c.reply_to_change.ensures.said)
+    rw (← c.self.view_is) (delete_replied c.self.inside.topology c.delete_noted.new.topology c.self.inside.sessions c.delete_noted.new.sessions c.args.editor.now c.args.handle c.delete_noted.result c.reply_to_change.result c.self.invariant c.order_law.ensures (subst (λ (z : State). refusal_of z (Delete c.args.editor.now c.args.handle) ≡ None) (sym c.self.view_is) c.in_default.ensures) c.delete_noted.ensures.ok c.delete_noted.ensures.noted c.delete_noted.ensures.refused c.delete_noted.ensures.err c.delete_noted.ensures.room c.reply_to_change.ensures.said)
 
 pub returns-clause-err : goal.returns-clause-err
 returns-clause-err c =
-    let s : State = record { project = c.self.inside.topology; editor = c.self.inside.editor } in
-    rw (← c.self.view_is) (kept_by _ c.delete.result c.reply_to_change.result c.reply_to_change.ensures.spent (same_after s _ c.delete.result c.delete.ensures.err))
+    rw (← c.self.view_is) (kept_by _ c.delete_noted.result c.reply_to_change.result c.reply_to_change.ensures.spent (room_after c.self.inside.topology c.delete_noted.new.topology c.args.editor.now c.self.inside.sessions c.delete_noted.new.sessions c.delete_noted.result c.delete_noted.ensures.err c.delete_noted.ensures.room))
+
+pub invariant_of-self : goal.invariant_of-self
+invariant_of-self c =
+    set_kept c.self.inside.topology c.delete_noted.new.topology c.self.inside.sessions c.delete_noted.new.sessions c.args.editor.now c.args.handle None c.delete_noted.result c.topology_law.ensures.store c.self.invariant c.order_law.ensures (subst (λ (z : State). refusal_of z (Delete c.args.editor.now c.args.handle) ≡ None) (sym c.self.view_is) c.in_default.ensures) c.delete_noted.ensures.ok c.delete_noted.ensures.noted c.delete_noted.ensures.live c.delete_noted.ensures.err c.delete_noted.ensures.room c.delete_noted.ensures.sound c.delete_noted.ensures.settled

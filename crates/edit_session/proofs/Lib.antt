@@ -1,0 +1,3 @@
+pub mod Moves
+mod Places
+pub mod Undoing

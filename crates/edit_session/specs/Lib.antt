@@ -1,0 +1,5 @@
+pub mod Grounds
+pub mod OverTopologies
+pub mod Moves
+pub mod Faults
+pub mod SessionsCalls

@@ -1,0 +1,43 @@
+-- An undo restores one handle, a discard those of the session's done steps.
+use Rattle.std.proofs.Common.{ℕ, ◌≡◌, ◌≢◌, Bool, true, false, List, [], ◌∷◌, refl, sym, ◌∙◌, ap, arith, eqb}
+use Rattle.std.proofs.lemmas.Bool.Decides.{nat_tests}
+use Rattle.std.specs.Prelude.{if◌then◌else◌}
+use Rattle.topology_terms.specs.Feature.{feature_at}
+use Rattle.topology_terms.specs.Project.{Project}
+use Rattle.topology_terms.specs.Session.{EditStep}
+use Rattle.session_terms.specs.Chains.{IsChained}
+use Rattle.session_terms.proofs.Chains.{last_left}
+use Rattle.script_terms.specs.State.{State}
+use Rattle.script_terms.specs.Answer.{IsUndone, IsDiscarded, AreTakenBack}
+use Rattle.script_terms.specs.Keeping.{IsKeeping}
+use Rattle.script_terms.specs.Restored.{first_before, IsRestored, IsAllRestored}
+use Rattle.script_terms.proofs.Keeping.{named_has}
+
+pub undo_restores : (editor : List ℕ) (old new : State) → IsKeeping old → IsUndone editor old new → IsRestored editor old new
+undo_restores editor old new k d = record {
+  session = d.was;
+  there = d.session.there;
+  earlier = d.is.done;
+  step = d.step;
+  last = d.undone.done;
+  left = last_left (feature_at old.project.features) d.was d.is.done d.step d.undone.done (named_has (IsChained (feature_at old.project.features)) old.sessions editor d.was d.session.there k.chained);
+  back = d.set.edit.features.here;
+  others = d.set.edit.features.others;
+}
+
+same_number : (m n : ℕ) → eqb m n ≡ true → m ≡ n
+same_number m n t = grind (arith, nat_tests)
+
+other_number : (m n : ℕ) → eqb m n ≡ false → n ≢ m
+other_number m n t = λ e. absurd (grind (arith, nat_tests))
+
+pub taken_at : (ts : List EditStep) (old new : Project) (k : ℕ) → AreTakenBack ts old new → feature_at new.features k ≡ first_before ts (feature_at old.features) k
+taken_at [] old new k t = ap (λ (p : Project). feature_at p.features k) t
+taken_at (x ∷ ts) old new k t = by (eqb x.handle k) refl (taken_at ts old t.0 k t.1)
+  where
+    by : (b : Bool) → eqb x.handle k ≡ b → feature_at t.0.features k ≡ first_before ts (feature_at old.features) k → feature_at new.features k ≡ (if b then x.before else first_before ts (feature_at old.features) k)
+    by true e r = ap (feature_at new.features) (sym (same_number x.handle k e)) ∙ t.2.edit.features.here
+    by false e r = t.2.edit.features.others k (other_number x.handle k e) ∙ r
+
+pub discard_restores : (editor : List ℕ) (old new : State) → IsDiscarded editor old new → IsAllRestored editor old new
+discard_restores editor old new d = record { session = d.session; there = d.there; back = λ k. taken_at d.session.done old.project new.project k d.taken_back }

@@ -1,0 +1,4 @@
+pub mod Relation
+pub mod Seen
+pub mod Apart
+pub mod Chains

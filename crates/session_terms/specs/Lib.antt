@@ -1,0 +1,4 @@
+pub mod Kept
+pub mod KeptChanges
+pub mod Steps
+pub mod Chains

@@ -1,0 +1,44 @@
+-- In a run an undo and a discard bring back what stood before the steps.
+use Rattle.std.proofs.Common.{◌≡◌, ℕ, Bool, true, false, List, Option, Some, None, refl, sym, ◌∙◌, ap, subst}
+use Rattle.line_terms.specs.Commands.{Command, Undo, Discard}
+use Rattle.line_terms.specs.Lines.{IsCommandLine}
+use Rattle.script_text.proofs.OneCommand.{one_command}
+use Rattle.script_terms.specs.Refusal.{Refusal}
+use Rattle.script_terms.specs.Refusing.{refusal_of}
+use Rattle.script_terms.specs.Reply.{Reply}
+use Rattle.script_terms.specs.State.{State, empty_state}
+use Rattle.script_terms.specs.Answer.{IsDone, answers_by}
+use Rattle.script_terms.specs.Restored.{IsRestored, IsAllRestored}
+use Rattle.script_terms.specs.Run.{Reading, Reads, Faulty, Outcome, Step, Run, ComesOf, ReadsAs, last_state, is_refusal}
+use Rattle.script_terms.proofs.Restoring.{undo_restores, discard_restores}
+use Rattle.script_terms.proofs.Runs.{run_keeps, last_keeps, empty_keeps}
+use Rattle.topo_run.proofs.Runs.{empty_ordered}
+
+-- what a command leaves that is read, answered and not refused
+command_done : (s : State) (line : List ℕ) (c : Command) (o : Outcome) → Step s line o → IsCommandLine line c → o.refused ≡ false → (reply : Reply) × IsDone s c reply o.after
+command_done s line c o step is free = by step.reading step.reads step.comes
+  where
+    done : (x : Option Refusal) (reply : Reply) → answers_by x s c reply o.after → is_refusal reply ≡ false → IsDone s c reply o.after
+    done None reply a f = a
+    done (Some r) reply a f = let no : true ≡ false = sym (ap is_refusal a.0) ∙ f in absurd cc
+
+    by : (r : Reading) → ReadsAs line r → ComesOf s r o → (reply : Reply) × IsDone s c reply o.after
+    by (Faulty r) reads comes = absurd (reads.0 c is)
+    by (Reads d) reads comes =
+        let same : d ≡ c = one_command line d c reads is in
+        let k = subst (λ (e : Command). ComesOf s (Reads e) o) same comes in
+        (k.0, done (refusal_of s c) k.0 k.1 (sym k.2.refused ∙ free))
+
+pub undo_over : (lines : List (List ℕ)) (os : List Outcome) (line editor : List ℕ) (o : Outcome) → Run empty_state lines os → Step (last_state empty_state os) line o → IsCommandLine line (Undo editor) → o.refused ≡ false
+    → IsRestored editor (last_state empty_state os) o.after
+undo_over lines os line editor o run step is free =
+    let s = last_state empty_state os in
+    let d = command_done s line (Undo editor) o step is free in
+    undo_restores editor s o.after (last_keeps empty_state os (run_keeps empty_state lines os empty_keeps empty_ordered run)) d.1.1
+
+pub discard_over : (lines : List (List ℕ)) (os : List Outcome) (line editor : List ℕ) (o : Outcome) → Run empty_state lines os → Step (last_state empty_state os) line o → IsCommandLine line (Discard editor) → o.refused ≡ false
+    → IsAllRestored editor (last_state empty_state os) o.after
+discard_over lines os line editor o run step is free =
+    let s = last_state empty_state os in
+    let d = command_done s line (Discard editor) o step is free in
+    discard_restores editor s o.after d.1.1
