@@ -1,6 +1,6 @@
 -- What is refused leaves the state, and what is done is the command's.
 use Rattle.std.proofs.Common.{◌≡◌, ◌⊎◌, inl, inr, ℕ, ◌+◌, ◌-◌, ◌≤◌, ◌<◌, ap, ◌∙◌, Bool, true, false, List, [], ◌∷◌, length, Option, Some, None, refl, arith}
-use Rattle.std.specs.Prelude.{min, max, not, IsSomeAnd}
+use Rattle.std.specs.Prelude.{not, IsSomeAnd}
 use Rattle.plane_terms.specs.Lists.{Every}
 use Rattle.plane_terms.specs.Rectangle.{Rectangle}
 use Rattle.plane_terms.specs.Shape.{Shape}
@@ -11,7 +11,6 @@ use Rattle.topology_terms.specs.Causes.{Tells, when, first_of, class_cause, add_
 use Rattle.topology_terms.specs.Feature.{Feature, feature_at}
 use Rattle.topology_terms.specs.Lookups.{class_number}
 use Rattle.topology_terms.specs.Poster.{poster}
-use Rattle.topology_terms.specs.Project.{Project}
 use Rattle.topology_terms.specs.Built.{is_built}
 use Rattle.topology_terms.specs.Settled.{IsValidatedBy}
 use Rattle.topology_terms.specs.declared.cause.Cause.{Cause}

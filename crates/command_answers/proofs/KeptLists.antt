@@ -1,5 +1,5 @@
 -- The kept sessions, by name: what each has is had by those that change, come and go; and what is seen of them.
-use Rattle.std.proofs.Common.{ℕ, ◌≡◌, ◌≢◌, Bool, true, false, List, [], ◌∷◌, ◌++◌, length, suc, Option, Some, None, refl, sym, ◌∙◌, ap, subst, eqb}
+use Rattle.std.proofs.Common.{ℕ, ◌≡◌, Bool, true, false, List, [], ◌∷◌, ◌++◌, length, suc, Option, Some, None, refl, sym, ◌∙◌, ap, subst, eqb}
 use Rattle.std.specs.List.{list_any}
 use Rattle.std.specs.Option.{option_map}
 use Rattle.std.specs.Prelude.{if◌then◌else◌, bytes_eq, find, is_some, ◌||◌}
@@ -8,8 +8,8 @@ use Rattle.plane_terms.specs.Lists.{Every}
 use Rattle.topology_terms.specs.Feature.{Feature}
 use Rattle.topology_terms.specs.Session.{EditStep, Session, session_of, has_step, holder}
 use Rattle.session_terms.specs.Kept.{KeptStep, KeptSession, set_at, done_of, undone_of, seen_session, seen}
-use Rattle.session_terms.specs.KeptChanges.{IsKeptChange, IsSameButRoom, kept_named, with_kept, without_kept, with_kept_opened, is_below, has_kept_step, kept_holder}
-use Rattle.session_terms.proofs.Seen.{seen_named, same_name, other_name}
+use Rattle.session_terms.specs.KeptChanges.{kept_named, with_kept, without_kept, with_kept_opened, is_below, has_kept_step, kept_holder}
+use Rattle.session_terms.proofs.Seen.{seen_named, same_name}
 
 -- ---- what each session has
 pub named_has : (P : KeptSession → Type 0) (ss : List KeptSession) (name : List ℕ) (s : KeptSession) → kept_named ss name ≡ Some s → Every P ss → P s
@@ -112,6 +112,6 @@ holder_seen at (s ∷ ss) h = rw (has_seen at s h) (by (has_kept_step s h) (hold
   where
     by : (b : Bool) → holder (seen at ss) h ≡ kept_holder ss h
         → option_map (λ (x : Session). x.name) (if b then Some (seen_session at s) else find (λ (x : Session). has_step x h) (seen at ss))
-          ≡ option_map (λ (x : KeptSession). x.name) (if b then Some s else find (λ (x : KeptSession). has_kept_step x h) ss)
+        ≡ option_map (λ (x : KeptSession). x.name) (if b then Some s else find (λ (x : KeptSession). has_kept_step x h) ss)
     by true r = refl
     by false r = r

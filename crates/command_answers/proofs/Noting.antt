@@ -11,10 +11,10 @@ use Rattle.topology_terms.specs.Settled.{IsSettled}
 use Rattle.topology_terms.specs.Sound.{IsSound}
 use Rattle.feature_store.specs.Keeps.{IsOfClass, IsGiven, IsStore}
 use Rattle.feature_store.proofs.Keeping.{kind_end}
-use Rattle.session_terms.specs.Kept.{KeptStep, KeptSession, seen_session, seen}
-use Rattle.session_terms.specs.KeptChanges.{IsSet, IsKeptNoted, IsKeptChange, kept_named, with_kept}
+use Rattle.session_terms.specs.Kept.{KeptStep, KeptSession, seen}
+use Rattle.session_terms.specs.KeptChanges.{IsKeptNoted, kept_named, with_kept}
 use Rattle.session_terms.specs.Steps.{IsAlone}
-use Rattle.edit_session.specs.Grounds.{IsMayStand, may_in}
+use Rattle.edit_session.specs.Grounds.{may_in}
 use Rattle.edit_session.specs.Moves.{MayAll}
 use Rattle.edit_session.specs.SessionsCalls as calls
 use Rattle.edit_session.proofs.Moves.{each_still, each_end}
@@ -26,8 +26,8 @@ use Rattle.script_terms.proofs.Bridges.{note_bridge, room_bridge}
 use Rattle.script_terms.proofs.Commands.{same_keeps, added_keeps, fresh_alone}
 use Rattle.script_terms.proofs.Keeping.{altered_keeps}
 use Rattle.script_terms.proofs.Runs.{may_edit}
-use Rattle.command_answers.specs.Worlds.{state_of, AllMay, IsWorld}
-use Rattle.command_answers.proofs.KeptLists.{named_has, with_has, name_of, now_named, with_twice}
+use Rattle.command_answers.specs.Worlds.{state_of, IsWorld}
+use Rattle.command_answers.proofs.KeptLists.{named_has, name_of, now_named, with_twice}
 use Rattle.command_answers.proofs.Sessions.{May, may_changed, all_still}
 
 -- ---- room is made, and the step is noted
@@ -97,7 +97,7 @@ set_world p q name ss ts h f after store w ord may live e d sound settled =
       settled = settled;
       keeping = altered_keeps name h after (state_of p ss) (state_of q ts) w.keeping a.0 a.1 (set_done p q name ss ts h after w ord may e d);
       may = may_changed p q name d.was d.is ss ts d.change still
-        (noted_may (May p) (May q) d.was (record { handle = h; kept = feature_at p.features h }) d.is still d.noted (named_has (MayAll (May p)) ss name d.was d.change.there w.may) (still h (feature_at p.features h) (live_may p h f store live))) w.may;
+          (noted_may (May p) (May q) d.was (record { handle = h; kept = feature_at p.features h }) d.is still d.noted (named_has (MayAll (May p)) ss name d.was d.change.there w.may) (still h (feature_at p.features h) (live_may p h f store live))) w.may;
     }
 
 -- ---- a feature comes

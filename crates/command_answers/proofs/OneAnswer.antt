@@ -1,18 +1,17 @@
 -- A command has one reply, and leaves one state.
-use Rattle.std.proofs.Common.{◌≡◌, ◌≢◌, ◌↔◌, ◌⊎◌, inl, inr, ℕ, ◌<◌, ◌≤◌, Bool, true, false, List, [], ◌∷◌, ◌++◌, length, Option, Some, None, refl, sym, ◌∙◌, ap, subst, arith}
+use Rattle.std.proofs.Common.{◌≡◌, ◌⊎◌, inl, inr, ℕ, ◌<◌, Bool, true, false, List, [], ◌∷◌, ◌++◌, length, Option, Some, None, refl, sym, ◌∙◌, ap, subst, arith}
 use Rattle.plane_terms.specs.Lists.{IsThose}
 use Rattle.plane_terms.specs.Rectangle.{Rectangle}
 use Rattle.topology_terms.specs.Broken.{Row}
-use Rattle.topology_terms.specs.Changes.{IsClassAdded, IsFeatureAdded, IsFeatureSet, IsEdit, IsRuleAdded, IsRuleDropped, IsSelected, IsUnchanged, KeepsMark, add_envelope}
+use Rattle.topology_terms.specs.Changes.{IsFeatureSet, IsEdit, IsRuleAdded, IsRuleDropped, IsUnchanged, KeepsMark, add_envelope}
 use Rattle.topology_terms.specs.Counts.{judged_of}
 use Rattle.topology_terms.specs.Entry.{Entry, entry_at}
-use Rattle.topology_terms.specs.Entry as entries
 use Rattle.topology_terms.specs.Feature.{Class as AClass, Feature, feature_at, IsSetAt}
 use Rattle.topology_terms.specs.Feature as features
 use Rattle.topology_terms.specs.Lookups.{class_number}
-use Rattle.topology_terms.specs.Meaning.{Finding, finding_at, CutsRight}
+use Rattle.topology_terms.specs.Meaning.{finding_at, CutsRight}
 use Rattle.topology_terms.specs.Poster.{poster}
-use Rattle.topology_terms.specs.Project.{Project, InForce, IsOrdered, AreAscending, by_number, rule_at}
+use Rattle.topology_terms.specs.Project.{Project, InForce, IsOrdered, rule_at}
 use Rattle.topology_terms.specs.Settled.{AreAlike, IsValidatedBy}
 use Rattle.topology_terms.specs.Session.{EditStep, Session, session_of, with_step}
 use Rattle.session_terms.specs.Steps.{with_session}
@@ -23,11 +22,11 @@ use Rattle.sound_laws.proofs.RuleLists.{same_rules}
 use Rattle.sound_laws.proofs.Settling.{alike_same}
 use Rattle.line_terms.specs.Commands.{Command, Blank, Class, Rule, DropRule, Begin, End, Discard, Add, Change, Delete, Undo, Redo, Validate, Mark, Unmark, Dirty, Errors, Cells, Features, Rules}
 use Rattle.script_terms.specs.Refusal.{Refusal}
-use Rattle.script_terms.specs.Reply.{Reply, Number, Judged, Refused}
+use Rattle.script_terms.specs.Reply.{Reply, Number, Judged}
 use Rattle.script_terms.specs.State.{State}
 use Rattle.script_terms.proofs.Restoring.{taken_at}
 use Rattle.script_terms.specs.Refusing.{refusal_of, number_or_0}
-use Rattle.script_terms.specs.Answer.{Answers, IsDone, IsSame, IsBegun, IsNoted, IsUndone, IsRedone, IsDiscarded, AreTakenBack, IsValidation, Leaves, answers_by, added_step}
+use Rattle.script_terms.specs.Answer.{Answers, IsDone, IsSame, IsNoted, IsUndone, IsRedone, IsDiscarded, AreTakenBack, answers_by, added_step}
 
 -- the same reply, and the same state
 abbrev pub Same : Reply → State → Reply → State → Type 0
@@ -301,9 +300,10 @@ one_done C s t u (End editor) reply said v w d e = (d.0 ∙ sym e.0, same_state 
 one_done C s t u (Discard editor) reply said v w d e = (d.0 ∙ sym e.0, discard_same editor s t u v w d.1 e.1)
 one_done C s t u (Add editor class shape) reply said v w (g, d, i) (h, e, j) =
     let same : g ≡ h = i.project.number ∙ sym j.project.number in
-    let k = rw same at i.project.edit in
-    (d ∙ (ap Number same ∙ sym e),
-     noted_same editor s t u _ _ i.noted j.noted (ap (λ (n : ℕ). added_step n (number_or_0 (class_number s.project class)) shape) same) (edit_same h _ s.project t.project u.project v w k j.project.edit (i.project.next ∙ sym j.project.next)))
+    let k = rw same at i.project.edit in (
+      d ∙ (ap Number same ∙ sym e),
+      noted_same editor s t u _ _ i.noted j.noted (ap (λ (n : ℕ). added_step n (number_or_0 (class_number s.project class)) shape) same) (edit_same h _ s.project t.project u.project v w k j.project.edit (i.project.next ∙ sym j.project.next)),
+    )
 one_done C s t u (Change editor h shape) reply said v w d e =
     (d.0 ∙ sym e.0, noted_same editor s t u _ _ d.1.noted e.1.noted refl (edit_same h _ s.project t.project u.project v w d.1.project.edit e.1.project.edit (d.1.project.next ∙ sym e.1.project.next)))
 one_done C s t u (Delete editor h) reply said v w d e =

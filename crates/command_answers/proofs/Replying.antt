@@ -25,8 +25,8 @@ use Rattle.script_terms.specs.Answer.{Answers}
 use Rattle.script_terms.specs.Refusal.{Change}
 use Rattle.script_terms.specs.Refusing.{row_of, is_nowhere, refusal_of}
 use Rattle.script_terms.specs.Reply.{Done, Number, Refused}
-use Rattle.script_terms.specs.State.{State, is_open}
-use Rattle.session_terms.specs.Kept.{KeptStep, KeptSession}
+use Rattle.script_terms.specs.State.{is_open}
+use Rattle.session_terms.specs.Kept.{KeptSession}
 use Rattle.edit_session.specs.SessionsCalls as calls
 use Rattle.command_answers.specs.Worlds.{state_of, IsWorld, IsRoomAlone}
 use Rattle.reply_text.specs.Replies.{said_of}

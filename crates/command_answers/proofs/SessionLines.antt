@@ -1,15 +1,15 @@
 -- What a call of the sessions answers is what the line of a session is answered.
-use Rattle.std.proofs.Common.{◌≡◌, ◌≢◌, ◌<◌, ◌++◌, ℕ, Bool, true, false, List, [], ◌∷◌, length, Option, Some, None, refl, sym, ◌∙◌, ap, subst, inl, inr, arith, eqb, length-append}
+use Rattle.std.proofs.Common.{◌≡◌, ◌≢◌, ◌<◌, ◌++◌, ℕ, true, false, List, [], ◌∷◌, length, Option, Some, None, refl, sym, ◌∙◌, ap, subst, inl, inr, arith, eqb, length-append}
 use Rattle.std.proofs.lemmas.Bool.Decides.{nat_tests}
-use Rattle.std.specs.Prelude.{Result, Ok, Err, IfOk, OnOk, IfErr, OnErr, IsSomeAnd, MatchResult, is_some, not, bytes_eq}
-use Rattle.topology_terms.specs.Causes.{when, first_of}
+use Rattle.std.specs.Prelude.{Result, Ok, Err, IfOk, OnOk, IfErr, OnErr, MatchResult, is_some, bytes_eq}
+use Rattle.topology_terms.specs.Causes.{first_of}
 use Rattle.topology_terms.specs.declared.cause.Cause.TheVariants.{NoFeature}
 use Rattle.topology_terms.specs.Feature.{Feature, feature_at}
 use Rattle.topology_terms.specs.Poster.{poster}
 use Rattle.topology_terms.specs.Project.{Project}
 use Rattle.topology_terms.specs.Session.{EditStep, Session, session_of}
 use Rattle.line_terms.specs.Commands.{Command, Begin, End, Discard, Delete, Undo, Redo}
-use Rattle.session_terms.specs.Kept.{KeptStep, KeptSession, seen_session, seen}
+use Rattle.session_terms.specs.Kept.{KeptSession, seen_session, seen}
 use Rattle.session_terms.specs.KeptChanges.{kept_named, without_kept, kept_holder}
 use Rattle.edit_session.specs.Faults.{IsBeginFault, IsEndFault, IsUndoFault, IsRedoFault}
 use Rattle.edit_session.specs.SessionsCalls as calls
@@ -17,10 +17,10 @@ use Rattle.edit_session.specs.declared.fault.SessionFault.{SessionFault}
 use Rattle.edit_session.specs.declared.fault.SessionFault.TheVariants as fault
 use Rattle.edit_session.specs.OverTopologies.{IsGroundSwap}
 use Rattle.script_terms.proofs.Bridges.{there_seen}
-use Rattle.script_terms.specs.Answer.{Answers, IsDone}
-use Rattle.script_terms.specs.Refusal.{Refusal, Change, SessionOpen, SessionsFull, NoSession, HeldBy, NothingToUndo, NothingToRedo}
+use Rattle.script_terms.specs.Answer.{Answers}
+use Rattle.script_terms.specs.Refusal.{Refusal, Change, NoSession, HeldBy}
 use Rattle.script_terms.specs.Refusing.{refusal_of, steps_of, held_by}
-use Rattle.script_terms.specs.Reply.{Done, Refused}
+use Rattle.script_terms.specs.Reply.{Done}
 use Rattle.script_terms.specs.State.{State, is_open}
 use Rattle.reply_text.specs.Replies.{said_of}
 use Rattle.reply_text.specs.declared.reply.Reply.{Reply}
@@ -109,14 +109,14 @@ undo_free : (p q : Project) (ss ts : List KeptSession) (name : List ℕ) → IsW
 undo_free p q ss ts name w d =
     let u = undo_done p q name ss ts w.keeping d in
     let some : eqb (length (steps_of (λ (y : Session). y.done) (session_of (seen (feature_at p.features) ss) name))) 0 ≡ false =
-        ap (λ (o : Option Session). eqb (length (steps_of (λ (y : Session). y.done) o)) 0) u.session.there ∙ some_done u.was.done u.is.done u.step u.undone.done in
+    ap (λ (o : Option Session). eqb (length (steps_of (λ (y : Session). y.done) o)) 0) u.session.there ∙ some_done u.was.done u.is.done u.step u.undone.done in
     rw (opened p ss name d.was d.change.there, some) refl
 
 redo_free : (p q : Project) (ss ts : List KeptSession) (name : List ℕ) → IsWorld p ss → calls.IsRedone (IsGroundSwap poster) name ss ts p q → refusal_of (state_of p ss) (Redo name) ≡ None
 redo_free p q ss ts name w d =
     let u = redo_done p q name ss ts w.keeping d in
     let some : eqb (length (steps_of (λ (y : Session). y.undone) (session_of (seen (feature_at p.features) ss) name))) 0 ≡ false =
-        ap (λ (o : Option Session). eqb (length (steps_of (λ (y : Session). y.undone) o)) 0) u.session.there ∙ some_undone u.was.undone u.is.undone u.step u.undone.undone in
+    ap (λ (o : Option Session). eqb (length (steps_of (λ (y : Session). y.undone) o)) 0) u.session.there ∙ some_undone u.was.undone u.is.undone u.step u.undone.undone in
     rw (opened p ss name d.was d.change.there, some) refl
 
 -- ---- each line

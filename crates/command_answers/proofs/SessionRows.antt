@@ -85,10 +85,13 @@ may_move = refl
 
 ann_moves : IsDone both (Change ann 2 (point (pos 2) (pos 2))) Done moved
 unfolding feature_at add_dirt envelope_of
-ann_moves = (refl, record {
-  project = record { edit = record { features = set_between 2 (well 1 (pos 0) (pos 0) ∷ []) [] (Some (well 2 (pos 1) (pos 1))) (Some (well 2 (pos 2) (pos 2))) (split_2 (well 2 (pos 1) (pos 1)) refl None) (split_2 (well 2 (pos 2) (pos 2)) refl None); dirt = refl; classes = refl; rules = refl; entries = refl }; next = refl };
-  noted = record { session = session ann [] []; change = record { there = refl; name = refl; sessions = refl } };
-})
+ann_moves = (
+  refl,
+  record {
+    project = record { edit = record { features = set_between 2 (well 1 (pos 0) (pos 0) ∷ []) [] (Some (well 2 (pos 1) (pos 1))) (Some (well 2 (pos 2) (pos 2))) (split_2 (well 2 (pos 1) (pos 1)) refl None) (split_2 (well 2 (pos 2) (pos 2)) refl None); dirt = refl; classes = refl; rules = refl; entries = refl }; next = refl };
+    noted = record { session = session ann [] []; change = record { there = refl; name = refl; sessions = refl } };
+  },
+)
 
 -- ---- by bob change 2 POINT (3 3)
 held_by_ann : refusal_of moved (Change bob 2 (point (pos 3) (pos 3))) ≡ Some (HeldBy ann)
@@ -113,27 +116,40 @@ may_add = refl
 
 bob_adds : IsDone moved (Add bob (codes "wells") (point (pos 4) (pos 4))) (Number 3) three
 unfolding feature_at add_dirt envelope_of
-bob_adds = (3, refl, record {
-  project = record {
-    number = refl; absent = refl; next = refl;
-    edit = record { features = set_between 3 (well 1 (pos 0) (pos 0) ∷ well 2 (pos 2) (pos 2) ∷ []) [] None (Some (well 3 (pos 4) (pos 4))) (record { before = (omega arith, (omega arith, tt)); own = tt; after = tt }) (record { before = (omega arith, (omega arith, tt)); own = refl; after = tt }); dirt = refl; classes = refl; rules = refl; entries = refl };
-  };
-  noted = record { session = session bob [] []; change = record { there = refl; name = refl; sessions = refl } };
-})
+bob_adds = (
+  3,
+  refl,
+  record {
+    project = record {
+      number = refl;
+      absent = refl;
+      next = refl;
+      edit = record { features = set_between 3 (well 1 (pos 0) (pos 0) ∷ well 2 (pos 2) (pos 2) ∷ []) [] None (Some (well 3 (pos 4) (pos 4))) (record { before = (omega arith, (omega arith, tt)); own = tt; after = tt }) (record { before = (omega arith, (omega arith, tt)); own = refl; after = tt }); dirt = refl; classes = refl; rules = refl; entries = refl };
+    };
+    noted = record { session = session bob [] []; change = record { there = refl; name = refl; sessions = refl } };
+  },
+)
 
 -- ---- by ann undo: bob's well stays. What ann held stays held until ann edits again, or ends
 abbrev ann_back : State
-ann_back = record { project = wells (well 1 (pos 0) (pos 0) ∷ well 2 (pos 1) (pos 1) ∷ well 3 (pos 4) (pos 4) ∷ []) 4 (spot (pos 0) (pos 0) ∷ spot (pos 1) (pos 1) ∷ spot (pos 2) (pos 2) ∷ spot (pos 4) (pos 4) ∷ []);
-  sessions = session ann [] (moved_step ∷ []) ∷ session bob (third ∷ []) [] ∷ [] }
+ann_back = record {
+  project = wells (well 1 (pos 0) (pos 0) ∷ well 2 (pos 1) (pos 1) ∷ well 3 (pos 4) (pos 4) ∷ []) 4 (spot (pos 0) (pos 0) ∷ spot (pos 1) (pos 1) ∷ spot (pos 2) (pos 2) ∷ spot (pos 4) (pos 4) ∷ []);
+  sessions = session ann [] (moved_step ∷ []) ∷ session bob (third ∷ []) [] ∷ [];
+}
 
 ann_undoes : IsDone three (Undo ann) Done ann_back
 unfolding feature_at add_dirt envelope_of
-ann_undoes = (refl, record {
-  step = moved_step; was = session ann (moved_step ∷ []) []; is = session ann [] (moved_step ∷ []);
-  session = record { there = refl; name = refl; sessions = refl };
-  undone = record { name = refl; done = refl; undone = refl };
-  set = record { edit = record { features = set_between 2 (well 1 (pos 0) (pos 0) ∷ []) (well 3 (pos 4) (pos 4) ∷ []) (Some (well 2 (pos 2) (pos 2))) (Some (well 2 (pos 1) (pos 1))) (record { before = (omega arith, tt); own = refl; after = (omega arith, tt) }) (record { before = (omega arith, tt); own = refl; after = (omega arith, tt) }); dirt = refl; classes = refl; rules = refl; entries = refl }; next = refl };
-})
+ann_undoes = (
+  refl,
+  record {
+    step = moved_step;
+    was = session ann (moved_step ∷ []) [];
+    is = session ann [] (moved_step ∷ []);
+    session = record { there = refl; name = refl; sessions = refl };
+    undone = record { name = refl; done = refl; undone = refl };
+    set = record { edit = record { features = set_between 2 (well 1 (pos 0) (pos 0) ∷ []) (well 3 (pos 4) (pos 4) ∷ []) (Some (well 2 (pos 2) (pos 2))) (Some (well 2 (pos 1) (pos 1))) (record { before = (omega arith, tt); own = refl; after = (omega arith, tt) }) (record { before = (omega arith, tt); own = refl; after = (omega arith, tt) }); dirt = refl; classes = refl; rules = refl; entries = refl }; next = refl };
+  },
+)
 
 still_held : refusal_of ann_back (Change bob 2 (point (pos 3) (pos 3))) ≡ Some (HeldBy ann)
 unfolding feature_at
@@ -141,30 +157,42 @@ still_held = refl
 
 -- ---- by bob undo, once more, and by bob redo
 abbrev bob_back : State
-bob_back = record { project = wells (well 1 (pos 0) (pos 0) ∷ well 2 (pos 1) (pos 1) ∷ []) 4 (spot (pos 0) (pos 0) ∷ spot (pos 1) (pos 1) ∷ spot (pos 2) (pos 2) ∷ spot (pos 4) (pos 4) ∷ []);
-  sessions = session ann [] (moved_step ∷ []) ∷ session bob [] (third ∷ []) ∷ [] }
+bob_back = record {
+  project = wells (well 1 (pos 0) (pos 0) ∷ well 2 (pos 1) (pos 1) ∷ []) 4 (spot (pos 0) (pos 0) ∷ spot (pos 1) (pos 1) ∷ spot (pos 2) (pos 2) ∷ spot (pos 4) (pos 4) ∷ []);
+  sessions = session ann [] (moved_step ∷ []) ∷ session bob [] (third ∷ []) ∷ [];
+}
 
 -- the next handle stays: the handle 3 is not given again
 bob_undoes : IsDone ann_back (Undo bob) Done bob_back
 unfolding feature_at add_dirt envelope_of
-bob_undoes = (refl, record {
-  step = third; was = session bob (third ∷ []) []; is = session bob [] (third ∷ []);
-  session = record { there = refl; name = refl; sessions = refl };
-  undone = record { name = refl; done = refl; undone = refl };
-  set = record { edit = record { features = set_between 3 (well 1 (pos 0) (pos 0) ∷ well 2 (pos 1) (pos 1) ∷ []) [] (Some (well 3 (pos 4) (pos 4))) None (record { before = (omega arith, (omega arith, tt)); own = refl; after = tt }) (record { before = (omega arith, (omega arith, tt)); own = tt; after = tt }); dirt = refl; classes = refl; rules = refl; entries = refl }; next = refl };
-})
+bob_undoes = (
+  refl,
+  record {
+    step = third;
+    was = session bob (third ∷ []) [];
+    is = session bob [] (third ∷ []);
+    session = record { there = refl; name = refl; sessions = refl };
+    undone = record { name = refl; done = refl; undone = refl };
+    set = record { edit = record { features = set_between 3 (well 1 (pos 0) (pos 0) ∷ well 2 (pos 1) (pos 1) ∷ []) [] (Some (well 3 (pos 4) (pos 4))) None (record { before = (omega arith, (omega arith, tt)); own = refl; after = tt }) (record { before = (omega arith, (omega arith, tt)); own = tt; after = tt }); dirt = refl; classes = refl; rules = refl; entries = refl }; next = refl };
+  },
+)
 
 bob_has_none : refusal_of bob_back (Undo bob) ≡ Some NothingToUndo
 bob_has_none = refl
 
 bob_redoes : IsDone bob_back (Redo bob) Done ann_back
 unfolding feature_at add_dirt envelope_of
-bob_redoes = (refl, record {
-  step = third; was = session bob [] (third ∷ []); is = session bob (third ∷ []) [];
-  session = record { there = refl; name = refl; sessions = refl };
-  undone = record { name = refl; done = refl; undone = refl };
-  set = record { edit = record { features = set_between 3 (well 1 (pos 0) (pos 0) ∷ well 2 (pos 1) (pos 1) ∷ []) [] None (Some (well 3 (pos 4) (pos 4))) (record { before = (omega arith, (omega arith, tt)); own = tt; after = tt }) (record { before = (omega arith, (omega arith, tt)); own = refl; after = tt }); dirt = refl; classes = refl; rules = refl; entries = refl }; next = refl };
-})
+bob_redoes = (
+  refl,
+  record {
+    step = third;
+    was = session bob [] (third ∷ []);
+    is = session bob (third ∷ []) [];
+    session = record { there = refl; name = refl; sessions = refl };
+    undone = record { name = refl; done = refl; undone = refl };
+    set = record { edit = record { features = set_between 3 (well 1 (pos 0) (pos 0) ∷ well 2 (pos 1) (pos 1) ∷ []) [] None (Some (well 3 (pos 4) (pos 4))) (record { before = (omega arith, (omega arith, tt)); own = tt; after = tt }) (record { before = (omega arith, (omega arith, tt)); own = refl; after = tt }); dirt = refl; classes = refl; rules = refl; entries = refl }; next = refl };
+  },
+)
 
 listed : reply_text (FeatureList ann_back.project) ≡ codes "feature 1 wells POINT (0 0)" ++ 10 ∷ codes "feature 2 wells POINT (1 1)" ++ 10 ∷ codes "feature 3 wells POINT (4 4)" ++ 10 ∷ codes "total 3" ++ 10 ∷ []
 unfolding digits
@@ -217,12 +245,17 @@ returned = record { project = lots (lot 1 (pos 0) (pos 10) ∷ lot 2 (pos 5) (po
 
 returns : IsDone deleted (Undo ann) Done returned
 unfolding feature_at add_dirt envelope_of
-returns = (refl, record {
-  step = gone; was = session ann (gone ∷ []) []; is = session ann [] (gone ∷ []);
-  session = record { there = refl; name = refl; sessions = refl };
-  undone = record { name = refl; done = refl; undone = refl };
-  set = record { edit = record { features = set_between 1 [] (lot 2 (pos 5) (pos 15) ∷ []) None (Some (lot 1 (pos 0) (pos 10))) (record { before = tt; own = tt; after = (omega arith, tt) }) (record { before = tt; own = refl; after = (omega arith, tt) }); dirt = refl; classes = refl; rules = refl; entries = refl }; next = refl };
-})
+returns = (
+  refl,
+  record {
+    step = gone;
+    was = session ann (gone ∷ []) [];
+    is = session ann [] (gone ∷ []);
+    session = record { there = refl; name = refl; sessions = refl };
+    undone = record { name = refl; done = refl; undone = refl };
+    set = record { edit = record { features = set_between 1 [] (lot 2 (pos 5) (pos 15) ∷ []) None (Some (lot 1 (pos 0) (pos 10))) (record { before = tt; own = tt; after = (omega arith, tt) }) (record { before = tt; own = refl; after = (omega arith, tt) }); dirt = refl; classes = refl; rules = refl; entries = refl }; next = refl };
+  },
+)
 
 dirty_again : reply_text (DirtyList returned.project) ≡ codes "dirty 0 0 10 10" ++ 10 ∷ codes "total 1" ++ 10 ∷ []
 unfolding digits

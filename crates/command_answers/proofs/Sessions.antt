@@ -1,34 +1,27 @@
 -- What the calls of the kept sessions and of the topology leave is what the commands leave.
-use Rattle.std.proofs.Common.{ℕ, ◌≡◌, ◌≢◌, ◌≤◌, ◌<◌, ◌+◌, Bool, true, false, List, [], ◌∷◌, ◌++◌, length, Option, Some, None, refl, sym, ◌∙◌, ap, subst, arith, eqb}
-use Rattle.std.specs.Prelude.{is_some, IfSome, ◌==◌}
+use Rattle.std.proofs.Common.{ℕ, ◌≡◌, List, [], ◌∷◌, Option, Some, refl, sym, ◌∙◌, ap, subst}
+use Rattle.std.specs.Prelude.{is_some}
 use Rattle.plane_terms.specs.Lists.{Every}
-use Rattle.topology_terms.specs.Causes.{delete_cause}
-use Rattle.topology_terms.specs.Changes.{IsFeatureSet, IsFeatureAdded}
-use Rattle.topology_terms.specs.Feature.{Class, Feature, feature_at}
-use Rattle.plane_terms.specs.Shape.{Shape}
+use Rattle.topology_terms.specs.Feature.{Feature, feature_at}
 use Rattle.topology_terms.specs.Poster.{poster}
-use Rattle.topology_terms.specs.Project.{Project, IsOrdered}
-use Rattle.topology_terms.specs.Settled.{IsSettled}
-use Rattle.topology_terms.specs.Sound.{IsSound}
-use Rattle.topology_terms.specs.Session.{EditStep, Session, session_of}
-use Rattle.feature_store.specs.Keeps.{IsOfClass, IsGiven}
+use Rattle.topology_terms.specs.Project.{Project}
+use Rattle.topology_terms.specs.Session.{EditStep, Session}
 use Rattle.session_terms.specs.Kept.{KeptStep, KeptSession, stood, done_of, seen_session, seen}
-use Rattle.session_terms.specs.KeptChanges.{IsSet, IsKeptUndone, IsKeptRedone, IsKeptNoted, IsSameButRoom, IsKeptChange, kept_named, with_kept, without_kept}
-use Rattle.session_terms.specs.Steps.{IsUndoneTo, with_opened, without, AreAllApart, IsAlone, HoldsNone}
+use Rattle.session_terms.specs.KeptChanges.{IsSet, IsKeptUndone, IsKeptRedone, IsKeptChange, kept_named, with_kept, without_kept}
+use Rattle.session_terms.specs.Steps.{with_opened, AreAllApart, HoldsNone}
 use Rattle.session_terms.proofs.Seen.{seen_opened, seen_without, all_seen}
 use Rattle.session_terms.proofs.Chains.{HoldsNoneOf, named_apart}
 use Rattle.edit_session.specs.Grounds.{IsMayStand, may_in}
 use Rattle.edit_session.specs.Moves.{MayAll, IsStepUndone, AreUndoneOn}
 use Rattle.edit_session.specs.SessionsCalls as calls
-use Rattle.edit_session.proofs.Moves.{may_same, may_undone, may_redone, each_still, each_end}
+use Rattle.edit_session.proofs.Moves.{may_same, may_undone, may_redone}
 use Rattle.edit_session.specs.OverTopologies.{IsGroundSwap}
 use Rattle.edit_session.specs.OverTopologies as grounds
 use Rattle.edit_session.proofs.Undoing.{chain_sound, chain_settled}
-use Rattle.script_terms.specs.Answer.{IsBegun, IsEnded, IsUndone, IsRedone, IsDiscarded, AreTakenBack, IsNoted, LeavesNoted, set_step, added_step}
+use Rattle.script_terms.specs.Answer.{IsBegun, IsEnded, IsUndone, IsRedone, IsDiscarded, AreTakenBack}
 use Rattle.script_terms.specs.Keeping.{IsKeeping}
-use Rattle.script_terms.specs.State.{State}
-use Rattle.script_terms.proofs.Bridges.{there_seen, undo_bridge, redo_bridge, note_bridge}
-use Rattle.script_terms.proofs.Commands.{begun_keeps, ended_keeps, discard_keeps, others_have, none_each, fresh_alone}
+use Rattle.script_terms.proofs.Bridges.{there_seen, undo_bridge, redo_bridge}
+use Rattle.script_terms.proofs.Commands.{begun_keeps, ended_keeps, discard_keeps, others_have, none_each}
 use Rattle.script_terms.proofs.Keeping.{undo_keeps, redo_keeps}
 use Rattle.command_answers.specs.Worlds.{state_of, AllMay, IsWorld}
 use Rattle.command_answers.proofs.KeptLists.{named_has, with_has, without_has, opened_has, name_of, now_named, with_twice, with_same, open_seen}
@@ -56,7 +49,7 @@ begin_world p name ss ts b w = record {
   settled = w.settled;
   keeping = begun_keeps name (state_of p ss) (state_of p ts) w.keeping (open_seen (feature_at p.features) ss name ∙ ap is_some b.free) (begin_done p name ss ts b);
   may = subst (AllMay p) (sym b.sessions) (opened_has (MayAll (May p)) ss b.session
-    (record { done = subst (λ xs. Every (λ (t : KeptStep). May p t.handle t.kept) xs) (sym b.done) tt; undone = subst (λ xs. Every (λ (t : KeptStep). May p t.handle t.kept) xs) (sym b.undone) tt }) w.may);
+      (record { done = subst (λ xs. Every (λ (t : KeptStep). May p t.handle t.kept) xs) (sym b.done) tt; undone = subst (λ xs. Every (λ (t : KeptStep). May p t.handle t.kept) xs) (sym b.undone) tt }) w.may);
 }
 
 pub end_done : (p : Project) (name : List ℕ) (ss ts : List KeptSession) → ts ≡ without_kept ss name → IsEnded name (state_of p ss) (state_of p ts)
@@ -122,7 +115,7 @@ undo_world p q name ss ts d w =
       settled = u.swap.settled w.settled;
       keeping = undo_keeps name (state_of p ss) (state_of q ts) w.keeping (undo_done p q name ss ts w.keeping d);
       may = may_changed p q name d.was d.is ss ts d.change (λ k x. grounds.may_still poster t.handle u.stood t.kept p q k x u.swap)
-        (may_undone (May p) (May q) d.was d.is t u.stood (λ k x. grounds.may_still poster t.handle u.stood t.kept p q k x u.swap) (λ m. grounds.may_again poster t.handle u.stood t.kept p q m u.swap) u.session
+          (may_undone (May p) (May q) d.was d.is t u.stood (λ k x. grounds.may_still poster t.handle u.stood t.kept p q k x u.swap) (λ m. grounds.may_again poster t.handle u.stood t.kept p q m u.swap) u.session
           (named_has (MayAll (May p)) ss name d.was d.change.there w.may)) w.may;
     }
 
@@ -135,7 +128,7 @@ redo_world p q name ss ts d w =
       settled = u.swap.settled w.settled;
       keeping = redo_keeps name (state_of p ss) (state_of q ts) w.keeping (redo_done p q name ss ts w.keeping d);
       may = may_changed p q name d.was d.is ss ts d.change (λ k x. grounds.may_still poster t.handle u.stood t.kept p q k x u.swap)
-        (may_redone (May p) (May q) d.was d.is t u.stood (λ k x. grounds.may_still poster t.handle u.stood t.kept p q k x u.swap) (λ m. grounds.may_again poster t.handle u.stood t.kept p q m u.swap) u.session
+          (may_redone (May p) (May q) d.was d.is t u.stood (λ k x. grounds.may_still poster t.handle u.stood t.kept p q k x u.swap) (λ m. grounds.may_again poster t.handle u.stood t.kept p q m u.swap) u.session
           (named_has (MayAll (May p)) ss name d.was d.change.there w.may)) w.may;
     }
 
@@ -156,7 +149,7 @@ chain_may [] s u p q c m = subst (λ (r : Project). MayAll (May r) u) (sym c.1) 
 chain_may (t ∷ ts) s u p q c m =
     let d = c.3 in
     may_undone (May c.1) (May q) c.0 u t d.stood (λ k x. grounds.may_still poster t.handle d.stood t.kept c.1 q k x d.swap) (λ y. grounds.may_again poster t.handle d.stood t.kept c.1 q y d.swap) d.session
-      (chain_may ts s c.0 p c.1 c.2 m)
+    (chain_may ts s c.0 p c.1 c.2 m)
 
 taken : (at : ℕ → Option Feature) (ts : List KeptStep) (s u : KeptSession) (p q : Project) → Chain ts s u p q → AreTakenBack (done_of at ts) p q
 taken at [] s u p q c = c.1
@@ -221,6 +214,6 @@ part_world p q name ss ts d w =
       settled = chain_settled poster c.undone d.was d.is p q chain w.settled;
       keeping = subst (λ xs. IsKeeping (state_of q xs)) (sym d.change.sessions) (part_keeps name ss d.was p d.change.there w.keeping c.undone d.is q chain).0;
       may = may_changed p q name d.was d.is ss ts d.change
-        (λ k x. may_in p.classes q.classes p.next q.next k x (chain_classes c.undone d.was d.is p q chain) (chain_next c.undone d.was d.is p q chain))
-        (chain_may c.undone d.was d.is p q chain (named_has (MayAll (May p)) ss name d.was d.change.there w.may)) w.may;
+          (λ k x. may_in p.classes q.classes p.next q.next k x (chain_classes c.undone d.was d.is p q chain) (chain_next c.undone d.was d.is p q chain))
+          (chain_may c.undone d.was d.is p q chain (named_has (MayAll (May p)) ss name d.was d.change.there w.may)) w.may;
     }

@@ -50,7 +50,13 @@ impl World {
         }
         self.topology.topology_law();
         self.topology.order_law();
-        reply_to_change(change_noted(&mut self.topology, &mut self.sessions, editor, handle, shape))
+        reply_to_change(change_noted(
+            &mut self.topology,
+            &mut self.sessions,
+            editor,
+            handle,
+            shape,
+        ))
     }
 
     /// `by EDITOR delete H`

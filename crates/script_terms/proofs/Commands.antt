@@ -145,5 +145,5 @@ added_keeps editor class shape h old new k d =
     let mine : IsAlone old.sessions s.name h = subst (IsAlone old.sessions s.name) (sym p.number) (fresh_alone old.project.next s.name old.sessions k.given) in
     let noted : IsChained e (with_step s t) = subst (λ o. IsChained e (with_step s (record { handle = h; before = o; after = x }))) p.absent (note_chained f e s h x (set_to h x old.project.features new.project.features set) c) in
     changed_keeps old new editor s (with_step s t) h x k ch set (each_below old.project.next new.project.next old.sessions l k.given)
-      mine (note_apart s t old.sessions mine a.1) noted
-      (record { done = end_below new.project.next s.done t (more_below old.project.next new.project.next s.done l b.done) (let n = p.next in let m = p.number in omega (arith, n, m)); undone = tt })
+    mine (note_apart s t old.sessions mine a.1) noted
+    (record { done = end_below new.project.next s.done t (more_below old.project.next new.project.next s.done l b.done) (let n = p.next in let m = p.number in omega (arith, n, m)); undone = tt })

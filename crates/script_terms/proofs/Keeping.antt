@@ -99,8 +99,8 @@ undo_keeps editor old new k d =
     let c = named_has (IsChained f) old.sessions editor s d.session.there k.chained in
     let b = named_has (IsBelow old.project.next) old.sessions editor s d.session.there k.given in
     changed_keeps old new editor s u t.handle t.before k d.session set (each_same old.project.next new.project.next old.sessions d.set.next k.given)
-      (own_alone old.sessions s t.handle (last_there s u t d.undone) a.1) (undo_apart s u t old.sessions d.undone a.1)
-      (undo_chained f e s u t d.undone (set_to t.handle t.before old.project.features new.project.features set) c) (undone_below new.project.next s u t d.undone (rw d.set.next b))
+    (own_alone old.sessions s t.handle (last_there s u t d.undone) a.1) (undo_apart s u t old.sessions d.undone a.1)
+    (undo_chained f e s u t d.undone (set_to t.handle t.before old.project.features new.project.features set) c) (undone_below new.project.next s u t d.undone (rw d.set.next b))
 
 pub redo_keeps : (editor : List ℕ) (old new : State) → IsKeeping old → IsRedone editor old new → IsKeeping new
 redo_keeps editor old new k d =
@@ -112,8 +112,8 @@ redo_keeps editor old new k d =
     let c = named_has (IsChained f) old.sessions editor s d.session.there k.chained in
     let b = named_has (IsBelow old.project.next) old.sessions editor s d.session.there k.given in
     changed_keeps old new editor s u t.handle t.after k d.session set (each_same old.project.next new.project.next old.sessions d.set.next k.given)
-      (own_alone old.sessions s t.handle (first_there s u t d.undone) a.1) (redo_apart s u t old.sessions d.undone a.1)
-      (redo_chained f e s u t d.undone (set_to t.handle t.after old.project.features new.project.features set) c) (redone_below new.project.next s u t d.undone (rw d.set.next b))
+    (own_alone old.sessions s t.handle (first_there s u t d.undone) a.1) (redo_apart s u t old.sessions d.undone a.1)
+    (redo_chained f e s u t d.undone (set_to t.handle t.after old.project.features new.project.features set) c) (redone_below new.project.next s u t d.undone (rw d.set.next b))
 
 -- an edit of a handle that no other session holds
 pub altered_keeps : (editor : List ℕ) (h : ℕ) (x : Option Feature) (old new : State) → IsKeeping old → IsAlone old.sessions editor h → h < old.project.next
@@ -129,6 +129,6 @@ altered_keeps editor h x old new k alone given d =
     let b = named_has (IsBelow old.project.next) old.sessions editor s ch.there k.given in
     let mine : IsAlone old.sessions s.name h = subst (λ n. IsAlone old.sessions n h) (sym a.0) alone in
     changed_keeps old new editor s (with_step s t) h x k ch set (each_same old.project.next new.project.next old.sessions d.project.next k.given)
-      mine (note_apart s t old.sessions mine a.1)
-      (note_chained f e s h x (set_to h x old.project.features new.project.features set) c)
-      (record { done = end_below new.project.next s.done t (rw d.project.next b.done) (rw d.project.next given); undone = tt })
+    mine (note_apart s t old.sessions mine a.1)
+    (note_chained f e s h x (set_to h x old.project.features new.project.features set) c)
+    (record { done = end_below new.project.next s.done t (rw d.project.next b.done) (rw d.project.next given); undone = tt })

@@ -71,9 +71,10 @@ may_edit s editor h rest k ord n =
     let a = first_none (when (not (is_open s editor)) NoSession) (changes (delete_cause s.project.features h) ∷ held s editor h ∷ rest) n in
     let b = first_none (changes (delete_cause s.project.features h)) (held s editor h ∷ rest) a.1 in
     let c = first_none (held s editor h) rest b.1 in
-    let absent = when_none (is_none (feature_at s.project.features h)) NoFeature (changes_none (delete_cause s.project.features h) b.0) in
-    (by_none s.sessions (holder s.sessions h) editor h k.apart refl c.0,
-     live_below s.project.next s.project.features h ord.next (is_there (feature_at s.project.features h) absent))
+    let absent = when_none (is_none (feature_at s.project.features h)) NoFeature (changes_none (delete_cause s.project.features h) b.0) in (
+      by_none s.sessions (holder s.sessions h) editor h k.apart refl c.0,
+      live_below s.project.next s.project.features h ord.next (is_there (feature_at s.project.features h) absent),
+    )
 
 pub done_keeps : (old : State) (c : Command) (reply : Reply) (new : State) → IsKeeping old → IsOrdered old.project → refusal_of old c ≡ None → IsDone old c reply new → IsKeeping new
 done_keeps old Blank reply new k ord n d = equal_keeps old new k d.1.same

@@ -82,11 +82,7 @@ fn a_holder_is_named(rt: HostRuntime) -> Result<(), Fail> {
     let topology = Topology::new(alloc, PosterRules);
     let name = Name::of(b"ann").ok_or("no name")?;
     let mut out = Vec::new(alloc);
-    push_reply(
-        &mut out,
-        &topology,
-        &Reply::Refused(Refusal::HeldBy(name)),
-    )?;
+    push_reply(&mut out, &topology, &Reply::Refused(Refusal::HeldBy(name)))?;
     assert_eq!(rt; out.as_slice(), b"refused E20 ann\n".as_slice());
     Ok(())
 }

@@ -21,11 +21,9 @@ pub fn one_run_law()
 /// The law of undos over runs: whatever the editors have done before, a line that undoes and is not refused puts back at one handle
 /// what stood there before the editor's last done step, and no other feature changes; a discard puts back at each handle of the
 /// session's done steps what stood there before the first of them.
-#[tactic(auto, using(crate::proofs::Restores::undo_over, crate::proofs::Restores::discard_over))]
 pub fn exact_undo_law()
     ensures undo { (lines : List (List ℕ)) (os : List Outcome) (line editor : List ℕ) (o : Outcome) → Run empty_state lines os → Step (last_state empty_state os) line o
         → IsCommandLine line (Undo editor) → o.refused ≡ false → IsRestored editor (last_state empty_state os) o.after }
     ensures discard { (lines : List (List ℕ)) (os : List Outcome) (line editor : List ℕ) (o : Outcome) → Run empty_state lines os → Step (last_state empty_state os) line o
         → IsCommandLine line (Discard editor) → o.refused ≡ false → IsAllRestored editor (last_state empty_state os) o.after }
-{
-}
+{}

@@ -6,7 +6,7 @@ use Rattle.topo_run.proofs.answer.answer_line.Goals as goal
 pub returns-in_ok-push_reply-in-Ok : goal.returns-in_ok-push_reply-in-Ok
 returns-in_ok-push_reply-in-Ok c =
     answers c.args.world.now c.answer.new.self c.args.line.now c.args.out.now.items c.push_reply.new.out.items (command_of c.in-Ok.command) (said_of c.answer.new.self.project c.in_ok-reply-in-Ok.reply) c.is_refusal.result
-    c.in-Ok.ensures.found c.in_ok-reply-in-Ok.ensures.answers c.headline_law-in-Ok.ensures.ordered c.headline_law-in-Ok.ensures.invariant (rw c.topology.ensures at c.in_ok-push_reply-in-Ok.ensures) (c.is_refusal.ensures c.answer.new.self.project)
+    c.in-Ok.ensures.found c.in_ok-reply-in-Ok.ensures c.headline_law-in-Ok.ensures.ordered c.headline_law-in-Ok.ensures.invariant (rw c.topology.ensures at c.in_ok-push_reply-in-Ok.ensures) (c.is_refusal.ensures c.answer.new.self.project)
 
 pub returns-in_ok-push_reply-in-Err-Refused : goal.returns-in_ok-push_reply-in-Err-Refused
 returns-in_ok-push_reply-in-Err-Refused c =

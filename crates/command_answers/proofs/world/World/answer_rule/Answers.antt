@@ -1,4 +1,4 @@
-use Rattle.std.proofs.Common.{◌≡◌, refl, rules, sym, subst, false}
+use Rattle.std.proofs.Common.{◌≡◌, rules, sym, subst, false}
 use Rattle.script_terms.specs.Refusing.{row_of, is_nowhere}
 use Rattle.script_terms.specs.State.{State}
 use Rattle.std.specs.Prelude.{IfOk}

@@ -1,4 +1,4 @@
-use Rattle.std.proofs.Common.{refl, rules, arith}
+use Rattle.std.proofs.Common.{arith}
 use Rattle.command_answers.specs.Worlds.{state_of}
 use Rattle.command_answers.proofs.Noting.{seen_same, stays_world}
 use Rattle.command_answers.proofs.Answering.{validated}
