@@ -107,8 +107,9 @@ def maps():
     for name, make in (('combs', comb), ('zigzags', zigzag)):
         yield 'crossing %s of 2,000 vertices' % name, lambda make=make: ONE + added('areas', [make(2000)] + turned([make(2000)]))
     lake = shore(2000)
-    yield 'lake of 2,000 vertices over 1,024 parcels', lambda: TWO + added('waters', [lake]) + added('areas', parcels(32, 32, 1800, 1200, 600, 800))
-    yield 'lake of 2,000 vertices, 999 lots on its shore', lambda: TWO + added('waters', [lake]) + added('areas', lots(lake))
+    water = TWO + added('waters', [lake])
+    yield 'lake of 2,000 vertices over 1,024 parcels', lambda: water + added('areas', parcels(32, 32, 1800, 1200, 600, 800))
+    yield 'lake of 2,000 vertices, 999 lots on its shore', lambda: water + added('areas', lots(lake))
     for name, turn in (('east', list), ('north', turned)):
         yield 'strip of 40,000 parcels, %s' % name, lambda turn=turn: ONE + added('areas', turn(parcels(40000, 1, 100, 100, -2000000)))
 

@@ -56,10 +56,10 @@ def print_kind(table, folder, kind, programs, given):
     none, all_added = take(['# ' + line for line in adds]), take(adds)
     some_changed, some_deleted = take(adds + changed(kind, count)), take(adds + deleted(count))
     name = '%s %s' % (format(count, ','), kind)
-    some = count // 10
+    each = lambda after: beyond(after, all_added, 1e6 / (count // 10))
     table.row(name + ', added: time of each', 'µs', [all_added], lambda i: all_added[i].seconds * 1e6 / count)
-    table.row(name + ', a tenth changed: time of each change', 'µs', [all_added, some_changed], beyond(some_changed, all_added, 1e6 / some))
-    table.row(name + ', a tenth deleted: time of each deletion', 'µs', [all_added, some_deleted], beyond(some_deleted, all_added, 1e6 / some))
+    table.row(name + ', a tenth changed: time of each change', 'µs', [all_added, some_changed], each(some_changed))
+    table.row(name + ', a tenth deleted: time of each deletion', 'µs', [all_added, some_deleted], each(some_deleted))
     bytes_of = lambda i: (all_added[i].kilobytes - none[i].kilobytes) * 1024 / count
     table.row(name + ': memory of each', 'bytes', [none, all_added], bytes_of)
 

@@ -94,7 +94,8 @@ def print_rows(table, folder, rows, programs, given):
 
 
 def main():
-    return print_sizes(__doc__, 'town', '--rows', '30,60,100,300', print_rows, lambda parser: parser.add_argument('--edits', type=int, default=1000))
+    add_words = lambda parser: parser.add_argument('--edits', type=int, default=1000)
+    return print_sizes(__doc__, 'town', '--rows', '30,60,100,300', print_rows, add_words)
 
 
 if __name__ == '__main__':
