@@ -1,9 +1,10 @@
 #!/usr/bin/env python3
 """Takes all figures in one run: a heading that says when, where and of what, and then the table of each measuring command.
 
-usage: bench/all.py [--baseline WORDS]
+usage: bench/all.py [--baseline WORDS] [--commands NAME,..] [--turns N] [--seconds N] [--program WORDS]
 
-  --baseline WORDS   another program of the same words and texts, as in bench/run.py; without it the ratios are left out
+  --commands NAME,..   these alone, in this order: all of them where it is left out
+  the others           as in bench/run.py; without a baseline the ratios are left out
 
 Run it on an idle machine, in a clean clone. The output is Markdown, as it stands in docs/testing.md. The status is 1 where a
 command failed; those whose timing program is not built are named and left out.
@@ -15,9 +16,9 @@ import shlex
 import subprocess
 import sys
 
-from programs import HERE, ROOT
+from programs import HERE, ROOT, add_program_words
 
-COMMANDS = ['run.py', 'features.py', 'late.py', 'town.py', 'borders.py', 'shapes.py', 'columns.py', 'cells.py']
+COMMANDS = ['run.py', 'features.py', 'late.py', 'moved.py', 'town.py', 'borders.py', 'coverings.py', 'shapes.py', 'columns.py', 'cells.py']
 TIMING = {'shapes.py': 'bench_shapes', 'columns.py': 'bench_columns', 'cells.py': 'bench_cells'}
 WITHOUT_BASELINE = {'cells.py'}
 
@@ -41,10 +42,16 @@ def is_built(command):
     return name is None or os.path.isfile(os.path.join(ROOT, 'crates', name, 'out', name))
 
 
-def run(command, baseline):
+def words_for(command, given):
+    """What is handed on to a command; those with a timing program of their own take a baseline at most."""
+    names = [] if command in WITHOUT_BASELINE else ['baseline'] if command in TIMING else ['baseline', 'turns', 'seconds', 'program']
+    return [word for name in names if getattr(given, name) for word in ('--' + name, str(getattr(given, name)))]
+
+
+def run(command, given):
     """Prints the table of a command, and answers whether it went well."""
-    words = ['--baseline', baseline] if baseline and command not in WITHOUT_BASELINE else []
-    print('\n`%s`\n' % ' '.join(['bench/' + command] + (['--baseline ..'] if words else [])), flush=True)
+    words = words_for(command, given)
+    print('\n`%s`\n' % ' '.join(['bench/' + command] + (['--baseline ..'] if '--baseline' in words else [])), flush=True)
     if not is_built(command):
         print('not taken: `crates/%s` is not built' % TIMING[command], flush=True)
         return True
@@ -53,12 +60,16 @@ def run(command, baseline):
 
 def main():
     parser = argparse.ArgumentParser(usage=__doc__.split('\n\n')[1][7:])
-    parser.add_argument('--baseline')
+    add_program_words(parser)
+    parser.add_argument('--commands', default=','.join(COMMANDS))
     given = parser.parse_args()
+    commands = given.commands.split(',')
     if given.baseline and not shlex.split(given.baseline):
         parser.error('the baseline has no words')
+    if not set(commands) <= set(COMMANDS):
+        parser.error('the commands are ' + ', '.join(COMMANDS))
     print(heading(), flush=True)
-    results = [run(command, given.baseline) for command in COMMANDS]
+    results = [run(command, given) for command in commands]
     return 0 if all(results) else 1
 
 

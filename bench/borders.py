@@ -1,9 +1,9 @@
 #!/usr/bin/env python3
 """How long the maps take that have long common borders, or many features side by side: validated whole, in one class or two.
 
-usage: bench/borders.py [--baseline WORDS] [--lines WORD,..] [--turns N] [--seconds N] [--program WORDS]
+usage: bench/borders.py [--baseline WORDS] [--lines NAME ..] [--turns N] [--seconds N] [--program WORDS]
 
-  --lines WORD,..   the lines of the table whose names begin with one of these; all where it is left out
+  --lines NAME ..   the lines of the table whose names begin with one of these; all where it is left out
   the others        as in bench/run.py
 
 A jagged border goes from side to side between two lines, a winding one wanders; `north` and `turned` are the same map with
@@ -11,14 +11,11 @@ x and y exchanged. Municipalities lie in a square, with winding common borders o
 vertices and covers parcels in rows, or has lots along its shore. A strip is one row of parcels. Each line is one ratio: the
 time of a validation of everything, less the time of the same script without it.
 """
-import argparse
 import random
 import sys
-import tempfile
 
 from polygons import comb, zigzag
-from programs import Table, add_program_words, make_measured, measure_lines, programs_of
-from town import polygon
+from programs import added, beyond, print_maps
 
 ONE = ['class areas polygon', 'rule polygon_must_not_overlap areas', 'begin ann']
 TWO = ['class areas polygon', 'class waters polygon', 'rule polygon_must_not_overlap_with areas waters', 'begin ann']
@@ -48,21 +45,22 @@ def beside(border):
 
 
 class Country:
-    """Municipalities in a square, so many a side; a side has its own lot, so both neighbours have the same border."""
+    """Municipalities in a square, so many a side, with so many segments from corner to corner, which lie so far apart.
 
-    SIDE, PARTS = 10000, 50
+    A side has its own lot, so both neighbours have the same border.
+    """
 
-    def __init__(self, size):
-        self.size = size
+    def __init__(self, size, parts=50, width=10000):
+        self.size, self.parts, self.width = size, parts, width
 
     def side(self, column, row, is_upright):
         """The places from a corner on, the far corner left out."""
         lot = random.Random('%d %d %d' % (column, row, is_upright))
-        x, y, off, places = column * self.SIDE, row * self.SIDE, 0, [(column * self.SIDE, row * self.SIDE)]
-        for i in range(1, self.PARTS):
-            room = min(1500, 60 * i, 60 * (self.PARTS - i))
+        x, y, off, places = column * self.width, row * self.width, 0, [(column * self.width, row * self.width)]
+        for i in range(1, self.parts):
+            room = min(1500, 60 * i, 60 * (self.parts - i))
             off = max(-room, min(room, off + lot.randint(-120, 120)))
-            along = i * self.SIDE // self.PARTS
+            along = i * self.width // self.parts
             places.append((x + off, y + along) if is_upright else (x + along, y + off))
         return places
 
@@ -70,8 +68,8 @@ class Country:
         """Below, right, above and left, each from the corner that the last one ended at."""
         below = self.side(column, row, False)
         right = self.side(column + 1, row, True)
-        above = self.side(column, row + 1, False)[1:] + [((column + 1) * self.SIDE, (row + 1) * self.SIDE)]
-        left = self.side(column, row, True)[1:] + [(column * self.SIDE, (row + 1) * self.SIDE)]
+        above = self.side(column, row + 1, False)[1:] + [((column + 1) * self.width, (row + 1) * self.width)]
+        left = self.side(column, row, True)[1:] + [(column * self.width, (row + 1) * self.width)]
         return below + right + above[::-1] + left[::-1]
 
     def rings(self):
@@ -97,10 +95,6 @@ def lots(lake):
     return [[a, b, (b[0], 42000), (a[0], 42000)] for a, b in zip(upper, upper[1:])]
 
 
-def added(kind, rings):
-    return ['by ann add %s %s' % (kind, polygon(ring)) for ring in rings]
-
-
 def maps():
     """The name of each line of the table, and a function that makes its script."""
     for count in (101, 201, 1024):
@@ -113,29 +107,21 @@ def maps():
     for name, make in (('combs', comb), ('zigzags', zigzag)):
         yield 'crossing %s of 2,000 vertices' % name, lambda make=make: ONE + added('areas', [make(2000)] + turned([make(2000)]))
     lake = shore(2000)
-    yield 'lake of 2,000 vertices over 1,024 parcels', lambda: TWO + added('waters', [lake]) + added('areas', parcels(32, 32, 1800, 1200, 600, 800))
-    yield 'lake of 2,000 vertices, 999 lots on its shore', lambda: TWO + added('waters', [lake]) + added('areas', lots(lake))
+    water = TWO + added('waters', [lake])
+    yield 'lake of 2,000 vertices over 1,024 parcels', lambda: water + added('areas', parcels(32, 32, 1800, 1200, 600, 800))
+    yield 'lake of 2,000 vertices, 999 lots on its shore', lambda: water + added('areas', lots(lake))
     for name, turn in (('east', list), ('north', turned)):
         yield 'strip of 40,000 parcels, %s' % name, lambda turn=turn: ONE + added('areas', turn(parcels(40000, 1, 100, 100, -2000000)))
 
 
+def print_map(table, name, take, make):
+    lines = make()
+    before, after = take(lines), take(lines + ['validate all'])
+    table.row(name, 'ms', [before, after], beyond(after, before, 1e3))
+
+
 def main():
-    parser = argparse.ArgumentParser(usage=__doc__.split('\n\n')[1][7:])
-    add_program_words(parser)
-    parser.add_argument('--lines', default='')
-    given = parser.parse_args()
-    programs = programs_of(given)
-    table = Table('map', len(programs) == 2)
-    with tempfile.TemporaryDirectory() as folder:
-        make_measured(folder)
-        for name, make in maps():
-            if not name.startswith(tuple(given.lines.split(','))):
-                continue
-            lines = make()
-            before = measure_lines(folder, lines, programs, given)
-            after = measure_lines(folder, lines + ['validate all'], programs, given)
-            table.row(name, 'ms', [before, after], lambda i: (after[i].seconds - before[i].seconds) * 1e3)
-    return 0 if table.good else 1
+    return print_maps(__doc__, 'map', maps, print_map)
 
 
 if __name__ == '__main__':

@@ -16,7 +16,7 @@ import argparse
 import sys
 import tempfile
 
-from programs import Table, add_program_words, make_measured, measure_lines, programs_of, spread
+from programs import Table, add_program_words, beyond, make_measured, measure_lines, point, polygon, programs_of, spread
 
 KINDS = ['points', 'polygons']
 OCTAGON = [(2, 0), (4, 0), (6, 2), (6, 4), (4, 6), (2, 6), (0, 4), (0, 2)]
@@ -31,9 +31,8 @@ def shape_of(kind, number, shift):
     """The shape of this number on a lattice, moved to the right."""
     x, y = number % 1000 * 7 - 3500 + shift, number // 1000 * 7 - 350
     if kind == 'points':
-        return 'POINT (%d %d)' % (x, y)
-    ring = ['%d %d' % (x + dx, y + dy) for dx, dy in OCTAGON]
-    return 'POLYGON ((%s))' % ', '.join(ring + ring[:1])
+        return point((x, y))
+    return polygon([(x + dx, y + dy) for dx, dy in OCTAGON])
 
 
 def added(kind, count):
@@ -56,12 +55,11 @@ def print_kind(table, folder, kind, programs, given):
     take = lambda lines: measure_lines(folder, head + lines, programs, given)
     none, all_added = take(['# ' + line for line in adds]), take(adds)
     some_changed, some_deleted = take(adds + changed(kind, count)), take(adds + deleted(count))
-    each = lambda after, times: lambda i: (after[i].seconds - all_added[i].seconds) * 1e6 / times
     name = '%s %s' % (format(count, ','), kind)
-    some = count // 10
+    each = lambda after: beyond(after, all_added, 1e6 / (count // 10))
     table.row(name + ', added: time of each', 'µs', [all_added], lambda i: all_added[i].seconds * 1e6 / count)
-    table.row(name + ', a tenth changed: time of each change', 'µs', [all_added, some_changed], each(some_changed, some))
-    table.row(name + ', a tenth deleted: time of each deletion', 'µs', [all_added, some_deleted], each(some_deleted, some))
+    table.row(name + ', a tenth changed: time of each change', 'µs', [all_added, some_changed], each(some_changed))
+    table.row(name + ', a tenth deleted: time of each deletion', 'µs', [all_added, some_deleted], each(some_deleted))
     bytes_of = lambda i: (all_added[i].kilobytes - none[i].kilobytes) * 1024 / count
     table.row(name + ': memory of each', 'bytes', [none, all_added], bytes_of)
 

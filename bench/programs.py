@@ -3,6 +3,7 @@ import argparse
 import hashlib
 import math
 import os
+import random
 import shlex
 import shutil
 import subprocess
@@ -10,6 +11,7 @@ import tempfile
 
 HERE = os.path.dirname(os.path.abspath(__file__))
 ROOT = os.path.dirname(HERE)
+LONG = 5
 
 
 class Measure:
@@ -21,8 +23,8 @@ class Measure:
         self.status = self.digest = None
 
     def take(self, folder, limit):
-        """One run over the script in the folder; none where an earlier one was stopped at the limit, in s."""
-        if self.status is not None and self.status < 0:
+        """One run over the script in the folder; none where an earlier one was long, or was stopped at the limit, in s."""
+        if self.status is not None and (self.status < 0 or self.seconds > LONG):
             return
         report, written = os.path.join(folder, 'report'), os.path.join(folder, 'written')
         words = [os.path.join(folder, 'measured'), report, str(limit)] + self.words + ['replay']
@@ -105,6 +107,40 @@ def spread(count, some):
     return [i * stride % count for i in range(some)]
 
 
+def point(place):
+    return 'POINT (%d %d)' % place
+
+
+def polygon(ring):
+    return 'POLYGON ((%s))' % ', '.join('%d %d' % place for place in ring + ring[:1])
+
+
+def line(places):
+    return 'LINESTRING (%s)' % ', '.join('%d %d' % place for place in places)
+
+
+def added(name, shapes, text=polygon):
+    """The lines that add these shapes to the class."""
+    return ['by ann add %s %s' % (name, text(shape)) for shape in shapes]
+
+
+def edits(shapes, times, text=polygon):
+    """So many edits of these shapes, the first of which has the handle 1: each moves a vertex, and validates a window round its shape."""
+    lot, lines = random.Random(times), []
+    for number in spread(len(shapes), min(times, len(shapes))) * -(-times // len(shapes)):
+        shape = list(shapes[number])
+        k = lot.randrange(len(shape))
+        shape[k] = shape[k][0] + lot.randint(-5, 5), shape[k][1] + lot.randint(-5, 5)
+        (x0, x1), (y0, y1) = [(min(part) - 40, max(part) + 40) for part in zip(*shape)]
+        lines += ['by ann change %d %s' % (number + 1, text(shape)), 'validate %d %d %d %d' % (x0, y0, x1, y1)]
+    return lines[:2 * times]
+
+
+def beyond(after, before, factor):
+    """What a script takes beyond one that ends earlier, in s times the factor, of each program by its place."""
+    return lambda i: (after[i].seconds - before[i].seconds) * factor
+
+
 class Table:
     """A table of figures: what the program takes, what the baseline takes, the ratio, and whether their outputs are equal."""
 
@@ -130,6 +166,35 @@ class Table:
         if self.has_other:
             cells += [ratio, 'yes' if all(are_same(runs) for runs in measures) else 'NO']
         print('| ' + ' | '.join(cells) + ' |', flush=True)
+
+
+def print_validated(table, name, take, founding, editing, before):
+    """The rows of a map: validated whole, and then after each of its edits. Answers the measures of the whole validation.
+
+    `take` measures the lines of a script; `before` has the measures of those that found the map.
+    """
+    validated, edited = [take(founding + ['validate all'] + lines) for lines in ([], editing)]
+    table.row(name + ', validated whole: time', 'ms', [before, validated], beyond(validated, before, 1e3))
+    table.row(name + ', validated whole: memory', 'MiB', [validated], lambda i: validated[i].kilobytes / 1024)
+    table.row(name + ', an edit with its window', 'µs', [validated, edited], beyond(edited, validated, 2e6 / len(editing)))
+    return validated
+
+
+def print_maps(usage, title, maps, print_one):
+    """The whole of a command that has maps by their names: reads its words, and has each map print its rows. Answers the status."""
+    parser = argparse.ArgumentParser(usage=usage.split('\n\n')[1][7:])
+    add_program_words(parser)
+    parser.add_argument('--lines', nargs='+', default=[''])
+    given = parser.parse_args()
+    programs = programs_of(given)
+    table = Table(title, len(programs) == 2)
+    with tempfile.TemporaryDirectory() as folder:
+        make_measured(folder)
+        take = lambda lines: measure_lines(folder, lines, programs, given)
+        for name, make in maps():
+            if name.startswith(tuple(given.lines)):
+                print_one(table, name, take, make)
+    return 0 if table.good else 1
 
 
 def print_sizes(usage, title, option, sizes, print_one, add_words=lambda parser: None):

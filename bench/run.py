@@ -6,9 +6,10 @@ usage: bench/run.py [--baseline WORDS] [--sizes N,N,..] [--kinds KIND,..] [--tur
   --baseline WORDS   another program of the same words and texts, with its own first words if it wants some, as one word
   --sizes N,..       how many points: 1000,10000,100000 where it is left out
   --kinds KIND,..    apart: no two points share a place; shared: each tenth point stands at the place of the one before;
-                     windows: as shared, but validated in 100 windows, one beside the other, in place of all at once.
-                     All of them where it is left out
-  --turns N          how often each is run (3); the least time counts, and with it the least peak of memory
+                     windows: as shared, but validated in 100 windows, one beside the other, in place of all at once;
+                     tiles, small-tiles: in 2,500 and in 10,000 windows. All of them where it is left out
+  --turns N          how often each is run (3), and once where a run takes longer than five seconds; the least time counts,
+                     and with it the least peak of memory
   --seconds N        a run is stopped after so much processor time (600), and its program is not run again on that input
   --program WORDS    what is measured in place of the program that ./topo builds
 
@@ -23,7 +24,8 @@ import tempfile
 
 from programs import add_program_words, are_same, make_measured, measure_script, programs_of, stride_of
 
-KINDS = ['apart', 'shared', 'windows']
+KINDS = ['apart', 'shared', 'windows', 'tiles', 'small-tiles']
+ROWS_OF_WINDOWS = {'windows': 10, 'tiles': 50, 'small-tiles': 100}
 
 
 def place_of(number):
@@ -39,19 +41,19 @@ def points(count, kind):
         yield place_of(i * stride % count)
 
 
-def windows(count):
-    """Ten rows of ten windows that cover the lattice of so many points; each shares its sides with those beside it."""
-    wide, high = 700, -(-7 * (count // 1000 + 1) // 10)
-    for row in range(10):
-        for column in range(10):
+def windows(count, rows):
+    """So many rows of as many windows that cover the lattice of so many points; each shares its sides with those beside it."""
+    wide, high = 7000 // rows, -(-7 * (count // 1000 + 1) // rows)
+    for row in range(rows):
+        for column in range(rows):
             x, y = -3500 + column * wide, -350 + row * high
             yield x, y, x + wide, y + high
 
 
 def validations(count, kind):
-    if kind != 'windows':
+    if kind not in ROWS_OF_WINDOWS:
         return ['validate all']
-    return ['validate %d %d %d %d' % window for window in windows(count)]
+    return ['validate %d %d %d %d' % window for window in windows(count, ROWS_OF_WINDOWS[kind])]
 
 
 def write_script(path, count, kind):

@@ -3,7 +3,7 @@
 
 usage: bench/town.py [--baseline WORDS] [--rows N,N,..] [--edits N] [--turns N] [--seconds N] [--program WORDS]
 
-  --rows N,..    how many rows of as many parcels: 30,60,100 where it is left out
+  --rows N,..    how many rows of as many parcels: 30,60,100,300 where it is left out
   --edits N      how many small edits, each with a validation of a small window (1,000)
   the others     as in bench/run.py
 
@@ -16,7 +16,7 @@ overlap with easements. An edit moves a corner of one parcel alone, and the wind
 import random
 import sys
 
-from programs import measure_lines, print_sizes, spread
+from programs import added, beyond, edits, measure_lines, print_sizes, print_validated
 
 HEAD = ['class parcels polygon', 'class easements polygon', 'rule polygon_must_not_overlap parcels',
         'rule polygon_must_not_overlap_with parcels easements', 'begin ann']
@@ -60,6 +60,9 @@ class Town:
             ring[2] = ring[2][0] + 15, ring[2][1] + 10
         return ring
 
+    def parcels(self):
+        return [self.parcel(number) for number in range(self.rows ** 2)]
+
     def easement(self, number):
         """A strip along the front of this parcel, on the street's side of it."""
         row, column = divmod(number, self.rows)
@@ -71,49 +74,28 @@ class Town:
         return [(x + 10, low), (x + 90, low), (x + 90, high), (x + 10, high)]
 
 
-def polygon(ring):
-    return 'POLYGON ((%s))' % ', '.join('%d %d' % place for place in ring + ring[:1])
-
-
 def founding(town):
     """The lines that add the parcels, from handle 1 on in the order of their numbers, and the easements."""
-    count = town.rows ** 2
-    return (['by ann add parcels ' + polygon(town.parcel(number)) for number in range(count)] +
-            ['by ann add easements ' + polygon(town.easement(number)) for number in range(0, count, 5)])
-
-
-def edits(town, times):
-    """So many edits of parcels over the whole town, each with a validation of the window round the parcel."""
-    lot, lines = random.Random(times), []
-    for number in spread(town.rows ** 2, min(times, town.rows ** 2)) * -(-times // town.rows ** 2):
-        ring = town.parcel(number)
-        k = lot.randrange(len(ring))
-        ring[k] = ring[k][0] + lot.randint(-5, 5), ring[k][1] + lot.randint(-5, 5)
-        (x0, x1), (y0, y1) = [(min(part) - 10, max(part) + 10) for part in zip(*ring)]
-        lines += ['by ann change %d %s' % (number + 1, polygon(ring)), 'validate %d %d %d %d' % (x0 - 30, y0 - 30, x1 + 30, y1 + 30)]
-    return lines[:2 * times]
+    easements = [town.easement(number) for number in range(0, town.rows ** 2, 5)]
+    return added('parcels', town.parcels()) + added('easements', easements)
 
 
 def print_rows(table, folder, rows, programs, given):
     """The rows of the table on a town of so many rows."""
     town = Town(rows)
     take = lambda lines: measure_lines(folder, HEAD + lines, programs, given)
-    founded = founding(town)
-    added = take(founded)
-    validated = take(founded + ['validate all'])
-    edited = take(founded + ['validate all'] + edits(town, given.edits))
-    listed = take(founded + ['validate all'] + ['cells'] * LISTINGS)
-    beyond = lambda of, base, factor: lambda i: (of[i].seconds - base[i].seconds) * factor
+    lines = founding(town)
+    before = take(lines)
     name = '%s parcels' % format(rows ** 2, ',')
-    table.row(name + ', added: time', 'ms', [added], lambda i: added[i].seconds * 1e3)
-    table.row(name + ', validated whole: time', 'ms', [added, validated], beyond(validated, added, 1e3))
-    table.row(name + ', validated whole: memory', 'MiB', [validated], lambda i: validated[i].kilobytes / 1024)
-    table.row(name + ', an edit with its window', 'µs', [validated, edited], beyond(edited, validated, 1e6 / given.edits))
+    table.row(name + ', added: time', 'ms', [before], lambda i: before[i].seconds * 1e3)
+    validated = print_validated(table, name, take, lines, edits(town.parcels(), given.edits), before)
+    listed = take(lines + ['validate all'] + ['cells'] * LISTINGS)
     table.row(name + ', all errors listed: time', 'ms', [validated, listed], beyond(listed, validated, 1e3 / LISTINGS))
 
 
 def main():
-    return print_sizes(__doc__, 'town', '--rows', '30,60,100', print_rows, lambda parser: parser.add_argument('--edits', type=int, default=1000))
+    add_words = lambda parser: parser.add_argument('--edits', type=int, default=1000)
+    return print_sizes(__doc__, 'town', '--rows', '30,60,100,300', print_rows, add_words)
 
 
 if __name__ == '__main__':

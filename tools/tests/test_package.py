@@ -59,7 +59,7 @@ class Installed(Case):
     def test_the_manual_page(self):
         done = self.run_words(['man', '--warnings', '-l', os.path.join(ROOT, 'packaging', 'topo.1')])
         self.assertEqual((done.status, done.told), (0, ''))
-        for head in ('NAME', 'SYNOPSIS', 'WORDS', 'SCRIPT LINES', 'REPLIES', 'EXIT STATUS', 'FILES', 'EXAMPLES', 'SEE ALSO'):
+        for head in ('NAME', 'SYNOPSIS', 'ARGUMENTS', 'SCRIPT LINES', 'REPLIES', 'EXIT STATUS', 'FILES', 'EXAMPLES', 'SEE ALSO'):
             self.assertIn(head, done.out)
 
 

@@ -20,8 +20,8 @@ use Rattle.script_terms.specs.Reply.{Reply}
 use Rattle.script_terms.specs.State.{State, empty_state, is_open}
 use Rattle.script_terms.specs.Refusing.{refusal_of, held, held_by, changes, number_or_0}
 use Rattle.script_terms.specs.Answer.{answers_by, IsDone}
-use Rattle.script_terms.specs.Run.{Outcome, Reading, Reads, Faulty, Run, ComesOf, EachApart, last_state}
-use Rattle.script_terms.specs.Keeping.{IsKeeping, EachKeeping}
+use Rattle.script_terms.specs.Run.{Outcome, Reading, Reads, Faulty, Run, ComesOf, EachKeeping, last_state}
+use Rattle.script_terms.specs.Keeping.{IsKeeping}
 use Rattle.script_terms.proofs.Keeping.{undo_keeps, redo_keeps, altered_keeps}
 use Rattle.script_terms.proofs.Commands.{same_keeps, equal_keeps, begun_keeps, ended_keeps, discard_keeps, added_keeps}
 
@@ -112,10 +112,6 @@ run_keeps s [] [] k ord r = k
 run_keeps s [] (o ∷ os) k ord r = absurd r
 run_keeps s (line ∷ lines) [] k ord r = absurd r
 run_keeps s (line ∷ lines) (o ∷ os) k ord r = (k, run_keeps o.after lines os (comes_keep s r.0.reading o k ord r.0.comes) r.0.ordered r.1)
-
-pub each_apart : (s : State) (os : List Outcome) → EachKeeping s os → EachApart s os
-each_apart s [] k = k.apart
-each_apart s (o ∷ os) k = (k.0.apart, each_apart o.after os k.1)
 
 -- in the state that a run comes to, too
 pub last_keeps : (s : State) (os : List Outcome) → EachKeeping s os → IsKeeping (last_state s os)

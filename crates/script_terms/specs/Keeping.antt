@@ -2,20 +2,13 @@
 --
 -- IsKeeping s     no handle has steps in two sessions; each step's `before` and `after` are told by the other steps of its session and by
 --                 what stands; and no step is of a handle that was not given
--- EachKeeping s os     so it is in the state that a run begins in, and in each that it comes to
-use Rattle.std.specs.Prelude.{List, [], ◌∷◌}
 use Rattle.plane_terms.specs.Lists.{Every}
 use Rattle.topology_terms.specs.Feature.{feature_at}
 use Rattle.session_terms.specs.Steps.{AreAllApart}
 use Rattle.session_terms.specs.Chains.{IsChained, IsBelow}
 use Rattle.script_terms.specs.State.{State}
-use Rattle.script_terms.specs.Run.{Outcome}
 
 pub record IsKeeping (s : State) : Type 0 where
   pub apart : AreAllApart s.sessions
   pub chained : Every (IsChained (feature_at s.project.features)) s.sessions
   pub given : Every (IsBelow s.project.next) s.sessions
-
-abbrev pub EachKeeping : State → List Outcome → Type 0
-EachKeeping s [] = IsKeeping s
-EachKeeping s (o ∷ os) = IsKeeping s × EachKeeping o.after os

@@ -4,7 +4,7 @@ pub mod State
 pub mod Refusing
 pub mod Answer
 pub mod Headline
-pub mod Run
 pub mod Keeping
 pub mod Restored
+pub mod Run
 pub mod Ends

@@ -10,7 +10,7 @@ use Rattle.std.proofs.KnownBytes.{Appends-nil, Appends-trans}
 use Rattle.script_terms.specs.State.{State, empty_state}
 use Rattle.script_terms.specs.Run.{Outcome, Step, Run, text_of, any_refused, last_state, EachInvariant, WritesRun, WritesPrefix}
 use Rattle.script_terms.specs.Headline.{Invariant}
-use Rattle.script_terms.proofs.Runs.{run_keeps, each_apart, empty_keeps}
+use Rattle.script_terms.proofs.Runs.{run_keeps, empty_keeps}
 use Rattle.topology_terms.specs.Project.{IsOrdered, empty_project}
 use Rattle.topo_run.proofs.Stepping.{Takes}
 
@@ -103,7 +103,7 @@ ends {now} {all} {lines} {before} {written} {after} {pending} {bytes} {refused} 
       written = rw far.text (Appends-trans before written after far.front pending far.appended (subst (λ (t : List ℕ). Appends written after t) same more));
       any = far.any;
       invariant = far.invariant;
-      apart = each_apart empty_state far.outcomes (run_keeps empty_state all far.outcomes empty_keeps empty_ordered run);
+      keeping = run_keeps empty_state all far.outcomes empty_keeps empty_ordered run;
     }
 
 -- what was written so far is a prefix
@@ -117,7 +117,7 @@ stops {now} {all} {rest} {before} {written} {pending} {refused} far = record {
   is_prefix = (pending, far.text);
   written = far.appended;
   invariant = far.invariant;
-  apart = each_apart empty_state far.outcomes (run_keeps empty_state far.done far.outcomes empty_keeps empty_ordered far.run);
+  keeping = run_keeps empty_state far.done far.outcomes empty_keeps empty_ordered far.run;
 }
 
 -- what holds anyway

@@ -2,7 +2,6 @@ ghost use Rattle.std.specs.Prelude.{◌≡◌, ℕ, List, false};
 ghost use Rattle.plane_terms.specs.Lists.{Every};
 ghost use Rattle.line_terms.specs.Commands.{Undo, Discard};
 ghost use Rattle.line_terms.specs.Lines.{IsCommandLine};
-ghost use Rattle.script_terms.specs.Keeping.{EachKeeping};
 ghost use Rattle.script_terms.specs.Restored.{IsRestored, IsAllRestored};
 ghost use Rattle.script_terms.specs.Run.{HasOneFault, Outcome, Run, Step, last_state};
 ghost use Rattle.script_terms.specs.State.{State, empty_state};
@@ -21,10 +20,8 @@ pub fn one_run_law()
 
 /// The law of undos over runs: whatever the editors have done before, a line that undoes and is not refused puts back at one handle
 /// what stood there before the editor's last done step, and no other feature changes; a discard puts back at each handle of the
-/// session's done steps what stood there before the first of them. For in every state of a run no handle has steps in two sessions,
-/// and the steps fit one another and what stands.
+/// session's done steps what stood there before the first of them.
 pub fn exact_undo_law()
-    ensures keeping { (lines : List (List ℕ)) (os : List Outcome) → Run empty_state lines os → EachKeeping empty_state os }
     ensures undo { (lines : List (List ℕ)) (os : List Outcome) (line editor : List ℕ) (o : Outcome) → Run empty_state lines os → Step (last_state empty_state os) line o
         → IsCommandLine line (Undo editor) → o.refused ≡ false → IsRestored editor (last_state empty_state os) o.after }
     ensures discard { (lines : List (List ℕ)) (os : List Outcome) (line editor : List ℕ) (o : Outcome) → Run empty_state lines os → Step (last_state empty_state os) line o

@@ -1,0 +1,103 @@
+#!/usr/bin/env python3
+"""How long maps take under the rules of covering and of gaps: validated whole, and then after each of many edits.
+
+usage: bench/coverings.py [--baseline WORDS] [--lines NAME ..] [--turns N] [--seconds N] [--program WORDS]
+
+  --lines NAME ..   the maps whose names begin with one of these; all where it is left out
+  the others        as in bench/run.py
+
+Parcels and municipalities are those of bench/borders.py: they lie in a square and share their borders, a parcel with a vertex
+between two corners, a municipality with 50 segments a side. Of each twenty parcels one has drawn a corner back and leaves a slit. A
+zone has 200 vertices and lies over a hundred parcels; its border and theirs are not the same. A road of 2,000 vertices runs along
+the lower borders of twenty areas of 400 vertices; one vertex in 500 lies beside the border. An edit moves a vertex of a
+parcel, of a municipality, of an area or of a path, and validates a window round it.
+"""
+import sys
+
+from borders import Country
+from programs import added, edits, line, polygon, print_maps, print_validated
+
+ACROSS = 20
+
+
+def head(rule, *classes):
+    return ['class %s %s' % (name, kind) for name, kind in classes] + ['rule ' + rule, 'begin ann']
+
+
+GAPS = head('polygon_must_not_have_gaps areas', ('areas', 'polygon'))
+
+
+def parcels(rows):
+    """So many rows of as many; one in twenty leaves a slit beside it."""
+    rings = Country(rows, 2).rings()
+    for ring in rings[7::20]:
+        ring[0] = ring[0][0] + 15, ring[0][1] + 10
+    return rings
+
+
+def gaps(rings, times):
+    return GAPS + added('areas', rings), edits(rings, times)
+
+
+def zoned(rows, rule, times):
+    """Parcels and zones, under a rule between the two."""
+    rings = parcels(rows)
+    zones = Country(rows // 10, width=100000).rings()
+    return head(rule, ('parcels', 'polygon'), ('zones', 'polygon')) + added('parcels', rings) + added('zones', zones), edits(rings, times)
+
+
+def lower_border(country, row):
+    return [place for column in range(ACROSS) for place in country.side(column, row, False)]
+
+
+def roads(country, rows):
+    """A road along the lower border of each of the rows, some of its vertices beside it."""
+    for row in range(rows):
+        road = lower_border(country, row)
+        for k in range(250, len(road), 500):
+            road[k] = road[k][0], road[k][1] + 7
+        yield road
+
+
+def along_areas(rows):
+    country = Country(ACROSS, 100, 20000)
+    areas = [country.ring(column, row) for row in range(rows) for column in range(ACROSS)]
+    lines = head('line_must_be_covered_by_boundary_of roads areas', ('areas', 'polygon'), ('roads', 'line'))
+    return lines + added('areas', areas) + added('roads', roads(country, rows), line), edits(areas, 20)
+
+
+def along_paths(rows):
+    country = Country(ACROSS, 100, 20000)
+    paths = [country.side(column, row, False) + country.side(column + 1, row, False)[:1] for row in range(rows) for column in range(ACROSS)]
+    lines = head('line_must_be_covered_by_feature_class_of roads paths', ('paths', 'line'), ('roads', 'line'))
+    return lines + added('paths', paths, line) + added('roads', roads(country, rows), line), edits(paths, 20, line)
+
+
+def maps():
+    """The name of each map, and a function that makes the lines that found it and its edits."""
+    for rows in (30, 60, 100):
+        yield 'gaps, %s parcels' % format(rows ** 2, ','), lambda rows=rows: gaps(parcels(rows), 200)
+    for rows in (4, 8, 20):
+        yield 'gaps, %d municipalities of 200 vertices' % rows ** 2, lambda rows=rows: gaps(Country(rows).rings(), 50)
+    for rows in (30, 60, 100):
+        name = '%s parcels and %d zones' % (format(rows ** 2, ','), rows ** 2 // 100)
+        rule = 'polygon_must_be_covered_by_feature_class_of '
+        yield 'parcels covered, ' + name, lambda rows=rows, rule=rule: zoned(rows, rule + 'parcels zones', 200)
+        yield 'zones covered, ' + name, lambda rows=rows, rule=rule: zoned(rows, rule + 'zones parcels', 20)
+    for rows in (1, 5, 20):
+        name = 'roads of 2,000 vertices along %s, ' + str(rows) + ' along %d'
+        yield name % ('areas', ACROSS * rows), lambda rows=rows: along_areas(rows)
+        yield name % ('paths', ACROSS * rows), lambda rows=rows: along_paths(rows)
+
+
+def print_map(table, name, take, make):
+    founding, editing = make()
+    print_validated(table, name, take, founding, editing, take(founding))
+
+
+def main():
+    return print_maps(__doc__, 'map', maps, print_map)
+
+
+if __name__ == '__main__':
+    sys.exit(main())
