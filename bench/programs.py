@@ -164,7 +164,8 @@ class Table:
             ratio = '%.2f' % (values[0] / values[-1]) if min(values) > 0 else ''
         cells = [name] + figures
         if self.has_other:
-            cells += [ratio, 'yes' if all(are_same(runs) for runs in measures) else 'NO']
+            ended = all(has_ended(runs) for runs in measures)
+            cells += [ratio, '' if not ended else 'yes' if all(are_same(runs) for runs in measures) else 'NO']
         print('| ' + ' | '.join(cells) + ' |', flush=True)
 
 
