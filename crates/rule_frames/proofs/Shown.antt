@@ -3,7 +3,6 @@ use Rattle.std.proofs.Common.{◌≡◌, ℕ, Bool, true, false, List, [], Some,
 use Rattle.std.specs.Prelude.{◌&&◌, if◌then◌else◌}
 use Rattle.topology_terms.specs.Feature.{Feature, Side, feature_at, is_on_side}
 use Rattle.topology_terms.specs.Broken.{Row, judged}
-use Rattle.topology_terms.specs.Built.{is_built}
 use Rattle.topology_terms.specs.Meaning.{Finding}
 use Rattle.topology_terms.specs.Plans.{Around, Later, Own, Second, Other, around, side_by, Plan, WithEach, Alone, Whole, plan_of, cut_by, IsCutting}
 use Rattle.rule_core.specs.Shown.{IsShown}
@@ -35,10 +34,6 @@ plan_seen (WithEach who cells) row V f e = rw (e who) refl
 plan_seen (Alone who cells) row V f e = rw (e who) refl
 plan_seen (Whole who test) row V f e = rw (e who) refl
 
-if_both : (b : Bool) (xs : List Finding) → (if b && true then xs else []) ≡ (if b then xs else [])
-if_both true xs = refl
-if_both false xs = refl
-
 -- what is found among those seen is the rule's cutting, whatever the rule
 pub seen_cut : (row : Row) (V : List Feature) (a : ℕ) (f : Feature) → IsShown row V a → feature_at V a ≡ Some f → (xs : List Finding) → xs
     ≡ cut_seen row V f → IsCutting row V a xs
@@ -50,4 +45,4 @@ seen_cut row V a f shown e xs h =
     let ys = cut_by (plan_of row.kind) row V f in
     let same_plan : ys ≡ cut_plan (plan_of row.kind) row V f =
     plan_seen (plan_of row.kind) row V f (λ who. around_seen who row V a f shown e) in
-    (f, e, rw j (h ∙ sym (if_both (is_built row.kind) ys ∙ ap (λ (zs : List Finding). if is_built row.kind then zs else []) same_plan)))
+    (f, e, rw j (h ∙ sym same_plan))

@@ -4,11 +4,10 @@
 -- other_class n m f    of two classes the one that f is not of, by the first
 -- seen who row V f     of the view V, those around the subject f
 -- cut_plan plan row V f     the findings by the plan among those seen
--- cut_seen row V f     those by the plan of the row; none where its rule is not built
+-- cut_seen row V f     those by the plan of the row
 use Rattle.std.specs.Prelude.{ℕ, ◌==◌, List, [], filter, if◌then◌else◌}
 use Rattle.topology_terms.specs.Feature.{Feature}
 use Rattle.topology_terms.specs.Broken.{Row}
-use Rattle.topology_terms.specs.Built.{is_built}
 use Rattle.topology_terms.specs.Meaning.{Finding}
 use Rattle.topology_terms.specs.Plans.{Around, Later, Own, Second, Other, Plan, WithEach, Alone, Whole, plan_of, finding_of, pair_findings, whole_finding}
 use Rattle.rule_words.specs.declared.rule_kind.RuleKind.{RuleKind}
@@ -32,4 +31,4 @@ cut_plan (Alone who cells) row V f = finding_of 0 (cells f (seen who row V f))
 cut_plan (Whole who test) row V f = if test f (seen who row V f) then whole_finding else []
 
 abbrev pub cut_seen : Row → List Feature → Feature → List Finding
-cut_seen row V f = if is_built row.kind then cut_plan (plan_of row.kind) row V f else []
+cut_seen row V f = cut_plan (plan_of row.kind) row V f

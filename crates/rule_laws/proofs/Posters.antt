@@ -6,8 +6,7 @@ use Rattle.plane_terms.specs.Rectangle.{RectsMeet}
 use Rattle.rule_words.specs.declared.rule_kind.RuleKind.{RuleKind}
 use Rattle.rule_words.specs.declared.rule_kind.RuleKind.TheVariants as rule
 use Rattle.topology_terms.specs.Feature.{Feature, Side, feature_at, env, Agree, IsAscending}
-use Rattle.topology_terms.specs.Built.{is_built}
-use Rattle.topology_terms.specs.Broken.{Row, BrokenAt, BrokenWhole, IfBuilt, broken_at, broken_whole, Fits, judged}
+use Rattle.topology_terms.specs.Broken.{Row, BrokenAt, BrokenWhole, broken_at, broken_whole, Fits, judged}
 use Rattle.topology_terms.specs.Meaning.{Finding, finding_at, Laws, AreRight, CutsRight}
 use Rattle.topology_terms.specs.Plans.{Around, Later, Own, Second, Other, around, side_by, Plan, WithEach, Alone, Whole, plan_of, cut_by, cutting_of, IsCutting}
 use Rattle.topology_terms.specs.Poster.{poster}
@@ -15,15 +14,6 @@ use Rattle.validation_laws.specs.Views.{ViewLaws}
 use Rattle.rule_laws.proofs.Nears.{near_same, near_after_same}
 use Rattle.rule_laws.proofs.Families.{AreExact}
 use Rattle.rule_laws.proofs.AllRules.{lawful}
-
--- ---- a rule that is built
-of_built : (b : Bool) (P : Type 0) → IfBuilt b P → (b ≡ true) × P
-of_built true P h = (refl, h)
-of_built false P h = absurd h
-
-if_built : (b : Bool) (P : Type 0) → b ≡ true → P → IfBuilt b P
-if_built true P e h = h
-if_built false P e h = cc
 
 -- ---- a whole fault has a live subject
 whole_alive : (k : RuleKind) (A B : Side) (F : List Feature) (a : ℕ) → broken_whole k A B F a → (f : Feature) × (feature_at F a ≡ Some f)
@@ -58,14 +48,10 @@ cutting_at row F a f xs e h = let l = h.1 in let same : h.0 ≡ f = cc in rw sam
 pub poster_laws : Laws poster
 unfolding BrokenAt BrokenWhole IsCutting
 poster_laws = record {
-  inside = λ row F a b p u h. (lawful row.kind).inside row.origin row.dest F a b p u (of_built (is_built row.kind) _ h).1;
-  point = λ row F G a b p u v agree h.
-      let y = of_built (is_built row.kind) _ h in
-      if_built (is_built row.kind) _ y.0 ((lawful row.kind).point row.origin row.dest F G a b p u v agree y.1);
-  live = λ row F a h. whole_alive row.kind row.origin row.dest F a (of_built (is_built row.kind) _ h).1;
-  feature = λ row F G a f u v e k agree h.
-      let y = of_built (is_built row.kind) _ h in
-      if_built (is_built row.kind) _ y.0 ((lawful row.kind).feature row.origin row.dest F G a f u v e k agree y.1);
+  inside = λ row F a b p u h. (lawful row.kind).inside row.origin row.dest F a b p u h;
+  point = λ row F G a b p u v agree h. (lawful row.kind).point row.origin row.dest F G a b p u v agree h;
+  live = λ row F a h. whole_alive row.kind row.origin row.dest F a h;
+  feature = λ row F G a f u v e k agree h. (lawful row.kind).feature row.origin row.dest F G a f u v e k agree h;
   cutting = λ row F G a f r s u v e k agree xs h.
       (f, k, cutting_at row F a f xs e h ∙ cutting_same row F G f (λ who. around_same who row F G f r s agree));
 }
@@ -94,22 +80,21 @@ nothing_exact B W n m = record {
   each_whole = λ h. absurd (m h);
 }
 
-right_by : (row : Row) (F : List Feature) (a : ℕ) (f : Feature) → Fits row F → feature_at F a ≡ Some f → (built t : Bool) → judged row f ≡ t
-    → AreExact (λ b p. IfBuilt built (broken_at row.kind row.origin row.dest F a b p))
-    (IfBuilt built (broken_whole row.kind row.origin row.dest F a)) (if built && t then cut_by (plan_of row.kind) row F f else [])
-right_by row F a f u e true true j = (lawful row.kind).right row.origin row.dest F a f u e j
-right_by row F a f u e true false j =
+right_by : (row : Row) (F : List Feature) (a : ℕ) (f : Feature) → Fits row F → feature_at F a ≡ Some f → (t : Bool) → judged row f ≡ t
+    → AreExact (λ b p. broken_at row.kind row.origin row.dest F a b p) (broken_whole row.kind row.origin row.dest F a)
+    (if t then cut_by (plan_of row.kind) row F f else [])
+right_by row F a f u e true j = (lawful row.kind).right row.origin row.dest F a f u e j
+right_by row F a f u e false j =
     nothing_exact (λ b p. broken_at row.kind row.origin row.dest F a b p) (broken_whole row.kind row.origin row.dest F a)
     (λ b p h. let t = (lawful row.kind).at_judged row.origin row.dest F a b f p u e h in absurd cc)
     (λ h. let t = (lawful row.kind).all_judged row.origin row.dest F a f u e h in absurd cc)
-right_by row F a f u e false t j = nothing_exact (λ b p. ⊥) ⊥ (λ b p h. h) (λ h. h)
 
 pub poster_cuts : CutsRight poster
 unfolding BrokenAt BrokenWhole IsCutting
 poster_cuts = record {
   right = λ row F a f r u e xs h.
       rw (cutting_at row F a f xs e h)
-      (of_exact row F a (cutting_of row F f) (right_by row F a f u e (is_built row.kind) (judged row f) refl));
+      (of_exact row F a (cutting_of row F f) (right_by row F a f u e (judged row f) refl));
   one = λ row F a xs ys h k. h.2 ∙ sym (cutting_at row F a h.0 ys h.1 k);
 }
 
@@ -125,14 +110,10 @@ fits_part row F G r within u = record {
   boundary = λ h f e k. u.boundary h f (within h f e) k;
 }
 
-nothing_cut : (built t : Bool) (xs : List Finding) → t ≡ false → [] ≡ (if built && t then xs else [])
-nothing_cut true t xs e = rw e refl
-nothing_cut false t xs e = refl
-
 pub poster_views : ViewLaws poster
 unfolding IsCutting
 poster_views = record {
   idle = λ row F a f e t.
-      (f, e, nothing_cut (is_built row.kind) (judged row f) (cut_by (plan_of row.kind) row F f) t);
+      (f, e, rw t refl);
   fits = fits_part;
 }

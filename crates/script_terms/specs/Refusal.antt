@@ -61,6 +61,8 @@ cause_code cause.NoRule = codes "E09"
 cause_code cause.WrongKind = codes "E13"
 cause_code cause.NoFeature = codes "E19"
 cause_code cause.HandlesSpent = codes "E21"
+cause_code cause.NoError = codes "E25"
+cause_code cause.AlreadySo = codes "E26"
 
 abbrev pub refusal_text : Refusal → List ℕ
 refusal_text (Line r) = line_refusal_text r

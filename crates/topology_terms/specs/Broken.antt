@@ -3,7 +3,7 @@
 -- Row              a rule in force: its kind and its two sides
 -- broken_at k A B F a b p      the sentence of each rule; three rules are broken at no point, but by a subject as a whole
 -- BrokenAt row F a b p     the subject a breaks the rule at the point p, with the partner b, or 0 where the rule has none
--- BrokenWhole row F a      the subject a breaks the rule as a whole; nothing breaks a rule that is not built, by either
+-- BrokenWhole row F a      the subject a breaks the rule as a whole
 -- judged row f     f is a subject of the rule: it is of the first class, or, of a rule that judges either class, of one of the two
 -- Fits row F       F ascends, the features of both sides have the kinds that the rule takes, and shapes are as shapes are: segments are
 --                  proper, those of a polygon meet at ends alone, and a polygon has some
@@ -19,7 +19,6 @@ use Rattle.rule_words.specs.Table.{origin_of, dest_of, judges_either}
 use Rattle.rule_words.specs.declared.rule_kind.RuleKind.{RuleKind}
 use Rattle.rule_words.specs.declared.rule_kind.RuleKind.TheVariants as rule
 use Rattle.topology_terms.specs.Feature.{Feature, Side, is_on_side, IsOf, feature_at, sides, IsAscending}
-use Rattle.topology_terms.specs.Built.{is_built}
 use Rattle.topology_terms.specs.Rules.PolygonMustNotOverlap as polygon_must_not_overlap
 use Rattle.topology_terms.specs.Rules.PolygonMustNotOverlapWith as polygon_must_not_overlap_with
 use Rattle.topology_terms.specs.Rules.PolygonMustNotHaveGaps as polygon_must_not_have_gaps
@@ -88,16 +87,11 @@ broken_whole rule.PolygonContainsPoint = polygon_contains_point.BrokenWhole
 broken_whole rule.LineMustBeSinglePart = line_must_be_single_part.BrokenWhole
 broken_whole other = λ A B F a. ⊥
 
--- P, where it is of a rule that is built
-abbrev pub IfBuilt : Bool → Type 0 → Type 0
-IfBuilt true P = P
-IfBuilt false P = ⊥
-
 unfoldable pub BrokenAt : Row → List Feature → ℕ → ℕ → Point → Type 0
-BrokenAt row F a b p = IfBuilt (is_built row.kind) (broken_at row.kind row.origin row.dest F a b p)
+BrokenAt row F a b p = broken_at row.kind row.origin row.dest F a b p
 
 unfoldable pub BrokenWhole : Row → List Feature → ℕ → Type 0
-BrokenWhole row F a = IfBuilt (is_built row.kind) (broken_whole row.kind row.origin row.dest F a)
+BrokenWhole row F a = broken_whole row.kind row.origin row.dest F a
 
 abbrev pub judged : Row → Feature → Bool
 judged row f = is_on_side row.origin f || (judges_either row.kind && is_on_side row.dest f)

@@ -8,6 +8,7 @@
 -- fit_cause cs row         why the classes do not serve the row: one is missing; they do not fit
 -- rule_cause p row         why the row is not put in force: that; it is in force already; there are 256 rules
 -- drop_cause rs n          why the rule n is not dropped: no such rule
+-- mark_cause es r a b on   why the mark of the entry of this key is not set on, or off: no such error; it is so already
 -- is_kind o k              there is a kind, and it is k
 -- is_missing cs row        the class of the subjects is not there, or the second one where the rule takes one
 -- is_fit cs row            the classes have the kinds that the rule takes, and are two; where it takes one, no second is given
@@ -22,10 +23,11 @@ use Rattle.plane_terms.specs.declared.kind.Kind.TheVariants as kind
 use Rattle.rule_words.specs.Table.{word_of, origin_of, dest_of}
 use Rattle.topology_terms.specs.Feature.{Class, Feature, feature_at}
 use Rattle.topology_terms.specs.Broken.{Row}
+use Rattle.topology_terms.specs.Entry.{Entry, entry_at}
 use Rattle.topology_terms.specs.Project.{Project, InForce, rule_at}
 use Rattle.topology_terms.specs.Lookups.{number_from, kind_of_class, kind_at}
 use Rattle.topology_terms.specs.declared.cause.Cause.{Cause}
-use Rattle.topology_terms.specs.declared.cause.Cause.TheVariants.{ClassTaken, ClassesFull, NoClass, Unfit, RuleThere, RulesFull, NoRule, WrongKind, NoFeature, HandlesSpent}
+use Rattle.topology_terms.specs.declared.cause.Cause.TheVariants.{ClassTaken, ClassesFull, NoClass, Unfit, RuleThere, RulesFull, NoRule, WrongKind, NoFeature, HandlesSpent, NoError, AlreadySo}
 
 abbrev pub when : {A : Type 0} → Bool → A → Option A
 when b c = if b then Some c else None
@@ -87,6 +89,14 @@ rule_cause p row = first_of (fit_cause p.classes row ∷ when (is_there p.rules 
 
 abbrev pub drop_cause : List InForce → ℕ → Option Cause
 drop_cause rs n = when (is_none (rule_at rs n)) NoRule
+
+-- there is an entry, and its mark is on, or off
+abbrev pub is_so : Option Entry → Bool → Bool
+is_so None on = false
+is_so (Some e) on = if on then e.marked else not e.marked
+
+abbrev pub mark_cause : List Entry → ℕ → ℕ → ℕ → Bool → Option Cause
+mark_cause es r a b on = first_of (when (is_none (entry_at es r a b)) NoError ∷ when (is_so (entry_at es r a b) on) AlreadySo ∷ [])
 
 abbrev pub Tells : Option Cause → Option Cause → Type 0
 Tells None cause = Unit {0}

@@ -4,7 +4,6 @@ pub mod Together
 pub mod Crossings
 pub mod Rules
 pub mod Broken
-pub mod Built
 pub mod Meaning
 pub mod Cells
 pub mod Tests

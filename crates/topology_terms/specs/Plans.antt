@@ -12,7 +12,7 @@
 -- Whole who test       a finding of the whole subject, where the test says so
 -- plan_of k            the plan of each rule
 -- cut_by plan row F f  the findings by a plan
--- cutting_of row F f   the findings of a subject; none where the rule does not judge it, or is not built
+-- cutting_of row F f   the findings of a subject; none where the rule does not judge it
 -- IsCutting row F a xs     xs are the findings of the live feature a
 --
 -- The findings of a subject, their order and the order of their cells are those of this one list. Source: own.
@@ -25,7 +25,6 @@ use Rattle.plane_terms.specs.Shape.{rings_of}
 use Rattle.plane_terms.specs.Cell.{Cell, at_place, on_segment, box_round, weak_of}
 use Rattle.plane_terms.specs.Carve.{carve_of}
 use Rattle.topology_terms.specs.Feature.{Feature, Side, is_on_side, feature_at, sides, place, env}
-use Rattle.topology_terms.specs.Built.{is_built}
 use Rattle.topology_terms.specs.Broken.{Row, judged}
 use Rattle.topology_terms.specs.Meaning.{Finding}
 use Rattle.rule_words.specs.declared.rule_kind.RuleKind.{RuleKind}
@@ -196,7 +195,7 @@ plan_of rule.PointMustBeCoveredByLine = Alone Second (bad_places own_place (none
 plan_of rule.PointMustBeCoveredByEndpointOf = Alone Second (bad_places own_place (none_at ends_there))
 
 abbrev pub cutting_of : Row → List Feature → Feature → List Finding
-cutting_of row F f = if is_built row.kind && judged row f then cut_by (plan_of row.kind) row F f else []
+cutting_of row F f = if judged row f then cut_by (plan_of row.kind) row F f else []
 
 unfoldable pub IsCutting : Row → List Feature → ℕ → List Finding → Type 0
 IsCutting row F a xs = (f : Feature) × (feature_at F a ≡ Some f) × (xs ≡ cutting_of row F f)

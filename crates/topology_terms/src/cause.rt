@@ -21,4 +21,8 @@ pub enum Cause {
     NoFeature,
     /// The next handle is 4,294,967,295, which is never given.
     HandlesSpent,
+    /// There is no error of this key.
+    NoError,
+    /// The mark is so already.
+    AlreadySo,
 }
