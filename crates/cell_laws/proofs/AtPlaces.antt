@@ -1,7 +1,8 @@
 -- All points at a place of the grid are on a segment where one is.
-use Rattle.std.proofs.Common.{◌≡◌, ℕ, ℤ, pos, ◌*ℤ◌, arith, inl, inr, ◌∙◌}
+use Rattle.std.proofs.Common.{◌≡◌, ℕ, ℤ, pos, ◌*ℤ◌, true, arith, inl, inr, refl, ◌∙◌}
+use Rattle.std.proofs.lemmas.Bool.Decides.{Decides-and, Decides-int_eq}
 use Rattle.std.proofs.lemmas.Int.{ints}
-use Rattle.plane_terms.specs.Point.{Place, Point, IsAt}
+use Rattle.plane_terms.specs.Point.{Place, Point, IsAt, same_place}
 use Rattle.plane_terms.specs.Segment.{Segment, OnSegment, IsBetween}
 use Rattle.plane_terms.specs.Share.{turn}
 use Rattle.plane_terms.proofs.Points.{point_at}
@@ -30,3 +31,12 @@ on_all_at s q o p a = record {
   across = between_scaled s.lo.x s.hi.x q.x p.x p.w a.x o.across;
   along = between_scaled s.lo.y s.hi.y q.y p.y p.w a.y o.along;
 }
+
+-- ---- two places by a test
+pub same_is : (q r : Place) → same_place q r ≡ true → q ≡ r
+same_is q r t =
+    let k = (Decides-and _ _ (Decides-int_eq q.x r.x) (Decides-int_eq q.y r.y)).0 t in
+    λ i. record { x = k.0 i; y = k.1 i }
+
+pub is_same : (q r : Place) → q ≡ r → same_place q r ≡ true
+is_same q r e = rw e ((Decides-and _ _ (Decides-int_eq r.x r.x) (Decides-int_eq r.y r.y)).1 (refl, refl))

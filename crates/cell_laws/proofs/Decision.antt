@@ -20,7 +20,7 @@ use Rattle.plane_terms.specs.Cell.{HasPoint}
 use Rattle.cell_laws.specs.Bounds.{Above, Allows, either, Compatible, FlatHolds, PairsHold}
 use Rattle.number_laws.proofs.Ring.{num, neg, ◌⊕◌, ◌⊗◌, same_by}
 use Rattle.cell_laws.proofs.PairCuts.{pair_value}
-use Rattle.cell_laws.proofs.Elimination.{PairHolds, eliminated, over}
+use Rattle.cell_laws.proofs.Elimination.{PairHolds, eliminated, over, all_weaker}
 use Rattle.cell_laws.proofs.Empty.{all_pairs, by_recursion}
 use Rattle.cell_laws.proofs.Lines.{compatible_at}
 use Rattle.cell_laws.proofs.Lists.{all_append}
@@ -195,16 +195,12 @@ in_some None P [] = (λ h. tt, λ h. tt)
 in_some None P (x ∷ xs) = (λ h. tt, λ h. (tt, (in_some None P xs).1 tt))
 in_some (Some a) P xs = (λ h. h, λ h. h)
 
-all_same : {A : Type 0} (P Q : A → Type 0) → ((a : A) → P a → Q a) → (xs : List A) → AllByRecursion P xs → AllByRecursion Q xs
-all_same P Q f [] k = tt
-all_same P Q f (x ∷ xs) k = (f x k.0, all_same P Q f xs k.1)
-
 point_iff : (hs : List HalfPlane) → HasNumber (shadow_of hs hs) ↔ HasPoint hs
 point_iff hs = (
   λ n.
       let k = (shadow_allowed hs n.t n.w).0 n.allowed in
-      let flat = all_same (HoldsFor hs n.t n.w) (λ h. FlatHolds h n.t n.w) (λ h a. a.0) hs k in
-      let pairs = all_same (HoldsFor hs n.t n.w) (PairHolds hs n.t n.w)
+      let flat = all_weaker (HoldsFor hs n.t n.w) (λ h. FlatHolds h n.t n.w) (λ h a. a.0) hs k in
+      let pairs = all_weaker (HoldsFor hs n.t n.w) (PairHolds hs n.t n.w)
       (λ h a. (in_some (low_of h) (λ l g. IfSome (high_of g) (λ u. Compatible l u n.t n.w)) hs).0 a.1) hs k in
       let o = eliminated hs n.t n.w n.positive flat pairs in
       (over n.t n.w n.positive o.y o.d o.positive, o.within),
@@ -216,7 +212,7 @@ point_iff hs = (
         w = q.w;
         positive = q.positive;
         allowed = (shadow_allowed hs q.x q.w).1
-            (all_same (λ h. FlatHolds h q.x q.w × PairsHold hs h q.x q.w) (HoldsFor hs q.x q.w)
+            (all_weaker (λ h. FlatHolds h q.x q.w × PairsHold hs h q.x q.w) (HoldsFor hs q.x q.w)
             (λ h a. (
               a.0,
               (in_some (low_of h) (λ l g. IfSome (high_of g) (λ u. Compatible l u q.x q.w)) hs).1

@@ -56,8 +56,8 @@ flat_split a c x t w d =
     same_by ((num a ⊗ num x ⊕ num c ⊗ num (pos w)) ⊗ num (pos d)) (num a ⊗ (num x ⊗ num (pos d)) ⊕ num (pos 0) ⊗ num t ⊕ num c ⊗ num
     (pos (w * d))) (omega arith)
 
-both : (v : ℤ) → Above false v → Above false (neg_ℤ v) → v ≡ pos 0
-both v h k = omega (arith, ints)
+pub zero_both : (v : ℤ) → Above false v → Above false (neg_ℤ v) → v ≡ pos 0
+zero_both v h k = omega (arith, ints)
 
 abbrev parts : ℤ → ℤ → ℤ → Op → HalfPlane
 parts a b c o = record { a = a; b = b; c = c; op = o }
@@ -87,11 +87,11 @@ half_by_parts : (a b c : ℤ) (o : Op) (x : ℤ) (w : ℕ) (p : 0 < w) (t : ℤ)
 half_by_parts a (pos zero) c o x w p t d q l u f = subst (Says o) (flat_split a c x t w d) (Says-scaled o _ d q (f refl))
 half_by_parts a (pos (suc n)) c Over x w p t d q l u f = subst (Above true) (value_split a (pos (suc n)) c x t w d) l
 half_by_parts a (pos (suc n)) c AtLeast x w p t d q l u f = subst (Above false) (value_split a (pos (suc n)) c x t w d) l
-half_by_parts a (pos (suc n)) c Zero x w p t d q l u f = both _ (subst (Above false) (value_split a (pos (suc n)) c x t w d) l)
+half_by_parts a (pos (suc n)) c Zero x w p t d q l u f = zero_both _ (subst (Above false) (value_split a (pos (suc n)) c x t w d) l)
     (subst (Above false) (negative_turned a (pos (suc n)) c x t w d) u)
 half_by_parts a (negsuc n) c Over x w p t d q l u f = subst (Above true) (value_turned a (negsuc n) c x t w d) u
 half_by_parts a (negsuc n) c AtLeast x w p t d q l u f = subst (Above false) (value_turned a (negsuc n) c x t w d) u
-half_by_parts a (negsuc n) c Zero x w p t d q l u f = both _ (subst (Above false) (value_turned a (negsuc n) c x t w d) u)
+half_by_parts a (negsuc n) c Zero x w p t d q l u f = zero_both _ (subst (Above false) (value_turned a (negsuc n) c x t w d) u)
     (subst (Above false) (negative_split a (negsuc n) c x t w d) l)
 
 pub half_over : (h : HalfPlane) (x : ℤ) (w : ℕ) (p : 0 < w) (t : ℤ) (d : ℕ) (q : 0 < d)
@@ -213,7 +213,7 @@ pub some_both : {A : Type 0} (P Q R : A → Type 0) (o : Option A) → IfSome o 
 some_both P Q R None h k f = tt
 some_both P Q R (Some a) h k f = f a h k
 
-all_weaker : {A : Type 0} (P Q : A → Type 0) → ((a : A) → P a → Q a) → (xs : List A) → AllByRecursion P xs → AllByRecursion Q xs
+pub all_weaker : {A : Type 0} (P Q : A → Type 0) → ((a : A) → P a → Q a) → (xs : List A) → AllByRecursion P xs → AllByRecursion Q xs
 all_weaker P Q f [] k = tt
 all_weaker P Q f (x ∷ xs) k = (f x k.0, all_weaker P Q f xs k.1)
 

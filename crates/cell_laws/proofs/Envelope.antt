@@ -1,9 +1,9 @@
 -- The envelope of a segment holds its points.
-use Rattle.std.proofs.Common.{ℕ, ℤ, pos, ◌*ℤ◌, ◌≤ℤ◌, arith, inl, inr}
+use Rattle.std.proofs.Common.{◌≡◌, ℕ, ℤ, pos, ◌*ℤ◌, ◌≤ℤ◌, arith, inl, inr, refl}
 use Rattle.std.proofs.lemmas.Int.{ints, clamps}
 use Rattle.std.specs.Int.{int_min, int_max}
 use Rattle.plane_terms.specs.Point.{Point}
-use Rattle.plane_terms.specs.Rectangle.{RectHolds, RectsMeet}
+use Rattle.plane_terms.specs.Rectangle.{RectHolds, RectsMeet, rect_of}
 use Rattle.plane_terms.specs.Segment.{Segment, IsSegment, IsBetween, OnSegment, box_of}
 use Rattle.cell_laws.proofs.Meeting.{NoneShared}
 use Rattle.number_laws.proofs.Order.{scaled_le}
@@ -39,3 +39,6 @@ box_holds s p g o =
 
 pub apart_by_box : (s t : Segment) → IsSegment s → IsSegment t → ¬ (RectsMeet (box_of s) (box_of t)) → NoneShared s t
 apart_by_box s t g h n = record { never = λ p o q. n (p, box_holds s p g o, box_holds t p h q) }
+
+pub rect_same : {a b c d i j k l : ℤ} → a ≡ i → b ≡ j → c ≡ k → d ≡ l → rect_of a b c d ≡ rect_of i j k l
+rect_same e f g h = rw (e, f, g, h) refl

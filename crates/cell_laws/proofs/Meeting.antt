@@ -2,7 +2,7 @@
 use Rattle.std.proofs.Common.{◌≡◌, ℤ, pos, ◌+ℤ◌, ◌-ℤ◌, ◌*ℤ◌, neg_ℤ, ◌≤ℤ◌, ◌<ℤ◌, arith, refl, sym, ◌⊎◌, inl, inr, ◌∙◌}
 use Rattle.std.proofs.lemmas.Int.{ints}
 use Rattle.plane_terms.specs.Point.{Place, Point, IsAt}
-use Rattle.plane_terms.specs.Segment.{Segment, IsSegment, cross, OnSegment}
+use Rattle.plane_terms.specs.Segment.{Segment, IsSegment, cross, OnSegment, Overlap}
 use Rattle.plane_terms.specs.Share.{AreSame, MeetOnce, CrossOnce, TouchOnce, turn}
 use Rattle.number_laws.proofs.Ring.{num, neg, ◌⊕◌, ◌⊖◌, ◌⊗◌, same_by, lt_by, le_read, lt_read}
 use Rattle.number_laws.proofs.Order.{product_at_least, product_over, zero_unscaled, natural}
@@ -336,3 +336,7 @@ cross_sym s t m = record { meet = meet_sym s t m.meet; inner = λ e. m.inner (fl
 pub touch_sym : (s t : Segment) → TouchOnce t s → TouchOnce s t
 unfolding meet_sym
 touch_sym s t m = record { meet = meet_sym s t m.meet; end = flip m.end }
+
+pub overlap_sym : (s t : Segment) → Overlap t s → Overlap s t
+overlap_sym s t o =
+    record { p = o.p; q = o.q; apart = o.apart; p_on_s = o.p_on_t; p_on_t = o.p_on_s; q_on_s = o.q_on_t; q_on_t = o.q_on_s }

@@ -14,21 +14,10 @@ use Rattle.plane_terms.specs.Lists.{Every}
 use Rattle.plane_terms.specs.Segment.{Segment}
 use Rattle.plane_terms.specs.Columns.{put, abscissas, ordinates}
 use Rattle.column_laws.specs.Rising.{IsRising}
-use Rattle.plane_terms.proofs.ListLemmas.{every_map}
+use Rattle.plane_terms.proofs.ListLemmas.{every_map, IsAmong, among_at, contains_among}
 use Rattle.column_laws.proofs.Numbers.{every-put, IsRising-put, among-put, among-put_other, from-put}
 use Rattle.column_cut.specs.Vertices.{ascending, xs_of, ys_at, is_at}
-use Rattle.column_cut.proofs.Unique.{IsAmong, same_by_members}
-
--- ---- members by recursion and by index
-among_from_contains : {X : Type 0} (xs : List X) (k : ℕ) (x : X) → k < length xs → get_or xs k x ≡ x → IsAmong x xs
-among_from_contains [] k x h e = absurd (omega arith)
-among_from_contains (y ∷ ys) zero x h e = inl (sym e)
-among_from_contains (y ∷ ys) (suc k) x h e = inr (among_from_contains ys k x (omega arith) e)
-
-contains_from_among : {X : Type 0} (xs : List X) (x : X) → IsAmong x xs → Contains xs x
-contains_from_among [] x m = absurd m
-contains_from_among (y ∷ ys) x (inl e) = (0, omega arith, sym e)
-contains_from_among (y ∷ ys) x (inr m) = let c = contains_from_among ys x m in (suc c.0, omega (arith, c.1), c.2)
+use Rattle.column_cut.proofs.Unique.{same_by_members}
 
 -- ---- the ascending list
 ascending-rising : (vs : List ℤ) → IsRising (ascending vs)
@@ -67,12 +56,12 @@ distinct_is vs sorted p s =
     (rising_from_sorted (dedup int_eq sorted) (IsStrictlySortedBy-dedup int_cmp_total (λ x y. refl) sorted s)) (ascending-rising vs)
     (λ z m.
     let c = Contains-permutation sorted vs z (IsPermutation-sym vs sorted p)
-    (Contains-from_dedup int_eq sorted z (contains_from_among (dedup int_eq sorted) z m)) in
-    among_ascending z vs (among_from_contains vs c.0 z c.1 c.2))
+    (Contains-from_dedup int_eq sorted z (contains_among (dedup int_eq sorted) z m)) in
+    among_ascending z vs (among_at vs c.0 z c.1 c.2))
     (λ z m.
     let c = Contains-dedup int_eq_equiv (λ x y. (signed_Decides x y).0) sorted z
-    (Contains-permutation vs sorted z p (contains_from_among vs z (from_ascending z vs m))) in
-    among_from_contains (dedup int_eq sorted) c.0 z c.1 c.2)
+    (Contains-permutation vs sorted z p (contains_among vs z (from_ascending z vs m))) in
+    among_at (dedup int_eq sorted) c.0 z c.1 c.2)
 
 -- ---- the coordinates of the vertices
 pub abscissas_are : (ss : List Segment) → ascending (xs_of ss) ≡ abscissas ss

@@ -8,7 +8,7 @@ use Rattle.std.proofs.lemmas.List.Sorted.{sorted_far}
 use Rattle.std.proofs.lemmas.Bool.{false≢true, and_parts, and_from, not-true, not_from_false, cases_Bool}
 use Rattle.plane_terms.specs.Lists.{Every, EveryPair}
 use Rattle.plane_terms.proofs.ListLemmas.{every_map}
-use Rattle.column_cut.proofs.Unique.{IsAmong, every_among}
+use Rattle.plane_terms.proofs.ListLemmas.{IsAmong, every_among}
 
 member_filter : {X : Type 0} (p : X → Bool) (xs : List X) (z : X) → IsAmong z (filter p xs) → IsAmong z xs
 member_filter p [] z m = m

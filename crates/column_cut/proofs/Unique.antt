@@ -1,14 +1,7 @@
 -- Strictly ordered lists with the same members are equal.
 use Rattle.std.proofs.Common.{◌≡◌, sym, subst, ap, refl, inl, inr, ◌∙◌, List, [], ◌∷◌}
-use Rattle.plane_terms.specs.Lists.{Every, EveryPair, SomeOf}
-
-abbrev pub IsAmong : {X : Type 0} → X → List X → Type 0
-IsAmong z xs = SomeOf (λ x. z ≡ x) xs
-
-pub every_among : {X : Type 0} (P : X → Type 0) (xs : List X) → Every P xs → (z : X) → IsAmong z xs → P z
-every_among P [] h z m = absurd m
-every_among P (x ∷ xs) h z (inl e) = subst P (sym e) h.0
-every_among P (x ∷ xs) h z (inr m) = every_among P xs h.1 z m
+use Rattle.plane_terms.specs.Lists.{Every, EveryPair}
+use Rattle.plane_terms.proofs.ListLemmas.{IsAmong, every_among}
 
 module _ {X : Type 0} (R : X → X → Type 0) (asym : (a b : X) → R a b → R b a → ⊥) where
   head_same : (x y : X) (xs ys : List X) → Every (R x) xs → Every (R y) ys → IsAmong x (y ∷ ys) → IsAmong y (x ∷ xs) → x ≡ y

@@ -17,7 +17,8 @@ use Rattle.cell_laws.proofs.Meets.{kept_points}
 use Rattle.column_laws.specs.Rising.{IsRising}
 use Rattle.column_laws.specs.Slots.{IsJudged, IsBeside, slot_cells}
 use Rattle.plane_terms.proofs.ListLemmas.{every_map}
-use Rattle.column_laws.proofs.Numbers.{IsRising-put, IsAmong, among-put, among-put_other}
+use Rattle.column_laws.proofs.Numbers.{IsRising-put, among-put, among-put_other}
+use Rattle.plane_terms.proofs.ListLemmas.{IsAmong}
 use Rattle.column_laws.proofs.Intervals.{StandsAt, StandsAt-next, from_first}
 use Rattle.column_laws.proofs.Strip.{clear_by_each}
 use Rattle.column_laws.proofs.Cells.{EndsAt, cells_out, cells_in, some_left, some_right, some_cases}

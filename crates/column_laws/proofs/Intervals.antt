@@ -9,7 +9,7 @@ use Rattle.plane_terms.specs.Cell.{InCells}
 use Rattle.plane_terms.specs.Columns.{intervals}
 use Rattle.plane_terms.specs.Lists.{Every}
 use Rattle.column_laws.specs.Rising.{IsRising}
-use Rattle.column_laws.proofs.Numbers.{every_among, IsAmong}
+use Rattle.plane_terms.proofs.ListLemmas.{every_among, IsAmong}
 use Rattle.number_laws.proofs.Order.{cases_order_ℤ, scaled_le}
 use Rattle.cell_laws.proofs.GridLines.{y_over_holds, y_under_holds}
 

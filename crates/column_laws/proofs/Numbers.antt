@@ -5,16 +5,7 @@ use Rattle.std.specs.Int.RustNames.{int_lt}
 use Rattle.plane_terms.specs.Lists.{Every}
 use Rattle.plane_terms.specs.Columns.{put}
 use Rattle.column_laws.specs.Rising.{IsRising}
-use Rattle.plane_terms.proofs.ListLemmas.{every_map}
-
-abbrev pub IsAmong : ℤ → List ℤ → Type 0
-IsAmong v [] = ⊥
-IsAmong v (x ∷ xs) = (v ≡ x) ⊎ IsAmong v xs
-
-pub every_among : (P : ℤ → Type 0) (xs : List ℤ) → Every P xs → (v : ℤ) → IsAmong v xs → P v
-every_among P [] h v m = absurd m
-every_among P (x ∷ xs) h v (inl e) = subst P (sym e) h.0
-every_among P (x ∷ xs) h v (inr m) = every_among P xs h.1 v m
+use Rattle.plane_terms.proofs.ListLemmas.{every_map, IsAmong, every_among}
 
 -- the three cases of `put`
 put_cases : (P : List ℤ → Type 0) (v x : ℤ) (xs more : List ℤ) → (v <ℤ x → P (v ∷ x ∷ xs)) → (x <ℤ v → P (x ∷ more))

@@ -14,7 +14,8 @@ use Rattle.column_laws.specs.Rising.{IsRising}
 use Rattle.column_laws.specs.Slots.{IsFree, IsFrom, IsJudged}
 use Rattle.plane_terms.proofs.ListLemmas.{every_map}
 use Rattle.column_laws.proofs.Every.{every_both, by_test}
-use Rattle.column_laws.proofs.Numbers.{every-put, IsRising-put, IsAmong, among-put, among-put_other}
+use Rattle.column_laws.proofs.Numbers.{every-put, IsRising-put, among-put, among-put_other}
+use Rattle.plane_terms.proofs.ListLemmas.{IsAmong}
 use Rattle.column_laws.proofs.Intervals.{intervals_out, intervals_in}
 use Rattle.column_laws.proofs.Order.{chain-column}
 use Rattle.column_laws.proofs.Segments.{one_way}

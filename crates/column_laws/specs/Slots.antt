@@ -10,7 +10,8 @@
 -- IsBeside xs p         p lies left of the first or right of the last of them; of none at all, every point does
 --
 -- ColumnsHaveOneOrder   the segments of a column, of a simple list, are each below the later ones over the whole strip, its walls included
--- SlotsAreClear         a point of a slot's cell, in a column or on a wall, is on no segment, and so many run below it as the slot's parity says
+-- SlotsAreClear         a point of a slot's cell, in a column or on a wall, is on no segment, and so many run below it as the slot's
+--                       parity says
 -- SlotsCount            below a point of the slot j of a column, its left wall included, exactly j segments run
 -- SlotsAreEnough        each point that is on no segment lies in a slot's cell, or beside them all
 -- NoneCountsBeside      a point beside them all is on no segment, and none runs below it; so for every list

@@ -29,6 +29,7 @@ use Rattle.script_terms.proofs.Runs.{may_edit}
 use Rattle.command_answers.specs.Worlds.{state_of, IsWorld}
 use Rattle.command_answers.proofs.KeptLists.{named_has, name_of, now_named, with_twice}
 use Rattle.command_answers.proofs.Sessions.{May, may_changed, all_still}
+use Rattle.std.proofs.lemmas.Bool.{eqb-true}
 
 -- ---- room is made, and the step is noted
 pub room_noted : (name : List ℕ) (t : KeptStep) (old mid new : List KeptSession) → calls.IsRoomMade name old mid → calls.IsNoted name t mid new → calls.IsNoted name t old new
@@ -55,16 +56,13 @@ noted_may may can s t u still k m c = record {
   undone = subst (Every (λ (x : KeptStep). can x.handle x.kept)) (sym k.undone) tt;
 }
 
-same_number : (m n : ℕ) → eqb m n ≡ true → m ≡ n
-same_number m n t = grind (arith, nat_tests)
-
 live_has : (P : Feature → Type 0) (F : List Feature) (h : ℕ) (f : Feature) → Every P F → feature_at F h ≡ Some f → P f × (f.handle ≡ h)
 unfolding feature_at
 live_has P [] h f a e = cc
 live_has P (g ∷ F) h f a e = by (eqb g.handle h) refl e (λ r. live_has P F h f a.1 r)
   where
     by : (b : Bool) → eqb g.handle h ≡ b → (if b then Some g else feature_at F h) ≡ Some f → (feature_at F h ≡ Some f → P f × (f.handle ≡ h)) → P f × (f.handle ≡ h)
-    by true k e r = let same : g ≡ f = cc in (subst P same a.0, ap (λ (x : Feature). x.handle) (sym same) ∙ same_number g.handle h k)
+    by true k e r = let same : g ≡ f = cc in (subst P same a.0, ap (λ (x : Feature). x.handle) (sym same) ∙ eqb-true g.handle h k)
     by false k e r = r e
 
 live_may : (p : Project) (h : ℕ) (f : Feature) → IsStore p.classes p.features p.next → feature_at p.features h ≡ Some f → May p h (feature_at p.features h)

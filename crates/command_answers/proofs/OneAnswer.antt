@@ -27,6 +27,9 @@ use Rattle.script_terms.specs.State.{State}
 use Rattle.script_terms.proofs.Restoring.{taken_at}
 use Rattle.script_terms.specs.Refusing.{refusal_of, number_or_0}
 use Rattle.script_terms.specs.Answer.{Answers, IsDone, IsSame, IsNoted, IsUndone, IsRedone, IsDiscarded, AreTakenBack, answers_by, added_step}
+use Rattle.plane_terms.proofs.Truths.{same_by_truth, there_or_not}
+use Rattle.session_terms.proofs.Chains.{end_same, head_same}
+use Rattle.plane_terms.proofs.ListLemmas.{those_one}
 
 -- the same reply, and the same state
 abbrev pub Same : Reply → State → Reply → State → Type 0
@@ -109,18 +112,12 @@ dropped_same s p q n u v i j = record {
 }
 
 -- ---- a validation
-both_true : (x y : Bool) → (x ≡ true → y ≡ true) → (y ≡ true → x ≡ true) → x ≡ y
-both_true true true f g = refl
-both_true true false f g = sym (f refl)
-both_true false true f g = g refl
-both_true false false f g = refl
-
 mark_same : (o : Option Entry) (d e : Entry) → unmark d ≡ unmark e → KeepsMark o d → KeepsMark o e → d.marked ≡ e.marked
 mark_same None d e same h k = h ∙ sym k
 mark_same (Some w) d e same h k =
     let over : IsUnchanged w d → IsUnchanged w e = λ x. record { whole = x.whole ∙ ap (λ (y : Entry). y.whole) same; frame = x.frame ∙ ap (λ (y : Entry). y.frame) same; cells = x.cells ∙ ap (λ (y : Entry). y.cells) same } in
     let back : IsUnchanged w e → IsUnchanged w d = λ x. record { whole = x.whole ∙ sym (ap (λ (y : Entry). y.whole) same); frame = x.frame ∙ sym (ap (λ (y : Entry). y.frame) same); cells = x.cells ∙ sym (ap (λ (y : Entry). y.cells) same) } in
-    both_true d.marked e.marked (λ m. let y = h.0 m in k.1 (y.0, over y.1)) (λ m. let y = k.0 m in h.1 (y.0, back y.1))
+    same_by_truth d.marked e.marked (λ m. let y = h.0 m in k.1 (y.0, over y.1)) (λ m. let y = k.0 m in h.1 (y.0, back y.1))
 
 option_same : (o d e : Option Entry) → unmark_option d ≡ unmark_option e → ((x : Entry) → d ≡ Some x → KeepsMark o x) → ((x : Entry) → e ≡ Some x → KeepsMark o x) → d ≡ e
 option_same o None None same h k = refl
@@ -131,14 +128,6 @@ option_same o (Some d) (Some e) same h k =
     let marks : d.marked ≡ e.marked = mark_same o d e bare (h d refl) (k e refl) in
     ap (λ (x : Entry). Some (record x { marked = d.marked })) bare ∙ ap (λ (m : Bool). Some (record e { marked = m })) marks
 
-row_or_none : (o : Option Row) → ((row : Row) × (o ≡ Some row)) ⊎ (o ≡ None)
-row_or_none None = inr refl
-row_or_none (Some row) = inl (row, refl)
-
-feature_or_none : (o : Option Feature) → ((f : Feature) × (o ≡ Some f)) ⊎ (o ≡ None)
-feature_or_none None = inr refl
-feature_or_none (Some f) = inl (f, refl)
-
 entry_same : CutsRight poster → (w : Rectangle) (s p q : Project) → IsValidatedBy poster w s p → IsValidatedBy poster w s q → (r a b : ℕ) → entry_at p.entries r a b ≡ entry_at q.entries r a b
 entry_same C w s p q i j r a b = elim (i.each a) [
   | inr y ↦ elim (j.each a) [
@@ -147,9 +136,9 @@ entry_same C w s p q i j r a b = elim (i.each a) [
   ]
   | inl y ↦ elim (j.each a) [
     | inr z ↦ absurd (z.0 y.0)
-    | inl z ↦ elim (row_or_none (rule_at s.rules r)) [
+    | inl z ↦ elim (there_or_not (rule_at s.rules r)) [
       | inr n ↦ y.1.idle r n b ∙ sym (z.1.idle r n b)
-      | inl row ↦ elim (feature_or_none (feature_at s.features a)) [
+      | inl row ↦ elim (there_or_not (feature_at s.features a)) [
         | inr n ↦ y.1.dead n r b ∙ sym (z.1.dead n r b)
         | inl f ↦
             let m = y.1.live f.0 f.1 r row.0 row.1 in
@@ -175,13 +164,6 @@ validated_same C w s p q u v i j = record {
 }
 
 -- the elements that are chosen are one list
-those_same : {A : Type 0} (P : A → Type 0) (xs ys zs : List A) → IsThose P xs ys → IsThose P xs zs → ys ≡ zs
-those_same P [] ys zs h k = h ∙ sym k
-those_same P (x ∷ xs) ys zs (inl h) (inl k) = h.1.1 ∙ (ap (λ l. x ∷ l) (those_same P xs h.1.0 k.1.0 h.1.2 k.1.2) ∙ sym k.1.1)
-those_same P (x ∷ xs) ys zs (inl h) (inr k) = absurd (k.0 h.0)
-those_same P (x ∷ xs) ys zs (inr h) (inl k) = absurd (h.0 k.0)
-those_same P (x ∷ xs) ys zs (inr h) (inr k) = those_same P xs ys zs h.1 k.1
-
 -- ---- each command
 kept_same : (s t u : State) → IsSame s t → IsSame s u → t ≡ u
 kept_same s t u i j = i.same ∙ sym j.same
@@ -199,17 +181,6 @@ noted_same editor s t u x y i j step h =
     let is : with_step i.session x ≡ with_step j.session y = ap (λ (z : Session). with_step z x) was ∙ ap (with_step j.session) step in
     same_state t u (by_parts t.project u.project h) (i.change.sessions ∙ (ap (with_session s.sessions) is ∙ sym j.change.sessions))
 
-end_step : (xs ys : List EditStep) (x y : EditStep) → xs ++ x ∷ [] ≡ ys ++ y ∷ [] → (xs ≡ ys) × (x ≡ y)
-end_step [] [] x y e = (refl, cc)
-end_step [] (b ∷ []) x y e = cc
-end_step [] (b ∷ c ∷ ys) x y e = cc
-end_step (a ∷ []) [] x y e = cc
-end_step (a ∷ c ∷ xs) [] x y e = cc
-end_step (a ∷ xs) (b ∷ ys) x y e = let h : a ≡ b = cc in let t : xs ++ x ∷ [] ≡ ys ++ y ∷ [] = cc in let r = end_step xs ys x y t in (rw (h, r.0) refl, r.1)
-
-head_step : (x y : EditStep) (xs ys : List EditStep) → x ∷ xs ≡ y ∷ ys → (x ≡ y) × (xs ≡ ys)
-head_step x y xs ys e = (cc, cc)
-
 parts_same : (s u : Session) → s.name ≡ u.name → s.done ≡ u.done → s.undone ≡ u.undone → s ≡ u
 parts_same s u n d k =
     ap (λ (x : List ℕ). record { name = x; done = s.done; undone = s.undone }) n
@@ -222,7 +193,7 @@ set_project h after s p q v w i j = by_parts p q (edit_same h after s p q v w i.
 undo_same : (editor : List ℕ) (s t u : State) → IsOrdered t.project → IsOrdered u.project → IsUndone editor s t → IsUndone editor s u → t ≡ u
 undo_same editor s t u v w i j =
     let was : i.was ≡ j.was = some_same (session_of s.sessions editor) i.was j.was i.session.there j.session.there in
-    let e = end_step i.is.done j.is.done i.step j.step (sym i.undone.done ∙ (ap (λ (z : Session). z.done) was ∙ j.undone.done)) in
+    let e = end_same i.is.done j.is.done i.step j.step (sym i.undone.done ∙ (ap (λ (z : Session). z.done) was ∙ j.undone.done)) in
     let left : i.is.undone ≡ j.is.undone = i.undone.undone ∙ (ap (λ (z : EditStep). z ∷ i.was.undone) e.1 ∙ (ap (λ (z : Session). j.step ∷ z.undone) was ∙ sym j.undone.undone)) in
     let is : i.is ≡ j.is = parts_same i.is j.is (i.undone.name ∙ (ap (λ (z : Session). z.name) was ∙ sym j.undone.name)) e.0 left in
     let set = subst (λ (z : EditStep). IsFeatureSet z.handle z.before s.project t.project) e.1 i.set in
@@ -231,7 +202,7 @@ undo_same editor s t u v w i j =
 redo_same : (editor : List ℕ) (s t u : State) → IsOrdered t.project → IsOrdered u.project → IsRedone editor s t → IsRedone editor s u → t ≡ u
 redo_same editor s t u v w i j =
     let was : i.was ≡ j.was = some_same (session_of s.sessions editor) i.was j.was i.session.there j.session.there in
-    let e = head_step i.step j.step i.is.undone j.is.undone (sym i.undone.undone ∙ (ap (λ (z : Session). z.undone) was ∙ j.undone.undone)) in
+    let e = head_same i.step j.step i.is.undone j.is.undone (sym i.undone.undone ∙ (ap (λ (z : Session). z.undone) was ∙ j.undone.undone)) in
     let left : i.is.done ≡ j.is.done = i.undone.done ∙ (ap (λ (z : EditStep). i.was.done ++ z ∷ []) e.0 ∙ (ap (λ (z : Session). z.done ++ j.step ∷ []) was ∙ sym j.undone.done)) in
     let is : i.is ≡ j.is = parts_same i.is j.is (sym i.undone.name ∙ (ap (λ (z : Session). z.name) was ∙ j.undone.name)) left e.1 in
     let set = subst (λ (z : EditStep). IsFeatureSet z.handle z.after s.project t.project) e.0 i.set in
@@ -314,7 +285,7 @@ one_done C s t u (Validate win) reply said v w (j1, e1, d1, is1, l1) (j2, e2, d2
     let p = l1.project in
     let q = l2.project in
     let parts = validated_same C win s.project t.project u.project v w p.validated q.validated in
-    let chosen = those_same _ s.project.features p.selected q.selected p.those q.those in
+    let chosen = those_one _ s.project.features p.selected q.selected p.those q.those in
     let judged : j1 ≡ j2 = p.judged_is ∙ (ap (λ fs. judged_of s.project.rules fs) chosen ∙ sym q.judged_is) in
     let errors : e1 ≡ e2 = p.errors_is ∙ (ap length parts.entries ∙ sym q.errors_is) in
     let dirty : d1 ≡ d2 = p.dirty_is ∙ (ap length parts.dirt ∙ sym q.dirty_is) in

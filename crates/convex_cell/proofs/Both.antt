@@ -16,9 +16,11 @@ use Rattle.convex_cell.proofs.Ranges.{on_true, on_false}
 
 pub all_of_both : {X : Type 0} (P : X → Type 0) (xs ys : List X) → All P (xs ++ ys) ↔ (All P xs × All P ys)
 all_of_both P xs ys =
-    (λ h. let r = (all_append P xs ys).0 (recursion_from_All P (xs ++ ys) h) in (All-from_recursion P xs r.0, All-from_recursion P ys r.1), λ h. All-append P xs ys h.0 h.1)
+    (λ h. let r = (all_append P xs ys).0 (recursion_from_All P (xs ++ ys) h) in (All-from_recursion P xs r.0, All-from_recursion P ys r.1),
+        λ h. All-append P xs ys h.0 h.1)
 
-pairs_of_both : (o : Option Edge) (Q : Edge → HalfPlane → Type 0) (a b : Cell) → IfSome o (λ l. All (Q l) (a ++ b)) ↔ (IfSome o (λ l. All (Q l) a) × IfSome o (λ l. All (Q l) b))
+pairs_of_both : (o : Option Edge) (Q : Edge → HalfPlane → Type 0) (a b : Cell) → IfSome o (λ l. All (Q l) (a ++ b))
+    ↔ (IfSome o (λ l. All (Q l) a) × IfSome o (λ l. All (Q l) b))
 pairs_of_both None Q a b = (λ h. (tt, tt), λ h. tt)
 pairs_of_both (Some l) Q a b = all_of_both (Q l) a b
 
@@ -31,7 +33,9 @@ says_of_both a b t w h =
     let e = pairs_of_both (low_of h) (λ l g. IfSome (high_of g) (λ u. Compatible l u t w)) a b in
     (λ k. let x = e.0 k.1 in (k.0, x.0, x.1), λ k. (k.0, e.1 (k.1, k.2)))
 
-pub half_cut_both : (a b : Cell) (h : HalfPlane) (l : Edge) (t : ℤ) (w : ℕ) (R M N Q : Type 0) → Some l ≡ low_of h → (M ↔ (R × FlatHolds h t w)) → (N ↔ (M × All (λ g. IfSome (high_of g) (λ u. Compatible l u t w)) a)) → (Q ↔ (N × All (λ g. IfSome (high_of g) (λ u. Compatible l u t w)) b)) → Q ↔ (R × SaysWithBoth a b t w h)
+pub half_cut_both : (a b : Cell) (h : HalfPlane) (l : Edge) (t : ℤ) (w : ℕ) (R M N Q : Type 0) → Some l ≡ low_of h
+    → (M ↔ (R × FlatHolds h t w)) → (N ↔ (M × All (λ g. IfSome (high_of g) (λ u. Compatible l u t w)) a))
+    → (Q ↔ (N × All (λ g. IfSome (high_of g) (λ u. Compatible l u t w)) b)) → Q ↔ (R × SaysWithBoth a b t w h)
 half_cut_both a b h l t w R M N Q e m n q =
     let A : Option Edge → Type 0 = λ o. IfSome o (λ l. All (λ g. IfSome (high_of g) (λ u. Compatible l u t w)) a) in
     let B : Option Edge → Type 0 = λ o. IfSome o (λ l. All (λ g. IfSome (high_of g) (λ u. Compatible l u t w)) b) in (
@@ -40,7 +44,8 @@ half_cut_both a b h l t w R M N Q e m n q =
     )
 
 -- two cuts, each list by both
-pub two_cuts : (a b : Cell) (t : ℤ) (w : ℕ) (R₀ R₁ R₂ : Type 0) → R₀ → (R₁ ↔ (R₀ × All (SaysWithBoth a b t w) a)) → (R₂ ↔ (R₁ × All (SaysWithBoth a b t w) b)) → R₂ ↔ All (λ h. FlatHolds h t w × PairsHold (a ++ b) h t w) (a ++ b)
+pub two_cuts : (a b : Cell) (t : ℤ) (w : ℕ) (R₀ R₁ R₂ : Type 0) → R₀ → (R₁ ↔ (R₀ × All (SaysWithBoth a b t w) a))
+    → (R₂ ↔ (R₁ × All (SaysWithBoth a b t w) b)) → R₂ ↔ All (λ h. FlatHolds h t w × PairsHold (a ++ b) h t w) (a ++ b)
 two_cuts a b t w R₀ R₁ R₂ r e f =
     let P : HalfPlane → Type 0 = λ h. FlatHolds h t w × PairsHold (a ++ b) h t w in
     let says = says_of_both a b t w in
@@ -58,13 +63,16 @@ meet_has a b = (
   λ h. (h.0, (meet_points a b h.0).1 ((all_append (λ g. Holds g h.0) a b).0 h.1)),
 )
 
-pub meet_decided : (r : Bool) (a b : Cell) → OnTrue r (¬ (HasPoint (a ++ b))) → OnFalse r (HasPoint (a ++ b)) → r ≡ not (has_point (meet_of a b))
+pub meet_decided : (r : Bool) (a b : Cell) → OnTrue r (¬ (HasPoint (a ++ b))) → OnFalse r (HasPoint (a ++ b))
+    → r ≡ not (has_point (meet_of a b))
 meet_decided r a b h k =
     decided_by r (meet_of a b) (on_true r _ _ (λ no m. no ((meet_has a b).0 m)) h) (on_false r _ _ (meet_has a b).1 k)
 
 -- one of the first list that is apart from the second
-pub none_in_both : (a b : Cell) (i : ℕ) (h : HalfPlane) → i < length a → h ≡ get_or a i h → (r : Bool) → r ≡ true → OnTrue r ((p : Point) → Holds h p → ¬ (All (λ g. Holds g p) b)) → ¬ (HasPoint (a ++ b))
+pub none_in_both : (a b : Cell) (i : ℕ) (h : HalfPlane) → i < length a → h ≡ get_or a i h → (r : Bool) → r ≡ true
+    → OnTrue r ((p : Point) → Holds h p → ¬ (All (λ g. Holds g p) b)) → ¬ (HasPoint (a ++ b))
 none_in_both a b i h l e r t o m =
     let f = subst (λ r. OnTrue r ((p : Point) → Holds h p → ¬ (All (λ g. Holds g p) b))) t o in
     let s = (all_append (λ g. Holds g m.0) a b).0 m.1 in
-    f m.0 (subst (λ g. Holds g m.0) (sym e) (All-get_or (λ g. Holds g m.0) a i h l (All-from_recursion (λ g. Holds g m.0) a s.0))) (All-from_recursion (λ g. Holds g m.0) b s.1)
+    f m.0 (subst (λ g. Holds g m.0) (sym e) (All-get_or (λ g. Holds g m.0) a i h l (All-from_recursion (λ g. Holds g m.0) a s.0)))
+        (All-from_recursion (λ g. Holds g m.0) b s.1)

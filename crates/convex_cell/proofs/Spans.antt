@@ -21,6 +21,7 @@ use Rattle.cell_laws.proofs.Empty.{all_pairs, by_recursion}
 use Rattle.convex_cell.specs.declared.range.Limit.{Limit}
 use Rattle.convex_cell.specs.declared.range.Range.{Range}
 use Rattle.convex_cell.specs.Range.{InRange, IsRange, IsLimit, AllowsLimit}
+use Rattle.convex_cell.proofs.Ranges.{limit_at}
 
 -- the quotient that rounds down
 pub floor_below : (k : ℤ) (m : ℕ) → 0 < m → (int_div_euclid k (pos m) *ℤ pos m) ≤ℤ k
@@ -36,7 +37,9 @@ pub rounded_holds : (m k g t : ℤ) (s : Bool) (w : ℕ) → pos 0 <ℤ m → (g
 rounded_holds m k g t s w p h a =
     let b : pos 0 ≤ℤ ((neg_ℤ k -ℤ g *ℤ m) *ℤ pos w) = product_at_least _ (pos w) (omega (arith, ints)) (omega (arith, ints)) in
     let c : pos 0 ≤ℤ (m *ℤ t +ℤ k *ℤ pos w) = Above-weak s _ a in
-    let d : pos 0 ≤ℤ (m *ℤ (t -ℤ g *ℤ pos w)) = le_by (num (pos 0)) (num m ⊗ (num t ⊖ num g ⊗ num (pos w))) (omega (arith, le_read (num (pos 0)) ((neg (num k) ⊖ num g ⊗ num m) ⊗ num (pos w)) b, le_read (num (pos 0)) (num m ⊗ num t ⊕ num k ⊗ num (pos w)) c)) in
+    let d : pos 0 ≤ℤ (m *ℤ (t -ℤ g *ℤ pos w)) = le_by (num (pos 0)) (num m ⊗ (num t ⊖ num g ⊗ num (pos w)))
+        (omega (arith, le_read (num (pos 0)) ((neg (num k) ⊖ num g ⊗ num m) ⊗ num (pos w)) b, le_read (num (pos 0))
+        (num m ⊗ num t ⊕ num k ⊗ num (pos w)) c)) in
     apart t (g *ℤ pos w) (Above-unscaled false m _ p d)
   where
     apart : (a b : ℤ) → pos 0 ≤ℤ (a -ℤ b) → b ≤ℤ a
@@ -54,55 +57,65 @@ is_under g t w h =
     lt_by (num t) (num g ⊗ num (pos w)) (omega (arith, lt_read (num (pos 0)) (num (pos 1) ⊗ neg (num t) ⊕ num g ⊗ num (pos w)) h))
 
 -- a number of the range below g, where the bound from below is below g
-pub number_under : (low : Limit) (high : Option Limit) (g : ℤ) → IsLimit low → IfSome high IsLimit → IfSome high (λ u. AreCompatible (line low) (line u)) → neg_ℤ low.k <ℤ (g *ℤ low.m) → (t : ℤ) × (w : ℕ) × (0 < w) × AllowsLimit t w low × IfSome high (AllowsLimit (neg_ℤ t) w) × (t <ℤ (g *ℤ pos w))
+pub number_under : (low : Limit) (high : Option Limit) (g : ℤ) → IsLimit low → IfSome high IsLimit
+    → IfSome high (λ u. AreCompatible (line low) (line u)) → neg_ℤ low.k <ℤ (g *ℤ low.m)
+    → (t : ℤ) × (w : ℕ) × (0 < w) × AllowsLimit t w low × IfSome high (AllowsLimit (neg_ℤ t) w) × (t <ℤ (g *ℤ pos w))
 number_under low None g v u c h =
     let r : IsRising (line low) = record { positive = v.rising } in
-    let q = helly (line low ∷ []) (under g ∷ []) ((record { rising = r; each = (record { rising = record { positive = omega (arith, ints) }; with = meets low g h }, tt) }, tt)) ((record { positive = omega (arith, ints) }, tt)) in
+    let q = helly (line low ∷ []) (under g ∷ [])
+        ((record { rising = r; each = (record { rising = record { positive = omega (arith, ints) }; with = meets low g h }, tt) }, tt))
+        ((record { positive = omega (arith, ints) }, tt)) in
     (q.t, q.w, q.positive, q.below.0, tt, is_under g q.t q.w q.above.0)
   where
     meets : (low : Limit) (g : ℤ) → neg_ℤ low.k <ℤ (g *ℤ low.m) → AreCompatible (line low) (under g)
-    meets low g h = Above-any (either low.strict true) _ (lt_by (num (pos 0)) (num low.k ⊗ num (pos 1) ⊕ num g ⊗ num low.m) (omega (arith, lt_read (neg (num low.k)) (num g ⊗ num low.m) h)))
+    meets low g h = Above-any (either low.strict true) _ (lt_by (num (pos 0)) (num low.k ⊗ num (pos 1) ⊕ num g ⊗ num low.m)
+        (omega (arith, lt_read (neg (num low.k)) (num g ⊗ num low.m) h)))
 number_under low (Some u) g v uv c h =
     let r : IsRising (line low) = record { positive = v.rising } in
     let s : IsRising (line u) = record { positive = uv.rising } in
     let o : IsRising (under g) = record { positive = omega (arith, ints) } in
-    let q = helly (line low ∷ []) (line u ∷ under g ∷ []) ((record { rising = r; each = (record { rising = s; with = c }, (record { rising = o; with = meets low g h }, tt)) }, tt)) ((s, (o, tt))) in
+    let q = helly (line low ∷ []) (line u ∷ under g ∷ []) ((record { rising = r; each =
+        (record { rising = s; with = c }, (record { rising = o; with = meets low g h }, tt)) }, tt)) ((s, (o, tt))) in
     (q.t, q.w, q.positive, q.below.0, q.above.0, is_under g q.t q.w q.above.1.0)
   where
     meets : (low : Limit) (g : ℤ) → neg_ℤ low.k <ℤ (g *ℤ low.m) → AreCompatible (line low) (under g)
-    meets low g h = Above-any (either low.strict true) _ (lt_by (num (pos 0)) (num low.k ⊗ num (pos 1) ⊕ num g ⊗ num low.m) (omega (arith, lt_read (neg (num low.k)) (num g ⊗ num low.m) h)))
+    meets low g h = Above-any (either low.strict true) _ (lt_by (num (pos 0)) (num low.k ⊗ num (pos 1) ⊕ num g ⊗ num low.m)
+        (omega (arith, lt_read (neg (num low.k)) (num g ⊗ num low.m) h)))
 
 pub floor_at : (k m : ℤ) → pos 0 <ℤ m → ((int_div_euclid k m *ℤ m) ≤ℤ k) × (k <ℤ ((int_div_euclid k m +ℤ pos 1) *ℤ m))
 floor_at k (pos m) p = (floor_below k m (omega (arith, ints)), floor_above k m (omega (arith, ints)))
 floor_at k (negsuc m) p = absurd (omega (arith, ints))
 
-floor_read : (k m r : ℤ) → FitsSigned w128 k → FitsSigned w128 m → mag r < 2 ^ 127 → r ≡ int_div_euclid (to_z w128 (of_z w128 k)) (to_z w128 (of_z w128 m)) → to_z w128 (of_z w128 r) ≡ int_div_euclid k m
+floor_read : (k m r : ℤ) → FitsSigned w128 k → FitsSigned w128 m → mag r < 2 ^ 127
+    → r ≡ int_div_euclid (to_z w128 (of_z w128 k)) (to_z w128 (of_z w128 m)) → to_z w128 (of_z w128 r) ≡ int_div_euclid k m
 floor_read k m r f g h e =
     let i : to_z w128 (of_z w128 k) ≡ k = omega (arith, ints) in
     let j : to_z w128 (of_z w128 m) ≡ m = omega (arith, ints) in
     let l : to_z w128 (of_z w128 r) ≡ r = omega (arith, ints) in
     l ∙ (rw (i, j) at e)
 
-pub floor_code_below : (k m r : ℤ) → FitsSigned w128 k → FitsSigned w128 m → mag r < 2 ^ 127 → pos 0 <ℤ m → r ≡ int_div_euclid (to_z w128 (of_z w128 k)) (to_z w128 (of_z w128 m)) → (to_z w128 (of_z w128 r) *ℤ m) ≤ℤ k
+pub floor_code_below : (k m r : ℤ) → FitsSigned w128 k → FitsSigned w128 m → mag r < 2 ^ 127 → pos 0 <ℤ m
+    → r ≡ int_div_euclid (to_z w128 (of_z w128 k)) (to_z w128 (of_z w128 m)) → (to_z w128 (of_z w128 r) *ℤ m) ≤ℤ k
 floor_code_below k m r f g h p e = rw (floor_read k m r f g h e) (floor_at k m p).0
 
-pub floor_code_above : (k m r : ℤ) → FitsSigned w128 k → FitsSigned w128 m → mag r < 2 ^ 127 → pos 0 <ℤ m → r ≡ int_div_euclid (to_z w128 (of_z w128 k)) (to_z w128 (of_z w128 m)) → k <ℤ ((to_z w128 (of_z w128 r) +ℤ pos 1) *ℤ m)
+pub floor_code_above : (k m r : ℤ) → FitsSigned w128 k → FitsSigned w128 m → mag r < 2 ^ 127 → pos 0 <ℤ m
+    → r ≡ int_div_euclid (to_z w128 (of_z w128 k)) (to_z w128 (of_z w128 m)) → k <ℤ ((to_z w128 (of_z w128 r) +ℤ pos 1) *ℤ m)
 floor_code_above k m r f g h p e = rw (floor_read k m r f g h e) (floor_at k m p).1
 
 -- a point of the cell over each number of the range
-over_number : (hs : List HalfPlane) (r : Range) → ((t : ℤ) → (w : ℕ) → 0 < w → (InRange r t w ↔ All (λ h. FlatHolds h t w × PairsHold hs h t w) hs)) → (t : ℤ) (w : ℕ) (p : 0 < w) → InRange r t w → OverAbscissa hs t w p
+over_number : (hs : List HalfPlane) (r : Range)
+    → ((t : ℤ) → (w : ℕ) → 0 < w → (InRange r t w ↔ All (λ h. FlatHolds h t w × PairsHold hs h t w) hs)) → (t : ℤ) (w : ℕ) (p : 0 < w)
+    → InRange r t w → OverAbscissa hs t w p
 over_number hs r both x w p s =
     let all = (both x w p).0 s in
     let flat = All-weaker (λ h. FlatHolds h x w × PairsHold hs h x w) (λ h. FlatHolds h x w) (λ h k. k.0) hs all in
     let pairs = All-weaker (λ h. FlatHolds h x w × PairsHold hs h x w) (PairHolds hs x w) (λ h k. by_recursion hs h x w k.1) hs all in
     eliminated hs x w p (recursion_from_All (λ h. FlatHolds h x w) hs flat) (recursion_from_All (PairHolds hs x w) hs pairs)
 
-meets_high : (o : Option Limit) (low : Limit) (t : ℤ) (w : ℕ) → 0 < w → IsLimit low → IfSome o IsLimit → AllowsLimit t w low → IfSome o (AllowsLimit (neg_ℤ t) w) → IfSome o (λ u. AreCompatible (line low) (line u))
+meets_high : (o : Option Limit) (low : Limit) (t : ℤ) (w : ℕ) → 0 < w → IsLimit low → IfSome o IsLimit → AllowsLimit t w low
+    → IfSome o (AllowsLimit (neg_ℤ t) w) → IfSome o (λ u. AreCompatible (line low) (line u))
 meets_high None low t w p v u a b = tt
 meets_high (Some h) low t w p v u a b = compatible_at low.m low.k h.m h.k low.strict h.strict t w p v.rising u.rising a b
-
-pub low_at : (P : Limit → Type 0) (o : Option Limit) (l : Limit) → o ≡ Some l → IfSome o P → P l
-low_at P o l e h = subst (λ (x : Option Limit). IfSome x P) e h
 
 at_some : (P : Limit → Type 0) (o : Option Limit) (l : Limit) → o ≡ Some l → P l → IfSome o P
 at_some P o l e h = subst (λ (x : Option Limit). IfSome x P) (sym e) h
@@ -111,16 +124,19 @@ at_some P o l e h = subst (λ (x : Option Limit). IfSome x P) (sym e) h
 scaled_under : (t g : ℤ) (w d : ℕ) → 0 < d → t <ℤ (g *ℤ pos w) → (t *ℤ pos d) <ℤ (g *ℤ pos (w * d))
 scaled_under t g w d p h =
     let s = product_over (g *ℤ pos w -ℤ t) (pos d) (omega (arith, ints)) (omega (arith, ints)) in
-    lt_by (num t ⊗ num (pos d)) (num g ⊗ num (pos (w * d))) (omega (arith, lt_read (num (pos 0)) ((num g ⊗ num (pos w) ⊖ num t) ⊗ num (pos d)) s))
+    lt_by (num t ⊗ num (pos d)) (num g ⊗ num (pos (w * d))) (omega (arith, lt_read (num (pos 0))
+        ((num g ⊗ num (pos w) ⊖ num t) ⊗ num (pos d)) s))
 
 -- no whole number above the rounded bound is below all points of the cell
-pub greatest_from : (hs : List HalfPlane) (r : Range) → ((t : ℤ) → (w : ℕ) → 0 < w → (InRange r t w ↔ All (λ h. FlatHolds h t w × PairsHold hs h t w) hs)) → IsRange r → HasPoint hs → (low : Limit) → r.low ≡ Some low → (q : ℤ) → neg_ℤ low.k <ℤ ((q +ℤ pos 1) *ℤ low.m) → (g : ℤ) → ((p : Point) → InCell hs p → (g *ℤ pos p.w) ≤ℤ p.x) → g ≤ℤ q
+pub greatest_from : (hs : List HalfPlane) (r : Range) → ((t : ℤ) → (w : ℕ) → 0 < w
+    → (InRange r t w ↔ All (λ h. FlatHolds h t w × PairsHold hs h t w) hs)) → IsRange r → HasPoint hs → (low : Limit) → r.low ≡ Some low
+    → (q : ℤ) → neg_ℤ low.k <ℤ ((q +ℤ pos 1) *ℤ low.m) → (g : ℤ) → ((p : Point) → InCell hs p → (g *ℤ pos p.w) ≤ℤ p.x) → g ≤ℤ q
 greatest_from hs r both v some low e q above g all =
     by_lt_z q g (λ less.
     let z = some.0 in
     let i = (both z.x z.w z.positive).1 (all_pairs hs z some.1) in
-    let l = low_at IsLimit r.low low e v.low in
-    let c = meets_high r.high low z.x z.w z.positive l v.high (low_at (AllowsLimit z.x z.w) r.low low e i.low) i.high in
+    let l = limit_at IsLimit r.low low e v.low in
+    let c = meets_high r.high low z.x z.w z.positive l v.high (limit_at (AllowsLimit z.x z.w) r.low low e i.low) i.high in
     let n = number_under low r.high g l v.high c (raised low.k low.m q g l.rising less above) in
     let o = over_number hs r both n.0 n.1 n.2 (record { some = i.some; low = at_some (AllowsLimit n.0 n.1) r.low low e n.3; high = n.4 }) in
     let a = all (over n.0 n.1 n.2 o.y o.d o.positive) o.within in
@@ -129,10 +145,12 @@ greatest_from hs r both v some low e q above g all =
     raised : (k m q g : ℤ) → pos 0 <ℤ m → q <ℤ g → neg_ℤ k <ℤ ((q +ℤ pos 1) *ℤ m) → neg_ℤ k <ℤ (g *ℤ m)
     raised k m q g p less h =
         let d = product_at_least (g -ℤ (q +ℤ pos 1)) m (omega (arith, ints)) (omega (arith, ints)) in
-        lt_by (neg (num k)) (num g ⊗ num m) (omega (arith, lt_read (neg (num k)) ((num q ⊕ num (pos 1)) ⊗ num m) h, le_read (num (pos 0)) ((num g ⊖ (num q ⊕ num (pos 1))) ⊗ num m) d))
+        lt_by (neg (num k)) (num g ⊗ num m) (omega (arith, lt_read (neg (num k)) ((num q ⊕ num (pos 1)) ⊗ num m) h, le_read (num (pos 0))
+            ((num g ⊖ (num q ⊕ num (pos 1))) ⊗ num m) d))
 
 -- ---- a cell that is bounded from below has a low limit
-number_below : (high : Option Limit) (g : ℤ) → IfSome high IsLimit → (t : ℤ) × (w : ℕ) × (0 < w) × IfSome high (AllowsLimit (neg_ℤ t) w) × (t <ℤ (g *ℤ pos w))
+number_below : (high : Option Limit) (g : ℤ) → IfSome high IsLimit → (t : ℤ) × (w : ℕ) × (0 < w) × IfSome high (AllowsLimit (neg_ℤ t) w)
+    × (t <ℤ (g *ℤ pos w))
 number_below None g v =
     let q = helly [] (under g ∷ []) tt ((record { positive = omega (arith, ints) }, tt)) in
     (q.t, q.w, q.positive, tt, is_under g q.t q.w q.above.0)
@@ -141,7 +159,9 @@ number_below (Some u) g v =
     let q = helly [] (line u ∷ under g ∷ []) tt ((s, (record { positive = omega (arith, ints) }, tt))) in
     (q.t, q.w, q.positive, q.above.0, is_under g q.t q.w q.above.1.0)
 
-pub low_known : (hs : List HalfPlane) (r : Range) → ((t : ℤ) → (w : ℕ) → 0 < w → (InRange r t w ↔ All (λ h. FlatHolds h t w × PairsHold hs h t w) hs)) → IsRange r → HasPoint hs → (g : ℤ) → ((p : Point) → InCell hs p → (g *ℤ pos p.w) ≤ℤ p.x) → ¬ (r.low ≡ None)
+pub low_known : (hs : List HalfPlane) (r : Range)
+    → ((t : ℤ) → (w : ℕ) → 0 < w → (InRange r t w ↔ All (λ h. FlatHolds h t w × PairsHold hs h t w) hs)) → IsRange r → HasPoint hs → (g : ℤ)
+    → ((p : Point) → InCell hs p → (g *ℤ pos p.w) ≤ℤ p.x) → ¬ (r.low ≡ None)
 low_known hs r both v some g all e =
     let z = some.0 in
     let i = (both z.x z.w z.positive).1 (all_pairs hs z some.1) in
@@ -157,11 +177,14 @@ low_known hs r both v some g all e =
 pub whole_back : (q : ℤ) → mag q < 2 ^ 127 → to_z w128 (of_z w128 q) ≡ q
 whole_back q h = omega (arith, ints)
 
-limits_back : (m k : ℤ) → unsigned_abs m ≤ 2 ^ 47 → unsigned_abs k ≤ 2 ^ 70 → (to_z w128 (of_z w128 m) ≡ m) × (to_z w128 (of_z w128 (pos 0 -ℤ to_z w128 (of_z w128 k))) ≡ neg_ℤ k)
+limits_back : (m k : ℤ) → unsigned_abs m ≤ 2 ^ 47 → unsigned_abs k ≤ 2 ^ 70 → (to_z w128 (of_z w128 m) ≡ m)
+    × (to_z w128 (of_z w128 (pos 0 -ℤ to_z w128 (of_z w128 k))) ≡ neg_ℤ k)
 limits_back m k h g = (omega (arith, ints), omega (arith, ints))
 
-pub read_below : (q m k : ℤ) → unsigned_abs m ≤ 2 ^ 47 → unsigned_abs k ≤ 2 ^ 70 → (q *ℤ to_z w128 (of_z w128 m)) ≤ℤ to_z w128 (of_z w128 (pos 0 -ℤ to_z w128 (of_z w128 k))) → (q *ℤ m) ≤ℤ neg_ℤ k
+pub read_below : (q m k : ℤ) → unsigned_abs m ≤ 2 ^ 47 → unsigned_abs k ≤ 2 ^ 70
+    → (q *ℤ to_z w128 (of_z w128 m)) ≤ℤ to_z w128 (of_z w128 (pos 0 -ℤ to_z w128 (of_z w128 k))) → (q *ℤ m) ≤ℤ neg_ℤ k
 read_below q m k h g a = let e = limits_back m k h g in rw (e.0, e.1) at a
 
-pub read_above : (q m k : ℤ) → unsigned_abs m ≤ 2 ^ 47 → unsigned_abs k ≤ 2 ^ 70 → to_z w128 (of_z w128 (pos 0 -ℤ to_z w128 (of_z w128 k))) <ℤ ((q +ℤ pos 1) *ℤ to_z w128 (of_z w128 m)) → neg_ℤ k <ℤ ((q +ℤ pos 1) *ℤ m)
+pub read_above : (q m k : ℤ) → unsigned_abs m ≤ 2 ^ 47 → unsigned_abs k ≤ 2 ^ 70
+    → to_z w128 (of_z w128 (pos 0 -ℤ to_z w128 (of_z w128 k))) <ℤ ((q +ℤ pos 1) *ℤ to_z w128 (of_z w128 m)) → neg_ℤ k <ℤ ((q +ℤ pos 1) *ℤ m)
 read_above q m k h g a = let e = limits_back m k h g in rw (e.0, e.1) at a

@@ -31,7 +31,9 @@ use Rattle.cell_laws.proofs.Meets.{meet_points}
 pub back : (v : ℤ) → unsigned_abs v ≤ 2 ^ 50 → to_z w64 (of_z w64 v) ≡ v
 back v h = omega (arith, ints)
 
-pub floor_code : (k m r : ℤ) → FitsSigned w64 k → FitsSigned w64 m → mag r < 2 ^ 63 → pos 0 <ℤ m → r ≡ int_div_euclid (to_z w64 (of_z w64 k)) (to_z w64 (of_z w64 m)) → ((to_z w64 (of_z w64 r) *ℤ m) ≤ℤ k) × (k <ℤ ((to_z w64 (of_z w64 r) +ℤ pos 1) *ℤ m))
+pub floor_code : (k m r : ℤ) → FitsSigned w64 k → FitsSigned w64 m → mag r < 2 ^ 63 → pos 0 <ℤ m
+    → r ≡ int_div_euclid (to_z w64 (of_z w64 k)) (to_z w64 (of_z w64 m)) → ((to_z w64 (of_z w64 r) *ℤ m) ≤ℤ k)
+    × (k <ℤ ((to_z w64 (of_z w64 r) +ℤ pos 1) *ℤ m))
 floor_code k m r f g h p e =
     let i : to_z w64 (of_z w64 k) ≡ k = omega (arith, ints) in
     let j : to_z w64 (of_z w64 m) ≡ m = omega (arith, ints) in
@@ -84,17 +86,23 @@ before_from_after k t w a = record {
 strict_holds : (q b high z : ℤ) (w : ℕ) → pos 0 <ℤ b → (q *ℤ b) ≤ℤ neg_ℤ high → pos 0 <ℤ (b *ℤ z +ℤ high *ℤ pos w) → (q *ℤ pos w) <ℤ z
 strict_holds q b high z w p h a =
     let s : pos 0 ≤ℤ ((neg_ℤ high -ℤ q *ℤ b) *ℤ pos w) = product_at_least _ (pos w) (omega (arith, ints)) (omega (arith, ints)) in
-    let d : pos 0 <ℤ (b *ℤ (z -ℤ q *ℤ pos w)) = lt_by (num (pos 0)) (num b ⊗ (num z ⊖ num q ⊗ num (pos w))) (omega (arith, le_read (num (pos 0)) ((neg (num high) ⊖ num q ⊗ num b) ⊗ num (pos w)) s, lt_read (num (pos 0)) (num b ⊗ num z ⊕ num high ⊗ num (pos w)) a)) in
+    let d : pos 0 <ℤ (b *ℤ (z -ℤ q *ℤ pos w)) = lt_by (num (pos 0)) (num b ⊗ (num z ⊖ num q ⊗ num (pos w)))
+        (omega (arith, le_read (num (pos 0)) ((neg (num high) ⊖ num q ⊗ num b) ⊗ num (pos w)) s, lt_read (num (pos 0))
+        (num b ⊗ num z ⊕ num high ⊗ num (pos w)) a)) in
     apart z (q *ℤ pos w) (over_unscaled b _ p d)
   where
     apart : (a b : ℤ) → pos 0 <ℤ (a -ℤ b) → b <ℤ a
     apart a b h = omega (arith, ints)
 
-pub first_strict : (s : Bool) (q b high z k : ℤ) (w : ℕ) → s ≡ true → pos 0 <ℤ b → (q *ℤ b) ≤ℤ neg_ℤ high → k ≡ pos 2 *ℤ q +ℤ pos 1 → Above s (b *ℤ z +ℤ high *ℤ pos w) → After k z w
-first_strict s q b high z k w t p h e a = rw e (after_over q z w (strict_holds q b high z w p h (subst (λ r. Above r (b *ℤ z +ℤ high *ℤ pos w)) t a)))
+pub first_strict : (s : Bool) (q b high z k : ℤ) (w : ℕ) → s ≡ true → pos 0 <ℤ b → (q *ℤ b) ≤ℤ neg_ℤ high → k ≡ pos 2 *ℤ q +ℤ pos 1
+    → Above s (b *ℤ z +ℤ high *ℤ pos w) → After k z w
+first_strict s q b high z k w t p h e a =
+    rw e (after_over q z w (strict_holds q b high z w p h (subst (λ r. Above r (b *ℤ z +ℤ high *ℤ pos w)) t a)))
 
-pub first_weak : (s : Bool) (q b high z k : ℤ) (w : ℕ) → s ≡ false → 0 < w → pos 0 <ℤ b → (q *ℤ b) ≤ℤ neg_ℤ high → k ≡ pos 2 *ℤ q → Above s (b *ℤ z +ℤ high *ℤ pos w) → After k z w
-first_weak s q b high z k w t n p h e a = rw e (after_at q z w n (rounded_holds b high q z false w p h (subst (λ r. Above r (b *ℤ z +ℤ high *ℤ pos w)) t a)))
+pub first_weak : (s : Bool) (q b high z k : ℤ) (w : ℕ) → s ≡ false → 0 < w → pos 0 <ℤ b → (q *ℤ b) ≤ℤ neg_ℤ high → k ≡ pos 2 *ℤ q
+    → Above s (b *ℤ z +ℤ high *ℤ pos w) → After k z w
+first_weak s q b high z k w t n p h e a =
+    rw e (after_at q z w n (rounded_holds b high q z false w p h (subst (λ r. Above r (b *ℤ z +ℤ high *ℤ pos w)) t a)))
 
 -- the bound on the other side
 pub turned_above : (s : Bool) (b high z : ℤ) (w : ℕ) → Above s (b *ℤ z +ℤ high *ℤ pos w) → Above s (neg_ℤ b *ℤ neg_ℤ z +ℤ high *ℤ pos w)
@@ -105,7 +113,8 @@ turned_above s b high z w a =
 pub high_right : (a c right x : ℤ) (w : ℕ) → pos 0 ≤ℤ a → x ≤ℤ (right *ℤ pos w) → (a *ℤ x +ℤ c *ℤ pos w) ≤ℤ ((a *ℤ right +ℤ c) *ℤ pos w)
 high_right a c right x w p h =
     let d : pos 0 ≤ℤ (a *ℤ (right *ℤ pos w -ℤ x)) = product_at_least a _ p (room (right *ℤ pos w) x h) in
-    le_by (num a ⊗ num x ⊕ num c ⊗ num (pos w)) ((num a ⊗ num right ⊕ num c) ⊗ num (pos w)) (omega (arith, le_read (num (pos 0)) (num a ⊗ (num right ⊗ num (pos w) ⊖ num x)) d))
+    le_by (num a ⊗ num x ⊕ num c ⊗ num (pos w)) ((num a ⊗ num right ⊕ num c) ⊗ num (pos w))
+        (omega (arith, le_read (num (pos 0)) (num a ⊗ (num right ⊗ num (pos w) ⊖ num x)) d))
   where
     room : (a b : ℤ) → b ≤ℤ a → pos 0 ≤ℤ (a -ℤ b)
     room a b h = omega (arith, ints)
@@ -113,13 +122,15 @@ high_right a c right x w p h =
 pub high_left : (a c left x : ℤ) (w : ℕ) → a <ℤ pos 0 → (left *ℤ pos w) ≤ℤ x → (a *ℤ x +ℤ c *ℤ pos w) ≤ℤ ((a *ℤ left +ℤ c) *ℤ pos w)
 high_left a c left x w p h =
     let d : pos 0 ≤ℤ (neg_ℤ a *ℤ (x -ℤ left *ℤ pos w)) = product_at_least (neg_ℤ a) _ (omega (arith, ints)) (room x (left *ℤ pos w) h) in
-    le_by (num a ⊗ num x ⊕ num c ⊗ num (pos w)) ((num a ⊗ num left ⊕ num c) ⊗ num (pos w)) (omega (arith, le_read (num (pos 0)) (neg (num a) ⊗ (num x ⊖ num left ⊗ num (pos w))) d))
+    le_by (num a ⊗ num x ⊕ num c ⊗ num (pos w)) ((num a ⊗ num left ⊕ num c) ⊗ num (pos w))
+        (omega (arith, le_read (num (pos 0)) (neg (num a) ⊗ (num x ⊖ num left ⊗ num (pos w))) d))
   where
     room : (a b : ℤ) → b ≤ℤ a → pos 0 ≤ℤ (a -ℤ b)
     room a b h = omega (arith, ints)
 
 -- a half-plane with its part along x replaced by the greatest
-pub raised : (s : Bool) (h : HalfPlane) (p : Point) (high : ℤ) → (h.a *ℤ p.x +ℤ h.c *ℤ pos p.w) ≤ℤ (high *ℤ pos p.w) → Above s (value_at h p) → Above s (h.b *ℤ p.y +ℤ high *ℤ pos p.w)
+pub raised : (s : Bool) (h : HalfPlane) (p : Point) (high : ℤ) → (h.a *ℤ p.x +ℤ h.c *ℤ pos p.w) ≤ℤ (high *ℤ pos p.w)
+    → Above s (value_at h p) → Above s (h.b *ℤ p.y +ℤ high *ℤ pos p.w)
 raised true h p high m a = over (h.a *ℤ p.x) (h.b *ℤ p.y) (h.c *ℤ pos p.w) (high *ℤ pos p.w) m a
   where
     over : (x y c g : ℤ) → (x +ℤ c) ≤ℤ g → pos 0 <ℤ (x +ℤ y +ℤ c) → pos 0 <ℤ (y +ℤ g)
@@ -153,7 +164,8 @@ pub flat_above : (s : Bool) (h : HalfPlane) (p : Point) → h.b ≡ pos 0 → Ab
 flat_above s h p e a = subst (Above s) (gone h.b e) a
   where
     gone : (b : ℤ) → b ≡ pos 0 → h.a *ℤ p.x +ℤ b *ℤ p.y +ℤ h.c *ℤ pos p.w ≡ h.a *ℤ p.x +ℤ h.c *ℤ pos p.w
-    gone b e = rw e (same_by (num h.a ⊗ num p.x ⊕ num (pos 0) ⊗ num p.y ⊕ num h.c ⊗ num (pos p.w)) (num h.a ⊗ num p.x ⊕ num h.c ⊗ num (pos p.w)) (omega arith))
+    gone b e = rw e (same_by (num h.a ⊗ num p.x ⊕ num (pos 0) ⊗ num p.y ⊕ num h.c ⊗ num (pos p.w))
+        (num h.a ⊗ num p.x ⊕ num h.c ⊗ num (pos p.w)) (omega arith))
 
 pub flat_turned : (h : HalfPlane) → h.b ≡ pos 0 → (turned h AtLeast).b ≡ pos 0
 flat_turned h e = omega (arith, ints)
@@ -194,22 +206,29 @@ no_meet c d never = elim (cases_Bool (has_point (meet_of c d))) [
 ]
 
 pub apart : (b e : Bounds) (c d : Cell) → AreApart b e → IsBoundsOf b c → IsBoundsOf e d → has_point (meet_of c d) ≡ false
-apart b e c d (inl h) i j = no_meet c d (λ p m n. never_both b.x.to e.x.from p.x p.w h i.x_fits.to_low j.x_fits.from_high (i.x p m).before (j.x p n).after)
-apart b e c d (inr (inl h)) i j = no_meet c d (λ p m n. never_both e.x.to b.x.from p.x p.w h j.x_fits.to_low i.x_fits.from_high (j.x p n).before (i.x p m).after)
-apart b e c d (inr (inr (inl h))) i j = no_meet c d (λ p m n. never_both b.y.to e.y.from p.y p.w h i.y_fits.to_low j.y_fits.from_high (i.y p m).before (j.y p n).after)
-apart b e c d (inr (inr (inr h))) i j = no_meet c d (λ p m n. never_both e.y.to b.y.from p.y p.w h j.y_fits.to_low i.y_fits.from_high (j.y p n).before (i.y p m).after)
+apart b e c d (inl h) i j = no_meet c d (λ p m n. never_both b.x.to e.x.from p.x p.w h i.x_fits.to_low j.x_fits.from_high (i.x p m).before
+    (j.x p n).after)
+apart b e c d (inr (inl h)) i j = no_meet c d (λ p m n. never_both e.x.to b.x.from p.x p.w h j.x_fits.to_low i.x_fits.from_high
+    (j.x p n).before (i.x p m).after)
+apart b e c d (inr (inr (inl h))) i j = no_meet c d (λ p m n. never_both b.y.to e.y.from p.y p.w h i.y_fits.to_low j.y_fits.from_high
+    (i.y p m).before (j.y p n).after)
+apart b e c d (inr (inr (inr h))) i j = no_meet c d (λ p m n. never_both e.y.to b.y.from p.y p.w h j.y_fits.to_low i.y_fits.from_high
+    (j.y p n).before (i.y p m).after)
 
 -- what may be passed over adds nothing
-pub none_kept : (b e : Bounds) (c d : Cell) (cs : List Cell) → AreApart b e → IsBoundsOf b c → IsBoundsOf e d → cs ≡ cs ++ kept (meet_of c d ∷ [])
+pub none_kept : (b e : Bounds) (c d : Cell) (cs : List Cell) → AreApart b e → IsBoundsOf b c → IsBoundsOf e d
+    → cs ≡ cs ++ kept (meet_of c d ∷ [])
 none_kept b e c d cs h i j = rw (apart b e c d h i j) (sym (append-nil cs))
 
-pub zip_at : {A B : Type 0} (R : A → B → Type 0) (xs : List A) (ys : List B) (i : ℕ) (d : A) (e : B) → AllZip R xs ys → i < length xs → R (get_or xs i d) (get_or ys i e)
+pub zip_at : {A B : Type 0} (R : A → B → Type 0) (xs : List A) (ys : List B) (i : ℕ) (d : A) (e : B) → AllZip R xs ys → i < length xs
+    → R (get_or xs i d) (get_or ys i e)
 zip_at R [] ys i d e z h = absurd (omega arith)
 zip_at R (x ∷ xs) [] i d e z h = absurd z
 zip_at R (x ∷ xs) (y ∷ ys) zero d e z h = z.0
 zip_at R (x ∷ xs) (y ∷ ys) (suc i) d e z h = zip_at R xs ys i d e z.1 (omega arith)
 
-pub bounds_more : (bs ds : List Bounds) (cs : List Cell) (i : ℕ) (b : Bounds) (c : Cell) → i < length cs → c ≡ get_or cs i c → AllZip IsBoundsOf bs (take i cs) → IsBoundsOf b c → ds ≡ bs ++ b ∷ [] → AllZip IsBoundsOf ds (take (i + 1) cs)
+pub bounds_more : (bs ds : List Bounds) (cs : List Cell) (i : ℕ) (b : Bounds) (c : Cell) → i < length cs → c ≡ get_or cs i c
+    → AllZip IsBoundsOf bs (take i cs) → IsBoundsOf b c → ds ≡ bs ++ b ∷ [] → AllZip IsBoundsOf ds (take (i + 1) cs)
 bounds_more bs ds cs i b c h e z j k =
     let s : take (i + 1) cs ≡ take i cs ++ c ∷ [] = take_more cs i c h ∙ ap (λ y. take i cs ++ y ∷ []) (sym e) in
     rw (s, k) (all_zipped_more IsBoundsOf bs (take i cs) b c z j)
@@ -217,7 +236,8 @@ bounds_more bs ds cs i b c h e z j k =
 pub bounds_long : (bs : List Bounds) (cs : List Cell) (i : ℕ) → take i cs ≡ cs → AllZip IsBoundsOf bs (take i cs) → length bs ≡ length cs
 bounds_long bs cs i e z = sym (AllZip-long IsBoundsOf bs cs (rw e at z))
 
-pub bounds_at : (bs : List Bounds) (cs : List Cell) (i : ℕ) (b : Bounds) (c : Cell) → AllZip IsBoundsOf bs cs → length bs ≡ length cs → i < length cs → c ≡ get_or cs i c → IsBoundsOf (get_or bs i b) c
+pub bounds_at : (bs : List Bounds) (cs : List Cell) (i : ℕ) (b : Bounds) (c : Cell) → AllZip IsBoundsOf bs cs → length bs ≡ length cs
+    → i < length cs → c ≡ get_or cs i c → IsBoundsOf (get_or bs i b) c
 bounds_at bs cs i b c z e h g = subst (IsBoundsOf (get_or bs i b)) (sym g) (zip_at IsBoundsOf bs cs i b c z (omega arith))
 
 -- ---- lists of bounds in order
@@ -241,13 +261,15 @@ rising_one bs n h j k d l m =
     let e : j ≡ k = omega arith in
     rw e (follows_itself (get_or bs k d))
 
-pub rising_more : (bs : List Bounds) (i : ℕ) → 1 ≤ i → AreRisingTo i bs → ((d : Bounds) → Follows (get_or bs (i - 1) d) (get_or bs i d)) → AreRisingTo (i + 1) bs
+pub rising_more : (bs : List Bounds) (i : ℕ) → 1 ≤ i → AreRisingTo i bs → ((d : Bounds) → Follows (get_or bs (i - 1) d) (get_or bs i d))
+    → AreRisingTo (i + 1) bs
 rising_more bs i p r f j k d l m = elim (cases_lt k i) [
   | inl h ↦ r j k d l h
   | inr h ↦
       let e : k ≡ i = omega arith in
       elim (cases_lt j i) [
-        | inl n ↦ rw e (follows_through (get_or bs j d) (get_or bs (i - 1) d) (get_or bs i d) (r j (i - 1) d (omega arith) (omega arith)) (f d))
+        | inl n ↦ rw e (follows_through (get_or bs j d) (get_or bs (i - 1) d) (get_or bs i d) (r j (i - 1) d (omega arith) (omega arith))
+            (f d))
         | inr n ↦ let g : j ≡ i = omega arith in rw (e, g) (follows_itself (get_or bs i d))
       ]
 ]
@@ -260,40 +282,51 @@ same_at [] i d e h = absurd (omega arith)
 same_at (b ∷ bs) zero d e h = refl
 same_at (b ∷ bs) (suc i) d e h = same_at bs i d e (omega arith)
 
-pub follows_any : (bs : List Bounds) (i j : ℕ) (y z d : Bounds) → i < length bs → j < length bs → Follows (get_or bs i y) (get_or bs j z) → Follows (get_or bs i d) (get_or bs j d)
+pub follows_any : (bs : List Bounds) (i j : ℕ) (y z d : Bounds) → i < length bs → j < length bs → Follows (get_or bs i y) (get_or bs j z)
+    → Follows (get_or bs i d) (get_or bs j d)
 follows_any bs i j y z d h k f = rw (same_at bs i d y h, same_at bs j d z k) f
 
-pub ends_before : (bs : List Bounds) (m k : ℕ) (z d : Bounds) (v : ℤ) → AreRisingTo (length bs) bs → k ≤ m → m < length bs → (get_or bs m z).x.to <ℤ v → (get_or bs k d).x.to <ℤ v
+pub ends_before : (bs : List Bounds) (m k : ℕ) (z d : Bounds) (v : ℤ) → AreRisingTo (length bs) bs → k ≤ m → m < length bs
+    → (get_or bs m z).x.to <ℤ v → (get_or bs k d).x.to <ℤ v
 ends_before bs m k z d v r l h e = through _ _ v (r k m d l h).to (subst (λ (b : Bounds). b.x.to <ℤ v) (same_at bs m z d h) e)
   where
     through : (x y v : ℤ) → x ≤ℤ y → y <ℤ v → x <ℤ v
     through x y v h k = omega (arith, ints)
 
-pub begins_after : (bs : List Bounds) (m k : ℕ) (z d : Bounds) (v : ℤ) → AreRisingTo (length bs) bs → m ≤ k → k < length bs → v <ℤ (get_or bs m z).x.from → v <ℤ (get_or bs k d).x.from
-begins_after bs m k z d v r l h e = through v _ _ (subst (λ (b : Bounds). v <ℤ b.x.from) (same_at bs m z d (omega arith)) e) (r m k d l h).from
+pub begins_after : (bs : List Bounds) (m k : ℕ) (z d : Bounds) (v : ℤ) → AreRisingTo (length bs) bs → m ≤ k → k < length bs
+    → v <ℤ (get_or bs m z).x.from → v <ℤ (get_or bs k d).x.from
+begins_after bs m k z d v r l h e = through v _ _ (subst (λ (b : Bounds). v <ℤ b.x.from) (same_at bs m z d (omega arith)) e)
+    (r m k d l h).from
   where
     through : (v x y : ℤ) → v <ℤ x → x ≤ℤ y → v <ℤ y
     through v x y h k = omega (arith, ints)
 
 -- ---- what is kept of a list in which only a window counts
-pub none_before : (c : Cell) (cs : List Cell) (n : ℕ) → ((k : ℕ) → (d : Cell) → k < n → k < length cs → has_point (meet_of c (get_or cs k d)) ≡ false) → kept (map {A = Cell} (meet_of c) (take n cs)) ≡ []
+pub none_before : (c : Cell) (cs : List Cell) (n : ℕ) → ((k : ℕ) → (d : Cell) → k < n → k < length cs
+    → has_point (meet_of c (get_or cs k d)) ≡ false) → kept (map {A = Cell} (meet_of c) (take n cs)) ≡ []
 none_before c [] zero f = refl
 none_before c [] (suc n) f = refl
 none_before c (x ∷ xs) zero f = refl
-none_before c (x ∷ xs) (suc n) f = rw (f 0 x (omega arith) (omega arith)) (none_before c xs n (λ k d h l. f (suc k) d (omega arith) (omega arith)))
+none_before c (x ∷ xs) (suc n) f = rw (f 0 x (omega arith) (omega arith)) (none_before c xs n
+    (λ k d h l. f (suc k) d (omega arith) (omega arith)))
 
-none_at_all : (c : Cell) (cs : List Cell) → ((k : ℕ) → (d : Cell) → k < length cs → has_point (meet_of c (get_or cs k d)) ≡ false) → kept (map {A = Cell} (meet_of c) cs) ≡ []
+none_at_all : (c : Cell) (cs : List Cell) → ((k : ℕ) → (d : Cell) → k < length cs → has_point (meet_of c (get_or cs k d)) ≡ false)
+    → kept (map {A = Cell} (meet_of c) cs) ≡ []
 none_at_all c [] f = refl
 none_at_all c (x ∷ xs) f = rw (f 0 x (omega arith)) (none_at_all c xs (λ k d l. f (suc k) d (omega arith)))
 
-pub none_after : (c : Cell) (cs : List Cell) (n : ℕ) → ((k : ℕ) → (d : Cell) → n ≤ k → k < length cs → has_point (meet_of c (get_or cs k d)) ≡ false) → kept (map {A = Cell} (meet_of c) (take n cs)) ≡ kept (map {A = Cell} (meet_of c) cs)
+pub none_after : (c : Cell) (cs : List Cell) (n : ℕ) → ((k : ℕ) → (d : Cell) → n ≤ k → k < length cs
+    → has_point (meet_of c (get_or cs k d)) ≡ false) → kept (map {A = Cell} (meet_of c) (take n cs)) ≡ kept (map {A = Cell} (meet_of c) cs)
 none_after c [] zero f = refl
 none_after c [] (suc n) f = refl
 none_after c (x ∷ xs) zero f = sym (none_at_all c (x ∷ xs) (λ k d l. f k d (omega arith) l))
-none_after c (x ∷ xs) (suc n) f = ap (λ (y : List Cell). cond (has_point (meet_of c x)) (meet_of c x ∷ y) y) (none_after c xs n (λ k d h l. f (suc k) d (omega arith) (omega arith)))
+none_after c (x ∷ xs) (suc n) f = ap (λ (y : List Cell). cond (has_point (meet_of c x)) (meet_of c x ∷ y) y)
+    (none_after c xs n (λ k d h l. f (suc k) d (omega arith) (omega arith)))
 
-pub apart_at : (b : Bounds) (bs : List Bounds) (c : Cell) (cs : List Cell) (k : ℕ) (d : Cell) → ((e : Bounds) → AreApart b (get_or bs k e)) → IsBoundsOf b c → AllZip IsBoundsOf bs cs → length bs ≡ length cs → k < length cs → has_point (meet_of c (get_or cs k d)) ≡ false
+pub apart_at : (b : Bounds) (bs : List Bounds) (c : Cell) (cs : List Cell) (k : ℕ) (d : Cell) → ((e : Bounds) → AreApart b (get_or bs k e))
+    → IsBoundsOf b c → AllZip IsBoundsOf bs cs → length bs ≡ length cs → k < length cs → has_point (meet_of c (get_or cs k d)) ≡ false
 apart_at b bs c cs k d f i z e h = apart b (get_or bs k b) c (get_or cs k d) (f b) i (zip_at IsBoundsOf bs cs k b d z (omega arith))
 
-pub unchanged : (c : Cell) (cs made : List Cell) (n : ℕ) → ((k : ℕ) → (d : Cell) → k < n → k < length cs → has_point (meet_of c (get_or cs k d)) ≡ false) → made ≡ made ++ kept (map {A = Cell} (meet_of c) (take n cs))
+pub unchanged : (c : Cell) (cs made : List Cell) (n : ℕ) → ((k : ℕ) → (d : Cell) → k < n → k < length cs
+    → has_point (meet_of c (get_or cs k d)) ≡ false) → made ≡ made ++ kept (map {A = Cell} (meet_of c) (take n cs))
 unchanged c cs made n f = rw (none_before c cs n f) (sym (append-nil made))

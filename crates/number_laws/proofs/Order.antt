@@ -1,5 +1,6 @@
 -- Products of whole numbers: their signs and their order.
-use Rattle.std.proofs.Common.{◌≡◌, ℕ, suc, zero, ◌+◌, ◌*◌, ◌<◌, ◌≤◌, ℤ, pos, negsuc, ◌*ℤ◌, ◌≤ℤ◌, ◌<ℤ◌, arith, refl, ◌⊎◌}
+use Rattle.std.proofs.Common.{◌≡◌, false, ℕ, suc, zero, ◌+◌, ◌*◌, ◌<◌, ◌≤◌, ℤ, pos, negsuc, ◌*ℤ◌, ◌≤ℤ◌, ◌<ℤ◌, arith, refl, ◌⊎◌}
+use Rattle.std.specs.Ordering.{int_cmp, is_lt}
 use Rattle.std.proofs.lemmas.Int.{ints}
 use Rattle.std.proofs.Math.Nat.{le_of_mul-le-mul_right, mul-le-mul_right, mul-pos, mul-lt-mul_of_pos_right}
 use borrow.Author.Differences.{up, down}
@@ -74,3 +75,7 @@ least_under (negsuc a) (negsuc v) h k = omega (arith, ints)
 pub square_least : (v : ℤ) → pos 0 ≤ℤ (v *ℤ v)
 square_least (pos v) = omega (arith, ints)
 square_least (negsuc v) = omega (arith, ints)
+
+-- what a comparison says that does not tell less
+pub no_less : (a b : ℤ) → is_lt (int_cmp b a) ≡ false → a ≤ℤ b
+no_less a b e = grind (arith, ints)

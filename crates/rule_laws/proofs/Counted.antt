@@ -7,7 +7,7 @@ use Rattle.plane_terms.specs.Point.{Point}
 use Rattle.plane_terms.specs.Rectangle.{RectHolds, holds_point}
 use Rattle.topology_terms.specs.Feature.{Feature, env}
 use Rattle.sound_laws.proofs.FeatureLists.{same_handle, own_handle}
-use Rattle.rule_laws.proofs.Those.{those_one}
+use Rattle.plane_terms.proofs.ListLemmas.{those_one}
 use Rattle.rule_laws.proofs.Around.{holds_test, round}
 
 module _ {A : Type 0} (U P : A → Type 0) (test : A → Bool) (m : (x : A) → U x → (test x ≡ true) ↔ P x) where

@@ -1,5 +1,4 @@
-pub mod Those
-pub mod Places
+pub pub mod Places
 pub mod Nears
 pub mod Findings
 pub mod Envelopes

@@ -8,6 +8,7 @@ use Rattle.plane_terms.specs.Shape.{path, rings_of}
 use Rattle.topology_terms.specs.Feature.{Feature}
 use Rattle.topology_terms.specs.Crossings.{IsCrossed}
 use Rattle.cell_laws.proofs.Lists.{some_append}
+use Rattle.cell_laws.proofs.Meeting.{overlap_sym}
 use Rattle.rule_laws.proofs.Words.{MeetsLater, PartCrosses, Crosses}
 
 abbrev On : Point → Segment → Type 0
@@ -277,10 +278,6 @@ ordered_crosses p (ring ∷ rings) (suc k) i s (suc l) j t part other e f g h r 
     (elim r [ inl m ↦ inl (omega (arith, m)) | inr m ↦ inr (omega (arith, m.0), m.1) ]) o q
     (elim a [ inl n ↦ inl (λ z. n (ap suc z.0, z.1)) | inr v ↦ inr v ]))
 
-overlap_turned : (s t : Segment) → Overlap s t → Overlap t s
-overlap_turned s t o =
-    record { p = o.p; q = o.q; apart = o.apart; p_on_s = o.p_on_t; p_on_t = o.p_on_s; q_on_s = o.q_on_t; q_on_t = o.q_on_s }
-
 which : (k i l j : ℕ) → (k ≢ l) ⊎ (i ≢ j) → ((k < l) ⊎ ((k ≡ l) × (i < j))) ⊎ ((l < k) ⊎ ((l ≡ k) × (j < i)))
 which k i l j (inl n) = elim (three k l) [ inl a ↦ inl (inl a) | inr b ↦ elim b [ inl c ↦ inr (inl c) | inr d ↦ absurd (n d) ] ]
   where
@@ -306,5 +303,5 @@ numbered_crosses f p h = elim (which h.k h.i h.l h.j h.different) [
   | inr r ↦ ordered_crosses p
       (rings_of f.shape) h.l h.j h.t h.k h.i h.s h.second.part h.first.part h.second.part_is h.second.segment_is h.first.part_is
       h.first.segment_is r h.on_second h.on_first
-      (elim h.apart [ inl n ↦ inl (λ e. n (sym e.0, inr e.1)) | inr o ↦ inr (overlap_turned h.s h.t o) ])
+      (elim h.apart [ inl n ↦ inl (λ e. n (sym e.0, inr e.1)) | inr o ↦ inr (overlap_sym h.t h.s o) ])
 ]

@@ -34,8 +34,10 @@ use Rattle.rule_laws.proofs.None.{NoneRule}
 use Rattle.rule_laws.proofs.Alone.{AloneRule}
 use Rattle.rule_laws.proofs.Around.{round}
 use Rattle.rule_laws.proofs.Uncovered.{every_flat, none_each, some_same_of}
-use Rattle.rule_laws.proofs.Tests.{any_some, at_test, end_test, side_test, same_is, is_same, place_from, place_test, straight}
+use Rattle.cell_laws.proofs.AtPlaces.{same_is, is_same}
+use Rattle.rule_laws.proofs.Tests.{any_some, at_test, end_test, side_test, place_from, place_test, straight}
 use Rattle.rule_laws.proofs.Counted.{count_test, many_round}
+use Rattle.plane_terms.proofs.Truths.{same_by_truth}
 
 -- ---- places that pass a test, and the cells of them
 picked_points : (test : Place → Bool) (p : Point) (B : Type 0) → ((q : Place) → IsAt q p → (test q ≡ true) ↔ B) → (qs : List Place)
@@ -176,11 +178,6 @@ place_end_rule k l =
     (λ g q p u a. end_test (ends g) q p a)
 
 -- ---- a place inside a polygon
-same_by_truth : (a b : Bool) → (a ≡ true → b ≡ true) → (b ≡ true → a ≡ true) → a ≡ b
-same_by_truth true b m n = sym (m refl)
-same_by_truth false true m n = n refl
-same_by_truth false false m n = refl
-
 le_scaled_test : (a b : ℤ) (w : ℕ) → 0 < w → int_le (a *ℤ pos w) (b *ℤ pos w) ≡ int_le (a *ℤ pos 1) b
 le_scaled_test a b w o = same_by_truth (int_le (a *ℤ pos w) (b *ℤ pos w)) (int_le (a *ℤ pos 1) b)
     (λ t. (Decides-int_le (a *ℤ pos 1) b).1

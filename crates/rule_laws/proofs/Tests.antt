@@ -22,10 +22,11 @@ use Rattle.number_laws.proofs.Tests.{Decides-int_le, Decides-int_lt}
 use Rattle.cell_laws.proofs.Meeting.{turns_differ, turn_zero}
 use Rattle.cell_laws.proofs.OnLine.{OnOneLine}
 use Rattle.cell_laws.proofs.Shares.{read_before, share_of-means, exactly}
-use Rattle.cell_laws.proofs.AtPlaces.{on_all_at}
+use Rattle.cell_laws.proofs.AtPlaces.{same_is, is_same, on_all_at}
 use Rattle.cell_laws.proofs.OnLine as on_line
 use Rattle.cell_laws.proofs.Envelope as envelope
 use Rattle.rule_laws.proofs.Places.{place_one}
+use Rattle.plane_terms.proofs.Truths.{both_parts, all_four}
 
 -- ---- two segments on one line
 turned_x : (sx sy hx hy tx ty ux uy : ℤ) → (hx -ℤ sx) *ℤ ((ux -ℤ tx) *ℤ (sy -ℤ ty) -ℤ (uy -ℤ ty) *ℤ (sx -ℤ tx))
@@ -77,19 +78,12 @@ in_line_test s q z =
     same : (u v : ℤ) → u -ℤ v ≡ pos 0 → u ≡ v
     same u v e = omega (arith, ints)
 
-both_true : (a b c d : Bool) → (a && (b && (c && d))) ≡ true → (a ≡ true) × (b ≡ true) × (c ≡ true) × (d ≡ true)
-both_true true true true true e = (refl, refl, refl, refl)
-both_true true true true false e = absurd (false≢true e)
-both_true true true false d e = absurd (false≢true e)
-both_true true false c d e = absurd (false≢true e)
-both_true false b c d e = absurd (false≢true e)
-
 all_true : (a b c d : Bool) → a ≡ true → b ≡ true → c ≡ true → d ≡ true → (a && (b && (c && d))) ≡ true
 all_true a b c d e f g h = rw (e, f, g, h) refl
 
 overlap_from : (s t : Segment) → IsSegment s → IsSegment t → overlap s t ≡ true → Overlap s t
 overlap_from s t g h e =
-    let k = both_true (is_in_line s t.lo) (is_in_line s t.hi) (comes_before s.lo t.hi) (comes_before t.lo s.hi) e in
+    let k = all_four (is_in_line s t.lo) (is_in_line s t.hi) (comes_before s.lo t.hi) (comes_before t.lo s.hi) e in
     let c = in_line_from s t.lo k.0 in
     let d = in_line_from s t.hi k.1 in
     let a = back_zero s t g c d in
@@ -167,11 +161,6 @@ straight lx ly hx hy x y =
     same_by ((num hx ⊖ num lx) ⊗ (num y ⊖ num ly ⊗ num (pos 1)) ⊖ (num hy ⊖ num ly) ⊗ (num x ⊖ num lx ⊗ num (pos 1)))
     ((num hx ⊖ num lx) ⊗ (num y ⊖ num ly) ⊖ (num hy ⊖ num ly) ⊗ (num x ⊖ num lx)) (omega arith)
 
-both_parts : (a b : Bool) → (a && b) ≡ true → (a ≡ true) × (b ≡ true)
-both_parts true true e = (refl, refl)
-both_parts true false e = absurd (false≢true e)
-both_parts false b e = absurd (false≢true e)
-
 on_place : (t : Segment) (q : Place) → holds_place t q ≡ true → OnSegment t (point_at q)
 on_place t q e =
     let k = both_parts (is_in_line t q) (box_holds (box_of t) q) e in
@@ -212,14 +201,6 @@ any_some U P test m (x ∷ xs) u = by_cases (test x) (m x u.0) (any_some U P tes
 all_unit : {A : Type 0} (xs : List A) → Every (λ (x : A). Unit {0}) xs
 all_unit [] = tt
 all_unit (x ∷ xs) = (tt, all_unit xs)
-
-pub same_is : (q r : Place) → same_place q r ≡ true → q ≡ r
-same_is q r t =
-    let k = (Decides-and _ _ (Decides-int_eq q.x r.x) (Decides-int_eq q.y r.y)).0 t in
-    λ i. record { x = k.0 i; y = k.1 i }
-
-pub is_same : (q r : Place) → q ≡ r → same_place q r ≡ true
-is_same q r e = rw e ((Decides-and _ _ (Decides-int_eq r.x r.x) (Decides-int_eq r.y r.y)).1 (refl, refl))
 
 pub at_test : (q r : Place) (p : Point) → IsAt q p → (same_place q r ≡ true) ↔ IsAt r p
 at_test q r p a = (λ t. rw (same_is q r t) at a, λ b. is_same q r (place_one q r p a b))

@@ -12,6 +12,8 @@ use Rattle.script_terms.specs.Answer.{IsUndone, IsDiscarded, AreTakenBack}
 use Rattle.script_terms.specs.Keeping.{IsKeeping}
 use Rattle.script_terms.specs.Restored.{first_before, IsRestored, IsAllRestored}
 use Rattle.script_terms.proofs.Keeping.{named_has}
+use Rattle.std.proofs.lemmas.Bool.{eqb-true}
+use Rattle.session_terms.proofs.Relation.{differ}
 
 pub undo_restores : (editor : List ℕ) (old new : State) → IsKeeping old → IsUndone editor old new → IsRestored editor old new
 undo_restores editor old new k d = record {
@@ -25,19 +27,13 @@ undo_restores editor old new k d = record {
   others = d.set.edit.features.others;
 }
 
-same_number : (m n : ℕ) → eqb m n ≡ true → m ≡ n
-same_number m n t = grind (arith, nat_tests)
-
-other_number : (m n : ℕ) → eqb m n ≡ false → n ≢ m
-other_number m n t = λ e. absurd (grind (arith, nat_tests))
-
 pub taken_at : (ts : List EditStep) (old new : Project) (k : ℕ) → AreTakenBack ts old new → feature_at new.features k ≡ first_before ts (feature_at old.features) k
 taken_at [] old new k t = ap (λ (p : Project). feature_at p.features k) t
 taken_at (x ∷ ts) old new k t = by (eqb x.handle k) refl (taken_at ts old t.0 k t.1)
   where
     by : (b : Bool) → eqb x.handle k ≡ b → feature_at t.0.features k ≡ first_before ts (feature_at old.features) k → feature_at new.features k ≡ (if b then x.before else first_before ts (feature_at old.features) k)
-    by true e r = ap (feature_at new.features) (sym (same_number x.handle k e)) ∙ t.2.edit.features.here
-    by false e r = t.2.edit.features.others k (other_number x.handle k e) ∙ r
+    by true e r = ap (feature_at new.features) (sym (eqb-true x.handle k e)) ∙ t.2.edit.features.here
+    by false e r = t.2.edit.features.others k (differ x.handle k e) ∙ r
 
 pub discard_restores : (editor : List ℕ) (old new : State) → IsDiscarded editor old new → IsAllRestored editor old new
 discard_restores editor old new d = record { session = d.session; there = d.there; back = λ k. taken_at d.session.done old.project new.project k d.taken_back }

@@ -24,6 +24,7 @@ use Rattle.script_terms.specs.Run.{Outcome, Reading, Reads, Faulty, Run, ComesOf
 use Rattle.script_terms.specs.Keeping.{IsKeeping}
 use Rattle.script_terms.proofs.Keeping.{undo_keeps, redo_keeps, altered_keeps}
 use Rattle.script_terms.proofs.Commands.{same_keeps, equal_keeps, begun_keeps, ended_keeps, discard_keeps, added_keeps}
+use Rattle.std.proofs.lemmas.Bool.{eqb-true}
 
 -- ---- what is known where a command is not refused
 pub first_none : (o : Option Refusal) (rs : List (Option Refusal)) → first_of (o ∷ rs) ≡ None → (o ≡ None) × (first_of rs ≡ None)
@@ -44,9 +45,6 @@ by_none ss (Some name) editor h a e n =
     let same : name ≡ editor = (bytes_eq-Decides name editor).0 (not_false (bytes_eq name editor) (when_none (not (bytes_eq name editor)) (HeldBy name) n)) in
     held_alone ss editor h a (e ∙ ap (λ (m : List ℕ). Some m) same)
 
-same_number : (m n : ℕ) → eqb m n ≡ true → m ≡ n
-same_number m n t = grind (arith, nat_tests)
-
 pub changes_none : (o : Option Cause) → changes o ≡ None → o ≡ None
 changes_none None e = refl
 changes_none (Some c) e = cc
@@ -61,7 +59,7 @@ live_below n [] h a e = cc
 live_below n (f ∷ F) h a e = by (eqb f.handle h) refl e (λ r. live_below n F h a.1 r)
   where
     by : (b : Bool) → eqb f.handle h ≡ b → is_some (if b then Some f else feature_at F h) ≡ true → (is_some (feature_at F h) ≡ true → h < n) → h < n
-    by true k e r = let s : f.handle ≡ h = same_number f.handle h k in subst (λ m. m < n) s a.0
+    by true k e r = let s : f.handle ≡ h = eqb-true f.handle h k in subst (λ m. m < n) s a.0
     by false k e r = r e
 
 -- an edit of a live handle that is not refused

@@ -40,7 +40,7 @@ note_chained at bt s h x set c =
     let t : EditStep = record { handle = h; before = at h; after = x } in
     note_seen at bt (kept_of s) (kept_of (with_step s t)) h x (record { name = refl; done = map_end kept_before s.done t; undone = refl }) set ∙ ap (λ (y : Session). with_step y t) c
 
-end_same : (xs ys : List EditStep) (x y : EditStep) → xs ++ x ∷ [] ≡ ys ++ y ∷ [] → (xs ≡ ys) × (x ≡ y)
+pub end_same : (xs ys : List EditStep) (x y : EditStep) → xs ++ x ∷ [] ≡ ys ++ y ∷ [] → (xs ≡ ys) × (x ≡ y)
 end_same [] [] x y e = (refl, cc)
 end_same [] (b ∷ []) x y e = cc
 end_same [] (b ∷ c ∷ ys) x y e = cc
@@ -51,7 +51,7 @@ end_same (a ∷ xs) (b ∷ ys) x y e = let h : a ≡ b = cc in let t : xs ++ x �
 together : (name : List ℕ) (xs ys zs ws : List EditStep) → xs ≡ ys → zs ≡ ws → ◌≡◌ {A = Session} (record { name = name; done = xs; undone = zs }) (record { name = name; done = ys; undone = ws })
 together name xs ys zs ws e f = rw (e, f) refl
 
-head_same : (x y : EditStep) (xs ys : List EditStep) → x ∷ xs ≡ y ∷ ys → (x ≡ y) × (xs ≡ ys)
+pub head_same : (x y : EditStep) (xs ys : List EditStep) → x ∷ xs ≡ y ∷ ys → (x ≡ y) × (xs ≡ ys)
 head_same x y xs ys e = (cc, cc)
 
 pub undo_chained : (at bt : ℕ → Option Feature) (s u : Session) (t : EditStep) → IsUndoneTo s t u → IsSet t.handle t.before at bt → IsChained at s → IsChained bt u

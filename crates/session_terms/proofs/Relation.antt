@@ -11,14 +11,12 @@ use Rattle.std.specs.Prelude.{if◌then◌else◌}
 use Rattle.plane_terms.specs.Lists.{Every}
 use Rattle.topology_terms.specs.Feature.{Feature}
 use Rattle.session_terms.specs.Kept.{KeptStep, stood, set_at, done_of, undone_of}
+use Rattle.std.proofs.lemmas.Bool.{eqb-true}
 
 abbrev pub AgreeAt : List KeptStep → (ℕ → Option Feature) → (ℕ → Option Feature) → Type 0
 AgreeAt ts at bt = Every (λ (t : KeptStep). bt t.handle ≡ at t.handle) ts
 
-same : (m n : ℕ) → eqb m n ≡ true → m ≡ n
-same m n t = grind (arith, nat_tests)
-
-differ : (m n : ℕ) → eqb m n ≡ false → n ≢ m
+pub differ : (m n : ℕ) → eqb m n ≡ false → n ≢ m
 differ m n t = λ e. absurd (grind (arith, nat_tests))
 
 stood_same : (at bt : ℕ → Option Feature) (ts : List KeptStep) (h : ℕ) → bt h ≡ at h → stood bt ts h ≡ stood at ts h
@@ -55,7 +53,7 @@ stood_more : (at bt : ℕ → Option Feature) (ts : List KeptStep) (t : KeptStep
 stood_more at bt [] t k keeps others = by (eqb t.handle k) refl
   where
     by : (b : Bool) → eqb t.handle k ≡ b → (if b then t.kept else bt k) ≡ at k
-    by true e = keeps ∙ ap at (same t.handle k e)
+    by true e = keeps ∙ ap at (eqb-true t.handle k e)
     by false e = others k (differ t.handle k e)
 stood_more at bt (s ∷ ts) t k keeps others = ap (λ x. if eqb s.handle k then s.kept else x) (stood_more at bt ts t k keeps others)
 
@@ -71,7 +69,7 @@ back_set : (at bt : ℕ → Option Feature) (h : ℕ) (x : Option Feature) (k : 
 back_set at bt h x k keeps others = by (eqb k h) refl
   where
     by : (b : Bool) → eqb k h ≡ b → (if b then x else at k) ≡ bt k
-    by true e = keeps ∙ ap bt (sym (same k h e))
+    by true e = keeps ∙ ap bt (sym (eqb-true k h e))
     by false e = sym (others k (λ d. differ k h e (sym d)))
 
 -- `at` is after the undo, `bt` before it

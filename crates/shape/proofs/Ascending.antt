@@ -9,12 +9,10 @@ use Rattle.plane_terms.specs.Lists.{Every, EveryPair}
 use Rattle.shape.specs.declared.numbered.Numbered.{Numbered}
 use Rattle.shape.specs.Sweep.{Ascends}
 use Rattle.plane_terms.proofs.ListLemmas.{every_by_index}
+use Rattle.number_laws.proofs.Order.{no_less}
 
 abbrev pub key_of : Numbered → ℤ
 key_of n = n.seg.lo.x
-
-no_less : (a b : ℤ) → is_lt (int_cmp b a) ≡ false → a ≤ℤ b
-no_less a b e = grind (arith, ints)
 
 pairs_at : {A : Type 0} (R : A → A → Type 0) (xs : List A) → ((i j : ℕ) (d : A) → i ≤ j → j < length xs → R (get_or xs i d) (get_or xs j d))
     → EveryPair R xs

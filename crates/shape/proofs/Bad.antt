@@ -12,7 +12,7 @@ use Rattle.plane_terms.specs.declared.share.Share.{Share}
 use Rattle.plane_terms.specs.declared.share.Share.TheVariants.{Nothing, Along, Cross, Touch}
 use Rattle.cell_laws.proofs.Shares.{Means, share_of-means, means_one, end_same}
 use Rattle.cell_laws.proofs.Envelope.{box_holds}
-use Rattle.cell_laws.proofs.Meeting.{cross_sym}
+use Rattle.cell_laws.proofs.Meeting.{cross_sym, overlap_sym}
 use Rattle.grid_plane.proofs.Rectangles.{crossing}
 use Rattle.plane_terms.specs.ShapeFaults.{AreBad, IsPair}
 use Rattle.shape.specs.Sweep.{is_bad, is_bad_share}
@@ -31,13 +31,9 @@ pub is_bad-true : (s t : Segment) → IsSegment s → IsSegment t → AreBad s t
 is_bad-true s t g h (inl c) = ap is_bad_share (means_one (share_of s t) Cross s t (share_of-means s t g h) c)
 is_bad-true s t g h (inr o) = ap is_bad_share (means_one (share_of s t) Along s t (share_of-means s t g h) o)
 
-overlap_back : (s t : Segment) → Overlap s t → Overlap t s
-overlap_back s t o =
-    record { p = o.p; q = o.q; apart = o.apart; p_on_s = o.p_on_t; p_on_t = o.p_on_s; q_on_s = o.q_on_t; q_on_t = o.q_on_s }
-
 pub bad_back : (s t : Segment) → AreBad s t → AreBad t s
 bad_back s t (inl c) = inl (cross_sym t s c)
-bad_back s t (inr o) = inr (overlap_back s t o)
+bad_back s t (inr o) = inr (overlap_sym t s o)
 
 -- ---- bad pairs have envelopes that meet
 shared : (s t : Segment) (p : Point) → OnSegment s p → OnSegment t p → SharePoint s t

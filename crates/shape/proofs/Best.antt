@@ -13,7 +13,7 @@ use Rattle.shape.specs.declared.numbered.Numbered.{Numbered}
 use Rattle.shape.specs.declared.pair.Pair.{Pair}
 use Rattle.shape.specs.Sweep.{numbered, numbered_segment, is_bad, pair_of, is_sooner, considered, best_with, best_among, Ascends, IsBoxed, IsFirstBad}
 use Rattle.shape.proofs.Bad.{bad_is, is_bad-true, bad_back, by_no, fine_past, fine_apart, no_both}
-use Rattle.plane_terms.proofs.ListLemmas.{every_map}
+use Rattle.plane_terms.proofs.ListLemmas.{every_map, IsAmong, among_at, contains_among}
 
 -- ---- the order of pairs
 sooner_self : (p : Pair) → is_sooner p (Some p) ≡ false
@@ -117,9 +117,6 @@ covered_among (n ∷ ns) best = (
 )
 
 -- ---- the best pair comes from the list
-abbrev pub IsAmong : {A : Type 0} → A → List A → Type 0
-IsAmong x xs = SomeOf (λ y. y ≡ x) xs
-
 record From (ns : List Numbered) (p : Pair) : Type 0 where
   n : Numbered
   m : Numbered
@@ -162,30 +159,20 @@ from_among all (n ∷ ns) best j f p e = from_among all ns (best_with n ns best)
 -- ---- of two elements one stands before the other
 with_among : {A : Type 0} (R : A → A → Type 0) (x y : A) (ys : List A) → Every (R x) ys → IsAmong y ys → R x y
 with_among R x y [] h i = absurd i
-with_among R x y (z ∷ zs) h (inl e) = subst (λ u. R x u) e h.0
+with_among R x y (z ∷ zs) h (inl e) = subst (λ u. R x u) (sym e) h.0
 with_among R x y (z ∷ zs) h (inr i) = with_among R x y zs h.1 i
 
 either_way : {A : Type 0} (R : A → A → Type 0) (x y : A) (zs : List A) → (x ≡ y → ⊥) → EveryPair R zs → IsAmong x zs → IsAmong y zs
     → R x y ⊎ R y x
 either_way R x y [] n h i j = absurd i
-either_way R x y (z ∷ zs) n h (inl e) (inl f) = absurd (n (sym e ∙ f))
-either_way R x y (z ∷ zs) n h (inl e) (inr j) = inl (subst (λ u. R u y) e (with_among R z y zs h.0 j))
-either_way R x y (z ∷ zs) n h (inr i) (inl f) = inr (subst (λ u. R u x) f (with_among R z x zs h.0 i))
+either_way R x y (z ∷ zs) n h (inl e) (inl f) = absurd (n (e ∙ sym f))
+either_way R x y (z ∷ zs) n h (inl e) (inr j) = inl (subst (λ u. R u y) (sym e) (with_among R z y zs h.0 j))
+either_way R x y (z ∷ zs) n h (inr i) (inl f) = inr (subst (λ u. R u x) (sym f) (with_among R z x zs h.0 i))
 either_way R x y (z ∷ zs) n h (inr i) (inr j) = either_way R x y zs n h.1 i j
 
--- ---- members by recursion and by index
-among_at : {A : Type 0} (xs : List A) (k : ℕ) (x : A) → k < length xs → get_or xs k x ≡ x → IsAmong x xs
-among_at [] k x h e = absurd (omega (arith, h))
-among_at (y ∷ ys) zero x h e = inl e
-among_at (y ∷ ys) (suc k) x h e = inr (among_at ys k x (omega (arith, h)) e)
-
-contains : {A : Type 0} (xs : List A) (x : A) → IsAmong x xs → Contains xs x
-contains [] x i = absurd i
-contains (y ∷ ys) x (inl e) = (0, omega arith, e)
-contains (y ∷ ys) x (inr i) = let c = contains ys x i in (suc c.0, omega (arith, c.1), c.2)
-
+-- ---- members
 moved : {A : Type 0} (xs ys : List A) (x : A) → IsPermutation xs ys → IsAmong x xs → IsAmong x ys
-moved xs ys x p i = let c = Contains-permutation xs ys x p (contains xs x i) in among_at ys c.0 x c.1 c.2
+moved xs ys x p i = let c = Contains-permutation xs ys x p (contains_among xs x i) in among_at ys c.0 x c.1 c.2
 
 every_among : {A : Type 0} (xs : List A) → Every (λ x. IsAmong x xs) xs
 every_among [] = tt
@@ -195,7 +182,7 @@ every_among (x ∷ xs) = (inl refl, every_map (λ y. IsAmong y xs) (λ y. IsAmon
 numbered_among : (n i : ℕ) (ss : List Segment) (s : Segment) → slice_get ss i ≡ Some s
     → IsAmong (numbered_segment (n + i) s) (numbered n ss)
 numbered_among n i [] s e = cc
-numbered_among n zero (t ∷ ts) s e = inl (same n (n + zero) t s (omega arith) (some e))
+numbered_among n zero (t ∷ ts) s e = inl (sym (same n (n + zero) t s (omega arith) (some e)))
   where
     same : (a b : ℕ) (u v : Segment) → a ≡ b → u ≡ v → numbered_segment a u ≡ numbered_segment b v
     same a b u v e f = rw (e, f) refl
@@ -214,7 +201,7 @@ record Placed (n : ℕ) (m : Numbered) (ss : List Segment) : Type 0 where
 placed : (n : ℕ) (ss : List Segment) (m : Numbered) → IsAmong m (numbered n ss) → Placed n m ss
 placed n [] m i = absurd i
 placed n (s ∷ ss) m (inl e) =
-    record { at = zero; sum = omega (arith, ap (λ (k : Numbered). k.number) e); is = ap (λ (k : Numbered). Some k.seg) e }
+    record { at = zero; sum = omega (arith, ap (λ (k : Numbered). k.number) e); is = ap (λ (k : Numbered). Some k.seg) (sym e) }
 placed n (s ∷ ss) m (inr i) = let p = placed (n + 1) ss m i in record { at = suc p.at; sum = omega (arith, p.sum); is = p.is }
 
 placed_at : (ss : List Segment) (m : Numbered) → IsAmong m (numbered 0 ss) → slice_get ss m.number ≡ Some m.seg

@@ -7,6 +7,7 @@ use Rattle.plane_terms.specs.Point.{Place, IsInReach}
 use Rattle.plane_terms.specs.Rectangle.{Rectangle, rect_at, rect_of, join_of}
 use Rattle.plane_terms.specs.Shape.{box_from, box_of_places}
 use Rattle.plane_terms.proofs.ListLemmas.{every_append}
+use Rattle.cell_laws.proofs.Envelope.{rect_same}
 
 pub box_after : (r : Rectangle) (ps qs : List Place) → box_from r (ps ++ qs) ≡ box_from (box_from r ps) qs
 box_after r [] qs = refl
@@ -18,11 +19,8 @@ least_same v = grind (arith, ints)
 most_same : (v : ℤ) → int_max v v ≡ v
 most_same v = grind (arith, ints)
 
-same_sides : {a b c d e f g h : ℤ} → a ≡ e → b ≡ f → c ≡ g → d ≡ h → rect_of a b c d ≡ rect_of e f g h
-same_sides h k l m = rw (h, k, l, m) refl
-
 join_same : (p : Place) → join_of (rect_at p) (rect_at p) ≡ rect_at p
-join_same p = same_sides (least_same p.x) (least_same p.y) (most_same p.x) (most_same p.y)
+join_same p = rect_same (least_same p.x) (least_same p.y) (most_same p.x) (most_same p.y)
 
 -- a first place that is joined once more changes nothing
 pub box_once : (p : Place) (ps : List Place) → box_from (rect_at p) (p ∷ ps) ≡ box_of_places (p ∷ ps)

@@ -19,7 +19,8 @@ use Rattle.shape.specs.Sweep.{IsPairFault}
 use Rattle.plane_terms.specs.declared.shape_fault.ShapeFault.{ShapeFault}
 use Rattle.plane_terms.specs.declared.shape_fault.ShapeFault.TheVariants.{TooFew, TooMany, Cross, Along, NoMemory}
 use Rattle.shape.proofs.Filled.{line_rings, none_few, none_many}
-use Rattle.shape.proofs.Places.{is_same, same_turned}
+use Rattle.cell_laws.proofs.AtPlaces.{same_is}
+use Rattle.shape.proofs.Places.{same_turned}
 use Rattle.plane_terms.proofs.ListLemmas.{every_left, every_right}
 
 -- ---- the parts that were kept make the shape
@@ -131,7 +132,7 @@ starts v (w ∷ ws) = by_test (same_place v w) refl (starts w ws)
   where
     by_test : (b : Bool) → same_place v w ≡ b → Starts w (without_repeats (w ∷ ws))
         → Starts v (if b then without_repeats (w ∷ ws) else (v ∷ without_repeats (w ∷ ws)))
-    by_test true e s = starts_same v w (without_repeats (w ∷ ws)) (is_same v w e) s
+    by_test true e s = starts_same v w (without_repeats (w ∷ ws)) (same_is v w e) s
     by_test false e s = (refl, next v w (without_repeats (w ∷ ws)) e s)
 
 started : (v : Place) (us : List Place) → Starts v us → NextDiffer us

@@ -6,26 +6,7 @@ use Rattle.std.specs.List.{dedup, dedup_from}
 use lib.Pointwise.{pointwise}
 use Rattle.plane_terms.specs.Point.{Place, same_place}
 use Rattle.plane_terms.specs.Shape.{without_repeats}
-
-same_by_x : (p : Place) → same_place p p ≡ true
-same_by_x p = numbers p.x p.y
-  where
-    numbers : (x y : ℤ) → int_eq x x && int_eq y y ≡ true
-    numbers x y = grind (arith, ints)
-
-pub same_is : (p q : Place) → p ≡ q → same_place p q ≡ true
-same_is p q e = rw e (same_by_x q)
-
-numbers_same : (a b x y : ℤ) → int_eq a x && int_eq b y ≡ true → (a ≡ x) × (b ≡ y)
-numbers_same a b x y e = (grind (arith, ints), grind (arith, ints))
-
-place_by : {a b x y : ℤ} → a ≡ x → b ≡ y → ◌≡◌ {A = Place} (record { x = a; y = b }) (record { x = x; y = y })
-place_by e f = rw (e, f) refl
-
-pub is_same : (p q : Place) → same_place p q ≡ true → p ≡ q
-is_same p q e =
-    let k = numbers_same p.x p.y q.x q.y e in
-    place_by k.0 k.1
+use Rattle.cell_laws.proofs.AtPlaces.{same_is, is_same}
 
 pub same_turned : (p q : Place) → same_place q p ≡ same_place p q
 same_turned p q = numbers p.x p.y q.x q.y
@@ -38,7 +19,7 @@ same_turned p q = numbers p.x p.y q.x q.y
 kept_from : (E : Place → Place → Bool) → ((x y : Place) → E x y ≡ same_place y x) → (p : Place) (ps : List Place)
     → dedup_from E p ps ≡ without_repeats (p ∷ ps)
 kept_from E h p [] = refl
-kept_from E h p (q ∷ qs) = step (E q p) (same_place p q) (h q p) (is_same p q) (kept_from E h p qs) (kept_from E h q qs)
+kept_from E h p (q ∷ qs) = step (E q p) (same_place p q) (h q p) (same_is p q) (kept_from E h p qs) (kept_from E h q qs)
   where
     step : (b v : Bool) → b ≡ v → (v ≡ true → p ≡ q) → dedup_from E p qs ≡ without_repeats (p ∷ qs)
         → dedup_from E q qs ≡ without_repeats (q ∷ qs)
@@ -54,14 +35,14 @@ kept_is E h (p ∷ ps) = kept_from E h p ps
 
 -- ---- lists of places
 eq_is : (p q : Place) → int_eq p.x q.x && int_eq p.y q.y ≡ true → p ≡ q
-eq_is p q e = is_same p q e
+eq_is p q e = same_is p q e
 
 pub same_lists : (xs ys : List Place) → Decides (pointwise (λ p q. int_eq p.x q.x && int_eq p.y q.y) xs ys) (xs ≡ ys)
 same_lists [] [] = (λ e. refl, λ e. refl)
 same_lists [] (y ∷ ys) = (λ e. cc, λ e. cc)
 same_lists (x ∷ xs) [] = (λ e. cc, λ e. cc)
 same_lists (x ∷ xs) (y ∷ ys) =
-    (by_test (same_place x y) refl (same_lists xs ys).0, λ e. both (same_is x y (heads e)) ((same_lists xs ys).1 (tails e)))
+    (by_test (same_place x y) refl (same_lists xs ys).0, λ e. both (is_same x y (heads e)) ((same_lists xs ys).1 (tails e)))
   where
     heads : {X : Type 0} {a b : X} {us vs : List X} → a ∷ us ≡ b ∷ vs → a ≡ b
     heads e = cc
@@ -76,5 +57,5 @@ same_lists (x ∷ xs) (y ∷ ys) =
     both e k = rw (e, k) refl
 
     by_test : (b : Bool) → same_place x y ≡ b → {v : Bool} → (v ≡ true → xs ≡ ys) → b && v ≡ true → x ∷ xs ≡ y ∷ ys
-    by_test true t f e = joined (is_same x y t) (f e)
+    by_test true t f e = joined (same_is x y t) (f e)
     by_test false t f e = cc

@@ -11,16 +11,8 @@ use Rattle.topology_terms.specs.Settled.{IsEntryOf, AreAlike, AreOf, AreCut, IsS
 use Rattle.topology_terms.specs.Scratch.{unmarked, IsFromScratch}
 use Rattle.sound_laws.proofs.RuleChanges.{no_entry}
 use Rattle.sound_laws.proofs.Lists.{unmark_option, entry_at-unmark, ascending-unmark, same_entries, entry_key}
-use Rattle.sound_laws.proofs.Validations.{some_or_none}
 use Rattle.sound_laws.proofs.Settling.{alike_same}
-
-row_or_none : (o : Option Row) → ((row : Row) × (o ≡ Some row)) ⊎ (o ≡ None)
-row_or_none None = inr refl
-row_or_none (Some row) = inl (row, refl)
-
-entry_or_none : (o : Option Entry) → ((e : Entry) × (o ≡ Some e)) ⊎ (o ≡ None)
-entry_or_none None = inr refl
-entry_or_none (Some e) = inl (e, refl)
+use Rattle.plane_terms.proofs.Truths.{there_or_not}
 
 bare_all : (es : List Entry) → Every (λ (e : Entry). e.marked ≡ false) (map unmarked es)
 bare_all [] = tt
@@ -34,7 +26,7 @@ alike_unmarked f (Some x) (Some d) h = record { whole = h.whole; cells = h.cells
 
 no_subject : (M : Meaning) (p : Project) → IsSettledUnder M p → p.dirt ≡ [] → (r : ℕ) (row : Row) → rule_at p.rules r ≡ Some row
     → (a b : ℕ) → feature_at p.features a ≡ None → entry_at p.entries r a b ≡ None
-no_subject M p s clean r row e a b dead = elim (entry_or_none (entry_at p.entries r a b)) [
+no_subject M p s clean r row e a b dead = elim (there_or_not (entry_at p.entries r a b)) [
   | inr n ↦ n
   | inl x ↦ elim (s.frames r row e a b x.0 x.1) [
     | inl m ↦ absurd (rw clean at m.1)
@@ -43,7 +35,7 @@ no_subject M p s clean r row e a b dead = elim (entry_or_none (entry_at p.entrie
 ]
 
 no_rule : (M : Meaning) (p : Project) → IsProject M p → (r a b : ℕ) → rule_at p.rules r ≡ None → entry_at p.entries r a b ≡ None
-no_rule M p v r a b n = elim (entry_or_none (entry_at p.entries r a b)) [
+no_rule M p v r a b n = elim (there_or_not (entry_at p.entries r a b)) [
   | inr k ↦ k
   | inl e ↦ absurd (no_entry M p v r a b n e.0 e.1)
 ]
@@ -60,7 +52,7 @@ settled_scratch M p v s order clean = record {
     live = λ f k r row e.
         let z = s.cut r row e a f k (λ m. rw clean at m.1) in
         (z.0, z.1, λ b. rw (entry_at-unmark p.entries r a b) (alike_unmarked f (finding_at z.0 b) (entry_at p.entries r a b) (z.2 b)));
-    dead = λ n r b. elim (row_or_none (rule_at p.rules r)) [
+    dead = λ n r b. elim (there_or_not (rule_at p.rules r)) [
       | inl y ↦ none_unmarked p.entries r a b (no_subject M p s clean r y.0 y.1 a b n)
       | inr k ↦ none_unmarked p.entries r a b (no_rule M p v r a b k)
     ];
@@ -78,9 +70,9 @@ bare_at es r a b h = sym (entry_at-unmark es r a b) ∙ ap (λ fs. entry_at fs r
 
 pub one_scratch : (M : Meaning) → CutsRight M → (p : Project) (es fs : List Entry) → IsFromScratch M p es → IsFromScratch M p fs → es ≡ fs
 one_scratch M C p es fs u v = same_entries es fs u.ascending v.ascending (λ r a b.
-    sym (bare_at es r a b u.bare) ∙ (elim (row_or_none (rule_at p.rules r)) [
+    sym (bare_at es r a b u.bare) ∙ (elim (there_or_not (rule_at p.rules r)) [
       | inr n ↦ ap unmark_option ((u.anew a).idle r n b ∙ sym ((v.anew a).idle r n b))
-      | inl y ↦ elim (some_or_none (feature_at p.features a)) [
+      | inl y ↦ elim (there_or_not (feature_at p.features a)) [
         | inr n ↦ ap unmark_option ((u.anew a).dead n r b ∙ sym ((v.anew a).dead n r b))
         | inl z ↦
             let m = (u.anew a).live z.0 z.1 r y.0 y.1 in

@@ -18,7 +18,8 @@ use Rattle.sound_laws.proofs.Dirts.{bool_cases, add_keeps, add_covers}
 use Rattle.sound_laws.proofs.Edits.{same_or_not, edit_frames, edit_keeps, edit_after, edit_agrees}
 use Rattle.sound_laws.proofs.RuleChanges.{no_entry}
 use Rattle.sound_laws.proofs.Lists.{unmark, unmark_option, same_unmarked, entry_key}
-use Rattle.sound_laws.proofs.Validations.{some_or_none, fresh_frame, kept_frames, kept_envelope}
+use Rattle.sound_laws.proofs.Validations.{fresh_frame, kept_frames, kept_envelope}
+use Rattle.plane_terms.proofs.Truths.{there_or_not}
 
 -- an entry of a finding is the finding's
 entry_finding : (f : Feature) (o : Option Finding) (e : Entry) → AreAlike f o (Some e) → (x : Finding) × (o ≡ Some x) × IsEntryOf f x e
@@ -117,7 +118,7 @@ validated_settled M L C w old new v u i s =
       frames = λ r row e a.
           let e' = rw i.rules at e in
           elim (j.each a) [
-            | inl y ↦ λ b x k. elim (some_or_none (feature_at old.features a)) [
+            | inl y ↦ λ b x k. elim (there_or_not (feature_at old.features a)) [
               | inl z ↦ inr (z.0, rw i.features z.1, fresh_frame M L old.features row z.0 a b x (v.fits r row e') z.1 ((y.1.live z.0 z.1 r row e').fresh b x k))
               | inr z ↦ let l = y.1.dead z r b in absurd cc
             ]
@@ -206,9 +207,9 @@ pub settled_same : (M : Meaning) → CutsRight M → (s t : Project) → IsProje
     → s.dirt ≡ [] → t.dirt ≡ [] → t.features ≡ s.features → t.rules ≡ s.rules
     → IsAscending s.entries → IsAscending t.entries → map unmark s.entries ≡ map unmark t.entries
 settled_same M C s t u v h k c d i j p q = same_unmarked s.entries t.entries p q (λ r a b.
-    elim (row_or_none (rule_at s.rules r)) [
+    elim (there_or_not (rule_at s.rules r)) [
       | inr n ↦ ap unmark_option (no_rule M s u r a b n ∙ sym (no_rule M t v r a b (rw j n)))
-      | inl y ↦ elim (some_or_none (feature_at s.features a)) [
+      | inl y ↦ elim (there_or_not (feature_at s.features a)) [
         | inl z ↦
             let m = h.cut r y.0 y.1 a z.0 z.1 (λ m. rw c at m.1) in
             let n = k.cut r y.0 (rw j y.1) a z.0 (rw i z.1) (λ m. rw d at m.1) in
@@ -222,22 +223,14 @@ settled_same M C s t u v h k c d i j p q = same_unmarked s.entries t.entries p q
       ]
     ])
   where
-    row_or_none : (o : Option Row) → ((row : Row) × (o ≡ Some row)) ⊎ (o ≡ None)
-    row_or_none None = inr refl
-    row_or_none (Some row) = inl (row, refl)
-
-    entry_or_none : (o : Option Entry) → ((e : Entry) × (o ≡ Some e)) ⊎ (o ≡ None)
-    entry_or_none None = inr refl
-    entry_or_none (Some e) = inl (e, refl)
-
     no_rule : (M : Meaning) (s : Project) → IsProject M s → (r a b : ℕ) → rule_at s.rules r ≡ None → entry_at s.entries r a b ≡ None
-    no_rule M s v r a b n = elim (entry_or_none (entry_at s.entries r a b)) [
+    no_rule M s v r a b n = elim (there_or_not (entry_at s.entries r a b)) [
       | inr k ↦ k
       | inl e ↦ absurd (no_entry M s v r a b n e.0 e.1)
     ]
 
     no_subject : (M : Meaning) (s : Project) → IsSettledUnder M s → s.dirt ≡ [] → (r : ℕ) (row : Row) → rule_at s.rules r ≡ Some row → (a b : ℕ) → feature_at s.features a ≡ None → entry_at s.entries r a b ≡ None
-    no_subject M s h c r row l a b n = elim (entry_or_none (entry_at s.entries r a b)) [
+    no_subject M s h c r row l a b n = elim (there_or_not (entry_at s.entries r a b)) [
       | inr k ↦ k
       | inl e ↦ elim (h.frames r row l a b e.0 e.1) [
         | inl m ↦ absurd (rw c at m.1)

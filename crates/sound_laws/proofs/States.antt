@@ -13,7 +13,7 @@ use Rattle.sound_laws.proofs.Planes.{rect_from_point}
 use Rattle.sound_laws.proofs.Dirts.{bool_cases}
 use Rattle.sound_laws.proofs.Edits.{same_or_not}
 use Rattle.sound_laws.proofs.RuleChanges.{no_entry}
-use Rattle.sound_laws.proofs.Validations.{some_or_none}
+use Rattle.plane_terms.proofs.Truths.{there_or_not}
 
 -- cells that have points, and are not none, hold some point
 some_point : (cs : List Cell) → cs ≢ [] → HavePoints cs → (p : Point) × InCells cs p
@@ -58,9 +58,9 @@ validated_state M w old new v i =
         envelopes = λ a f k. v.made.envelopes a f (rw i.features at k);
         frames = λ r a b e k. elim (i.each a) [
           | inr y ↦ v.made.frames r a b e (sym (y.1 r b) ∙ k)
-          | inl y ↦ elim (row_or_none (rule_at old.rules r)) [
+          | inl y ↦ elim (there_or_not (rule_at old.rules r)) [
             | inr n ↦ let l = unruled r n a b in absurd cc
-            | inl q ↦ elim (some_or_none (feature_at old.features a)) [
+            | inl q ↦ elim (there_or_not (feature_at old.features a)) [
               | inr n ↦ let l = y.1.dead n r b in absurd cc
               | inl z ↦ fresh_rect M old.features q.0 z.0 a b e (v.made.envelopes a z.0 z.1).proper ((y.1.live z.0 z.1 r q.0 q.1).fresh b e k)
             ]
@@ -68,34 +68,26 @@ validated_state M w old new v i =
         ];
         bare = λ r a b e k t. elim (i.each a) [
           | inr y ↦ v.made.bare r a b e (sym (y.1 r b) ∙ k) t
-          | inl y ↦ elim (row_or_none (rule_at old.rules r)) [
+          | inl y ↦ elim (there_or_not (rule_at old.rules r)) [
             | inr n ↦ let l = unruled r n a b in absurd cc
-            | inl q ↦ elim (some_or_none (feature_at old.features a)) [
+            | inl q ↦ elim (there_or_not (feature_at old.features a)) [
               | inr n ↦ let l = y.1.dead n r b in absurd cc
               | inl z ↦ (let j = (y.1.live z.0 z.1 r q.0 q.1).fresh b e k in ((j.broken_whole t).0, j.bare t))
             ]
           ]
         ];
-        ruled = λ r a b e k. elim (row_or_none (rule_at old.rules r)) [
+        ruled = λ r a b e k. elim (there_or_not (rule_at old.rules r)) [
           | inr n ↦ let l = unruled r n a b in absurd cc
           | inl q ↦ (q.0, rw i.rules q.1)
         ];
       };
     }
   where
-    entry_or_none : (o : Option Entry) → ((e : Entry) × (o ≡ Some e)) ⊎ (o ≡ None)
-    entry_or_none None = inr refl
-    entry_or_none (Some e) = inl (e, refl)
-
     never : (r a b : ℕ) → rule_at old.rules r ≡ None → entry_at old.entries r a b ≡ None
-    never r a b n = elim (entry_or_none (entry_at old.entries r a b)) [
+    never r a b n = elim (there_or_not (entry_at old.entries r a b)) [
       | inr k ↦ k
       | inl e ↦ absurd (no_entry M old v r a b n e.0 e.1)
     ]
-
-    row_or_none : (o : Option Row) → ((row : Row) × (o ≡ Some row)) ⊎ (o ≡ None)
-    row_or_none None = inr refl
-    row_or_none (Some row) = inl (row, refl)
 
 pub add_rule_state : (M : Meaning) (n : ℕ) (row : Row) (old new : Project) → IsProject M old → IsRuleAdded n row old new
     → M.Fits row old.features → IsProject M new

@@ -13,10 +13,7 @@ use Rattle.topology_terms.specs.Sound.{FramesStand, IsSoundUnder}
 use Rattle.topology_terms.specs.Changes.{IsSelected, IsFresh, IsJudged, IsValidated}
 use Rattle.sound_laws.proofs.Planes.{within_self, holds_or_not}
 use Rattle.sound_laws.proofs.Dirts.{cut_covers, covers_or_not, bool_cases}
-
-pub some_or_none : (o : Option Feature) → ((f : Feature) × (o ≡ Some f)) ⊎ (o ≡ None)
-some_or_none None = inr refl
-some_or_none (Some f) = inl (f, refl)
+use Rattle.plane_terms.proofs.Truths.{there_or_not}
 
 -- what is said of each feature of the handle holds of this one
 same_feature : (P : Feature → Type 0) (F : List Feature) (a : ℕ) (f : Feature) → feature_at F a ≡ Some f → ((g : Feature) × (feature_at F a ≡ Some g) × P g) → P f
@@ -70,7 +67,7 @@ pub validated_sound : (M : Meaning) → Laws M → (w : Rectangle) (old new : Pr
     → IsProject M old → IsValidated M w old new → IsSoundUnder M old → IsSoundUnder M new
 validated_sound M L w old new v i s = record {
   each = λ r row e a. let u = v.fits r row (rw i.rules at e) in elim (i.each a) [
-    | inl y ↦ elim (some_or_none (feature_at old.features a)) [
+    | inl y ↦ elim (there_or_not (feature_at old.features a)) [
       | inl z ↦
           let j = y.1.live z.0 z.1 r row (rw i.rules at e) in
           record {

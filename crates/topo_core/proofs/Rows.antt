@@ -16,6 +16,7 @@ use Rattle.topology_terms.specs.declared.cause.Cause.{Cause}
 use Rattle.topology_terms.specs.declared.cause.Cause.TheVariants as cause
 use Rattle.feature_store.proofs.Keeping.{kinds_same}
 use Rattle.topo_core.specs.Kinds.{HasKinds}
+use Rattle.plane_terms.proofs.Truths.{both_parts}
 
 own_number : (n : ℕ) → (n == n) ≡ true
 own_number n = grind (arith, nat_tests)
@@ -42,11 +43,6 @@ kind_told : (o : Option Kind) (k : Kind) → is_kind o k ≡ true → o ≡ Some
 kind_told None k e = cc
 kind_told (Some l) k e = ap (λ m. Some m) (kinds_same l k e)
 
-both : (s t : Bool) → (s && t) ≡ true → (s ≡ true) × (t ≡ true)
-both true true e = (refl, refl)
-both true false e = absurd cc
-both false t e = absurd cc
-
 no_fault : (s t : Bool) → first_of (when s cause.NoClass ∷ when (not t) cause.Unfit ∷ []) ≡ None → t ≡ true
 no_fault true t e = cc
 no_fault false true e = refl
@@ -54,9 +50,9 @@ no_fault false false e = cc
 
 dest_told : (cs : List Class) (row : Row) (o : Option Kind) → fits_dest cs row o ≡ true → IfSome o (λ k. kind_of_class cs row.dest.class ≡ Some k)
 dest_told cs row None e = tt
-dest_told cs row (Some k) e = kind_told (kind_of_class cs row.dest.class) k (both (is_kind (kind_of_class cs row.dest.class) k) (not (row.dest.class == row.origin.class)) e).0
+dest_told cs row (Some k) e = kind_told (kind_of_class cs row.dest.class) k (both_parts (is_kind (kind_of_class cs row.dest.class) k) (not (row.dest.class == row.origin.class)) e).0
 
 pub has_kinds : (cs : List Class) (row : Row) → fit_cause cs row ≡ None → HasKinds cs row
 has_kinds cs row e =
-    let fit = both (is_kind (kind_of_class cs row.origin.class) (origin_of row.kind)) (fits_dest cs row (dest_of row.kind)) (no_fault (is_missing cs row) (is_fit cs row) e) in
+    let fit = both_parts (is_kind (kind_of_class cs row.origin.class) (origin_of row.kind)) (fits_dest cs row (dest_of row.kind)) (no_fault (is_missing cs row) (is_fit cs row) e) in
     record { origin = kind_told (kind_of_class cs row.origin.class) (origin_of row.kind) fit.0; dest = dest_told cs row (dest_of row.kind) fit.1 }

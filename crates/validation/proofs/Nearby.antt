@@ -18,13 +18,15 @@ use Rattle.topology_terms.specs.Feature.{Feature, feature_at, env, IsAscending}
 use Rattle.sound_laws.proofs.FeatureLists.{each_live, handle_of}
 use Rattle.validation_laws.specs.Parts.{live_of}
 use Rattle.validation_laws.specs.Views.{IsView}
-use Rattle.validation_laws.proofs.Handles.{IsAmong, among, contained, rising}
+use Rattle.validation_laws.proofs.Handles.{among, rising}
+use Rattle.plane_terms.proofs.ListLemmas.{IsAmong, contains_among}
 use Rattle.validation_laws.proofs.Selecting.{some_feature, feature_some}
 use Rattle.validation_laws.proofs.Counting.{live_those}
 use Rattle.validation_laws.proofs.Viewed.{view_filtered}
 use Rattle.validation.specs.Index.{spot_of, meets_spot, IsNear}
 use Rattle.validation.specs.declared.index.Spot.{Spot}
 use Rattle.validation.proofs.Elements.{all_before}
+use Rattle.plane_terms.proofs.Truths.{all_four}
 
 -- ---- the handles that are found
 picked_among : (t : Bool) (s : Spot) (rest : List Spot) (a : ℕ) → IsAmong a (map (λ (s : Spot). s.handle) (cond t (s ∷ rest) rest)) → ((t ≡ true) × (s.handle ≡ a)) ⊎ IsAmong a (map (λ (s : Spot). s.handle) rest)
@@ -59,7 +61,7 @@ pub handles_near : (r : Rectangle) (some all : List Spot) (handles : List ℕ) �
 handles_near r some all handles same is a =
     let e : handles ≡ map (λ (s : Spot). s.handle) (filter (meets_spot r) all) = is ∙ ap (λ (ss : List Spot). map (λ (s : Spot). s.handle) ss) same in (
       (λ h. near_found r all a (rw e at (among a handles h))),
-      (λ h. contained a handles (rw e (found_near r all a h))),
+      (λ h. contains_among handles a (rw e (found_near r all a h))),
     )
 
 -- ---- in another order
@@ -176,13 +178,6 @@ view_near F V f box ss handles u moved w v near is =
 -- ---- the reach
 pub own_part : (r : Rectangle) → is_within r r ≡ true
 own_part r = grind (arith, ints)
-
-all_four : (p q r s : Bool) → (p && (q && (r && s))) ≡ true → (p ≡ true) × (q ≡ true) × (r ≡ true) × (s ≡ true)
-all_four true true true true e = (refl, refl, refl, refl)
-all_four true true true false e = absurd cc
-all_four true true false s e = absurd cc
-all_four true false r s e = absurd cc
-all_four false q r s e = absurd cc
 
 lower : (a b x : ℤ) → int_le a x ≡ true → int_le (int_min a b) x ≡ true
 lower a b x h = grind (arith, ints)

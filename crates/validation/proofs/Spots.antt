@@ -13,6 +13,7 @@ use Rattle.plane_terms.specs.Rectangle.{Rectangle, rects_meet}
 use Rattle.validation.specs.Index.{west, IsUpTo, RunsEast, meets_spot}
 use Rattle.validation.specs.declared.index.Spot.{Spot}
 use Rattle.validation.proofs.Filters.{filter_front, filter_back, parted_rest}
+use Rattle.number_laws.proofs.Order.{no_less}
 
 -- it begins west of x
 abbrev pub is_before : ℤ → Spot → Bool
@@ -21,9 +22,6 @@ is_before x s = int_lt s.env.x0 x
 -- it begins no further east than x
 abbrev pub is_upto : ℤ → Spot → Bool
 is_upto x s = int_le s.env.x0 x
-
-no_less : (a b : ℤ) → is_lt (int_cmp b a) ≡ false → a ≤ℤ b
-no_less a b e = grind (arith, ints)
 
 further : (ss : List Spot) (i j : ℕ) (d : Spot) → RunsEast ss → i ≤ j → j < length ss → west (get_or ss i d) ≤ℤ west (get_or ss j d)
 further ss i j d s l h = no_less (west (get_or ss i d)) (west (get_or ss j d)) (sorted_far (λ x y. is_lt (int_cmp (west x) (west y))) (ranks_by int_cmp_total west) ss s i j d l h)

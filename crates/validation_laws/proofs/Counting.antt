@@ -9,7 +9,6 @@ use Rattle.std.proofs.lemmas.List.{take_more, take-append-drop}
 use Rattle.std.proofs.lemmas.List.Sums.{sum_by_more, sum_by-take-le}
 use Rattle.std.proofs.lemmas.Grind.{flat_map-append}
 use Rattle.plane_terms.specs.Lists.{Every, IsThose, how_many}
-use Rattle.plane_terms.proofs.ListLemmas.{every_map}
 use Rattle.topology_terms.specs.Feature.{Feature, by_handle, feature_at, IsAscending}
 use Rattle.topology_terms.specs.Broken.{Row, judged}
 use Rattle.topology_terms.specs.Project.{InForce}
@@ -17,7 +16,8 @@ use Rattle.sound_laws.proofs.Keyed.{at_own, after_later}
 use Rattle.sound_laws.proofs.FeatureLists.{handles, at_handle, past_handle, none_below, handle_of, same_features}
 use Rattle.validation_laws.specs.Parts.{IsRising, live_of}
 use Rattle.topology_terms.specs.Counts.{raised, judged_of}
-use Rattle.validation_laws.proofs.Handles.{IsAmong, below_each, among, contained, among_or_not}
+use Rattle.validation_laws.proofs.Handles.{below_each, among, among_or_not}
+use Rattle.plane_terms.proofs.ListLemmas.{every_map, IsAmong, contains_among}
 
 -- ---- counts that stop
 pub raised_more : (n j k : ℕ) → raised (raised n j) k ≡ raised n (j + k)
@@ -196,9 +196,9 @@ those_found P known (f ∷ F) (g ∷ gs) u t = elim (known f.handle) [
 
 pub live_those : (P : ℕ → Type 0) (F : List Feature) (selected : List ℕ) → IsAscending F → IsRising selected → ((a : ℕ) → Contains selected a ↔ P a) → IsThose (λ (f : Feature). P f.handle) F (live_of F selected)
 live_those P F selected u v is = those_found P
-    (λ h. elim (among_or_not h selected) [ inl m ↦ inl ((is h).0 (contained h selected m)) | inr d ↦ inr (λ k. d (among h selected ((is h).1 k))) ])
+    (λ h. elim (among_or_not h selected) [ inl m ↦ inl ((is h).0 (contains_among selected h m)) | inr d ↦ inr (λ k. d (among h selected ((is h).1 k))) ])
     F (live_of F selected) u (record {
       ascending = live_ascends F selected v;
       has = λ h k. live_has F selected h v (among h selected ((is h).1 k));
-      lacks = λ h d. live_lacks F selected h (λ m. d ((is h).0 (contained h selected m)));
+      lacks = λ h d. live_lacks F selected h (λ m. d ((is h).0 (contains_among selected h m)));
     })

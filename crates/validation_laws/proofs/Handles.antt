@@ -2,13 +2,10 @@
 use Rattle.std.proofs.Common.{◌≡◌, ◌≢◌, ◌⊎◌, inl, inr, ℕ, ◌<◌, zero, suc, arith, List, [], ◌∷◌, sym, Contains, length, get_or}
 use Rattle.std.specs.List.Sorted.{IsStrictlyIncreasing}
 use Rattle.std.proofs.lemmas.List.Kept.{AllPairs-from_increasing}
-use Rattle.plane_terms.specs.Lists.{Every, SomeOf}
+use Rattle.plane_terms.specs.Lists.{Every}
+use Rattle.plane_terms.proofs.ListLemmas.{IsAmong, among_at}
 use Rattle.sound_laws.proofs.Edits.{same_or_not}
 use Rattle.validation_laws.specs.Parts.{IsRising}
-
--- the number is among them
-abbrev pub IsAmong : ℕ → List ℕ → Type 0
-IsAmong a ns = SomeOf (λ (n : ℕ). a ≡ n) ns
 
 pub among_or_not : (a : ℕ) (ns : List ℕ) → IsAmong a ns ⊎ ¬ (IsAmong a ns)
 among_or_not a [] = inr (λ h. h)
@@ -18,19 +15,7 @@ among_or_not a (n ∷ ns) = elim (same_or_not a n) [
 ]
 
 pub among : (a : ℕ) (ns : List ℕ) → Contains ns a → IsAmong a ns
-among a ns h = at_index a ns h.0 h.1 h.2
-  where
-    at_index : (a : ℕ) (ns : List ℕ) (k : ℕ) → k < length ns → get_or ns k a ≡ a → IsAmong a ns
-    at_index a [] k l e = absurd (omega arith)
-    at_index a (n ∷ ns) zero l e = inl (sym e)
-    at_index a (n ∷ ns) (suc k) l e = inr (at_index a ns k (omega arith) e)
-
-pub contained : (a : ℕ) (ns : List ℕ) → IsAmong a ns → Contains ns a
-contained a [] h = absurd h
-contained a (n ∷ ns) h = elim h [
-  | inl e ↦ (0, omega arith, sym e)
-  | inr k ↦ let r = contained a ns k in (suc r.0, omega (arith, r.1), r.2)
-]
+among a ns h = among_at ns h.0 a h.1 h.2
 
 -- a number below all is below each
 pub below_each : (a b : ℕ) (ns : List ℕ) → Every (λ (n : ℕ). a < n) ns → IsAmong b ns → a < b

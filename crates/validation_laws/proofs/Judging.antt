@@ -3,7 +3,6 @@ use Rattle.std.proofs.Common.{◌≡◌, ◌⊎◌, inl, inr, ℕ, ◌<◌, Bool
 use Rattle.std.specs.Prelude.{◌==◌}
 use Rattle.std.proofs.lemmas.Bool.Decides.{nat_tests, eqb_tells}
 use Rattle.plane_terms.specs.Lists.{Every, SomeOf, Paired}
-use Rattle.plane_terms.proofs.ListLemmas.{every_append, every_map}
 use Rattle.topology_terms.specs.Feature.{Feature, feature_at}
 use Rattle.topology_terms.specs.Broken.{Row}
 use Rattle.topology_terms.specs.Meaning.{Meaning, Finding, finding_at}
@@ -15,7 +14,8 @@ use Rattle.sound_laws.proofs.Lists.{keys, Lacks, none_at, past_front, before_bac
 use Rattle.validation_laws.specs.Parts.{IsRising, AreInOrder, IsJoined, IsNewEntry, IsSubjectPart, IsJudging}
 use Rattle.validation_laws.specs.Replaced.{IsNewOf, AreFresh}
 use Rattle.validation_laws.proofs.Joining.{of_other_rule, of_other_subject}
-use Rattle.validation_laws.proofs.Handles.{IsAmong, below_each, contained}
+use Rattle.validation_laws.proofs.Handles.{below_each}
+use Rattle.plane_terms.proofs.ListLemmas.{every_append, every_map, IsAmong, contains_among}
 
 pub given_or_none : {A : Type 0} (o : Option A) → ((x : A) × (o ≡ Some x)) ⊎ (o ≡ None)
 given_or_none None = inr refl
@@ -169,7 +169,7 @@ module _ (M : Meaning) (F : List Feature) (selected : List ℕ) where
 
   -- they have no mark and are of selected subjects
   pub judging_fresh : (rules : List InForce) (es : List Entry) → IsJudging M F rules selected es → AreFresh selected es
-  judging_fresh rules es h = every_map (OfRules rules selected) (IsNewOf selected) (λ e k. record { unmarked = k.2; chosen = contained e.subject selected k.1 }) es (rules_of rules es h)
+  judging_fresh rules es h = every_map (OfRules rules selected) (IsNewOf selected) (λ e k. record { unmarked = k.2; chosen = contains_among selected e.subject k.1 }) es (rules_of rules es h)
 
   -- a rule that is not in force has none
   pub judging_idle : (rules : List InForce) (es : List Entry) (r a b : ℕ) → IsJudging M F rules selected es → rule_at rules r ≡ None → entry_at es r a b ≡ None

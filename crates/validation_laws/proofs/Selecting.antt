@@ -3,7 +3,6 @@ use Rattle.std.proofs.Common.{◌≡◌, ◌↔◌, ◌⊎◌, inl, inr, ℕ, �
 use Rattle.std.specs.Prelude.{if◌then◌else◌, IsTrue, ◌==◌}
 use Rattle.std.proofs.lemmas.List.{take_more}
 use Rattle.plane_terms.specs.Lists.{SomeOf}
-use Rattle.plane_terms.proofs.ListLemmas.{SomeOf-append_left, SomeOf-append_right, SomeOf-either}
 use Rattle.plane_terms.specs.Point.{Point}
 use Rattle.plane_terms.specs.Rectangle.{Rectangle, RectHolds}
 use Rattle.plane_terms.specs.Dirt.{MeetsPart}
@@ -17,7 +16,8 @@ use Rattle.sound_laws.proofs.Keyed.{some_found, found_some}
 use Rattle.sound_laws.proofs.FeatureLists.{handles, handle_of}
 use Rattle.sound_laws.proofs.Lists.{keys, entry_key}
 use Rattle.validation_laws.specs.Picked.{ArePicked}
-use Rattle.validation_laws.proofs.Handles.{IsAmong, among, contained}
+use Rattle.validation_laws.proofs.Handles.{among}
+use Rattle.plane_terms.proofs.ListLemmas.{SomeOf-append_left, SomeOf-append_right, SomeOf-either, IsAmong, contains_among}
 
 -- ---- picked along a list
 in_choice : (a h : ℕ) (t : Bool) → IsAmong a (if t then h ∷ [] else []) → (t ≡ true) × (a ≡ h)
@@ -40,10 +40,10 @@ picked_more {X} P number xs i x before out new t h l e decides is was grown a =
     let last = if t then h ∷ [] else [] in
     rw (more, grown) (
       (λ c. elim (SomeOf-either (λ (n : ℕ). a ≡ n) out last (among a (out ++ last) c)) [
-        | inl k ↦ elim ((was a).0 (contained a out k)) [ inl m ↦ inl m | inr m ↦ inr (SomeOf-append_left Q (take i xs) (x ∷ []) m) ]
+        | inl k ↦ elim ((was a).0 (contains_among out a k)) [ inl m ↦ inl m | inr m ↦ inr (SomeOf-append_left Q (take i xs) (x ∷ []) m) ]
         | inr k ↦ let y = in_choice a h t k in inr (SomeOf-append_right Q (take i xs) (x ∷ []) (inl (sym is ∙ sym y.1, decides.0 y.0)))
       ]),
-      (λ s. contained a (out ++ last) (elim s [
+      (λ s. contains_among (out ++ last) a (elim s [
         | inl k ↦ SomeOf-append_left (λ (n : ℕ). a ≡ n) out last (among a out ((was a).1 (inl k)))
         | inr k ↦ elim (SomeOf-either Q (take i xs) (x ∷ []) k) [
           | inl m ↦ SomeOf-append_left (λ (n : ℕ). a ≡ n) out last (among a out ((was a).1 (inr m)))

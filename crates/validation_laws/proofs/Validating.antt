@@ -14,7 +14,8 @@ use Rattle.sound_laws.proofs.States.{validated_state}
 use Rattle.sound_laws.proofs.Settling.{validated_by_cut, validated_settled}
 use Rattle.validation_laws.specs.Parts.{IsRising, IsJudging}
 use Rattle.validation_laws.specs.Replaced.{IsReplaced}
-use Rattle.validation_laws.proofs.Handles.{among, contained, among_or_not}
+use Rattle.validation_laws.proofs.Handles.{among, among_or_not}
+use Rattle.plane_terms.proofs.ListLemmas.{contains_among}
 use Rattle.validation_laws.proofs.Judging.{given_or_none, found_alike, judging_part, judging_idle}
 use Rattle.validation_laws.proofs.Replacing.{alike_remarked, none_remarked, mark_remarked}
 
@@ -64,7 +65,7 @@ validated_by_parts M w old new selected fresh v u rest made = record {
   next = rest.next;
   dirt = made.dirt;
   each = λ a. elim (among_or_not a selected) [
-    | inl i ↦ let c = contained a selected i in inl ((made.chosen a).0 c, anew M old new selected fresh a v u made.judging made.replaced c)
+    | inl i ↦ let c = contains_among selected a i in inl ((made.chosen a).0 c, anew M old new selected fresh a v u made.judging made.replaced c)
     | inr n ↦ inr ((λ x. n (among a selected ((made.chosen a).1 x))), λ r b. made.replaced.kept r a b (λ c. n (among a selected c)))
   ];
   marks = λ r a b e s k.

@@ -12,7 +12,7 @@ use Rattle.plane_terms.specs.Shape.{Shape, last_of, shape_of, ring_by, without_r
 use Rattle.plane_terms.specs.declared.kind.Kind.{Kind}
 use Rattle.plane_terms.specs.declared.kind.Kind.TheVariants as kind
 use Rattle.shape.proofs.Opening.{closing_dropped, open_end}
-use Rattle.shape.proofs.Places.{same_is}
+use Rattle.cell_laws.proofs.AtPlaces.{is_same}
 use Rattle.wkt_terms.specs.Grammar.{APoint, IsSome, AreSome, IsFull}
 use Rattle.wkt_terms.specs.Shapes.{is_closed, shape_in, AreClosed, IsShapeText, closed, of_lines, of_polygons, shape_text}
 use Rattle.wkt_terms.specs.Written.{IsInGrid}
@@ -57,7 +57,7 @@ opened_same p ps h =
 closed_again : (ring : List Place) → IsRing kind.Polygon ring → ring_by kind.Polygon (closed ring) ≡ ring
 closed_again [] h = absurd (omega (arith, h.0))
 closed_again (p ∷ ps) h =
-    ap opened (kept (p ∷ ps ++ p ∷ []) h.1) ∙ (closing_dropped p p ps (same_is p p refl) ∙ opened_same p ps h)
+    ap opened (kept (p ∷ ps ++ p ∷ []) h.1) ∙ (closing_dropped p p ps (is_same p p refl) ∙ opened_same p ps h)
 
 last_is : (p : Place) (ps : List Place) (x : Place) → last_of p (ps ++ x ∷ []) ≡ x
 last_is p [] x = refl
@@ -65,7 +65,7 @@ last_is p (q ∷ qs) x = last_is q qs x
 
 closed_is_closed : (ring : List Place) → is_closed (closed ring) ≡ true
 closed_is_closed [] = refl
-closed_is_closed (p ∷ ps) = same_is p (last_of p (ps ++ p ∷ [])) (sym (last_is p ps p))
+closed_is_closed (p ∷ ps) = is_same p (last_of p (ps ++ p ∷ [])) (sym (last_is p ps p))
 
 closed_in_reach : (ring : List Place) → Every IsInReach ring → Every IsInReach (closed ring)
 closed_in_reach [] h = tt
