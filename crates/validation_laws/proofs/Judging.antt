@@ -15,11 +15,8 @@ use Rattle.validation_laws.specs.Parts.{IsRising, AreInOrder, IsJoined, IsNewEnt
 use Rattle.validation_laws.specs.Replaced.{IsNewOf, AreFresh}
 use Rattle.validation_laws.proofs.Joining.{of_other_rule, of_other_subject}
 use Rattle.validation_laws.proofs.Handles.{below_each}
+use Rattle.plane_terms.proofs.Truths.{there_or_not}
 use Rattle.plane_terms.proofs.ListLemmas.{every_append, every_map, IsAmong, contains_among}
-
-pub given_or_none : {A : Type 0} (o : Option A) → ((x : A) × (o ≡ Some x)) ⊎ (o ≡ None)
-given_or_none None = inr refl
-given_or_none (Some x) = inl (x, refl)
 
 -- ---- the entries of findings
 abbrev pub OfSubject : ℕ → ℕ → Entry → Type 0
@@ -65,13 +62,13 @@ found_alike r a f (x ∷ xs) (e ∷ es) h b =
 
 -- ---- a subject
 subject_of : (M : Meaning) (F : List Feature) (r : ℕ) (row : Row) (a : ℕ) (es : List Entry) → IsSubjectPart M F r row a es → Every (OfSubject r a) es
-subject_of M F r row a es h = elim (given_or_none (feature_at F a)) [
+subject_of M F r row a es h = elim (there_or_not (feature_at F a)) [
   | inl f ↦ let l = h.live f.0 f.1 in found_of r a f.0 l.0 es l.3
   | inr n ↦ rw (h.dead n) tt
 ]
 
 subject_ascends : (M : Meaning) (F : List Feature) (r : ℕ) (row : Row) (a : ℕ) (es : List Entry) → IsSubjectPart M F r row a es → IsAscending es
-subject_ascends M F r row a es h = elim (given_or_none (feature_at F a)) [
+subject_ascends M F r row a es h = elim (there_or_not (feature_at F a)) [
   | inl f ↦ let l = h.live f.0 f.1 in found_ascend r a f.0 l.0 es l.2 l.3
   | inr n ↦ rw (h.dead n) tt
 ]

@@ -16,8 +16,9 @@ use Rattle.validation_laws.specs.Parts.{IsRising, IsJudging}
 use Rattle.validation_laws.specs.Replaced.{IsReplaced}
 use Rattle.validation_laws.proofs.Handles.{among, among_or_not}
 use Rattle.plane_terms.proofs.ListLemmas.{contains_among}
-use Rattle.validation_laws.proofs.Judging.{given_or_none, found_alike, judging_part, judging_idle}
+use Rattle.validation_laws.proofs.Judging.{found_alike, judging_part, judging_idle}
 use Rattle.validation_laws.proofs.Replacing.{alike_remarked, none_remarked, mark_remarked}
+use Rattle.plane_terms.proofs.Truths.{there_or_not}
 
 none_in : (es : List Entry) (r a b : ℕ) → es ≡ [] → entry_at es r a b ≡ None
 unfolding entry_at
@@ -37,7 +38,7 @@ anew M old new selected fresh a v u j k c = record {
 }
   where
     gone : feature_at old.features a ≡ None → (r b : ℕ) → entry_at fresh r a b ≡ None
-    gone e r b = elim (given_or_none (rule_at old.rules r)) [
+    gone e r b = elim (there_or_not (rule_at old.rules r)) [
       | inl q ↦ let part = judging_part M old.features selected old.rules fresh r q.0 a v u j q.1 (among a selected c) in part.2 b ∙ none_in part.0 r a b (part.1.dead e)
       | inr n ↦ judging_idle M old.features selected old.rules fresh r a b j n
     ]
