@@ -1,8 +1,21 @@
 // Cells inside and outside of polygons that were counted by hand.
-use crate::given::{place, ring};
+use crate::given::place;
 use column_cut::{inside, outside};
+use grid_plane::Seg;
 use plain_shapes::is_inside;
+use std::alloc::Global;
 use std::test::Fail;
+
+// The segments from each vertex to the next, and from the last to the first.
+fn ring(alloc: Global, vertices: &[(i64, i64)]) -> Result<Vec<Seg>, Fail> {
+    let mut segments = Vec::new(alloc);
+    let nexts = vertices.iter().skip(1).chain(vertices.iter().take(1));
+    for ((x, y), (u, v)) in vertices.iter().zip(nexts) {
+        let segment = Seg::of(place(*x, *y)?, place(*u, *v)?).ok_or("one place")?;
+        segments.push(segment)?;
+    }
+    Ok(segments)
+}
 
 // One cell inside, which is the whole column; outside two sides, two slots in the column and two stretches on each wall.
 #[test]
