@@ -1,4 +1,4 @@
-pub pub mod Places
+pub mod Places
 pub mod Nears
 pub mod Findings
 pub mod Envelopes
