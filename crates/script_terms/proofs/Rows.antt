@@ -82,10 +82,6 @@ lots_of_points = refl
 no_such_class : refusal_of open_ann (Rule kind.PointMustBeDisjoint (codes "roads") None) ≡ Some (Change NoClass)
 no_such_class = refl
 
--- a rule that is not built yet is none before its classes are looked at
-unbuilt_rule : refusal_of open_ann (Rule kind.LineMustNotOverlap (codes "roads") None) ≡ Some not_built
-unbuilt_rule = refl
-
 no_such_rule : refusal_of open_ann (DropRule 2) ≡ Some (Change NoRule)
 unfolding rule_at
 no_such_rule = refl
