@@ -8,7 +8,7 @@ from xml.sax.saxutils import escape
 
 COLUMNS, WIDTH, FIGURE, CELL, GAP, EDGE = 6, 212, 136, 244, 18, 28
 SHEET = EDGE * 2 + COLUMNS * WIDTH + (COLUMNS - 1) * GAP
-LETTERS = 37
+NAME, LETTERS = 25, 37
 INK, GREY, PALE = '#222222', '#666666', '#d8d8d8'
 LEGEND = ('blue: features, each with its handle; red: where the rule is broken, a side that does not belong to it dashed; '
           'long dashes: the frame of a feature that breaks its rule as a whole')
@@ -37,9 +37,9 @@ def cell(name: str, rule: Rule, drawn: str, x: int, y: int) -> Iterator[str]:
     yield '<a href="%s.md">' % name
     yield '<rect x="%d" y="%d" width="%d" height="%d" fill="none" stroke="%s"/>' % (x, y, WIDTH, FIGURE, PALE)
     yield from figure(drawn, x, y)
-    for k, part in enumerate(textwrap.wrap(rule['name'], 30)):
+    for k, part in enumerate(textwrap.wrap(rule['name'], NAME)):
         yield word(x, y + FIGURE + 18 + 14 * k, 13, part, more=' font-weight="bold"')
-    y += FIGURE + 18 + 14 * len(textwrap.wrap(rule['name'], 30))
+    y += FIGURE + 18 + 14 * len(textwrap.wrap(rule['name'], NAME))
     if second != 'none':
         yield word(x, y, 10, 'second class: %ss' % second, GREY)
         y += 14
