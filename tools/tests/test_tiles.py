@@ -1,4 +1,4 @@
-"""tools/tiles: the merged errors of 16 tiles of a town are those of one run over all, under all rules that are built."""
+"""tools/tiles: the merged errors of 16 tiles of a town are those of one run over all, under all rules."""
 import os
 import shlex
 import shutil
