@@ -10,7 +10,7 @@ use Rattle.topology_terms.specs.Feature.{Feature, sides, env}
 use Rattle.topology_terms.specs.Cells.{box_meets, out_of_segments}
 use Rattle.rule_laws.proofs.Envelopes.{BothEnds, LiesIn, segments_ends}
 
-box_within : (t : Segment) (r : Rectangle) → BothEnds (LiesIn r) t → IsWithin (box_of t) r
+pub box_within : (t : Segment) (r : Rectangle) → BothEnds (LiesIn r) t → IsWithin (box_of t) r
 box_within t r h = let a = h.0 in let b = h.1 in record {
   left = a.left;
   right = b.right;

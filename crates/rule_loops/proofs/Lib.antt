@@ -1,3 +1,6 @@
 mod Boxes
 mod Carved
 mod More
+mod Once
+mod Seen
+mod Spots

@@ -24,7 +24,7 @@ use Rattle.rule_loops.proofs.Carved.{uncovered-append, stopped}
 kept_apart : {A : Type 0} (test : A → Bool) (F : List A) (i : ℕ) → filter test F ≡ filter test (take i F) ++ filter test (drop i F)
 kept_apart test F i = ap (filter test) (sym (take-append-drop i F)) ∙ filter-append test (take i F) (drop i F)
 
-class_more : (n : ℕ) (F : List Feature) (i : ℕ) (g : Feature) (b : Bool) → slice_get F i ≡ Some g → (g.class == n) ≡ b
+pub class_more : (n : ℕ) (F : List Feature) (i : ℕ) (g : Feature) (b : Bool) → slice_get F i ≡ Some g → (g.class == n) ≡ b
     → of_class n (take (i + 1) F) ≡ of_class n (take i F) ++ cond b (g ∷ []) []
 class_more n F i g b e t = kept_more (λ (h : Feature). h.class == n) F i g b e t
 

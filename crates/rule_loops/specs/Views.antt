@@ -3,10 +3,13 @@
 -- of_class n F         the features of F whose class is n
 -- later_of n f g       g is of the class n, and its handle is above that of f
 -- other_of n f g       g is of the class n, and is not f
+-- round_of n q g       g is of the class n, and its envelope holds the place q
+-- up_to_three n        n, or 3 where it is more: no rule asks for more than two of a place
 -- beside n s g         g is of the class n, and its envelope meets the box of the segment s
 -- left_of_segment gs s what the features gs leave of the segment s: one of the lists of `sides_left`
-use Rattle.std.specs.Prelude.{ℕ, nat_lt, not, Bool, ◌==◌, ◌&&◌, List, [], ◌∷◌, flat_map, filter}
-use Rattle.plane_terms.specs.Rectangle.{rects_meet}
+use Rattle.std.specs.Prelude.{ℕ, nat_lt, not, Bool, ◌==◌, ◌&&◌, List, [], ◌∷◌, flat_map, filter, if◌then◌else◌}
+use Rattle.plane_terms.specs.Point.{Place}
+use Rattle.plane_terms.specs.Rectangle.{rects_meet, rect_at, is_within}
 use Rattle.plane_terms.specs.Segment.{Segment, box_of}
 use Rattle.plane_terms.specs.Cell.{Cell, on_segment}
 use Rattle.topology_terms.specs.Feature.{Feature, sides, env}
@@ -20,6 +23,12 @@ later_of n f g = g.class == n && nat_lt f.handle g.handle
 
 abbrev pub other_of : ℕ → Feature → Feature → Bool
 other_of n f g = g.class == n && not (g.handle == f.handle)
+
+abbrev pub round_of : ℕ → Place → Feature → Bool
+round_of n q g = g.class == n && is_within (rect_at q) (env g)
+
+abbrev pub up_to_three : ℕ → ℕ
+up_to_three n = if nat_lt n 3 then n else 3
 
 abbrev pub beside : ℕ → Segment → Feature → Bool
 beside n s g = g.class == n && rects_meet (box_of s) (env g)

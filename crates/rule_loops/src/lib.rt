@@ -2,15 +2,23 @@
 #![tactic(auto)]
 
 mod area;
+mod around;
+mod bad;
 mod common;
+mod counts;
 mod gaps;
+mod partners;
+mod places;
 mod polygon;
 mod sides;
 mod single;
 
 pub use area::area_left;
+pub use around::{AtPlace, EndThere, InsideThere, PointThere, SideThere, contains, none_there};
+pub use bad::{Bad, Dangle, NoneThere, PseudoNode, bad_ends, bad_place};
 pub use common::{Common, with_class, with_later};
 pub use gaps::gap_cells;
-pub use polygon::{boundary_of, inside_of, outside_of};
+pub use partners::{Test, any_passes, whole_without};
+pub use polygon::{boundary_of, closed_cells, covers, inside_of, outside_of};
 pub use sides::sides_left;
-pub use single::found;
+pub use single::{found, whole_finding};

@@ -2,7 +2,9 @@ ghost use Rattle.std.specs.Prelude.{◌≡◌, map, IfOk};
 ghost use Rattle.plane_terms.specs.Cell.{on_segment};
 ghost use Rattle.plane_terms.specs.Segment.{Segment};
 ghost use Rattle.topology_terms.specs.Feature.{sides};
+ghost use Rattle.plane_terms.specs.Carve.{carve_of};
 ghost use Rattle.topology_terms.specs.Cells as terms;
+ghost use Rattle.topology_terms.specs.Tests as tests;
 
 use column_cut::{inside, outside};
 use convex_cell::{Cell, Cells};
@@ -43,4 +45,28 @@ pub fn boundary_of(alloc: Global, polygon: &Feature) -> Result<Cells, NoMemory>
     ensures { IfOk result (λ cells. cells ≡ map {A = Segment} on_segment (sides polygon.now)) }
 {
     on_segments(alloc, polygon.shape().segs())
+}
+
+/// The cells of a polygon's inside, then those of its boundary.
+pub fn closed_cells(alloc: Global, polygon: &Feature, work: &mut Work) -> Result<Cells, NoMemory>
+    ensures cells { IfOk result (λ cells. cells ≡ tests.closed_cells polygon.now) }
+    ensures uncounted { work.new ≡ work.old }
+{
+    let mut cells = inside_of(alloc, polygon, work)?;
+    cells.append(boundary_of(alloc, polygon)?)?;
+    Ok(cells)
+}
+
+/// Whether the polygon covers these cells: no point of them is closed out of it.
+pub fn covers(
+    alloc: Global,
+    polygon: &Feature,
+    cells: &Cells,
+    work: &mut Work,
+) -> Result<bool, NoMemory>
+    ensures covers { IfOk result (λ covered. covered ≡ tests.is_empty (carve_of cells.now (terms.outside polygon.now))) }
+    ensures uncounted { work.new ≡ work.old }
+{
+    let left = cells.carve(alloc, &outside_of(alloc, polygon, work)?)?;
+    Ok(left.len() == 0)
 }

@@ -1,4 +1,4 @@
-ghost use Rattle.std.specs.Prelude.{◌≡◌, ◌<◌, ◌++◌, IfOk, OnOk};
+ghost use Rattle.std.specs.Prelude.{◌≡◌, ◌<◌, [], ◌++◌, IfOk, OnOk, if◌then◌else◌};
 ghost use Rattle.plane_terms.specs.Lists.{Every};
 ghost use Rattle.topology_terms.specs.Meaning as terms;
 ghost use Rattle.topology_terms.specs.Plans as plans;
@@ -29,5 +29,20 @@ pub fn found(alloc: Global, cells: Cells) -> Result<Findings, NoMemory>
 {
     let mut findings = Findings::new(alloc);
     push_cells(&mut findings, 0, cells)?;
+    Ok(findings)
+}
+
+/// One finding of the whole subject, without a partner, where the rule is broken; none where it is not.
+pub fn whole_finding(alloc: Global, broken: bool) -> Result<Findings, NoMemory>
+    ensures { IfOk result (λ xs. xs ≡ if broken then plans.whole_finding else []) }
+{
+    let mut findings = Findings::new(alloc);
+    if broken {
+        findings.push(Finding {
+            other: 0,
+            whole: true,
+            cells: Cells::new(alloc),
+        })?;
+    }
     Ok(findings)
 }

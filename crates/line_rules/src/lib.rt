@@ -1,0 +1,12 @@
+// The rules of lines: where they meet, and their ends.
+#![tactic(auto)]
+
+mod line_endpoint_must_be_covered_by;
+mod line_must_be_single_part;
+mod line_must_not_have_dangles;
+mod line_must_not_have_pseudo_nodes;
+
+pub use line_endpoint_must_be_covered_by::LineEndpointMustBeCoveredBy;
+pub use line_must_be_single_part::LineMustBeSinglePart;
+pub use line_must_not_have_dangles::LineMustNotHaveDangles;
+pub use line_must_not_have_pseudo_nodes::LineMustNotHavePseudoNodes;

@@ -1,0 +1,66 @@
+ghost use Rattle.plane_terms.specs.Carve.{carve_of};
+ghost use Rattle.topology_terms.specs.Cells.{outside};
+ghost use Rattle.topology_terms.specs.Tests.{is_empty};
+ghost use Rattle.rule_words.specs.declared.rule_kind.RuleKind.TheVariants as kind;
+
+use convex_cell::Cells;
+use grid_plane::NoMemory;
+use rule_core::{Findings, View, Work};
+use rule_frames::{Kinded, Of};
+use rule_loops::{Test, closed_cells, covers, whole_without};
+use rule_words::RuleKind;
+use shape::Feature;
+use std::alloc::Global;
+use std::marker::Model;
+
+/// Must Be Covered By: some single polygon of the second class holds, inside or on its boundary, each point inside a polygon of
+/// the class or on its boundary. A polygon that none covers is marked as a whole.
+pub type PolygonMustBeCoveredBy = Of<NoCover>;
+
+/// What Must Be Covered By has of its own.
+pub struct NoCover;
+
+/// The cells of a polygon and of its boundary, which a partner may cover.
+#[derive(Drop)]
+struct ClosedPolygon {
+    cells: Cells,
+}
+
+impl Model for ClosedPolygon {
+    ghost use Rattle.std.specs.Prelude.{List};
+    ghost use Rattle.plane_terms.specs.Cell.{Cell};
+
+    ghost Value = { List Cell };
+
+    ghost view = { λ p. p.cells };
+}
+
+impl Test for ClosedPolygon {
+    ghost test = { λ cells g. is_empty (carve_of cells (outside g)) };
+
+    fn passes(&self, alloc: Global, partner: &Feature, work: &mut Work) -> Result<bool, NoMemory> {
+        covers(alloc, partner, &self.cells, work)
+    }
+}
+
+impl Kinded for NoCover {
+    ghost kind = { kind.PolygonMustBeCoveredBy };
+
+    fn kind() -> RuleKind {
+        RuleKind::PolygonMustBeCoveredBy
+    }
+
+    fn cut(
+        alloc: Global,
+        _origin: u16,
+        dest: u16,
+        subject: &Feature,
+        view: &View<'_>,
+        work: &mut Work,
+    ) -> Result<Findings, NoMemory> {
+        let polygon = ClosedPolygon {
+            cells: closed_cells(alloc, subject, work)?,
+        };
+        whole_without(alloc, &polygon, dest, view, work)
+    }
+}

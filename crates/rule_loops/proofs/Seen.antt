@@ -1,0 +1,149 @@
+-- Over a view: whether a feature of the class passes a test, and how many of all their segments or ends do.
+use Rattle.std.proofs.Common.{◌≡◌, ℕ, ◌+◌, ◌<◌, ◌≤◌, Bool, true, false, List, [], ◌∷◌, ◌++◌, Some, refl, sym, ◌∙◌, ap, take, length, get_or, cond, append-nil, arith}
+use Rattle.std.specs.Prelude.{slice_get, nat_lt, not, ◌==◌, ◌&&◌, ◌||◌, flat_map, if◌then◌else◌}
+use Rattle.std.specs.List.{filter, list_any}
+use Rattle.std.proofs.lemmas.Grind.{flat_map-append}
+use Rattle.std.proofs.lemmas.Int.{ints}
+use Rattle.std.proofs.lemmas.Bool.{false≢true}
+use Rattle.std.proofs.lemmas.Bool.Decides.{nat_tests}
+use Rattle.std.proofs.lemmas.List.Folds.{list_any_more, list_any_at}
+use Rattle.std.proofs.lemmas.List.{take_all}
+use Rattle.std.proofs.lemmas.Option.{get_or_from_slice_get, slice_get_within}
+use Rattle.plane_terms.specs.Lists.{Every, how_many}
+use Rattle.plane_terms.specs.Point.{Place, same_place}
+use Rattle.plane_terms.specs.Rectangle.{Rectangle, IsWithin, rect_at, is_within}
+use Rattle.plane_terms.specs.Segment.{Segment, box_of}
+use Rattle.plane_terms.specs.Line.{holds_place, box_holds}
+use Rattle.topology_terms.specs.Feature.{Feature, sides, env}
+use Rattle.topology_terms.specs.Together.{ends}
+use Rattle.topology_terms.specs.Tests.{segments_at, ends_at}
+use Rattle.rule_laws.proofs.Envelopes.{BothEnds, LiesIn, segments_ends, ends_in}
+use Rattle.rule_laws.proofs.Tests.{same_is}
+use Rattle.rule_loops.specs.Views.{of_class, round_of, up_to_three}
+use Rattle.rule_loops.proofs.Boxes.{box_within}
+use Rattle.rule_loops.proofs.More.{class_more}
+use Rattle.rule_loops.proofs.Spots.{same_by_truth, many_append}
+
+-- ---- one that passes
+-- of those kept, one passes where one of all is kept and passes
+pub any_kept : {A : Type 0} (kept test : A → Bool) (xs : List A) → list_any test (filter kept xs) ≡ list_any (λ x. kept x && test x) xs
+any_kept kept test [] = refl
+any_kept {A} kept test (x ∷ xs) = pick (kept x) (any_kept kept test xs)
+  where
+    pick : (b : Bool) → list_any test (filter kept xs) ≡ list_any (λ x. kept x && test x) xs
+        → list_any test (cond b (x ∷ filter kept xs) (filter kept xs)) ≡ ((b && test x) || list_any (λ x. kept x && test x) xs)
+    pick true e = rw e refl
+    pick false e = e
+
+pub any_there : {A : Type 0} (test : A → Bool) (xs : List A) (i : ℕ) (x : A) → slice_get xs i ≡ Some x → test x ≡ true → list_any test xs ≡ true
+any_there test xs i x e t =
+    let there : get_or xs i x ≡ x = get_or_from_slice_get xs i x x e in
+    list_any_at test xs i x (slice_get_within xs i x e) (rw there t)
+
+pub none_more : {A : Type 0} (test : A → Bool) (xs : List A) (i : ℕ) (x : A) → slice_get xs i ≡ Some x → test x ≡ false
+    → list_any test (take i xs) ≡ false → list_any test (take (i + 1) xs) ≡ false
+none_more test xs i x e t h =
+    let there : get_or xs i x ≡ x = get_or_from_slice_get xs i x x e in
+    list_any_more test xs i x (slice_get_within xs i x e) ∙ rw (h, there, t) refl
+
+pub none_in_all : {A : Type 0} (test : A → Bool) (xs : List A) (i : ℕ) → length xs ≤ i → list_any test (take i xs) ≡ false → list_any test xs ≡ false
+none_in_all test xs i l h = ap (list_any test) (sym (take_all i xs l)) ∙ h
+
+-- ---- up to three
+pub three_more : (m n : ℕ) → up_to_three (up_to_three m + up_to_three n) ≡ up_to_three (m + n)
+three_more m n = grind (arith, nat_tests)
+
+pub three_is : (m n k : ℕ) → m ≡ up_to_three n → k < 3 → (m == k) ≡ (n == k)
+three_is m n k e l = grind (arith, nat_tests)
+
+-- ---- how many of all
+module _ {A : Type 0} (test : A → Bool) (items : Feature → List A) (n : ℕ) (V : List Feature) (i : ℕ) (g : Feature) (e : slice_get V i ≡ Some g) where
+  all_with : (b : Bool) → (g.class == n) ≡ b → how_many test (flat_map items (of_class n (take (i + 1) V)))
+      ≡ how_many test (flat_map items (of_class n (take i V))) + how_many test (flat_map items (cond b (g ∷ []) []))
+  all_with b t =
+      ap (λ gs. how_many test (flat_map items gs)) (class_more n V i g b e t)
+      ∙ (ap (how_many test) (flat_map-append items (of_class n (take i V)) (cond b (g ∷ []) []))
+      ∙ many_append test (flat_map items (of_class n (take i V))) (flat_map items (cond b (g ∷ []) [])))
+
+  pub all_more : (g.class == n) ≡ true → how_many test (flat_map items (of_class n (take (i + 1) V)))
+      ≡ how_many test (flat_map items (of_class n (take i V))) + how_many test (items g)
+  all_more t = all_with true t
+      ∙ ap (λ xs. how_many test (flat_map items (of_class n (take i V))) + how_many test xs) (append-nil (items g))
+
+  pub all_same : (g.class == n) ≡ false → how_many test (flat_map items (of_class n (take (i + 1) V)))
+      ≡ how_many test (flat_map items (of_class n (take i V)))
+  all_same t = let a = all_with false t in omega (arith, a)
+
+-- those whose envelope does not hold the place have nothing there
+none_many : {A : Type 0} (test : A → Bool) (P : A → Type 0) → ((x : A) → P x → test x ≡ false) → (xs : List A) → Every P xs → how_many test xs ≡ 0
+none_many test P m [] u = refl
+none_many test P m (x ∷ xs) u = rw (m x u.0) (none_many test P m xs u.1)
+
+held_wider : (q : Place) (c r : Rectangle) → IsWithin c r → box_holds c q ≡ true → is_within (rect_at q) r ≡ true
+held_wider q c r w h = grind (arith, ints)
+
+and_right : (a b : Bool) → (a && b) ≡ true → b ≡ true
+and_right true b e = e
+and_right false b e = absurd (false≢true e)
+
+not_from : (b c : Bool) → (b ≡ true → c ≡ true) → c ≡ false → b ≡ false
+not_from true c m e = sym (m refl) ∙ e
+not_from false c m e = refl
+
+no_segment : (q : Place) (g : Feature) → is_within (rect_at q) (env g) ≡ false → how_many (λ t. holds_place t q) (sides g) ≡ 0
+no_segment q g n = none_many (λ (t : Segment). holds_place t q) (BothEnds (LiesIn (env g)))
+    (λ t b. not_from (holds_place t q) (is_within (rect_at q) (env g))
+    (λ h. held_wider q (box_of t) (env g) (box_within t (env g) b) (and_right _ (box_holds (box_of t) q) h)) n) (sides g)
+    (segments_ends g.shape)
+
+no_end : (q : Place) (g : Feature) → is_within (rect_at q) (env g) ≡ false → how_many (same_place q) (ends g) ≡ 0
+no_end q g n = none_many (same_place q) (LiesIn (env g))
+    (λ r b. not_from (same_place q r) (is_within (rect_at q) (env g)) (λ h. lies q r (same_is q r h) b) n) (ends g) (ends_in g.shape)
+  where
+    lies : (q r : Place) → q ≡ r → LiesIn (env g) r → is_within (rect_at q) (env g) ≡ true
+    lies q r e w = rw e (grind (arith, ints))
+
+module _ {A : Type 0} (test : A → Bool) (items : Feature → List A) (q : Place)
+    (none : (g : Feature) → is_within (rect_at q) (env g) ≡ false → how_many test (items g) ≡ 0) where
+  round_more : (n : ℕ) (V : List Feature) (i : ℕ) (g : Feature) (count : ℕ) → slice_get V i ≡ Some g → round_of n q g ≡ true
+      → count ≡ up_to_three (how_many test (flat_map items (of_class n (take i V))))
+      → up_to_three (count + up_to_three (how_many test (items g))) ≡ up_to_three (how_many test (flat_map items (of_class n (take (i + 1) V))))
+  round_more n V i g count e t h =
+      let before = how_many test (flat_map items (of_class n (take i V))) in
+      rw h (three_more before (how_many test (items g)) ∙ sym (ap up_to_three (all_more test items n V i g e (and_left _ _ t))))
+    where
+      and_left : (a b : Bool) → (a && b) ≡ true → a ≡ true
+      and_left true b e = refl
+      and_left false b e = absurd (false≢true e)
+
+  round_same : (n : ℕ) (V : List Feature) (i : ℕ) (g : Feature) (count : ℕ) → slice_get V i ≡ Some g → round_of n q g ≡ false
+      → count ≡ up_to_three (how_many test (flat_map items (of_class n (take i V))))
+      → count ≡ up_to_three (how_many test (flat_map items (of_class n (take (i + 1) V))))
+  round_same n V i g count e t h = h ∙ ap up_to_three (sym (by_class (g.class == n) refl t))
+    where
+      before : ℕ
+      before = how_many test (flat_map items (of_class n (take i V)))
+
+      by_class : (b : Bool) → (g.class == n) ≡ b → (b && is_within (rect_at q) (env g)) ≡ false
+          → how_many test (flat_map items (of_class n (take (i + 1) V))) ≡ before
+      by_class true c m = let a = all_more test items n V i g e c in let z = none g m in omega (arith, a, z)
+      by_class false c m = all_same test items n V i g e c
+
+-- segments, and ends
+pub segments_more : (q : Place) (n : ℕ) (V : List Feature) (i : ℕ) (g : Feature) (count : ℕ) → slice_get V i ≡ Some g → round_of n q g ≡ true
+    → count ≡ up_to_three (segments_at (of_class n (take i V)) q)
+    → up_to_three (count + up_to_three (how_many (λ t. holds_place t q) (sides g))) ≡ up_to_three (segments_at (of_class n (take (i + 1) V)) q)
+segments_more q = round_more (λ (t : Segment). holds_place t q) sides q (no_segment q)
+
+pub segments_same : (q : Place) (n : ℕ) (V : List Feature) (i : ℕ) (g : Feature) (count : ℕ) → slice_get V i ≡ Some g → round_of n q g ≡ false
+    → count ≡ up_to_three (segments_at (of_class n (take i V)) q) → count ≡ up_to_three (segments_at (of_class n (take (i + 1) V)) q)
+segments_same q = round_same (λ (t : Segment). holds_place t q) sides q (no_segment q)
+
+pub ends_more : (q : Place) (n : ℕ) (V : List Feature) (i : ℕ) (g : Feature) (count : ℕ) → slice_get V i ≡ Some g → round_of n q g ≡ true
+    → count ≡ up_to_three (ends_at (of_class n (take i V)) q)
+    → up_to_three (count + up_to_three (how_many (same_place q) (ends g))) ≡ up_to_three (ends_at (of_class n (take (i + 1) V)) q)
+ends_more q = round_more (same_place q) ends q (no_end q)
+
+pub ends_same : (q : Place) (n : ℕ) (V : List Feature) (i : ℕ) (g : Feature) (count : ℕ) → slice_get V i ≡ Some g → round_of n q g ≡ false
+    → count ≡ up_to_three (ends_at (of_class n (take i V)) q) → count ≡ up_to_three (ends_at (of_class n (take (i + 1) V)) q)
+ends_same q = round_same (same_place q) ends q (no_end q)

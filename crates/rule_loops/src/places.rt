@@ -1,0 +1,106 @@
+ghost use Rattle.std.specs.Prelude.{◌≡◌, ◌↔◌, ◌≤ℤ◌, ◌<ℤ◌, IsTrue};
+ghost use Rattle.plane_terms.specs.Lists.{how_many, is_odd};
+ghost use Rattle.plane_terms.specs.Line.{holds_place};
+ghost use Rattle.plane_terms.specs.Point.{same_place};
+ghost use Rattle.plane_terms.specs.Polygon.{counts};
+ghost use Rattle.plane_terms.proofs.Points.{point_at};
+ghost use Rattle.plane_terms.specs.Shape as planes;
+ghost use Rattle.topology_terms.specs.Tests as terms;
+
+use grid_plane::{GridPoint, Seg};
+use shape::Shape;
+
+// Whether the place is on the segment, its ends included. Its box is tried first.
+fn is_on(segment: &Seg, place: GridPoint) -> bool
+    ensures { result ≡ holds_place segment.now place }
+{
+    segment.env().holds_point(place) && segment.holds(place)
+}
+
+/// Whether one of the segments holds the place.
+pub fn holds_at(segments: &[Seg], place: GridPoint) -> bool
+    ensures { result ≡ terms.holds_at segments.now place }
+{
+    segments.iter().any(|segment| is_on(segment, place))
+}
+
+/// How many of the segments hold the place.
+pub fn count_on(segments: &[Seg], place: GridPoint) -> usize
+    ensures { result ≡ how_many (λ t. holds_place t place) segments.now }
+{
+    segments
+        .iter()
+        .filter(|segment| is_on(segment, place))
+        .count()
+}
+
+fn is_from_to(low: i32, v: i32, high: i32) -> bool
+    ensures { IsTrue result ↔ (low ≤ℤ v) × (v <ℤ high) }
+{
+    low <= v && v < high
+}
+
+// Whether the segment runs below the place: it begins at its abscissa or before, ends beyond, and has the place on its left.
+fn is_below(segment: &Seg, place: GridPoint) -> bool
+    ensures { result ≡ counts segment.now (point_at place) }
+{
+    is_from_to(segment.lo().x(), place.x(), segment.hi().x()) && segment.side(place) > 0
+}
+
+// Whether an odd number of the segments run below the place.
+fn are_odd_below(segments: &[Seg], place: GridPoint) -> bool
+    ensures { result ≡ is_odd (how_many (λ s. counts s (point_at place)) segments.now) }
+{
+    let mut odd = false;
+    for segment in segments {
+        if is_below(segment, place) {
+            odd = !odd;
+        }
+    }
+    odd
+}
+
+/// Whether the place is inside the polygon of these segments, not on its boundary.
+pub fn is_inside_at(segments: &[Seg], place: GridPoint) -> bool
+    ensures { result ≡ terms.is_inside_at segments.now place }
+{
+    !holds_at(segments, place) && are_odd_below(segments, place)
+}
+
+fn is_same(place: GridPoint, other: GridPoint) -> bool
+    ensures { result ≡ same_place place other }
+{
+    place == other
+}
+
+/// Whether the place is one of these.
+pub fn is_among(places: &[GridPoint], place: GridPoint) -> bool
+    ensures { result ≡ terms.has_end_at places.now place }
+{
+    places.iter().any(|other| is_same(place, *other))
+}
+
+/// Whether the place is an end of the line.
+pub fn has_end_at(line: &Shape, place: GridPoint) -> bool
+    ensures { result ≡ terms.has_end_at (planes.ends_of line.now) place }
+{
+    for i in 0..line.end_count() {
+        if is_same(place, line.end(i)) {
+            return true;
+        }
+    }
+    false
+}
+
+/// How many of the line's ends are at the place; one that is there twice counts twice.
+pub fn count_ends(line: &Shape, place: GridPoint) -> usize
+    ensures { result ≡ how_many (same_place place) (planes.ends_of line.now) }
+{
+    let mut count = 0;
+    for i in 0..line.end_count() {
+        if is_same(place, line.end(i)) {
+            count += 1;
+        }
+    }
+    count
+}
