@@ -4,4 +4,4 @@
 mod point_must_be_disjoint;
 mod same_place;
 
-pub use point_must_be_disjoint::PointMustBeDisjoint;
+pub use point_must_be_disjoint::{LaterAtPlace, PointMustBeDisjoint};
