@@ -5,5 +5,5 @@ mod overlap;
 mod polygon_must_not_overlap;
 mod polygon_must_not_overlap_with;
 
-pub use polygon_must_not_overlap::PolygonMustNotOverlap;
-pub use polygon_must_not_overlap_with::PolygonMustNotOverlapWith;
+pub use polygon_must_not_overlap::{LaterOverlaps, PolygonMustNotOverlap};
+pub use polygon_must_not_overlap_with::{PolygonMustNotOverlapWith, SecondOverlaps};

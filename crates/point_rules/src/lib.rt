@@ -11,11 +11,13 @@ mod polygon_contains_point;
 mod polygon_must_be_covered_by;
 mod same_place;
 
-pub use point_must_be_covered_by_boundary_of::PointMustBeCoveredByBoundaryOf;
-pub use point_must_be_covered_by_endpoint_of::PointMustBeCoveredByEndpointOf;
-pub use point_must_be_covered_by_line::PointMustBeCoveredByLine;
-pub use point_must_be_disjoint::PointMustBeDisjoint;
-pub use point_must_be_properly_inside::PointMustBeProperlyInside;
-pub use point_must_coincide_with::PointMustCoincideWith;
-pub use polygon_contains_point::PolygonContainsPoint;
-pub use polygon_must_be_covered_by::PolygonMustBeCoveredBy;
+pub use point_must_be_covered_by_boundary_of::{
+    PlaceOffBoundaries, PointMustBeCoveredByBoundaryOf,
+};
+pub use point_must_be_covered_by_endpoint_of::{PlaceOffEnds, PointMustBeCoveredByEndpointOf};
+pub use point_must_be_covered_by_line::{PlaceOffLines, PointMustBeCoveredByLine};
+pub use point_must_be_disjoint::{LaterAtPlace, PointMustBeDisjoint};
+pub use point_must_be_properly_inside::{PlaceOffInsides, PointMustBeProperlyInside};
+pub use point_must_coincide_with::{PlaceOffPoints, PointMustCoincideWith};
+pub use polygon_contains_point::{NoPointInside, PolygonContainsPoint};
+pub use polygon_must_be_covered_by::{NoCover, PolygonMustBeCoveredBy};

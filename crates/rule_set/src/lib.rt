@@ -1,6 +1,7 @@
-// The rules of the poster that are built, taken together.
+// The rules of the poster, taken together.
 #![tactic(auto)]
 
+mod case;
 mod law;
 mod poster;
 

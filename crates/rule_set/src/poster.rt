@@ -1,9 +1,9 @@
 ghost use Rattle.topology_terms.specs.Poster.{poster};
 ghost use Rattle.rule_laws.proofs.Posters.{poster_laws, poster_cuts, poster_views};
 
+use crate::case::Case;
 use grid_plane::NoMemory;
-use rule_core::{Findings, RuleRow, RuleSet, View, Work, judge};
-use rule_words::RuleKind;
+use rule_core::{Findings, RuleRow, RuleSet, View, Work};
 use std::alloc::Global;
 use topo_core::KindRules;
 
@@ -23,52 +23,13 @@ impl RuleSet for PosterRules {
         subject: u32,
         work: &mut Work,
     ) -> Result<Findings, NoMemory> {
-        match row.kind {
-            RuleKind::PolygonMustNotOverlap => {
-                let rule = area_rules::PolygonMustNotOverlap::new(*row);
-                judge(&rule, alloc, view, subject, work)
-            }
-            RuleKind::PolygonMustNotOverlapWith => {
-                let rule = area_rules::PolygonMustNotOverlapWith::new(*row);
-                judge(&rule, alloc, view, subject, work)
-            }
-            RuleKind::PolygonMustNotHaveGaps => {
-                let rule = cover_rules::PolygonMustNotHaveGaps::new(*row);
-                judge(&rule, alloc, view, subject, work)
-            }
-            RuleKind::PolygonMustBeCoveredByFeatureClassOf => {
-                let rule = cover_rules::PolygonMustBeCoveredByFeatureClassOf::new(*row);
-                judge(&rule, alloc, view, subject, work)
-            }
-            RuleKind::PolygonMustCoverEachOther => {
-                let rule = cover_rules::PolygonMustCoverEachOther::new(*row);
-                judge(&rule, alloc, view, subject, work)
-            }
-            RuleKind::PolygonBoundaryMustBeCoveredBy => {
-                let rule = cover_rules::PolygonBoundaryMustBeCoveredBy::new(*row);
-                judge(&rule, alloc, view, subject, work)
-            }
-            RuleKind::PolygonAreaBoundaryMustBeCoveredByBoundaryOf => {
-                let rule = cover_rules::PolygonAreaBoundaryMustBeCoveredByBoundaryOf::new(*row);
-                judge(&rule, alloc, view, subject, work)
-            }
-            RuleKind::LineMustBeCoveredByFeatureClassOf => {
-                let rule = cover_rules::LineMustBeCoveredByFeatureClassOf::new(*row);
-                judge(&rule, alloc, view, subject, work)
-            }
-            RuleKind::LineMustBeCoveredByBoundaryOf => {
-                let rule = cover_rules::LineMustBeCoveredByBoundaryOf::new(*row);
-                judge(&rule, alloc, view, subject, work)
-            }
-            RuleKind::PointMustBeDisjoint => {
-                let rule = point_rules::PointMustBeDisjoint::new(*row);
-                judge(&rule, alloc, view, subject, work)
-            }
-            _ => {
-                work.raise();
-                Err(NoMemory)
-            }
-        }
+        let case = Case {
+            alloc,
+            row,
+            view,
+            subject,
+        };
+        case.judged(work)
     }
 
     ghost laws = { poster_laws };
