@@ -9,7 +9,7 @@ use Rattle.std.proofs.lemmas.Map.Views.{any-filter_same}
 use Rattle.std.proofs.lemmas.Option.{get_or_from_slice_get, slice_get_within}
 use Rattle.plane_terms.specs.Point.{Place, same_place}
 use Rattle.topology_terms.specs.Tests.{in_order_once, has_end_at}
-use Rattle.rule_laws.proofs.Tests.{same_is, is_same}
+use Rattle.cell_laws.proofs.AtPlaces.{same_is, is_same}
 use Rattle.rule_loops.proofs.Spots.{same_by_truth}
 
 turned : (q r : Place) → same_place q r ≡ same_place r q

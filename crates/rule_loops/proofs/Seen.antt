@@ -18,7 +18,7 @@ use Rattle.topology_terms.specs.Feature.{Feature, sides, env}
 use Rattle.topology_terms.specs.Together.{ends}
 use Rattle.topology_terms.specs.Tests.{segments_at, ends_at}
 use Rattle.rule_laws.proofs.Envelopes.{BothEnds, LiesIn, segments_ends, ends_in}
-use Rattle.rule_laws.proofs.Tests.{same_is}
+use Rattle.cell_laws.proofs.AtPlaces.{same_is}
 use Rattle.rule_loops.specs.Views.{of_class, round_of, up_to_three}
 use Rattle.rule_loops.proofs.Boxes.{box_within}
 use Rattle.rule_loops.proofs.More.{class_more}
