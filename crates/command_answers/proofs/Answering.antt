@@ -11,7 +11,6 @@ use Rattle.topology_terms.specs.Causes.{Tells, when, first_of, class_cause, add_
 use Rattle.topology_terms.specs.Feature.{Feature, feature_at}
 use Rattle.topology_terms.specs.Lookups.{class_number}
 use Rattle.topology_terms.specs.Poster.{poster}
-use Rattle.topology_terms.specs.Built.{is_built}
 use Rattle.topology_terms.specs.Settled.{IsValidatedBy}
 use Rattle.topology_terms.specs.declared.cause.Cause.{Cause}
 use Rattle.topology_terms.specs.declared.cause.Cause.TheVariants as cause
@@ -75,9 +74,9 @@ change_stopped s editor h shape r e = refused s s (AChange editor h shape) (Refu
 pub delete_stopped : (s : State) (editor : List ℕ) (h : ℕ) (r : Refusal) → refusal_of s (Delete editor h) ≡ Some r → Answers s (Delete editor h) (Refused r) s
 delete_stopped s editor h r e = refused s s (Delete editor h) (Refused r) r e refl refl
 
-rule_refusal : (s : State) (k : RuleKind) (origin : List ℕ) (dest : Option (List ℕ)) → is_built k ≡ true → is_nowhere s.project dest ≡ false
+rule_refusal : (s : State) (k : RuleKind) (origin : List ℕ) (dest : Option (List ℕ)) → is_nowhere s.project dest ≡ false
     → refusal_of s (Rule k origin dest) ≡ changes (rule_cause s.project (row_of s.project k origin dest))
-rule_refusal s k origin dest built there = rw (built, there) (only (changes (rule_cause s.project (row_of s.project k origin dest))))
+rule_refusal s k origin dest there = rw there (only (changes (rule_cause s.project (row_of s.project k origin dest))))
 
 -- ---- what is done
 pub class_added : (s t : State) (name : List ℕ) (k : Kind) (n : ℕ) → class_cause s.project.classes name ≡ None → n ≡ length s.project.classes + 1
@@ -100,11 +99,11 @@ pub feature_deleted : (s t : State) (editor : List ℕ) (h : ℕ) → refusal_of
     → LeavesNoted editor (set_step s.project h None) (IsFeatureSet h None) s t → Answers s (Delete editor h) Done t
 feature_deleted s t editor h free k = done s t (Delete editor h) Done free (refl, k)
 
-pub rule_added : (s t : State) (k : RuleKind) (origin : List ℕ) (dest : Option (List ℕ)) (n : ℕ) → is_built k ≡ true → is_nowhere s.project dest ≡ false
+pub rule_added : (s t : State) (k : RuleKind) (origin : List ℕ) (dest : Option (List ℕ)) (n : ℕ) → is_nowhere s.project dest ≡ false
     → rule_cause s.project (row_of s.project k origin dest) ≡ None → IsRuleAdded n (row_of s.project k origin dest) s.project t.project → t.sessions ≡ s.sessions
     → Answers s (Rule k origin dest) (Number n) t
-rule_added s t k origin dest n built there may added same =
-    did s t (Rule k origin dest) (Number n) (rule_cause s.project (row_of s.project k origin dest)) (rule_refusal s k origin dest built there) may
+rule_added s t k origin dest n there may added same =
+    did s t (Rule k origin dest) (Number n) (rule_cause s.project (row_of s.project k origin dest)) (rule_refusal s k origin dest there) may
     (n, refl, record { project = added; sessions = same })
 
 -- ---- what is refused
@@ -137,11 +136,10 @@ pub delete_refused : (s t : State) (editor : List ℕ) (h : ℕ) (o : Option Cau
 delete_refused s t editor h None reply free tells said same = absurd said
 delete_refused s t editor h (Some x) reply free tells said same = let none = deletes s editor h free in absurd cc
 
-pub rule_refused : (s t : State) (k : RuleKind) (origin : List ℕ) (dest : Option (List ℕ)) (o : Option Cause) (reply : Reply) → is_built k ≡ true
-    → is_nowhere s.project dest ≡ false → Tells o (rule_cause s.project (row_of s.project k origin dest))
+pub rule_refused : (s t : State) (k : RuleKind) (origin : List ℕ) (dest : Option (List ℕ)) (o : Option Cause) (reply : Reply) → is_nowhere s.project dest ≡ false → Tells o (rule_cause s.project (row_of s.project k origin dest))
     → IsSomeAnd o (λ x. reply ≡ Refused (Change x)) → t ≡ s → Answers s (Rule k origin dest) reply t
-rule_refused s t k origin dest o reply built there tells said same =
-    told s t (Rule k origin dest) reply o (rule_cause s.project (row_of s.project k origin dest)) (rule_refusal s k origin dest built there) tells said same
+rule_refused s t k origin dest o reply there tells said same =
+    told s t (Rule k origin dest) reply o (rule_cause s.project (row_of s.project k origin dest)) (rule_refusal s k origin dest there) tells said same
 
 pub rule_dropped : (s t : State) (n : ℕ) → drop_cause s.project.rules n ≡ None → IsRuleDropped n s.project t.project → t.sessions ≡ s.sessions → Answers s (DropRule n) Done t
 rule_dropped s t n may dropped same = did s t (DropRule n) Done (drop_cause s.project.rules n) refl may (refl, record { project = dropped; sessions = same })
@@ -150,16 +148,15 @@ pub no_rule : (s t : State) (n : ℕ) → drop_cause s.project.rules n ≡ Some 
 no_rule s t n none same = refused s t (DropRule n) (Refused (Change cause.NoRule)) (Change cause.NoRule) (ap changes none) refl same
 
 -- a class that a line names is not there: no class has the number 0
-pub no_class : (s t : State) (k : RuleKind) (origin : List ℕ) (dest : Option (List ℕ)) → is_built k ≡ true
-    → (class_number s.project origin ≡ None) ⊎ (is_nowhere s.project dest ≡ true) → t ≡ s → Answers s (Rule k origin dest) (Refused (Change cause.NoClass)) t
-no_class s t k origin dest built lacks same = by (is_nowhere s.project dest) refl lacks
+pub no_class : (s t : State) (k : RuleKind) (origin : List ℕ) (dest : Option (List ℕ)) → (class_number s.project origin ≡ None) ⊎ (is_nowhere s.project dest ≡ true) → t ≡ s → Answers s (Rule k origin dest) (Refused (Change cause.NoClass)) t
+no_class s t k origin dest lacks same = by (is_nowhere s.project dest) refl lacks
   where
     says : refusal_of s (Rule k origin dest) ≡ Some (Change cause.NoClass) → Answers s (Rule k origin dest) (Refused (Change cause.NoClass)) t
     says e = refused s t (Rule k origin dest) (Refused (Change cause.NoClass)) (Change cause.NoClass) e refl same
 
     by : (b : Bool) → is_nowhere s.project dest ≡ b → (class_number s.project origin ≡ None) ⊎ (is_nowhere s.project dest ≡ true) → Answers s (Rule k origin dest) (Refused (Change cause.NoClass)) t
-    by true e l = says (rw (built, e) refl)
-    by false e (inl l) = says (rw (built, e, l) refl)
+    by true e l = says (rw e refl)
+    by false e (inl l) = says (rw (e, l) refl)
     by false e (inr l) = cc
 
 -- ---- a validation

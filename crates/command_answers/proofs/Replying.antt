@@ -5,7 +5,6 @@ use Rattle.plane_terms.specs.Shape.{Shape}
 use Rattle.plane_terms.specs.declared.kind.Kind.{Kind}
 use Rattle.rule_words.specs.declared.rule_kind.RuleKind.{RuleKind}
 use Rattle.topology_terms.specs.Broken.{Row}
-use Rattle.topology_terms.specs.Built.{is_built}
 use Rattle.topology_terms.specs.Causes.{Tells, class_cause, add_cause, change_cause, delete_cause, rule_cause}
 use Rattle.topology_terms.specs.Changes.{IsClassAdded, IsFeatureAdded, IsFeatureSet, IsRuleAdded, reshaped}
 use Rattle.topology_terms.specs.Feature.{Feature, feature_at}
@@ -134,15 +133,15 @@ class_kept p q ss name k (Ok n) w ok kept sound settled = class_world p q ss (re
 class_kept p q ss name k (Err e) w ok kept sound settled = subst (λ (r : Project). IsWorld r ss) (sym kept) w
 
 pub rule_replied : {E : Type 0} (p q : Project) (ss : List KeptSession) (k : RuleKind) (origin : List ℕ) (dest : Option (List ℕ)) (row : Row) (added : Result ℕ RuleFault) (reply : Result Reply E)
-    → is_built k ≡ true → is_nowhere p dest ≡ false → row ≡ row_of p k origin dest
+    → is_nowhere p dest ≡ false → row ≡ row_of p k origin dest
     → IfOk added (λ n. IsRuleAdded n row p q) → OnOk added (rule_cause p row ≡ None)
     → IfErr added (λ e. Tells (row_cause e) (rule_cause p row)) → OnErr added (q ≡ p)
     → IfOk reply (Says row_cause added (λ n r. (p : Project) → said_of p r ≡ Number n)) → IfOk reply (λ r. Answers (state_of p ss) (Rule k origin dest) (said_of q r) (state_of q ss))
-rule_replied p q ss k origin dest row added (Err e) built there is ok may err kept said = tt
-rule_replied p q ss k origin dest row (Ok n) (Ok r) built there is ok may err kept said =
-    rw (said q) (rule_added (state_of p ss) (state_of q ss) k origin dest n built there (rw is at may) (rw is at ok) (seen_same p q ss ok.features))
-rule_replied p q ss k origin dest row (Err e) (Ok r) built there is ok may err kept said =
-    rule_refused (state_of p ss) (state_of q ss) k origin dest (row_cause e) (said_of q r) built there (rw is at err) (said_at (row_cause e) q r said) (same_state p q ss kept)
+rule_replied p q ss k origin dest row added (Err e) there is ok may err kept said = tt
+rule_replied p q ss k origin dest row (Ok n) (Ok r) there is ok may err kept said =
+    rw (said q) (rule_added (state_of p ss) (state_of q ss) k origin dest n there (rw is at may) (rw is at ok) (seen_same p q ss ok.features))
+rule_replied p q ss k origin dest row (Err e) (Ok r) there is ok may err kept said =
+    rule_refused (state_of p ss) (state_of q ss) k origin dest (row_cause e) (said_of q r) there (rw is at err) (said_at (row_cause e) q r said) (same_state p q ss kept)
 
 pub rule_kept : (p q : Project) (ss : List KeptSession) (row : Row) (added : Result ℕ RuleFault) → IsWorld p ss → IfOk added (λ n. IsRuleAdded n row p q) → OnErr added (q ≡ p)
     → (IsSound p → IsSound q) → (IsSettled p → IsSettled q) → IsWorld q ss

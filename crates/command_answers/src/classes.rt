@@ -11,11 +11,10 @@ use grid_plane::{Name, NoMemory};
 use line_terms::LineRefusal;
 use reply_text::{Refusal, Reply};
 use rule_core::RuleRow;
-use rule_set::is_built;
 use rule_words::{Kind, RuleKind};
 use topology_terms::Cause;
 
-/// What is answered to a command or a rule that is not built yet.
+/// What is answered to a command that is not built yet.
 pub const NOT_BUILT: Reply = Reply::Refused(Refusal::Line(LineRefusal::NotALine));
 
 impl World {
@@ -52,9 +51,6 @@ impl World {
         ensures answers { IfOk result (λ r. Answers self.old (Rule kind origin.now dest.now) (said_of self.new.project r) self.new) }
         ensures err { OnErr result (self.new ≡ self.old) }
     {
-        if !is_built(kind) {
-            return Ok(NOT_BUILT);
-        }
         let Some(row) = self.row_of(kind, origin, dest) else {
             return Ok(Reply::Refused(Refusal::Change(Cause::NoClass)));
         };

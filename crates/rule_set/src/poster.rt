@@ -66,7 +66,7 @@ impl RuleSet for PosterRules {
             }
             _ => {
                 work.raise();
-                Ok(Findings::new(alloc))
+                Err(NoMemory)
             }
         }
     }

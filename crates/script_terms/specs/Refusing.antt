@@ -4,7 +4,7 @@
 -- row_of p k origin dest  the row that a line names
 -- is_nowhere p dest       the line names a second class that is not there
 -- changes c               the refusal of a change that has this cause
--- not_built               the refusal of a line whose command or rule is not built yet
+-- not_built               the refusal of a line whose command is not built yet
 -- held s editor h         the refusal of an edit of the handle, where the session of another editor holds it
 -- done_of, undone_of      the steps of the editor's session that are done, and those undone; none where it has no session
 -- refusal_of s c          the first cause, in the order of the list, for which the command is refused; None where it is done
@@ -14,7 +14,6 @@
 use Rattle.std.specs.Prelude.{ℕ, ◌==◌, Bool, false, not, List, [], ◌∷◌, length, Option, Some, None, is_none, bytes_eq}
 use Rattle.std.specs.Option.{option_map}
 use Rattle.rule_words.specs.declared.rule_kind.RuleKind.{RuleKind}
-use Rattle.topology_terms.specs.Built.{is_built}
 use Rattle.topology_terms.specs.Broken.{Row}
 use Rattle.topology_terms.specs.Project.{Project}
 use Rattle.topology_terms.specs.Session.{EditStep, Session, session_of, holder}
@@ -68,7 +67,7 @@ undone_of s editor = steps_of (λ (x : Session). x.undone) (session_of s.session
 abbrev pub refusal_of : State → Command → Option Refusal
 refusal_of s Blank = None
 refusal_of s (AClass name k) = changes (class_cause s.project.classes name)
-refusal_of s (Rule k origin dest) = first_of (when (not (is_built k)) not_built ∷ when (is_nowhere s.project dest) (Change cause.NoClass) ∷ changes (rule_cause s.project (row_of s.project k origin dest)) ∷ [])
+refusal_of s (Rule k origin dest) = first_of (when (is_nowhere s.project dest) (Change cause.NoClass) ∷ changes (rule_cause s.project (row_of s.project k origin dest)) ∷ [])
 refusal_of s (DropRule r) = changes (drop_cause s.project.rules r)
 refusal_of s (Begin editor) = first_of (when (is_open s editor) SessionOpen ∷ when (length s.sessions == 16) SessionsFull ∷ [])
 refusal_of s (End editor) = when (not (is_open s editor)) NoSession
