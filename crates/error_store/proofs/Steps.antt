@@ -1,5 +1,5 @@
 -- The steps of a merge, in the form of the calls that make them.
-use Rattle.std.proofs.Common.{◌≡◌, inl, inr, ℕ, true, false, List, [], ◌∷◌, ◌++◌, Option, Some, sym, ◌∙◌, Contains, arith}
+use Rattle.std.proofs.Common.{◌≡◌, inl, inr, ℕ, false, List, [], ◌∷◌, ◌++◌, Option, Some, sym, ◌∙◌, Contains}
 use Rattle.topology_terms.specs.Entry.{Entry, key_of}
 use Rattle.sound_laws.proofs.Lists.{keys, at_key, every_found}
 use Rattle.validation_laws.specs.Replaced.{IsRemarked, IsNewOf, AreFresh}

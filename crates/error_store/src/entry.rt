@@ -91,11 +91,18 @@ impl Entry {
             && self.cells.same(&other.cells)
     }
 
+    /// Sets the mark, or takes it away.
+    pub(crate) fn set_mark(&mut self, on: bool)
+        ensures { self.new ≡ record self.old { marked = on } }
+    {
+        self.marked = on;
+    }
+
     fn with_mark(self, on: bool) -> Entry
         ensures { result ≡ record self { marked = on } }
     {
         let mut entry = self;
-        entry.marked = on;
+        entry.set_mark(on);
         entry
     }
 
