@@ -1,11 +1,11 @@
-ghost use Rattle.std.specs.Prelude.{◌≡◌, ◌↔◌, IsTrue, Some, IfOk};
+ghost use Rattle.std.specs.Prelude.{◌≡◌, ◌↔◌, [], ◌∷◌, ◌++◌, IsTrue, Some, IfOk, OnOk, OnErr};
 ghost use Rattle.topology_terms.specs.Changes.{IsUnchanged};
 ghost use Rattle.topology_terms.specs.Entry as terms;
 ghost use Rattle.validation_laws.specs.Replaced.{IsRemarked};
 ghost use Rattle.error_store.specs.Keys.{key_of};
 
 use crate::key::Key;
-use convex_cell::Cells;
+use convex_cell::{Cell, Cells};
 use grid_plane::{NoMemory, Rect};
 use std::alloc::Global;
 use std::marker::Model;
@@ -81,6 +81,14 @@ impl Entry {
         ensures { result.now ≡ self.now.cells }
     {
         &self.cells
+    }
+
+    /// A cell more, behind the others. After an `Err`, want of memory, nothing has changed.
+    pub fn push_cell(&mut self, cell: Cell) -> Result<(), NoMemory>
+        ensures ok { OnOk result (self.new ≡ record self.old { cells = self.old.cells ++ cell ∷ [] }) }
+        ensures err { OnErr result (self.new ≡ self.old) }
+    {
+        self.cells.push(cell)
     }
 
     fn is_unchanged(&self, other: &Entry) -> bool

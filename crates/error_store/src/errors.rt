@@ -54,6 +54,14 @@ impl Errors {
         }
     }
 
+    /// The errors of this list.
+    pub fn of(entries: Vec<Entry>) -> Errors
+        requires { IsAscending entries.items }
+        ensures { result ≡ entries.items }
+    {
+        Errors { entries }
+    }
+
     /// How many errors there are.
     pub fn len(&self) -> usize
         ensures { result ≡ length self.now }
