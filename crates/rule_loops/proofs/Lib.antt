@@ -1,3 +1,4 @@
+mod Beyond
 mod Boxes
 mod Carved
 mod More
