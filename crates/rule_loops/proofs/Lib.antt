@@ -1,3 +1,6 @@
 mod Boxes
 mod Carved
 mod More
+mod Parts
+mod Rest
+mod Tested
