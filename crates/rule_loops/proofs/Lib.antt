@@ -3,5 +3,8 @@ mod Boxes
 mod Carved
 mod More
 mod Once
+mod Parts
+mod Rest
 mod Seen
 mod Spots
+mod Tested
