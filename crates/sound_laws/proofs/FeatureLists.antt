@@ -1,5 +1,5 @@
 -- Features by handle: the laws of a list that ascends by a key, for `feature_at`.
-use Rattle.std.proofs.Common.{◌≡◌, ◌<◌, ℕ, Bool, true, false, List, ◌∷◌, Option, Some, None, length, get_or}
+use Rattle.std.proofs.Common.{◌≡◌, ◌<◌, ℕ, Bool, true, false, List, ◌∷◌, Some, None, length, get_or}
 use Rattle.std.specs.Prelude.{cond, ◌==◌}
 use Rattle.std.specs.List.{filter}
 use Rattle.std.specs.List.{HoldsAt}

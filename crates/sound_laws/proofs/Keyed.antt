@@ -1,12 +1,12 @@
 -- Lists that ascend by a key: what is found in them, and what an element more or less leaves.
-use Rattle.std.proofs.Common.{◌≡◌, ◌≢◌, ◌⊎◌, inl, inr, ℕ, ◌<◌, ◌≤◌, Bool, true, false, zero, suc, length, get_or, arith, refl, sym, ap, ◌∙◌, subst, List, [], ◌∷◌, ◌++◌, Option, Some, None}
+use Rattle.std.proofs.Common.{◌≡◌, ◌≢◌, ◌⊎◌, inl, inr, ℕ, ◌<◌, Bool, true, false, zero, suc, length, get_or, arith, refl, sym, ap, ◌∙◌, subst, List, [], ◌∷◌, ◌++◌, Option, Some, None}
 use Rattle.std.specs.Prelude.{cond, not}
 use Rattle.std.specs.List.{filter, Contains}
 use Rattle.std.specs.Option.{option_to_list, IfSome}
 use Rattle.std.proofs.lemmas.Bool.{cases_Bool, not-true}
 use Rattle.std.proofs.lemmas.Bool.Decides.{nat_tests}
 use Rattle.plane_terms.specs.Lists.{Every, SomeOf}
-use Rattle.plane_terms.proofs.ListLemmas.{every_append, every_left, every_right, every_map, every_filter, every_of_all, every_passing}
+use Rattle.plane_terms.proofs.ListLemmas.{every_append, every_left, every_map, every_filter, every_of_all, every_passing}
 use Rattle.topology_terms.specs.Keyed.{Keyed, numbered, item_at, IsAscendingBy, without}
 
 -- the test tells keys apart, and of two keys one comes first

@@ -1,13 +1,12 @@
 -- With no dirt, the errors of a settled project are those of a validation from scratch; of these there is one list.
-use Rattle.std.proofs.Common.{◌≡◌, ◌⊎◌, inl, inr, ℕ, refl, sym, ◌∙◌, ap, false, List, [], ◌∷◌, map, Option, Some, None}
+use Rattle.std.proofs.Common.{◌≡◌, inl, inr, ℕ, refl, sym, ◌∙◌, ap, false, List, [], ◌∷◌, map, Option, Some, None}
 use Rattle.plane_terms.specs.Lists.{Every}
-use Rattle.plane_terms.specs.Dirt.{MeetsDirt}
 use Rattle.topology_terms.specs.Feature.{Feature, feature_at}
 use Rattle.topology_terms.specs.Broken.{Row}
 use Rattle.topology_terms.specs.Meaning.{Finding, finding_at, Meaning, CutsRight}
 use Rattle.topology_terms.specs.Entry.{Entry, entry_at, IsAscending}
 use Rattle.topology_terms.specs.Project.{rule_at, Project, IsProject}
-use Rattle.topology_terms.specs.Settled.{IsEntryOf, AreAlike, AreOf, AreCut, IsSettledUnder}
+use Rattle.topology_terms.specs.Settled.{AreAlike, IsSettledUnder}
 use Rattle.topology_terms.specs.Scratch.{unmarked, IsFromScratch}
 use Rattle.sound_laws.proofs.RuleChanges.{no_entry}
 use Rattle.sound_laws.proofs.Lists.{unmark_option, entry_at-unmark, ascending-unmark, same_entries, entry_key}

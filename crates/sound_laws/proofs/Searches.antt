@@ -1,14 +1,13 @@
 -- What a binary search finds in a list that ascends by a key.
-use Rattle.std.proofs.Common.{◌≡◌, ◌⊎◌, inl, inr, ℕ, zero, suc, ◌<◌, ◌≤◌, true, false, arith, refl, sym, ◌∙◌, subst, List, [], ◌∷◌, Some, None, length, get_or}
+use Rattle.std.proofs.Common.{◌≡◌, ◌⊎◌, inl, inr, ℕ, zero, suc, ◌<◌, ◌≤◌, false, arith, refl, sym, subst, List, [], ◌∷◌, Some, None, length, get_or}
 use Rattle.std.specs.Ordering.{MatchOrdering, ordering_index}
 use Rattle.std.specs.declared.cmp.Ordering.{Ordering}
 use Rattle.std.specs.declared.cmp.Ordering.TheVariants.{Less, Equal, Greater}
 use Rattle.std.specs.List.{HoldsAt}
 use Rattle.std.specs.List.Sorted.{IsPartitionPoint, IsNonDecreasingBy}
-use Rattle.plane_terms.specs.Lists.{Every}
 use Rattle.plane_terms.proofs.ListLemmas.{every_at, every_by_index}
 use Rattle.topology_terms.specs.Keyed.{Keyed, item_at, IsAscendingBy}
-use Rattle.sound_laws.proofs.Keyed.{AreKeys, differ, none_lacks, contained_found, apart_later}
+use Rattle.sound_laws.proofs.Keyed.{AreKeys, none_lacks, contained_found, apart_later}
 
 module _ {A K : Type 0} (by : Keyed A K) (keys : AreKeys by) where
   never : (k : K) → by.IsBefore k k → ⊥

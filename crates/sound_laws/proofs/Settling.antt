@@ -1,5 +1,5 @@
 -- The changing calls keep a state settled.
-use Rattle.std.proofs.Common.{◌≡◌, ◌↔◌, ◌⊎◌, inl, inr, ℕ, refl, sym, ◌∙◌, ap, List, [], map, Option, Some, None}
+use Rattle.std.proofs.Common.{◌≡◌, ◌↔◌, inl, inr, ℕ, refl, sym, ◌∙◌, ap, List, [], map, Option, Some, None}
 use Rattle.plane_terms.specs.Point.{Point}
 use Rattle.plane_terms.specs.Rectangle.{whole_grid, Rectangle}
 use Rattle.plane_terms.specs.Dirt.{Covers, MeetsDirt}

@@ -1,5 +1,5 @@
 -- The changing calls keep what the types of the parts keep.
-use Rattle.std.proofs.Common.{◌≡◌, ◌≢◌, ◌⊎◌, inl, inr, ℕ, refl, sym, ◌∙◌, List, [], ◌∷◌, Option, Some, None}
+use Rattle.std.proofs.Common.{◌≡◌, ◌≢◌, inl, inr, ℕ, refl, sym, ◌∙◌, List, [], ◌∷◌, Option, Some, None}
 use Rattle.plane_terms.specs.Point.{Point}
 use Rattle.plane_terms.specs.Rectangle.{IsRectangle, Rectangle, IsProper}
 use Rattle.plane_terms.specs.Cell.{Cell, InCells, HavePoints}

@@ -1,5 +1,5 @@
 -- A validation keeps a state sound.
-use Rattle.std.proofs.Common.{◌≡◌, ◌↔◌, ◌⊎◌, inl, inr, ℕ, refl, sym, ◌∙◌, List, [], Option, Some, None}
+use Rattle.std.proofs.Common.{◌≡◌, ◌↔◌, inl, inr, ℕ, sym, ◌∙◌, List, [], Some}
 use Rattle.plane_terms.specs.Point.{Point}
 use Rattle.plane_terms.specs.Rectangle.{Rectangle, RectHolds, IsWithin}
 use Rattle.plane_terms.specs.Dirt.{Covers, MeetsDirt, cut_dirt}
