@@ -1,5 +1,5 @@
 -- What every store keeps is kept as a class or a feature comes.
-use Rattle.std.proofs.Common.{ℕ, zero, suc, ◌≡◌, ◌≢◌, ◌<◌, ◌≤◌, ◌+◌, ◌-◌, Bool, true, false, List, [], ◌∷◌, ◌++◌, length, refl, sym, ◌∙◌, ap, arith, Option, Some, None, length-append, eqb}
+use Rattle.std.proofs.Common.{ℕ, zero, suc, ◌≡◌, ◌≢◌, ◌<◌, ◌≤◌, ◌+◌, ◌-◌, Bool, true, false, List, [], ◌∷◌, ◌++◌, length, refl, ◌∙◌, ap, arith, Option, Some, None, length-append, eqb}
 use Rattle.std.proofs.lemmas.Bool.Decides.{nat_tests}
 use Rattle.std.proofs.lemmas.Slice.Eq.{bytes_eq-Decides}
 use Rattle.std.specs.Prelude.{bytes_eq, is_none, is_some, not, slice_get, if◌then◌else◌}
@@ -13,7 +13,7 @@ use Rattle.sound_laws.proofs.Keyed.{ascending_last}
 use Rattle.sound_laws.proofs.FeatureLists.{handles, handle_of}
 use Rattle.sound_laws.proofs.FeatureLists.{live_each as each_live}
 use Rattle.topology_terms.specs.Lookups.{class_at, number_from, kind_of_class}
-use Rattle.topology_terms.specs.Causes.{when, first_of, same_kind, is_kind, class_cause, add_cause}
+use Rattle.topology_terms.specs.Causes.{when, first_of, same_kind, is_kind, add_cause}
 use Rattle.topology_terms.specs.declared.cause.Cause.TheVariants as cause
 use Rattle.feature_store.specs.Keeps.{IsOfClass, IsGiven, HasSimpleSides, AreUnlike, IsStore}
 

@@ -1,5 +1,5 @@
 -- Findings that are right have frames, and the frame of a list of cells is joined from those of its cells.
-use Rattle.std.proofs.Common.{◌≡◌, inl, inr, ℕ, ◌<◌, true, false, arith, List, [], ◌∷◌, ◌++◌, Some, ◌∙◌, refl}
+use Rattle.std.proofs.Common.{◌≡◌, inl, inr, ℕ, arith, List, [], ◌∷◌, ◌++◌, Some}
 use Rattle.std.proofs.lemmas.Int.{ints, clamps}
 use Rattle.plane_terms.specs.Lists.{Every}
 use Rattle.plane_terms.proofs.ListLemmas.{SomeOf-append_left, SomeOf-append_right}

@@ -1,5 +1,5 @@
 -- Ascending lists of handles, and which are among them.
-use Rattle.std.proofs.Common.{◌≡◌, ◌≢◌, ◌⊎◌, inl, inr, ℕ, ◌<◌, zero, suc, arith, List, [], ◌∷◌, sym, Contains, length, get_or}
+use Rattle.std.proofs.Common.{◌⊎◌, inl, inr, ℕ, ◌<◌, suc, arith, List, [], ◌∷◌, Contains, length, get_or}
 use Rattle.std.specs.List.Sorted.{IsStrictlyIncreasing}
 use Rattle.std.proofs.lemmas.List.Kept.{AllPairs-from_increasing}
 use Rattle.plane_terms.specs.Lists.{Every}

@@ -1,5 +1,5 @@
 -- What entries put together rule by rule and subject by subject are.
-use Rattle.std.proofs.Common.{◌≡◌, ◌⊎◌, inl, inr, ℕ, ◌<◌, Bool, true, false, arith, List, [], ◌∷◌, Option, Some, None, refl, sym, ◌∙◌, cond}
+use Rattle.std.proofs.Common.{◌≡◌, inl, inr, ℕ, ◌<◌, Bool, true, false, arith, List, [], ◌∷◌, Option, Some, None, sym, ◌∙◌, cond}
 use Rattle.std.specs.Prelude.{◌==◌}
 use Rattle.std.proofs.lemmas.Bool.Decides.{nat_tests, eqb_tells}
 use Rattle.plane_terms.specs.Lists.{Every, SomeOf, Paired}
