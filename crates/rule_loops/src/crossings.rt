@@ -12,12 +12,7 @@ use grid_plane::{GridPoint, NoMemory, Seg};
 use std::alloc::Global;
 
 // What a segment gives with the next of its part: nothing where they do not overlap.
-fn with_next(
-    alloc: Global,
-    off: &OffPlaces,
-    segment: &Seg,
-    next: &Seg,
-) -> Result<Cells, NoMemory>
+fn with_next(alloc: Global, off: &OffPlaces, segment: &Seg, next: &Seg) -> Result<Cells, NoMemory>
     ensures { IfOk result (λ cells. cells ≡ (if overlap segment.now next.now then terms.off_places off.now segment.now next.now else [])) }
 {
     if is_overlap(segment, next) {
@@ -27,12 +22,7 @@ fn with_next(
 }
 
 // What a segment gives with those that come after it in its part.
-fn with_own(
-    alloc: Global,
-    off: &OffPlaces,
-    segment: &Seg,
-    rest: &[Seg],
-) -> Result<Cells, NoMemory>
+fn with_own(alloc: Global, off: &OffPlaces, segment: &Seg, rest: &[Seg]) -> Result<Cells, NoMemory>
     ensures { IfOk result (λ cells. cells ≡ terms.crossings_of off.now segment.now rest.now []) }
 {
     match rest {
@@ -61,12 +51,7 @@ fn crossings_of(
 }
 
 // What the segments of a part give with later ones.
-fn in_part(
-    alloc: Global,
-    off: &OffPlaces,
-    part: &[Seg],
-    later: &[Seg],
-) -> Result<Cells, NoMemory>
+fn in_part(alloc: Global, off: &OffPlaces, part: &[Seg], later: &[Seg]) -> Result<Cells, NoMemory>
     ensures { IfOk result (λ cells. cells ≡ terms.in_part off.now part.now later.now) }
 {
     let mut cells = Cells::new(alloc);

@@ -46,11 +46,7 @@ fn is_end(shape: &Shape, place: GridPoint) -> bool
 }
 
 // The ends of the first that are ends of the second too.
-fn shared_ends(
-    alloc: Global,
-    first: &Shape,
-    second: &Shape,
-) -> Result<Vec<GridPoint>, NoMemory>
+fn shared_ends(alloc: Global, first: &Shape, second: &Shape) -> Result<Vec<GridPoint>, NoMemory>
     ensures { IfOk result (λ places. places.items ≡ filter (has_end_at (ends_of second.now)) (ends_of first.now)) }
 {
     let mut places = Vec::new(alloc);
@@ -64,11 +60,7 @@ fn shared_ends(
 }
 
 /// What two lines have in common, but for the ends of both.
-pub fn common_inner(
-    alloc: Global,
-    subject: &Feature,
-    partner: &Feature,
-) -> Result<Cells, NoMemory>
+pub fn common_inner(alloc: Global, subject: &Feature, partner: &Feature) -> Result<Cells, NoMemory>
     ensures { IfOk result (λ cells. cells ≡ plans.common_inner subject.now partner.now) }
 {
     let off = OffPlaces {

@@ -9,5 +9,5 @@ abbrev pub invariant-loop-part : goal.invariant-loop-part
 invariant-loop-part l = record {
   rest : l.rest ≡ flat_map path (rings_in (drop l.part-index l.parts));
   cells : l.cells ++ terms.later_crossings l.off (rings_in (drop l.part-index l.parts))
-  ≡ terms.later_crossings l.off (rings_in l.parts);
+      ≡ terms.later_crossings l.off (rings_in l.parts);
 }
