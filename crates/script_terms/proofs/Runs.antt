@@ -88,13 +88,13 @@ done_keeps old (Delete editor h) reply new k ord n d = let m = may_edit old edit
 done_keeps old (Undo editor) reply new k ord n d = undo_keeps editor old new k d.1
 done_keeps old (Redo editor) reply new k ord n d = redo_keeps editor old new k d.1
 done_keeps old (Validate w) reply new k ord n d = same_keeps old new k d.4.sessions d.4.project.validated.features d.4.project.validated.next
-done_keeps old (Mark r h g) reply new k ord n d = absurd d
-done_keeps old (Unmark r h g) reply new k ord n d = absurd d
+done_keeps old (Mark r h g) reply new k ord n d = same_keeps old new k d.1.sessions d.1.project.marking.features d.1.project.marking.next
+done_keeps old (Unmark r h g) reply new k ord n d = same_keeps old new k d.1.sessions d.1.project.marking.features d.1.project.marking.next
 done_keeps old Dirty reply new k ord n d = equal_keeps old new k d.1.same
 done_keeps old Errors reply new k ord n d = equal_keeps old new k d.1.same
 done_keeps old Cells reply new k ord n d = equal_keeps old new k d.1.same
 done_keeps old Features reply new k ord n d = equal_keeps old new k d.1.same
-done_keeps old Rules reply new k ord n d = absurd d
+done_keeps old Rules reply new k ord n d = equal_keeps old new k d.1.same
 
 -- a command that is answered
 pub answers_keep : (old : State) (c : Command) (reply : Reply) (new : State) (o : Option Refusal) → refusal_of old c ≡ o → IsKeeping old → IsOrdered old.project → answers_by o old c reply new → IsKeeping new
