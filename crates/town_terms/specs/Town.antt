@@ -15,6 +15,7 @@
 --
 -- row_text seed n i     the lines of row i: its parcels, its addresses, its road
 -- head_text             three classes, five rules, and the session `maker`
+-- validate_all          all is validated
 -- window_line n         the lower half of the rows, rounded down, is validated once more
 -- town_text seed n      the whole script
 --
@@ -95,6 +96,9 @@ head_text =
     ⧺ line (codes "rule polygon_contains_point parcels addresses") ⧺ line (codes "rule point_must_be_disjoint addresses")
     ⧺ line (codes "rule line_must_not_have_dangles roads") ⧺ line (codes "begin maker")
 
+abbrev pub validate_all : List ℕ
+validate_all = line (codes "validate all")
+
 abbrev pub late_line : ℕ → ℕ → ℕ → List ℕ
 late_line seed n i = address_by seed n n (2 * i) i (late_column seed n i)
 
@@ -103,4 +107,4 @@ window_line n = codes "validate 0 0 " ⧺ decimal (100 * n) ⧺ 32 ∷ decimal (
 
 abbrev pub town_text : ℕ → ℕ → List ℕ
 town_text seed n =
-    head_text ⧺ each_below n (row_text seed n) ⧺ line (codes "validate all") ⧺ each_below n (late_line seed n) ⧺ window_line n
+    head_text ⧺ each_below n (row_text seed n) ⧺ validate_all ⧺ each_below n (late_line seed n) ⧺ window_line n
