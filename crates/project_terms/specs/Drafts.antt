@@ -2,7 +2,8 @@
 --
 -- Draft             the stage that the text has come to, and the project of the lines before
 -- start             no line is read
--- may_follow a s    a line of the stage s may come behind the stage a: the title first, the next handle behind it, then the sections in their
+-- may_follow a s    a line of the stage s may come behind the stage a: the title first, the next handle behind it, then the sections in
+--                   their
 --                   order, each of any length, and nothing behind the end
 -- takes_cell es     the last error is of cells, so that a cell of it may follow
 -- wants_cell es     and it has none yet, so that one must follow
@@ -85,4 +86,5 @@ abbrev pub is_rectangle : Rectangle → Bool
 is_rectangle r = is_within r whole_grid && (int_le r.x0 r.x1 && int_le r.y0 r.y1)
 
 abbrev pub is_half : HalfPlane → Bool
-is_half h = nat_le (unsigned_abs h.a) 8388608 && (nat_le (unsigned_abs h.b) 8388608 && (nat_le (unsigned_abs h.c) 70368744177664 && ltb 0 (unsigned_abs h.a + unsigned_abs h.b)))
+is_half h = nat_le (unsigned_abs h.a) 8388608 && (nat_le (unsigned_abs h.b) 8388608 &&
+    (nat_le (unsigned_abs h.c) 70368744177664 && ltb 0 (unsigned_abs h.a + unsigned_abs h.b)))

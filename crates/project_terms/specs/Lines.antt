@@ -1,11 +1,13 @@
 -- The fields of a project's lines, and their numbers.
 --
 -- joined fs           the fields with one space between them
--- fields line         the parts of a line between its spaces: the empty line has one, which is empty; `a  b` has three, of which the second is empty
+-- fields line         the parts of a line between its spaces: the empty line has one, which is empty; `a  b` has three, of which the
+--                     second is empty
 -- fields_from         the same, where so much of the first field was read before
 -- spelled digits      whether these are digits as a number is written: `0` alone, or digits of which the first is not 0
 -- counted digits      their value; one above 2^50 counts as 2^50, which is beyond every limit of a project
--- number field        the number that a field is: spelled digits, with `-` before them where it is negative; none where it is spelled otherwise.
+-- number field        the number that a field is: spelled digits, with `-` before them where it is negative; none where it is spelled
+--                     otherwise.
 --                     `-0` and `+1` are no numbers. Whatever its length, a number is one
 -- natural low high z  the number z where it is from low to high
 --

@@ -7,7 +7,8 @@
 -- ended l               the line with its LF
 -- AreRead d ls e        of the lines ls each is right in its turn, and they bring the draft d to e
 -- IsRead t p            all lines of the text are right, the last is the end, and they say the project p
--- IsWrong d rest c      what comes next behind the draft d is wrong: something stands behind the end; or the text ends before the next line or
+-- IsWrong d rest c      what comes next behind the draft d is wrong: something stands behind the end; or the text ends before the next
+--                       line or
 --                       within it; or the line is wrong, for the cause c
 -- IsFault t n c         the line n, counted from 1, is the first that is wrong, and c is its first cause
 --

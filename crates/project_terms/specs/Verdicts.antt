@@ -1,15 +1,19 @@
--- What a line says behind a draft: the draft with the line, or why the line is wrong. Its form is tested first, then its shape, its numbers,
+-- What a line says behind a draft: the draft with the line, or why the line is wrong. Its form is tested first, then its shape, its
+-- numbers,
 -- the names in it, its order.
 --
 -- Verdict               the draft that the line makes of the one before; or the first cause that applies
--- WktReading            what comes of the text of a shape: the shape of which it is the written form; it is Unwritten, if it is too long, no
+-- WktReading            what comes of the text of a shape: the shape of which it is the written form; it is Unwritten, if it is too long,
+--                       no
 --                       well-known text, or the text of a shape, but not its written form; it is Refused for another reason
--- two_of, rule_of, feature_of, rect_of, error_of, cell_of     what the fields behind the first word say, where they have the form; none else
+-- two_of, rule_of, feature_of, rect_of, error_of, cell_of     what the fields behind the first word say, where they have the form; none
+-- else
 -- class_verdict, ..     the verdict on what a line says
 -- line_verdict r d fs   the verdict on a line of these fields behind the draft d; r is what comes of the text of its shape, if it has one
 -- wkt_of d fs           the text of the line's shape, where it has one, and all else of it has its form
 --
--- A name is told by its bytes; a class by the first of its name; a number is any whole number, and the limits are looked at once the form is right.
+-- A name is told by its bytes; a class by the first of its name; a number is any whole number, and the limits are looked at once the form
+-- is right.
 use Rattle.std.specs.Prelude.{ℕ, ℤ, ◌-◌, Bool, true, false, ◌&&◌, ◌||◌, not, ◌==◌, ltb, List, [], ◌∷◌, ◌++◌, length, codes, bytes_eq, Option, Some, None, is_some, Result, Ok, Err, if◌then◌else◌}
 use Rattle.std.specs.List.{list_all, list_any}
 use Rattle.std.specs.Option.{option_map}
@@ -84,11 +88,13 @@ pub record FeatureForm : Type 0 where
   pub wkt : List ℕ
 
 abbrev pub feature_of : List (List ℕ) → Option FeatureForm
-feature_of (h ∷ n ∷ f ∷ fs) = if is_name n then option_map (λ z. record { handle = z; class = n; wkt = joined (f ∷ fs) }) (number h) else None
+feature_of (h ∷ n ∷ f ∷ fs) = if is_name n then option_map (λ z. record { handle = z; class = n; wkt = joined (f ∷ fs) }) (number h) else
+    None
 feature_of other = None
 
 abbrev pub rect_of : List (List ℕ) → Option Rectangle
-rect_of (a ∷ b ∷ c ∷ d ∷ []) = bind (number a) (λ x0. bind (number b) (λ y0. bind (number c) (λ x1. option_map (rectangle x0 y0 x1) (number d))))
+rect_of (a ∷ b ∷ c ∷ d ∷ []) = bind (number a) (λ x0. bind (number b) (λ y0. bind (number c)
+    (λ x1. option_map (rectangle x0 y0 x1) (number d))))
 rect_of other = None
 
 pub record ErrorForm : Type 0 where
@@ -123,7 +129,8 @@ half_of a b c w = bind (number a) (λ x. bind (number b) (λ y. bind (number c) 
 -- the half-planes behind these: where a comma stands behind the last, there are more
 abbrev pub halves_behind : List HalfPlane → Bool → List (List ℕ) → Option Cell
 halves_behind hs more [] = if more then None else Some hs
-halves_behind hs more (a ∷ b ∷ c ∷ w ∷ fs) = if more then bind (half_of a b c w) (λ h. halves_behind (hs ++ h.half ∷ []) h.more fs) else None
+halves_behind hs more (a ∷ b ∷ c ∷ w ∷ fs) = if more then bind (half_of a b c w) (λ h. halves_behind (hs ++ h.half ∷ []) h.more fs) else
+    None
 halves_behind hs more other = None
 
 abbrev pub cell_of : List (List ℕ) → Option Cell
@@ -145,10 +152,12 @@ dest_in cs (Some n) = number_from 1 cs n
 
 -- the row of classes that are there, and fit the rule
 abbrev pub row_of : List Class → RuleForm → Option Row
-row_of cs q = bind (number_from 1 cs q.origin) (λ origin. bind (dest_in cs q.dest) (λ dest. if is_fit cs (row q.kind origin dest) then Some (row q.kind origin dest) else None))
+row_of cs q = bind (number_from 1 cs q.origin) (λ origin. bind (dest_in cs q.dest)
+    (λ dest. if is_fit cs (row q.kind origin dest) then Some (row q.kind origin dest) else None))
 
 abbrev pub with_rule : Draft → InForce → Verdict
-with_rule d q = if not (ltb (last_in (λ (r : InForce). r.number) d.project.rules) q.number) || is_there d.project.rules q.row then Err cause.Order else
+with_rule d q = if not (ltb (last_in (λ (r : InForce). r.number) d.project.rules) q.number) || is_there d.project.rules q.row then Err
+    cause.Order else
     Ok (record { stage = stage.Rules; project = record d.project { rules = d.project.rules ++ q ∷ [] } })
 
 abbrev pub rule_in : Draft → ℕ → Option Row → Verdict
@@ -168,7 +177,8 @@ with_feature d f = if ltb (last_in (λ (g : Feature). g.handle) d.project.featur
 
 abbrev pub feature_in : Draft → ℕ → Shape → Option ℕ → Verdict
 feature_in d h s None = Err cause.Unknown
-feature_in d h s (Some c) = if is_kind (kind_of_class d.project.classes c) s.kind then with_feature d (record { handle = h; class = c; shape = s }) else Err cause.Unknown
+feature_in d h s (Some c) = if is_kind (kind_of_class d.project.classes c) s.kind then with_feature d
+    (record { handle = h; class = c; shape = s }) else Err cause.Unknown
 
 abbrev pub feature_numbered : Draft → FeatureForm → Shape → Option ℕ → Verdict
 feature_numbered d f s None = Err cause.Range
@@ -195,18 +205,21 @@ with_error d e = if is_last_key d.project.entries (e.rule, e.subject, e.other)
 abbrev pub error_ruled : Draft → Bool → ErrorForm → ℕ → ℕ → Option ℕ → Verdict
 error_ruled d marked e a b None = Err cause.Unknown
 error_ruled d marked e a b (Some r) = if is_some (rule_at d.project.rules r)
-    then with_error d (record { rule = r; subject = a; other = b; whole = e.whole; marked = marked; frame = e.frame; cells = [] }) else Err cause.Unknown
+    then with_error d (record { rule = r; subject = a; other = b; whole = e.whole; marked = marked; frame = e.frame; cells = [] }) else Err
+        cause.Unknown
 
 abbrev pub error_in : Draft → Bool → ErrorForm → Option ℕ → Option ℕ → Verdict
 error_in d marked e None b = Err cause.Range
 error_in d marked e (Some a) None = Err cause.Range
-error_in d marked e (Some a) (Some b) = if not (is_rectangle e.frame) || (e.whole && not (b == 0)) then Err cause.Range else error_ruled d marked e a b (natural 1 256 e.rule)
+error_in d marked e (Some a) (Some b) = if not (is_rectangle e.frame) || (e.whole && not (b == 0)) then Err cause.Range else error_ruled d
+    marked e a b (natural 1 256 e.rule)
 
 abbrev pub error_verdict : Bool → Draft → ErrorForm → Verdict
 error_verdict marked d e = error_in d marked e (natural 1 (d.project.next - 1) e.subject) (natural 0 (d.project.next - 1) e.other)
 
 abbrev pub cell_verdict : Draft → Cell → Verdict
-cell_verdict d c = if list_all is_half c then Ok (record d { project = record d.project { entries = with_cell d.project.entries c } }) else Err cause.Range
+cell_verdict d c = if list_all is_half c then Ok (record d { project = record d.project { entries = with_cell d.project.entries c } }) else
+    Err cause.Range
 
 abbrev pub next_numbered : Draft → Option ℕ → Verdict
 next_numbered d None = Err cause.Range

@@ -91,7 +91,8 @@ abbrev pub error_lines : Entry → List (List (List ℕ))
 error_lines e = error_line e ∷ map cell_line e.cells
 
 abbrev pub lines_of : Project → List (List (List ℕ))
-lines_of p = title ∷ next_line p.next ∷ map class_line p.classes ++ (map (rule_line p.classes) p.rules ++ (map (feature_line p.classes) p.features
+lines_of p = title ∷ next_line p.next ∷ map class_line p.classes ++ (map (rule_line p.classes) p.rules ++
+    (map (feature_line p.classes) p.features
     ++ (map dirty_line p.dirt ++ (flat_map error_lines p.entries ++ last_line ∷ []))))
 
 abbrev pub line_text : List (List ℕ) → List ℕ

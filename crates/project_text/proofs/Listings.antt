@@ -11,20 +11,24 @@ abbrev pub said_of : {X : Type 0} → (X → List ℕ) → Option X → List ℕ
 said_of f None = []
 said_of f (Some x) = f x
 
-take_more : {X : Type 0} (f : X → List ℕ) (xs : List X) (i : ℕ) → flat_map f (take (suc i) xs) ≡ flat_map f (take i xs) ++ said_of f (slice_get xs i)
+take_more : {X : Type 0} (f : X → List ℕ) (xs : List X) (i : ℕ) → flat_map f (take (suc i) xs) ≡ flat_map f (take i xs) ++ said_of f
+    (slice_get xs i)
 take_more f [] zero = refl
 take_more f [] (suc i) = refl
 take_more f (y ∷ ys) zero = append-nil (f y)
-take_more f (y ∷ ys) (suc i) = ap (λ t. f y ++ t) (take_more f ys i) ∙ sym (append_assoc (f y) (flat_map f (take i ys)) (said_of f (slice_get ys i)))
+take_more f (y ∷ ys) (suc i) = ap (λ t. f y ++ t) (take_more f ys i) ∙ sym (append_assoc (f y) (flat_map f (take i ys))
+    (said_of f (slice_get ys i)))
 
-more_said : {X : Type 0} (f : X → List ℕ) (xs : List X) (i : ℕ) (t start old new : List ℕ) → said_of f (slice_get xs i) ≡ t → old ≡ start ++ flat_map f (take i xs)
+more_said : {X : Type 0} (f : X → List ℕ) (xs : List X) (i : ℕ) (t start old new : List ℕ) → said_of f (slice_get xs i) ≡ t
+    → old ≡ start ++ flat_map f (take i xs)
     → new ≡ old ++ t → new ≡ start ++ flat_map f (take (i + 1) xs)
 more_said f xs i t start old new at before more =
     let e : flat_map f (take (suc i) xs) ≡ flat_map f (take i xs) ++ t = take_more f xs i ∙ ap (λ o. flat_map f (take i xs) ++ o) at in
     rw add-one (more ∙ (ap (λ u. u ++ t) before ∙ (append_assoc start (flat_map f (take i xs)) t ∙ ap (λ u. start ++ u) (sym e))))
 
 -- one item more is said
-pub said_more : {X : Type 0} (f : X → List ℕ) (xs : List X) (i : ℕ) (x : X) (start old new : List ℕ) → slice_get xs i ≡ Some x → old ≡ start ++ flat_map f (take i xs)
+pub said_more : {X : Type 0} (f : X → List ℕ) (xs : List X) (i : ℕ) (x : X) (start old new : List ℕ) → slice_get xs i ≡ Some x
+    → old ≡ start ++ flat_map f (take i xs)
     → new ≡ old ++ f x → new ≡ start ++ flat_map f (take (i + 1) xs)
 said_more f xs i x start old new at before more = more_said f xs i (f x) start old new (ap (said_of f) at) before more
 
@@ -36,7 +40,8 @@ class_here : (cs : List Class) (i : ℕ) → class_at cs (i + 1) ≡ slice_get c
 class_here cs i = grind arith
 
 -- one class more is said
-pub class_more : (cs : List Class) (i : ℕ) (start old new : List ℕ) → old ≡ start ++ flat_map (λ (c : Class). class_text (Some c)) (take i cs)
+pub class_more : (cs : List Class) (i : ℕ) (start old new : List ℕ) → old ≡ start ++ flat_map (λ (c : Class). class_text (Some c))
+    (take i cs)
     → new ≡ old ++ class_text (class_at cs (i + 1)) → new ≡ start ++ flat_map (λ (c : Class). class_text (Some c)) (take (i + 1) cs)
 class_more cs i start old new before more =
     more_said (λ (c : Class). class_text (Some c)) cs i (class_text (class_at cs (i + 1))) start old new
@@ -57,7 +62,8 @@ more_left (h ∷ hs) zero = grind arith
 more_left (h ∷ hs) (suc i) = more_left hs i ∙ grind arith
 
 -- of what was to come, one half-plane more is said
-pub half_more : (hs : List HalfPlane) (i : ℕ) (h : HalfPlane) (m : Bool) (now new whole : List ℕ) → slice_get hs i ≡ Some h → m ≡ ltb (i + 1) (length hs)
+pub half_more : (hs : List HalfPlane) (i : ℕ) (h : HalfPlane) (m : Bool) (now new whole : List ℕ) → slice_get hs i ≡ Some h
+    → m ≡ ltb (i + 1) (length hs)
     → now ++ halves_text (drop i hs) ≡ whole → new ≡ now ++ half_text h m → new ++ halves_text (drop (i + 1) hs) ≡ whole
 half_more hs i h m now new whole at more before said =
     let rest = halves_text (drop (suc i) hs) in

@@ -38,21 +38,24 @@ name_spaced (Some c) rest = refl
 rect_spaced : (r : Rectangle) (rest : List ℕ) → spaced (rect_fields r) rest ≡ rect_text r ++ rest
 rect_spaced r rest = simp append_assoc refl
 
-four_said : (a b c d t rest : List ℕ) → 32 ∷ (a ++ (32 ∷ (b ++ (32 ∷ (c ++ (32 ∷ (d ++ (t ++ rest)))))))) ≡ ((32 ∷ (a ++ (32 ∷ (b ++ (32 ∷ (c ++ (32 ∷ d))))))) ++ t) ++ rest
+four_said : (a b c d t rest : List ℕ) → 32 ∷ (a ++ (32 ∷ (b ++ (32 ∷ (c ++ (32 ∷ (d ++ (t ++ rest)))))))) ≡
+    ((32 ∷ (a ++ (32 ∷ (b ++ (32 ∷ (c ++ (32 ∷ d))))))) ++ t) ++ rest
 four_said a b c d t rest = simp append_assoc refl
 
 three_said : (a b c t : List ℕ) → 32 ∷ (a ++ (32 ∷ (b ++ (32 ∷ (c ++ t))))) ≡ (32 ∷ (a ++ (32 ∷ (b ++ (32 ∷ c))))) ++ t
 three_said a b c t = simp append_assoc refl
 
 half_said : (h : HalfPlane) (m : Bool) (t rest : List ℕ)
-    → 32 ∷ signed_decimal h.a ⧺ 32 ∷ signed_decimal h.b ⧺ 32 ∷ signed_decimal h.c ⧺ 32 ∷ sign_text h.op m ⧺ (t ++ rest) ≡ (half_text h m ++ t) ++ rest
+    → 32 ∷ signed_decimal h.a ⧺ 32 ∷ signed_decimal h.b ⧺ 32 ∷ signed_decimal h.c ⧺ 32 ∷ sign_text h.op m ⧺ (t ++ rest) ≡
+        (half_text h m ++ t) ++ rest
 half_said h m t rest = four_said (signed_decimal h.a) (signed_decimal h.b) (signed_decimal h.c) (sign_text h.op m) t rest
 
 halves_spaced : (hs : Cell) (rest : List ℕ) → spaced (cell_fields hs) rest ≡ halves_text hs ++ rest
 halves_spaced [] rest = refl
 halves_spaced (h ∷ []) rest = half_said h false [] rest
 halves_spaced (h ∷ g ∷ hs) rest =
-    ap (λ t. 32 ∷ signed_decimal h.a ⧺ 32 ∷ signed_decimal h.b ⧺ 32 ∷ signed_decimal h.c ⧺ 32 ∷ sign_text h.op true ⧺ t) (halves_spaced (g ∷ hs) rest)
+    ap (λ t. 32 ∷ signed_decimal h.a ⧺ 32 ∷ signed_decimal h.b ⧺ 32 ∷ signed_decimal h.c ⧺ 32 ∷ sign_text h.op true ⧺ t)
+        (halves_spaced (g ∷ hs) rest)
     ∙ half_said h true (halves_text (g ∷ hs)) rest
 
 -- ---- each line
@@ -66,7 +69,8 @@ rule_same cs q =
     let d = class_at cs q.row.dest.class in
     spaced_line (codes "rule") (decimal q.number ∷ word_of q.row.kind ∷ (name_in o ++ name_in d)) (10 ∷ [])
     ∙ ap (λ t. codes "rule" ⧺ 32 ∷ decimal q.number ⧺ 32 ∷ word_of q.row.kind ⧺ t)
-    (spaced-append (name_in o) (name_in d) (10 ∷ []) ∙ (name_spaced o (spaced (name_in d) (10 ∷ [])) ∙ ap (λ t. name_text o ++ t) (name_spaced d (10 ∷ []))))
+    (spaced-append (name_in o) (name_in d) (10 ∷ []) ∙ (name_spaced o (spaced (name_in d) (10 ∷ []))
+        ∙ ap (λ t. name_text o ++ t) (name_spaced d (10 ∷ []))))
 
 feature_same : (cs : List Class) (f : Feature) → line_text (feature_line cs f) ≡ feature_text cs f
 feature_same cs f =
@@ -80,9 +84,11 @@ dirty_same r = spaced_line (codes "dirty") (rect_fields r) (10 ∷ []) ∙ ap (�
 
 error_same : (e : Entry) → line_text (error_line e) ≡ error_text e
 error_same e =
-    spaced_line (mark_word e.marked) (decimal e.rule ∷ decimal e.subject ∷ decimal e.other ∷ extent_word e.whole ∷ rect_fields e.frame) (10 ∷ [])
+    spaced_line (mark_word e.marked) (decimal e.rule ∷ decimal e.subject ∷ decimal e.other ∷ extent_word e.whole ∷ rect_fields e.frame)
+        (10 ∷ [])
     ∙ ap (λ t. mark_word e.marked ++ t)
-    (ap (λ t. 32 ∷ decimal e.rule ⧺ 32 ∷ decimal e.subject ⧺ 32 ∷ decimal e.other ⧺ 32 ∷ extent_word e.whole ⧺ t) (rect_spaced e.frame (10 ∷ []))
+    (ap (λ t. 32 ∷ decimal e.rule ⧺ 32 ∷ decimal e.subject ⧺ 32 ∷ decimal e.other ⧺ 32 ∷ extent_word e.whole ⧺ t)
+        (rect_spaced e.frame (10 ∷ []))
     ∙ three_said (decimal e.rule) (decimal e.subject) (decimal e.other) (32 ∷ extent_word e.whole ⧺ rect_text e.frame ⧺ 10 ∷ []))
 
 cell_same : (c : Cell) → line_text (cell_line c) ≡ cell_text c
@@ -90,27 +96,33 @@ cell_same c = spaced_line (codes "cell") (cell_fields c) (10 ∷ []) ∙ ap (λ 
 
 -- ---- each section
 
-section : {A : Type 0} (f : A → List (List ℕ)) (g : A → List ℕ) → ((x : A) → line_text (f x) ≡ g x) → (xs : List A) (ls : List (List (List ℕ)))
+section : {A : Type 0} (f : A → List (List ℕ)) (g : A → List ℕ) → ((x : A) → line_text (f x) ≡ g x)
+    → (xs : List A) (ls : List (List (List ℕ)))
     → flat_map line_text (map f xs ++ ls) ≡ flat_map g xs ++ flat_map line_text ls
 section f g same [] ls = refl
 section f g same (x ∷ xs) ls =
-    ap (λ t. t ++ flat_map line_text (map f xs ++ ls)) (same x) ∙ (ap (λ t. g x ++ t) (section f g same xs ls) ∙ sym (append_assoc (g x) (flat_map g xs) (flat_map line_text ls)))
+    ap (λ t. t ++ flat_map line_text (map f xs ++ ls)) (same x) ∙ (ap (λ t. g x ++ t) (section f g same xs ls)
+        ∙ sym (append_assoc (g x) (flat_map g xs) (flat_map line_text ls)))
 
 cells_same : (cs : List Cell) → flat_map line_text (map {A = Cell} cell_line cs) ≡ flat_map {X = Cell} cell_text cs
 cells_same [] = refl
-cells_same (c ∷ cs) = ap (λ t. t ++ flat_map line_text (map {A = Cell} cell_line cs)) (cell_same c) ∙ ap (λ t. cell_text c ++ t) (cells_same cs)
+cells_same (c ∷ cs) = ap (λ t. t ++ flat_map line_text (map {A = Cell} cell_line cs)) (cell_same c)
+    ∙ ap (λ t. cell_text c ++ t) (cells_same cs)
 
 error_all : (e : Entry) → flat_map line_text (error_lines e) ≡ error_texts e
-error_all e = ap (λ t. t ++ flat_map line_text (map {A = Cell} cell_line e.cells)) (error_same e) ∙ ap (λ t. error_text e ++ t) (cells_same e.cells)
+error_all e = ap (λ t. t ++ flat_map line_text (map {A = Cell} cell_line e.cells)) (error_same e)
+    ∙ ap (λ t. error_text e ++ t) (cells_same e.cells)
 
-errors_same : (es : List Entry) (ls : List (List (List ℕ))) → flat_map line_text (flat_map error_lines es ++ ls) ≡ flat_map error_texts es ++ flat_map line_text ls
+errors_same : (es : List Entry) (ls : List (List (List ℕ))) → flat_map line_text (flat_map error_lines es ++ ls) ≡ flat_map error_texts
+    es ++ flat_map line_text ls
 errors_same [] ls = refl
 errors_same (e ∷ es) ls =
     let rest = flat_map error_lines es ++ ls in
     ap (λ t. flat_map line_text t) (append_assoc (error_lines e) (flat_map error_lines es) ls)
     ∙ (flat_map-append line_text (error_lines e) rest
     ∙ (ap (λ t. t ++ flat_map line_text rest) (error_all e)
-    ∙ (ap (λ t. error_texts e ++ t) (errors_same es ls) ∙ sym (append_assoc (error_texts e) (flat_map error_texts es) (flat_map line_text ls)))))
+    ∙ (ap (λ t. error_texts e ++ t) (errors_same es ls) ∙ sym (append_assoc (error_texts e) (flat_map error_texts es)
+        (flat_map line_text ls)))))
 
 pub sections : (p : Project) → project_text p ≡ text_of p
 sections p =
@@ -118,30 +130,40 @@ sections p =
     let dirt = map dirty_line p.dirt ++ errors in
     let features = map (feature_line p.classes) p.features ++ dirt in
     let rules = map (rule_line p.classes) p.rules ++ features in
-    let head : (t : List ℕ) → line_text title ++ (line_text (next_line p.next) ++ t) ≡ head_text p.next ++ t = λ t. simp append_assoc refl in
+    let head : (t : List ℕ) → line_text title ++ (line_text (next_line p.next) ++ t) ≡ head_text p.next ++ t =
+        λ t. simp append_assoc refl in
     head (flat_map line_text (map class_line p.classes ++ rules)) ∙ ap (λ t. head_text p.next ++ t)
-    (section class_line (λ (c : Class). class_text (Some c)) class_same p.classes rules ∙ ap (λ t. flat_map (λ (c : Class). class_text (Some c)) p.classes ++ t)
-    (section (rule_line p.classes) (rule_text p.classes) (rule_same p.classes) p.rules features ∙ ap (λ t. flat_map (rule_text p.classes) p.rules ++ t)
-    (section (feature_line p.classes) (feature_text p.classes) (feature_same p.classes) p.features dirt ∙ ap (λ t. flat_map (feature_text p.classes) p.features ++ t)
-    (section dirty_line dirty_text dirty_same p.dirt errors ∙ ap (λ t. flat_map dirty_text p.dirt ++ t) (errors_same p.entries (last_line ∷ []))))))
+    (section class_line (λ (c : Class). class_text (Some c)) class_same p.classes rules
+        ∙ ap (λ t. flat_map (λ (c : Class). class_text (Some c)) p.classes ++ t)
+    (section (rule_line p.classes) (rule_text p.classes) (rule_same p.classes) p.rules features
+        ∙ ap (λ t. flat_map (rule_text p.classes) p.rules ++ t)
+    (section (feature_line p.classes) (feature_text p.classes) (feature_same p.classes) p.features dirt
+        ∙ ap (λ t. flat_map (feature_text p.classes) p.features ++ t)
+    (section dirty_line dirty_text dirty_same p.dirt errors ∙ ap (λ t. flat_map dirty_text p.dirt ++ t)
+        (errors_same p.entries (last_line ∷ []))))))
 
 abbrev parts : Project → List InForce → List Rectangle → List Entry → Project
 parts p rs ds es = record { classes = p.classes; rules = rs; features = p.features; next = p.next; dirt = ds; entries = es }
 
 -- what is appended of a project to nothing is its text
-pub all_written : (p : Project) (rs : List InForce) (ds : List Rectangle) (es : List Entry) (old new : List ℕ) → rs ≡ p.rules → ds ≡ p.dirt → es ≡ p.entries
-    → old ≡ [] → new ≡ old ++ text_of (record { classes = p.classes; rules = rs; features = p.features; next = p.next; dirt = ds; entries = es }) → new ≡ project_text p
+pub all_written : (p : Project) (rs : List InForce) (ds : List Rectangle) (es : List Entry) (old new : List ℕ) → rs ≡ p.rules → ds ≡ p.dirt
+    → es ≡ p.entries
+    → old ≡ [] → new ≡ old ++ text_of (record { classes = p.classes; rules = rs; features = p.features; next = p.next; dirt = ds; entries =
+        es }) → new ≡ project_text p
 all_written p rs ds es old new r d e o said =
-    said ∙ (ap (λ t. t ++ text_of (parts p rs ds es)) o ∙ (ap (λ x. text_of (parts p x ds es)) r ∙ (ap (λ x. text_of (parts p p.rules x es)) d
+    said ∙ (ap (λ t. t ++ text_of (parts p rs ds es)) o ∙ (ap (λ x. text_of (parts p x ds es)) r
+        ∙ (ap (λ x. text_of (parts p p.rules x es)) d
     ∙ (ap (λ x. text_of (parts p p.rules p.dirt x)) e ∙ sym (sections p)))))
 
 one_said : (o a b o1 o2 : List ℕ) → o1 ≡ o ++ a → o2 ≡ o1 ++ b → o2 ≡ o ++ (a ++ b)
 one_said o a b o1 o2 first second = second ∙ (ap (λ t. t ++ b) first ∙ append_assoc o a b)
 
 -- the head and the six parts behind it
-pub all_said : (n m : ℕ) (o b c d e f g o1 o2 o3 o4 o5 o6 o7 : List ℕ) → m ≡ n → o1 ≡ o ++ head_text m → o2 ≡ o1 ++ b → o3 ≡ o2 ++ c → o4 ≡ o3 ++ d → o5 ≡ o4 ++ e
+pub all_said : (n m : ℕ) (o b c d e f g o1 o2 o3 o4 o5 o6 o7 : List ℕ) → m ≡ n → o1 ≡ o ++ head_text m → o2 ≡ o1 ++ b → o3 ≡ o2 ++ c
+    → o4 ≡ o3 ++ d → o5 ≡ o4 ++ e
     → o6 ≡ o5 ++ f → o7 ≡ o6 ++ g → o7 ≡ o ++ (head_text n ++ (b ++ (c ++ (d ++ (e ++ (f ++ g))))))
 all_said n m o b c d e f g o1 o2 o3 o4 o5 o6 o7 same e1 e2 e3 e4 e5 e6 e7 =
     one_said o (head_text n) (b ++ (c ++ (d ++ (e ++ (f ++ g))))) o1 o7 (e1 ∙ ap (λ k. o ++ head_text k) same)
-    (one_said o1 b (c ++ (d ++ (e ++ (f ++ g)))) o2 o7 e2 (one_said o2 c (d ++ (e ++ (f ++ g))) o3 o7 e3 (one_said o3 d (e ++ (f ++ g)) o4 o7 e4
+    (one_said o1 b (c ++ (d ++ (e ++ (f ++ g)))) o2 o7 e2 (one_said o2 c (d ++ (e ++ (f ++ g))) o3 o7 e3
+        (one_said o3 d (e ++ (f ++ g)) o4 o7 e4
     (one_said o4 e (f ++ g) o5 o7 e5 (one_said o5 f g o6 o7 e6 e7)))))

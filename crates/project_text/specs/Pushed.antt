@@ -1,6 +1,7 @@
 -- The lines of a project's text as they are appended, each grouped from the right.
 --
--- rect_text, name_text, key_text      the numbers of a rectangle, the name of a class where there is one, the key of an error: each behind a space
+-- rect_text, name_text, key_text      the numbers of a rectangle, the name of a class where there is one, the key of an error: each behind
+--                                     a space
 -- half_text h m            the numbers and the sign of a half-plane, each behind a space, with a comma at the end if more follow
 -- class_text, rule_text, feature_text, dirty_text, error_text, cell_text     one line each; of a class that is not there, nothing
 -- error_texts e            the line of an error, and behind it those of its cells
@@ -47,7 +48,8 @@ class_text None = []
 class_text (Some c) = codes "class" ⧺ 32 ∷ c.name ⧺ 32 ∷ kind_word c.kind ⧺ 10 ∷ []
 
 abbrev pub rule_text : List Class → InForce → List ℕ
-rule_text cs q = codes "rule" ⧺ 32 ∷ decimal q.number ⧺ 32 ∷ word_of q.row.kind ⧺ name_text (class_at cs q.row.origin.class) ⧺ name_text (class_at cs q.row.dest.class) ⧺ 10 ∷ []
+rule_text cs q = codes "rule" ⧺ 32 ∷ decimal q.number ⧺ 32 ∷ word_of q.row.kind ⧺ name_text (class_at cs q.row.origin.class) ⧺ name_text
+    (class_at cs q.row.dest.class) ⧺ 10 ∷ []
 
 abbrev pub feature_text : List Class → Feature → List ℕ
 feature_text cs f = codes "feature" ⧺ 32 ∷ decimal f.handle ⧺ name_text (class_at cs f.class) ⧺ 32 ∷ shape_text f.shape ⧺ 10 ∷ []

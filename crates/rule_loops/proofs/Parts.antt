@@ -36,7 +36,8 @@ closed_taken (p ∷ ps) n e =
     ap (take n) (closed_is p p ps) ∙ take_at (path (p ∷ ps)) last n (omega (arith, length-path (p ∷ ps)))
 
 -- ---- the next of them, and those behind it
-module _ (paths : List Place → List Segment) (parts : List Ring) (k : ℕ) (part : Ring) (l : k < length parts) (e : part ≡ get_or parts k part) where
+module _ (paths : List Place → List Segment) (parts : List Ring) (k : ℕ) (part : Ring) (l : k < length parts)
+    (e : part ≡ get_or parts k part) where
   abbrev pub later : List Segment
   later = flat_map paths (rings_in (drop (k + 1) parts))
 
@@ -59,7 +60,8 @@ module _ (paths : List Place → List Segment) (parts : List Ring) (k : ℕ) (pa
   later_left rest n h a = ap (drop n) (joined rest h) ∙ drop_at (paths part.items) later n a
 
 pub crossings_more : (parts : List Ring) (k : ℕ) (part : Ring) → k < length parts → part ≡ get_or parts k part
-    → (es : List Place) (cells more new all : List Cell) → more ≡ in_part es (path part.items) (flat_map path (rings_in (drop (k + 1) parts)))
+    → (es : List Place) (cells more new all : List Cell) → more ≡ in_part es (path part.items)
+        (flat_map path (rings_in (drop (k + 1) parts)))
     → new ≡ cells ++ more → cells ++ later_crossings es (rings_in (drop k parts)) ≡ all
     → new ++ later_crossings es (rings_in (drop (k + 1) parts)) ≡ all
 crossings_more parts k part l e es cells more new all a b h =

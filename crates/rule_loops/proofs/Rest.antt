@@ -28,14 +28,16 @@ end_found q e qs i g t = or_true (same_place q e) (has_end_at (drop (i + 1) qs) 
 
 pub end_passed : (q e : Place) (qs : List Place) (i : ℕ) → slice_get qs i ≡ Some e → same_place q e ≡ false
     → has_end_at (drop (i + 1) qs) q ≡ has_end_at (drop i qs) q
-end_passed q e qs i g t = or_false (same_place q e) (has_end_at (drop (i + 1) qs) q) t ∙ sym (ap (λ rs. has_end_at rs q) (drop_one qs i e g))
+end_passed q e qs i g t = or_false (same_place q e) (has_end_at (drop (i + 1) qs) q) t
+    ∙ sym (ap (λ rs. has_end_at rs q) (drop_one qs i e g))
 
 -- ---- those that pass a test
 pub passing_more : {A : Type 0} (test : A → Bool) (xs done old new : List A) (i : ℕ) (x : A) → slice_get xs i ≡ Some x → test x ≡ true
     → new ≡ old ++ x ∷ [] → old ++ filter test (drop i xs) ≡ done → new ++ filter test (drop (i + 1) xs) ≡ done
 passing_more test xs done old new i x g t n h =
     let rest = filter test (drop (i + 1) xs) in
-    ap (λ ys. ys ++ rest) n ∙ (append_assoc old (x ∷ []) rest ∙ (sym (ap (λ ys. old ++ ys) (ap (filter test) (drop_one xs i x g) ∙ rw t refl)) ∙ h))
+    ap (λ ys. ys ++ rest) n ∙ (append_assoc old (x ∷ []) rest
+        ∙ (sym (ap (λ ys. old ++ ys) (ap (filter test) (drop_one xs i x g) ∙ rw t refl)) ∙ h))
 
 pub passing_same : {A : Type 0} (test : A → Bool) (xs done old new : List A) (i : ℕ) (x : A) → slice_get xs i ≡ Some x → test x ≡ false
     → new ≡ old → old ++ filter test (drop i xs) ≡ done → new ++ filter test (drop (i + 1) xs) ≡ done

@@ -4,8 +4,10 @@
 -- Answers old c reply new     refused with the state as it was, or done
 -- Leaves P old new        the project becomes what P says, and the sessions stay
 -- IsBegun, IsEnded        the session of this editor is open, without steps; it is gone, and its steps stand
--- LeavesNoted editor t P old new     the project becomes what P says, and t is the last done step of the editor's session, whose undone ones go
--- IsUndone, IsRedone      the last done step of the editor's session is undone: its handle has what stood there before it; the first undone one is done again
+-- LeavesNoted editor t P old new     the project becomes what P says, and t is the last done step of the editor's session, whose undone
+--                                    ones go
+-- IsUndone, IsRedone      the last done step of the editor's session is undone: its handle has what stood there before it; the first
+--                         undone one is done again
 -- AreTakenBack ts p q     these steps are undone, the last one first
 -- IsDiscarded             the done steps of the editor's session are taken back, and it is gone
 --

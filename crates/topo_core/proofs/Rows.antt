@@ -48,11 +48,15 @@ no_fault true t e = cc
 no_fault false true e = refl
 no_fault false false e = cc
 
-dest_told : (cs : List Class) (row : Row) (o : Option Kind) → fits_dest cs row o ≡ true → IfSome o (λ k. kind_of_class cs row.dest.class ≡ Some k)
+dest_told : (cs : List Class) (row : Row) (o : Option Kind) → fits_dest cs row o ≡ true
+    → IfSome o (λ k. kind_of_class cs row.dest.class ≡ Some k)
 dest_told cs row None e = tt
-dest_told cs row (Some k) e = kind_told (kind_of_class cs row.dest.class) k (both_parts (is_kind (kind_of_class cs row.dest.class) k) (not (row.dest.class == row.origin.class)) e).0
+dest_told cs row (Some k) e = kind_told (kind_of_class cs row.dest.class) k (both_parts (is_kind (kind_of_class cs row.dest.class) k)
+    (not (row.dest.class == row.origin.class)) e).0
 
 pub has_kinds : (cs : List Class) (row : Row) → fit_cause cs row ≡ None → HasKinds cs row
 has_kinds cs row e =
-    let fit = both_parts (is_kind (kind_of_class cs row.origin.class) (origin_of row.kind)) (fits_dest cs row (dest_of row.kind)) (no_fault (is_missing cs row) (is_fit cs row) e) in
-    record { origin = kind_told (kind_of_class cs row.origin.class) (origin_of row.kind) fit.0; dest = dest_told cs row (dest_of row.kind) fit.1 }
+    let fit = both_parts (is_kind (kind_of_class cs row.origin.class) (origin_of row.kind)) (fits_dest cs row (dest_of row.kind))
+        (no_fault (is_missing cs row) (is_fit cs row) e) in
+    record { origin = kind_told (kind_of_class cs row.origin.class) (origin_of row.kind) fit.0; dest =
+        dest_told cs row (dest_of row.kind) fit.1 }

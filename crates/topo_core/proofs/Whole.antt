@@ -28,7 +28,8 @@ pub none_given : (h : ℕ) (F : List Feature) → Every (IsGiven h) F → featur
 unfolding feature_at
 none_given h F g = none_lacks by_handle handles h F (lacks_before by_handle handles h F (below_next h F g))
 
-kind_agrees : (cs : List Class) (f : Feature) (n : ℕ) (k : Kind) → IsOfClass cs f → f.class ≡ n → kind_of_class cs n ≡ Some k → f.shape.kind ≡ k
+kind_agrees : (cs : List Class) (f : Feature) (n : ℕ) (k : Kind) → IsOfClass cs f → f.class ≡ n → kind_of_class cs n ≡ Some k
+    → f.shape.kind ≡ k
 kind_agrees cs f n k o e h =
     let both : Some f.shape.kind ≡ Some k = sym o ∙ (ap (kind_of_class cs) e ∙ h) in
     cc
@@ -74,7 +75,8 @@ empty_topology = record {
   few = omega arith;
   kinds = tt;
   order = tt;
-  made = record { envelopes = λ a f e. absurd cc; frames = λ r a b e k. absurd cc; bare = λ r a b e k w. absurd cc; ruled = λ r a b e k. absurd cc };
+  made = record { envelopes = λ a f e. absurd cc; frames = λ r a b e k. absurd cc; bare = λ r a b e k w. absurd cc; ruled =
+      λ r a b e k. absurd cc };
 }
 
 pub empty_sound : (M : Meaning) → IsSoundUnder M empty_project
