@@ -1,5 +1,5 @@
 -- Words that are drawn one after the other.
-use Rattle.std.proofs.Common.{ℕ, suc, ◌≡◌, ◌+◌, ◌<◌, List, [], ◌∷◌, ◌++◌, length, get_or, ap, ◌∙◌, arith, add-one}
+use Rattle.std.proofs.Common.{ℕ, ◌≡◌, ◌+◌, List, [], ◌∷◌, ◌++◌, length, ap, ◌∙◌, arith, add-one}
 use Rattle.std.proofs.lemmas.Grind.{common_steps}
 use Rattle.rand_xoshiro.specs.SplitMix64.{next_state, mix_u64}
 use Rattle.town_terms.specs.Words.{state_after, word}

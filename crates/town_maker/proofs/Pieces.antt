@@ -2,7 +2,7 @@
 --
 -- in_three    three pieces, of which the result of the last is handed on
 -- one_more    of texts one behind the other, one more
-use Rattle.std.proofs.Common.{ℕ, ◌≡◌, ◌+◌, List, ◌++◌, Result, Ok, Err, OnOk, sym, ap, ◌∙◌, append_assoc, add-one}
+use Rattle.std.proofs.Common.{ℕ, ◌≡◌, ◌+◌, List, ◌++◌, Result, Ok, Err, OnOk, ap, ◌∙◌, append_assoc, add-one}
 use Rattle.town_terms.specs.Town.{each_below}
 
 pub in_three : {X E : Type 0} (r : Result X E) (old first then new a b c : List ℕ) → first ≡ old ++ a → then ≡ first ++ b

@@ -6,14 +6,23 @@ use crate::town::Town;
 use grid_plane::NoMemory;
 
 // The address of this row and column, by two words of a row, the first of which is the word `at`.
-fn push_address_by(out: &mut Vec<u8>, town: &Town, from: u64, at: u64, row: u64, column: u64) -> Result<(), NoMemory>
+fn push_address_by(
+    out: &mut Vec<u8>,
+    town: &Town,
+    from: u64,
+    at: u64,
+    row: u64,
+    column: u64,
+) -> Result<(), NoMemory>
     requires from { from ≤ town.now.rows }
     requires at { at + 1 < 2 * town.now.rows }
     requires row { row ≤ 60 }
     requires column { column ≤ 60 }
     ensures { OnOk result (out.new.items ≡ out.old.items ++ address_by town.now.seed town.now.rows from at row column) }
 {
-    push_address(out, town.word(from, at), town.word(from, at + 1), row, column)
+    let u = town.word(from, at);
+    let v = town.word(from, at + 1);
+    push_address(out, u, v, row, column)
 }
 
 // The address of this row and column; nothing where it comes late.
