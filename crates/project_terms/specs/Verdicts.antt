@@ -1,6 +1,5 @@
 -- What a line says behind a draft: the draft with the line, or why the line is wrong. Its form is tested first, then its shape, its
--- numbers,
--- the names in it, its order.
+-- numbers, the names in it, its order.
 --
 -- Verdict               the draft that the line makes of the one before; or the first cause that applies
 -- WktReading            what comes of the text of a shape: the shape of which it is the written form; it is Unwritten, if it is too long,
