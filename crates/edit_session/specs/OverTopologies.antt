@@ -4,10 +4,10 @@
 --                                       is sound,
 --                                       and what was settled is settled
 use Rattle.std.proofs.Common.{ap, subst, sym}
-use Rattle.std.specs.Prelude.{◌≡◌, ◌<◌, ℕ, List, Option}
+use Rattle.std.specs.Prelude.{◌≡◌, ◌<◌, ℕ, Option}
 use Rattle.std.specs.Option.{IfSome}
 use Rattle.topology_terms.specs.Changes.{IsFeatureSet}
-use Rattle.topology_terms.specs.Feature.{Class, Feature, feature_at}
+use Rattle.topology_terms.specs.Feature.{Feature, feature_at}
 use Rattle.topology_terms.specs.Meaning.{Meaning}
 use Rattle.topology_terms.specs.Project.{Project}
 use Rattle.topology_terms.specs.Settled.{IsSettledUnder}

@@ -1,6 +1,5 @@
 -- An undo restores one handle, a discard those of the session's done steps.
-use Rattle.std.proofs.Common.{ℕ, ◌≡◌, ◌≢◌, Bool, true, false, List, [], ◌∷◌, refl, sym, ◌∙◌, ap, arith, eqb}
-use Rattle.std.proofs.lemmas.Bool.Decides.{nat_tests}
+use Rattle.std.proofs.Common.{ℕ, ◌≡◌, Bool, true, false, List, [], ◌∷◌, refl, sym, ◌∙◌, ap, eqb}
 use Rattle.std.specs.Prelude.{if◌then◌else◌}
 use Rattle.topology_terms.specs.Feature.{feature_at}
 use Rattle.topology_terms.specs.Project.{Project}

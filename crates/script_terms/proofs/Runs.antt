@@ -1,7 +1,6 @@
 -- Each line of a run, and so each run, keeps sessions apart and chained.
-use Rattle.std.proofs.Common.{ℕ, ◌≡◌, ◌<◌, Bool, true, false, List, [], ◌∷◌, Option, Some, None, refl, ◌∙◌, ap, subst, arith, eqb}
+use Rattle.std.proofs.Common.{ℕ, ◌≡◌, ◌<◌, Bool, true, false, List, [], ◌∷◌, Option, Some, None, refl, ◌∙◌, ap, subst, eqb}
 use Rattle.std.proofs.lemmas.Slice.Eq.{bytes_eq-Decides}
-use Rattle.std.proofs.lemmas.Bool.Decides.{nat_tests}
 use Rattle.std.specs.Prelude.{if◌then◌else◌, bytes_eq, not, is_some, is_none}
 use Rattle.plane_terms.specs.Lists.{Every}
 use Rattle.topology_terms.specs.Feature.{Feature, feature_at}

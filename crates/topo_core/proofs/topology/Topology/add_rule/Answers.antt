@@ -1,5 +1,4 @@
-use Rattle.std.proofs.Common.{ℕ, ◌≡◌, ◌≢◌, ◌≤◌, ◌<◌, None, length, rules, subst, sym}
-use Rattle.topology_terms.specs.Project.{rule_at}
+use Rattle.std.proofs.Common.{◌<◌, length, rules, subst, sym}
 use Rattle.topology_terms.specs.Sound.{IsSoundUnder}
 use Rattle.topology_terms.specs.Settled.{IsSettledUnder}
 use Rattle.topo_core.proofs.Rows.{has_kinds}
