@@ -42,6 +42,7 @@ impl Common for Overlap {
     ghost common = { λ cells g. carve_of cells (terms.inside g) };
 
     fn cells(&self, alloc: Global, partner: &Feature, work: &mut Work) -> Result<Cells, NoMemory> {
-        self.inside.carve(alloc, &inside_of(alloc, partner, work)?)
+        let inside = inside_of(alloc, partner, work)?;
+        self.inside.carve(alloc, &inside)
     }
 }

@@ -27,7 +27,8 @@ pub fn area_left(
         }
         let other = view.feature(i);
         if other.class() == class {
-            cells = cells.carve(alloc, &outside_of(alloc, other, work)?)?;
+            let outside = outside_of(alloc, other, work)?;
+            cells = cells.carve(alloc, &outside)?;
         }
     }
     Ok(cells)

@@ -43,11 +43,7 @@ fn kept_or_made(
 }
 
 /// The cells of a polygon's inside. The work keeps them for the next call.
-pub fn inside_of(
-    alloc: Global,
-    polygon: &Feature,
-    work: &mut Work,
-) -> Result<Rc<Cells>, NoMemory>
+pub fn inside_of(alloc: Global, polygon: &Feature, work: &mut Work) -> Result<Rc<Cells>, NoMemory>
     ensures cells { IfOk result (λ cells. cells.value ≡ terms.inside polygon.now) }
     ensures uncounted { work.new ≡ work.old }
 {
@@ -55,11 +51,7 @@ pub fn inside_of(
 }
 
 /// The cells of what is closed out of a polygon. The work keeps them for the next call.
-pub fn outside_of(
-    alloc: Global,
-    polygon: &Feature,
-    work: &mut Work,
-) -> Result<Rc<Cells>, NoMemory>
+pub fn outside_of(alloc: Global, polygon: &Feature, work: &mut Work) -> Result<Rc<Cells>, NoMemory>
     ensures cells { IfOk result (λ cells. cells.value ≡ terms.outside polygon.now) }
     ensures uncounted { work.new ≡ work.old }
 {
@@ -115,6 +107,7 @@ pub fn covers(
     ensures covers { IfOk result (λ covered. covered ≡ tests.is_empty (carve_of cells.now (terms.outside polygon.now))) }
     ensures uncounted { work.new ≡ work.old }
 {
-    let left = cells.carve(alloc, &outside_of(alloc, polygon, work)?)?;
+    let outside = outside_of(alloc, polygon, work)?;
+    let left = cells.carve(alloc, &outside)?;
     Ok(left.len() == 0)
 }
