@@ -61,7 +61,7 @@ module _ (paths : List Place → List Segment) (parts : List Ring) (k : ℕ) (pa
 
 pub crossings_more : (parts : List Ring) (k : ℕ) (part : Ring) → k < length parts → part ≡ get_or parts k part
     → (es : List Place) (cells more new all : List Cell) → more ≡ in_part es (path part.items)
-        (flat_map path (rings_in (drop (k + 1) parts)))
+    (flat_map path (rings_in (drop (k + 1) parts)))
     → new ≡ cells ++ more → cells ++ later_crossings es (rings_in (drop k parts)) ≡ all
     → new ++ later_crossings es (rings_in (drop (k + 1) parts)) ≡ all
 crossings_more parts k part l e es cells more new all a b h =
