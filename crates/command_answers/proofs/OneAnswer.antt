@@ -2,8 +2,9 @@
 use Rattle.std.proofs.Common.{◌≡◌, ◌⊎◌, inl, inr, ℕ, ◌<◌, Bool, true, false, List, [], ◌∷◌, ◌++◌, length, Option, Some, None, refl, sym, ◌∙◌, ap, subst, arith}
 use Rattle.plane_terms.specs.Lists.{IsThose}
 use Rattle.plane_terms.specs.Rectangle.{Rectangle}
+use Rattle.plane_terms.specs.Cell.{Cell}
 use Rattle.topology_terms.specs.Broken.{Row}
-use Rattle.topology_terms.specs.Changes.{IsFeatureSet, IsEdit, IsRuleAdded, IsRuleDropped, IsUnchanged, KeepsMark, add_envelope}
+use Rattle.topology_terms.specs.Changes.{IsFeatureSet, IsEdit, IsRuleAdded, IsRuleDropped, IsUnchanged, IsMarked, SameButMark, KeepsMark, add_envelope}
 use Rattle.topology_terms.specs.Counts.{judged_of}
 use Rattle.topology_terms.specs.Entry.{Entry, entry_at}
 use Rattle.topology_terms.specs.Feature.{Class as AClass, Feature, feature_at, IsSetAt}
@@ -130,6 +131,55 @@ option_same o (Some d) (Some e) same h k =
     let bare : unmark d ≡ unmark e = cc in
     let marks : d.marked ≡ e.marked = mark_same o d e bare (h d refl) (k e refl) in
     ap (λ (x : Entry). Some (record x { marked = d.marked })) bare ∙ ap (λ (m : Bool). Some (record e { marked = m })) marks
+
+-- ---- a mark
+made_same : (r s a b c d : ℕ) (w x m n : Bool) (f g : Rectangle) (cs ds : List Cell) → r ≡ s → a ≡ b → c ≡ d → w ≡ x → m ≡ n → f ≡ g → cs ≡ ds
+    → (let y : Entry = record { rule = r; subject = a; other = c; whole = w; marked = m; frame = f; cells = cs } in
+    let z : Entry = record { rule = s; subject = b; other = d; whole = x; marked = n; frame = g; cells = ds } in
+    y ≡ z)
+made_same r s a b c d w x m n f g cs ds e1 e2 e3 e4 e5 e6 e7 = rw (e1, e2, e3, e4, e5, e6, e7) refl
+
+-- two entries of one key that are the same as a third, marks aside, and have one mark
+marked_option : (o d e : Option Entry) (r a b : ℕ) (on : Bool) → SameButMark o d → SameButMark o e
+    → ((x : Entry) → d ≡ Some x → (x.rule ≡ r) × (x.subject ≡ a) × (x.other ≡ b) × (x.marked ≡ on))
+    → ((x : Entry) → e ≡ Some x → (x.rule ≡ r) × (x.subject ≡ a) × (x.other ≡ b) × (x.marked ≡ on)) → d ≡ e
+marked_option None None None r a b on h k p q = refl
+marked_option None None (Some e) r a b on h k p q = absurd k
+marked_option None (Some d) e r a b on h k p q = absurd h
+marked_option (Some w) None e r a b on h k p q = absurd h
+marked_option (Some w) (Some d) None r a b on h k p q = absurd k
+marked_option (Some w) (Some d) (Some e) r a b on h k p q =
+    let x = p d refl in
+    let y = q e refl in
+    ap (λ (z : Entry). Some z) (made_same d.rule e.rule d.subject e.subject d.other e.other d.whole e.whole d.marked e.marked d.frame e.frame d.cells e.cells
+    (x.0 ∙ sym y.0) (x.1 ∙ sym y.1) (x.2 ∙ sym y.2) (sym h.whole ∙ k.whole) (x.3 ∙ sym y.3) (sym h.frame ∙ k.frame) (sym h.cells ∙ k.cells))
+
+key_or_not : (r a b k c d : ℕ) → ((k ≡ r) × (c ≡ a) × (d ≡ b)) ⊎ (¬ ((k ≡ r) × (c ≡ a) × (d ≡ b)))
+key_or_not r a b k c d = elim (same_or_not k r) [
+  | inr n ↦ inr (λ z. n z.0)
+  | inl i ↦ elim (same_or_not c a) [
+    | inr n ↦ inr (λ z. n z.1)
+    | inl j ↦ elim (same_or_not d b) [ inr n ↦ inr (λ z. n z.2) | inl l ↦ inl (i, j, l) ]
+  ]
+]
+
+marked_same : (r a b : ℕ) (on : Bool) (s p q : Project) → IsOrdered p → IsOrdered q → IsMarked r a b on s p → IsMarked r a b on s q → AreSame p q
+marked_same r a b on s p q u v i j = record {
+  classes = i.marking.classes ∙ sym j.marking.classes;
+  rules = i.marking.rules ∙ sym j.marking.rules;
+  features = i.marking.features ∙ sym j.marking.features;
+  next = i.marking.next ∙ sym j.marking.next;
+  dirt = i.marking.dirt ∙ sym j.marking.dirt;
+  entries = same_entries p.entries q.entries u.entries v.entries (λ k c d. elim (key_or_not r a b k c d) [
+    | inr n ↦ i.others k c d n ∙ sym (j.others k c d n)
+    | inl z ↦ rw (z.0, z.1, z.2) here
+  ]);
+}
+  where
+    here : entry_at p.entries r a b ≡ entry_at q.entries r a b
+    here = marked_option (entry_at s.entries r a b) (entry_at p.entries r a b) (entry_at q.entries r a b) r a b on (i.marking.entries r a b) (j.marking.entries r a b)
+        (λ x e. let z = entry_key p.entries r a b x e in (z.0, z.1, z.2, i.here x e))
+        (λ x e. let z = entry_key q.entries r a b x e in (z.0, z.1, z.2, j.here x e))
 
 row_or_none : (o : Option Row) → ((row : Row) × (o ≡ Some row)) ⊎ (o ≡ None)
 row_or_none None = inr refl
@@ -319,13 +369,15 @@ one_done C s t u (Validate win) reply said v w (j1, e1, d1, is1, l1) (j2, e2, d2
     let errors : e1 ≡ e2 = p.errors_is ∙ (ap length parts.entries ∙ sym q.errors_is) in
     let dirty : d1 ≡ d2 = p.dirty_is ∙ (ap length parts.dirt ∙ sym q.dirty_is) in
     (is1 ∙ (judged_same j1 e1 d1 j2 e2 d2 judged errors dirty ∙ sym is2), left_same s t u l1.sessions l2.sessions parts)
-one_done C s t u (Mark r h g) reply said v w d e = absurd d
-one_done C s t u (Unmark r h g) reply said v w d e = absurd d
+one_done C s t u (Mark r a b) reply said v w d e =
+    (d.0 ∙ sym e.0, left_same s t u d.1.sessions e.1.sessions (marked_same r a b true s.project t.project u.project v w d.1.project e.1.project))
+one_done C s t u (Unmark r a b) reply said v w d e =
+    (d.0 ∙ sym e.0, left_same s t u d.1.sessions e.1.sessions (marked_same r a b false s.project t.project u.project v w d.1.project e.1.project))
 one_done C s t u Dirty reply said v w d e = (d.0 ∙ sym e.0, kept_same s t u d.1 e.1)
 one_done C s t u Errors reply said v w d e = (d.0 ∙ sym e.0, kept_same s t u d.1 e.1)
 one_done C s t u Cells reply said v w d e = (d.0 ∙ sym e.0, kept_same s t u d.1 e.1)
 one_done C s t u Features reply said v w d e = (d.0 ∙ sym e.0, kept_same s t u d.1 e.1)
-one_done C s t u Rules reply said v w d e = absurd d
+one_done C s t u Rules reply said v w d e = (d.0 ∙ sym e.0, kept_same s t u d.1 e.1)
 
 pub one_answer : CutsRight poster → (s t u : State) (c : Command) (reply said : Reply) → IsOrdered t.project → IsOrdered u.project → Answers s c reply t → Answers s c said u → Same reply t said u
 one_answer C s t u c reply said v w d e = by (refusal_of s c) d e
