@@ -20,7 +20,7 @@ use Rattle.script_terms.specs.Refusal.{Line, SessionOpen, NoSession, NothingToUn
 use Rattle.script_terms.specs.Reply.{Judged, Refused, CellList, DirtyList, ErrorList, FeatureList, RuleList, reply_text}
 use Rattle.script_terms.specs.State.{State}
 use Rattle.script_terms.specs.Refusing.{refusal_of}
-use Rattle.script_terms.specs.Report.{report_text}
+use Rattle.script_terms.specs.Report.{report_of}
 
 abbrev at : ℤ → ℤ → Place
 at x y = record { x = x; y = y }
@@ -153,7 +153,7 @@ rules_of_two : reply_text (RuleList zones) ≡ codes "rule 3 polygon_must_be_cov
 unfolding digits
 rules_of_two = refl
 
-report : report_text wells ≡ codes "rule,kind,subject,other,extent,mark,x0,y0,x1,y1" ++ 10 ∷ codes
+report : report_of wells.rules wells.entries ≡ codes "rule,kind,subject,other,extent,mark,x0,y0,x1,y1" ++ 10 ∷ codes
     "1,point_must_be_disjoint,1,2,cells,error,3,4,3,4" ++ 10 ∷ []
 unfolding digits rule_at
 report = refl
