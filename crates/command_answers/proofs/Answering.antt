@@ -97,20 +97,20 @@ class_added s t name k n may number h same = did s t (Class name k) (Number n) (
 pub feature_added : (s t : State) (editor class : List ℕ) (shape : Shape) (n h : ℕ) → is_open s editor ≡ true
     → class_number s.project class ≡ Some n
     → add_cause s.project.classes s.project.next n shape.kind ≡ None → LeavesNoted editor (added_step h n shape) (IsFeatureAdded n shape h)
-        s t
+    s t
     → Answers s (Add editor class shape) (Number h) t
 feature_added s t editor class shape n h opened named may more =
     did s t (Add editor class shape) (Number h) (add_cause s.project.classes s.project.next n shape.kind)
-        (add_refusal s editor class shape n opened named) may
+    (add_refusal s editor class shape n opened named) may
     (h, refl, rw named more)
 
 pub feature_changed : (s t : State) (editor : List ℕ) (h : ℕ) (shape : Shape) → refusal_of s (Delete editor h) ≡ None
     → change_cause s.project.features h shape.kind ≡ None
     → (let after = reshaped (feature_at s.project.features h) shape in LeavesNoted editor (set_step s.project h after)
-        (IsFeatureSet h after) s t) → Answers s (AChange editor h shape) Done t
+    (IsFeatureSet h after) s t) → Answers s (AChange editor h shape) Done t
 feature_changed s t editor h shape free may k =
     did s t (AChange editor h shape) Done (change_cause s.project.features h shape.kind) (change_refusal s editor h shape free) may
-        (refl, k)
+    (refl, k)
 
 pub feature_deleted : (s t : State) (editor : List ℕ) (h : ℕ) → refusal_of s (Delete editor h) ≡ None
     → LeavesNoted editor (set_step s.project h None) (IsFeatureSet h None) s t → Answers s (Delete editor h) Done t
@@ -118,7 +118,7 @@ feature_deleted s t editor h free k = done s t (Delete editor h) Done free (refl
 
 pub rule_added : (s t : State) (k : RuleKind) (origin : List ℕ) (dest : Option (List ℕ)) (n : ℕ) → is_nowhere s.project dest ≡ false
     → rule_cause s.project (row_of s.project k origin dest) ≡ None → IsRuleAdded n (row_of s.project k origin dest) s.project t.project
-        → t.sessions ≡ s.sessions
+    → t.sessions ≡ s.sessions
     → Answers s (Rule k origin dest) (Number n) t
 rule_added s t k origin dest n there may added same =
     did s t (Rule k origin dest) (Number n) (rule_cause s.project (row_of s.project k origin dest)) (rule_refusal s k origin dest there) may
@@ -140,26 +140,26 @@ pub add_refused : (s t : State) (editor class : List ℕ) (shape : Shape) (n : �
     → IsSomeAnd o (λ x. reply ≡ Refused (Change x)) → t ≡ s → Answers s (Add editor class shape) reply t
 add_refused s t editor class shape n o reply opened named tells said same =
     told s t (Add editor class shape) reply o (add_cause s.project.classes s.project.next n shape.kind)
-        (add_refusal s editor class shape n opened named) tells said same
+    (add_refusal s editor class shape n opened named) tells said same
 
 pub change_refused : (s t : State) (editor : List ℕ) (h : ℕ) (shape : Shape) (o : Option Cause) (reply : Reply)
     → refusal_of s (Delete editor h) ≡ None
     → Tells o (change_cause s.project.features h shape.kind) → IsSomeAnd o (λ x. reply ≡ Refused (Change x)) → t ≡ s
-        → Answers s (AChange editor h shape) reply t
+    → Answers s (AChange editor h shape) reply t
 change_refused s t editor h shape o reply free tells said same =
     told s t (AChange editor h shape) reply o (change_cause s.project.features h shape.kind) (change_refusal s editor h shape free) tells
-        said same
+    said same
 
 -- a deletion that is not refused finds its feature
 deletes : (s : State) (editor : List ℕ) (h : ℕ) → refusal_of s (Delete editor h) ≡ None → delete_cause s.project.features h ≡ None
 deletes s editor h free =
     let a = first_none (when (not (is_open s editor)) NoSession) (changes (delete_cause s.project.features h) ∷ held s editor h ∷ []) free
-        in
+    in
     changes_none (delete_cause s.project.features h) (first_none (changes (delete_cause s.project.features h)) (held s editor h ∷ []) a.1).0
 
 pub delete_refused : (s t : State) (editor : List ℕ) (h : ℕ) (o : Option Cause) (reply : Reply) → refusal_of s (Delete editor h) ≡ None
     → Tells o (delete_cause s.project.features h) → IsSomeAnd o (λ x. reply ≡ Refused (Change x)) → t ≡ s
-        → Answers s (Delete editor h) reply t
+    → Answers s (Delete editor h) reply t
 delete_refused s t editor h None reply free tells said same = absurd said
 delete_refused s t editor h (Some x) reply free tells said same = let none = deletes s editor h free in absurd cc
 
@@ -168,7 +168,7 @@ pub rule_refused : (s t : State) (k : RuleKind) (origin : List ℕ) (dest : Opti
     → IsSomeAnd o (λ x. reply ≡ Refused (Change x)) → t ≡ s → Answers s (Rule k origin dest) reply t
 rule_refused s t k origin dest o reply there tells said same =
     told s t (Rule k origin dest) reply o (rule_cause s.project (row_of s.project k origin dest)) (rule_refusal s k origin dest there) tells
-        said same
+    said same
 
 pub rule_dropped : (s t : State) (n : ℕ) → drop_cause s.project.rules n ≡ None → IsRuleDropped n s.project t.project
     → t.sessions ≡ s.sessions → Answers s (DropRule n) Done t
@@ -208,7 +208,7 @@ handles_of next (f ∷ F) h = let rest = handles_of next F h.1 in ((h.0.from_1, 
 pub validated : (s t : State) (w : Rectangle) (judged errors dirty done_count : ℕ) → IsTopology s.project → s.project.next ≤ 4294967295
     → IsValidatedBy poster w s.project t.project → IsCounted w s.project 0 done_count →
     judged ≡ done_count - 0 → errors ≡ length t.project.entries → dirty ≡ length t.project.dirt → t.sessions ≡ s.sessions
-        → Answers s (Validate w) (Judged judged errors dirty) t
+    → Answers s (Validate w) (Judged judged errors dirty) t
 validated s t w judged errors dirty count law next v counted j e d same =
     let F = s.project.features in
     let handles = handles_of s.project.next F law.store.given in
@@ -218,7 +218,22 @@ validated s t w judged errors dirty count law next v counted j e d same =
     let most = few_judged s.project.rules counted.subjects 4294967296 few in
     let bound : judged_of s.project.rules counted.subjects ≤ 1099511627776 = (let r = law.few in omega (arith, most, r)) in
     let is : judged ≡ judged_of s.project.rules counted.subjects = (j ∙ (ap (λ n. n - 0) counted.count
-        ∙ exact (judged_of s.project.rules counted.subjects) bound)) in
-    done s t (Validate w) (Judged judged errors dirty) refl
-    (judged, errors, dirty, refl, record { project = record { validated = v; selected = counted.subjects; those = counted.those; judged_is =
-        is; errors_is = e; dirty_is = d }; sessions = same })
+    ∙ exact (judged_of s.project.rules counted.subjects) bound)) in
+    done s t (Validate w) (Judged judged errors dirty) refl (
+      judged,
+      errors,
+      dirty,
+      refl,
+      record {
+        project = record {
+          validated = v;
+          selected = counted.subjects;
+          those = counted.those;
+          judged_is =
+              is;
+          errors_is = e;
+          dirty_is = d;
+        };
+        sessions = same;
+      },
+    )

@@ -41,7 +41,7 @@ few_judged [] fs n b = omega arith
 few_judged (r ∷ rules) fs n b =
     let count : InForce → ℕ = λ (rule : InForce). how_many (judged rule.row) fs in
     rw (sum_by-cons count r rules) (by (how_many (judged r.row) fs) (judged_of rules fs) (few_of (judged r.row) fs)
-        (few_judged rules fs n b))
+    (few_judged rules fs n b))
   where
     once_more : (m : ℕ) → suc m * n ≡ n + m * n
     once_more m = grind arith

@@ -41,21 +41,21 @@ pub mark_replied : {T : Type 0} (p q : Project) (ss : List KeptSession) (r a b :
     → OnOk marked (IsMarked r a b on p q) → OnOk marked (mark_cause p.entries r a b on ≡ None)
     → IfErr marked (λ e. mark_cause p.entries r a b on ≡ Some (fault_cause e)) → OnErr marked (q ≡ p)
     → MatchResult marked (λ u. (p : Project) → said_of p reply ≡ Done) (λ e. (p : Project)
-        → said_of p reply ≡ Refused (Change (fault_cause e)))
+    → said_of p reply ≡ Refused (Change (fault_cause e)))
     → Answers (state_of p ss) (mark_line on r a b) (said_of q reply) (state_of q ss)
 mark_replied p q ss r a b on (Ok u) reply ok may err kept said =
     let s = state_of p ss in
     let t = state_of q ss in
     rw (said q) (did s t (mark_line on r a b) Done (mark_cause p.entries r a b on) (line_refusal s on r a b) may
-        (line_done s t on r a b ok (seen_same p q ss ok.marking.features)))
+    (line_done s t on r a b ok (seen_same p q ss ok.marking.features)))
 mark_replied p q ss r a b on (Err e) reply ok may err kept said =
     let s = state_of p ss in
     refused s (state_of q ss) (mark_line on r a b) (said_of q reply) (Change (fault_cause e)) (line_refusal s on r a b ∙ ap changes err)
-        (said q) (same_state p q ss kept)
+    (said q) (same_state p q ss kept)
 
 pub mark_kept : {T : Type 0} (p q : Project) (ss : List KeptSession) (r a b : ℕ) (on : Bool) (marked : Result T MarkFault)
     → IsWorld p ss → OnOk marked (IsMarked r a b on p q) → OnErr marked (q ≡ p) → (IsSound p → IsSound q) → (IsSettled p → IsSettled q)
-        → IsWorld q ss
+    → IsWorld q ss
 mark_kept p q ss r a b on (Ok u) w ok kept sound settled =
     let m = ok.marking in
     stays_world p q ss m.features m.next m.classes (sound w.sound) (settled w.settled) w

@@ -37,14 +37,18 @@ pub room_noted : (name : List ℕ) (t : KeptStep) (old mid new : List KeptSessio
 room_noted name t old mid new r n =
     let named : r.is.name ≡ name = r.change.name ∙ name_of old name r.was r.change.there in
     let e : Some n.was ≡ Some r.is = sym n.change.there ∙ (ap (λ xs. kept_named xs name) r.change.sessions
-        ∙ now_named old name r.was r.is r.change.there named) in
+    ∙ now_named old name r.was r.is r.change.there named) in
     let same : n.was ≡ r.is = cc in
     let own : n.is.name ≡ r.is.name = n.change.name ∙ ap (λ (x : KeptSession). x.name) same in
     record {
       was = r.was;
       is = n.is;
-      change = record { there = r.change.there; name = own ∙ r.change.name; sessions = n.change.sessions
-          ∙ (ap (λ xs. with_kept xs n.is) r.change.sessions ∙ with_twice old r.is n.is own) };
+      change = record {
+        there = r.change.there;
+        name = own ∙ r.change.name;
+        sessions = n.change.sessions
+            ∙ (ap (λ xs. with_kept xs n.is) r.change.sessions ∙ with_twice old r.is n.is own);
+      };
       noted = record {
         name = own ∙ r.change.name;
         done = n.noted.done ∙ (ap (λ (x : KeptSession). x.done ++ t ∷ []) same ∙ ap (λ d. d ++ t ∷ []) r.same.done);
@@ -76,33 +80,41 @@ live_may : (p : Project) (h : ℕ) (f : Feature) → IsStore p.classes p.feature
 live_may p h f s e =
     let g = live_has (IsGiven p.next) p.features h f s.given e in
     let k = live_has (IsOfClass p.classes) p.features h f s.kinds e in
-    let here : May p h (Some f) = record { from_1 = subst (λ n. 1 ≤ n) g.1 g.0.from_1; given = subst (λ n. n < p.next) g.1 g.0.before; own =
-        g.1; fits = k.0 } in
+    let here : May p h (Some f) = record {
+      from_1 = subst (λ n. 1 ≤ n) g.1 g.0.from_1;
+      given = subst (λ n. n < p.next) g.1 g.0.before;
+      own =
+          g.1;
+      fits = k.0;
+    } in
     subst (May p h) (sym e) here
 
 -- ---- a feature is set, or taken away
 pub set_done : (p q : Project) (name : List ℕ) (ss ts : List KeptSession) (h : ℕ) (after : Option Feature) → IsWorld p ss → IsOrdered p
     → refusal_of (state_of p ss) (Delete name h) ≡ None
     → IsFeatureSet h after p q → calls.IsNoted name (record { handle = h; kept = feature_at p.features h }) ss ts
-        → LeavesNoted name (set_step p h after) (IsFeatureSet h after) (state_of p ss) (state_of q ts)
+    → LeavesNoted name (set_step p h after) (IsFeatureSet h after) (state_of p ss) (state_of q ts)
 set_done p q name ss ts h after w ord may e d =
     let at = feature_at p.features in
     let bt = feature_at q.features in
     let a = may_edit (state_of p ss) name h [] w.keeping ord may in
     record {
       project = e;
-      noted = note_bridge at bt name d.was d.is ss ts h after d.change d.noted (record { here = e.edit.features.here; others =
-          e.edit.features.others }) w.keeping.apart a.0;
+      noted = note_bridge at bt name d.was d.is ss ts h after d.change d.noted (record {
+        here = e.edit.features.here;
+        others =
+            e.edit.features.others;
+      }) w.keeping.apart a.0;
     }
 
 pub set_world : (p q : Project) (name : List ℕ) (ss ts : List KeptSession) (h : ℕ) (f : Feature) (after : Option Feature)
     → IsStore p.classes p.features p.next → IsWorld p ss → IsOrdered p
     → refusal_of (state_of p ss) (Delete name h) ≡ None → feature_at p.features h ≡ Some f → IsFeatureSet h after p q
-        → calls.IsNoted name (record { handle = h; kept = feature_at p.features h }) ss ts
+    → calls.IsNoted name (record { handle = h; kept = feature_at p.features h }) ss ts
     → IsSound q → IsSettled q → IsWorld q ts
 set_world p q name ss ts h f after store w ord may live e d sound settled =
     let still : (k : ℕ) (x : Option Feature) → May p k x → May q k x = λ k x. may_in p.classes q.classes p.next q.next k x e.edit.classes
-        e.next in
+    e.next in
     let a = may_edit (state_of p ss) name h [] w.keeping ord may in
     record {
       sound = sound;
@@ -111,29 +123,40 @@ set_world p q name ss ts h f after store w ord may live e d sound settled =
           (set_done p q name ss ts h after w ord may e d);
       may = may_changed p q name d.was d.is ss ts d.change still
           (noted_may (May p) (May q) d.was (record { handle = h; kept = feature_at p.features h }) d.is still d.noted
-              (named_has (MayAll (May p)) ss name d.was d.change.there w.may) (still h (feature_at p.features h)
-              (live_may p h f store live))) w.may;
+          (named_has (MayAll (May p)) ss name d.was d.change.there w.may) (still h (feature_at p.features h)
+          (live_may p h f store live))) w.may;
     }
 
 -- ---- a feature comes
 may_more : (p q : Project) (k : ℕ) (x : Option Feature) → q.classes ≡ p.classes → q.next ≡ p.next + 1 → May p k x → May q k x
-may_more p q k x c n m = record { from_1 = m.from_1; given = (let g = m.given in omega (arith, g, n)); own = m.own; fits =
-    subst (λ es. IfSome x (IsOfClass es)) (sym c) m.fits }
+may_more p q k x c n m = record {
+  from_1 = m.from_1;
+  given = (let g = m.given in omega (arith, g, n));
+  own = m.own;
+  fits =
+      subst (λ es. IfSome x (IsOfClass es)) (sym c) m.fits;
+}
 
 pub add_done : (p q : Project) (name : List ℕ) (ss ts : List KeptSession) (class : ℕ) (shape : Shape) (h : ℕ) → IsWorld p ss
     → IsFeatureAdded class shape h p q
     → calls.IsNoted name (record { handle = h; kept = None }) ss ts → LeavesNoted name (added_step h class shape)
-        (IsFeatureAdded class shape h) (state_of p ss) (state_of q ts)
+    (IsFeatureAdded class shape h) (state_of p ss) (state_of q ts)
 add_done p q name ss ts class shape h w e d =
     let at = feature_at p.features in
     let bt = feature_at q.features in
     let x : Option Feature = Some (record { handle = h; class = class; shape = shape }) in
     let alone = subst (IsAlone (seen at ss) name) (sym e.number) (fresh_alone p.next name (seen at ss) w.keeping.given) in
     let noted = subst (λ o. IsKeptNoted d.was (record { handle = h; kept = o }) d.is) (sym e.absent) d.noted in
-    let b = note_bridge at bt name d.was d.is ss ts h x d.change noted (record { here = e.edit.features.here; others =
-        e.edit.features.others }) w.keeping.apart alone in
-    record { project = e; noted = subst (λ o. IsNoted name (record { handle = h; before = o; after = x }) (seen at ss) (seen bt ts))
-        e.absent b }
+    let b = note_bridge at bt name d.was d.is ss ts h x d.change noted (record {
+      here = e.edit.features.here;
+      others =
+          e.edit.features.others;
+    }) w.keeping.apart alone in
+    record {
+      project = e;
+      noted = subst (λ o. IsNoted name (record { handle = h; before = o; after = x }) (seen at ss) (seen bt ts))
+          e.absent b;
+    }
 
 pub add_world : (p q : Project) (name : List ℕ) (ss ts : List KeptSession) (class : ℕ) (shape : Shape) (h : ℕ)
     → IsStore p.classes p.features p.next → IsWorld p ss → IsFeatureAdded class shape h p q
@@ -194,8 +217,10 @@ room_done p name ss ts r = ap (λ xs. record { project = p; sessions = xs }) (ro
 pub room_world : (p : Project) (name : List ℕ) (ss ts : List KeptSession) → calls.IsRoomMade name ss ts → IsWorld p ss → IsWorld p ts
 room_world p name ss ts r w =
     let m = named_has (MayAll (May p)) ss name r.was r.change.there w.may in
-    let each : MayAll (May p) r.is = record { done = subst (Every (λ (x : KeptStep). May p x.handle x.kept)) (sym r.same.done) m.done;
-        undone = subst (Every (λ (x : KeptStep). May p x.handle x.kept)) (sym r.same.undone) m.undone } in
+    let each : MayAll (May p) r.is = record {
+      done = subst (Every (λ (x : KeptStep). May p x.handle x.kept)) (sym r.same.done) m.done;
+      undone = subst (Every (λ (x : KeptStep). May p x.handle x.kept)) (sym r.same.undone) m.undone;
+    } in
     record {
       sound = w.sound;
       settled = w.settled;

@@ -43,7 +43,7 @@ begin_refusal : (p : Project) (ss : List KeptSession) (name : List ℕ) (e : Ses
 begin_refusal p ss name fault.OpenAlready x b r = rw (opened p ss name b.session b.there) r
 begin_refusal p ss name fault.SessionsFull x b r =
     let full : eqb (length (seen (feature_at p.features) ss)) 16 ≡ true = ap (λ n. eqb n 16) (length_seen (feature_at p.features) ss
-        ∙ b.full) in
+    ∙ b.full) in
     rw (closed p ss name b.free, full) r
 begin_refusal p ss name fault.NoSession x b r = absurd b
 begin_refusal p ss name fault.NothingToUndo x b r = absurd b
@@ -120,7 +120,7 @@ undo_free p q ss ts name w d =
     let u = undo_done p q name ss ts w.keeping d in
     let some : eqb (length (steps_of (λ (y : Session). y.done) (session_of (seen (feature_at p.features) ss) name))) 0 ≡ false =
     ap (λ (o : Option Session). eqb (length (steps_of (λ (y : Session). y.done) o)) 0) u.session.there
-        ∙ some_done u.was.done u.is.done u.step u.undone.done in
+    ∙ some_done u.was.done u.is.done u.step u.undone.done in
     rw (opened p ss name d.was d.change.there, some) refl
 
 redo_free : (p q : Project) (ss ts : List KeptSession) (name : List ℕ) → IsWorld p ss → calls.IsRedone (IsGroundSwap poster) name ss ts p q
@@ -129,7 +129,7 @@ redo_free p q ss ts name w d =
     let u = redo_done p q name ss ts w.keeping d in
     let some : eqb (length (steps_of (λ (y : Session). y.undone) (session_of (seen (feature_at p.features) ss) name))) 0 ≡ false =
     ap (λ (o : Option Session). eqb (length (steps_of (λ (y : Session). y.undone) o)) 0) u.session.there
-        ∙ some_undone u.was.undone u.is.undone u.step u.undone.undone in
+    ∙ some_undone u.was.undone u.is.undone u.step u.undone.undone in
     rw (opened p ss name d.was d.change.there, some) refl
 
 -- ---- each line
@@ -145,7 +145,7 @@ told s t c q (Some x) r why said same = refused s t c (said_of q r) x (why x ref
 pub begin_replied : {T E : Type 0} (p : Project) (ss ts : List KeptSession) (name : List ℕ) (begun : Result T SessionFault)
     (reply : Result Reply E)
     → OnOk begun (calls.IsBegun name ss ts) → IfErr begun (IsBeginFault ss name) → OnErr begun (ts ≡ ss) → IfOk reply (Says begun)
-        → IfOk reply (λ r. Answers (state_of p ss) (Begin name) (said_of p r) (state_of p ts))
+    → IfOk reply (λ r. Answers (state_of p ss) (Begin name) (said_of p r) (state_of p ts))
 begin_replied p ss ts name begun (Err e) ok err kept said = tt
 begin_replied p ss ts name (Ok u) (Ok r) ok err kept said = rw (said p) (done (state_of p ss) (state_of p ts) (Begin name) Done
     (begin_free p ss name ok.free ok.few) (refl, begin_done p name ss ts ok))
@@ -160,7 +160,7 @@ begin_kept p ss ts name (Err e) w ok kept = subst (IsWorld p) (sym kept) w
 pub end_replied : {T E : Type 0} (p : Project) (ss ts : List KeptSession) (name : List ℕ) (ended : Result T SessionFault)
     (reply : Result Reply E)
     → OnOk ended (ts ≡ without_kept ss name) → OnOk ended (kept_named ss name ≢ None) → IfErr ended (IsEndFault ss name)
-        → OnErr ended (ts ≡ ss) → IfOk reply (Says ended)
+    → OnErr ended (ts ≡ ss) → IfOk reply (Says ended)
     → IfOk reply (λ r. Answers (state_of p ss) (End name) (said_of p r) (state_of p ts))
 end_replied p ss ts name ended (Err e) ok there err kept said = tt
 end_replied p ss ts name (Ok u) (Ok r) ok there err kept said = rw (said p) (done (state_of p ss) (state_of p ts) (End name) Done
@@ -195,7 +195,7 @@ still_after p q ss ts (Err e) kept same = still_state p q ss ts kept same
 pub undo_replied : {T E : Type 0} (p q : Project) (ss ts : List KeptSession) (name : List ℕ) (called : Result T SessionFault)
     (reply : Result Reply E) → IsWorld p ss
     → OnOk called (calls.IsUndone (IsGroundSwap poster) name ss ts p q) → IfErr called (IsUndoFault ss name) → OnErr called (ts ≡ ss)
-        → OnErr called (Still p q) → IfOk reply (Says called)
+    → OnErr called (Still p q) → IfOk reply (Says called)
     → IfOk reply (λ r. Answers (state_of p ss) (Undo name) (said_of q r) (state_of q ts))
 undo_replied p q ss ts name called (Err e) w ok err kept same said = tt
 undo_replied p q ss ts name (Ok u) (Ok r) w ok err kept same said = rw (said q) (done (state_of p ss) (state_of q ts) (Undo name) Done
@@ -211,7 +211,7 @@ undo_kept p q ss ts name (Err e) w ok kept same = still_world p q ss ts kept sam
 pub redo_replied : {T E : Type 0} (p q : Project) (ss ts : List KeptSession) (name : List ℕ) (called : Result T SessionFault)
     (reply : Result Reply E) → IsWorld p ss
     → OnOk called (calls.IsRedone (IsGroundSwap poster) name ss ts p q) → IfErr called (IsRedoFault ss name) → OnErr called (ts ≡ ss)
-        → OnErr called (Still p q) → IfOk reply (Says called)
+    → OnErr called (Still p q) → IfOk reply (Says called)
     → IfOk reply (λ r. Answers (state_of p ss) (Redo name) (said_of q r) (state_of q ts))
 redo_replied p q ss ts name called (Err e) w ok err kept same said = tt
 redo_replied p q ss ts name (Ok u) (Ok r) w ok err kept same said = rw (said q) (done (state_of p ss) (state_of q ts) (Redo name) Done
@@ -237,7 +237,7 @@ discard_told : (p q : Project) (ss ts : List KeptSession) (name : List ℕ) (e :
     → Answers (state_of p ss) (Discard name) (said_of q r) (state_of q ts)
 discard_told p q ss ts name fault.NoSession r d said =
     refused (state_of p ss) (state_of q ts) (Discard name) (said_of q r) NoSession (rw (closed p ss name d.absent) refl) (said q)
-        (ap (λ (x : Project). state_of x ts) d.features ∙ ap (state_of p) d.sessions)
+    (ap (λ (x : Project). state_of x ts) d.features ∙ ap (state_of p) d.sessions)
 discard_told p q ss ts name fault.NoMemory r d said = absurd said
 discard_told p q ss ts name fault.OpenAlready r d said = absurd d
 discard_told p q ss ts name fault.SessionsFull r d said = absurd d
@@ -247,7 +247,7 @@ discard_told p q ss ts name fault.NothingToRedo r d said = absurd d
 pub discard_replied : {T E : Type 0} (p q : Project) (ss ts : List KeptSession) (name : List ℕ) (called : Result T SessionFault)
     (reply : Result Reply E) → IsWorld p ss
     → OnOk called (calls.IsDiscarded (IsGroundSwap poster) name ss ts p q) → IfErr called (DiscardFault name ss ts p q)
-        → IfOk reply (Says called)
+    → IfOk reply (Says called)
     → IfOk reply (λ r. Answers (state_of p ss) (Discard name) (said_of q r) (state_of q ts))
 discard_replied p q ss ts name called (Err e) w ok err said = tt
 discard_replied p q ss ts name (Ok u) (Ok r) w ok err said = rw (said q) (done (state_of p ss) (state_of q ts) (Discard name) Done

@@ -43,8 +43,11 @@ pub begin_done : (p : Project) (name : List ℕ) (ss ts : List KeptSession) → 
     → IsBegun name (state_of p ss) (state_of p ts)
 begin_done p name ss ts b =
     let at = feature_at p.features in
-    record { project = refl; sessions = ap (seen at) b.sessions ∙ (seen_opened at ss b.session b.done b.undone
-        ∙ ap (λ n. with_opened (seen at ss) n) b.named) }
+    record {
+      project = refl;
+      sessions = ap (seen at) b.sessions ∙ (seen_opened at ss b.session b.done b.undone
+          ∙ ap (λ n. with_opened (seen at ss) n) b.named);
+    }
 
 pub begin_world : (p : Project) (name : List ℕ) (ss ts : List KeptSession) → calls.IsBegun name ss ts → IsWorld p ss → IsWorld p ts
 begin_world p name ss ts b w = record {
@@ -53,14 +56,20 @@ begin_world p name ss ts b w = record {
   keeping = begun_keeps name (state_of p ss) (state_of p ts) w.keeping (open_seen (feature_at p.features) ss name ∙ ap is_some b.free)
       (begin_done p name ss ts b);
   may = subst (AllMay p) (sym b.sessions) (opened_has (MayAll (May p)) ss b.session
-      (record { done = subst (λ xs. Every (λ (t : KeptStep). May p t.handle t.kept) xs) (sym b.done) tt; undone =
-          subst (λ xs. Every (λ (t : KeptStep). May p t.handle t.kept) xs) (sym b.undone) tt }) w.may);
+      (record {
+        done = subst (λ xs. Every (λ (t : KeptStep). May p t.handle t.kept) xs) (sym b.done) tt;
+        undone =
+            subst (λ xs. Every (λ (t : KeptStep). May p t.handle t.kept) xs) (sym b.undone) tt;
+      }) w.may);
 }
 
 pub end_done : (p : Project) (name : List ℕ) (ss ts : List KeptSession) → ts ≡ without_kept ss name
     → IsEnded name (state_of p ss) (state_of p ts)
-end_done p name ss ts e = record { project = refl; sessions = ap (seen (feature_at p.features)) e
-    ∙ seen_without (feature_at p.features) ss name }
+end_done p name ss ts e = record {
+  project = refl;
+  sessions = ap (seen (feature_at p.features)) e
+      ∙ seen_without (feature_at p.features) ss name;
+}
 
 pub end_world : (p : Project) (name : List ℕ) (ss ts : List KeptSession) → ts ≡ without_kept ss name → IsWorld p ss → IsWorld p ts
 end_world p name ss ts e w = record {
@@ -129,7 +138,7 @@ undo_world p q name ss ts d w =
       keeping = undo_keeps name (state_of p ss) (state_of q ts) w.keeping (undo_done p q name ss ts w.keeping d);
       may = may_changed p q name d.was d.is ss ts d.change (λ k x. grounds.may_still poster t.handle u.stood t.kept p q k x u.swap)
           (may_undone (May p) (May q) d.was d.is t u.stood (λ k x. grounds.may_still poster t.handle u.stood t.kept p q k x u.swap)
-              (λ m. grounds.may_again poster t.handle u.stood t.kept p q m u.swap) u.session
+          (λ m. grounds.may_again poster t.handle u.stood t.kept p q m u.swap) u.session
           (named_has (MayAll (May p)) ss name d.was d.change.there w.may)) w.may;
     }
 
@@ -144,7 +153,7 @@ redo_world p q name ss ts d w =
       keeping = redo_keeps name (state_of p ss) (state_of q ts) w.keeping (redo_done p q name ss ts w.keeping d);
       may = may_changed p q name d.was d.is ss ts d.change (λ k x. grounds.may_still poster t.handle u.stood t.kept p q k x u.swap)
           (may_redone (May p) (May q) d.was d.is t u.stood (λ k x. grounds.may_still poster t.handle u.stood t.kept p q k x u.swap)
-              (λ m. grounds.may_again poster t.handle u.stood t.kept p q m u.swap) u.session
+          (λ m. grounds.may_again poster t.handle u.stood t.kept p q m u.swap) u.session
           (named_has (MayAll (May p)) ss name d.was d.change.there w.may)) w.may;
     }
 
@@ -165,7 +174,7 @@ chain_may [] s u p q c m = subst (λ (r : Project). MayAll (May r) u) (sym c.1) 
 chain_may (t ∷ ts) s u p q c m =
     let d = c.3 in
     may_undone (May c.1) (May q) c.0 u t d.stood (λ k x. grounds.may_still poster t.handle d.stood t.kept c.1 q k x d.swap)
-        (λ y. grounds.may_again poster t.handle d.stood t.kept c.1 q y d.swap) d.session
+    (λ y. grounds.may_again poster t.handle d.stood t.kept c.1 q y d.swap) d.session
     (chain_may ts s c.0 p c.1 c.2 m)
 
 taken : (at : ℕ → Option Feature) (ts : List KeptStep) (s u : KeptSession) (p q : Project) → Chain ts s u p q
@@ -185,7 +194,7 @@ chain_seen : (at : ℕ → Option Feature) (ts : List KeptStep) (s u : KeptSessi
 chain_seen at [] s u p q ss c h = ap (λ (r : Project). seen (feature_at r.features) ss) c.1
 chain_seen at (t ∷ ts) s u p q ss c h =
     let f = each_first (record { handle = t.handle; before = t.kept; after = stood at ts t.handle }) (done_of at ts)
-        (seen (feature_at p.features) ss) h in
+    (seen (feature_at p.features) ss) h in
     let r = chain_seen at ts s c.0 p c.1 ss c.2 f.1 in
     let none = subst (λ xs. Every (λ (o : Session). HoldsNone o t.handle) xs) (sym r) f.0 in
     all_seen (feature_at c.1.features) (feature_at q.features) t.handle ss c.3.swap.set.edit.features.others none ∙ r
@@ -222,17 +231,25 @@ part_keeps : (name : List ℕ) (ss : List KeptSession) (s : KeptSession) (p : Pr
     → IsKeeping (state_of p ss) → (ts : List KeptStep) (u : KeptSession) (q : Project) → Chain ts s u p q
     → IsKeeping (state_of q (with_kept ss u)) × (u.name ≡ s.name)
 part_keeps name ss s p there k [] u q c =
-    let same : with_kept ss u ≡ ss = ap (with_kept ss) c.0 ∙ with_same ss name s there in
-    (subst (λ (r : Project). IsKeeping (state_of r (with_kept ss u))) (sym c.1) (subst (λ xs. IsKeeping (state_of p xs)) (sym same) k), ap
-        (λ (x : KeptSession). x.name) c.0)
+    let same : with_kept ss u ≡ ss = ap (with_kept ss) c.0 ∙ with_same ss name s there in (
+      subst (λ (r : Project). IsKeeping (state_of r (with_kept ss u))) (sym c.1) (subst (λ xs. IsKeeping (state_of p xs)) (sym same) k),
+      ap
+          (λ (x : KeptSession). x.name) c.0,
+    )
 part_keeps name ss s p there k (t ∷ ts) u q c =
     let r = part_keeps name ss s p there k ts c.0 c.1 c.2 in
     let m = c.0 in
     let n : m.name ≡ name = r.1 ∙ name_of ss name s there in
-    let change : IsKeptChange name m u (with_kept ss m) (with_kept ss u) = record { there = now_named ss name s m there n; name =
-        c.3.session.name; sessions = sym (with_twice ss m u c.3.session.name) } in
-    (undo_keeps name (state_of c.1 (with_kept ss m)) (state_of q (with_kept ss u)) r.0
-        (step_done c.1 q name m u (with_kept ss m) (with_kept ss u) t r.0.apart change c.3), c.3.session.name ∙ r.1)
+    let change : IsKeptChange name m u (with_kept ss m) (with_kept ss u) = record {
+      there = now_named ss name s m there n;
+      name =
+          c.3.session.name;
+      sessions = sym (with_twice ss m u c.3.session.name);
+    } in (
+      undo_keeps name (state_of c.1 (with_kept ss m)) (state_of q (with_kept ss u)) r.0
+          (step_done c.1 q name m u (with_kept ss m) (with_kept ss u) t r.0.apart change c.3),
+      c.3.session.name ∙ r.1,
+    )
 
 pub part_world : (p q : Project) (name : List ℕ) (ss ts : List KeptSession) → calls.IsDiscardedInPart (IsGroundSwap poster) (λ g h. h ≡ g)
     name ss ts p q → IsWorld p ss → IsWorld q ts
@@ -246,6 +263,6 @@ part_world p q name ss ts d w =
           c.undone d.is q chain).0;
       may = may_changed p q name d.was d.is ss ts d.change
           (λ k x. may_in p.classes q.classes p.next q.next k x (chain_classes c.undone d.was d.is p q chain)
-              (chain_next c.undone d.was d.is p q chain))
+          (chain_next c.undone d.was d.is p q chain))
           (chain_may c.undone d.was d.is p q chain (named_has (MayAll (May p)) ss name d.was d.change.there w.may)) w.may;
     }

@@ -205,7 +205,7 @@ abbrev pub error_ruled : Draft → Bool → ErrorForm → ℕ → ℕ → Option
 error_ruled d marked e a b None = Err cause.Unknown
 error_ruled d marked e a b (Some r) = if is_some (rule_at d.project.rules r)
     then with_error d (record { rule = r; subject = a; other = b; whole = e.whole; marked = marked; frame = e.frame; cells = [] }) else Err
-        cause.Unknown
+    cause.Unknown
 
 abbrev pub error_in : Draft → Bool → ErrorForm → Option ℕ → Option ℕ → Verdict
 error_in d marked e None b = Err cause.Range

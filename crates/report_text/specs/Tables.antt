@@ -30,7 +30,7 @@ pub record IsPlainRow (fields : List (List ℕ)) : Type 0 where
 abbrev pub header_fields : List (List ℕ)
 header_fields =
     codes "rule" ∷ codes "kind" ∷ codes "subject" ∷ codes "other" ∷ codes "extent" ∷ codes "mark" ∷ codes "x0" ∷ codes "y0" ∷ codes "x1" ∷
-        codes "y1" ∷ []
+    codes "y1" ∷ []
 
 abbrev pub key_fields : List InForce → Entry → List (List ℕ)
 key_fields rules e = decimal e.rule ∷ rule_word rules e.rule ∷ decimal e.subject ∷ decimal e.other ∷ []

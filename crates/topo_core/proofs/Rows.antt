@@ -54,6 +54,9 @@ dest_told cs row (Some k) e = kind_told (kind_of_class cs row.dest.class) k (bot
 pub has_kinds : (cs : List Class) (row : Row) → fit_cause cs row ≡ None → HasKinds cs row
 has_kinds cs row e =
     let fit = both_parts (is_kind (kind_of_class cs row.origin.class) (origin_of row.kind)) (fits_dest cs row (dest_of row.kind))
-        (no_fault (is_missing cs row) (is_fit cs row) e) in
-    record { origin = kind_told (kind_of_class cs row.origin.class) (origin_of row.kind) fit.0; dest =
-        dest_told cs row (dest_of row.kind) fit.1 }
+    (no_fault (is_missing cs row) (is_fit cs row) e) in
+    record {
+      origin = kind_told (kind_of_class cs row.origin.class) (origin_of row.kind) fit.0;
+      dest =
+          dest_told cs row (dest_of row.kind) fit.1;
+    }

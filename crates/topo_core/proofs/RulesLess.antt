@@ -46,7 +46,7 @@ rule_dropped n s rules less d es fs l e = record {
 
 pub rule_leaves : (n : ℕ) (s : Stored) (rules less : List InForce) (d : List Rectangle) (es fs : List Entry)
     → less ≡ without_rule rules n → AreLeft n es fs → entries.IsAscending fs → IsTopology (project_of s rules d es)
-        → IsTopology (project_of s less d fs)
+    → IsTopology (project_of s less d fs)
 rule_leaves n s rules less d es fs l left order t = record {
   store = t.store;
   rules = rw l (ascending_filter by_number rule_numbers (is_other n) rules t.rules);

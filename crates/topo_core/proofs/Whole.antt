@@ -75,8 +75,13 @@ empty_topology = record {
   few = omega arith;
   kinds = tt;
   order = tt;
-  made = record { envelopes = λ a f e. absurd cc; frames = λ r a b e k. absurd cc; bare = λ r a b e k w. absurd cc; ruled =
-      λ r a b e k. absurd cc };
+  made = record {
+    envelopes = λ a f e. absurd cc;
+    frames = λ r a b e k. absurd cc;
+    bare = λ r a b e k w. absurd cc;
+    ruled =
+        λ r a b e k. absurd cc;
+  };
 }
 
 pub empty_sound : (M : Meaning) → IsSoundUnder M empty_project

@@ -9,7 +9,7 @@ returns c =
     let k = c.args.key in
     let m = c.mark.ensures in
     rw (← c.self.view_is) (mark_replied p q c.self.inside.sessions k.rule k.subject k.other true c.mark.result c.reply_to_mark.result m.ok
-        m.may m.refused m.err c.reply_to_mark.ensures)
+    m.may m.refused m.err c.reply_to_mark.ensures)
 
 pub invariant_of-self : goal.invariant_of-self
 invariant_of-self c =
@@ -17,4 +17,4 @@ invariant_of-self c =
     let k = c.args.key in
     let m = c.mark.ensures in
     mark_kept p c.mark.new.self c.self.inside.sessions k.rule k.subject k.other true c.mark.result c.self.invariant m.ok m.err m.sound
-        m.settled
+    m.settled
