@@ -1,4 +1,4 @@
-use Rattle.std.proofs.Common.{◌≡◌, rules, sym, subst, false}
+use Rattle.std.proofs.Common.{◌≡◌, sym, subst, false}
 use Rattle.script_terms.specs.Refusing.{row_of, is_nowhere}
 use Rattle.script_terms.specs.State.{State}
 use Rattle.std.specs.Prelude.{IfOk}
@@ -17,7 +17,7 @@ returns-clause-answers c =
     subst (λ (z : State). IfOk c.reply_to_rule.result (λ r. Answers z (Rule c.args.kind c.args.origin.now c.args.dest.now)
     (said_of c.add_rule.new.self r) (state_of c.add_rule.new.self c.self.inside.sessions))) c.self.view_is
     (rule_replied c.self.inside.topology c.add_rule.new.self c.self.inside.sessions c.args.kind c.args.origin.now c.args.dest.now
-    c.in-Some.row c.add_rule.result c.reply_to_rule.result (search rules) there is c.add_rule.ensures.ok c.add_rule.ensures.may
+    c.in-Some.row c.add_rule.result c.reply_to_rule.result there is c.add_rule.ensures.ok c.add_rule.ensures.may
     c.add_rule.ensures.refused c.add_rule.ensures.err c.reply_to_rule.ensures.said)
 
 pub returns-clause-err : goal.returns-clause-err
