@@ -42,12 +42,12 @@ right_part y w v e = let k = meeting y w e in (omega (arith, ints), grind (arith
 
 below_part : (y w : Rectangle) → IsProper w → rects_meet y w ≡ true
     → IsWithin (rect_of (int_max y.x0 w.x0) y.y0 (int_min y.x1 w.x1) w.y0) y × (rects_meet
-        (rect_of (int_max y.x0 w.x0) y.y0 (int_min y.x1 w.x1) w.y0) w ≡ true)
+    (rect_of (int_max y.x0 w.x0) y.y0 (int_min y.x1 w.x1) w.y0) w ≡ true)
 below_part y w v e = let k = meeting y w e in (omega (arith, ints, clamps), grind (arith, ints, clamps))
 
 above_part : (y w : Rectangle) → IsProper w → rects_meet y w ≡ true
     → IsWithin (rect_of (int_max y.x0 w.x0) w.y1 (int_min y.x1 w.x1) y.y1) y × (rects_meet
-        (rect_of (int_max y.x0 w.x0) w.y1 (int_min y.x1 w.x1) y.y1) w ≡ true)
+    (rect_of (int_max y.x0 w.x0) w.y1 (int_min y.x1 w.x1) y.y1) w ≡ true)
 above_part y w v e = let k = meeting y w e in (omega (arith, ints, clamps), grind (arith, ints, clamps))
 
 -- ---- all that is left
@@ -114,7 +114,7 @@ put_last d x h = rw (add_dirt-loose d x (not_held d x h), none_dropped d x h) re
 pub cut_step : (xs old new : List Rectangle) (w x : Rectangle) (i : ℕ) → IsLoose xs → IsProper w → old ≡ cut_from [] (take i xs) w
     → i < length xs → x ≡ get_or xs i x
     → (rects_meet x w ≡ true → new ≡ add_all old (pieces x w)) → (rects_meet x w ≡ false → new ≡ old ++ x ∷ [])
-        → new ≡ cut_from [] (take (i + 1) xs) w
+    → new ≡ cut_from [] (take (i + 1) xs) w
 cut_step xs old new w x i l v h k e met beside = cut_more xs old new w x i h k e (by (rects_meet x w) refl)
   where
     by : (b : Bool) → rects_meet x w ≡ b → new ≡ add_all old (pieces x w)

@@ -146,8 +146,11 @@ dirt_added d e r (Err u) h k i j = rw k i
 
 one_added : (d : List Rectangle) (o : Option Rectangle) → IfSome o IsRectangle → IsDirt d → IsDirt (add_all d (option_to_list o))
 one_added d None h i = rw (add_all-none d) i
-one_added d (Some r) h i = rw (add_all-one d r) (record { loose = add_loose d r i.loose; on_grid =
-    every_added IsRectangle d r i.on_grid h })
+one_added d (Some r) h i = rw (add_all-one d r) (record {
+  loose = add_loose d r i.loose;
+  on_grid =
+      every_added IsRectangle d r i.on_grid h;
+})
 
 pub dirt_two : (d e : List Rectangle) (a b : Option Rectangle) (o : Result (Unit {0}) NoMemory)
     → OnOk o (e ≡ add_all (add_all d (option_to_list a)) (option_to_list b)) → OnErr o (e ≡ d)

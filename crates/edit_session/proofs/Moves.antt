@@ -57,9 +57,11 @@ may_redone may can s u t x still again k m =
 pub one_more : {G : Type 0} (swapped : ℕ → Option Feature → Option Feature → G → G
     → Type 0) (t : KeptStep) (ts : List KeptStep) (s m u : KeptSession) (g k h : G)
     → s.done ≡ m.done ++ ts → AreUndoneOn swapped ts s m g k → IsStepUndone swapped t m u k h
-        → (s.done ≡ u.done ++ t ∷ ts) × AreUndoneOn swapped (t ∷ ts) s u g h
-one_more swapped t ts s m u g k h split chain step = (split ∙ (ap (λ d. d ++ ts) step.session.done ∙ append_assoc u.done (t ∷ []) ts),
-    (m, k, chain, step))
+    → (s.done ≡ u.done ++ t ∷ ts) × AreUndoneOn swapped (t ∷ ts) s u g h
+one_more swapped t ts s m u g k h split chain step = (
+  split ∙ (ap (λ d. d ++ ts) step.session.done ∙ append_assoc u.done (t ∷ []) ts),
+  (m, k, chain, step),
+)
 
 -- ---- a loop that undoes the done steps
 pub record SoFar {G : Type 0} (swapped : ℕ → Option Feature → Option Feature → G → G → Type 0) (may : G → ℕ → Option Feature

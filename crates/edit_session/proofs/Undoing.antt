@@ -1,5 +1,5 @@
 -- What is sound and settled stays so while steps are undone.
-use Rattle.std.proofs.Common.{ℕ, List, [], ◌∷◌, sym, subst}
+use Rattle.std.proofs.Common.{List, [], ◌∷◌, sym, subst}
 use Rattle.topology_terms.specs.Meaning.{Meaning}
 use Rattle.topology_terms.specs.Project.{Project}
 use Rattle.topology_terms.specs.Settled.{IsSettledUnder}

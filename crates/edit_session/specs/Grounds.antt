@@ -28,8 +28,13 @@ pub may_again : (h : ℕ) (before after : Option Feature) (s t : Stored) → IsM
 may_again h before after s t m w = record { from_1 = m.from_1; given = subst (λ n. h < n) (sym w.next) m.given; own = w.own; fits = w.fits }
 
 pub may_in : (cs ds : List Class) (n m : ℕ) (k : ℕ) (x : Option Feature) → ds ≡ cs → m ≡ n → IsMayStand cs n k x → IsMayStand ds m k x
-may_in cs ds n m k x e f w = record { from_1 = w.from_1; given = subst (λ j. k < j) (sym f) w.given; own = w.own; fits =
-    subst (λ es. IfSome x (IsOfClass es)) (sym e) w.fits }
+may_in cs ds n m k x e f w = record {
+  from_1 = w.from_1;
+  given = subst (λ j. k < j) (sym f) w.given;
+  own = w.own;
+  fits =
+      subst (λ es. IfSome x (IsOfClass es)) (sym e) w.fits;
+}
 
 pub may_still : (h : ℕ) (before after : Option Feature) (s t : Stored) (k : ℕ) (x : Option Feature) → IsStoreSwap h before after s t
     → IsMayStand s.classes s.next k x → IsMayStand t.classes t.next k x

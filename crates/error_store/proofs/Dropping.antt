@@ -20,4 +20,4 @@ pub others_left : (n : ℕ) (es : List Entry) (k a b : ℕ) → k ≢ n → entr
 unfolding entry_at
 others_left n es k a b d = filter_same by_key keys (is_other n) es (k, a, b)
     (every_of_all (λ (e : Entry). has_key e k a b ≡ true → is_other n e ≡ true) (λ e t. ap not
-        (ne_eqb e.rule n (λ s. d (sym (has_parts e k a b t).0 ∙ s)))) es)
+    (ne_eqb e.rule n (λ s. d (sym (has_parts e k a b t).0 ∙ s)))) es)

@@ -72,7 +72,7 @@ here es i e on l h u =
     let new = set es i (remark on e) in
     let long : i < length new = rw (length-set es i (remark on e)) l in
     contained_found by_key keys new (remark on e) (stays_ascending es i e on h u)
-        (i, long, get_or-set_same es i (remark on e) (remark on e) l)
+    (i, long, get_or-set_same es i (remark on e) (remark on e) l)
 
 one : {d e : Entry} → Some d ≡ Some e → d ≡ e
 one h = cc
@@ -97,7 +97,7 @@ mark_set es i e on r a b l h u k =
       entries = λ x c d. alike es i e on h x c d;
       here = λ x m.
           let same : Some (remark on e) ≡ Some x = sym (at_own (set es i (remark on e)) e r a b (remark on e) z (here es i e on l h u))
-              ∙ m in
+          ∙ m in
           ap (λ (y : Entry). y.marked) (sym (one same));
       others = λ x c d n. other es i e on h x c d (lacks e r a b x c d z n);
     }

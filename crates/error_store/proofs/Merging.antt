@@ -18,8 +18,11 @@ asc_right out es h = ascending_right by_key keys out es h
 
 pub asc_drop : (out : List Entry) (e : Entry) (es : List Entry) → IsAscending (out ++ e ∷ es) → IsAscending (out ++ es)
 asc_drop [] e es h = h.1
-asc_drop (x ∷ out) e es h = (every_append (IsKeyBelow x) out es (every_left (IsKeyBelow x) out (e ∷ es) h.0)
-    (every_right (IsKeyBelow x) out (e ∷ es) h.0).1, asc_drop out e es h.1)
+asc_drop (x ∷ out) e es h = (
+  every_append (IsKeyBelow x) out es (every_left (IsKeyBelow x) out (e ∷ es) h.0)
+      (every_right (IsKeyBelow x) out (e ∷ es) h.0).1,
+  asc_drop out e es h.1,
+)
 
 first_above : (e : Entry) (fs : List Entry) → BelowFirst e fs → IsAscending fs → AllAbove e fs
 first_above e [] h u = tt
@@ -30,9 +33,11 @@ pub asc_put : (out : List Entry) (e : Entry) (es fs : List Entry) → IsAscendin
     → IsAscending (out ++ e ∷ fs)
 asc_put [] e es fs h k b = (first_above e fs b k, k)
 asc_put (x ∷ out) e es fs h k b =
-    let P = IsKeyBelow x in
-    (every_append P out (e ∷ fs) (every_left P out fs k.0) ((every_right P out (e ∷ es) h.0).0, every_right P out fs k.0), asc_put out e es
-        fs h.1 k.1 b)
+    let P = IsKeyBelow x in (
+      every_append P out (e ∷ fs) (every_left P out fs k.0) ((every_right P out (e ∷ es) h.0).0, every_right P out fs k.0),
+      asc_put out e es
+          fs h.1 k.1 b,
+    )
 
 pub shift : (out : List Entry) (e : Entry) (es : List Entry) → IsAscending (out ++ e ∷ es) → IsAscending ((out ++ e ∷ []) ++ es)
 shift out e es h = rw append_assoc h
@@ -46,9 +51,10 @@ pub asc_same : (out : List Entry) (e f : Entry) (es : List Entry) → HaveSameKe
 asc_same [] e f es s h = (subst (λ k. Every (λ (x : Entry). IsBefore k (key_of x)) es) (one_key e f s) h.0, h.1)
 asc_same (x ∷ out) e f es s h =
     let P = IsKeyBelow x in
-    let behind = every_right P out (e ∷ es) h.0 in
-    (every_append P out (f ∷ es) (every_left P out (e ∷ es) h.0) (subst (λ k. IsBefore (key_of x) k) (one_key e f s) behind.0, behind.1),
-        asc_same out e f es s h.1)
+    let behind = every_right P out (e ∷ es) h.0 in (
+      every_append P out (f ∷ es) (every_left P out (e ∷ es) h.0) (subst (λ k. IsBefore (key_of x) k) (one_key e f s) behind.0, behind.1),
+      asc_same out e f es s h.1,
+    )
 
 -- ---- look-ups
 
@@ -136,9 +142,12 @@ step_fresh sel old0 fresh0 out old fresh e m b c w =
             let z = has_parts e r a k t in
             let no = none_past e old r a k t (first_above e old b os) in
             done sel a _ _ (entry_at old r a k) (entry_at (e ∷ fresh) r a k) (entry_at out r a k) _ _ (entry_at (out ++ e ∷ []) r a k) e
-                (inr (at_key e fresh r a k t)) no (none_past e fresh r a k t u.0)
-            (λ n. record { kept = λ x. absurd (x (rw z.1 at c)); came = λ x. rw (no, at_key e fresh r a k t, at_push_here out e r a k t n)
-                (self_remarked e w) })
+            (inr (at_key e fresh r a k t)) no (none_past e fresh r a k t u.0)
+            (λ n. record {
+              kept = λ x. absurd (x (rw z.1 at c));
+              came = λ x. rw (no, at_key e fresh r a k t, at_push_here out e r a k t n)
+                  (self_remarked e w);
+            })
             (m.keys r a k)
         | inr t ↦ untouched sel a _ _ _ _ _ _ _ _ refl (sym (past_key e fresh r a k t)) (at_push_other out e r a k t) (m.keys r a k)
       ];
@@ -148,8 +157,12 @@ has_same : (e f : Entry) (r a b : ℕ) → HaveSameKey e f → has_key f r a b �
 has_same e f r a b s = rw (s.0, s.1, s.2)
 
 remarked_key : (o : Option Entry) (f n : Entry) → IsRemarked o f n → HaveSameKey f n
-remarked_key o f n h = let s = h.same in (ap (λ (e : Entry). e.rule) (sym s), ap (λ (e : Entry). e.subject) (sym s), ap
-    (λ (e : Entry). e.other) (sym s))
+remarked_key o f n h = let s = h.same in (
+  ap (λ (e : Entry). e.rule) (sym s),
+  ap (λ (e : Entry). e.subject) (sym s),
+  ap
+      (λ (e : Entry). e.other) (sym s),
+)
 
 -- a fresh entry takes the place of the old one of its key
 pub step_both : (sel : List ℕ) (old0 fresh0 out old fresh : List Entry) (e f n : Entry)
@@ -168,15 +181,22 @@ step_both sel old0 fresh0 out old fresh e f n m s c h =
             let te = sym (has_same e f r a k s) ∙ t in
             let tn = has_same f n r a k g ∙ t in
             done sel a _ _ (entry_at (e ∷ old) r a k) (entry_at (f ∷ fresh) r a k) (entry_at out r a k) _ _ (entry_at (out ++ n ∷ []) r a k)
-                f (inr (at_key f fresh r a k t)) (none_past e old r a k te u.0) (none_past f fresh r a k t v.0)
-            (λ x. record { kept = λ y. absurd (y (rw z.1 at c)); came = λ y. rw (at_key e old r a k te, at_key f fresh r a k t, at_push_here
-                out n r a k tn x) h })
+            f (inr (at_key f fresh r a k t)) (none_past e old r a k te u.0) (none_past f fresh r a k t v.0)
+            (λ x. record {
+              kept = λ y. absurd (y (rw z.1 at c));
+              came = λ y. rw (
+                at_key e old r a k te,
+                at_key f fresh r a k t,
+                at_push_here
+                    out n r a k tn x,
+              ) h;
+            })
             (m.keys r a k)
         | inr t ↦
             let te = sym (has_same e f r a k s) ∙ t in
             let tn = has_same f n r a k g ∙ t in
             untouched sel a _ _ _ _ _ _ _ _ (sym (past_key e old r a k te)) (sym (past_key f fresh r a k t)) (at_push_other out n r a k tn)
-                (m.keys r a k)
+            (m.keys r a k)
       ];
     }
 

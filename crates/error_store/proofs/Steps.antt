@@ -31,7 +31,7 @@ pub fresh_first : (sel old0 fresh0 out old rest : List _) (e : Entry) → AreFre
     → Contains sel e.subject × (e.marked ≡ false)
 fresh_first sel old0 fresh0 out old rest e u m =
     let k = still sel e.subject _ _ _ _ _ e (at_key e rest e.rule e.subject e.other (keys.own (key_of e))) (m.keys e.rule e.subject e.other)
-        in
+    in
     let new = every_found (IsNewOf sel) fresh0 e.rule e.subject e.other e u k in
     (new.chosen, new.unmarked)
 

@@ -111,8 +111,11 @@ pub below_next : (next : ℕ) (F : List Feature) → Every (IsGiven next) F → 
 below_next next F h = every_map (IsGiven next) (λ (f : Feature). f.handle < next) (λ f k. k.before) F h
 
 pub given_later : (next later : ℕ) (F : List Feature) → next ≤ later → Every (IsGiven next) F → Every (IsGiven later) F
-given_later next later F upto h = every_map (IsGiven next) (IsGiven later) (λ f k. record { from_1 = k.from_1; before = let b = k.before
-    in omega arith }) F h
+given_later next later F upto h = every_map (IsGiven next) (IsGiven later) (λ f k. record {
+  from_1 = k.from_1;
+  before = let b = k.before
+      in omega arith;
+}) F h
 
 pub feature_kept : (cs : List Class) (F : List Feature) (next : ℕ) (f : Feature) → f.handle ≡ next → IsOfClass cs f → HasSimpleSides f
     → IsStore cs F next → IsStore cs (F ++ f ∷ []) (next + 1)

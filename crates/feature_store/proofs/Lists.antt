@@ -36,15 +36,21 @@ front : (t : ℕ) (F : List Feature) (i : ℕ) → AllWithin (λ (f : Feature). 
 front t [] zero h l = tt
 front t [] (suc i) h l = absurd (omega arith)
 front t (f ∷ F) zero h l = tt
-front t (f ∷ F) (suc i) h l = let here = h 0 f (omega arith) (omega arith) in (grind (arith, nat_tests), front t F i
-    (within_front (λ (g : Feature). ltb g.handle t ≡ true) f F i h) (omega arith))
+front t (f ∷ F) (suc i) h l = let here = h 0 f (omega arith) (omega arith) in (
+  grind (arith, nat_tests),
+  front t F i
+      (within_front (λ (g : Feature). ltb g.handle t ≡ true) f F i h) (omega arith),
+)
 
 back : (t : ℕ) (F : List Feature) (i : ℕ) → AllWithin (λ (f : Feature). ltb f.handle t ≡ false) F i (length F)
     → Every (λ (f : Feature). t ≤ f.handle) (drop i F)
 back t [] zero h = tt
 back t [] (suc i) h = tt
-back t (f ∷ F) zero h = let here = h 0 f (omega arith) (omega arith) in (grind (arith, nat_tests), back t F zero
-    (within_front (λ (g : Feature). ltb g.handle t ≡ false) f F (length F) h))
+back t (f ∷ F) zero h = let here = h 0 f (omega arith) (omega arith) in (
+  grind (arith, nat_tests),
+  back t F zero
+      (within_front (λ (g : Feature). ltb g.handle t ≡ false) f F (length F) h),
+)
 back t (f ∷ F) (suc i) h = back t F i (within_rest (λ (g : Feature). ltb g.handle t ≡ false) f F i (length F) h)
 
 pub placed : (t : ℕ) (F : List Feature) (i : ℕ) → i ≤ length F → IsPartitionPoint (λ (f : Feature). ltb f.handle t ≡ true)
@@ -75,12 +81,20 @@ pub gap_other : (h : ℕ) (F : List Feature) (i : ℕ) (f : Feature) → IsAscen
 gap_other h F i f u p below is other =
     let cons : drop i F ≡ f ∷ drop (suc i) F = drop-cons F i f below ∙ ap (λ g. g ∷ drop (suc i) F) (sym is) in
     let least = subst (Every (λ (g : Feature). h ≤ g.handle)) cons p.after in
-    record { place = p; above = subst (Every (λ (g : Feature). h < g.handle)) (sym cons)
-        (head_above h f (drop (suc i) F) (subst IsAscending cons (ascending_drop i F u)) least.0 other) }
+    record {
+      place = p;
+      above = subst (Every (λ (g : Feature). h < g.handle)) (sym cons)
+          (head_above h f (drop (suc i) F) (subst IsAscending cons (ascending_drop i F u)) least.0 other);
+    }
 
 pub here : (h : ℕ) (F : List Feature) (i : ℕ) (f : Feature) → IsPlace h F i → i < length F → f ≡ get_or F i f → f.handle ≡ h → IsHere h F i
-here h F i f p below is same = record { place = p; feature = f; rest = rw add-one (drop-cons F i f below
-    ∙ ap (λ g. g ∷ drop (suc i) F) (sym is)); handle = same }
+here h F i f p below is same = record {
+  place = p;
+  feature = f;
+  rest = rw add-one (drop-cons F i f below
+      ∙ ap (λ g. g ∷ drop (suc i) F) (sym is));
+  handle = same;
+}
 
 -- ---- a list in three parts
 abbrev pub IsSplit : ℕ → List Feature → Option Feature → List Feature → Type 0
@@ -135,8 +149,12 @@ here_list h F i p = sym (take-append-drop i F) ∙ ap (λ G. take i F ++ G) p.re
 here_split : (h : ℕ) (F : List Feature) (i : ℕ) (p : IsHere h F i) → IsAscending F → IsSplit h (take i F) (Some p.feature) (drop (i + 1) F)
 here_split h F i p u =
     let v = subst IsAscending p.rest (ascending_drop i F u) in
-    record { before = p.place.before; own = p.handle; after = subst (λ n. Every (λ (g : Feature). n < g.handle) (drop (i + 1) F)) p.handle
-        v.0 }
+    record {
+      before = p.place.before;
+      own = p.handle;
+      after = subst (λ n. Every (λ (g : Feature). n < g.handle) (drop (i + 1) F)) p.handle
+          v.0;
+    }
 
 gap_list : (F : List Feature) (i : ℕ) → F ≡ joined (take i F) None (drop i F)
 gap_list F i = sym (take-append-drop i F)
@@ -194,7 +212,7 @@ exchange_here h F G i before after p u own is g =
     let same : get_or F i p.feature ≡ p.feature = cc in
     let there : Some p.feature ≡ before = sym (slice_get-get_or F i p.feature below ∙ ap Some same) ∙ sym is in
     subst (λ b. IsExchange h b after F G) there (exchange_of h (take i F) (drop (i + 1) F) (Some p.feature) after F G (here_list h F i p) g
-        s (record { before = s.before; own = own; after = s.after }) u)
+    s (record { before = s.before; own = own; after = s.after }) u)
 
 pub exchange_gap : (h : ℕ) (F G : List Feature) (i : ℕ) (after : Option Feature) → IsGap h F i → IsAscending F
     → IfSome after (λ (f : Feature). f.handle ≡ h) → G ≡ take i F ++ (option_to_list after ++ drop i F) → IsExchange h None after F G

@@ -21,7 +21,7 @@ from_left : (a x v : ℤ) (w : ℕ) → 0 < w → v ≡ x *ℤ pos w → int_le 
 from_left a x v w o e =
     same_from_decides _ _
     (Decides-like _ (λ h. le_from_scaled a x w o (omega (arith, ints))) (λ h. omega (arith, ints, scaled_le a x w h))
-        (Decides-int_le (a *ℤ pos w) v))
+    (Decides-int_le (a *ℤ pos w) v))
     (Decides-int_le a x)
 
 to_right : (x b v : ℤ) (w : ℕ) → 0 < w → v ≡ x *ℤ pos w → int_lt v (b *ℤ pos w) ≡ int_lt x b
@@ -32,8 +32,11 @@ to_right x b v w o e =
     less h = elim (cases_order_ℤ x b) [ inl k ↦ k | inr k ↦ absurd (omega (arith, ints, scaled_le b x w k)) ]
 
     more : x <ℤ b → v <ℤ (b *ℤ pos w)
-    more h = elim (cases_order_ℤ v (b *ℤ pos w)) [ inl k ↦ k | inr k ↦ absurd (omega
-        (arith, ints, le_from_scaled b x w o (omega (arith, ints)))) ]
+    more h = elim (cases_order_ℤ v (b *ℤ pos w)) [
+      | inl k ↦ k
+      | inr k ↦ absurd (omega
+          (arith, ints, le_from_scaled b x w o (omega (arith, ints))))
+    ]
 
 above : (s : Segment) (q : Place) (p : Point) → IsAt q p → int_lt (pos 0) (cross s p) ≡ int_lt (pos 0) (turn s q)
 above s q p i =
@@ -41,7 +44,7 @@ above s q p i =
     let w : pos 0 <ℤ pos p.w = omega (arith, ints, p.positive) in
     ap (int_lt (pos 0)) e ∙ same_from_decides _ _
     (Decides-like _ (over_unscaled (pos p.w) (turn s q) w) (product_over (pos p.w) (turn s q) w)
-        (Decides-int_lt (pos 0) (pos p.w *ℤ turn s q)))
+    (Decides-int_lt (pos 0) (pos p.w *ℤ turn s q)))
     (Decides-int_lt (pos 0) (turn s q))
 
 signed : (z : ℤ) → int_lt (pos 0) (int_signum z) ≡ int_lt (pos 0) z
@@ -104,10 +107,14 @@ odd_is n = elim (odd_or_even n) [
 -- ---- on a segment, all points at a place are alike
 between_moved : (a b v x y : ℤ) (w u : ℕ) → 0 < w → x ≡ v *ℤ pos w → y ≡ v *ℤ pos u → IsBetween (a *ℤ pos w) (b *ℤ pos w) x
     → IsBetween (a *ℤ pos u) (b *ℤ pos u) y
-between_moved a b v x y w u o e f (inl h) = inl (omega (arith, ints, scaled_le a v u (le_from_scaled a v w o (omega (arith, ints, h.0)))),
-    omega (arith, ints, scaled_le v b u (le_from_scaled v b w o (omega (arith, ints, h.1)))))
-between_moved a b v x y w u o e f (inr h) = inr (omega (arith, ints, scaled_le b v u (le_from_scaled b v w o (omega (arith, ints, h.0)))),
-    omega (arith, ints, scaled_le v a u (le_from_scaled v a w o (omega (arith, ints, h.1)))))
+between_moved a b v x y w u o e f (inl h) = inl (
+  omega (arith, ints, scaled_le a v u (le_from_scaled a v w o (omega (arith, ints, h.0)))),
+  omega (arith, ints, scaled_le v b u (le_from_scaled v b w o (omega (arith, ints, h.1)))),
+)
+between_moved a b v x y w u o e f (inr h) = inr (
+  omega (arith, ints, scaled_le b v u (le_from_scaled b v w o (omega (arith, ints, h.0)))),
+  omega (arith, ints, scaled_le v a u (le_from_scaled v a w o (omega (arith, ints, h.1)))),
+)
 
 pub on_place : (q : Place) (p : Point) → IsAt q p → (s : Segment) → HoldsAt q (OnSegment s) ↔ OnSegment s p
 on_place q p i s = (

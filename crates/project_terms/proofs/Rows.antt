@@ -58,19 +58,38 @@ square a b = record { kind = kind.Polygon; parts = ((place a a ∷ place b a ∷
 abbrev cell : List HalfPlane
 cell = half (pos 1) (pos 0) (pos 0) ∷ half (negsuc 0) (pos 0) (pos 10) ∷ half (pos 0) (pos 10) (pos 0) ∷ half (pos 0) (negsuc 9) (pos 100)
     ∷ half (pos 1) (pos 0) (negsuc 4) ∷ half (negsuc 0) (pos 0) (pos 15) ∷ half (pos 0) (pos 10) (negsuc 49) ∷ half (pos 0) (negsuc 9)
-        (pos 150) ∷ []
+    (pos 150) ∷ []
 
 abbrev overlap : Entry
-overlap = record { rule = 1; subject = 1; other = 2; whole = false; marked = false; frame =
-    rect_of (pos 5) (pos 5) (pos 10) (pos 10); cells = cell ∷ [] }
+overlap = record {
+  rule = 1;
+  subject = 1;
+  other = 2;
+  whole = false;
+  marked = false;
+  frame =
+      rect_of (pos 5) (pos 5) (pos 10) (pos 10);
+  cells = cell ∷ [];
+}
 
 abbrev two_lots : Project
 two_lots = record {
   classes = record { name = codes "lots"; kind = kind.Polygon } ∷ [];
-  rules = record { number = 1; row = record { kind = rule.PolygonMustNotOverlap; origin = record { class = 1 }; dest =
-      record { class = 0 } } } ∷ [];
-  features = record { handle = 1; class = 1; shape = square (pos 0) (pos 10) } ∷ record { handle = 2; class = 1; shape =
-      square (pos 5) (pos 15) } ∷ [];
+  rules = record {
+    number = 1;
+    row = record {
+      kind = rule.PolygonMustNotOverlap;
+      origin = record { class = 1 };
+      dest =
+          record { class = 0 };
+    };
+  } ∷ [];
+  features = record { handle = 1; class = 1; shape = square (pos 0) (pos 10) } ∷ record {
+    handle = 2;
+    class = 1;
+    shape =
+        square (pos 5) (pos 15);
+  } ∷ [];
   next = 3;
   dirt = [];
   entries = overlap ∷ [];
@@ -121,7 +140,12 @@ no_rule = refl
 cell_too_soon : line_verdict Unwritten behind_features (fields (codes "cell 1 0 0 >")) ≡ Err cause.Form
 cell_too_soon = refl
 
-end_too_soon : line_verdict Unwritten (record { stage = stage.Errors; project = record two_lots { entries =
-    record overlap { cells = [] } ∷ [] } }) (fields (codes "end"))
+end_too_soon : line_verdict Unwritten (record {
+  stage = stage.Errors;
+  project = record two_lots {
+    entries =
+        record overlap { cells = [] } ∷ [];
+  };
+}) (fields (codes "end"))
     ≡ Err cause.Form
 end_too_soon = refl

@@ -3,13 +3,11 @@
 -- IsRecord p        the next handle is from 1 to 4,294,967,295; at most 64 classes, each of a name, no two of one name; rules by number,
 --                   from 1 to 256,
 --                   each of classes that fit it, no two alike; features by handle, below the next one, each of a class of its kind, with a
--- shape that
---                   is valid; dirty rectangles of the grid, of which none lies in another; errors by key
+--                   shape that is valid; dirty rectangles of the grid, of which none lies in another; errors by key
 -- IsNumbered q, IsPlaced p f, IsError p e      what holds of each rule, feature and error
 --
 -- An error may have a subject that is not live, cells without a point or without bound, and any frame. Its rule is in force, its subject
--- and its
--- partner were given, it has cells exactly if it is not of the whole subject, and each cell has a half-plane. Source: own.
+-- and its partner were given, it has cells exactly if it is not of the whole subject, and each cell has a half-plane. Source: own.
 use Rattle.std.specs.Prelude.{◌≡◌, ◌≢◌, ◌<◌, ◌≤◌, true, false, [], length, Some}
 use Rattle.plane_terms.specs.Lists.{Every, EveryPair}
 use Rattle.plane_terms.specs.Rectangle.{IsRectangle}

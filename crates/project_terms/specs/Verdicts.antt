@@ -1,6 +1,5 @@
 -- What a line says behind a draft: the draft with the line, or why the line is wrong. Its form is tested first, then its shape, its
--- numbers,
--- the names in it, its order.
+-- numbers, the names in it, its order.
 --
 -- Verdict               the draft that the line makes of the one before; or the first cause that applies
 -- WktReading            what comes of the text of a shape: the shape of which it is the written form; it is Unwritten, if it is too long,
@@ -206,7 +205,7 @@ abbrev pub error_ruled : Draft → Bool → ErrorForm → ℕ → ℕ → Option
 error_ruled d marked e a b None = Err cause.Unknown
 error_ruled d marked e a b (Some r) = if is_some (rule_at d.project.rules r)
     then with_error d (record { rule = r; subject = a; other = b; whole = e.whole; marked = marked; frame = e.frame; cells = [] }) else Err
-        cause.Unknown
+    cause.Unknown
 
 abbrev pub error_in : Draft → Bool → ErrorForm → Option ℕ → Option ℕ → Verdict
 error_in d marked e None b = Err cause.Range

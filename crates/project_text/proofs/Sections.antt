@@ -47,7 +47,7 @@ three_said a b c t = simp append_assoc refl
 
 half_said : (h : HalfPlane) (m : Bool) (t rest : List ℕ)
     → 32 ∷ signed_decimal h.a ⧺ 32 ∷ signed_decimal h.b ⧺ 32 ∷ signed_decimal h.c ⧺ 32 ∷ sign_text h.op m ⧺ (t ++ rest) ≡
-        (half_text h m ++ t) ++ rest
+    (half_text h m ++ t) ++ rest
 half_said h m t rest = four_said (signed_decimal h.a) (signed_decimal h.b) (signed_decimal h.c) (sign_text h.op m) t rest
 
 halves_spaced : (hs : Cell) (rest : List ℕ) → spaced (cell_fields hs) rest ≡ halves_text hs ++ rest
@@ -55,7 +55,7 @@ halves_spaced [] rest = refl
 halves_spaced (h ∷ []) rest = half_said h false [] rest
 halves_spaced (h ∷ g ∷ hs) rest =
     ap (λ t. 32 ∷ signed_decimal h.a ⧺ 32 ∷ signed_decimal h.b ⧺ 32 ∷ signed_decimal h.c ⧺ 32 ∷ sign_text h.op true ⧺ t)
-        (halves_spaced (g ∷ hs) rest)
+    (halves_spaced (g ∷ hs) rest)
     ∙ half_said h true (halves_text (g ∷ hs)) rest
 
 -- ---- each line
@@ -70,7 +70,7 @@ rule_same cs q =
     spaced_line (codes "rule") (decimal q.number ∷ word_of q.row.kind ∷ (name_in o ++ name_in d)) (10 ∷ [])
     ∙ ap (λ t. codes "rule" ⧺ 32 ∷ decimal q.number ⧺ 32 ∷ word_of q.row.kind ⧺ t)
     (spaced-append (name_in o) (name_in d) (10 ∷ []) ∙ (name_spaced o (spaced (name_in d) (10 ∷ []))
-        ∙ ap (λ t. name_text o ++ t) (name_spaced d (10 ∷ []))))
+    ∙ ap (λ t. name_text o ++ t) (name_spaced d (10 ∷ []))))
 
 feature_same : (cs : List Class) (f : Feature) → line_text (feature_line cs f) ≡ feature_text cs f
 feature_same cs f =
@@ -85,10 +85,10 @@ dirty_same r = spaced_line (codes "dirty") (rect_fields r) (10 ∷ []) ∙ ap (�
 error_same : (e : Entry) → line_text (error_line e) ≡ error_text e
 error_same e =
     spaced_line (mark_word e.marked) (decimal e.rule ∷ decimal e.subject ∷ decimal e.other ∷ extent_word e.whole ∷ rect_fields e.frame)
-        (10 ∷ [])
+    (10 ∷ [])
     ∙ ap (λ t. mark_word e.marked ++ t)
     (ap (λ t. 32 ∷ decimal e.rule ⧺ 32 ∷ decimal e.subject ⧺ 32 ∷ decimal e.other ⧺ 32 ∷ extent_word e.whole ⧺ t)
-        (rect_spaced e.frame (10 ∷ []))
+    (rect_spaced e.frame (10 ∷ []))
     ∙ three_said (decimal e.rule) (decimal e.subject) (decimal e.other) (32 ∷ extent_word e.whole ⧺ rect_text e.frame ⧺ 10 ∷ []))
 
 cell_same : (c : Cell) → line_text (cell_line c) ≡ cell_text c
@@ -102,7 +102,7 @@ section : {A : Type 0} (f : A → List (List ℕ)) (g : A → List ℕ) → ((x 
 section f g same [] ls = refl
 section f g same (x ∷ xs) ls =
     ap (λ t. t ++ flat_map line_text (map f xs ++ ls)) (same x) ∙ (ap (λ t. g x ++ t) (section f g same xs ls)
-        ∙ sym (append_assoc (g x) (flat_map g xs) (flat_map line_text ls)))
+    ∙ sym (append_assoc (g x) (flat_map g xs) (flat_map line_text ls)))
 
 cells_same : (cs : List Cell) → flat_map line_text (map {A = Cell} cell_line cs) ≡ flat_map {X = Cell} cell_text cs
 cells_same [] = refl
@@ -122,7 +122,7 @@ errors_same (e ∷ es) ls =
     ∙ (flat_map-append line_text (error_lines e) rest
     ∙ (ap (λ t. t ++ flat_map line_text rest) (error_all e)
     ∙ (ap (λ t. error_texts e ++ t) (errors_same es ls) ∙ sym (append_assoc (error_texts e) (flat_map error_texts es)
-        (flat_map line_text ls)))))
+    (flat_map line_text ls)))))
 
 pub sections : (p : Project) → project_text p ≡ text_of p
 sections p =
@@ -131,16 +131,16 @@ sections p =
     let features = map (feature_line p.classes) p.features ++ dirt in
     let rules = map (rule_line p.classes) p.rules ++ features in
     let head : (t : List ℕ) → line_text title ++ (line_text (next_line p.next) ++ t) ≡ head_text p.next ++ t =
-        λ t. simp append_assoc refl in
+    λ t. simp append_assoc refl in
     head (flat_map line_text (map class_line p.classes ++ rules)) ∙ ap (λ t. head_text p.next ++ t)
     (section class_line (λ (c : Class). class_text (Some c)) class_same p.classes rules
-        ∙ ap (λ t. flat_map (λ (c : Class). class_text (Some c)) p.classes ++ t)
+    ∙ ap (λ t. flat_map (λ (c : Class). class_text (Some c)) p.classes ++ t)
     (section (rule_line p.classes) (rule_text p.classes) (rule_same p.classes) p.rules features
-        ∙ ap (λ t. flat_map (rule_text p.classes) p.rules ++ t)
+    ∙ ap (λ t. flat_map (rule_text p.classes) p.rules ++ t)
     (section (feature_line p.classes) (feature_text p.classes) (feature_same p.classes) p.features dirt
-        ∙ ap (λ t. flat_map (feature_text p.classes) p.features ++ t)
+    ∙ ap (λ t. flat_map (feature_text p.classes) p.features ++ t)
     (section dirty_line dirty_text dirty_same p.dirt errors ∙ ap (λ t. flat_map dirty_text p.dirt ++ t)
-        (errors_same p.entries (last_line ∷ []))))))
+    (errors_same p.entries (last_line ∷ []))))))
 
 abbrev parts : Project → List InForce → List Rectangle → List Entry → Project
 parts p rs ds es = record { classes = p.classes; rules = rs; features = p.features; next = p.next; dirt = ds; entries = es }
@@ -148,11 +148,18 @@ parts p rs ds es = record { classes = p.classes; rules = rs; features = p.featur
 -- what is appended of a project to nothing is its text
 pub all_written : (p : Project) (rs : List InForce) (ds : List Rectangle) (es : List Entry) (old new : List ℕ) → rs ≡ p.rules → ds ≡ p.dirt
     → es ≡ p.entries
-    → old ≡ [] → new ≡ old ++ text_of (record { classes = p.classes; rules = rs; features = p.features; next = p.next; dirt = ds; entries =
-        es }) → new ≡ project_text p
+    → old ≡ [] → new ≡ old ++ text_of (record {
+      classes = p.classes;
+      rules = rs;
+      features = p.features;
+      next = p.next;
+      dirt = ds;
+      entries =
+          es;
+    }) → new ≡ project_text p
 all_written p rs ds es old new r d e o said =
     said ∙ (ap (λ t. t ++ text_of (parts p rs ds es)) o ∙ (ap (λ x. text_of (parts p x ds es)) r
-        ∙ (ap (λ x. text_of (parts p p.rules x es)) d
+    ∙ (ap (λ x. text_of (parts p p.rules x es)) d
     ∙ (ap (λ x. text_of (parts p p.rules p.dirt x)) e ∙ sym (sections p)))))
 
 one_said : (o a b o1 o2 : List ℕ) → o1 ≡ o ++ a → o2 ≡ o1 ++ b → o2 ≡ o ++ (a ++ b)
@@ -165,5 +172,5 @@ pub all_said : (n m : ℕ) (o b c d e f g o1 o2 o3 o4 o5 o6 o7 : List ℕ) → m
 all_said n m o b c d e f g o1 o2 o3 o4 o5 o6 o7 same e1 e2 e3 e4 e5 e6 e7 =
     one_said o (head_text n) (b ++ (c ++ (d ++ (e ++ (f ++ g))))) o1 o7 (e1 ∙ ap (λ k. o ++ head_text k) same)
     (one_said o1 b (c ++ (d ++ (e ++ (f ++ g)))) o2 o7 e2 (one_said o2 c (d ++ (e ++ (f ++ g))) o3 o7 e3
-        (one_said o3 d (e ++ (f ++ g)) o4 o7 e4
+    (one_said o3 d (e ++ (f ++ g)) o4 o7 e4
     (one_said o4 e (f ++ g) o5 o7 e5 (one_said o5 f g o6 o7 e6 e7)))))

@@ -19,7 +19,7 @@ pub said_more : {X : Type 0} (f : X → List ℕ) (xs : List X) (i : ℕ) (x : X
     → old ≡ start ++ flat_map f (take i xs) → new ≡ old ++ f x → new ≡ start ++ flat_map f (take (i + 1) xs)
 said_more f xs i x start old new at before more =
     rw add-one (more ∙ (ap (λ t. t ++ f x) before ∙ (append_assoc start (flat_map f (take i xs)) (f x)
-        ∙ ap (λ t. start ++ t) (sym (flat_map_take_more f xs i x at)))))
+    ∙ ap (λ t. start ++ t) (sym (flat_map_take_more f xs i x at)))))
 
 -- ---- commas
 
@@ -36,7 +36,7 @@ pub comma_more : {X : Type 0} (f : X → List ℕ) (xs : List X) (i : ℕ) (x : 
 comma_more f xs i x now mid new whole at before comma item =
     let said : new ≡ now ++ 44 ∷ 32 ∷ f x = item ∙ (ap (λ t. t ++ f x) comma ∙ append_assoc now (44 ∷ 32 ∷ []) (f x)) in
     rw add-one (ap (λ t. t ++ comma_texts f (drop (suc i) xs)) said ∙ (append_assoc now (44 ∷ 32 ∷ f x) (comma_texts f (drop (suc i) xs))
-        ∙ (ap (λ t. now ++ t) (sym (commas_drop f xs i x at)) ∙ before)))
+    ∙ (ap (λ t. now ++ t) (sym (commas_drop f xs i x at)) ∙ before)))
 
 -- the first item, and the others behind commas
 pub first_said : {X : Type 0} (f : X → List ℕ) (xs : List X) (x : X) (old mid : List ℕ) → slice_get xs 0 ≡ Some x → mid ≡ old ++ f x
@@ -45,4 +45,4 @@ first_said f [] x old mid at first = cc
 first_said f (y ∷ ys) x old mid at first =
     let e : y ≡ x = cc in
     ap (λ t. t ++ comma_texts f ys) first ∙ (append_assoc old (f x) (comma_texts f ys)
-        ∙ (ap (λ v. old ++ (f v ++ comma_texts f ys)) (sym e) ∙ ap (λ t. old ++ t) (sym (listed_items f y ys))))
+    ∙ (ap (λ v. old ++ (f v ++ comma_texts f ys)) (sym e) ∙ ap (λ t. old ++ t) (sym (listed_items f y ys))))

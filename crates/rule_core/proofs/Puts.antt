@@ -16,7 +16,7 @@ module _ (c : LruCache ℕ KeptShape) (h k : ℕ) (v w : KeptShape) (new : List 
   is_put old front cap e hk vw =
       let left = length c.entries in
       let whole : c ≡ lru_cache (take left old) most_features = ap (λ es. lru_cache es c.cap) front
-          ∙ ap (λ n. lru_cache (take left old) n) cap in
+      ∙ ap (λ n. lru_cache (take left old) n) cap in
       record {
         left = left;
         put = e ∙ (ap (λ d. put_entries nat_eq d h v) whole ∙ (ap (λ j. put_entries nat_eq (lru_cache (take left old) most_features) j v) hk

@@ -7,7 +7,6 @@ use Rattle.plane_terms.specs.Segment.{Segment, segment_between}
 use Rattle.plane_terms.specs.Cell.{Cell}
 use Rattle.plane_terms.specs.Shape.{Shape, path, closed_path, last_of, rings_of, segments_of, segments_by}
 use Rattle.plane_terms.specs.declared.kind.Kind.{Kind}
-use Rattle.plane_terms.specs.declared.kind.Kind.TheVariants as kind
 use Rattle.shape.specs.Given.{Ring, rings_in, lines_in, all_rings}
 use Rattle.shape.proofs.Dropped.{item_dropped}
 use Rattle.shape.proofs.Filled.{line_rings}
@@ -61,7 +60,7 @@ module _ (paths : List Place → List Segment) (parts : List Ring) (k : ℕ) (pa
 
 pub crossings_more : (parts : List Ring) (k : ℕ) (part : Ring) → k < length parts → part ≡ get_or parts k part
     → (es : List Place) (cells more new all : List Cell) → more ≡ in_part es (path part.items)
-        (flat_map path (rings_in (drop (k + 1) parts)))
+    (flat_map path (rings_in (drop (k + 1) parts)))
     → new ≡ cells ++ more → cells ++ later_crossings es (rings_in (drop k parts)) ≡ all
     → new ++ later_crossings es (rings_in (drop (k + 1) parts)) ≡ all
 crossings_more parts k part l e es cells more new all a b h =

@@ -1,5 +1,5 @@
 -- A loop over a list: what is left of it, with one element less.
-use Rattle.std.proofs.Common.{◌≡◌, ℕ, ◌+◌, ◌<◌, Bool, true, false, List, [], ◌∷◌, ◌++◌, refl, sym, ◌∙◌, ap, take, drop, length, get_or, append_assoc}
+use Rattle.std.proofs.Common.{◌≡◌, ℕ, ◌+◌, Bool, true, false, List, [], ◌∷◌, ◌++◌, refl, sym, ◌∙◌, ap, take, drop, append_assoc}
 use Rattle.std.specs.Prelude.{slice_get, Some, ◌||◌}
 use Rattle.std.specs.List.{filter}
 use Rattle.std.proofs.lemmas.Bool.{false≢true}
@@ -37,7 +37,7 @@ pub passing_more : {A : Type 0} (test : A → Bool) (xs done old new : List A) (
 passing_more test xs done old new i x g t n h =
     let rest = filter test (drop (i + 1) xs) in
     ap (λ ys. ys ++ rest) n ∙ (append_assoc old (x ∷ []) rest
-        ∙ (sym (ap (λ ys. old ++ ys) (ap (filter test) (drop_one xs i x g) ∙ rw t refl)) ∙ h))
+    ∙ (sym (ap (λ ys. old ++ ys) (ap (filter test) (drop_one xs i x g) ∙ rw t refl)) ∙ h))
 
 pub passing_same : {A : Type 0} (test : A → Bool) (xs done old new : List A) (i : ℕ) (x : A) → slice_get xs i ≡ Some x → test x ≡ false
     → new ≡ old → old ++ filter test (drop i xs) ≡ done → new ++ filter test (drop (i + 1) xs) ≡ done

@@ -7,6 +7,7 @@ ghost use Rattle.plane_terms.specs.declared.kind.Kind.TheVariants as kind;
 ghost use Rattle.topology_terms.specs.Feature.{sides};
 ghost use Rattle.topology_terms.specs.Cells as terms;
 ghost use Rattle.topology_terms.specs.Tests as tests;
+ghost use Rattle.rule_core.specs.Kept.{cells_of};
 ghost use Rattle.rule_laws.proofs.Families.{IsFit};
 ghost use Rattle.rule_loops.specs.Views.{is_out};
 
@@ -14,24 +15,63 @@ use column_cut::{inside, outside};
 use convex_cell::{Cell, Cells};
 use grid_plane::{NoMemory, Rect, Seg};
 use plane_terms::Kind;
-use rule_core::Work;
+use rule_core::{Region, Work};
 use shape::Feature;
 use std::alloc::Global;
+use std::rc::Rc;
 
-/// The cells of a polygon's inside. They are made anew; the work is passed so that it may keep them.
-pub fn inside_of(alloc: Global, polygon: &Feature, _work: &mut Work) -> Result<Cells, NoMemory>
-    ensures cells { IfOk result (λ cells. cells ≡ terms.inside polygon.now) }
-    ensures uncounted { _work.new ≡ _work.old }
+fn made_anew(alloc: Global, region: Region, polygon: &Feature) -> Result<Cells, NoMemory>
+    ensures { IfOk result (λ cells. cells ≡ cells_of region polygon.now.shape) }
 {
-    inside(alloc, polygon.shape().segs())
+    match region {
+        Region::Inside => inside(alloc, polygon.shape().segs()),
+        Region::Outside => outside(alloc, polygon.shape().segs()),
+    }
 }
 
-/// The cells of what is closed out of a polygon. They are made anew; the work is passed so that it may keep them.
-pub fn outside_of(alloc: Global, polygon: &Feature, _work: &mut Work) -> Result<Cells, NoMemory>
-    ensures cells { IfOk result (λ cells. cells ≡ terms.outside polygon.now) }
-    ensures uncounted { _work.new ≡ _work.old }
+// The cells that the work keeps, or else cells made anew, which it then keeps if there is memory for it.
+fn kept_or_made(
+    alloc: Global,
+    region: Region,
+    polygon: &Feature,
+    work: &mut Work,
+) -> Result<Rc<Cells>, NoMemory>
+    ensures cells { IfOk result (λ cells. cells.value ≡ cells_of region polygon.now.shape) }
+    ensures uncounted { work.new ≡ work.old }
 {
-    outside(alloc, polygon.shape().segs())
+    if let Some(cells) = work.look(region, polygon)? {
+        return Ok(cells);
+    }
+    let cells = Rc::new(alloc, made_anew(alloc, region, polygon)?)?;
+    let _ = work.keep(alloc, region, polygon, &cells);
+    Ok(cells)
+}
+
+/// The cells of a polygon's inside. The work keeps them for the next call.
+pub fn inside_of(alloc: Global, polygon: &Feature, work: &mut Work) -> Result<Rc<Cells>, NoMemory>
+    ensures cells { IfOk result (λ cells. cells.value ≡ terms.inside polygon.now) }
+    ensures uncounted { work.new ≡ work.old }
+{
+    kept_or_made(alloc, Region::Inside, polygon, work)
+}
+
+/// The cells of what is closed out of a polygon. The work keeps them for the next call.
+pub fn outside_of(alloc: Global, polygon: &Feature, work: &mut Work) -> Result<Rc<Cells>, NoMemory>
+    ensures cells { IfOk result (λ cells. cells.value ≡ terms.outside polygon.now) }
+    ensures uncounted { work.new ≡ work.old }
+{
+    kept_or_made(alloc, Region::Outside, polygon, work)
+}
+
+/// The cells of a polygon's inside, in a list of its own: a copy of what the work keeps, or made anew.
+pub fn own_inside(alloc: Global, polygon: &Feature, work: &mut Work) -> Result<Cells, NoMemory>
+    ensures cells { IfOk result (λ cells. cells ≡ terms.inside polygon.now) }
+    ensures uncounted { work.new ≡ work.old }
+{
+    match work.look(Region::Inside, polygon)? {
+        Some(cells) => cells.try_copy(alloc),
+        None => made_anew(alloc, Region::Inside, polygon),
+    }
 }
 
 // The cells of these segments.
@@ -57,7 +97,7 @@ pub fn closed_cells(alloc: Global, polygon: &Feature, work: &mut Work) -> Result
     ensures cells { IfOk result (λ cells. cells ≡ tests.closed_cells polygon.now) }
     ensures uncounted { work.new ≡ work.old }
 {
-    let mut cells = inside_of(alloc, polygon, work)?;
+    let mut cells = own_inside(alloc, polygon, work)?;
     cells.append(boundary_of(alloc, polygon)?)?;
     Ok(cells)
 }
@@ -110,6 +150,7 @@ pub fn covers(
     if is_beyond(subject, polygon) {
         return Ok(false);
     }
-    let left = cells.carve(alloc, &outside_of(alloc, polygon, work)?)?;
+    let outside = outside_of(alloc, polygon, work)?;
+    let left = cells.carve(alloc, &outside)?;
     Ok(left.len() == 0)
 }

@@ -28,7 +28,7 @@ changed_seen at bt name s u ss ts h c others apart alone = record {
 pub undo_bridge : (at bt : ℕ → Option Feature) (name : List ℕ) (s u : KeptSession) (ss ts : List KeptSession) (t : KeptStep)
     → IsKeptChange name s u ss ts → IsKeptUndone s t (at t.handle) u → IsSet t.handle t.kept at bt → AreAllApart (seen at ss)
     → IsSessionChanged name (seen_session at s) (seen_session bt u) (seen at ss) (seen bt ts)
-        × IsUndoneTo (seen_session at s) (record { handle = t.handle; before = t.kept; after = at t.handle }) (seen_session bt u)
+    × IsUndoneTo (seen_session at s) (record { handle = t.handle; before = t.kept; after = at t.handle }) (seen_session bt u)
 undo_bridge at bt name s u ss ts t c k set apart =
     let e : EditStep = record { handle = t.handle; before = t.kept; after = at t.handle } in
     let d = undo_seen at bt s u t k set in
@@ -39,7 +39,7 @@ undo_bridge at bt name s u ss ts t c k set apart =
 pub redo_bridge : (at bt : ℕ → Option Feature) (name : List ℕ) (s u : KeptSession) (ss ts : List KeptSession) (t : KeptStep)
     → IsKeptChange name s u ss ts → IsKeptRedone s t (at t.handle) u → IsSet t.handle t.kept at bt → AreAllApart (seen at ss)
     → IsSessionChanged name (seen_session at s) (seen_session bt u) (seen at ss) (seen bt ts)
-        × IsUndoneTo (seen_session bt u) (record { handle = t.handle; before = at t.handle; after = t.kept }) (seen_session at s)
+    × IsUndoneTo (seen_session bt u) (record { handle = t.handle; before = at t.handle; after = t.kept }) (seen_session at s)
 redo_bridge at bt name s u ss ts t c k set apart =
     let e : EditStep = record { handle = t.handle; before = at t.handle; after = t.kept } in
     let d = redo_seen at bt s u t k set in
@@ -55,8 +55,11 @@ note_bridge at bt name s u ss ts h x c k set apart alone =
     let e : EditStep = record { handle = h; before = at h; after = x } in
     let a = named_apart (seen at ss) name (seen_session at s) (there_seen at ss name s c.there) apart in
     let change = changed_seen at bt name s u ss ts h c set.others apart (subst (λ n. IsAlone (seen at ss) n h) (sym a.0) alone) in
-    record { session = seen_session at s; change = subst (λ (y : Session). IsSessionChanged name (seen_session at s) y (seen at ss)
-        (seen bt ts)) (note_seen at bt s u h x k set) change }
+    record {
+      session = seen_session at s;
+      change = subst (λ (y : Session). IsSessionChanged name (seen_session at s) y (seen at ss)
+          (seen bt ts)) (note_seen at bt s u h x k set) change;
+    }
 
 pub named : (name : List ℕ) (xs : List KeptSession) (s : KeptSession) → kept_named xs name ≡ Some s → s.name ≡ name
 named name [] s e = cc

@@ -112,7 +112,7 @@ discard_keeps editor old new k d =
     let rest = without old.sessions editor in
     let none = others_have (HoldsNoneOf d.session.done) old.sessions editor k.apart (none_each d.session editor old.sessions a.0 a.1) in
     let c = each_taken d.session.done old.project new.project rest d.taken_back none
-        (every_without (IsChained (feature_at old.project.features)) old.sessions editor k.chained) in
+    (every_without (IsChained (feature_at old.project.features)) old.sessions editor k.chained) in
     let g = every_without (IsBelow old.project.next) old.sessions editor k.given in
     record {
       apart = subst AreAllApart (sym d.sessions) (without_apart old.sessions editor k.apart);
@@ -138,8 +138,11 @@ more_below n m (t ∷ ts) l h = (omega (arith, h.0, l), more_below n m ts l h.1)
 
 each_below : (n m : ℕ) (ss : List Session) → n ≤ m → Every (IsBelow n) ss → Every (IsBelow m) ss
 each_below n m [] l h = tt
-each_below n m (o ∷ ss) l h = (record { done = more_below n m o.done l h.0.done; undone = more_below n m o.undone l h.0.undone }, each_below
-    n m ss l h.1)
+each_below n m (o ∷ ss) l h = (
+  record { done = more_below n m o.done l h.0.done; undone = more_below n m o.undone l h.0.undone },
+  each_below
+      n m ss l h.1,
+)
 
 pub added_keeps : (editor : List ℕ) (class : ℕ) (shape : Shape) (h : ℕ) (old new : State) → IsKeeping old
     → LeavesNoted editor (added_step h class shape) (IsFeatureAdded class shape h) old new → IsKeeping new
@@ -156,10 +159,13 @@ added_keeps editor class shape h old new k d =
     let b = named_has (IsBelow old.project.next) old.sessions editor s ch.there k.given in
     let l : old.project.next ≤ new.project.next = let n = p.next in omega (arith, n) in
     let mine : IsAlone old.sessions s.name h = subst (IsAlone old.sessions s.name) (sym p.number)
-        (fresh_alone old.project.next s.name old.sessions k.given) in
+    (fresh_alone old.project.next s.name old.sessions k.given) in
     let noted : IsChained e (with_step s t) = subst (λ o. IsChained e (with_step s (record { handle = h; before = o; after = x }))) p.absent
-        (note_chained f e s h x (set_to h x old.project.features new.project.features set) c) in
+    (note_chained f e s h x (set_to h x old.project.features new.project.features set) c) in
     changed_keeps old new editor s (with_step s t) h x k ch set (each_below old.project.next new.project.next old.sessions l k.given)
     mine (note_apart s t old.sessions mine a.1) noted
-    (record { done = end_below new.project.next s.done t (more_below old.project.next new.project.next s.done l b.done) (let n = p.next
-        in let m = p.number in omega (arith, n, m)); undone = tt })
+    (record {
+      done = end_below new.project.next s.done t (more_below old.project.next new.project.next s.done l b.done) (let n = p.next
+          in let m = p.number in omega (arith, n, m));
+      undone = tt;
+    })

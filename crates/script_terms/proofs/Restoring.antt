@@ -1,6 +1,5 @@
 -- An undo restores one handle, a discard those of the session's done steps.
-use Rattle.std.proofs.Common.{ℕ, ◌≡◌, ◌≢◌, Bool, true, false, List, [], ◌∷◌, refl, sym, ◌∙◌, ap, arith, eqb}
-use Rattle.std.proofs.lemmas.Bool.Decides.{nat_tests}
+use Rattle.std.proofs.Common.{ℕ, ◌≡◌, Bool, true, false, List, [], ◌∷◌, refl, sym, ◌∙◌, ap, eqb}
 use Rattle.std.specs.Prelude.{if◌then◌else◌}
 use Rattle.topology_terms.specs.Feature.{feature_at}
 use Rattle.topology_terms.specs.Project.{Project}
@@ -39,5 +38,9 @@ taken_at (x ∷ ts) old new k t = by (eqb x.handle k) refl (taken_at ts old t.0 
     by false e r = t.2.edit.features.others k (differ x.handle k e) ∙ r
 
 pub discard_restores : (editor : List ℕ) (old new : State) → IsDiscarded editor old new → IsAllRestored editor old new
-discard_restores editor old new d = record { session = d.session; there = d.there; back =
-    λ k. taken_at d.session.done old.project new.project k d.taken_back }
+discard_restores editor old new d = record {
+  session = d.session;
+  there = d.there;
+  back =
+      λ k. taken_at d.session.done old.project new.project k d.taken_back;
+}

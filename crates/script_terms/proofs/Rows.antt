@@ -20,7 +20,7 @@ use Rattle.script_terms.specs.Refusal.{Line, SessionOpen, NoSession, NothingToUn
 use Rattle.script_terms.specs.Reply.{Judged, Refused, CellList, DirtyList, ErrorList, FeatureList, RuleList, reply_text}
 use Rattle.script_terms.specs.State.{State}
 use Rattle.script_terms.specs.Refusing.{refusal_of}
-use Rattle.script_terms.specs.Report.{report_text}
+use Rattle.script_terms.specs.Report.{report_of}
 
 abbrev at : ℤ → ℤ → Place
 at x y = record { x = x; y = y }
@@ -32,14 +32,28 @@ point x y = record { kind = shapes.Point; parts = ((at x y ∷ []) ∷ []) ∷ [
 abbrev wells : Project
 wells = record {
   classes = record { name = codes "wells"; kind = shapes.Point } ∷ [];
-  rules = record { number = 1; row = record { kind = kind.PointMustBeDisjoint; origin = record { class = 1 }; dest = record { class = 0 } }
-      } ∷ [];
-  features = record { handle = 1; class = 1; shape = point (pos 3) (pos 4) } ∷ record { handle = 2; class = 1; shape =
-      point (pos 3) (pos 4) } ∷ [];
+  rules = record {
+    number = 1;
+    row = record { kind = kind.PointMustBeDisjoint; origin = record { class = 1 }; dest = record { class = 0 } };
+  } ∷ [];
+  features = record { handle = 1; class = 1; shape = point (pos 3) (pos 4) } ∷ record {
+    handle = 2;
+    class = 1;
+    shape =
+        point (pos 3) (pos 4);
+  } ∷ [];
   next = 3;
   dirt = [];
-  entries = record { rule = 1; subject = 1; other = 2; whole = false; marked = false; frame = rect_at (at (pos 3) (pos 4)); cells =
-      (x_is (pos 3) ∷ y_is (pos 4) ∷ []) ∷ [] } ∷ [];
+  entries = record {
+    rule = 1;
+    subject = 1;
+    other = 2;
+    whole = false;
+    marked = false;
+    frame = rect_at (at (pos 3) (pos 4));
+    cells =
+        (x_is (pos 3) ∷ y_is (pos 4) ∷ []) ∷ [];
+  } ∷ [];
 }
 
 abbrev open_ann : State
@@ -73,8 +87,11 @@ no_class = refl
 accepted : refusal_of open_ann (Add (codes "ann") (codes "wells") (point (pos 0) (pos 0))) ≡ None
 accepted = refl
 
-other_kind : refusal_of open_ann (Add (codes "ann") (codes "wells") (record { kind = shapes.Line; parts =
-    ((at (pos 0) (pos 0) ∷ at (pos 5) (pos 0) ∷ []) ∷ []) ∷ [] })) ≡ Some (Change WrongKind)
+other_kind : refusal_of open_ann (Add (codes "ann") (codes "wells") (record {
+  kind = shapes.Line;
+  parts =
+      ((at (pos 0) (pos 0) ∷ at (pos 5) (pos 0) ∷ []) ∷ []) ∷ [];
+})) ≡ Some (Change WrongKind)
 other_kind = refl
 
 second_class : refusal_of open_ann (Class (codes "wells") shapes.Line) ≡ Some (Change ClassTaken)
@@ -145,15 +162,22 @@ listed_rules = refl
 abbrev zones : Project
 zones = record wells {
   classes = record { name = codes "parcels"; kind = shapes.Polygon } ∷ record { name = codes "zones"; kind = shapes.Polygon } ∷ [];
-  rules = record { number = 3; row = record { kind = kind.PolygonMustBeCoveredBy; origin = record { class = 1 }; dest =
-      record { class = 2 } } } ∷ [];
+  rules = record {
+    number = 3;
+    row = record {
+      kind = kind.PolygonMustBeCoveredBy;
+      origin = record { class = 1 };
+      dest =
+          record { class = 2 };
+    };
+  } ∷ [];
 }
 
 rules_of_two : reply_text (RuleList zones) ≡ codes "rule 3 polygon_must_be_covered_by parcels zones" ++ 10 ∷ codes "total 1" ++ 10 ∷ []
 unfolding digits
 rules_of_two = refl
 
-report : report_text wells ≡ codes "rule,kind,subject,other,extent,mark,x0,y0,x1,y1" ++ 10 ∷ codes
+report : report_of wells.rules wells.entries ≡ codes "rule,kind,subject,other,extent,mark,x0,y0,x1,y1" ++ 10 ∷ codes
     "1,point_must_be_disjoint,1,2,cells,error,3,4,3,4" ++ 10 ∷ []
 unfolding digits rule_at
 report = refl
@@ -176,7 +200,7 @@ features = refl
 -- ---- a window in the middle of the grid: the four pieces round it stay dirty
 four_left : reply_text (DirtyList (record wells { dirt = cut_dirt (whole_grid ∷ []) (rect_of (pos 0) (pos 0) (pos 5) (pos 5)) })) ≡
     codes "dirty -4194304 -4194304 0 4194304" ++ 10 ∷ codes "dirty 5 -4194304 4194304 4194304" ++ 10 ∷ codes "dirty 0 -4194304 5 0" ++ 10 ∷
-        codes "dirty 0 5 5 4194304" ++ 10 ∷ codes "total 4" ++ 10 ∷ []
+    codes "dirty 0 5 5 4194304" ++ 10 ∷ codes "total 4" ++ 10 ∷ []
 unfolding digits cut_from add_all pieces add_dirt
 four_left = refl
 

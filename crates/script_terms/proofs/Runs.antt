@@ -1,7 +1,6 @@
 -- Each line of a run, and so each run, keeps sessions apart and chained.
-use Rattle.std.proofs.Common.{ℕ, ◌≡◌, ◌<◌, Bool, true, false, List, [], ◌∷◌, Option, Some, None, refl, ◌∙◌, ap, subst, arith, eqb}
+use Rattle.std.proofs.Common.{ℕ, ◌≡◌, ◌<◌, Bool, true, false, List, [], ◌∷◌, Option, Some, None, refl, ◌∙◌, ap, subst, eqb}
 use Rattle.std.proofs.lemmas.Slice.Eq.{bytes_eq-Decides}
-use Rattle.std.proofs.lemmas.Bool.Decides.{nat_tests}
 use Rattle.std.specs.Prelude.{if◌then◌else◌, bytes_eq, not, is_some, is_none}
 use Rattle.plane_terms.specs.Lists.{Every}
 use Rattle.topology_terms.specs.Feature.{Feature, feature_at}
@@ -44,7 +43,7 @@ pub by_none : (ss : List Session) (o : Option (List ℕ)) (editor : List ℕ) (h
 by_none ss None editor h a e n = free_alone ss editor h e
 by_none ss (Some name) editor h a e n =
     let same : name ≡ editor = (bytes_eq-Decides name editor).0 (not_false (bytes_eq name editor)
-        (when_none (not (bytes_eq name editor)) (HeldBy name) n)) in
+    (when_none (not (bytes_eq name editor)) (HeldBy name) n)) in
     held_alone ss editor h a (e ∙ ap (λ (m : List ℕ). Some m) same)
 
 pub changes_none : (o : Option Cause) → changes o ≡ None → o ≡ None
@@ -68,7 +67,7 @@ live_below n (f ∷ F) h a e = by (eqb f.handle h) refl e (λ r. live_below n F 
 -- an edit of a live handle that is not refused
 pub may_edit : (s : State) (editor : List ℕ) (h : ℕ) (rest : List (Option Refusal)) → IsKeeping s → IsOrdered s.project
     → first_of (when (not (is_open s editor)) NoSession ∷ changes (delete_cause s.project.features h) ∷ held s editor h ∷ rest) ≡ None
-        → IsAlone s.sessions editor h × (h < s.project.next)
+    → IsAlone s.sessions editor h × (h < s.project.next)
 may_edit s editor h rest k ord n =
     let a = first_none (when (not (is_open s editor)) NoSession) (changes (delete_cause s.project.features h) ∷ held s editor h ∷ rest) n in
     let b = first_none (changes (delete_cause s.project.features h)) (held s editor h ∷ rest) a.1 in

@@ -33,8 +33,12 @@ named_number p None = 0
 named_number p (Some name) = number_or_0 (class_number p name)
 
 abbrev pub row_of : Project → RuleKind → List ℕ → Option (List ℕ) → Row
-row_of p k origin dest = record { kind = k; origin = record { class = number_or_0 (class_number p origin) }; dest =
-    record { class = named_number p dest } }
+row_of p k origin dest = record {
+  kind = k;
+  origin = record { class = number_or_0 (class_number p origin) };
+  dest =
+      record { class = named_number p dest };
+}
 
 abbrev pub is_nowhere : Project → Option (List ℕ) → Bool
 is_nowhere p None = false
@@ -73,7 +77,7 @@ refusal_of s (Add editor class shape) = first_of (when (not (is_open s editor)) 
     (add_cause s.project.classes s.project.next (number_or_0 (class_number s.project class)) shape.kind) ∷ [])
 refusal_of s (AChange editor h shape) =
     first_of (when (not (is_open s editor)) NoSession ∷ changes (delete_cause s.project.features h) ∷ held s editor h ∷ changes
-        (change_cause s.project.features h shape.kind) ∷ [])
+    (change_cause s.project.features h shape.kind) ∷ [])
 refusal_of s (Delete editor h) = first_of (when (not (is_open s editor)) NoSession ∷ changes (delete_cause s.project.features h) ∷ held s
     editor h ∷ [])
 refusal_of s (Undo editor) = first_of (when (not (is_open s editor)) NoSession ∷ when (length (done_of s editor) == 0) NothingToUndo ∷ [])

@@ -1,11 +1,11 @@
--- The report of a project: its errors as a table with commas.
+-- The report of errors: a table with commas.
 --
 -- rule_word rs n       the word of the rule of the number n; nothing (never) where there is none
 -- extent_word, mark_word     what an error is of; whether it is an exception
 -- report_fields rs e   the ten fields of an error
 -- report_line rs e     them with commas between, and a line feed behind
 -- report_header        the names of the fields, in the same way
--- report_text p        the header, and the line of each error in the order of their keys
+-- report_of rs es      the header, and the line of each error in its order: of a project, by its rules in force and its entries
 --
 -- No field has a comma, a quote or a line's end in it. Source: own; records as in RFC 4180, with a line feed alone.
 use Rattle.std.specs.Prelude.{ℕ, Bool, List, [], ◌∷◌, ◌++◌, codes, decimal, flat_map, Option, Some, None, if◌then◌else◌}
@@ -14,7 +14,7 @@ use Rattle.std.specs.Fmt.{signed_decimal}
 use Rattle.rule_words.specs.Table.{word_of}
 use Rattle.topology_terms.specs.Broken.{Row}
 use Rattle.topology_terms.specs.Entry.{Entry}
-use Rattle.topology_terms.specs.Project.{Project, InForce, rule_at}
+use Rattle.topology_terms.specs.Project.{InForce, rule_at}
 
 abbrev pub word_in : Option Row → List ℕ
 word_in None = []
@@ -40,5 +40,5 @@ report_line rs e = join_with_byte 44 (report_fields rs e) ++ 10 ∷ []
 abbrev pub report_header : List ℕ
 report_header = codes "rule,kind,subject,other,extent,mark,x0,y0,x1,y1" ++ 10 ∷ []
 
-abbrev pub report_text : Project → List ℕ
-report_text p = report_header ++ flat_map (report_line p.rules) p.entries
+abbrev pub report_of : List InForce → List Entry → List ℕ
+report_of rs es = report_header ++ flat_map (report_line rs) es

@@ -45,7 +45,7 @@ pub note_chained : (at bt : ℕ → Option Feature) (s : Session) (h : ℕ) (x :
 note_chained at bt s h x set c =
     let t : EditStep = record { handle = h; before = at h; after = x } in
     note_seen at bt (kept_of s) (kept_of (with_step s t)) h x (record { name = refl; done = map_end kept_before s.done t; undone = refl })
-        set ∙ ap (λ (y : Session). with_step y t) c
+    set ∙ ap (λ (y : Session). with_step y t) c
 
 pub end_same : (xs ys : List EditStep) (x y : EditStep) → xs ++ x ∷ [] ≡ ys ++ y ∷ [] → (xs ≡ ys) × (x ≡ y)
 end_same [] [] x y e = (refl, cc)
@@ -66,20 +66,29 @@ head_same x y xs ys e = (cc, cc)
 pub undo_chained : (at bt : ℕ → Option Feature) (s u : Session) (t : EditStep) → IsUndoneTo s t u → IsSet t.handle t.before at bt
     → IsChained at s → IsChained bt u
 undo_chained at bt s u t k set c =
-    let v : KeptSession = record { name = u.name; done = map kept_before u.done; undone =
-        record { handle = t.handle; kept = at t.handle } ∷ map kept_after s.undone; room = 0 } in
-    let x = undo_seen at bt (kept_of s) v (kept_before t) (record { name = k.name; done = ap (map kept_before) k.done
-        ∙ map_end kept_before u.done t; undone = refl }) set in
+    let v : KeptSession = record {
+      name = u.name;
+      done = map kept_before u.done;
+      undone =
+          record { handle = t.handle; kept = at t.handle } ∷ map kept_after s.undone;
+      room = 0;
+    } in
+    let x = undo_seen at bt (kept_of s) v (kept_before t) (record {
+      name = k.name;
+      done = ap (map kept_before) k.done
+          ∙ map_end kept_before u.done t;
+      undone = refl;
+    }) set in
     let d = ap (λ (y : Session). y.done) c in
     let n = ap (λ (y : Session). y.undone) c in
     let e = end_same (done_of bt v.done) u.done (record { handle = t.handle; before = t.before; after = at t.handle }) t (sym x.done
-        ∙ (d ∙ k.done)) in
+    ∙ (d ∙ k.done)) in
     let a : at t.handle ≡ t.after = ap (λ (y : EditStep). y.after) e.1 in
     let w : undone_of bt v.undone ≡ u.undone = x.undone
-        ∙ (ap (λ ts. record { handle = t.handle; before = t.before; after = at t.handle } ∷ ts) n
-        ∙ (ap (λ y. y ∷ s.undone) e.1 ∙ sym k.undone)) in
+    ∙ (ap (λ ts. record { handle = t.handle; before = t.before; after = at t.handle } ∷ ts) n
+    ∙ (ap (λ y. y ∷ s.undone) e.1 ∙ sym k.undone)) in
     let m : map kept_after u.undone ≡ v.undone = ap (map kept_after) k.undone ∙ ap
-        (λ y. record { handle = t.handle; kept = y } ∷ map kept_after s.undone) (sym a) in
+    (λ y. record { handle = t.handle; kept = y } ∷ map kept_after s.undone) (sym a) in
     let z : undone_of bt (map kept_after u.undone) ≡ u.undone = ap (undone_of bt) m ∙ w in
     together u.name (done_of bt (map kept_before u.done)) u.done (undone_of bt (map kept_after u.undone)) u.undone e.0 z
 
@@ -87,19 +96,23 @@ pub redo_chained : (at bt : ℕ → Option Feature) (s u : Session) (t : EditSte
     → IsChained at s → IsChained bt u
 redo_chained at bt s u t k set c =
     let E : EditStep = record { handle = t.handle; before = at t.handle; after = t.after } in
-    let v : KeptSession = record { name = u.name; done = map kept_before s.done ++ record { handle = t.handle; kept = at t.handle } ∷ [];
-        undone = map kept_after u.undone; room = 0 } in
+    let v : KeptSession = record {
+      name = u.name;
+      done = map kept_before s.done ++ record { handle = t.handle; kept = at t.handle } ∷ [];
+      undone = map kept_after u.undone;
+      room = 0;
+    } in
     let x = redo_seen at bt (kept_of s) v (kept_after t) (record { name = sym k.name; done = refl; undone = ap (map kept_after) k.undone })
-        set in
+    set in
     let d = ap (λ (y : Session). y.done) c in
     let n = ap (λ (y : Session). y.undone) c in
     let both = head_same E t (undone_of bt v.undone) u.undone (sym x.undone ∙ (n ∙ k.undone)) in
     let a : at t.handle ≡ t.before = ap (λ (y : EditStep). y.before) both.0 in
     let m : map kept_before u.done ≡ v.done = ap (map kept_before) k.done ∙ (map_end kept_before s.done t
-        ∙ ap (λ y. map kept_before s.done ++ record { handle = t.handle; kept = y } ∷ []) (sym a)) in
+    ∙ ap (λ y. map kept_before s.done ++ record { handle = t.handle; kept = y } ∷ []) (sym a)) in
     let w : done_of bt v.done ≡ u.done = x.done ∙ (ap (λ ts. ts ++ E ∷ []) d ∙ (ap (λ y. s.done ++ y ∷ []) both.0 ∙ sym k.done)) in
     together u.name (done_of bt (map kept_before u.done)) u.done (undone_of bt (map kept_after u.undone)) u.undone (ap (done_of bt) m ∙ w)
-        both.1
+    both.1
 
 -- ---- the handles of a session
 any_append : (p : EditStep → Bool) (xs ys : List EditStep) → list_any p (xs ++ ys) ≡ (list_any p xs || list_any p ys)
@@ -116,18 +129,27 @@ pub undone_steps : (s u : Session) (t : EditStep) → IsUndoneTo s t u → s.don
 undone_steps s u t k = ap (λ d. d ++ s.undone) k.done ∙ (append_assoc u.done (t ∷ []) s.undone ∙ ap (λ d. u.done ++ d) (sym k.undone))
 
 apart_same : (o s u : Session) → u.name ≡ s.name → s.done ++ s.undone ≡ u.done ++ u.undone → AreApart o s → AreApart o u
-apart_same o s u n e a = record { names = λ d. a.names (d ∙ n); steps = λ h k. subst
-    (λ ts. list_any (λ (t : EditStep). eqb t.handle h) ts ≡ false) e (a.steps h k) }
+apart_same o s u n e a = record {
+  names = λ d. a.names (d ∙ n);
+  steps = λ h k. subst
+      (λ ts. list_any (λ (t : EditStep). eqb t.handle h) ts ≡ false) e (a.steps h k);
+}
 
 pub undo_apart : (s u : Session) (t : EditStep) (ss : List Session) → IsUndoneTo s t u → IsApartFromOthers ss s → IsApartFromOthers ss u
 undo_apart s u t [] k a = tt
-undo_apart s u t (o ∷ ss) k a = ((λ n. apart_same o s u k.name (undone_steps s u t k) (a.0 (λ e. n (e ∙ sym k.name)))), undo_apart s u t ss
-    k a.1)
+undo_apart s u t (o ∷ ss) k a = (
+  (λ n. apart_same o s u k.name (undone_steps s u t k) (a.0 (λ e. n (e ∙ sym k.name)))),
+  undo_apart s u t ss
+      k a.1,
+)
 
 pub redo_apart : (s u : Session) (t : EditStep) (ss : List Session) → IsUndoneTo u t s → IsApartFromOthers ss s → IsApartFromOthers ss u
 redo_apart s u t [] k a = tt
-redo_apart s u t (o ∷ ss) k a = ((λ n. apart_same o s u (sym k.name) (sym (undone_steps u s t k)) (a.0 (λ e. n (e ∙ k.name)))), redo_apart s
-    u t ss k a.1)
+redo_apart s u t (o ∷ ss) k a = (
+  (λ n. apart_same o s u (sym k.name) (sym (undone_steps u s t k)) (a.0 (λ e. n (e ∙ k.name)))),
+  redo_apart s
+      u t ss k a.1,
+)
 
 noted_none : (s : Session) (t : EditStep) (h : ℕ) → HoldsNone s h → t.handle ≢ h → HoldsNone (with_step s t) h
 noted_none s t h n d =
@@ -139,9 +161,15 @@ noted_none s t h n d =
 pub note_apart : (s : Session) (t : EditStep) (ss : List Session) → IsAlone ss s.name t.handle → IsApartFromOthers ss s
     → IsApartFromOthers ss (with_step s t)
 note_apart s t [] alone a = tt
-note_apart s t (o ∷ ss) alone a = ((λ n. record { names = n; steps = λ h k. noted_none s t h ((a.0 n).steps h k)
-    (λ e. let f : has_step o t.handle ≡ false = alone.0 n in let y : has_step o t.handle ≡ true = rw e k in absurd cc) }), note_apart s t ss
-    alone.1 a.1)
+note_apart s t (o ∷ ss) alone a = (
+  (λ n. record {
+    names = n;
+    steps = λ h k. noted_none s t h ((a.0 n).steps h k)
+        (λ e. let f : has_step o t.handle ≡ false = alone.0 n in let y : has_step o t.handle ≡ true = rw e k in absurd cc);
+  }),
+  note_apart s t ss
+      alone.1 a.1,
+)
 
 behind_apart : (o : Session) (ss : List Session) → Every (AreApart o) ss → IsApartFromOthers ss o
 behind_apart o [] a = tt
@@ -163,9 +191,15 @@ named_apart (o ∷ ss) name s e a = by (bytes_eq o.name name) refl e (λ r. name
   where
     by : (b : Bool) → bytes_eq o.name name ≡ b → (if b then Some o else session_of ss name) ≡ Some s
         → (session_of ss name ≡ Some s → (s.name ≡ name) × IsApartFromOthers ss s) → (s.name ≡ name) × IsApartFromOthers (o ∷ ss) s
-    by true k e r = let same : o ≡ s = cc in (ap (λ (x : Session). x.name) (sym same)
-        ∙ same_name o.name name k, ((λ n. absurd (n (ap (λ (x : Session). x.name) same))), subst (λ (x : Session). IsApartFromOthers ss x)
-        same (behind_apart o ss a.0)))
+    by true k e r = let same : o ≡ s = cc in (
+      ap (λ (x : Session). x.name) (sym same)
+          ∙ same_name o.name name k,
+      (
+        (λ n. absurd (n (ap (λ (x : Session). x.name) same))),
+        subst (λ (x : Session). IsApartFromOthers ss x)
+            same (behind_apart o ss a.0),
+      ),
+    )
     by false k e r = let q = r e in (q.0, ((λ n. first_apart o s name ss a.0 e), q.1))
 
 -- ---- a session goes, once its steps are taken back
@@ -186,8 +220,8 @@ none_of_done : (o s : Session) (front ts : List EditStep) → s.done ≡ front +
 none_of_done o s front [] e a = tt
 none_of_done o s front (t ∷ ts) e a =
     let y : has_step s t.handle ≡ true = subst (λ xs. list_any (λ (x : EditStep). eqb x.handle t.handle) (xs ++ s.undone) ≡ true) (sym e)
-        (subst (λ xs. list_any (λ (x : EditStep). eqb x.handle t.handle) xs ≡ true) (sym (append_assoc front (t ∷ ts) s.undone))
-        (step_there front (ts ++ s.undone) t)) in
+    (subst (λ xs. list_any (λ (x : EditStep). eqb x.handle t.handle) xs ≡ true) (sym (append_assoc front (t ∷ ts) s.undone))
+    (step_there front (ts ++ s.undone) t)) in
     (a.steps t.handle y, none_of_done o s (front ++ t ∷ []) ts (e ∙ sym (append_assoc front (t ∷ []) ts)) a)
 
 pub apart_none : (o s : Session) → AreApart o s → HoldsNoneOf s.done o

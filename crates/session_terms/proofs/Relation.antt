@@ -82,5 +82,5 @@ pub undone_more : (at bt : ℕ → Option Feature) (t : KeptStep) (ts : List Kep
     → undone_of at (t ∷ ts) ≡ record { handle = t.handle; before = at t.handle; after = t.kept } ∷ undone_of bt ts
 undone_more at bt t ts keeps others =
     let e = undone_same bt (set_at at t.handle t.kept) ts (agree_all bt (set_at at t.handle t.kept) ts
-        (λ k. back_set at bt t.handle t.kept k keeps others)) in
+    (λ k. back_set at bt t.handle t.kept k keeps others)) in
     rw e refl

@@ -43,7 +43,7 @@ pub note_seen : (at bt : ℕ → Option Feature) (s u : KeptSession) (h : ℕ) (
     → seen_session bt u ≡ with_step (seen_session at s) (record { handle = h; before = at h; after = x })
 note_seen at bt s u h x k set =
     let e = ap (done_of bt) k.done ∙ (done_more at bt s.done (record { handle = h; kept = at h }) refl set.others
-        ∙ ap (λ y. done_of at s.done ++ record { handle = h; before = at h; after = y } ∷ []) set.here) in
+    ∙ ap (λ y. done_of at s.done ++ record { handle = h; before = at h; after = y } ∷ []) set.here) in
     rw (k.name, e, k.undone) refl
 
 pub same_seen : (at : ℕ → Option Feature) (s u : KeptSession) → IsSameButRoom s u → seen_session at u ≡ seen_session at s
@@ -114,7 +114,7 @@ seen_with at bt h s (t ∷ ss) o apart alone = by (bytes_eq t.name s.name) refl 
   where
     by : (b : Bool) → bytes_eq t.name s.name ≡ b → seen bt (with_kept ss s) ≡ with_session (seen at ss) (seen_session bt s)
         → seen bt (if b then s ∷ ss else t ∷ with_kept ss s) ≡ (if b then seen_session bt s ∷ seen at ss else seen_session at t ∷
-            with_session (seen at ss) (seen_session bt s))
+        with_session (seen at ss) (seen_session bt s))
     by true e r = ap (λ x. seen_session bt s ∷ x) (all_seen at bt h ss o (behind (seen_session bt s) (seen_session at t) (seen at ss) h
         (same_name t.name s.name e) apart.0 alone.1))
     by false e r = rw (other_seen at bt h t o (alone.0 (other_name t.name s.name e)), r) refl
@@ -138,7 +138,7 @@ seen_opened at (t ∷ ss) s d u = by (is_below s.name t.name) (seen_opened at ss
   where
     by : (b : Bool) → seen at (with_kept_opened ss s) ≡ with_opened (seen at ss) s.name
         → seen at (if b then s ∷ t ∷ ss else t ∷ with_kept_opened ss s) ≡ (if b then opened s.name ∷ seen_session at t ∷ seen at ss else
-            seen_session at t ∷ with_opened (seen at ss) s.name)
+        seen_session at t ∷ with_opened (seen at ss) s.name)
     by true r = rw (d, u) refl
     by false r = ap (λ x. seen_session at t ∷ x) r
 
@@ -150,6 +150,6 @@ seen_named at (t ∷ ss) name = by (bytes_eq t.name name) (seen_named at ss name
   where
     by : (b : Bool) → session_of (seen at ss) name ≡ option_map (λ (s : KeptSession). seen_session at s) (kept_named ss name)
         → (if b then Some (seen_session at t) else session_of (seen at ss) name) ≡ option_map (λ (s : KeptSession). seen_session at s)
-            (if b then Some t else kept_named ss name)
+        (if b then Some t else kept_named ss name)
     by true r = refl
     by false r = r

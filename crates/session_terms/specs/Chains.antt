@@ -4,7 +4,7 @@
 -- IsChained at s     the rest of each step is told by the others, and by what stands: the `after` of a done step is the `before` of the
 --                    next
 --                    done one of its handle, or stands there; the `before` of an undone step is the `after` of the last earlier undone
--- one, or stands there
+--                    one, or stands there
 -- IsBelow n s        each step's handle is below n
 use Rattle.std.specs.Prelude.{◌≡◌, ◌<◌, ℕ, Option, map}
 use Rattle.plane_terms.specs.Lists.{Every}

@@ -53,9 +53,9 @@ pieces_rectangles r w h k =
     let above = piece_if (int_lt w.y1 r.y1) (rect_of mx0 w.y1 mx1 r.y1) in
     each_by_test IsRectangle (rects_meet r w) (left ++ (right ++ (below ++ above))) (r ∷ []) (λ e.
     each_joined IsRectangle left (right ++ (below ++ above)) (each_if IsRectangle (int_lt r.x0 w.x0) (rect_of r.x0 r.y0 w.x0 r.y1)
-        (left_piece r w h k e))
+    (left_piece r w h k e))
     (each_joined IsRectangle right (below ++ above) (each_if IsRectangle (int_lt w.x1 r.x1) (rect_of w.x1 r.y0 r.x1 r.y1)
-        (right_piece r w h k e))
+    (right_piece r w h k e))
     (each_joined IsRectangle below above (each_if IsRectangle (int_lt r.y0 w.y0) (rect_of mx0 r.y0 mx1 w.y0) (below_piece r w h k e))
     (each_if IsRectangle (int_lt w.y1 r.y1) (rect_of mx0 w.y1 mx1 r.y1) (above_piece r w h k e))))) (h, tt)
 

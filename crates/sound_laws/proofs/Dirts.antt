@@ -148,7 +148,7 @@ pieces_cover r w p h n =
       | inl a ↦ elim (le_or_lt p.x (w.x1 *ℤ pos p.w)) [
         | inr b ↦ Covers_right left (right ++ (below ++ above)) p (Covers_left right (below ++ above) p
             (in_piece (int_lt w.x1 r.x1) (rect_of w.x1 r.y0 r.x1 r.y1) p (lt_from_below w.x1 r.x1 p.x p.w b.1 h.right)
-                (omega (arith, ints))))
+            (omega (arith, ints))))
         | inl b ↦
             let low = pick_at_most (int_lt w.x0 r.x0) r.x0 w.x0 p.x p.w h.left a.1 in
             let high = pick_at_least (int_lt w.x1 r.x1) w.x1 r.x1 p.x p.w b.1 h.right in

@@ -27,13 +27,13 @@ pub edit_keeps : (h : ℕ) (after : Option Feature) (old new : Project) → IsEd
     → Covers new.dirt p
 edit_keeps h after old new i p c =
     rw i.dirt (envelope_keeps (add_envelope old.dirt (feature_at old.features h)) after p
-        (envelope_keeps old.dirt (feature_at old.features h) p c))
+    (envelope_keeps old.dirt (feature_at old.features h) p c))
 
 pub edit_before : (h : ℕ) (after : Option Feature) (old new : Project) → IsEdit h after old new → (f : Feature)
     → feature_at old.features h ≡ Some f → (p : Point) → RectHolds (env f) p → Covers new.dirt p
 edit_before h after old new i f e p c =
     rw i.dirt (envelope_keeps (add_envelope old.dirt (feature_at old.features h)) after p
-        (envelope_covers old.dirt (feature_at old.features h) f p e c))
+    (envelope_covers old.dirt (feature_at old.features h) f p e c))
 
 pub edit_after : (h : ℕ) (after : Option Feature) (old new : Project) → IsEdit h after old new → (f : Feature)
     → feature_at new.features h ≡ Some f → (p : Point) → RectHolds (env f) p → Covers new.dirt p
@@ -76,8 +76,12 @@ edit_frames M h after old new u i r a was b x k =
       | inr y ↦ elim (same_or_not a h) [
         | inl t ↦
             let held = holds_corner x.frame (u.made.frames r a b x k) in
-            inl (corner x.frame, edit_before h after old new i y.0 (rw t at y.1) (corner x.frame)
-                (within_Holds x.frame (env y.0) y.2 (corner x.frame) held), held)
+            inl (
+              corner x.frame,
+              edit_before h after old new i y.0 (rw t at y.1) (corner x.frame)
+                  (within_Holds x.frame (env y.0) y.2 (corner x.frame) held),
+              held,
+            )
         | inr t ↦ inr (y.0, i.features.others a t ∙ y.1, y.2)
       ]
     ]

@@ -206,7 +206,7 @@ module _ {A K : Type 0} (by : Keyed A K) (keys : AreKeys by) where
   item_filter test (x ∷ xs) k u = elim (same_or_not (by.key x) k) [
     | inl t ↦
         let none = none_after k (filter test xs) (subst (λ j. AllAfter j (filter test xs)) t.1
-            (every_filter (λ (y : A). by.IsBefore (by.key x) (by.key y)) test xs u.0)) in
+        (every_filter (λ (y : A). by.IsBefore (by.key x) (by.key y)) test xs u.0)) in
         here_pick (test x) x (filter test xs) k t.0 none ∙ sym (ap (passing test) (at_first x xs k t.0))
     | inr t ↦ past_pick (test x) x (filter test xs) k t.0 ∙ (item_filter test xs k u.1 ∙ sym (ap (passing test) (past_first x xs k t.0)))
   ]
@@ -246,7 +246,7 @@ module _ {A K : Type 0} (by : Keyed A K) (keys : AreKeys by) where
   pub without_others : (xs : List A) (k j : K) → j ≢ k → item_at by (without by xs k) j ≡ item_at by xs j
   without_others xs k j n = filter_same (λ (x : A). not (by.same (by.key x) k)) xs j
       (every_of_all (λ (x : A). by.same (by.key x) j ≡ true → not (by.same (by.key x) k) ≡ true)
-          (λ x t. ap not (differ (by.key x) k (λ e. n (sym (keys.tells (by.key x) j t) ∙ e)))) xs)
+      (λ x t. ap not (differ (by.key x) k (λ e. n (sym (keys.tells (by.key x) j t) ∙ e)))) xs)
 
   -- ---- two lists joined
   pub past_front : (xs ys : List A) (k : K) → Every (Lacks k) xs → item_at by (xs ++ ys) k ≡ item_at by ys k
@@ -264,8 +264,11 @@ module _ {A K : Type 0} (by : Keyed A K) (keys : AreKeys by) where
   pub ascending_append : (xs ys : List A) → IsAscendingBy by xs → IsAscendingBy by ys → Every (λ (x : A). AllAfter (by.key x) ys) xs
       → IsAscendingBy by (xs ++ ys)
   ascending_append [] ys u v h = v
-  ascending_append (x ∷ xs) ys u v h = (every_append (λ (y : A). by.IsBefore (by.key x) (by.key y)) xs ys u.0 h.0, ascending_append xs ys
-      u.1 v h.1)
+  ascending_append (x ∷ xs) ys u v h = (
+    every_append (λ (y : A). by.IsBefore (by.key x) (by.key y)) xs ys u.0 h.0,
+    ascending_append xs ys
+        u.1 v h.1,
+  )
 
   pub ascending_left : (xs ys : List A) → IsAscendingBy by (xs ++ ys) → IsAscendingBy by xs
   ascending_left [] ys u = tt
@@ -325,7 +328,7 @@ module _ {A K : Type 0} (by : Keyed A K) (keys : AreKeys by) where
   ascending_set k pre post old new u s = ascending_append pre (option_to_list new ++ post)
       (ascending_left pre (option_to_list old ++ post) u) (rest new s.own)
       (every_map (λ (y : A). by.IsBefore (by.key y) k) (λ (y : A). AllAfter (by.key y) (option_to_list new ++ post))
-          (λ y l. above y l new s.own) pre s.before)
+      (λ y l. above y l new s.own) pre s.before)
     where
       behind : IsAscendingBy by post
       behind = ascending_right (option_to_list old) post (ascending_right pre (option_to_list old ++ post) u)

@@ -80,6 +80,6 @@ one_scratch M C p es fs u v = same_entries es fs u.ascending v.ascending (λ r a
             let e = C.one y.0 p.features a n.0 m.0 n.1 m.1 in
             let l : AreAlike z.0 (finding_at m.0 b) (entry_at fs r a b) = rw e at (n.2 b) in
             alike_same z.0 (finding_at m.0 b) (entry_at es r a b) (entry_at fs r a b) r a b (λ x l. entry_key es r a b x l)
-                (λ x l. entry_key fs r a b x l) (m.2 b) l
+            (λ x l. entry_key fs r a b x l) (m.2 b) l
       ]
     ] ∙ bare_at fs r a b v.bare))

@@ -74,7 +74,7 @@ module _ {A K : Type 0} (by : Keyed A K) (keys : AreKeys by) where
   rises (x ∷ xs) k u zero (suc j) d upto short =
       let y = get_or xs j d in
       rises_pair (order_of (by.key x) k) (order_of (by.key y) k) (by.key x) (by.key y) k
-          (every_at (λ (z : A). by.IsBefore (by.key x) (by.key z)) xs j d u.0 (omega arith)) (stands (by.key x) k) (stands (by.key y) k)
+      (every_at (λ (z : A). by.IsBefore (by.key x) (by.key z)) xs j d u.0 (omega arith)) (stands (by.key x) k) (stands (by.key y) k)
   rises (x ∷ xs) k u (suc i) zero d upto short = absurd (omega arith)
   rises (x ∷ xs) k u (suc i) (suc j) d upto short = rises xs k u.1 i j d (omega arith) (omega arith)
 
@@ -93,11 +93,11 @@ module _ {A K : Type 0} (by : Keyed A K) (keys : AreKeys by) where
       (λ x. order_of (by.key x) k ≡ Greater) xs i → item_at by xs k ≡ None
   not_there xs k i p = none_lacks by keys k xs (every_by_index (λ (x : A). by.same (by.key x) k ≡ false) xs
       (λ j d l. elim (early_or_not j i) [
-    | inl s ↦ keys.apart (by.key (get_or xs j d)) k (subst (λ o. Stands o (by.key (get_or xs j d)) k) (p.0 j d (omega arith) s)
-        (stands (by.key (get_or xs j d)) k))
-    | inr s ↦ apart_later by keys k (by.key (get_or xs j d)) (subst (λ o. Stands o (by.key (get_or xs j d)) k) (p.1 j d s l)
-        (stands (by.key (get_or xs j d)) k))
-  ]))
+        | inl s ↦ keys.apart (by.key (get_or xs j d)) k (subst (λ o. Stands o (by.key (get_or xs j d)) k) (p.0 j d (omega arith) s)
+            (stands (by.key (get_or xs j d)) k))
+        | inr s ↦ apart_later by keys k (by.key (get_or xs j d)) (subst (λ o. Stands o (by.key (get_or xs j d)) k) (p.1 j d s l)
+            (stands (by.key (get_or xs j d)) k))
+      ]))
     where
       early_or_not : (m n : ℕ) → (m < n) ⊎ (n ≤ m)
       early_or_not m n = grind arith

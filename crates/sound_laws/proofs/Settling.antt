@@ -101,10 +101,13 @@ edit_settled M L h after old new v u was_ordered is_ordered i s = record {
     | inr t ↦
         let k' = sym (i.features.others a t) ∙ k in
         let e' = rw i.rules at e in
-        let y = s.cut r row e' a f k' (λ m. n (m.0, edit_keeps h after old new i m.0 m.1, m.2)) in
-        (y.0, L.cutting row old.features new.features a f was_ordered is_ordered (v.fits r row e') (u.fits r row e) k' k
-            (edit_agrees h after old new i f n) y.0 y.1, of_same f y.0 old.entries new.entries r a
-            (λ b. ap (λ x. entry_at x r a b) i.entries) y.2)
+        let y = s.cut r row e' a f k' (λ m. n (m.0, edit_keeps h after old new i m.0 m.1, m.2)) in (
+          y.0,
+          L.cutting row old.features new.features a f was_ordered is_ordered (v.fits r row e') (u.fits r row e) k' k
+              (edit_agrees h after old new i f n) y.0 y.1,
+          of_same f y.0 old.entries new.entries r a
+              (λ b. ap (λ x. entry_at x r a b) i.entries) y.2,
+        )
   ];
   frames = λ r row e a. edit_frames M h after old new u i r a (s.frames r row (rw i.rules at e) a);
 }
@@ -126,8 +129,12 @@ validated_settled M L C w old new v u i s =
           let e' = rw i.rules at e in
           elim (j.each a) [
             | inl y ↦ λ b x k. elim (there_or_not (feature_at old.features a)) [
-              | inl z ↦ inr (z.0, rw i.features z.1, fresh_frame M L old.features row z.0 a b x (v.fits r row e') z.1
-                  ((y.1.live z.0 z.1 r row e').fresh b x k))
+              | inl z ↦ inr (
+                z.0,
+                rw i.features z.1,
+                fresh_frame M L old.features row z.0 a b x (v.fits r row e') z.1
+                    ((y.1.live z.0 z.1 r row e').fresh b x k),
+              )
               | inr z ↦ let l = y.1.dead z r b in absurd cc
             ]
             | inr y ↦ kept_frames M w old new j r a y.0 (y.1 r) (s.frames r row e' a)
@@ -142,8 +149,12 @@ add_rule_settled M n row old new v i s =
       cut = λ r q e a f k c.
           let z = v.made.envelopes a f (rw i.features at k) in
           let held = holds_corner (env f) z.proper in
-          absurd (c (corner (env f), rw i.dirt (add_covers old.dirt whole_grid (corner (env f))
-              (within_Holds (env f) whole_grid z.on_grid (corner (env f)) held)), held));
+          absurd (c (
+            corner (env f),
+            rw i.dirt (add_covers old.dirt whole_grid (corner (env f))
+                (within_Holds (env f) whole_grid z.on_grid (corner (env f)) held)),
+            held,
+          ));
       frames = λ r q e a b x k. elim (same_or_not r n) [
         | inl t ↦ absurd (no_entry M old v n a b i.free x (rw (← i.entries, ← t) k))
         | inr t ↦ elim (s.frames r q (sym (i.others r t) ∙ e) a b x (rw i.entries at k)) [
@@ -158,8 +169,12 @@ drop_rule_settled M n old new i s = record {
   cut = λ r q e a f k c. elim (same_or_not r n) [
     | inl t ↦ let gone = i.here in let here : rule_at new.rules n ≡ Some q = rw t at e in absurd cc
     | inr t ↦ let z = s.cut r q (sym (i.others r t) ∙ e) a f (rw i.features at k) (λ m. c (rw i.dirt m))
-        in (z.0, cut_at M q old.features new.features a z.0 i.features z.1, of_same f z.0 old.entries new.entries r a (λ b. i.kept r a b t)
-        z.2)
+        in (
+          z.0,
+          cut_at M q old.features new.features a z.0 i.features z.1,
+          of_same f z.0 old.entries new.entries r a (λ b. i.kept r a b t)
+              z.2,
+        )
   ];
   frames = λ r q e a b x k. elim (same_or_not r n) [
     | inl t ↦ let gone = i.here in let here : rule_at new.rules n ≡ Some q = rw t at e in absurd cc

@@ -98,15 +98,17 @@ validated_sound M L w old new v i s = record {
     | inr y ↦
         let was = s.each r row (rw i.rules at e) a in
         let seen : (p : Point) → Covers old.dirt p → RectHolds w p → (f : Feature) → feature_at old.features a ≡ Some f
-            → RectHolds (env f) p → ⊥ = λ p c h f k m. y.0 (p, c, h, inl (f, k, m)) in
+        → RectHolds (env f) p → ⊥ = λ p c h f k m. y.0 (p, c, h, inl (f, k, m)) in
         let framed : (p : Point) → Covers old.dirt p → RectHolds w p → (b : ℕ) (x : Entry) → entry_at old.entries r a b ≡ Some x
-            → RectHolds x.frame p → ⊥ = λ p c h b x k m. y.0 (p, c, h, inr (r, b, x, k, m)) in
+        → RectHolds x.frame p → ⊥ = λ p c h b x k m. y.0 (p, c, h, inr (r, b, x, k, m)) in
         record {
           points = λ p c b. elim (covers_or_not old.dirt p) [
             | inr n ↦ rw (y.1 r b, i.features) (was.points p n b)
             | inl d ↦
-                let inw : RectHolds w p = elim (holds_or_not w p) [ inl h ↦ h | inr n ↦ absurd (c (rw i.dirt (cut_covers old.dirt w p d n)))
-                    ] in (
+                let inw : RectHolds w p = elim (holds_or_not w p) [
+                  | inl h ↦ h
+                  | inr n ↦ absurd (c (rw i.dirt (cut_covers old.dirt w p d n)))
+                ] in (
                   (λ x.
                       let k = sym (y.1 r b) ∙ x.1 in
                       elim (bool_cases x.0.whole) [

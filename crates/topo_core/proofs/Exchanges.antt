@@ -1,5 +1,5 @@
 -- What the store does, with the dirt, is an edit.
-use Rattle.std.proofs.Common.{◌≡◌, ◌≢◌, inl, inr, ℕ, ◌+◌, ◌<◌, ◌≤◌, List, [], ◌∷◌, ◌++◌, Option, Some, None, true, Result, Ok, Err, refl, sym, ap, subst, ◌∙◌}
+use Rattle.std.proofs.Common.{◌≡◌, ℕ, ◌+◌, ◌<◌, ◌≤◌, List, [], ◌∷◌, ◌++◌, Option, Some, None, true, Result, Ok, Err, refl, sym, ap, subst, ◌∙◌}
 use Rattle.std.specs.Prelude.{is_some, MatchOption}
 use Rattle.std.specs.Option.{option_map, option_to_list}
 use Rattle.std.specs.Result.{IsErrAnd, IfErr}
@@ -42,7 +42,7 @@ pub record ChangesFeatures (next : ℕ) (F : List Feature) (s t : Stored) : Type
 -- s is the store before room was made, r with it, t after the change
 pub added : (class : ℕ) (shape : Shape) (h : ℕ) (s r t : Stored) (rules : List InForce) (d e : List Rectangle) (es : List Entry)
     → IsTopology (project_of s rules d es) → IsSame s r → h ≡ r.next → ChangesFeatures (r.next + 1)
-        (r.features ++ record { handle = h; class = class; shape = shape } ∷ []) r t → e ≡ add_dirt d (envelope_of shape)
+    (r.features ++ record { handle = h; class = class; shape = shape } ∷ []) r t → e ≡ add_dirt d (envelope_of shape)
     → IsFeatureAdded class shape h (project_of s rules d es) (project_of t rules e es)
 added class shape h s r t rules d e es top same number i dirt =
     let handle : h ≡ s.next = number ∙ same.next in
@@ -52,14 +52,20 @@ added class shape h s r t rules d e es top same number i dirt =
     record {
       number = handle;
       absent = none;
-      edit = record { features = rw (i.features, same.features) set; dirt = rw none dirt; classes = i.classes ∙ same.classes; rules =
-          refl; entries = refl };
+      edit = record {
+        features = rw (i.features, same.features) set;
+        dirt = rw none dirt;
+        classes = i.classes ∙ same.classes;
+        rules =
+            refl;
+        entries = refl;
+      };
       next = i.next_is ∙ ap (λ n. n + 1) same.next;
     }
 
 pub exchanged : (h : ℕ) (after : Option Feature) (s r t : Stored) (rules : List InForce) (d e : List Rectangle) (es : List Entry)
     → IsSame s r → IsSetAt h after r.features t.features → t.classes ≡ r.classes → t.next ≡ r.next
-        → e ≡ add_envelope (add_envelope d (feature_at r.features h)) after
+    → e ≡ add_envelope (add_envelope d (feature_at r.features h)) after
     → IsFeatureSet h after (project_of s rules d es) (project_of t rules e es)
 exchanged h after s r t rules d e es same set classes next dirt = record {
   edit = record {

@@ -61,8 +61,11 @@ dest_end cs d n (Some k) h = kind_end cs d n k h
 kinds_end : (cs : List Class) (d : Class) (rules : List InForce) → Every (λ (q : InForce). HasKinds cs q.row) rules
     → Every (λ (q : InForce). HasKinds (cs ++ d ∷ []) q.row) rules
 kinds_end cs d rules h = every_map (λ (q : InForce). HasKinds cs q.row) (λ (q : InForce). HasKinds (cs ++ d ∷ []) q.row)
-    (λ q k. record { origin = kind_end cs d q.row.origin.class (origin_of q.row.kind) k.origin; dest =
-        dest_end cs d q.row.dest.class (dest_of q.row.kind) k.dest }) rules h
+    (λ q k. record {
+      origin = kind_end cs d q.row.origin.class (origin_of q.row.kind) k.origin;
+      dest =
+          dest_end cs d q.row.dest.class (dest_of q.row.kind) k.dest;
+    }) rules h
 
 pub class_keeps : (name : List ℕ) (k : Kind) (old new : Project) → IsTopology old → IsClassAdded name k old new
     → IsStore new.classes new.features new.next → IsTopology new

@@ -60,9 +60,12 @@ alike f (Some x) (Some d) (Some e) m h = record {
 pub mark_settled : (M : Meaning) (old new : Project) → IsMarking old new → IsSettledUnder M old → IsSettledUnder M new
 mark_settled M old new i s = record {
   cut = λ r row e a f k n.
-      let c = s.cut r row (rw i.rules at e) a f (rw i.features at k) (λ m. n (rw i.dirt m)) in
-      (c.0, rw i.features c.1, λ b. alike f (finding_at c.0 b) (entry_at old.entries r a b) (entry_at new.entries r a b) (i.entries r a b)
-          (c.2 b));
+      let c = s.cut r row (rw i.rules at e) a f (rw i.features at k) (λ m. n (rw i.dirt m)) in (
+        c.0,
+        rw i.features c.1,
+        λ b. alike f (finding_at c.0 b) (entry_at old.entries r a b) (entry_at new.entries r a b) (i.entries r a b)
+            (c.2 b),
+      );
   frames = λ r row e a b x k.
       let z = stood (entry_at old.entries r a b) x (rw k at (i.entries r a b)) in
       rw (i.dirt, i.features, ← z.2.frame) (s.frames r row (rw i.rules at e) a b z.0 z.1);

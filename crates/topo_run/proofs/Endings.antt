@@ -25,7 +25,7 @@ whole_given script given (Some left) consumed end = sym (consumed ∙ (ap (λ t.
 kept_whole : (s : Passage) (script kept : List ℕ) → s.old ≡ Some script → Read s kept AtEnd → kept ≡ script
 kept_whole s script kept told read =
     read.ended.0 ∙ whole_given script read.given s.new (subst (λ (o : Option (List ℕ)). Consumes o s.new read.given) told read.consumed)
-        read.ended.2
+    read.ended.2
 
 -- no more is given than is there
 given_within : (script given : List ℕ) (new : Option (List ℕ)) → Consumes (Some script) new given → length given ≤ length script
@@ -51,6 +51,6 @@ completes s k status.WriteFault (rose, rest) = λ script told short calm quiet. 
 completes s k status.NoMemory ends = λ script told short calm quiet. inr (inr refl)
 completes s k status.TooLong (kept, refused, read, written) = λ script told short calm quiet.
     let within : length read.given ≤ length script = given_within script read.given s.new
-        (subst (λ (o : Option (List ℕ)). Consumes o s.new read.given) told read.consumed) in
+    (subst (λ (o : Option (List ℕ)). Consumes o s.new read.given) told read.consumed) in
     let over : script_limit < length read.given = read.ended.1 in
     absurd (omega (arith, within, over, short))

@@ -53,14 +53,25 @@ invariant_snoc s (p ∷ os) o h k = (h.0, invariant_snoc p.after os o h.1 k)
 
 pub begins : (start : State) (all : List (List ℕ)) (before : Option (List ℕ)) → Invariant start.project
     → SoFar start all all start before before [] false
-begins start all before invariant = record { done = []; split = refl; outcomes = []; run = tt; last = refl; front = []; text =
-    refl; appended = Appends-nil before; any = refl; invariant = invariant }
+begins start all before invariant = record {
+  done = [];
+  split = refl;
+  outcomes = [];
+  run = tt;
+  last = refl;
+  front = [];
+  text =
+      refl;
+  appended = Appends-nil before;
+  any = refl;
+  invariant = invariant;
+}
 
 -- a line was answered, and its reply is pending
 pub goes_on : {start now : State} {all : List (List ℕ)} {line : List ℕ} {rest : List (List ℕ)} {before written : Option (List ℕ)}
     {pending more : List ℕ} {refused : Bool} {o : Outcome} →
     SoFar start all (line ∷ rest) now before written pending refused → Step now line o → Invariant o.after.project
-        → more ≡ pending ++ o.text → SoFar start all rest o.after before written more (refused || o.refused)
+    → more ≡ pending ++ o.text → SoFar start all rest o.after before written more (refused || o.refused)
 goes_on {start} {now} {all} {line} {rest} {before} {written} {pending} {more} {refused} {o} far step invariant grown = record {
   done = far.done ++ line ∷ [];
   split = far.split ∙ sym (append_assoc far.done (line ∷ []) rest);
@@ -79,7 +90,7 @@ goes_on {start} {now} {all} {line} {rest} {before} {written} {pending} {more} {r
 pub flushed : {start now : State} {all rest : List (List ℕ)} {before written mid : Option (List ℕ)} {pending left : List ℕ} {refused : Bool}
     (part : List ℕ) →
     SoFar start all rest now before written pending refused → pending ≡ part ++ left → Appends written mid part
-        → SoFar start all rest now before mid left refused
+    → SoFar start all rest now before mid left refused
 flushed {start} {now} {all} {rest} {before} {written} {mid} {pending} {left} {refused} part far split more = record {
   done = far.done;
   split = far.split;
@@ -97,10 +108,10 @@ flushed {start} {now} {all} {rest} {before} {written} {mid} {pending} {left} {re
 pub takes : {start now next : State} {all lines : List (List ℕ)} {line : List ℕ} {rest : List (List ℕ)} {before written : Option (List ℕ)}
     {pending more : List ℕ} {refused bad : Bool} →
     SoFar start all lines now before written pending refused → lines ≡ line ∷ rest → Takes now line pending more bad next
-        → SoFar start all rest next before written more (refused || bad)
+    → SoFar start all rest next before written more (refused || bad)
 takes {start} {now} {next} {all} {lines} {line} {rest} {before} {written} {pending} {more} {refused} {bad} far is taken =
     goes_on {o = record { text = taken.0; after = next; refused = bad }} (subst (λ (ls : List (List ℕ)). SoFar start all ls now before
-        written pending refused) is far) taken.2 taken.3 taken.1
+    written pending refused) is far) taken.2 taken.3 taken.1
 
 pub empty_ordered : IsOrdered empty_project
 empty_ordered = record { rules = tt; features = tt; next = tt; entries = tt }
@@ -108,7 +119,7 @@ empty_ordered = record { rules = tt; features = tt; next = tt; entries = tt }
 -- all lines were answered, and what was pending is written
 pub ends : {now : State} {all lines : List (List ℕ)} {before written after : Option (List ℕ)} {pending bytes : List ℕ} {refused : Bool} →
     SoFar empty_state all lines now before written pending refused → lines ≡ [] → bytes ≡ pending → Appends written after bytes
-        → WritesRun empty_state all before after refused
+    → WritesRun empty_state all before after refused
 ends {now} {all} {lines} {before} {written} {after} {pending} {bytes} {refused} far none same more =
     let run : Run empty_state all far.outcomes = rw (far.split, none, append-nil far.done) far.run in
     record {

@@ -22,7 +22,7 @@ front_and_last xs some =
     let below : length xs - 1 < length xs = omega arith in
     let past : length xs ≤ suc (length xs - 1) = omega arith in
     sym (take-append-drop (length xs - 1) xs) ∙ ap (λ t. take (length xs - 1) xs ++ t) (drop-cons xs (length xs - 1) 0 below
-        ∙ ap (λ t. get_or xs (length xs - 1) 0 ∷ t) (drop_of_length-le xs past))
+    ∙ ap (λ t. get_or xs (length xs - 1) 0 ∷ t) (drop_of_length-le xs past))
 
 pub cr_is_cut : (line : List ℕ) → 0 < length line → get_or line (length line - 1) 0 ≡ 13 → take (length line - 1) line ≡ without_cr line
 cr_is_cut line some cr = sym (ap without_cr (front_and_last line some) ∙ without_cr_at (take (length line - 1) line)

@@ -79,7 +79,7 @@ covers_moved ss new p m =
 pub grid_moved : (ss new : List Spot) → IsPermutation ss new → Every IsRectangle (envs_of ss) → Every IsRectangle (envs_of new)
 grid_moved ss new m h =
     recursion_from_All IsRectangle (envs_of new) (All-permutation IsRectangle (envs_of ss) (envs_of new)
-        (IsPermutation-map (λ (s : Spot). s.env) ss new m) (All-from_recursion IsRectangle (envs_of ss) h))
+    (IsPermutation-map (λ (s : Spot). s.env) ss new m) (All-from_recursion IsRectangle (envs_of ss) h))
 
 -- ---- the question
 meets_back : (r s : Rectangle) → rects_meet r s ≡ rects_meet s r
@@ -109,8 +109,14 @@ some_as P Q (x ∷ xs) e h = elim h [ inl k ↦ inl (e x k) | inr k ↦ inr (som
 pub picked_as : {X : Type 0} (P Q : X → Type 0) (number : X → ℕ) (xs : List X) (before out : List ℕ) → ((x : X) → P x ↔ Q x)
     → ArePicked P number xs before out → ArePicked Q number xs before out
 picked_as {X} P Q number xs before out e h a = (
-  (λ k. elim ((h a).0 k) [ inl m ↦ inl m | inr m ↦ inr (some_as (λ (x : X). (number x ≡ a) × P x) (λ (x : X). (number x ≡ a) × Q x) xs
-      (λ x y. (y.0, (e x).0 y.1)) m) ]),
-  (λ k. (h a).1 (elim k [ inl m ↦ inl m | inr m ↦ inr (some_as (λ (x : X). (number x ≡ a) × Q x) (λ (x : X). (number x ≡ a) × P x) xs
-      (λ x y. (y.0, (e x).1 y.1)) m) ])),
+  (λ k. elim ((h a).0 k) [
+    | inl m ↦ inl m
+    | inr m ↦ inr (some_as (λ (x : X). (number x ≡ a) × P x) (λ (x : X). (number x ≡ a) × Q x) xs
+        (λ x y. (y.0, (e x).0 y.1)) m)
+  ]),
+  (λ k. (h a).1 (elim k [
+    | inl m ↦ inl m
+    | inr m ↦ inr (some_as (λ (x : X). (number x ≡ a) × Q x) (λ (x : X). (number x ≡ a) × P x) xs
+        (λ x y. (y.0, (e x).1 y.1)) m)
+  ])),
 )

@@ -29,5 +29,8 @@ pub every_before : (F : List Feature) (i : ℕ) (f : Feature) → IsAscending F 
     → Every (λ (g : Feature). g.handle < f.handle) (take i F)
 every_before [] i f u l e = absurd (omega arith)
 every_before (g ∷ F) zero f u l e = tt
-every_before (g ∷ F) (suc i) f u l e = (every_at (λ (x : Feature). g.handle < x.handle) F i f u.0 (omega arith) e, every_before F i f u.1
-    (omega arith) e)
+every_before (g ∷ F) (suc i) f u l e = (
+  every_at (λ (x : Feature). g.handle < x.handle) F i f u.0 (omega arith) e,
+  every_before F i f u.1
+      (omega arith) e,
+)

@@ -63,7 +63,7 @@ pub handles_near : (r : Rectangle) (some all : List Spot) (handles : List ℕ) �
     → (a : ℕ) → Contains handles a ↔ IsNear r all a
 handles_near r some all handles same is a =
     let e : handles ≡ map (λ (s : Spot). s.handle) (filter (meets_spot r) all) = is
-        ∙ ap (λ (ss : List Spot). map (λ (s : Spot). s.handle) ss) same in (
+    ∙ ap (λ (ss : List Spot). map (λ (s : Spot). s.handle) ss) same in (
       (λ h. near_found r all a (rw e at (among a handles h))),
       (λ h. contains_among handles a (rw e (found_near r all a h))),
     )
@@ -125,8 +125,11 @@ told_by : (r : Rectangle) (F xs : List Feature) → IsAscending F → Every (λ 
     → Every (λ (f : Feature). SomeOf (MeetsAt r f.handle) F ↔ (rects_meet r (env f) ≡ true)) xs
 unfolding MeetsAt
 told_by r F [] u v = tt
-told_by r F (f ∷ xs) u v = ((forth, λ t. feature_some (λ (g : Feature). rects_meet r (env g) ≡ true) F f.handle f v.0 t), told_by r F xs u
-    v.1)
+told_by r F (f ∷ xs) u v = (
+  (forth, λ t. feature_some (λ (g : Feature). rects_meet r (env g) ≡ true) F f.handle f v.0 t),
+  told_by r F xs u
+      v.1,
+)
   where
     forth : SomeOf (λ (g : Feature). (g.handle ≡ f.handle) × (rects_meet r (env g) ≡ true)) F → rects_meet r (env f) ≡ true
     forth h =
@@ -190,7 +193,7 @@ view_near F V f box ss handles u moved w v near is =
           (feature_spot r G a (kept_in box r F a w h)))),
     )) in
     view_filtered F V f u (is ∙ those_passing (λ (g : Feature). P g.handle) test F (live_of F handles) (told_by r F F u (found_own F u))
-        those)
+    those)
 
 -- ---- the reach
 pub own_part : (r : Rectangle) → is_within r r ≡ true

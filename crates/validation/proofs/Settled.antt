@@ -22,10 +22,10 @@ pub validated : (M : Meaning) (w : Rectangle) (p : Project) (rules : List InForc
     (es after fresh : List Entry) (selected : List ℕ)
     → HasParts p rules F d es → AreAscending rules → IsRising selected → ((a : ℕ) → Contains selected a ↔ IsSelected p w a)
     → IsJudging M F rules selected fresh → IsReplaced selected es fresh after → new ≡ cut_dirt d w
-        → IsValidatedBy M w p (with_parts p new after)
+    → IsValidatedBy M w p (with_parts p new after)
 validated M w p rules F d new es after fresh selected h v u chosen judging replaced cut =
     validated_by_parts M w p (with_parts p new after) selected fresh (rw h.rules v) u
-        (record { classes = refl; rules = refl; features = refl; next = refl })
+    (record { classes = refl; rules = refl; features = refl; next = refl })
     (record { chosen = chosen; judging = rw (h.features, h.rules) judging; replaced = rw h.entries replaced; dirt = rw h.dirt cut })
 
 pub selected_live : (w : Rectangle) (p : Project) (F : List Feature) (selected : List ℕ) → IsAscending F → IsRising selected
@@ -37,10 +37,10 @@ selected_live w p F selected u v chosen = live_those (λ a. IsSelected p w a) F 
 pub judged_upto : (w : Rectangle) (p : Project) (rules : List InForce) (F : List Feature) (selected : List ℕ) (old done : ℕ) → IsAscending F
     → IsRising selected → ((a : ℕ) → Contains selected a ↔ IsSelected p w a)
     → done ≤ raised old (judged_of rules (live_of F selected)) → (fs : List Feature)
-        → IsThose (λ (f : Feature). IsSelected p w f.handle) F fs → done ≤ raised old (judged_of rules fs)
+    → IsThose (λ (f : Feature). IsSelected p w f.handle) F fs → done ≤ raised old (judged_of rules fs)
 judged_upto w p rules F selected old done u v chosen l fs those =
     let one = those_one (λ (f : Feature). IsSelected p w f.handle) F (live_of F selected) fs (selected_live w p F selected u v chosen) those
-        in
+    in
     subst (λ gs. done ≤ raised old (judged_of rules gs)) one l
 
 pub le_of_eq : (m n : ℕ) → m ≡ n → m ≤ n

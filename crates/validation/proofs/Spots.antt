@@ -51,7 +51,7 @@ pub between : (r : Rectangle) (w least greatest : ℤ) (ss : List Spot) (i k : �
     → IsPartitionPoint (λ s. is_before least s ≡ true) (λ s. is_before least s ≡ false) ss i
     → IsPartitionPoint (λ s. is_upto greatest s ≡ true) (λ s. is_upto greatest s ≡ false) (drop i ss) k
     → least ≡ r.x0 -ℤ w → greatest ≡ r.x1 → All (IsUpTo w) ss → i ≤ length ss → filter (meets_spot r) (take k (drop i ss)) ≡ filter
-        (meets_spot r) ss
+    (meets_spot r) ss
 between r w least greatest ss i k p q el eg n b =
     filter_front (meets_spot r) (drop i ss) k (λ j d l h. too_far_east r (get_or (drop i ss) j d).env (rw eg at (q.1 j d l h)))
     ∙ filter_back (meets_spot r) ss i b (λ j d l h. too_far_west r (get_or ss j d).env w (n j d (omega arith)) (rw el at (p.0 j d l h)))

@@ -39,28 +39,28 @@ how_many_joined test (x ∷ xs) ys = one_more (test x) (how_many test (xs ++ ys)
 pub judged_more : (row : Row) (F : List Feature) (selected : List ℕ) (i a before work new : ℕ) → i < length selected
     → a ≡ get_or selected i a
     → work ≡ raised before (how_many (judged row) (live_of F (take i selected)))
-        → new ≡ raised work (how_many (judged row) (option_to_list (feature_at F a)))
+    → new ≡ raised work (how_many (judged row) (option_to_list (feature_at F a)))
     → new ≡ raised before (how_many (judged row) (live_of F (take (i + 1) selected)))
 judged_more row F selected i a before work new l e h k =
     let test = judged row in
     let one : ℕ → List Feature = λ n. option_to_list (feature_at F n) in
     let more : take (i + 1) selected ≡ take i selected ++ a ∷ [] = take_more selected i a l ∙ ap (λ y. take i selected ++ y ∷ []) (sym e) in
     let split : live_of F (take i selected ++ a ∷ []) ≡ live_of F (take i selected) ++ live_of F (a ∷ []) =
-        flat_map-append one (take i selected) (a ∷ []) in
+    flat_map-append one (take i selected) (a ∷ []) in
     let alone : how_many test (live_of F (a ∷ [])) ≡ how_many test (one a) = how_many_joined test (one a) [] ∙ omega arith in
     let sum = how_many_joined test (live_of F (take i selected)) (live_of F (a ∷ [])) in
     rw (more, split, sum, alone) (k ∙ (ap (λ y. raised y (how_many test (one a))) h
-        ∙ raised_more before (how_many test (live_of F (take i selected))) (how_many test (one a))))
+    ∙ raised_more before (how_many test (live_of F (take i selected))) (how_many test (one a))))
 
 -- one rule more
 pub judged_rule_more : (fs : List Feature) (rules : List InForce) (i : ℕ) (rule : InForce) (before work new : ℕ) → i < length rules
     → rule ≡ get_or rules i rule
     → work ≡ raised before (judged_of (take i rules) fs) → new ≡ raised work (how_many (judged rule.row) fs)
-        → new ≡ raised before (judged_of (take (i + 1) rules) fs)
+    → new ≡ raised before (judged_of (take (i + 1) rules) fs)
 judged_rule_more fs rules i rule before work new l e h k =
     let count : InForce → ℕ = λ (q : InForce). how_many (judged q.row) fs in
     let more : judged_of (take (i + 1) rules) fs ≡ judged_of (take i rules) fs + count rule = sum_by_more count rules i rule l
-        ∙ ap (λ q. sum_by count (take i rules) + count q) (sym e) in
+    ∙ ap (λ q. sum_by count (take i rules) + count q) (sym e) in
     rw more (k ∙ (ap (λ y. raised y (count rule)) h ∙ raised_more before (judged_of (take i rules) fs) (count rule)))
 
 -- ---- where memory runs out on the way
@@ -76,7 +76,7 @@ live_front : (test : Feature → Bool) (F : List Feature) (selected : List ℕ) 
 live_front test F selected i =
     let one : ℕ → List Feature = λ n. option_to_list (feature_at F n) in
     let whole : live_of F selected ≡ live_of F (take i selected) ++ live_of F (drop i selected) =
-        ap (live_of F) (sym (take-append-drop i selected)) ∙ flat_map-append one (take i selected) (drop i selected) in
+    ap (live_of F) (sym (take-append-drop i selected)) ∙ flat_map-append one (take i selected) (drop i selected) in
     let sum = how_many_joined test (live_of F (take i selected)) (live_of F (drop i selected)) in
     rw (whole, sum) (omega arith)
 
@@ -84,24 +84,24 @@ live_front test F selected i =
 pub judged_within : (row : Row) (F : List Feature) (selected : List ℕ) (i a before work new : ℕ) → i < length selected
     → a ≡ get_or selected i a
     → work ≡ raised before (how_many (judged row) (live_of F (take i selected)))
-        → new ≤ raised work (how_many (judged row) (option_to_list (feature_at F a)))
+    → new ≤ raised work (how_many (judged row) (option_to_list (feature_at F a)))
     → new ≤ raised before (how_many (judged row) (live_of F selected))
 judged_within row F selected i a before work new l e h k =
     let more = judged_more row F selected i a before work (raised work (how_many (judged row) (option_to_list (feature_at F a)))) l e h refl
-        in
+    in
     let upto = raised_upto before (how_many (judged row) (live_of F (take (i + 1) selected))) (how_many (judged row) (live_of F selected))
-        (live_front (judged row) F selected (i + 1)) in
+    (live_front (judged row) F selected (i + 1)) in
     omega (arith, k, more, upto)
 
 -- under this rule
 pub judged_rule_within : (fs : List Feature) (rules : List InForce) (i : ℕ) (rule : InForce) (before work new : ℕ) → i < length rules
     → rule ≡ get_or rules i rule
     → work ≡ raised before (judged_of (take i rules) fs) → new ≤ raised work (how_many (judged rule.row) fs)
-        → new ≤ raised before (judged_of rules fs)
+    → new ≤ raised before (judged_of rules fs)
 judged_rule_within fs rules i rule before work new l e h k =
     let more = judged_rule_more fs rules i rule before work (raised work (how_many (judged rule.row) fs)) l e h refl in
     let upto = raised_upto before (judged_of (take (i + 1) rules) fs) (judged_of rules fs)
-        (sum_by-take-le (λ (q : InForce). how_many (judged q.row) fs) rules (i + 1)) in
+    (sum_by-take-le (λ (q : InForce). how_many (judged q.row) fs) rules (i + 1)) in
     omega (arith, k, more, upto)
 
 -- ---- the live features are those whose handle is selected
@@ -145,8 +145,11 @@ live_above F (n ∷ selected) m u = above_one (feature_at F n) (live_of F select
 ascends_one : (o : Option Feature) (rest : List Feature) (n : ℕ) → ((f : Feature) → o ≡ Some f → f.handle ≡ n)
     → Every (λ (g : Feature). n < g.handle) rest → IsAscending rest → IsAscending (option_to_list o ++ rest)
 ascends_one None rest n own h u = u
-ascends_one (Some f) rest n own h u = (every_map (λ (g : Feature). n < g.handle) (λ (g : Feature). f.handle < g.handle) (λ g l. let e =
-    own f refl in omega arith) rest h, u)
+ascends_one (Some f) rest n own h u = (
+  every_map (λ (g : Feature). n < g.handle) (λ (g : Feature). f.handle < g.handle) (λ g l. let e =
+      own f refl in omega arith) rest h,
+  u,
+)
 
 live_ascends : (F : List Feature) (selected : List ℕ) → IsRising selected → IsAscending (live_of F selected)
 live_ascends F [] u = tt
@@ -227,8 +230,11 @@ those_found P known (f ∷ F) (g ∷ gs) u t = elim (known f.handle) [
 pub live_those : (P : ℕ → Type 0) (F : List Feature) (selected : List ℕ) → IsAscending F → IsRising selected
     → ((a : ℕ) → Contains selected a ↔ P a) → IsThose (λ (f : Feature). P f.handle) F (live_of F selected)
 live_those P F selected u v is = those_found P
-    (λ h. elim (among_or_not h selected) [ inl m ↦ inl ((is h).0 (contains_among selected h m)) | inr d ↦ inr
-        (λ k. d (among h selected ((is h).1 k))) ])
+    (λ h. elim (among_or_not h selected) [
+      | inl m ↦ inl ((is h).0 (contains_among selected h m))
+      | inr d ↦ inr
+          (λ k. d (among h selected ((is h).1 k)))
+    ])
     F (live_of F selected) u (record {
       ascending = live_ascends F selected v;
       has = λ h k. live_has F selected h v (among h selected ((is h).1 k));

@@ -23,7 +23,7 @@ every_cell Q (c ∷ cs) h = ((λ p k. h p (inl k)), every_cell Q cs (λ p k. h p
 
 pub framable : (M : Meaning) → Laws M → CutsRight M → (row : Row) (F : List Feature) (a : ℕ) (f : Feature) (xs : List Finding)
     → IsAscending F → M.Fits row F → feature_at F a ≡ Some f → IsRectangle (env f) → M.IsCutting row F a xs → AreInOrder xs
-        → Every IsFramable xs
+    → Every IsFramable xs
 unfolding finding_at
 framable M L C row F a f xs u fits e r cut order =
     let right = C.right row F a f u fits e xs cut in

@@ -28,8 +28,11 @@ all_above a (n ∷ ns) h = (h 0 (omega arith), all_above a ns (λ k l. h (suc k)
 
 rising_pairs : (ns : List ℕ) → ((i j : ℕ) (d : ℕ) → i < j → j < length ns → get_or ns i d < get_or ns j d) → IsRising ns
 rising_pairs [] h = tt
-rising_pairs (n ∷ ns) h = (all_above n ns (λ k l. h 0 (suc k) 0 (omega arith) (omega arith)), rising_pairs ns
-    (λ i j d l m. h (suc i) (suc j) d (omega arith) (omega arith)))
+rising_pairs (n ∷ ns) h = (
+  all_above n ns (λ k l. h 0 (suc k) 0 (omega arith) (omega arith)),
+  rising_pairs ns
+      (λ i j d l m. h (suc i) (suc j) d (omega arith) (omega arith)),
+)
 
 pub rising : (ns : List ℕ) → IsStrictlyIncreasing ns → IsRising ns
 rising ns u = rising_pairs ns (AllPairs-from_increasing ns u)

@@ -12,8 +12,18 @@ use Rattle.validation_laws.specs.Parts.{IsJoined}
 pub joined_more : {A B : Type 0} (P : A → List B → Type 0) (xs : List A) (ys : List B) (x : A) (part : List B) → IsJoined P xs ys → P x part
     → IsJoined P (xs ++ x ∷ []) (ys ++ part)
 joined_more P [] ys x part h k = (part, ([], (rw h (sym (append-nil part)), k, refl)))
-joined_more P (z ∷ xs) ys x part h k = (h.0, (h.1.0 ++ part, (rw (h.1.1.0, append_assoc) refl, h.1.1.1, joined_more P xs h.1.0 x part
-    h.1.1.2 k)))
+joined_more P (z ∷ xs) ys x part h k = (
+  h.0,
+  (
+    h.1.0 ++ part,
+    (
+      rw (h.1.1.0, append_assoc) refl,
+      h.1.1.1,
+      joined_more P xs h.1.0 x part
+          h.1.1.2 k,
+    ),
+  ),
+)
 
 -- one pair more
 pub paired_more : {A B : Type 0} (R : A → B → Type 0) (xs : List A) (ys : List B) (x : A) (y : B) → Paired R xs ys → R x y
@@ -28,9 +38,12 @@ pub part_more : {A B : Type 0} (P : A → List B → Type 0) (xs : List A) (i : 
     → x ≡ get_or xs i x
     → (ys : List B) × (out ≡ before ++ ys) × IsJoined P (take i xs) ys → (part : List B) × (new ≡ out ++ part) × P x part
     → (ys : List B) × (new ≡ before ++ ys) × IsJoined P (take (i + 1) xs) ys
-part_more P xs i x before out new l e h k =
-    (h.0 ++ k.0, k.1 ∙ (ap (λ t. t ++ k.0) h.1 ∙ append_assoc before h.0 k.0), rw (take_more xs i x l, ← e)
-        (joined_more P (take i xs) h.0 x k.0 h.2 k.2))
+part_more P xs i x before out new l e h k = (
+  h.0 ++ k.0,
+  k.1 ∙ (ap (λ t. t ++ k.0) h.1 ∙ append_assoc before h.0 k.0),
+  rw (take_more xs i x l, ← e)
+      (joined_more P (take i xs) h.0 x k.0 h.2 k.2),
+)
 
 -- what holds of all that is put for each element holds of what is put together
 pub every_part : {A B : Type 0} (P : A → List B → Type 0) (Q : B → Type 0) → ((x : A) (part : List B) → P x part → Every Q part)

@@ -33,9 +33,11 @@ found_above : (r a : ℕ) (f : Feature) (x : Finding) (e : Entry) (xs : List Fin
 found_above r a f x e [] [] n u h = tt
 found_above r a f x e [] (d ∷ es) n u h = absurd h
 found_above r a f x e (y ∷ xs) [] n u h = absurd h
-found_above r a f x e (y ∷ xs) (d ∷ es) n u h =
-    (key_below e d (n.rule ∙ sym h.0.rule) (n.subject ∙ sym h.0.subject) (rw (n.other, h.0.other) u.0), found_above r a f x e xs es n u.1
-        h.1)
+found_above r a f x e (y ∷ xs) (d ∷ es) n u h = (
+  key_below e d (n.rule ∙ sym h.0.rule) (n.subject ∙ sym h.0.subject) (rw (n.other, h.0.other) u.0),
+  found_above r a f x e xs es n u.1
+      h.1,
+)
   where
     key_below : (e d : Entry) → e.rule ≡ d.rule → e.subject ≡ d.subject → e.other < d.other → IsKeyBelow e d
     key_below e d p q l = inr (p, inr (q, l))
@@ -63,7 +65,7 @@ found_alike r a f [] (e ∷ es) h b = absurd h
 found_alike r a f (x ∷ xs) [] h b = absurd h
 found_alike r a f (x ∷ xs) (e ∷ es) h b =
     rw (key_as e r a b x.other h.0.rule h.0.subject h.0.other) (pick_alike (x.other == b) f x e (finding_at xs b) (entry_at es r a b)
-        h.0.found (found_alike r a f xs es h.1 b))
+    h.0.found (found_alike r a f xs es h.1 b))
 
 -- ---- a subject
 subject_of : (M : Meaning) (F : List Feature) (r : ℕ) (row : Row) (a : ℕ) (es : List Entry) → IsSubjectPart M F r row a es
@@ -98,7 +100,7 @@ module _ (M : Meaning) (F : List Feature) (r : ℕ) (row : Row) where
       rw h.1.1.0 (ascending_append by_key keys h.0 h.1.0 (subject_ascends M F r row a h.0 h.1.1.1) (rule_ascends selected h.1.0 u.1 h.1.1.2)
       (every_map (OfSubject r a) (λ e. Every (IsKeyBelow e) h.1.0)
       (λ e k. every_map (OfRule r selected) (IsKeyBelow e) (λ d m. below e d (k.0 ∙ sym m.0) k.1 (below_each a d.subject selected u.0 m.1))
-          h.1.0 (rule_of selected h.1.0 h.1.1.2))
+      h.1.0 (rule_of selected h.1.0 h.1.1.2))
       h.0 (subject_of M F r row a h.0 h.1.1.1)))
     where
       below : (e d : Entry) → e.rule ≡ d.rule → e.subject ≡ a → a < d.subject → IsKeyBelow e d
@@ -115,7 +117,7 @@ module _ (M : Meaning) (F : List Feature) (r : ℕ) (row : Row) where
       rw e h.1.1.1,
       λ b. rw h.1.1.0 (before_back h.0 h.1.0 r a b (every_map (OfRule r selected) (Lacks r a b)
           (λ d k. of_other_subject r a b d (λ q. let y = below_each x d.subject selected u.0 k.1 in omega arith)) h.1.0
-              (rule_of selected h.1.0 h.1.1.2))),
+          (rule_of selected h.1.0 h.1.1.2))),
     )
     | inr m ↦
         let k = rule_part selected h.1.0 a u.1 h.1.1.2 m in
@@ -160,7 +162,7 @@ module _ (M : Meaning) (F : List Feature) (selected : List ℕ) where
   rules_of (q ∷ rules) es h =
       rw h.1.1.0 (every_append (OfRules (q ∷ rules) selected) h.0 h.1.0
       (every_map (OfRule q.number selected) (OfRules (q ∷ rules) selected) (λ e k. (inl k.0, k.1, k.2)) h.0
-          (rule_of M F q.number q.row selected h.0 h.1.1.1))
+      (rule_of M F q.number q.row selected h.0 h.1.1.1))
       (every_map (OfRules rules selected) (OfRules (q ∷ rules) selected) (λ e k. (inr k.0, k.1, k.2)) h.1.0 (rules_of rules h.1.0 h.1.1.2)))
 
   -- the new entries ascend by key
@@ -169,10 +171,10 @@ module _ (M : Meaning) (F : List Feature) (selected : List ℕ) where
   judging_ascends [] es v u h = rw h tt
   judging_ascends (q ∷ rules) es v u h =
       rw h.1.1.0 (ascending_append by_key keys h.0 h.1.0 (rule_ascends M F q.number q.row selected h.0 u h.1.1.1)
-          (judging_ascends rules h.1.0 v.1 u h.1.1.2)
+      (judging_ascends rules h.1.0 v.1 u h.1.1.2)
       (every_map (OfRule q.number selected) (λ e. Every (IsKeyBelow e) h.1.0)
       (λ e k. every_map (OfRules rules selected) (IsKeyBelow e) (λ d m. below e d k.0 (below_number q.number d.rule rules v.0 m.0)) h.1.0
-          (rules_of rules h.1.0 h.1.1.2))
+      (rules_of rules h.1.0 h.1.1.2))
       h.0 (rule_of M F q.number q.row selected h.0 h.1.1.1)))
     where
       below : (e d : Entry) → e.rule ≡ q.number → q.number < d.rule → IsKeyBelow e d
@@ -203,7 +205,7 @@ module _ (M : Meaning) (F : List Feature) (selected : List ℕ) where
           k.1,
           λ b. rw h.1.1.0 (before_back h.0 h.1.0 r a b (every_map (OfRules rules selected) (Lacks r a b)
               (λ d j. of_other_rule r a b d (λ p. let y = below_number q.number d.rule rules v.0 j.0 in let n = t.1 in omega arith)) h.1.0
-                  (rules_of rules h.1.0 h.1.1.2)) ∙ k.2 b),
+              (rules_of rules h.1.0 h.1.1.2)) ∙ k.2 b),
         )
     | inr t ↦
         let later = rw t.0 at e in
@@ -213,6 +215,6 @@ module _ (M : Meaning) (F : List Feature) (selected : List ℕ) where
           k.1,
           λ b. rw h.1.1.0 (past_front h.0 h.1.0 r a b (every_map (OfRule q.number selected) (Lacks r a b)
               (λ d j. of_other_rule r a b d (λ p. let z = j.0 in omega arith)) h.0 (rule_of M F q.number q.row selected h.0 h.1.1.1))
-                  ∙ k.2 b),
+              ∙ k.2 b),
         )
   ]

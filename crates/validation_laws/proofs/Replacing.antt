@@ -15,8 +15,13 @@ alike_remarked f None old None (Some n) h k = absurd k
 alike_remarked f None old (Some e) n h k = absurd h
 alike_remarked f (Some x) old None n h k = absurd h
 alike_remarked f (Some x) old (Some e) None h k = absurd k
-alike_remarked f (Some x) old (Some e) (Some n) h k = rw k.same (record { whole = h.whole; cells = h.cells; frame = h.frame; envelope =
-    h.envelope })
+alike_remarked f (Some x) old (Some e) (Some n) h k = rw k.same (record {
+  whole = h.whole;
+  cells = h.cells;
+  frame = h.frame;
+  envelope =
+      h.envelope;
+})
 
 -- where nothing came nothing is
 pub none_remarked : (old fresh new : Option Entry) → fresh ≡ None → AreRemarked old fresh new → new ≡ None

@@ -34,7 +34,7 @@ picked_none P number out a = ((λ h. inl h), (λ h. elim h [ inl k ↦ k | inr k
 pub picked_more : {X : Type 0} (P : X → Type 0) (number : X → ℕ) (xs : List X) (i : ℕ) (x : X) (before out new : List ℕ) (t : Bool) (h : ℕ)
     → i < length xs → x ≡ get_or xs i x
     → (IsTrue t ↔ P x) → h ≡ number x → ArePicked P number (take i xs) before out → new ≡ out ++ (if t then h ∷ [] else [])
-        → ArePicked P number (take (i + 1) xs) before new
+    → ArePicked P number (take (i + 1) xs) before new
 picked_more {X} P number xs i x before out new t h l e decides is was grown a =
     let more : take (i + 1) xs ≡ take i xs ++ x ∷ [] = take_more xs i x l ∙ ap (λ y. take i xs ++ y ∷ []) (sym e) in
     let Q : X → Type 0 = λ y. (number y ≡ a) × P y in
@@ -48,8 +48,10 @@ picked_more {X} P number xs i x before out new t h l e decides is was grown a =
         | inl k ↦ SomeOf-append_left (λ (n : ℕ). a ≡ n) out last (among a out ((was a).1 (inl k)))
         | inr k ↦ elim (SomeOf-either Q (take i xs) (x ∷ []) k) [
           | inl m ↦ SomeOf-append_left (λ (n : ℕ). a ≡ n) out last (among a out ((was a).1 (inr m)))
-          | inr m ↦ elim m [ inl y ↦ SomeOf-append_right (λ (n : ℕ). a ≡ n) out last (choice_in a h t (decides.1 y.1) (sym y.0 ∙ sym is)) |
-              inr y ↦ absurd y ]
+          | inr m ↦ elim m [
+            | inl y ↦ SomeOf-append_right (λ (n : ℕ). a ≡ n) out last (choice_in a h t (decides.1 y.1) (sym y.0 ∙ sym is))
+            | inr y ↦ absurd y
+          ]
         ]
       ])),
     )

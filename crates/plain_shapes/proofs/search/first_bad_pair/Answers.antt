@@ -15,8 +15,11 @@ first_so ss i j f p g =
 lower_or_same : (a i : ℕ) → a < i + 1 → (a < i) ⊎ (a ≡ i)
 lower_or_same a zero h = inr (omega (arith, h))
 lower_or_same zero (suc i) h = inl (omega arith)
-lower_or_same (suc a) (suc i) h = elim (lower_or_same a i (omega (arith, h))) [ inl l ↦ inl (omega (arith, l)) | inr e ↦ inr
-    (omega (arith, e)) ]
+lower_or_same (suc a) (suc i) h = elim (lower_or_same a i (omega (arith, h))) [
+  | inl l ↦ inl (omega (arith, l))
+  | inr e ↦ inr
+      (omega (arith, e))
+]
 
 none_more : (ss : List Segment) (i : ℕ) → ((a b : ℕ) → a < i → ¬ (IsPair AreBad ss a b)) → ((b : ℕ) → ¬ (IsPair AreBad ss i b)) → (a b : ℕ)
     → a < i + 1 → ¬ (IsPair AreBad ss a b)

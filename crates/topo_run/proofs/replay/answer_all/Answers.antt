@@ -17,7 +17,7 @@ pub returns-in_err-write_if_many-clause-err : goal.returns-in_err-write_if_many-
 returns-in_err-write_if_many-clause-err g c =
     let part = c.in_err-write_if_many.ensures.err in
     at_err c.from_residual-in_err-write_if_many.result
-        (stops (flushed part.0 (takes c.loop-line.invariant.far c.in-Some.ensures.0 c.in_ok-bad.ensures) part.1.1 part.2))
+    (stops (flushed part.0 (takes c.loop-line.invariant.far c.in-Some.ensures.0 c.in_ok-bad.ensures) part.1.1 part.2))
 
 pub loop-line-preserved : goal.loop-line-preserved
 loop-line-preserved g c = record {
@@ -30,7 +30,7 @@ pub returns-in_err-write_all-clause-err : goal.returns-in_err-write_all-clause-e
 returns-in_err-write_all-clause-err g c =
     let part = c.in_err-write_all.ensures.err in
     at_err c.from_residual-in_err-write_all.result (stops (flushed part.0 c.loop-line.invariant.far (sym c.deref.ensures.value ∙ part.1.1)
-        part.2))
+    part.2))
 
 pub returns-clause-ok : goal.returns-clause-ok
 returns-clause-ok g c = ends c.loop-line.invariant.far c.in_default.ensures c.deref.ensures.value c.in_ok-write_all.ensures.ok

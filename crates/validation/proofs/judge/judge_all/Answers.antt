@@ -17,5 +17,5 @@ loop-rule-preserved g c = (
 pub returns-in_err-judge_rule-clause-stopped : goal.returns-in_err-judge_rule-clause-stopped
 returns-in_err-judge_rule-clause-stopped g c =
     on_err c.from_residual.result _ (judged_rule_within (live_of c.args.features.now c.args.selected.now) c.args.in_force.now
-        c.loop-rule.rule-index c.rule-item.result c.args.work.now c.loop-rule.work c.judge_rule.new.work c.loop-rule-test.true
-        c.rule-item.is c.loop-rule.invariant.1 c.in_err-judge_rule.ensures.stopped)
+    c.loop-rule.rule-index c.rule-item.result c.args.work.now c.loop-rule.work c.judge_rule.new.work c.loop-rule-test.true
+    c.rule-item.is c.loop-rule.invariant.1 c.in_err-judge_rule.ensures.stopped)

@@ -13,9 +13,12 @@ pub returns-then-not-judges-clause-part : goal.returns-then-not-judges-clause-pa
 returns-then-not-judges-clause-part g c =
     let row = ap (λ (q : InForce). q.row) c.rule.view_is in
     let t : judged c.args.rule.now.row c.args.f.now ≡ false = rw (← row) (sym (c.judges.ensures c.args.f.now (sym c.class.ensures))
-        ∙ c.if-not-judges.true) in
-    ([], sym (append-nil _), part_idle g.R.RuleSet.meaning g.met.R.RuleSet.views c.args.features.now c.args.rule.now.number
-        c.args.rule.now.row c.args.f.now.handle c.args.f.now c.requires.live t)
+    ∙ c.if-not-judges.true) in (
+      [],
+      sym (append-nil _),
+      part_idle g.R.RuleSet.meaning g.met.R.RuleSet.views c.args.features.now c.args.rule.now.number
+          c.args.rule.now.row c.args.f.now.handle c.args.f.now c.requires.live t,
+    )
 
 pub judge_row-requires-clause-shown : goal.judge_row-requires-clause-shown
 judge_row-requires-clause-shown g c =
@@ -33,7 +36,7 @@ pub judge_row-requires-clause-fits : goal.judge_row-requires-clause-fits
 judge_row-requires-clause-fits g c =
     let row = ap (λ (q : InForce). q.row) c.rule.view_is in
     rw row (view_fits g.R.RuleSet.meaning g.met.R.RuleSet.views c.args.rule.now.row c.args.features.now c.in_ok-view.view c.args.f.now
-        c.in_ok-view.ensures c.requires.fits)
+    c.in_ok-view.ensures c.requires.fits)
 
 pub add_findings-requires : goal.add_findings-requires
 add_findings-requires g c =
@@ -48,7 +51,7 @@ add_findings-requires g c =
     let cut = rw (row, c.handle.ensures) at c.in_ok-findings.ensures.cut in
     let proper : IsRectangle (env f) = rw (c.env.ensures, c.shape.ensures) at c.corner_law.ensures in
     rw c.into_list.ensures.list (framable M L g.met.R.RuleSet.right c.args.rule.now.row V f.handle f c.in_ok-findings.findings v.ascending
-        fits (subject_seen F V f.handle f c.requires.live v) proper cut c.into_list.ensures.order)
+    fits (subject_seen F V f.handle f c.requires.live v) proper cut c.into_list.ensures.order)
 
 pub returns-clause-part : goal.returns-clause-part
 returns-clause-part g c =

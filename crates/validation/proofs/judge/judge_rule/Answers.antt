@@ -27,4 +27,4 @@ returns-in_err-judge_subject-clause-stopped g c =
     let l : i < length s = omega (arith, c.len-i-end.ensures.value, c.loop-i-test.true) in
     let e : a ≡ get_or s i a = c.at.ensures ∙ get_or_default s i 0 a l in
     on_err c.from_residual.result _ (judged_within c.args.rule.now.row c.args.features.now s i a c.args.work.now c.loop-i.work
-        c.judge_subject.new.work l e c.loop-i.invariant.1 c.in_err-judge_subject.ensures.stopped)
+    c.judge_subject.new.work l e c.loop-i.invariant.1 c.in_err-judge_subject.ensures.stopped)

@@ -12,4 +12,4 @@ push-requires c =
     let i = c.loop-g.g-index in
     let f = c.g-item.result in
     rw c.loop-g.invariant (every_filter (λ (g : Feature). g.handle < f.handle) test (take i F)
-        (every_before F i f c.requires c.loop-g-test.true c.g-item.is))
+    (every_before F i f c.requires c.loop-g-test.true c.g-item.is))

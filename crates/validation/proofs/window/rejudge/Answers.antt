@@ -13,7 +13,7 @@ returns-clause-ascending g c =
     let part = c.in_ok-judge_all.ensures.part in
     let e : c.judge_all.new.out.items ≡ part.0 = rw c.new-found.ensures.items at part.1 in
     rw e (judging_ascends g.R.RuleSet.meaning c.in_ok-indexed.indexed c.args.selected.now c.args.in_force.now part.0 c.requires.rules
-        c.requires.selected part.2)
+    c.requires.selected part.2)
 
 pub returns-clause-judged : goal.returns-clause-judged
 returns-clause-judged g c = rw c.in_ok-indexed.ensures at c.in_ok-judge_all.ensures.judged

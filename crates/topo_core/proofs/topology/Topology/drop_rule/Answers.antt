@@ -20,14 +20,20 @@ returns-clause-ok g c = rw (← c.self.view_is) (rule_dropped c.args.number c.se
 pub returns-clause-sound : goal.returns-clause-sound
 returns-clause-sound g c = λ k. drop_rule_sound g.R.RuleSet.meaning c.args.number _ _
     (rule_dropped c.args.number c.self.inside.store c.self.inside.rules.items c.drop_from.new.rules.items c.self.inside.dirt
-    c.self.inside.entries c.drop_rule.new.self c.drop_from.ensures (record { gone = c.drop_rule.ensures.gone; kept =
-    c.drop_rule.ensures.kept })) (subst (IsSoundUnder g.R.RuleSet.meaning) (sym c.self.view_is) k)
+    c.self.inside.entries c.drop_rule.new.self c.drop_from.ensures (record {
+      gone = c.drop_rule.ensures.gone;
+      kept =
+          c.drop_rule.ensures.kept;
+    })) (subst (IsSoundUnder g.R.RuleSet.meaning) (sym c.self.view_is) k)
 
 pub returns-clause-settled : goal.returns-clause-settled
 returns-clause-settled g c = λ k. drop_rule_settled g.R.RuleSet.meaning c.args.number _ _
     (rule_dropped c.args.number c.self.inside.store c.self.inside.rules.items c.drop_from.new.rules.items c.self.inside.dirt
-    c.self.inside.entries c.drop_rule.new.self c.drop_from.ensures (record { gone = c.drop_rule.ensures.gone; kept =
-    c.drop_rule.ensures.kept })) (subst (IsSettledUnder g.R.RuleSet.meaning) (sym c.self.view_is) k)
+    c.self.inside.entries c.drop_rule.new.self c.drop_from.ensures (record {
+      gone = c.drop_rule.ensures.gone;
+      kept =
+          c.drop_rule.ensures.kept;
+    })) (subst (IsSettledUnder g.R.RuleSet.meaning) (sym c.self.view_is) k)
 
 pub returns-clause-ordered : goal.returns-clause-ordered
 returns-clause-ordered g c = ordered _ (invariant_of-self g c)

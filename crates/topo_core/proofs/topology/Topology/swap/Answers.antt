@@ -1,4 +1,4 @@
-use Rattle.std.proofs.Common.{◌∙◌, subst, sym, ap, rules}
+use Rattle.std.proofs.Common.{◌∙◌, subst, sym, ap}
 use Rattle.topology_terms.specs.Feature.{feature_at}
 use Rattle.topology_terms.specs.Sound.{IsSoundUnder}
 use Rattle.topology_terms.specs.Settled.{IsSettledUnder}
