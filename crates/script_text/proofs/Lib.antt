@@ -5,3 +5,4 @@ pub mod OneForm
 pub mod OneCommand
 pub mod TextWithin
 pub mod Spelled
+pub mod OneFault

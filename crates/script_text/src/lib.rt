@@ -18,5 +18,5 @@ pub use command::Command;
 pub use fault::LineFault;
 pub use grid_plane::Name;
 pub use line_terms::LineRefusal;
-pub use read::{LINE_LIMIT, one_command_law, read_line};
+pub use read::{LINE_LIMIT, one_command_law, one_fault_law, read_line};
 pub use rule_words::{Kind, RuleKind};

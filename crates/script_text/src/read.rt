@@ -3,7 +3,8 @@ ghost use Rattle.text_terms.specs.Fields.{is_skipped};
 ghost use Rattle.line_terms.specs.Commands as commands;
 ghost use Rattle.line_terms.specs.Commands.{Form};
 ghost use Rattle.line_terms.specs.Forms.{HasForm};
-ghost use Rattle.line_terms.specs.Lines.{IsCommandLine};
+ghost use Rattle.line_terms.specs.Lines.{IsCommandLine, IsLineFault};
+ghost use Rattle.line_terms.specs.declared.line_refusal.LineRefusal as line_refusal;
 ghost use Rattle.script_text.specs.Faults.{IsFault, IsRead};
 ghost use Rattle.script_text.specs.Groups.{group_of, IsBare, NoneOf, Skipped, Classes, Sessions, Marks, Listings};
 ghost use Rattle.script_text.specs.Seen.{command_of};
@@ -90,6 +91,13 @@ pub fn read_line(alloc: Global, line: &[u8]) -> Result<Command, LineFault>
 #[tactic(auto, using(crate::proofs::OneCommand::one_command))]
 pub fn one_command_law(line: &[u8])
     ensures { (c d : commands.Command) → IsCommandLine line.now c → IsCommandLine line.now d → c ≡ d }
+{
+    let _ = line;
+}
+
+/// The law of faults: a line has one fault at most.
+pub fn one_fault_law(line: &[u8])
+    ensures { (r q : line_refusal.LineRefusal) → IsLineFault line.now r → IsLineFault line.now q → r ≡ q }
 {
     let _ = line;
 }

@@ -7,3 +7,5 @@ pub mod Writing
 pub mod Again
 pub mod Geometries
 pub mod Pushing
+pub mod OneShapeFault
+pub mod OneFault

@@ -37,7 +37,7 @@ found_from text g (Err e) w h = whole text g e w h
 
 -- ---- one shape at most
 
-closed_or_open : (rings : List (List Place)) (n : ℕ) → Every (λ ring. is_closed ring ≡ true) rings → IsFirstOpen rings n → ⊥
+pub closed_or_open : (rings : List (List Place)) (n : ℕ) → Every (λ ring. is_closed ring ≡ true) rings → IsFirstOpen rings n → ⊥
 closed_or_open [] n h o = o
 closed_or_open (ring ∷ rings) zero h o = let a : is_closed ring ≡ true = h.0 in let b : is_closed ring ≡ false = o in cc
 closed_or_open (ring ∷ rings) (suc n) h o = closed_or_open rings n h.1 o.1
