@@ -113,7 +113,8 @@ one_cause front t IsUnsupported IsUnsupported h k = refl
 same_stop : (text : List ℕ) (a b : ℕ) (c d : Cause) (h : FirstFault text a c) (k : FirstFault text b d) → h.front ≡ k.front
     → h.place.rest ≡ k.place.rest → (a ≡ b) × (c ≡ d)
 same_stop text a b c d h k e f =
-    let left : a + length (skip_blanks k.place.rest) ≡ length text = subst (λ r. a + length (skip_blanks r) ≡ length text) f h.place.place in
+    let left : a + length (skip_blanks k.place.rest) ≡ length text = subst (λ r. a + length (skip_blanks r) ≡ length text) f h.place.place
+    in
     let token : h.token ≡ k.token = sym h.place.next ∙ (ap (λ r. token_at (skip_blanks r)) f ∙ k.place.next) in
     let why : IsCause k.front h.token c = subst (λ x. IsCause x h.token c) e h.why in (
       same_place a b (length (skip_blanks k.place.rest)) (length text) left k.place.place,
