@@ -9,11 +9,12 @@ use rule_loops::{Common, inside_of};
 use shape::Feature;
 use std::alloc::Global;
 use std::marker::Model;
+use std::rc::Rc;
 
 /// The inside of a polygon, for what others have in common with it.
 #[derive(Drop)]
 pub struct Overlap {
-    inside: Cells,
+    inside: Rc<Cells>,
 }
 
 impl Model for Overlap {
@@ -22,7 +23,7 @@ impl Model for Overlap {
 
     ghost Value = { List Cell };
 
-    ghost view = { λ o. o.inside };
+    ghost view = { λ o. o.inside.value };
 }
 
 impl Overlap {
@@ -41,6 +42,7 @@ impl Common for Overlap {
     ghost common = { λ cells g. carve_of cells (terms.inside g) };
 
     fn cells(&self, alloc: Global, partner: &Feature, work: &mut Work) -> Result<Cells, NoMemory> {
-        self.inside.carve(alloc, &inside_of(alloc, partner, work)?)
+        let inside = inside_of(alloc, partner, work)?;
+        self.inside.carve(alloc, &inside)
     }
 }

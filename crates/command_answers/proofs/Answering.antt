@@ -27,7 +27,8 @@ use Rattle.script_terms.specs.Answer.{Answers, IsDone, LeavesNoted, added_step, 
 use Rattle.command_answers.proofs.Counts.{fewer_chosen, few_handles, few_judged}
 use Rattle.script_terms.proofs.Runs.{first_none, changes_none}
 
-pub refused : (s t : State) (c : Command) (reply : Reply) (r : Refusal) → refusal_of s c ≡ Some r → reply ≡ Refused r → t ≡ s → Answers s c reply t
+pub refused : (s t : State) (c : Command) (reply : Reply) (r : Refusal) → refusal_of s c ≡ Some r → reply ≡ Refused r → t ≡ s
+    → Answers s c reply t
 refused s t c reply r e said same = rw e (said, record { same = same })
 
 pub done : (s t : State) (c : Command) (reply : Reply) → refusal_of s c ≡ None → IsDone s c reply t → Answers s c reply t
@@ -39,7 +40,8 @@ pub told : (s t : State) (c : Command) (reply : Reply) (o there : Option Cause) 
 told s t c reply None there e tells said same = absurd said
 told s t c reply (Some x) there e tells said same = refused s t c reply (Change x) (e ∙ ap changes tells) said same
 
-pub did : (s t : State) (c : Command) (reply : Reply) (there : Option Cause) → refusal_of s c ≡ changes there → there ≡ None → IsDone s c reply t → Answers s c reply t
+pub did : (s t : State) (c : Command) (reply : Reply) (there : Option Cause) → refusal_of s c ≡ changes there → there ≡ None
+    → IsDone s c reply t → Answers s c reply t
 did s t c reply there e none d = done s t c reply (e ∙ ap changes none) d
 
 only : (o : Option Refusal) → first_of (o ∷ []) ≡ o
@@ -49,7 +51,8 @@ only (Some r) = refl
 -- ---- a line that adds a feature, changes or deletes one, puts a rule in force
 add_refusal : (s : State) (editor class : List ℕ) (shape : Shape) (n : ℕ) → is_open s editor ≡ true → class_number s.project class ≡ Some n
     → refusal_of s (Add editor class shape) ≡ changes (add_cause s.project.classes s.project.next n shape.kind)
-add_refusal s editor class shape n opened named = rw (opened, named) (only (changes (add_cause s.project.classes s.project.next n shape.kind)))
+add_refusal s editor class shape n opened named =
+    rw (opened, named) (only (changes (add_cause s.project.classes s.project.next n shape.kind)))
 
 -- an edit is refused as a deletion is, and then for its own cause
 edit_passed : (a b c d : Option Refusal) → first_of (a ∷ b ∷ c ∷ []) ≡ None → first_of (a ∷ b ∷ c ∷ d ∷ []) ≡ d
@@ -65,13 +68,19 @@ edit_stopped None (Some x) c d r e = e
 edit_stopped None None (Some x) d r e = e
 edit_stopped None None None d r e = cc
 
-change_refusal : (s : State) (editor : List ℕ) (h : ℕ) (shape : Shape) → refusal_of s (Delete editor h) ≡ None → refusal_of s (AChange editor h shape) ≡ changes (change_cause s.project.features h shape.kind)
-change_refusal s editor h shape may = edit_passed (when (not (is_open s editor)) NoSession) (changes (delete_cause s.project.features h)) (held s editor h) (changes (change_cause s.project.features h shape.kind)) may
+change_refusal : (s : State) (editor : List ℕ) (h : ℕ) (shape : Shape) → refusal_of s (Delete editor h) ≡ None
+    → refusal_of s (AChange editor h shape) ≡ changes (change_cause s.project.features h shape.kind)
+change_refusal s editor h shape may = edit_passed (when (not (is_open s editor)) NoSession) (changes (delete_cause s.project.features h))
+    (held s editor h) (changes (change_cause s.project.features h shape.kind)) may
 
-pub change_stopped : (s : State) (editor : List ℕ) (h : ℕ) (shape : Shape) (r : Refusal) → refusal_of s (Delete editor h) ≡ Some r → Answers s (AChange editor h shape) (Refused r) s
-change_stopped s editor h shape r e = refused s s (AChange editor h shape) (Refused r) r (edit_stopped (when (not (is_open s editor)) NoSession) (changes (delete_cause s.project.features h)) (held s editor h) (changes (change_cause s.project.features h shape.kind)) r e) refl refl
+pub change_stopped : (s : State) (editor : List ℕ) (h : ℕ) (shape : Shape) (r : Refusal) → refusal_of s (Delete editor h) ≡ Some r
+    → Answers s (AChange editor h shape) (Refused r) s
+change_stopped s editor h shape r e = refused s s (AChange editor h shape) (Refused r) r
+    (edit_stopped (when (not (is_open s editor)) NoSession) (changes (delete_cause s.project.features h)) (held s editor h)
+    (changes (change_cause s.project.features h shape.kind)) r e) refl refl
 
-pub delete_stopped : (s : State) (editor : List ℕ) (h : ℕ) (r : Refusal) → refusal_of s (Delete editor h) ≡ Some r → Answers s (Delete editor h) (Refused r) s
+pub delete_stopped : (s : State) (editor : List ℕ) (h : ℕ) (r : Refusal) → refusal_of s (Delete editor h) ≡ Some r
+    → Answers s (Delete editor h) (Refused r) s
 delete_stopped s editor h r e = refused s s (Delete editor h) (Refused r) r e refl refl
 
 rule_refusal : (s : State) (k : RuleKind) (origin : List ℕ) (dest : Option (List ℕ)) → is_nowhere s.project dest ≡ false
@@ -79,82 +88,109 @@ rule_refusal : (s : State) (k : RuleKind) (origin : List ℕ) (dest : Option (Li
 rule_refusal s k origin dest there = rw there (only (changes (rule_cause s.project (row_of s.project k origin dest))))
 
 -- ---- what is done
-pub class_added : (s t : State) (name : List ℕ) (k : Kind) (n : ℕ) → class_cause s.project.classes name ≡ None → n ≡ length s.project.classes + 1
+pub class_added : (s t : State) (name : List ℕ) (k : Kind) (n : ℕ) → class_cause s.project.classes name ≡ None
+    → n ≡ length s.project.classes + 1
     → IsClassAdded name k s.project t.project → t.sessions ≡ s.sessions → Answers s (Class name k) (Number n) t
-class_added s t name k n may number h same = did s t (Class name k) (Number n) (class_cause s.project.classes name) refl may (ap Number number, record { project = h; sessions = same })
+class_added s t name k n may number h same = did s t (Class name k) (Number n) (class_cause s.project.classes name) refl may
+    (ap Number number, record { project = h; sessions = same })
 
-pub feature_added : (s t : State) (editor class : List ℕ) (shape : Shape) (n h : ℕ) → is_open s editor ≡ true → class_number s.project class ≡ Some n
-    → add_cause s.project.classes s.project.next n shape.kind ≡ None → LeavesNoted editor (added_step h n shape) (IsFeatureAdded n shape h) s t
+pub feature_added : (s t : State) (editor class : List ℕ) (shape : Shape) (n h : ℕ) → is_open s editor ≡ true
+    → class_number s.project class ≡ Some n
+    → add_cause s.project.classes s.project.next n shape.kind ≡ None → LeavesNoted editor (added_step h n shape) (IsFeatureAdded n shape h)
+    s t
     → Answers s (Add editor class shape) (Number h) t
 feature_added s t editor class shape n h opened named may more =
-    did s t (Add editor class shape) (Number h) (add_cause s.project.classes s.project.next n shape.kind) (add_refusal s editor class shape n opened named) may
+    did s t (Add editor class shape) (Number h) (add_cause s.project.classes s.project.next n shape.kind)
+    (add_refusal s editor class shape n opened named) may
     (h, refl, rw named more)
 
-pub feature_changed : (s t : State) (editor : List ℕ) (h : ℕ) (shape : Shape) → refusal_of s (Delete editor h) ≡ None → change_cause s.project.features h shape.kind ≡ None
-    → (let after = reshaped (feature_at s.project.features h) shape in LeavesNoted editor (set_step s.project h after) (IsFeatureSet h after) s t) → Answers s (AChange editor h shape) Done t
+pub feature_changed : (s t : State) (editor : List ℕ) (h : ℕ) (shape : Shape) → refusal_of s (Delete editor h) ≡ None
+    → change_cause s.project.features h shape.kind ≡ None
+    → (let after = reshaped (feature_at s.project.features h) shape in LeavesNoted editor (set_step s.project h after)
+    (IsFeatureSet h after) s t) → Answers s (AChange editor h shape) Done t
 feature_changed s t editor h shape free may k =
-    did s t (AChange editor h shape) Done (change_cause s.project.features h shape.kind) (change_refusal s editor h shape free) may (refl, k)
+    did s t (AChange editor h shape) Done (change_cause s.project.features h shape.kind) (change_refusal s editor h shape free) may
+    (refl, k)
 
 pub feature_deleted : (s t : State) (editor : List ℕ) (h : ℕ) → refusal_of s (Delete editor h) ≡ None
     → LeavesNoted editor (set_step s.project h None) (IsFeatureSet h None) s t → Answers s (Delete editor h) Done t
 feature_deleted s t editor h free k = done s t (Delete editor h) Done free (refl, k)
 
 pub rule_added : (s t : State) (k : RuleKind) (origin : List ℕ) (dest : Option (List ℕ)) (n : ℕ) → is_nowhere s.project dest ≡ false
-    → rule_cause s.project (row_of s.project k origin dest) ≡ None → IsRuleAdded n (row_of s.project k origin dest) s.project t.project → t.sessions ≡ s.sessions
+    → rule_cause s.project (row_of s.project k origin dest) ≡ None → IsRuleAdded n (row_of s.project k origin dest) s.project t.project
+    → t.sessions ≡ s.sessions
     → Answers s (Rule k origin dest) (Number n) t
 rule_added s t k origin dest n there may added same =
     did s t (Rule k origin dest) (Number n) (rule_cause s.project (row_of s.project k origin dest)) (rule_refusal s k origin dest there) may
     (n, refl, record { project = added; sessions = same })
 
 -- ---- what is refused
-pub class_refused : (s t : State) (name : List ℕ) (k : Kind) (o : Option Cause) (reply : Reply) → Tells o (class_cause s.project.classes name)
+pub class_refused : (s t : State) (name : List ℕ) (k : Kind) (o : Option Cause) (reply : Reply)
+    → Tells o (class_cause s.project.classes name)
     → IsSomeAnd o (λ x. reply ≡ Refused (Change x)) → t ≡ s → Answers s (Class name k) reply t
 class_refused s t name k o reply tells said same = told s t (Class name k) reply o (class_cause s.project.classes name) refl tells said same
 
-pub no_session : (s t : State) (editor class : List ℕ) (shape : Shape) → is_open s editor ≡ false → t ≡ s → Answers s (Add editor class shape) (Refused NoSession) t
-no_session s t editor class shape opened same = refused s t (Add editor class shape) (Refused NoSession) NoSession (rw opened refl) refl same
+pub no_session : (s t : State) (editor class : List ℕ) (shape : Shape) → is_open s editor ≡ false → t ≡ s
+    → Answers s (Add editor class shape) (Refused NoSession) t
+no_session s t editor class shape opened same = refused s t (Add editor class shape) (Refused NoSession) NoSession (rw opened refl) refl
+    same
 
 pub add_refused : (s t : State) (editor class : List ℕ) (shape : Shape) (n : ℕ) (o : Option Cause) (reply : Reply) → is_open s editor ≡ true
     → class_number s.project class ≡ Some n → Tells o (add_cause s.project.classes s.project.next n shape.kind)
     → IsSomeAnd o (λ x. reply ≡ Refused (Change x)) → t ≡ s → Answers s (Add editor class shape) reply t
 add_refused s t editor class shape n o reply opened named tells said same =
-    told s t (Add editor class shape) reply o (add_cause s.project.classes s.project.next n shape.kind) (add_refusal s editor class shape n opened named) tells said same
+    told s t (Add editor class shape) reply o (add_cause s.project.classes s.project.next n shape.kind)
+    (add_refusal s editor class shape n opened named) tells said same
 
-pub change_refused : (s t : State) (editor : List ℕ) (h : ℕ) (shape : Shape) (o : Option Cause) (reply : Reply) → refusal_of s (Delete editor h) ≡ None
-    → Tells o (change_cause s.project.features h shape.kind) → IsSomeAnd o (λ x. reply ≡ Refused (Change x)) → t ≡ s → Answers s (AChange editor h shape) reply t
+pub change_refused : (s t : State) (editor : List ℕ) (h : ℕ) (shape : Shape) (o : Option Cause) (reply : Reply)
+    → refusal_of s (Delete editor h) ≡ None
+    → Tells o (change_cause s.project.features h shape.kind) → IsSomeAnd o (λ x. reply ≡ Refused (Change x)) → t ≡ s
+    → Answers s (AChange editor h shape) reply t
 change_refused s t editor h shape o reply free tells said same =
-    told s t (AChange editor h shape) reply o (change_cause s.project.features h shape.kind) (change_refusal s editor h shape free) tells said same
+    told s t (AChange editor h shape) reply o (change_cause s.project.features h shape.kind) (change_refusal s editor h shape free) tells
+    said same
 
 -- a deletion that is not refused finds its feature
 deletes : (s : State) (editor : List ℕ) (h : ℕ) → refusal_of s (Delete editor h) ≡ None → delete_cause s.project.features h ≡ None
 deletes s editor h free =
-    let a = first_none (when (not (is_open s editor)) NoSession) (changes (delete_cause s.project.features h) ∷ held s editor h ∷ []) free in
+    let a = first_none (when (not (is_open s editor)) NoSession) (changes (delete_cause s.project.features h) ∷ held s editor h ∷ []) free
+    in
     changes_none (delete_cause s.project.features h) (first_none (changes (delete_cause s.project.features h)) (held s editor h ∷ []) a.1).0
 
 pub delete_refused : (s t : State) (editor : List ℕ) (h : ℕ) (o : Option Cause) (reply : Reply) → refusal_of s (Delete editor h) ≡ None
-    → Tells o (delete_cause s.project.features h) → IsSomeAnd o (λ x. reply ≡ Refused (Change x)) → t ≡ s → Answers s (Delete editor h) reply t
+    → Tells o (delete_cause s.project.features h) → IsSomeAnd o (λ x. reply ≡ Refused (Change x)) → t ≡ s
+    → Answers s (Delete editor h) reply t
 delete_refused s t editor h None reply free tells said same = absurd said
 delete_refused s t editor h (Some x) reply free tells said same = let none = deletes s editor h free in absurd cc
 
-pub rule_refused : (s t : State) (k : RuleKind) (origin : List ℕ) (dest : Option (List ℕ)) (o : Option Cause) (reply : Reply) → is_nowhere s.project dest ≡ false → Tells o (rule_cause s.project (row_of s.project k origin dest))
+pub rule_refused : (s t : State) (k : RuleKind) (origin : List ℕ) (dest : Option (List ℕ)) (o : Option Cause) (reply : Reply)
+    → is_nowhere s.project dest ≡ false → Tells o (rule_cause s.project (row_of s.project k origin dest))
     → IsSomeAnd o (λ x. reply ≡ Refused (Change x)) → t ≡ s → Answers s (Rule k origin dest) reply t
 rule_refused s t k origin dest o reply there tells said same =
-    told s t (Rule k origin dest) reply o (rule_cause s.project (row_of s.project k origin dest)) (rule_refusal s k origin dest there) tells said same
+    told s t (Rule k origin dest) reply o (rule_cause s.project (row_of s.project k origin dest)) (rule_refusal s k origin dest there) tells
+    said same
 
-pub rule_dropped : (s t : State) (n : ℕ) → drop_cause s.project.rules n ≡ None → IsRuleDropped n s.project t.project → t.sessions ≡ s.sessions → Answers s (DropRule n) Done t
-rule_dropped s t n may dropped same = did s t (DropRule n) Done (drop_cause s.project.rules n) refl may (refl, record { project = dropped; sessions = same })
+pub rule_dropped : (s t : State) (n : ℕ) → drop_cause s.project.rules n ≡ None → IsRuleDropped n s.project t.project
+    → t.sessions ≡ s.sessions → Answers s (DropRule n) Done t
+rule_dropped s t n may dropped same = did s t (DropRule n) Done (drop_cause s.project.rules n) refl may
+    (refl, record { project = dropped; sessions = same })
 
-pub no_rule : (s t : State) (n : ℕ) → drop_cause s.project.rules n ≡ Some cause.NoRule → t ≡ s → Answers s (DropRule n) (Refused (Change cause.NoRule)) t
+pub no_rule : (s t : State) (n : ℕ) → drop_cause s.project.rules n ≡ Some cause.NoRule → t ≡ s
+    → Answers s (DropRule n) (Refused (Change cause.NoRule)) t
 no_rule s t n none same = refused s t (DropRule n) (Refused (Change cause.NoRule)) (Change cause.NoRule) (ap changes none) refl same
 
 -- a class that a line names is not there: no class has the number 0
-pub no_class : (s t : State) (k : RuleKind) (origin : List ℕ) (dest : Option (List ℕ)) → (class_number s.project origin ≡ None) ⊎ (is_nowhere s.project dest ≡ true) → t ≡ s → Answers s (Rule k origin dest) (Refused (Change cause.NoClass)) t
+pub no_class : (s t : State) (k : RuleKind) (origin : List ℕ) (dest : Option (List ℕ))
+    → (class_number s.project origin ≡ None) ⊎ (is_nowhere s.project dest ≡ true) → t ≡ s
+    → Answers s (Rule k origin dest) (Refused (Change cause.NoClass)) t
 no_class s t k origin dest lacks same = by (is_nowhere s.project dest) refl lacks
   where
-    says : refusal_of s (Rule k origin dest) ≡ Some (Change cause.NoClass) → Answers s (Rule k origin dest) (Refused (Change cause.NoClass)) t
+    says : refusal_of s (Rule k origin dest) ≡ Some (Change cause.NoClass) → Answers s (Rule k origin dest) (Refused (Change cause.NoClass))
+        t
     says e = refused s t (Rule k origin dest) (Refused (Change cause.NoClass)) (Change cause.NoClass) e refl same
 
-    by : (b : Bool) → is_nowhere s.project dest ≡ b → (class_number s.project origin ≡ None) ⊎ (is_nowhere s.project dest ≡ true) → Answers s (Rule k origin dest) (Refused (Change cause.NoClass)) t
+    by : (b : Bool) → is_nowhere s.project dest ≡ b → (class_number s.project origin ≡ None) ⊎ (is_nowhere s.project dest ≡ true)
+        → Answers s (Rule k origin dest) (Refused (Change cause.NoClass)) t
     by true e l = says (rw e refl)
     by false e (inl l) = says (rw (e, l) refl)
     by false e (inr l) = cc
@@ -164,12 +200,15 @@ no_class s t k origin dest lacks same = by (is_nowhere s.project dest) refl lack
 exact : (n : ℕ) → n ≤ 1099511627776 → raised 0 n - 0 ≡ n
 exact n l = omega arith
 
-handles_of : (next : ℕ) (F : List Feature) → Every (IsGiven next) F → Every (λ (f : Feature). 1 ≤ f.handle) F × Every (λ (f : Feature). f.handle < next) F
+handles_of : (next : ℕ) (F : List Feature) → Every (IsGiven next) F → Every (λ (f : Feature). 1 ≤ f.handle) F
+    × Every (λ (f : Feature). f.handle < next) F
 handles_of next [] h = (tt, tt)
 handles_of next (f ∷ F) h = let rest = handles_of next F h.1 in ((h.0.from_1, rest.0), (h.0.before, rest.1))
 
-pub validated : (s t : State) (w : Rectangle) (judged errors dirty done_count : ℕ) → IsTopology s.project → s.project.next ≤ 4294967295 → IsValidatedBy poster w s.project t.project → IsCounted w s.project 0 done_count →
-    judged ≡ done_count - 0 → errors ≡ length t.project.entries → dirty ≡ length t.project.dirt → t.sessions ≡ s.sessions → Answers s (Validate w) (Judged judged errors dirty) t
+pub validated : (s t : State) (w : Rectangle) (judged errors dirty done_count : ℕ) → IsTopology s.project → s.project.next ≤ 4294967295
+    → IsValidatedBy poster w s.project t.project → IsCounted w s.project 0 done_count →
+    judged ≡ done_count - 0 → errors ≡ length t.project.entries → dirty ≡ length t.project.dirt → t.sessions ≡ s.sessions
+    → Answers s (Validate w) (Judged judged errors dirty) t
 validated s t w judged errors dirty count law next v counted j e d same =
     let F = s.project.features in
     let handles = handles_of s.project.next F law.store.given in
@@ -178,6 +217,23 @@ validated s t w judged errors dirty count law next v counted j e d same =
     let few : length counted.subjects ≤ 4294967296 = omega (arith, all, chosen, next) in
     let most = few_judged s.project.rules counted.subjects 4294967296 few in
     let bound : judged_of s.project.rules counted.subjects ≤ 1099511627776 = (let r = law.few in omega (arith, most, r)) in
-    let is : judged ≡ judged_of s.project.rules counted.subjects = (j ∙ (ap (λ n. n - 0) counted.count ∙ exact (judged_of s.project.rules counted.subjects) bound)) in
-    done s t (Validate w) (Judged judged errors dirty) refl
-    (judged, errors, dirty, refl, record { project = record { validated = v; selected = counted.subjects; those = counted.those; judged_is = is; errors_is = e; dirty_is = d }; sessions = same })
+    let is : judged ≡ judged_of s.project.rules counted.subjects = (j ∙ (ap (λ n. n - 0) counted.count
+    ∙ exact (judged_of s.project.rules counted.subjects) bound)) in
+    done s t (Validate w) (Judged judged errors dirty) refl (
+      judged,
+      errors,
+      dirty,
+      refl,
+      record {
+        project = record {
+          validated = v;
+          selected = counted.subjects;
+          those = counted.those;
+          judged_is =
+              is;
+          errors_is = e;
+          dirty_is = d;
+        };
+        sessions = same;
+      },
+    )

@@ -24,7 +24,8 @@ fewer_chosen P (x ∷ xs) ys h = elim h [
 ]
 
 -- handles from `low` up to `next`, each once
-pub few_handles : (low next : ℕ) (F : List Feature) → low ≤ next → IsAscending F → Every (λ (f : Feature). low ≤ f.handle) F → Every (λ (f : Feature). f.handle < next) F → length F + low ≤ next
+pub few_handles : (low next : ℕ) (F : List Feature) → low ≤ next → IsAscending F → Every (λ (f : Feature). low ≤ f.handle) F
+    → Every (λ (f : Feature). f.handle < next) F → length F + low ≤ next
 few_handles low next [] l a from below = omega arith
 few_handles low next (f ∷ F) l a from below =
     let rest = few_handles (f.handle + 1) next F (omega (arith, below.0)) a.1 (above F a.0) below.1 in
@@ -39,7 +40,8 @@ pub few_judged : (rules : List InForce) (fs : List Feature) (n : ℕ) → length
 few_judged [] fs n b = omega arith
 few_judged (r ∷ rules) fs n b =
     let count : InForce → ℕ = λ (rule : InForce). how_many (judged rule.row) fs in
-    rw (sum_by-cons count r rules) (by (how_many (judged r.row) fs) (judged_of rules fs) (few_of (judged r.row) fs) (few_judged rules fs n b))
+    rw (sum_by-cons count r rules) (by (how_many (judged r.row) fs) (judged_of rules fs) (few_of (judged r.row) fs)
+    (few_judged rules fs n b))
   where
     once_more : (m : ℕ) → suc m * n ≡ n + m * n
     once_more m = grind arith

@@ -30,11 +30,18 @@ headline p t s = record {
 
 -- the rules by their cuttings alone, whatever the features
 abbrev by_cuttings : Meaning
-by_cuttings = record { Fits = λ row F. Unit {0}; BrokenAt = poster.BrokenAt; BrokenWhole = poster.BrokenWhole; IsCutting = poster.IsCutting }
+by_cuttings = record {
+  Fits = λ row F. Unit {0};
+  BrokenAt = poster.BrokenAt;
+  BrokenWhole = poster.BrokenWhole;
+  IsCutting =
+      poster.IsCutting;
+}
 
 scratch : (p : Project) → IsTopology p → IsSettled p → p.dirt ≡ [] → IsFromScratch poster p (map unmarked p.entries)
 scratch p t k clean =
-    let s = settled_scratch by_cuttings p (record { fits = λ n row e. tt; made = t.made }) (record { cut = k.cut; frames = k.frames }) t.order clean in
+    let s = settled_scratch by_cuttings p (record { fits = λ n row e. tt; made = t.made }) (record { cut = k.cut; frames = k.frames })
+    t.order clean in
     record { ascending = s.ascending; bare = s.bare; anew = s.anew }
 
 pub invariant : (p : Project) → IsTopology p → IsSound p → IsSettled p → Invariant p

@@ -12,7 +12,8 @@ use Rattle.session_terms.specs.KeptChanges.{kept_named, with_kept, without_kept,
 use Rattle.session_terms.proofs.Seen.{seen_named, same_name}
 
 -- ---- what each session has
-pub named_has : (P : KeptSession → Type 0) (ss : List KeptSession) (name : List ℕ) (s : KeptSession) → kept_named ss name ≡ Some s → Every P ss → P s
+pub named_has : (P : KeptSession → Type 0) (ss : List KeptSession) (name : List ℕ) (s : KeptSession) → kept_named ss name ≡ Some s
+    → Every P ss → P s
 named_has P [] name s e h = cc
 named_has P (o ∷ ss) name s e h = by (bytes_eq o.name name) e (λ r. named_has P ss name s r h.1)
   where
@@ -49,7 +50,8 @@ pub name_of : (ss : List KeptSession) (name : List ℕ) (s : KeptSession) → ke
 name_of [] name s e = cc
 name_of (o ∷ ss) name s e = by (bytes_eq o.name name) refl e (λ r. name_of ss name s r)
   where
-    by : (b : Bool) → bytes_eq o.name name ≡ b → (if b then Some o else kept_named ss name) ≡ Some s → (kept_named ss name ≡ Some s → s.name ≡ name) → s.name ≡ name
+    by : (b : Bool) → bytes_eq o.name name ≡ b → (if b then Some o else kept_named ss name) ≡ Some s
+        → (kept_named ss name ≡ Some s → s.name ≡ name) → s.name ≡ name
     by true k e r = let same : o ≡ s = cc in ap (λ (x : KeptSession). x.name) (sym same) ∙ same_name o.name name k
     by false k e r = r e
 
@@ -57,11 +59,13 @@ own_name : (m : List ℕ) → bytes_eq m m ≡ true
 own_name m = (bytes_eq-Decides m m).1 refl
 
 -- the session that changed is the one of the name
-pub now_named : (ss : List KeptSession) (name : List ℕ) (s u : KeptSession) → kept_named ss name ≡ Some s → u.name ≡ name → kept_named (with_kept ss u) name ≡ Some u
+pub now_named : (ss : List KeptSession) (name : List ℕ) (s u : KeptSession) → kept_named ss name ≡ Some s → u.name ≡ name
+    → kept_named (with_kept ss u) name ≡ Some u
 now_named [] name s u e n = cc
 now_named (o ∷ ss) name s u e n = rw (ap (bytes_eq o.name) n) (by (bytes_eq o.name name) refl e (λ r. now_named ss name s u r n))
   where
-    by : (b : Bool) → bytes_eq o.name name ≡ b → (if b then Some o else kept_named ss name) ≡ Some s → (kept_named ss name ≡ Some s → kept_named (with_kept ss u) name ≡ Some u)
+    by : (b : Bool) → bytes_eq o.name name ≡ b → (if b then Some o else kept_named ss name) ≡ Some s
+        → (kept_named ss name ≡ Some s → kept_named (with_kept ss u) name ≡ Some u)
         → kept_named (if b then u ∷ ss else o ∷ with_kept ss u) name ≡ Some u
     by true k e r = rw (n, own_name name) refl
     by false k e r = rw k (r e)
@@ -71,7 +75,8 @@ pub with_twice : (ss : List KeptSession) (m u : KeptSession) → u.name ≡ m.na
 with_twice [] m u n = refl
 with_twice (o ∷ ss) m u n = by (bytes_eq o.name m.name) refl (with_twice ss m u n)
   where
-    by : (b : Bool) → bytes_eq o.name m.name ≡ b → with_kept (with_kept ss m) u ≡ with_kept ss u → with_kept (if b then m ∷ ss else o ∷ with_kept ss m) u ≡ with_kept (o ∷ ss) u
+    by : (b : Bool) → bytes_eq o.name m.name ≡ b → with_kept (with_kept ss m) u ≡ with_kept ss u
+        → with_kept (if b then m ∷ ss else o ∷ with_kept ss m) u ≡ with_kept (o ∷ ss) u
     by true k r = rw (n, own_name m.name, k) refl
     by false k r = let q : bytes_eq o.name u.name ≡ false = ap (bytes_eq o.name) n ∙ k in rw q (ap (λ xs. o ∷ xs) r)
 
@@ -80,7 +85,8 @@ pub with_same : (ss : List KeptSession) (name : List ℕ) (s : KeptSession) → 
 with_same [] name s e = refl
 with_same (o ∷ ss) name s e = by (bytes_eq o.name name) refl e (λ r. with_same ss name s r)
   where
-    by : (b : Bool) → bytes_eq o.name name ≡ b → (if b then Some o else kept_named ss name) ≡ Some s → (kept_named ss name ≡ Some s → with_kept ss s ≡ ss) → with_kept (o ∷ ss) s ≡ o ∷ ss
+    by : (b : Bool) → bytes_eq o.name name ≡ b → (if b then Some o else kept_named ss name) ≡ Some s
+        → (kept_named ss name ≡ Some s → with_kept ss s ≡ ss) → with_kept (o ∷ ss) s ≡ o ∷ ss
     by true k e r = let same : o ≡ s = cc in rw (← same, own_name o.name) refl
     by false k e r =
         let q : bytes_eq o.name s.name ≡ false = ap (bytes_eq o.name) (name_of ss name s e) ∙ k in
@@ -91,14 +97,16 @@ is_some_map : {A B : Type 0} (f : A → B) (o : Option A) → is_some (option_ma
 is_some_map f None = refl
 is_some_map f (Some x) = refl
 
-pub open_seen : (at : ℕ → Option Feature) (ss : List KeptSession) (name : List ℕ) → is_some (session_of (seen at ss) name) ≡ is_some (kept_named ss name)
+pub open_seen : (at : ℕ → Option Feature) (ss : List KeptSession) (name : List ℕ)
+    → is_some (session_of (seen at ss) name) ≡ is_some (kept_named ss name)
 open_seen at ss name = ap is_some (seen_named at ss name) ∙ is_some_map (seen_session at) (kept_named ss name)
 
 pub length_seen : (at : ℕ → Option Feature) (ss : List KeptSession) → length (seen at ss) ≡ length ss
 length_seen at [] = refl
 length_seen at (s ∷ ss) = ap suc (length_seen at ss)
 
-any_seen : (at bt : ℕ → Option Feature) (h : ℕ) (ts us : List KeptStep) → list_any (λ (t : EditStep). eqb t.handle h) (done_of at ts ++ undone_of bt us) ≡ list_any (λ (t : KeptStep). eqb t.handle h) (ts ++ us)
+any_seen : (at bt : ℕ → Option Feature) (h : ℕ) (ts us : List KeptStep) → list_any (λ (t : EditStep). eqb t.handle h)
+    (done_of at ts ++ undone_of bt us) ≡ list_any (λ (t : KeptStep). eqb t.handle h) (ts ++ us)
 any_seen at bt h [] [] = refl
 any_seen at bt h [] (u ∷ us) = ap (λ b. eqb u.handle h || b) (any_seen at (set_at bt u.handle u.kept) h [] us)
 any_seen at bt h (t ∷ ts) us = ap (λ b. eqb t.handle h || b) (any_seen at bt h ts us)

@@ -7,4 +7,5 @@ pub mod SessionLines
 pub mod Headlines
 pub mod OneAnswer
 pub mod Replying
+pub mod Marking
 mod SessionRows

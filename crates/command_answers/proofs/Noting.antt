@@ -32,16 +32,23 @@ use Rattle.command_answers.proofs.Sessions.{May, may_changed, all_still}
 use Rattle.std.proofs.lemmas.Bool.{eqb-true}
 
 -- ---- room is made, and the step is noted
-pub room_noted : (name : List ℕ) (t : KeptStep) (old mid new : List KeptSession) → calls.IsRoomMade name old mid → calls.IsNoted name t mid new → calls.IsNoted name t old new
+pub room_noted : (name : List ℕ) (t : KeptStep) (old mid new : List KeptSession) → calls.IsRoomMade name old mid
+    → calls.IsNoted name t mid new → calls.IsNoted name t old new
 room_noted name t old mid new r n =
     let named : r.is.name ≡ name = r.change.name ∙ name_of old name r.was r.change.there in
-    let e : Some n.was ≡ Some r.is = sym n.change.there ∙ (ap (λ xs. kept_named xs name) r.change.sessions ∙ now_named old name r.was r.is r.change.there named) in
+    let e : Some n.was ≡ Some r.is = sym n.change.there ∙ (ap (λ xs. kept_named xs name) r.change.sessions
+    ∙ now_named old name r.was r.is r.change.there named) in
     let same : n.was ≡ r.is = cc in
     let own : n.is.name ≡ r.is.name = n.change.name ∙ ap (λ (x : KeptSession). x.name) same in
     record {
       was = r.was;
       is = n.is;
-      change = record { there = r.change.there; name = own ∙ r.change.name; sessions = n.change.sessions ∙ (ap (λ xs. with_kept xs n.is) r.change.sessions ∙ with_twice old r.is n.is own) };
+      change = record {
+        there = r.change.there;
+        name = own ∙ r.change.name;
+        sessions = n.change.sessions
+            ∙ (ap (λ xs. with_kept xs n.is) r.change.sessions ∙ with_twice old r.is n.is own);
+      };
       noted = record {
         name = own ∙ r.change.name;
         done = n.noted.done ∙ (ap (λ (x : KeptSession). x.done ++ t ∷ []) same ∙ ap (λ d. d ++ t ∷ []) r.same.done);
@@ -50,9 +57,11 @@ room_noted name t old mid new r n =
     }
 
 -- ---- the step that is noted may stand
-noted_may : (may can : ℕ → Option Feature → Type 0) (s : KeptSession) (t : KeptStep) (u : KeptSession) → ((k : ℕ) (x : Option Feature) → may k x → can k x) → IsKeptNoted s t u → MayAll may s → can t.handle t.kept → MayAll can u
+noted_may : (may can : ℕ → Option Feature → Type 0) (s : KeptSession) (t : KeptStep) (u : KeptSession)
+    → ((k : ℕ) (x : Option Feature) → may k x → can k x) → IsKeptNoted s t u → MayAll may s → can t.handle t.kept → MayAll can u
 noted_may may can s t u still k m c = record {
-  done = subst (Every (λ (x : KeptStep). can x.handle x.kept)) (sym k.done) (each_end can s.done t (each_still may can s.done still m.done) c);
+  done = subst (Every (λ (x : KeptStep). can x.handle x.kept)) (sym k.done) (each_end can s.done t (each_still may can s.done still m.done)
+      c);
   undone = subst (Every (λ (x : KeptStep). can x.handle x.kept)) (sym k.undone) tt;
 }
 
@@ -61,59 +70,96 @@ unfolding feature_at
 live_has P [] h f a e = cc
 live_has P (g ∷ F) h f a e = by (eqb g.handle h) refl e (λ r. live_has P F h f a.1 r)
   where
-    by : (b : Bool) → eqb g.handle h ≡ b → (if b then Some g else feature_at F h) ≡ Some f → (feature_at F h ≡ Some f → P f × (f.handle ≡ h)) → P f × (f.handle ≡ h)
+    by : (b : Bool) → eqb g.handle h ≡ b → (if b then Some g else feature_at F h) ≡ Some f
+        → (feature_at F h ≡ Some f → P f × (f.handle ≡ h)) → P f × (f.handle ≡ h)
     by true k e r = let same : g ≡ f = cc in (subst P same a.0, ap (λ (x : Feature). x.handle) (sym same) ∙ eqb-true g.handle h k)
     by false k e r = r e
 
-live_may : (p : Project) (h : ℕ) (f : Feature) → IsStore p.classes p.features p.next → feature_at p.features h ≡ Some f → May p h (feature_at p.features h)
+live_may : (p : Project) (h : ℕ) (f : Feature) → IsStore p.classes p.features p.next → feature_at p.features h ≡ Some f
+    → May p h (feature_at p.features h)
 live_may p h f s e =
     let g = live_has (IsGiven p.next) p.features h f s.given e in
     let k = live_has (IsOfClass p.classes) p.features h f s.kinds e in
-    let here : May p h (Some f) = record { from_1 = subst (λ n. 1 ≤ n) g.1 g.0.from_1; given = subst (λ n. n < p.next) g.1 g.0.before; own = g.1; fits = k.0 } in
+    let here : May p h (Some f) = record {
+      from_1 = subst (λ n. 1 ≤ n) g.1 g.0.from_1;
+      given = subst (λ n. n < p.next) g.1 g.0.before;
+      own =
+          g.1;
+      fits = k.0;
+    } in
     subst (May p h) (sym e) here
 
 -- ---- a feature is set, or taken away
-pub set_done : (p q : Project) (name : List ℕ) (ss ts : List KeptSession) (h : ℕ) (after : Option Feature) → IsWorld p ss → IsOrdered p → refusal_of (state_of p ss) (Delete name h) ≡ None
-    → IsFeatureSet h after p q → calls.IsNoted name (record { handle = h; kept = feature_at p.features h }) ss ts → LeavesNoted name (set_step p h after) (IsFeatureSet h after) (state_of p ss) (state_of q ts)
+pub set_done : (p q : Project) (name : List ℕ) (ss ts : List KeptSession) (h : ℕ) (after : Option Feature) → IsWorld p ss → IsOrdered p
+    → refusal_of (state_of p ss) (Delete name h) ≡ None
+    → IsFeatureSet h after p q → calls.IsNoted name (record { handle = h; kept = feature_at p.features h }) ss ts
+    → LeavesNoted name (set_step p h after) (IsFeatureSet h after) (state_of p ss) (state_of q ts)
 set_done p q name ss ts h after w ord may e d =
     let at = feature_at p.features in
     let bt = feature_at q.features in
     let a = may_edit (state_of p ss) name h [] w.keeping ord may in
     record {
       project = e;
-      noted = note_bridge at bt name d.was d.is ss ts h after d.change d.noted (record { here = e.edit.features.here; others = e.edit.features.others }) w.keeping.apart a.0;
+      noted = note_bridge at bt name d.was d.is ss ts h after d.change d.noted (record {
+        here = e.edit.features.here;
+        others =
+            e.edit.features.others;
+      }) w.keeping.apart a.0;
     }
 
-pub set_world : (p q : Project) (name : List ℕ) (ss ts : List KeptSession) (h : ℕ) (f : Feature) (after : Option Feature) → IsStore p.classes p.features p.next → IsWorld p ss → IsOrdered p
-    → refusal_of (state_of p ss) (Delete name h) ≡ None → feature_at p.features h ≡ Some f → IsFeatureSet h after p q → calls.IsNoted name (record { handle = h; kept = feature_at p.features h }) ss ts
+pub set_world : (p q : Project) (name : List ℕ) (ss ts : List KeptSession) (h : ℕ) (f : Feature) (after : Option Feature)
+    → IsStore p.classes p.features p.next → IsWorld p ss → IsOrdered p
+    → refusal_of (state_of p ss) (Delete name h) ≡ None → feature_at p.features h ≡ Some f → IsFeatureSet h after p q
+    → calls.IsNoted name (record { handle = h; kept = feature_at p.features h }) ss ts
     → IsSound q → IsSettled q → IsWorld q ts
 set_world p q name ss ts h f after store w ord may live e d sound settled =
-    let still : (k : ℕ) (x : Option Feature) → May p k x → May q k x = λ k x. may_in p.classes q.classes p.next q.next k x e.edit.classes e.next in
+    let still : (k : ℕ) (x : Option Feature) → May p k x → May q k x = λ k x. may_in p.classes q.classes p.next q.next k x e.edit.classes
+    e.next in
     let a = may_edit (state_of p ss) name h [] w.keeping ord may in
     record {
       sound = sound;
       settled = settled;
-      keeping = altered_keeps name h after (state_of p ss) (state_of q ts) w.keeping a.0 a.1 (set_done p q name ss ts h after w ord may e d);
+      keeping = altered_keeps name h after (state_of p ss) (state_of q ts) w.keeping a.0 a.1
+          (set_done p q name ss ts h after w ord may e d);
       may = may_changed p q name d.was d.is ss ts d.change still
-          (noted_may (May p) (May q) d.was (record { handle = h; kept = feature_at p.features h }) d.is still d.noted (named_has (MayAll (May p)) ss name d.was d.change.there w.may) (still h (feature_at p.features h) (live_may p h f store live))) w.may;
+          (noted_may (May p) (May q) d.was (record { handle = h; kept = feature_at p.features h }) d.is still d.noted
+          (named_has (MayAll (May p)) ss name d.was d.change.there w.may) (still h (feature_at p.features h)
+          (live_may p h f store live))) w.may;
     }
 
 -- ---- a feature comes
 may_more : (p q : Project) (k : ℕ) (x : Option Feature) → q.classes ≡ p.classes → q.next ≡ p.next + 1 → May p k x → May q k x
-may_more p q k x c n m = record { from_1 = m.from_1; given = (let g = m.given in omega (arith, g, n)); own = m.own; fits = subst (λ es. IfSome x (IsOfClass es)) (sym c) m.fits }
+may_more p q k x c n m = record {
+  from_1 = m.from_1;
+  given = (let g = m.given in omega (arith, g, n));
+  own = m.own;
+  fits =
+      subst (λ es. IfSome x (IsOfClass es)) (sym c) m.fits;
+}
 
-pub add_done : (p q : Project) (name : List ℕ) (ss ts : List KeptSession) (class : ℕ) (shape : Shape) (h : ℕ) → IsWorld p ss → IsFeatureAdded class shape h p q
-    → calls.IsNoted name (record { handle = h; kept = None }) ss ts → LeavesNoted name (added_step h class shape) (IsFeatureAdded class shape h) (state_of p ss) (state_of q ts)
+pub add_done : (p q : Project) (name : List ℕ) (ss ts : List KeptSession) (class : ℕ) (shape : Shape) (h : ℕ) → IsWorld p ss
+    → IsFeatureAdded class shape h p q
+    → calls.IsNoted name (record { handle = h; kept = None }) ss ts → LeavesNoted name (added_step h class shape)
+    (IsFeatureAdded class shape h) (state_of p ss) (state_of q ts)
 add_done p q name ss ts class shape h w e d =
     let at = feature_at p.features in
     let bt = feature_at q.features in
     let x : Option Feature = Some (record { handle = h; class = class; shape = shape }) in
     let alone = subst (IsAlone (seen at ss) name) (sym e.number) (fresh_alone p.next name (seen at ss) w.keeping.given) in
     let noted = subst (λ o. IsKeptNoted d.was (record { handle = h; kept = o }) d.is) (sym e.absent) d.noted in
-    let b = note_bridge at bt name d.was d.is ss ts h x d.change noted (record { here = e.edit.features.here; others = e.edit.features.others }) w.keeping.apart alone in
-    record { project = e; noted = subst (λ o. IsNoted name (record { handle = h; before = o; after = x }) (seen at ss) (seen bt ts)) e.absent b }
+    let b = note_bridge at bt name d.was d.is ss ts h x d.change noted (record {
+      here = e.edit.features.here;
+      others =
+          e.edit.features.others;
+    }) w.keeping.apart alone in
+    record {
+      project = e;
+      noted = subst (λ o. IsNoted name (record { handle = h; before = o; after = x }) (seen at ss) (seen bt ts))
+          e.absent b;
+    }
 
-pub add_world : (p q : Project) (name : List ℕ) (ss ts : List KeptSession) (class : ℕ) (shape : Shape) (h : ℕ) → IsStore p.classes p.features p.next → IsWorld p ss → IsFeatureAdded class shape h p q
+pub add_world : (p q : Project) (name : List ℕ) (ss ts : List KeptSession) (class : ℕ) (shape : Shape) (h : ℕ)
+    → IsStore p.classes p.features p.next → IsWorld p ss → IsFeatureAdded class shape h p q
     → calls.IsNoted name (record { handle = h; kept = None }) ss ts → IsSound q → IsSettled q → IsWorld q ts
 add_world p q name ss ts class shape h store w e d sound settled =
     let still : (k : ℕ) (x : Option Feature) → May p k x → May q k x = λ k x. may_more p q k x e.edit.classes e.next in
@@ -124,14 +170,17 @@ add_world p q name ss ts class shape h store w e d sound settled =
       sound = sound;
       settled = settled;
       keeping = added_keeps name class shape h (state_of p ss) (state_of q ts) w.keeping (add_done p q name ss ts class shape h w e d);
-      may = may_changed p q name d.was d.is ss ts d.change still (noted_may (May p) (May q) d.was (record { handle = h; kept = None }) d.is still d.noted (named_has (MayAll (May p)) ss name d.was d.change.there w.may) step) w.may;
+      may = may_changed p q name d.was d.is ss ts d.change still (noted_may (May p) (May q) d.was (record { handle = h; kept = None }) d.is
+          still d.noted (named_has (MayAll (May p)) ss name d.was d.change.there w.may) step) w.may;
     }
 
 -- ---- the features stay
-pub seen_same : (p q : Project) (ss : List KeptSession) → q.features ≡ p.features → seen (feature_at q.features) ss ≡ seen (feature_at p.features) ss
+pub seen_same : (p q : Project) (ss : List KeptSession) → q.features ≡ p.features
+    → seen (feature_at q.features) ss ≡ seen (feature_at p.features) ss
 seen_same p q ss f = ap (λ F. seen (feature_at F) ss) f
 
-other_world : (p q : Project) (ss : List KeptSession) → q.features ≡ p.features → q.next ≡ p.next → ((k : ℕ) (x : Option Feature) → May p k x → May q k x) → IsSound q → IsSettled q → IsWorld p ss → IsWorld q ss
+other_world : (p q : Project) (ss : List KeptSession) → q.features ≡ p.features → q.next ≡ p.next
+    → ((k : ℕ) (x : Option Feature) → May p k x → May q k x) → IsSound q → IsSettled q → IsWorld p ss → IsWorld q ss
 other_world p q ss f n still sound settled w = record {
   sound = sound;
   settled = settled;
@@ -139,10 +188,12 @@ other_world p q ss f n still sound settled w = record {
   may = all_still (May p) (May q) ss still w.may;
 }
 
-pub stays_world : (p q : Project) (ss : List KeptSession) → q.features ≡ p.features → q.next ≡ p.next → q.classes ≡ p.classes → IsSound q → IsSettled q → IsWorld p ss → IsWorld q ss
+pub stays_world : (p q : Project) (ss : List KeptSession) → q.features ≡ p.features → q.next ≡ p.next → q.classes ≡ p.classes → IsSound q
+    → IsSettled q → IsWorld p ss → IsWorld q ss
 stays_world p q ss f n c sound settled w = other_world p q ss f n (λ k x. may_in p.classes q.classes p.next q.next k x c n) sound settled w
 
-may_class : (p q : Project) (d : Class) (k : ℕ) (x : Option Feature) → q.classes ≡ p.classes ++ d ∷ [] → q.next ≡ p.next → May p k x → May q k x
+may_class : (p q : Project) (d : Class) (k : ℕ) (x : Option Feature) → q.classes ≡ p.classes ++ d ∷ [] → q.next ≡ p.next → May p k x
+    → May q k x
 may_class p q d k x c n m = record {
   from_1 = m.from_1;
   given = subst (λ j. k < j) (sym n) m.given;
@@ -154,17 +205,22 @@ may_class p q d k x c n m = record {
     by None h = tt
     by (Some f) h = kind_end p.classes d f.class f.shape.kind h
 
-pub class_world : (p q : Project) (ss : List KeptSession) (d : Class) → q.classes ≡ p.classes ++ d ∷ [] → q.features ≡ p.features → q.next ≡ p.next → IsSound q → IsSettled q → IsWorld p ss → IsWorld q ss
+pub class_world : (p q : Project) (ss : List KeptSession) (d : Class) → q.classes ≡ p.classes ++ d ∷ [] → q.features ≡ p.features
+    → q.next ≡ p.next → IsSound q → IsSettled q → IsWorld p ss → IsWorld q ss
 class_world p q ss d c f n sound settled w = other_world p q ss f n (λ k x. may_class p q d k x c n) sound settled w
 
 -- ---- room alone
 pub room_done : (p : Project) (name : List ℕ) (ss ts : List KeptSession) → calls.IsRoomMade name ss ts → state_of p ts ≡ state_of p ss
-room_done p name ss ts r = ap (λ xs. record { project = p; sessions = xs }) (room_bridge (feature_at p.features) name r.was r.is ss ts r.change r.same)
+room_done p name ss ts r = ap (λ xs. record { project = p; sessions = xs }) (room_bridge (feature_at p.features) name r.was r.is ss ts
+    r.change r.same)
 
 pub room_world : (p : Project) (name : List ℕ) (ss ts : List KeptSession) → calls.IsRoomMade name ss ts → IsWorld p ss → IsWorld p ts
 room_world p name ss ts r w =
     let m = named_has (MayAll (May p)) ss name r.was r.change.there w.may in
-    let each : MayAll (May p) r.is = record { done = subst (Every (λ (x : KeptStep). May p x.handle x.kept)) (sym r.same.done) m.done; undone = subst (Every (λ (x : KeptStep). May p x.handle x.kept)) (sym r.same.undone) m.undone } in
+    let each : MayAll (May p) r.is = record {
+      done = subst (Every (λ (x : KeptStep). May p x.handle x.kept)) (sym r.same.done) m.done;
+      undone = subst (Every (λ (x : KeptStep). May p x.handle x.kept)) (sym r.same.undone) m.undone;
+    } in
     record {
       sound = w.sound;
       settled = w.settled;

@@ -2,8 +2,9 @@
 use Rattle.std.proofs.Common.{◌≡◌, ◌⊎◌, inl, inr, ℕ, ◌<◌, Bool, true, false, List, [], ◌∷◌, ◌++◌, length, Option, Some, None, refl, sym, ◌∙◌, ap, subst, arith}
 use Rattle.plane_terms.specs.Lists.{IsThose}
 use Rattle.plane_terms.specs.Rectangle.{Rectangle}
+use Rattle.plane_terms.specs.Cell.{Cell}
 use Rattle.topology_terms.specs.Broken.{Row}
-use Rattle.topology_terms.specs.Changes.{IsFeatureSet, IsEdit, IsRuleAdded, IsRuleDropped, IsUnchanged, KeepsMark, add_envelope}
+use Rattle.topology_terms.specs.Changes.{IsFeatureSet, IsEdit, IsRuleAdded, IsRuleDropped, IsUnchanged, IsMarked, SameButMark, KeepsMark, add_envelope}
 use Rattle.topology_terms.specs.Counts.{judged_of}
 use Rattle.topology_terms.specs.Entry.{Entry, entry_at}
 use Rattle.topology_terms.specs.Feature.{Class as AClass, Feature, feature_at, IsSetAt}
@@ -46,24 +47,68 @@ pub record AreSame (p q : Project) : Type 0 where
 
 by_parts : (p q : Project) → AreSame p q → p ≡ q
 by_parts p q h =
-    ap (λ (x : List AClass). record { classes = x; rules = p.rules; features = p.features; next = p.next; dirt = p.dirt; entries = p.entries }) h.classes
-    ∙ (ap (λ (x : List InForce). record { classes = q.classes; rules = x; features = p.features; next = p.next; dirt = p.dirt; entries = p.entries }) h.rules
-    ∙ (ap (λ (x : List Feature). record { classes = q.classes; rules = q.rules; features = x; next = p.next; dirt = p.dirt; entries = p.entries }) h.features
-    ∙ (ap (λ (x : ℕ). record { classes = q.classes; rules = q.rules; features = q.features; next = x; dirt = p.dirt; entries = p.entries }) h.next
-    ∙ (ap (λ (x : List Rectangle). record { classes = q.classes; rules = q.rules; features = q.features; next = q.next; dirt = x; entries = p.entries }) h.dirt
-    ∙ ap (λ (x : List Entry). record { classes = q.classes; rules = q.rules; features = q.features; next = q.next; dirt = q.dirt; entries = x }) h.entries))))
+    ap (λ (x : List AClass). record {
+      classes = x;
+      rules = p.rules;
+      features = p.features;
+      next = p.next;
+      dirt = p.dirt;
+      entries =
+          p.entries;
+    }) h.classes
+    ∙ (ap (λ (x : List InForce). record {
+      classes = q.classes;
+      rules = x;
+      features = p.features;
+      next = p.next;
+      dirt = p.dirt;
+      entries =
+          p.entries;
+    }) h.rules
+    ∙ (ap (λ (x : List Feature). record {
+      classes = q.classes;
+      rules = q.rules;
+      features = x;
+      next = p.next;
+      dirt = p.dirt;
+      entries =
+          p.entries;
+    }) h.features
+    ∙ (ap (λ (x : ℕ). record { classes = q.classes; rules = q.rules; features = q.features; next = x; dirt = p.dirt; entries = p.entries })
+    h.next
+    ∙ (ap (λ (x : List Rectangle). record {
+      classes = q.classes;
+      rules = q.rules;
+      features = q.features;
+      next = q.next;
+      dirt = x;
+      entries =
+          p.entries;
+    }) h.dirt
+    ∙ ap (λ (x : List Entry). record {
+      classes = q.classes;
+      rules = q.rules;
+      features = q.features;
+      next = q.next;
+      dirt = q.dirt;
+      entries =
+          x;
+    }) h.entries))))
 
 same_state : (t u : State) → t.project ≡ u.project → t.sessions ≡ u.sessions → t ≡ u
-same_state t u p e = ap (λ (q : Project). record { project = q; sessions = t.sessions }) p ∙ ap (λ (ss : List Session). record { project = u.project; sessions = ss }) e
+same_state t u p e = ap (λ (q : Project). record { project = q; sessions = t.sessions }) p
+    ∙ ap (λ (ss : List Session). record { project = u.project; sessions = ss }) e
 
 -- ---- the changes
-set_same : (h : ℕ) (after : Option Feature) (F G H : List Feature) → features.IsAscending G → features.IsAscending H → IsSetAt h after F G → IsSetAt h after F H → G ≡ H
+set_same : (h : ℕ) (after : Option Feature) (F G H : List Feature) → features.IsAscending G → features.IsAscending H → IsSetAt h after F G
+    → IsSetAt h after F H → G ≡ H
 set_same h after F G H u v i j = same_features G H u v (λ k. elim (same_or_not k h) [
   | inl e ↦ rw e (i.here ∙ sym j.here)
   | inr n ↦ i.others k n ∙ sym (j.others k n)
 ])
 
-edit_same : (h : ℕ) (after : Option Feature) (s p q : Project) → IsOrdered p → IsOrdered q → IsEdit h after s p → IsEdit h after s q → p.next ≡ q.next → AreSame p q
+edit_same : (h : ℕ) (after : Option Feature) (s p q : Project) → IsOrdered p → IsOrdered q → IsEdit h after s p → IsEdit h after s q
+    → p.next ≡ q.next → AreSame p q
 edit_same h after s p q u v i j next = record {
   classes = i.classes ∙ sym j.classes;
   rules = i.rules ∙ sym j.rules;
@@ -115,11 +160,22 @@ dropped_same s p q n u v i j = record {
 mark_same : (o : Option Entry) (d e : Entry) → unmark d ≡ unmark e → KeepsMark o d → KeepsMark o e → d.marked ≡ e.marked
 mark_same None d e same h k = h ∙ sym k
 mark_same (Some w) d e same h k =
-    let over : IsUnchanged w d → IsUnchanged w e = λ x. record { whole = x.whole ∙ ap (λ (y : Entry). y.whole) same; frame = x.frame ∙ ap (λ (y : Entry). y.frame) same; cells = x.cells ∙ ap (λ (y : Entry). y.cells) same } in
-    let back : IsUnchanged w e → IsUnchanged w d = λ x. record { whole = x.whole ∙ sym (ap (λ (y : Entry). y.whole) same); frame = x.frame ∙ sym (ap (λ (y : Entry). y.frame) same); cells = x.cells ∙ sym (ap (λ (y : Entry). y.cells) same) } in
+    let over : IsUnchanged w d → IsUnchanged w e = λ x. record {
+      whole = x.whole ∙ ap (λ (y : Entry). y.whole) same;
+      frame = x.frame
+          ∙ ap (λ (y : Entry). y.frame) same;
+      cells = x.cells ∙ ap (λ (y : Entry). y.cells) same;
+    } in
+    let back : IsUnchanged w e → IsUnchanged w d = λ x. record {
+      whole = x.whole ∙ sym (ap (λ (y : Entry). y.whole) same);
+      frame = x.frame
+          ∙ sym (ap (λ (y : Entry). y.frame) same);
+      cells = x.cells ∙ sym (ap (λ (y : Entry). y.cells) same);
+    } in
     same_by_truth d.marked e.marked (λ m. let y = h.0 m in k.1 (y.0, over y.1)) (λ m. let y = k.0 m in h.1 (y.0, back y.1))
 
-option_same : (o d e : Option Entry) → unmark_option d ≡ unmark_option e → ((x : Entry) → d ≡ Some x → KeepsMark o x) → ((x : Entry) → e ≡ Some x → KeepsMark o x) → d ≡ e
+option_same : (o d e : Option Entry) → unmark_option d ≡ unmark_option e → ((x : Entry) → d ≡ Some x → KeepsMark o x)
+    → ((x : Entry) → e ≡ Some x → KeepsMark o x) → d ≡ e
 option_same o None None same h k = refl
 option_same o None (Some e) same h k = absurd cc
 option_same o (Some d) None same h k = absurd cc
@@ -128,7 +184,61 @@ option_same o (Some d) (Some e) same h k =
     let marks : d.marked ≡ e.marked = mark_same o d e bare (h d refl) (k e refl) in
     ap (λ (x : Entry). Some (record x { marked = d.marked })) bare ∙ ap (λ (m : Bool). Some (record e { marked = m })) marks
 
-entry_same : CutsRight poster → (w : Rectangle) (s p q : Project) → IsValidatedBy poster w s p → IsValidatedBy poster w s q → (r a b : ℕ) → entry_at p.entries r a b ≡ entry_at q.entries r a b
+-- ---- a mark
+made_same : (r s a b c d : ℕ) (w x m n : Bool) (f g : Rectangle) (cs ds : List Cell) → r ≡ s → a ≡ b → c ≡ d → w ≡ x → m ≡ n → f ≡ g
+    → cs ≡ ds
+    → (let y : Entry = record { rule = r; subject = a; other = c; whole = w; marked = m; frame = f; cells = cs } in
+    let z : Entry = record { rule = s; subject = b; other = d; whole = x; marked = n; frame = g; cells = ds } in
+    y ≡ z)
+made_same r s a b c d w x m n f g cs ds e1 e2 e3 e4 e5 e6 e7 = rw (e1, e2, e3, e4, e5, e6, e7) refl
+
+-- two entries of one key that are the same as a third, marks aside, and have one mark
+marked_option : (o d e : Option Entry) (r a b : ℕ) (on : Bool) → SameButMark o d → SameButMark o e
+    → ((x : Entry) → d ≡ Some x → (x.rule ≡ r) × (x.subject ≡ a) × (x.other ≡ b) × (x.marked ≡ on))
+    → ((x : Entry) → e ≡ Some x → (x.rule ≡ r) × (x.subject ≡ a) × (x.other ≡ b) × (x.marked ≡ on)) → d ≡ e
+marked_option None None None r a b on h k p q = refl
+marked_option None None (Some e) r a b on h k p q = absurd k
+marked_option None (Some d) e r a b on h k p q = absurd h
+marked_option (Some w) None e r a b on h k p q = absurd h
+marked_option (Some w) (Some d) None r a b on h k p q = absurd k
+marked_option (Some w) (Some d) (Some e) r a b on h k p q =
+    let x = p d refl in
+    let y = q e refl in
+    ap (λ (z : Entry). Some z) (made_same d.rule e.rule d.subject e.subject d.other e.other d.whole e.whole d.marked e.marked d.frame
+    e.frame d.cells e.cells
+    (x.0 ∙ sym y.0) (x.1 ∙ sym y.1) (x.2 ∙ sym y.2) (sym h.whole ∙ k.whole) (x.3 ∙ sym y.3) (sym h.frame ∙ k.frame) (sym h.cells ∙ k.cells))
+
+key_or_not : (r a b k c d : ℕ) → ((k ≡ r) × (c ≡ a) × (d ≡ b)) ⊎ (¬ ((k ≡ r) × (c ≡ a) × (d ≡ b)))
+key_or_not r a b k c d = elim (same_or_not k r) [
+  | inr n ↦ inr (λ z. n z.0)
+  | inl i ↦ elim (same_or_not c a) [
+    | inr n ↦ inr (λ z. n z.1)
+    | inl j ↦ elim (same_or_not d b) [ inr n ↦ inr (λ z. n z.2) | inl l ↦ inl (i, j, l) ]
+  ]
+]
+
+marked_same : (r a b : ℕ) (on : Bool) (s p q : Project) → IsOrdered p → IsOrdered q → IsMarked r a b on s p → IsMarked r a b on s q
+    → AreSame p q
+marked_same r a b on s p q u v i j = record {
+  classes = i.marking.classes ∙ sym j.marking.classes;
+  rules = i.marking.rules ∙ sym j.marking.rules;
+  features = i.marking.features ∙ sym j.marking.features;
+  next = i.marking.next ∙ sym j.marking.next;
+  dirt = i.marking.dirt ∙ sym j.marking.dirt;
+  entries = same_entries p.entries q.entries u.entries v.entries (λ k c d. elim (key_or_not r a b k c d) [
+    | inr n ↦ i.others k c d n ∙ sym (j.others k c d n)
+    | inl z ↦ rw (z.0, z.1, z.2) here
+  ]);
+}
+  where
+    here : entry_at p.entries r a b ≡ entry_at q.entries r a b
+    here = marked_option (entry_at s.entries r a b) (entry_at p.entries r a b) (entry_at q.entries r a b) r a b on (i.marking.entries r a b)
+        (j.marking.entries r a b)
+        (λ x e. let z = entry_key p.entries r a b x e in (z.0, z.1, z.2, i.here x e))
+        (λ x e. let z = entry_key q.entries r a b x e in (z.0, z.1, z.2, j.here x e))
+
+entry_same : CutsRight poster → (w : Rectangle) (s p q : Project) → IsValidatedBy poster w s p → IsValidatedBy poster w s q → (r a b : ℕ)
+    → entry_at p.entries r a b ≡ entry_at q.entries r a b
 entry_same C w s p q i j r a b = elim (i.each a) [
   | inr y ↦ elim (j.each a) [
     | inl z ↦ absurd (y.0 z.0)
@@ -146,14 +256,16 @@ entry_same C w s p q i j r a b = elim (i.each a) [
             let e = C.one row.0 s.features a n.0 m.0 n.1 m.1 in
             let l : AreAlike f.0 (finding_at m.0 b) (entry_at q.entries r a b) = rw e at (n.2 b) in
             option_same (entry_at s.entries r a b) (entry_at p.entries r a b) (entry_at q.entries r a b)
-            (alike_same f.0 (finding_at m.0 b) (entry_at p.entries r a b) (entry_at q.entries r a b) r a b (λ x k. entry_key p.entries r a b x k) (λ x k. entry_key q.entries r a b x k) (m.2 b) l)
+            (alike_same f.0 (finding_at m.0 b) (entry_at p.entries r a b) (entry_at q.entries r a b) r a b
+            (λ x k. entry_key p.entries r a b x k) (λ x k. entry_key q.entries r a b x k) (m.2 b) l)
             (λ x k. i.marks r a b x y.0 k) (λ x k. j.marks r a b x y.0 k)
       ]
     ]
   ]
 ]
 
-validated_same : CutsRight poster → (w : Rectangle) (s p q : Project) → IsOrdered p → IsOrdered q → IsValidatedBy poster w s p → IsValidatedBy poster w s q → AreSame p q
+validated_same : CutsRight poster → (w : Rectangle) (s p q : Project) → IsOrdered p → IsOrdered q → IsValidatedBy poster w s p
+    → IsValidatedBy poster w s q → AreSame p q
 validated_same C w s p q u v i j = record {
   classes = i.classes ∙ sym j.classes;
   rules = i.rules ∙ sym j.rules;
@@ -175,7 +287,8 @@ left_same s t u e f h = same_state t u (by_parts t.project u.project h) (e ∙ s
 some_same : {A : Type 0} (o : Option A) (x y : A) → o ≡ Some x → o ≡ Some y → x ≡ y
 some_same o x y i j = let e : Some x ≡ Some y = sym i ∙ j in cc
 
-noted_same : (editor : List ℕ) (s t u : State) (x y : EditStep) → IsNoted editor x s.sessions t.sessions → IsNoted editor y s.sessions u.sessions → x ≡ y → AreSame t.project u.project → t ≡ u
+noted_same : (editor : List ℕ) (s t u : State) (x y : EditStep) → IsNoted editor x s.sessions t.sessions
+    → IsNoted editor y s.sessions u.sessions → x ≡ y → AreSame t.project u.project → t ≡ u
 noted_same editor s t u x y i j step h =
     let was : i.session ≡ j.session = some_same (session_of s.sessions editor) i.session j.session i.change.there j.change.there in
     let is : with_step i.session x ≡ with_step j.session y = ap (λ (z : Session). with_step z x) was ∙ ap (with_step j.session) step in
@@ -187,26 +300,34 @@ parts_same s u n d k =
     ∙ (ap (λ (x : List EditStep). record { name = u.name; done = x; undone = s.undone }) d
     ∙ ap (λ (x : List EditStep). record { name = u.name; done = u.done; undone = x }) k)
 
-set_project : (h : ℕ) (after : Option Feature) (s p q : Project) → IsOrdered p → IsOrdered q → IsFeatureSet h after s p → IsFeatureSet h after s q → p ≡ q
+set_project : (h : ℕ) (after : Option Feature) (s p q : Project) → IsOrdered p → IsOrdered q → IsFeatureSet h after s p
+    → IsFeatureSet h after s q → p ≡ q
 set_project h after s p q v w i j = by_parts p q (edit_same h after s p q v w i.edit j.edit (i.next ∙ sym j.next))
 
-undo_same : (editor : List ℕ) (s t u : State) → IsOrdered t.project → IsOrdered u.project → IsUndone editor s t → IsUndone editor s u → t ≡ u
+undo_same : (editor : List ℕ) (s t u : State) → IsOrdered t.project → IsOrdered u.project → IsUndone editor s t → IsUndone editor s u
+    → t ≡ u
 undo_same editor s t u v w i j =
     let was : i.was ≡ j.was = some_same (session_of s.sessions editor) i.was j.was i.session.there j.session.there in
     let e = end_same i.is.done j.is.done i.step j.step (sym i.undone.done ∙ (ap (λ (z : Session). z.done) was ∙ j.undone.done)) in
-    let left : i.is.undone ≡ j.is.undone = i.undone.undone ∙ (ap (λ (z : EditStep). z ∷ i.was.undone) e.1 ∙ (ap (λ (z : Session). j.step ∷ z.undone) was ∙ sym j.undone.undone)) in
+    let left : i.is.undone ≡ j.is.undone = i.undone.undone ∙ (ap (λ (z : EditStep). z ∷ i.was.undone) e.1
+    ∙ (ap (λ (z : Session). j.step ∷ z.undone) was ∙ sym j.undone.undone)) in
     let is : i.is ≡ j.is = parts_same i.is j.is (i.undone.name ∙ (ap (λ (z : Session). z.name) was ∙ sym j.undone.name)) e.0 left in
     let set = subst (λ (z : EditStep). IsFeatureSet z.handle z.before s.project t.project) e.1 i.set in
-    same_state t u (set_project j.step.handle j.step.before s.project t.project u.project v w set j.set) (i.session.sessions ∙ (ap (with_session s.sessions) is ∙ sym j.session.sessions))
+    same_state t u (set_project j.step.handle j.step.before s.project t.project u.project v w set j.set) (i.session.sessions
+    ∙ (ap (with_session s.sessions) is ∙ sym j.session.sessions))
 
-redo_same : (editor : List ℕ) (s t u : State) → IsOrdered t.project → IsOrdered u.project → IsRedone editor s t → IsRedone editor s u → t ≡ u
+redo_same : (editor : List ℕ) (s t u : State) → IsOrdered t.project → IsOrdered u.project → IsRedone editor s t → IsRedone editor s u
+    → t ≡ u
 redo_same editor s t u v w i j =
     let was : i.was ≡ j.was = some_same (session_of s.sessions editor) i.was j.was i.session.there j.session.there in
-    let e = head_same i.step j.step i.is.undone j.is.undone (sym i.undone.undone ∙ (ap (λ (z : Session). z.undone) was ∙ j.undone.undone)) in
-    let left : i.is.done ≡ j.is.done = i.undone.done ∙ (ap (λ (z : EditStep). i.was.done ++ z ∷ []) e.0 ∙ (ap (λ (z : Session). z.done ++ j.step ∷ []) was ∙ sym j.undone.done)) in
+    let e = head_same i.step j.step i.is.undone j.is.undone (sym i.undone.undone ∙ (ap (λ (z : Session). z.undone) was ∙ j.undone.undone))
+    in
+    let left : i.is.done ≡ j.is.done = i.undone.done ∙ (ap (λ (z : EditStep). i.was.done ++ z ∷ []) e.0
+    ∙ (ap (λ (z : Session). z.done ++ j.step ∷ []) was ∙ sym j.undone.done)) in
     let is : i.is ≡ j.is = parts_same i.is j.is (sym i.undone.name ∙ (ap (λ (z : Session). z.name) was ∙ j.undone.name)) left e.1 in
     let set = subst (λ (z : EditStep). IsFeatureSet z.handle z.after s.project t.project) e.0 i.set in
-    same_state t u (set_project j.step.handle j.step.after s.project t.project u.project v w set j.set) (i.session.sessions ∙ (ap (with_session s.sessions) is ∙ sym j.session.sessions))
+    same_state t u (set_project j.step.handle j.step.after s.project t.project u.project v w set j.set) (i.session.sessions
+    ∙ (ap (with_session s.sessions) is ∙ sym j.session.sessions))
 
 -- steps that are taken back: all but the features, and the look-up of those, is told step by step
 pub record SameRest (p q : Project) : Type 0 where
@@ -216,21 +337,35 @@ pub record SameRest (p q : Project) : Type 0 where
   pub entries : q.entries ≡ p.entries
 
 taken_rest : (ts : List EditStep) (s p : Project) → AreTakenBack ts s p → SameRest s p
-taken_rest [] s p i = record { classes = ap (λ (x : Project). x.classes) i; rules = ap (λ (x : Project). x.rules) i; next = ap (λ (x : Project). x.next) i; entries = ap (λ (x : Project). x.entries) i }
+taken_rest [] s p i = record {
+  classes = ap (λ (x : Project). x.classes) i;
+  rules = ap (λ (x : Project). x.rules) i;
+  next =
+      ap (λ (x : Project). x.next) i;
+  entries = ap (λ (x : Project). x.entries) i;
+}
 taken_rest (x ∷ ts) s p i =
     let r = taken_rest ts s i.0 i.1 in
-    record { classes = i.2.edit.classes ∙ r.classes; rules = i.2.edit.rules ∙ r.rules; next = i.2.next ∙ r.next; entries = i.2.edit.entries ∙ r.entries }
+    record {
+      classes = i.2.edit.classes ∙ r.classes;
+      rules = i.2.edit.rules ∙ r.rules;
+      next = i.2.next ∙ r.next;
+      entries = i.2.edit.entries
+          ∙ r.entries;
+    }
 
 taken_dirt : (ts : List EditStep) (s p q : Project) → AreTakenBack ts s p → AreTakenBack ts s q → p.dirt ≡ q.dirt
 taken_dirt [] s p q i j = ap (λ (x : Project). x.dirt) (i ∙ sym j)
 taken_dirt (x ∷ ts) s p q i j =
     let m = i.0 in
     let n = j.0 in
-    let look : feature_at m.features x.handle ≡ feature_at n.features x.handle = taken_at ts s m x.handle i.1 ∙ sym (taken_at ts s n x.handle j.1) in
+    let look : feature_at m.features x.handle ≡ feature_at n.features x.handle = taken_at ts s m x.handle i.1
+    ∙ sym (taken_at ts s n x.handle j.1) in
     i.2.edit.dirt ∙ (ap (λ d. add_envelope (add_envelope d (feature_at m.features x.handle)) x.before) (taken_dirt ts s m n i.1 j.1)
     ∙ (ap (λ o. add_envelope (add_envelope n.dirt o) x.before) look ∙ sym j.2.edit.dirt))
 
-discard_same : (editor : List ℕ) (s t u : State) → IsOrdered t.project → IsOrdered u.project → IsDiscarded editor s t → IsDiscarded editor s u → t ≡ u
+discard_same : (editor : List ℕ) (s t u : State) → IsOrdered t.project → IsOrdered u.project → IsDiscarded editor s t
+    → IsDiscarded editor s u → t ≡ u
 discard_same editor s t u v w i j =
     let ts = i.session.done in
     let session : i.session ≡ j.session = some_same (session_of s.sessions editor) i.session j.session i.there j.there in
@@ -240,7 +375,8 @@ discard_same editor s t u v w i j =
     same_state t u (by_parts t.project u.project (record {
       classes = m.classes ∙ sym n.classes;
       rules = m.rules ∙ sym n.rules;
-      features = same_features t.project.features u.project.features v.features w.features (λ k. taken_at ts s.project t.project k i.taken_back ∙ sym (taken_at ts s.project u.project k back));
+      features = same_features t.project.features u.project.features v.features w.features
+          (λ k. taken_at ts s.project t.project k i.taken_back ∙ sym (taken_at ts s.project u.project k back));
       next = m.next ∙ sym n.next;
       dirt = taken_dirt ts s.project t.project u.project i.taken_back back;
       entries = m.entries ∙ sym n.entries;
@@ -249,7 +385,8 @@ discard_same editor s t u v w i j =
 judged_same : (a b c x y z : ℕ) → a ≡ x → b ≡ y → c ≡ z → Judged a b c ≡ Judged x y z
 judged_same a b c x y z i j k = rw (i, j, k) refl
 
-pub one_done : CutsRight poster → (s t u : State) (c : Command) (reply said : Reply) → IsOrdered t.project → IsOrdered u.project → IsDone s c reply t → IsDone s c said u → Same reply t said u
+pub one_done : CutsRight poster → (s t u : State) (c : Command) (reply said : Reply) → IsOrdered t.project → IsOrdered u.project
+    → IsDone s c reply t → IsDone s c said u → Same reply t said u
 one_done C s t u Blank reply said v w d e = (d.0 ∙ sym e.0, kept_same s t u d.1 e.1)
 one_done C s t u (Class name k) reply said v w d e = (
   d.0 ∙ sym e.0,
@@ -263,22 +400,44 @@ one_done C s t u (Class name k) reply said v w d e = (
   }),
 )
 one_done C s t u (Rule k origin dest) reply said v w (m, d, i) (n, e, j) =
-    let same : m ≡ n = least_same s.project t.project u.project m n _ i.project j.project in
-    (d ∙ (ap Number same ∙ sym e), left_same s t u i.sessions j.sessions (rule_same s.project t.project u.project n _ v w (rw same at i.project) j.project))
-one_done C s t u (DropRule r) reply said v w d e = (d.0 ∙ sym e.0, left_same s t u d.1.sessions e.1.sessions (dropped_same s.project t.project u.project r v w d.1.project e.1.project))
-one_done C s t u (Begin editor) reply said v w d e = (d.0 ∙ sym e.0, same_state t u (d.1.project ∙ sym e.1.project) (d.1.sessions ∙ sym e.1.sessions))
-one_done C s t u (End editor) reply said v w d e = (d.0 ∙ sym e.0, same_state t u (d.1.project ∙ sym e.1.project) (d.1.sessions ∙ sym e.1.sessions))
+    let same : m ≡ n = least_same s.project t.project u.project m n _ i.project j.project in (
+      d ∙ (ap Number same ∙ sym e),
+      left_same s t u i.sessions j.sessions (rule_same s.project t.project u.project n _ v w
+          (rw same at i.project) j.project),
+    )
+one_done C s t u (DropRule r) reply said v w d e = (
+  d.0 ∙ sym e.0,
+  left_same s t u d.1.sessions e.1.sessions
+      (dropped_same s.project t.project u.project r v w d.1.project e.1.project),
+)
+one_done C s t u (Begin editor) reply said v w d e = (
+  d.0 ∙ sym e.0,
+  same_state t u (d.1.project ∙ sym e.1.project) (d.1.sessions
+      ∙ sym e.1.sessions),
+)
+one_done C s t u (End editor) reply said v w d e = (
+  d.0 ∙ sym e.0,
+  same_state t u (d.1.project ∙ sym e.1.project) (d.1.sessions
+      ∙ sym e.1.sessions),
+)
 one_done C s t u (Discard editor) reply said v w d e = (d.0 ∙ sym e.0, discard_same editor s t u v w d.1 e.1)
 one_done C s t u (Add editor class shape) reply said v w (g, d, i) (h, e, j) =
     let same : g ≡ h = i.project.number ∙ sym j.project.number in
     let k = rw same at i.project.edit in (
       d ∙ (ap Number same ∙ sym e),
-      noted_same editor s t u _ _ i.noted j.noted (ap (λ (n : ℕ). added_step n (number_or_0 (class_number s.project class)) shape) same) (edit_same h _ s.project t.project u.project v w k j.project.edit (i.project.next ∙ sym j.project.next)),
+      noted_same editor s t u _ _ i.noted j.noted (ap (λ (n : ℕ). added_step n (number_or_0 (class_number s.project class)) shape) same)
+          (edit_same h _ s.project t.project u.project v w k j.project.edit (i.project.next ∙ sym j.project.next)),
     )
-one_done C s t u (Change editor h shape) reply said v w d e =
-    (d.0 ∙ sym e.0, noted_same editor s t u _ _ d.1.noted e.1.noted refl (edit_same h _ s.project t.project u.project v w d.1.project.edit e.1.project.edit (d.1.project.next ∙ sym e.1.project.next)))
-one_done C s t u (Delete editor h) reply said v w d e =
-    (d.0 ∙ sym e.0, noted_same editor s t u _ _ d.1.noted e.1.noted refl (edit_same h None s.project t.project u.project v w d.1.project.edit e.1.project.edit (d.1.project.next ∙ sym e.1.project.next)))
+one_done C s t u (Change editor h shape) reply said v w d e = (
+  d.0 ∙ sym e.0,
+  noted_same editor s t u _ _ d.1.noted e.1.noted refl (edit_same h _ s.project t.project u.project v w d.1.project.edit
+      e.1.project.edit (d.1.project.next ∙ sym e.1.project.next)),
+)
+one_done C s t u (Delete editor h) reply said v w d e = (
+  d.0 ∙ sym e.0,
+  noted_same editor s t u _ _ d.1.noted e.1.noted refl (edit_same h None s.project t.project u.project v w
+      d.1.project.edit e.1.project.edit (d.1.project.next ∙ sym e.1.project.next)),
+)
 one_done C s t u (Undo editor) reply said v w d e = (d.0 ∙ sym e.0, undo_same editor s t u v w d.1 e.1)
 one_done C s t u (Redo editor) reply said v w d e = (d.0 ∙ sym e.0, redo_same editor s t u v w d.1 e.1)
 one_done C s t u (Validate win) reply said v w (j1, e1, d1, is1, l1) (j2, e2, d2, is2, l2) =
@@ -290,15 +449,24 @@ one_done C s t u (Validate win) reply said v w (j1, e1, d1, is1, l1) (j2, e2, d2
     let errors : e1 ≡ e2 = p.errors_is ∙ (ap length parts.entries ∙ sym q.errors_is) in
     let dirty : d1 ≡ d2 = p.dirty_is ∙ (ap length parts.dirt ∙ sym q.dirty_is) in
     (is1 ∙ (judged_same j1 e1 d1 j2 e2 d2 judged errors dirty ∙ sym is2), left_same s t u l1.sessions l2.sessions parts)
-one_done C s t u (Mark r h g) reply said v w d e = absurd d
-one_done C s t u (Unmark r h g) reply said v w d e = absurd d
+one_done C s t u (Mark r a b) reply said v w d e = (
+  d.0 ∙ sym e.0,
+  left_same s t u d.1.sessions e.1.sessions (marked_same r a b true s.project t.project u.project v w d.1.project
+      e.1.project),
+)
+one_done C s t u (Unmark r a b) reply said v w d e = (
+  d.0 ∙ sym e.0,
+  left_same s t u d.1.sessions e.1.sessions (marked_same r a b false s.project t.project u.project v w d.1.project
+      e.1.project),
+)
 one_done C s t u Dirty reply said v w d e = (d.0 ∙ sym e.0, kept_same s t u d.1 e.1)
 one_done C s t u Errors reply said v w d e = (d.0 ∙ sym e.0, kept_same s t u d.1 e.1)
 one_done C s t u Cells reply said v w d e = (d.0 ∙ sym e.0, kept_same s t u d.1 e.1)
 one_done C s t u Features reply said v w d e = (d.0 ∙ sym e.0, kept_same s t u d.1 e.1)
-one_done C s t u Rules reply said v w d e = absurd d
+one_done C s t u Rules reply said v w d e = (d.0 ∙ sym e.0, kept_same s t u d.1 e.1)
 
-pub one_answer : CutsRight poster → (s t u : State) (c : Command) (reply said : Reply) → IsOrdered t.project → IsOrdered u.project → Answers s c reply t → Answers s c said u → Same reply t said u
+pub one_answer : CutsRight poster → (s t u : State) (c : Command) (reply said : Reply) → IsOrdered t.project → IsOrdered u.project
+    → Answers s c reply t → Answers s c said u → Same reply t said u
 one_answer C s t u c reply said v w d e = by (refusal_of s c) d e
   where
     by : (o : Option Refusal) → answers_by o s c reply t → answers_by o s c said u → Same reply t said u

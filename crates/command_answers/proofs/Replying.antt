@@ -42,7 +42,8 @@ said_at None p r h = absurd h
 said_at (Some c) p r h = h p
 
 -- where the call has failed, what it kept is kept
-pub kept_by : {T F U E : Type 0} (P : Type 0) (called : Result T F) (reply : Result U E) → OnErr reply ((e : F) × (called ≡ Err e)) → OnErr called P → OnErr reply P
+pub kept_by : {T F U E : Type 0} (P : Type 0) (called : Result T F) (reply : Result U E) → OnErr reply ((e : F) × (called ≡ Err e))
+    → OnErr called P → OnErr reply P
 kept_by P called (Ok r) spent kept = tt
 kept_by P (Ok x) (Err e) spent kept = let no = spent.1 in absurd cc
 kept_by P (Err f) (Err e) spent kept = kept
@@ -56,11 +57,13 @@ pub room_state : (p q : Project) (name : List ℕ) (ss ts : List KeptSession) �
 room_state p q name ss ts e (inl s) = same_state p q ts e ∙ ap (state_of p) s
 room_state p q name ss ts e (inr r) = same_state p q ts e ∙ room_done p name ss ts r
 
-pub same_after : {T F : Type 0} (p q : Project) (ss : List KeptSession) (called : Result T F) → OnErr called (q ≡ p) → OnErr called (state_of q ss ≡ state_of p ss)
+pub same_after : {T F : Type 0} (p q : Project) (ss : List KeptSession) (called : Result T F) → OnErr called (q ≡ p)
+    → OnErr called (state_of q ss ≡ state_of p ss)
 same_after p q ss (Ok x) kept = tt
 same_after p q ss (Err e) kept = same_state p q ss kept
 
-pub room_after : {T F : Type 0} (p q : Project) (name : List ℕ) (ss ts : List KeptSession) (called : Result T F) → OnErr called (q ≡ p) → OnErr called (IsRoomAlone name ss ts) → OnErr called (state_of q ts ≡ state_of p ss)
+pub room_after : {T F : Type 0} (p q : Project) (name : List ℕ) (ss ts : List KeptSession) (called : Result T F) → OnErr called (q ≡ p)
+    → OnErr called (IsRoomAlone name ss ts) → OnErr called (state_of q ts ≡ state_of p ss)
 room_after p q name ss ts (Ok x) kept room = tt
 room_after p q name ss ts (Err e) kept room = room_state p q name ss ts kept room
 
@@ -69,81 +72,116 @@ room_kept p q name ss ts e (inl s) w = subst (λ (r : Project). IsWorld r ts) (s
 room_kept p q name ss ts e (inr r) w = subst (λ (r : Project). IsWorld r ts) (sym e) (room_world p name ss ts r w)
 
 -- ---- a feature is added
-pub add_replied : {E : Type 0} (p q : Project) (ss ts : List KeptSession) (editor class : List ℕ) (shape : Shape) (n : ℕ) (added : Result ℕ ChangeFault) (reply : Result Reply E)
+pub add_replied : {E : Type 0} (p q : Project) (ss ts : List KeptSession) (editor class : List ℕ) (shape : Shape) (n : ℕ)
+    (added : Result ℕ ChangeFault) (reply : Result Reply E)
     → IsWorld p ss → is_open (state_of p ss) editor ≡ true → class_number p class ≡ Some n
-    → IfOk added (λ h. IsFeatureAdded n shape h p q) → IfOk added (λ h. calls.IsNoted editor (record { handle = h; kept = None }) ss ts) → OnOk added (add_cause p.classes p.next n shape.kind ≡ None)
-    → IfErr added (λ e. Tells (edit_cause e) (add_cause p.classes p.next n shape.kind)) → OnErr added (q ≡ p) → OnErr added (IsRoomAlone editor ss ts)
-    → IfOk reply (Says edit_cause added (λ h r. (p : Project) → said_of p r ≡ Number h)) → IfOk reply (λ r. Answers (state_of p ss) (Add editor class shape) (said_of q r) (state_of q ts))
+    → IfOk added (λ h. IsFeatureAdded n shape h p q) → IfOk added (λ h. calls.IsNoted editor (record { handle = h; kept = None }) ss ts)
+    → OnOk added (add_cause p.classes p.next n shape.kind ≡ None)
+    → IfErr added (λ e. Tells (edit_cause e) (add_cause p.classes p.next n shape.kind)) → OnErr added (q ≡ p)
+    → OnErr added (IsRoomAlone editor ss ts)
+    → IfOk reply (Says edit_cause added (λ h r. (p : Project) → said_of p r ≡ Number h))
+    → IfOk reply (λ r. Answers (state_of p ss) (Add editor class shape) (said_of q r) (state_of q ts))
 add_replied p q ss ts editor class shape n added (Err e) w opened named ok noted may err kept room said = tt
 add_replied p q ss ts editor class shape n (Ok h) (Ok r) w opened named ok noted may err kept room said =
-    rw (said q) (feature_added (state_of p ss) (state_of q ts) editor class shape n h opened named may (add_done p q editor ss ts n shape h w ok noted))
+    rw (said q) (feature_added (state_of p ss) (state_of q ts) editor class shape n h opened named may
+    (add_done p q editor ss ts n shape h w ok noted))
 add_replied p q ss ts editor class shape n (Err e) (Ok r) w opened named ok noted may err kept room said =
-    add_refused (state_of p ss) (state_of q ts) editor class shape n (edit_cause e) (said_of q r) opened named err (said_at (edit_cause e) q r said) (room_state p q editor ss ts kept room)
+    add_refused (state_of p ss) (state_of q ts) editor class shape n (edit_cause e) (said_of q r) opened named err
+    (said_at (edit_cause e) q r said) (room_state p q editor ss ts kept room)
 
-pub add_kept : (p q : Project) (ss ts : List KeptSession) (editor : List ℕ) (shape : Shape) (n : ℕ) (added : Result ℕ ChangeFault) → IsStore p.classes p.features p.next → IsWorld p ss
-    → IfOk added (λ h. IsFeatureAdded n shape h p q) → IfOk added (λ h. calls.IsNoted editor (record { handle = h; kept = None }) ss ts) → OnErr added (q ≡ p) → OnErr added (IsRoomAlone editor ss ts)
+pub add_kept : (p q : Project) (ss ts : List KeptSession) (editor : List ℕ) (shape : Shape) (n : ℕ) (added : Result ℕ ChangeFault)
+    → IsStore p.classes p.features p.next → IsWorld p ss
+    → IfOk added (λ h. IsFeatureAdded n shape h p q) → IfOk added (λ h. calls.IsNoted editor (record { handle = h; kept = None }) ss ts)
+    → OnErr added (q ≡ p) → OnErr added (IsRoomAlone editor ss ts)
     → (IsSound p → IsSound q) → (IsSettled p → IsSettled q) → IsWorld q ts
-add_kept p q ss ts editor shape n (Ok h) store w ok noted kept room sound settled = add_world p q editor ss ts n shape h store w ok noted (sound w.sound) (settled w.settled)
+add_kept p q ss ts editor shape n (Ok h) store w ok noted kept room sound settled =
+    add_world p q editor ss ts n shape h store w ok noted (sound w.sound) (settled w.settled)
 add_kept p q ss ts editor shape n (Err e) store w ok noted kept room sound settled = room_kept p q editor ss ts kept room w
 
 -- ---- a feature is changed, or deleted
-pub change_replied : {E T : Type 0} (p q : Project) (ss ts : List KeptSession) (editor : List ℕ) (h : ℕ) (shape : Shape) (changed : Result T ChangeFault) (reply : Result Reply E)
+pub change_replied : {E T : Type 0} (p q : Project) (ss ts : List KeptSession) (editor : List ℕ) (h : ℕ) (shape : Shape)
+    (changed : Result T ChangeFault) (reply : Result Reply E)
     → IsWorld p ss → IsOrdered p → refusal_of (state_of p ss) (Delete editor h) ≡ None
-    → OnOk changed (IsFeatureSet h (reshaped (feature_at p.features h) shape) p q) → OnOk changed (calls.IsNoted editor (record { handle = h; kept = feature_at p.features h }) ss ts)
+    → OnOk changed (IsFeatureSet h (reshaped (feature_at p.features h) shape) p q)
+    → OnOk changed (calls.IsNoted editor (record { handle = h; kept = feature_at p.features h }) ss ts)
     → OnOk changed (change_cause p.features h shape.kind ≡ None)
-    → IfErr changed (λ e. Tells (edit_cause e) (change_cause p.features h shape.kind)) → OnErr changed (q ≡ p) → OnErr changed (IsRoomAlone editor ss ts)
-    → IfOk reply (Says edit_cause changed (λ f r. (p : Project) → said_of p r ≡ Done)) → IfOk reply (λ r. Answers (state_of p ss) (AChange editor h shape) (said_of q r) (state_of q ts))
+    → IfErr changed (λ e. Tells (edit_cause e) (change_cause p.features h shape.kind)) → OnErr changed (q ≡ p)
+    → OnErr changed (IsRoomAlone editor ss ts)
+    → IfOk reply (Says edit_cause changed (λ f r. (p : Project) → said_of p r ≡ Done))
+    → IfOk reply (λ r. Answers (state_of p ss) (AChange editor h shape) (said_of q r) (state_of q ts))
 change_replied p q ss ts editor h shape changed (Err e) w ord free ok noted may err kept room said = tt
 change_replied p q ss ts editor h shape (Ok f) (Ok r) w ord free ok noted may err kept room said =
-    rw (said q) (feature_changed (state_of p ss) (state_of q ts) editor h shape free may (set_done p q editor ss ts h (reshaped (feature_at p.features h) shape) w ord free ok noted))
+    rw (said q) (feature_changed (state_of p ss) (state_of q ts) editor h shape free may
+    (set_done p q editor ss ts h (reshaped (feature_at p.features h) shape) w ord free ok noted))
 change_replied p q ss ts editor h shape (Err e) (Ok r) w ord free ok noted may err kept room said =
-    change_refused (state_of p ss) (state_of q ts) editor h shape (edit_cause e) (said_of q r) free err (said_at (edit_cause e) q r said) (room_state p q editor ss ts kept room)
+    change_refused (state_of p ss) (state_of q ts) editor h shape (edit_cause e) (said_of q r) free err (said_at (edit_cause e) q r said)
+    (room_state p q editor ss ts kept room)
 
-pub delete_replied : {E T : Type 0} (p q : Project) (ss ts : List KeptSession) (editor : List ℕ) (h : ℕ) (deleted : Result T ChangeFault) (reply : Result Reply E)
+pub delete_replied : {E T : Type 0} (p q : Project) (ss ts : List KeptSession) (editor : List ℕ) (h : ℕ) (deleted : Result T ChangeFault)
+    (reply : Result Reply E)
     → IsWorld p ss → IsOrdered p → refusal_of (state_of p ss) (Delete editor h) ≡ None
-    → OnOk deleted (IsFeatureSet h None p q) → OnOk deleted (calls.IsNoted editor (record { handle = h; kept = feature_at p.features h }) ss ts)
-    → IfErr deleted (λ e. Tells (edit_cause e) (delete_cause p.features h)) → OnErr deleted (q ≡ p) → OnErr deleted (IsRoomAlone editor ss ts)
-    → IfOk reply (Says edit_cause deleted (λ f r. (p : Project) → said_of p r ≡ Done)) → IfOk reply (λ r. Answers (state_of p ss) (Delete editor h) (said_of q r) (state_of q ts))
+    → OnOk deleted (IsFeatureSet h None p q)
+    → OnOk deleted (calls.IsNoted editor (record { handle = h; kept = feature_at p.features h }) ss ts)
+    → IfErr deleted (λ e. Tells (edit_cause e) (delete_cause p.features h)) → OnErr deleted (q ≡ p)
+    → OnErr deleted (IsRoomAlone editor ss ts)
+    → IfOk reply (Says edit_cause deleted (λ f r. (p : Project) → said_of p r ≡ Done))
+    → IfOk reply (λ r. Answers (state_of p ss) (Delete editor h) (said_of q r) (state_of q ts))
 delete_replied p q ss ts editor h deleted (Err e) w ord free ok noted err kept room said = tt
 delete_replied p q ss ts editor h (Ok f) (Ok r) w ord free ok noted err kept room said =
     rw (said q) (feature_deleted (state_of p ss) (state_of q ts) editor h free (set_done p q editor ss ts h None w ord free ok noted))
 delete_replied p q ss ts editor h (Err e) (Ok r) w ord free ok noted err kept room said =
-    delete_refused (state_of p ss) (state_of q ts) editor h (edit_cause e) (said_of q r) free err (said_at (edit_cause e) q r said) (room_state p q editor ss ts kept room)
+    delete_refused (state_of p ss) (state_of q ts) editor h (edit_cause e) (said_of q r) free err (said_at (edit_cause e) q r said)
+    (room_state p q editor ss ts kept room)
 
-pub set_kept : {T : Type 0} (p q : Project) (ss ts : List KeptSession) (editor : List ℕ) (h : ℕ) (after : Option Feature) (changed : Result T ChangeFault) → IsStore p.classes p.features p.next → IsWorld p ss → IsOrdered p
-    → refusal_of (state_of p ss) (Delete editor h) ≡ None → OnOk changed (IsFeatureSet h after p q) → OnOk changed (calls.IsNoted editor (record { handle = h; kept = feature_at p.features h }) ss ts)
+pub set_kept : {T : Type 0} (p q : Project) (ss ts : List KeptSession) (editor : List ℕ) (h : ℕ) (after : Option Feature)
+    (changed : Result T ChangeFault) → IsStore p.classes p.features p.next → IsWorld p ss → IsOrdered p
+    → refusal_of (state_of p ss) (Delete editor h) ≡ None → OnOk changed (IsFeatureSet h after p q)
+    → OnOk changed (calls.IsNoted editor (record { handle = h; kept = feature_at p.features h }) ss ts)
     → OnOk changed ((f : Feature) × (feature_at p.features h ≡ Some f)) → OnErr changed (q ≡ p) → OnErr changed (IsRoomAlone editor ss ts)
     → (IsSound p → IsSound q) → (IsSettled p → IsSettled q) → IsWorld q ts
-set_kept p q ss ts editor h after (Ok u) store w ord free ok noted live kept room sound settled = set_world p q editor ss ts h live.0 after store w ord free live.1 ok noted (sound w.sound) (settled w.settled)
+set_kept p q ss ts editor h after (Ok u) store w ord free ok noted live kept room sound settled =
+    set_world p q editor ss ts h live.0 after store w ord free live.1 ok noted (sound w.sound) (settled w.settled)
 set_kept p q ss ts editor h after (Err e) store w ord free ok noted live kept room sound settled = room_kept p q editor ss ts kept room w
 
 -- ---- a class, or a rule
-pub class_replied : {E : Type 0} (p q : Project) (ss : List KeptSession) (name : List ℕ) (k : Kind) (added : Result ℕ StoreFault) (reply : Result Reply E)
+pub class_replied : {E : Type 0} (p q : Project) (ss : List KeptSession) (name : List ℕ) (k : Kind) (added : Result ℕ StoreFault)
+    (reply : Result Reply E)
     → OnOk added (IsClassAdded name k p q) → IfOk added (λ n. n ≡ length p.classes + 1) → OnOk added (class_cause p.classes name ≡ None)
     → IfErr added (λ e. Tells (store_cause e) (class_cause p.classes name)) → OnErr added (q ≡ p)
-    → IfOk reply (Says store_cause added (λ n r. (p : Project) → said_of p r ≡ Number n)) → IfOk reply (λ r. Answers (state_of p ss) (Class name k) (said_of q r) (state_of q ss))
+    → IfOk reply (Says store_cause added (λ n r. (p : Project) → said_of p r ≡ Number n))
+    → IfOk reply (λ r. Answers (state_of p ss) (Class name k) (said_of q r) (state_of q ss))
 class_replied p q ss name k added (Err e) ok number may err kept said = tt
-class_replied p q ss name k (Ok n) (Ok r) ok number may err kept said = rw (said q) (class_added (state_of p ss) (state_of q ss) name k n may number ok (seen_same p q ss ok.features))
+class_replied p q ss name k (Ok n) (Ok r) ok number may err kept said = rw (said q)
+    (class_added (state_of p ss) (state_of q ss) name k n may number ok (seen_same p q ss ok.features))
 class_replied p q ss name k (Err e) (Ok r) ok number may err kept said =
-    class_refused (state_of p ss) (state_of q ss) name k (store_cause e) (said_of q r) err (said_at (store_cause e) q r said) (same_state p q ss kept)
+    class_refused (state_of p ss) (state_of q ss) name k (store_cause e) (said_of q r) err (said_at (store_cause e) q r said)
+    (same_state p q ss kept)
 
-pub class_kept : (p q : Project) (ss : List KeptSession) (name : List ℕ) (k : Kind) (added : Result ℕ StoreFault) → IsWorld p ss → OnOk added (IsClassAdded name k p q) → OnErr added (q ≡ p)
+pub class_kept : (p q : Project) (ss : List KeptSession) (name : List ℕ) (k : Kind) (added : Result ℕ StoreFault) → IsWorld p ss
+    → OnOk added (IsClassAdded name k p q) → OnErr added (q ≡ p)
     → (IsSound p → IsSound q) → (IsSettled p → IsSettled q) → IsWorld q ss
-class_kept p q ss name k (Ok n) w ok kept sound settled = class_world p q ss (record { name = name; kind = k }) ok.classes ok.features ok.next (sound w.sound) (settled w.settled) w
+class_kept p q ss name k (Ok n) w ok kept sound settled = class_world p q ss (record { name = name; kind = k }) ok.classes ok.features
+    ok.next (sound w.sound) (settled w.settled) w
 class_kept p q ss name k (Err e) w ok kept sound settled = subst (λ (r : Project). IsWorld r ss) (sym kept) w
 
-pub rule_replied : {E : Type 0} (p q : Project) (ss : List KeptSession) (k : RuleKind) (origin : List ℕ) (dest : Option (List ℕ)) (row : Row) (added : Result ℕ RuleFault) (reply : Result Reply E)
+pub rule_replied : {E : Type 0} (p q : Project) (ss : List KeptSession) (k : RuleKind) (origin : List ℕ) (dest : Option (List ℕ))
+    (row : Row) (added : Result ℕ RuleFault) (reply : Result Reply E)
     → is_nowhere p dest ≡ false → row ≡ row_of p k origin dest
     → IfOk added (λ n. IsRuleAdded n row p q) → OnOk added (rule_cause p row ≡ None)
     → IfErr added (λ e. Tells (row_cause e) (rule_cause p row)) → OnErr added (q ≡ p)
-    → IfOk reply (Says row_cause added (λ n r. (p : Project) → said_of p r ≡ Number n)) → IfOk reply (λ r. Answers (state_of p ss) (Rule k origin dest) (said_of q r) (state_of q ss))
+    → IfOk reply (Says row_cause added (λ n r. (p : Project) → said_of p r ≡ Number n))
+    → IfOk reply (λ r. Answers (state_of p ss) (Rule k origin dest) (said_of q r) (state_of q ss))
 rule_replied p q ss k origin dest row added (Err e) there is ok may err kept said = tt
 rule_replied p q ss k origin dest row (Ok n) (Ok r) there is ok may err kept said =
-    rw (said q) (rule_added (state_of p ss) (state_of q ss) k origin dest n there (rw is at may) (rw is at ok) (seen_same p q ss ok.features))
+    rw (said q) (rule_added (state_of p ss) (state_of q ss) k origin dest n there (rw is at may) (rw is at ok)
+    (seen_same p q ss ok.features))
 rule_replied p q ss k origin dest row (Err e) (Ok r) there is ok may err kept said =
-    rule_refused (state_of p ss) (state_of q ss) k origin dest (row_cause e) (said_of q r) there (rw is at err) (said_at (row_cause e) q r said) (same_state p q ss kept)
+    rule_refused (state_of p ss) (state_of q ss) k origin dest (row_cause e) (said_of q r) there (rw is at err)
+    (said_at (row_cause e) q r said) (same_state p q ss kept)
 
-pub rule_kept : (p q : Project) (ss : List KeptSession) (row : Row) (added : Result ℕ RuleFault) → IsWorld p ss → IfOk added (λ n. IsRuleAdded n row p q) → OnErr added (q ≡ p)
+pub rule_kept : (p q : Project) (ss : List KeptSession) (row : Row) (added : Result ℕ RuleFault) → IsWorld p ss
+    → IfOk added (λ n. IsRuleAdded n row p q) → OnErr added (q ≡ p)
     → (IsSound p → IsSound q) → (IsSettled p → IsSettled q) → IsWorld q ss
-rule_kept p q ss row (Ok n) w ok kept sound settled = stays_world p q ss ok.features ok.next ok.classes (sound w.sound) (settled w.settled) w
+rule_kept p q ss row (Ok n) w ok kept sound settled = stays_world p q ss ok.features ok.next ok.classes (sound w.sound) (settled w.settled)
+    w
 rule_kept p q ss row (Err e) w ok kept sound settled = subst (λ (r : Project). IsWorld r ss) (sym kept) w

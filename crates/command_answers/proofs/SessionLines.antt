@@ -31,29 +31,34 @@ use Rattle.command_answers.proofs.KeptLists.{open_seen, length_seen, holder_seen
 use Rattle.command_answers.proofs.Sessions.{begin_done, begin_world, end_done, end_world, undo_done, undo_world, redo_done, redo_world, discard_done, discard_world, part_world}
 
 -- ---- why a line is refused
-opened : (p : Project) (ss : List KeptSession) (name : List ℕ) (s : KeptSession) → kept_named ss name ≡ Some s → is_open (state_of p ss) name ≡ true
+opened : (p : Project) (ss : List KeptSession) (name : List ℕ) (s : KeptSession) → kept_named ss name ≡ Some s
+    → is_open (state_of p ss) name ≡ true
 opened p ss name s e = open_seen (feature_at p.features) ss name ∙ ap is_some e
 
 closed : (p : Project) (ss : List KeptSession) (name : List ℕ) → kept_named ss name ≡ None → is_open (state_of p ss) name ≡ false
 closed p ss name e = open_seen (feature_at p.features) ss name ∙ ap is_some e
 
-begin_refusal : (p : Project) (ss : List KeptSession) (name : List ℕ) (e : SessionFault) (x : Refusal) → IsBeginFault ss name e → session_refusal e ≡ Some x → refusal_of (state_of p ss) (Begin name) ≡ Some x
+begin_refusal : (p : Project) (ss : List KeptSession) (name : List ℕ) (e : SessionFault) (x : Refusal) → IsBeginFault ss name e
+    → session_refusal e ≡ Some x → refusal_of (state_of p ss) (Begin name) ≡ Some x
 begin_refusal p ss name fault.OpenAlready x b r = rw (opened p ss name b.session b.there) r
 begin_refusal p ss name fault.SessionsFull x b r =
-    let full : eqb (length (seen (feature_at p.features) ss)) 16 ≡ true = ap (λ n. eqb n 16) (length_seen (feature_at p.features) ss ∙ b.full) in
+    let full : eqb (length (seen (feature_at p.features) ss)) 16 ≡ true = ap (λ n. eqb n 16) (length_seen (feature_at p.features) ss
+    ∙ b.full) in
     rw (closed p ss name b.free, full) r
 begin_refusal p ss name fault.NoSession x b r = absurd b
 begin_refusal p ss name fault.NothingToUndo x b r = absurd b
 begin_refusal p ss name fault.NothingToRedo x b r = absurd b
 begin_refusal p ss name fault.NoMemory x b r = cc
 
-begin_free : (p : Project) (ss : List KeptSession) (name : List ℕ) → kept_named ss name ≡ None → length ss < 16 → refusal_of (state_of p ss) (Begin name) ≡ None
+begin_free : (p : Project) (ss : List KeptSession) (name : List ℕ) → kept_named ss name ≡ None → length ss < 16
+    → refusal_of (state_of p ss) (Begin name) ≡ None
 begin_free p ss name e few =
     let l : length (seen (feature_at p.features) ss) ≡ length ss = length_seen (feature_at p.features) ss in
     let left : eqb (length (seen (feature_at p.features) ss)) 16 ≡ false = grind (arith, nat_tests, few, l) in
     rw (closed p ss name e, left) refl
 
-end_refusal : (p : Project) (ss : List KeptSession) (name : List ℕ) (e : SessionFault) (x : Refusal) → IsEndFault ss name e → session_refusal e ≡ Some x → refusal_of (state_of p ss) (End name) ≡ Some x
+end_refusal : (p : Project) (ss : List KeptSession) (name : List ℕ) (e : SessionFault) (x : Refusal) → IsEndFault ss name e
+    → session_refusal e ≡ Some x → refusal_of (state_of p ss) (End name) ≡ Some x
 end_refusal p ss name fault.NoSession x b r = rw (closed p ss name b) r
 end_refusal p ss name fault.OpenAlready x b r = absurd b
 end_refusal p ss name fault.SessionsFull x b r = absurd b
@@ -69,7 +74,8 @@ end_free p ss name there = by (kept_named ss name) refl
     by (Some s) e = rw (opened p ss name s e) refl
 
 -- the steps of the editor's session
-steps_seen : (p : Project) (ss : List KeptSession) (name : List ℕ) (s : KeptSession) (steps : Session → List EditStep) → kept_named ss name ≡ Some s
+steps_seen : (p : Project) (ss : List KeptSession) (name : List ℕ) (s : KeptSession) (steps : Session → List EditStep)
+    → kept_named ss name ≡ Some s
     → steps_of steps (session_of (seen (feature_at p.features) ss) name) ≡ steps (seen_session (feature_at p.features) s)
 steps_seen p ss name s steps e = ap (steps_of steps) (there_seen (feature_at p.features) ss name s e)
 
@@ -79,7 +85,8 @@ no_steps s at e = rw e refl
 none_undone : (s : KeptSession) (at : ℕ → Option Feature) → s.undone ≡ [] → (seen_session at s).undone ≡ []
 none_undone s at e = rw e refl
 
-undo_refusal : (p : Project) (ss : List KeptSession) (name : List ℕ) (e : SessionFault) (x : Refusal) → IsUndoFault ss name e → session_refusal e ≡ Some x → refusal_of (state_of p ss) (Undo name) ≡ Some x
+undo_refusal : (p : Project) (ss : List KeptSession) (name : List ℕ) (e : SessionFault) (x : Refusal) → IsUndoFault ss name e
+    → session_refusal e ≡ Some x → refusal_of (state_of p ss) (Undo name) ≡ Some x
 undo_refusal p ss name fault.NoSession x b r = rw (closed p ss name b) r
 undo_refusal p ss name fault.NothingToUndo x b r =
     let none = steps_seen p ss name b.session (λ (y : Session). y.done) b.there ∙ no_steps b.session (feature_at p.features) b.none in
@@ -89,7 +96,8 @@ undo_refusal p ss name fault.SessionsFull x b r = absurd b
 undo_refusal p ss name fault.NothingToRedo x b r = absurd b
 undo_refusal p ss name fault.NoMemory x b r = cc
 
-redo_refusal : (p : Project) (ss : List KeptSession) (name : List ℕ) (e : SessionFault) (x : Refusal) → IsRedoFault ss name e → session_refusal e ≡ Some x → refusal_of (state_of p ss) (Redo name) ≡ Some x
+redo_refusal : (p : Project) (ss : List KeptSession) (name : List ℕ) (e : SessionFault) (x : Refusal) → IsRedoFault ss name e
+    → session_refusal e ≡ Some x → refusal_of (state_of p ss) (Redo name) ≡ Some x
 redo_refusal p ss name fault.NoSession x b r = rw (closed p ss name b) r
 redo_refusal p ss name fault.NothingToRedo x b r =
     let none = steps_seen p ss name b.session (λ (y : Session). y.undone) b.there ∙ none_undone b.session (feature_at p.features) b.none in
@@ -100,23 +108,28 @@ redo_refusal p ss name fault.NothingToUndo x b r = absurd b
 redo_refusal p ss name fault.NoMemory x b r = cc
 
 some_done : (xs ys : List EditStep) (t : EditStep) → xs ≡ ys ++ t ∷ [] → eqb (length xs) 0 ≡ false
-some_done xs ys t e = let l : length (ys ++ t ∷ []) ≡ length xs = ap length (sym e) in grind (arith, nat_tests, l, length-append ys (t ∷ []))
+some_done xs ys t e = let l : length (ys ++ t ∷ []) ≡ length xs = ap length (sym e)
+    in grind (arith, nat_tests, l, length-append ys (t ∷ []))
 
 some_undone : (xs ys : List EditStep) (t : EditStep) → xs ≡ t ∷ ys → eqb (length xs) 0 ≡ false
 some_undone xs ys t e = let l : length (t ∷ ys) ≡ length xs = ap length (sym e) in grind (arith, nat_tests, l)
 
-undo_free : (p q : Project) (ss ts : List KeptSession) (name : List ℕ) → IsWorld p ss → calls.IsUndone (IsGroundSwap poster) name ss ts p q → refusal_of (state_of p ss) (Undo name) ≡ None
+undo_free : (p q : Project) (ss ts : List KeptSession) (name : List ℕ) → IsWorld p ss → calls.IsUndone (IsGroundSwap poster) name ss ts p q
+    → refusal_of (state_of p ss) (Undo name) ≡ None
 undo_free p q ss ts name w d =
     let u = undo_done p q name ss ts w.keeping d in
     let some : eqb (length (steps_of (λ (y : Session). y.done) (session_of (seen (feature_at p.features) ss) name))) 0 ≡ false =
-    ap (λ (o : Option Session). eqb (length (steps_of (λ (y : Session). y.done) o)) 0) u.session.there ∙ some_done u.was.done u.is.done u.step u.undone.done in
+    ap (λ (o : Option Session). eqb (length (steps_of (λ (y : Session). y.done) o)) 0) u.session.there
+    ∙ some_done u.was.done u.is.done u.step u.undone.done in
     rw (opened p ss name d.was d.change.there, some) refl
 
-redo_free : (p q : Project) (ss ts : List KeptSession) (name : List ℕ) → IsWorld p ss → calls.IsRedone (IsGroundSwap poster) name ss ts p q → refusal_of (state_of p ss) (Redo name) ≡ None
+redo_free : (p q : Project) (ss ts : List KeptSession) (name : List ℕ) → IsWorld p ss → calls.IsRedone (IsGroundSwap poster) name ss ts p q
+    → refusal_of (state_of p ss) (Redo name) ≡ None
 redo_free p q ss ts name w d =
     let u = redo_done p q name ss ts w.keeping d in
     let some : eqb (length (steps_of (λ (y : Session). y.undone) (session_of (seen (feature_at p.features) ss) name))) 0 ≡ false =
-    ap (λ (o : Option Session). eqb (length (steps_of (λ (y : Session). y.undone) o)) 0) u.session.there ∙ some_undone u.was.undone u.is.undone u.step u.undone.undone in
+    ap (λ (o : Option Session). eqb (length (steps_of (λ (y : Session). y.undone) o)) 0) u.session.there
+    ∙ some_undone u.was.undone u.is.undone u.step u.undone.undone in
     rw (opened p ss name d.was d.change.there, some) refl
 
 -- ---- each line
@@ -124,28 +137,39 @@ abbrev pub Says : {T : Type 0} → Result T SessionFault → Reply → Type 0
 Says called r = MatchResult called (λ x. (p : Project) → said_of p r ≡ Done) (λ e. SaysRefusal (session_refusal e) r)
 
 -- refused for the fault that the call told
-told : (s t : State) (c : Command) (q : Project) (o : Option Refusal) (r : Reply) → ((x : Refusal) → o ≡ Some x → refusal_of s c ≡ Some x) → SaysRefusal o r → t ≡ s → Answers s c (said_of q r) t
+told : (s t : State) (c : Command) (q : Project) (o : Option Refusal) (r : Reply) → ((x : Refusal) → o ≡ Some x → refusal_of s c ≡ Some x)
+    → SaysRefusal o r → t ≡ s → Answers s c (said_of q r) t
 told s t c q None r why said same = absurd said
 told s t c q (Some x) r why said same = refused s t c (said_of q r) x (why x refl) (said q) same
 
-pub begin_replied : {T E : Type 0} (p : Project) (ss ts : List KeptSession) (name : List ℕ) (begun : Result T SessionFault) (reply : Result Reply E)
-    → OnOk begun (calls.IsBegun name ss ts) → IfErr begun (IsBeginFault ss name) → OnErr begun (ts ≡ ss) → IfOk reply (Says begun) → IfOk reply (λ r. Answers (state_of p ss) (Begin name) (said_of p r) (state_of p ts))
+pub begin_replied : {T E : Type 0} (p : Project) (ss ts : List KeptSession) (name : List ℕ) (begun : Result T SessionFault)
+    (reply : Result Reply E)
+    → OnOk begun (calls.IsBegun name ss ts) → IfErr begun (IsBeginFault ss name) → OnErr begun (ts ≡ ss) → IfOk reply (Says begun)
+    → IfOk reply (λ r. Answers (state_of p ss) (Begin name) (said_of p r) (state_of p ts))
 begin_replied p ss ts name begun (Err e) ok err kept said = tt
-begin_replied p ss ts name (Ok u) (Ok r) ok err kept said = rw (said p) (done (state_of p ss) (state_of p ts) (Begin name) Done (begin_free p ss name ok.free ok.few) (refl, begin_done p name ss ts ok))
-begin_replied p ss ts name (Err e) (Ok r) ok err kept said = told (state_of p ss) (state_of p ts) (Begin name) p (session_refusal e) r (λ x k. begin_refusal p ss name e x err k) said (ap (state_of p) kept)
+begin_replied p ss ts name (Ok u) (Ok r) ok err kept said = rw (said p) (done (state_of p ss) (state_of p ts) (Begin name) Done
+    (begin_free p ss name ok.free ok.few) (refl, begin_done p name ss ts ok))
+begin_replied p ss ts name (Err e) (Ok r) ok err kept said = told (state_of p ss) (state_of p ts) (Begin name) p (session_refusal e) r
+    (λ x k. begin_refusal p ss name e x err k) said (ap (state_of p) kept)
 
-pub begin_kept : {T : Type 0} (p : Project) (ss ts : List KeptSession) (name : List ℕ) (begun : Result T SessionFault) → IsWorld p ss → OnOk begun (calls.IsBegun name ss ts) → OnErr begun (ts ≡ ss) → IsWorld p ts
+pub begin_kept : {T : Type 0} (p : Project) (ss ts : List KeptSession) (name : List ℕ) (begun : Result T SessionFault) → IsWorld p ss
+    → OnOk begun (calls.IsBegun name ss ts) → OnErr begun (ts ≡ ss) → IsWorld p ts
 begin_kept p ss ts name (Ok u) w ok kept = begin_world p name ss ts ok w
 begin_kept p ss ts name (Err e) w ok kept = subst (IsWorld p) (sym kept) w
 
-pub end_replied : {T E : Type 0} (p : Project) (ss ts : List KeptSession) (name : List ℕ) (ended : Result T SessionFault) (reply : Result Reply E)
-    → OnOk ended (ts ≡ without_kept ss name) → OnOk ended (kept_named ss name ≢ None) → IfErr ended (IsEndFault ss name) → OnErr ended (ts ≡ ss) → IfOk reply (Says ended)
+pub end_replied : {T E : Type 0} (p : Project) (ss ts : List KeptSession) (name : List ℕ) (ended : Result T SessionFault)
+    (reply : Result Reply E)
+    → OnOk ended (ts ≡ without_kept ss name) → OnOk ended (kept_named ss name ≢ None) → IfErr ended (IsEndFault ss name)
+    → OnErr ended (ts ≡ ss) → IfOk reply (Says ended)
     → IfOk reply (λ r. Answers (state_of p ss) (End name) (said_of p r) (state_of p ts))
 end_replied p ss ts name ended (Err e) ok there err kept said = tt
-end_replied p ss ts name (Ok u) (Ok r) ok there err kept said = rw (said p) (done (state_of p ss) (state_of p ts) (End name) Done (end_free p ss name there) (refl, end_done p name ss ts ok))
-end_replied p ss ts name (Err e) (Ok r) ok there err kept said = told (state_of p ss) (state_of p ts) (End name) p (session_refusal e) r (λ x k. end_refusal p ss name e x err k) said (ap (state_of p) kept)
+end_replied p ss ts name (Ok u) (Ok r) ok there err kept said = rw (said p) (done (state_of p ss) (state_of p ts) (End name) Done
+    (end_free p ss name there) (refl, end_done p name ss ts ok))
+end_replied p ss ts name (Err e) (Ok r) ok there err kept said = told (state_of p ss) (state_of p ts) (End name) p (session_refusal e) r
+    (λ x k. end_refusal p ss name e x err k) said (ap (state_of p) kept)
 
-pub end_kept : {T : Type 0} (p : Project) (ss ts : List KeptSession) (name : List ℕ) (ended : Result T SessionFault) → IsWorld p ss → OnOk ended (ts ≡ without_kept ss name) → OnErr ended (ts ≡ ss) → IsWorld p ts
+pub end_kept : {T : Type 0} (p : Project) (ss ts : List KeptSession) (name : List ℕ) (ended : Result T SessionFault) → IsWorld p ss
+    → OnOk ended (ts ≡ without_kept ss name) → OnErr ended (ts ≡ ss) → IsWorld p ts
 end_kept p ss ts name (Ok u) w ok kept = end_world p name ss ts ok w
 end_kept p ss ts name (Err e) w ok kept = subst (IsWorld p) (sym kept) w
 
@@ -163,28 +187,37 @@ still_state p q ss ts e s = ap (λ (r : Project). state_of r ts) (still p q s) �
 still_world : (p q : Project) (ss ts : List KeptSession) → ts ≡ ss → Still p q → IsWorld p ss → IsWorld q ts
 still_world p q ss ts e s w = subst (λ (r : Project). IsWorld r ts) (sym (still p q s)) (subst (IsWorld p) (sym e) w)
 
-pub still_after : {T : Type 0} (p q : Project) (ss ts : List KeptSession) (called : Result T SessionFault) → OnErr called (ts ≡ ss) → OnErr called (Still p q) → OnErr called (state_of q ts ≡ state_of p ss)
+pub still_after : {T : Type 0} (p q : Project) (ss ts : List KeptSession) (called : Result T SessionFault) → OnErr called (ts ≡ ss)
+    → OnErr called (Still p q) → OnErr called (state_of q ts ≡ state_of p ss)
 still_after p q ss ts (Ok u) kept same = tt
 still_after p q ss ts (Err e) kept same = still_state p q ss ts kept same
 
-pub undo_replied : {T E : Type 0} (p q : Project) (ss ts : List KeptSession) (name : List ℕ) (called : Result T SessionFault) (reply : Result Reply E) → IsWorld p ss
-    → OnOk called (calls.IsUndone (IsGroundSwap poster) name ss ts p q) → IfErr called (IsUndoFault ss name) → OnErr called (ts ≡ ss) → OnErr called (Still p q) → IfOk reply (Says called)
+pub undo_replied : {T E : Type 0} (p q : Project) (ss ts : List KeptSession) (name : List ℕ) (called : Result T SessionFault)
+    (reply : Result Reply E) → IsWorld p ss
+    → OnOk called (calls.IsUndone (IsGroundSwap poster) name ss ts p q) → IfErr called (IsUndoFault ss name) → OnErr called (ts ≡ ss)
+    → OnErr called (Still p q) → IfOk reply (Says called)
     → IfOk reply (λ r. Answers (state_of p ss) (Undo name) (said_of q r) (state_of q ts))
 undo_replied p q ss ts name called (Err e) w ok err kept same said = tt
-undo_replied p q ss ts name (Ok u) (Ok r) w ok err kept same said = rw (said q) (done (state_of p ss) (state_of q ts) (Undo name) Done (undo_free p q ss ts name w ok) (refl, undo_done p q name ss ts w.keeping ok))
-undo_replied p q ss ts name (Err e) (Ok r) w ok err kept same said = told (state_of p ss) (state_of q ts) (Undo name) q (session_refusal e) r (λ x k. undo_refusal p ss name e x err k) said (still_state p q ss ts kept same)
+undo_replied p q ss ts name (Ok u) (Ok r) w ok err kept same said = rw (said q) (done (state_of p ss) (state_of q ts) (Undo name) Done
+    (undo_free p q ss ts name w ok) (refl, undo_done p q name ss ts w.keeping ok))
+undo_replied p q ss ts name (Err e) (Ok r) w ok err kept same said = told (state_of p ss) (state_of q ts) (Undo name) q (session_refusal e)
+    r (λ x k. undo_refusal p ss name e x err k) said (still_state p q ss ts kept same)
 
 pub undo_kept : {T : Type 0} (p q : Project) (ss ts : List KeptSession) (name : List ℕ) (called : Result T SessionFault) → IsWorld p ss
     → OnOk called (calls.IsUndone (IsGroundSwap poster) name ss ts p q) → OnErr called (ts ≡ ss) → OnErr called (Still p q) → IsWorld q ts
 undo_kept p q ss ts name (Ok u) w ok kept same = undo_world p q name ss ts ok w
 undo_kept p q ss ts name (Err e) w ok kept same = still_world p q ss ts kept same w
 
-pub redo_replied : {T E : Type 0} (p q : Project) (ss ts : List KeptSession) (name : List ℕ) (called : Result T SessionFault) (reply : Result Reply E) → IsWorld p ss
-    → OnOk called (calls.IsRedone (IsGroundSwap poster) name ss ts p q) → IfErr called (IsRedoFault ss name) → OnErr called (ts ≡ ss) → OnErr called (Still p q) → IfOk reply (Says called)
+pub redo_replied : {T E : Type 0} (p q : Project) (ss ts : List KeptSession) (name : List ℕ) (called : Result T SessionFault)
+    (reply : Result Reply E) → IsWorld p ss
+    → OnOk called (calls.IsRedone (IsGroundSwap poster) name ss ts p q) → IfErr called (IsRedoFault ss name) → OnErr called (ts ≡ ss)
+    → OnErr called (Still p q) → IfOk reply (Says called)
     → IfOk reply (λ r. Answers (state_of p ss) (Redo name) (said_of q r) (state_of q ts))
 redo_replied p q ss ts name called (Err e) w ok err kept same said = tt
-redo_replied p q ss ts name (Ok u) (Ok r) w ok err kept same said = rw (said q) (done (state_of p ss) (state_of q ts) (Redo name) Done (redo_free p q ss ts name w ok) (refl, redo_done p q name ss ts w.keeping ok))
-redo_replied p q ss ts name (Err e) (Ok r) w ok err kept same said = told (state_of p ss) (state_of q ts) (Redo name) q (session_refusal e) r (λ x k. redo_refusal p ss name e x err k) said (still_state p q ss ts kept same)
+redo_replied p q ss ts name (Ok u) (Ok r) w ok err kept same said = rw (said q) (done (state_of p ss) (state_of q ts) (Redo name) Done
+    (redo_free p q ss ts name w ok) (refl, redo_done p q name ss ts w.keeping ok))
+redo_replied p q ss ts name (Err e) (Ok r) w ok err kept same said = told (state_of p ss) (state_of q ts) (Redo name) q (session_refusal e)
+    r (λ x k. redo_refusal p ss name e x err k) said (still_state p q ss ts kept same)
 
 pub redo_kept : {T : Type 0} (p q : Project) (ss ts : List KeptSession) (name : List ℕ) (called : Result T SessionFault) → IsWorld p ss
     → OnOk called (calls.IsRedone (IsGroundSwap poster) name ss ts p q) → OnErr called (ts ≡ ss) → OnErr called (Still p q) → IsWorld q ts
@@ -195,38 +228,46 @@ redo_kept p q ss ts name (Err e) w ok kept same = still_world p q ss ts kept sam
 abbrev pub DiscardFault : List ℕ → List KeptSession → List KeptSession → Project → Project → SessionFault → Type 0
 DiscardFault name ss ts p q e = calls.IsDiscardFault (IsGroundSwap poster) (λ (g h : Project). h ≡ g) name ss ts p q e
 
-discard_free : (p q : Project) (ss ts : List KeptSession) (name : List ℕ) → calls.IsDiscarded (IsGroundSwap poster) name ss ts p q → refusal_of (state_of p ss) (Discard name) ≡ None
+discard_free : (p q : Project) (ss ts : List KeptSession) (name : List ℕ) → calls.IsDiscarded (IsGroundSwap poster) name ss ts p q
+    → refusal_of (state_of p ss) (Discard name) ≡ None
 discard_free p q ss ts name d = rw (opened p ss name d.was d.there) refl
 
-discard_told : (p q : Project) (ss ts : List KeptSession) (name : List ℕ) (e : SessionFault) (r : Reply) → DiscardFault name ss ts p q e → SaysRefusal (session_refusal e) r
+discard_told : (p q : Project) (ss ts : List KeptSession) (name : List ℕ) (e : SessionFault) (r : Reply) → DiscardFault name ss ts p q e
+    → SaysRefusal (session_refusal e) r
     → Answers (state_of p ss) (Discard name) (said_of q r) (state_of q ts)
 discard_told p q ss ts name fault.NoSession r d said =
-    refused (state_of p ss) (state_of q ts) (Discard name) (said_of q r) NoSession (rw (closed p ss name d.absent) refl) (said q) (ap (λ (x : Project). state_of x ts) d.features ∙ ap (state_of p) d.sessions)
+    refused (state_of p ss) (state_of q ts) (Discard name) (said_of q r) NoSession (rw (closed p ss name d.absent) refl) (said q)
+    (ap (λ (x : Project). state_of x ts) d.features ∙ ap (state_of p) d.sessions)
 discard_told p q ss ts name fault.NoMemory r d said = absurd said
 discard_told p q ss ts name fault.OpenAlready r d said = absurd d
 discard_told p q ss ts name fault.SessionsFull r d said = absurd d
 discard_told p q ss ts name fault.NothingToUndo r d said = absurd d
 discard_told p q ss ts name fault.NothingToRedo r d said = absurd d
 
-pub discard_replied : {T E : Type 0} (p q : Project) (ss ts : List KeptSession) (name : List ℕ) (called : Result T SessionFault) (reply : Result Reply E) → IsWorld p ss
-    → OnOk called (calls.IsDiscarded (IsGroundSwap poster) name ss ts p q) → IfErr called (DiscardFault name ss ts p q) → IfOk reply (Says called)
+pub discard_replied : {T E : Type 0} (p q : Project) (ss ts : List KeptSession) (name : List ℕ) (called : Result T SessionFault)
+    (reply : Result Reply E) → IsWorld p ss
+    → OnOk called (calls.IsDiscarded (IsGroundSwap poster) name ss ts p q) → IfErr called (DiscardFault name ss ts p q)
+    → IfOk reply (Says called)
     → IfOk reply (λ r. Answers (state_of p ss) (Discard name) (said_of q r) (state_of q ts))
 discard_replied p q ss ts name called (Err e) w ok err said = tt
-discard_replied p q ss ts name (Ok u) (Ok r) w ok err said = rw (said q) (done (state_of p ss) (state_of q ts) (Discard name) Done (discard_free p q ss ts name ok) (refl, discard_done p q name ss ts w.keeping ok))
+discard_replied p q ss ts name (Ok u) (Ok r) w ok err said = rw (said q) (done (state_of p ss) (state_of q ts) (Discard name) Done
+    (discard_free p q ss ts name ok) (refl, discard_done p q name ss ts w.keeping ok))
 discard_replied p q ss ts name (Err e) (Ok r) w ok err said = discard_told p q ss ts name e r err said
 
 pub discard_kept : {T : Type 0} (p q : Project) (ss ts : List KeptSession) (name : List ℕ) (called : Result T SessionFault) → IsWorld p ss
     → OnOk called (calls.IsDiscarded (IsGroundSwap poster) name ss ts p q) → IfErr called (DiscardFault name ss ts p q) → IsWorld q ts
 discard_kept p q ss ts name (Ok u) w ok err = discard_world p q name ss ts ok w
 discard_kept p q ss ts name (Err fault.NoMemory) w ok err = part_world p q name ss ts err w
-discard_kept p q ss ts name (Err fault.NoSession) w ok err = subst (λ (r : Project). IsWorld r ts) (sym err.features) (subst (IsWorld p) (sym err.sessions) w)
+discard_kept p q ss ts name (Err fault.NoSession) w ok err = subst (λ (r : Project). IsWorld r ts) (sym err.features)
+    (subst (IsWorld p) (sym err.sessions) w)
 discard_kept p q ss ts name (Err fault.OpenAlready) w ok err = absurd err
 discard_kept p q ss ts name (Err fault.SessionsFull) w ok err = absurd err
 discard_kept p q ss ts name (Err fault.NothingToUndo) w ok err = absurd err
 discard_kept p q ss ts name (Err fault.NothingToRedo) w ok err = absurd err
 
 -- the sessions are the old ones, so the state is
-pub left_after : {T : Type 0} (p : Project) (ss ts : List KeptSession) (called : Result T SessionFault) → OnErr called (ts ≡ ss) → OnErr called (state_of p ts ≡ state_of p ss)
+pub left_after : {T : Type 0} (p : Project) (ss ts : List KeptSession) (called : Result T SessionFault) → OnErr called (ts ≡ ss)
+    → OnErr called (state_of p ts ≡ state_of p ss)
 left_after p ss ts (Ok u) kept = tt
 left_after p ss ts (Err e) kept = ap (state_of p) kept
 
@@ -237,20 +278,25 @@ held_none o editor e = rw e refl
 pub held_own : (o : Option (List ℕ)) (name editor : List ℕ) → o ≡ Some name → bytes_eq name editor ≡ true → held_by o editor ≡ None
 held_own o name editor e t = rw (e, t) refl
 
-pub held_other : (o : Option (List ℕ)) (name editor : List ℕ) → o ≡ Some name → bytes_eq name editor ≡ false → held_by o editor ≡ Some (HeldBy name)
+pub held_other : (o : Option (List ℕ)) (name editor : List ℕ) → o ≡ Some name → bytes_eq name editor ≡ false
+    → held_by o editor ≡ Some (HeldBy name)
 held_other o name editor e t = rw (e, t) refl
 
-pub edit_absent : (p : Project) (ss : List KeptSession) (name : List ℕ) (h : ℕ) → is_open (state_of p ss) name ≡ true → feature_at p.features h ≡ None → refusal_of (state_of p ss) (Delete name h) ≡ Some (Change NoFeature)
+pub edit_absent : (p : Project) (ss : List KeptSession) (name : List ℕ) (h : ℕ) → is_open (state_of p ss) name ≡ true
+    → feature_at p.features h ≡ None → refusal_of (state_of p ss) (Delete name h) ≡ Some (Change NoFeature)
 edit_absent p ss name h there none = rw (there, none) refl
 
-edit_by : (p : Project) (ss : List KeptSession) (name : List ℕ) (h : ℕ) (f : Feature) → is_open (state_of p ss) name ≡ true → feature_at p.features h ≡ Some f
+edit_by : (p : Project) (ss : List KeptSession) (name : List ℕ) (h : ℕ) (f : Feature) → is_open (state_of p ss) name ≡ true
+    → feature_at p.features h ≡ Some f
     → refusal_of (state_of p ss) (Delete name h) ≡ first_of (held_by (kept_holder ss h) name ∷ [])
 edit_by p ss name h f there live = rw (there, live, holder_seen (feature_at p.features) ss h) refl
 
-pub edit_free : (p : Project) (ss : List KeptSession) (name : List ℕ) (h : ℕ) (f : Feature) → is_open (state_of p ss) name ≡ true → feature_at p.features h ≡ Some f → held_by (kept_holder ss h) name ≡ None
+pub edit_free : (p : Project) (ss : List KeptSession) (name : List ℕ) (h : ℕ) (f : Feature) → is_open (state_of p ss) name ≡ true
+    → feature_at p.features h ≡ Some f → held_by (kept_holder ss h) name ≡ None
     → refusal_of (state_of p ss) (Delete name h) ≡ None
 edit_free p ss name h f there live none = edit_by p ss name h f there live ∙ ap (λ o. first_of (o ∷ [])) none
 
-pub edit_held : (p : Project) (ss : List KeptSession) (name : List ℕ) (h : ℕ) (f : Feature) (n : List ℕ) → is_open (state_of p ss) name ≡ true → feature_at p.features h ≡ Some f
+pub edit_held : (p : Project) (ss : List KeptSession) (name : List ℕ) (h : ℕ) (f : Feature) (n : List ℕ)
+    → is_open (state_of p ss) name ≡ true → feature_at p.features h ≡ Some f
     → held_by (kept_holder ss h) name ≡ Some (HeldBy n) → refusal_of (state_of p ss) (Delete name h) ≡ Some (HeldBy n)
 edit_held p ss name h f n there live held = edit_by p ss name h f there live ∙ ap (λ o. first_of (o ∷ [])) held

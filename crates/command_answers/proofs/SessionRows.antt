@@ -38,7 +38,15 @@ bob = codes "bob"
 
 -- features, next handle and dirt
 abbrev wells : List Feature → ℕ → List Rectangle → Project
-wells F next d = record { classes = record { name = codes "wells"; kind = shapes.Point } ∷ []; rules = []; features = F; next = next; dirt = d; entries = [] }
+wells F next d = record {
+  classes = record { name = codes "wells"; kind = shapes.Point } ∷ [];
+  rules = [];
+  features = F;
+  next = next;
+  dirt =
+      d;
+  entries = [];
+}
 
 abbrev session : List ℕ → List EditStep → List EditStep → Session
 session name done undone = record { name = name; done = done; undone = undone }
@@ -54,7 +62,11 @@ abbrev begun : State
 begun = record { project = wells (well 1 (pos 0) (pos 0) ∷ well 2 (pos 1) (pos 1) ∷ []) 3 d2; sessions = session bob [] [] ∷ [] }
 
 abbrev both : State
-both = record { project = wells (well 1 (pos 0) (pos 0) ∷ well 2 (pos 1) (pos 1) ∷ []) 3 d2; sessions = session ann [] [] ∷ session bob [] [] ∷ [] }
+both = record {
+  project = wells (well 1 (pos 0) (pos 0) ∷ well 2 (pos 1) (pos 1) ∷ []) 3 d2;
+  sessions =
+      session ann [] [] ∷ session bob [] [] ∷ [];
+}
 
 may_begin : refusal_of begun (Begin ann) ≡ None
 may_begin = refl
@@ -74,7 +86,11 @@ abbrev d3 : List Rectangle
 d3 = spot (pos 0) (pos 0) ∷ spot (pos 1) (pos 1) ∷ spot (pos 2) (pos 2) ∷ []
 
 abbrev moved : State
-moved = record { project = wells (well 1 (pos 0) (pos 0) ∷ well 2 (pos 2) (pos 2) ∷ []) 3 d3; sessions = session ann (moved_step ∷ []) [] ∷ session bob [] [] ∷ [] }
+moved = record {
+  project = wells (well 1 (pos 0) (pos 0) ∷ well 2 (pos 2) (pos 2) ∷ []) 3 d3;
+  sessions =
+      session ann (moved_step ∷ []) [] ∷ session bob [] [] ∷ [];
+}
 
 split_2 : (x : Feature) → x.handle ≡ 2 → (post : Option Feature) → IsSplit 2 (well 1 (pos 0) (pos 0) ∷ []) (Some x) []
 split_2 x own post = record { before = (omega arith, tt); own = own; after = tt }
@@ -88,7 +104,18 @@ unfolding feature_at add_dirt envelope_of
 ann_moves = (
   refl,
   record {
-    project = record { edit = record { features = set_between 2 (well 1 (pos 0) (pos 0) ∷ []) [] (Some (well 2 (pos 1) (pos 1))) (Some (well 2 (pos 2) (pos 2))) (split_2 (well 2 (pos 1) (pos 1)) refl None) (split_2 (well 2 (pos 2) (pos 2)) refl None); dirt = refl; classes = refl; rules = refl; entries = refl }; next = refl };
+    project = record {
+      edit = record {
+        features = set_between 2 (well 1 (pos 0) (pos 0) ∷ []) [] (Some (well 2 (pos 1) (pos 1)))
+            (Some (well 2 (pos 2) (pos 2))) (split_2 (well 2 (pos 1) (pos 1)) refl None) (split_2 (well 2 (pos 2) (pos 2)) refl None);
+        dirt =
+            refl;
+        classes = refl;
+        rules = refl;
+        entries = refl;
+      };
+      next = refl;
+    };
     noted = record { session = session ann [] []; change = record { there = refl; name = refl; sessions = refl } };
   },
 )
@@ -109,7 +136,11 @@ abbrev d4 : List Rectangle
 d4 = spot (pos 0) (pos 0) ∷ spot (pos 1) (pos 1) ∷ spot (pos 2) (pos 2) ∷ spot (pos 4) (pos 4) ∷ []
 
 abbrev three : State
-three = record { project = wells (well 1 (pos 0) (pos 0) ∷ well 2 (pos 2) (pos 2) ∷ well 3 (pos 4) (pos 4) ∷ []) 4 d4; sessions = session ann (moved_step ∷ []) [] ∷ session bob (third ∷ []) [] ∷ [] }
+three = record {
+  project = wells (well 1 (pos 0) (pos 0) ∷ well 2 (pos 2) (pos 2) ∷ well 3 (pos 4) (pos 4) ∷ []) 4 d4;
+  sessions =
+      session ann (moved_step ∷ []) [] ∷ session bob (third ∷ []) [] ∷ [];
+}
 
 may_add : refusal_of moved (Add bob (codes "wells") (point (pos 4) (pos 4))) ≡ None
 may_add = refl
@@ -124,7 +155,16 @@ bob_adds = (
       number = refl;
       absent = refl;
       next = refl;
-      edit = record { features = set_between 3 (well 1 (pos 0) (pos 0) ∷ well 2 (pos 2) (pos 2) ∷ []) [] None (Some (well 3 (pos 4) (pos 4))) (record { before = (omega arith, (omega arith, tt)); own = tt; after = tt }) (record { before = (omega arith, (omega arith, tt)); own = refl; after = tt }); dirt = refl; classes = refl; rules = refl; entries = refl };
+      edit = record {
+        features = set_between 3 (well 1 (pos 0) (pos 0) ∷ well 2 (pos 2) (pos 2) ∷ []) [] None
+            (Some (well 3 (pos 4) (pos 4))) (record { before = (omega arith, (omega arith, tt)); own = tt; after = tt })
+            (record { before = (omega arith, (omega arith, tt)); own = refl; after = tt });
+        dirt = refl;
+        classes = refl;
+        rules =
+            refl;
+        entries = refl;
+      };
     };
     noted = record { session = session bob [] []; change = record { there = refl; name = refl; sessions = refl } };
   },
@@ -133,7 +173,8 @@ bob_adds = (
 -- ---- by ann undo: bob's well stays. What ann held stays held until ann edits again, or ends
 abbrev ann_back : State
 ann_back = record {
-  project = wells (well 1 (pos 0) (pos 0) ∷ well 2 (pos 1) (pos 1) ∷ well 3 (pos 4) (pos 4) ∷ []) 4 (spot (pos 0) (pos 0) ∷ spot (pos 1) (pos 1) ∷ spot (pos 2) (pos 2) ∷ spot (pos 4) (pos 4) ∷ []);
+  project = wells (well 1 (pos 0) (pos 0) ∷ well 2 (pos 1) (pos 1) ∷ well 3 (pos 4) (pos 4) ∷ []) 4
+      (spot (pos 0) (pos 0) ∷ spot (pos 1) (pos 1) ∷ spot (pos 2) (pos 2) ∷ spot (pos 4) (pos 4) ∷ []);
   sessions = session ann [] (moved_step ∷ []) ∷ session bob (third ∷ []) [] ∷ [];
 }
 
@@ -147,7 +188,23 @@ ann_undoes = (
     is = session ann [] (moved_step ∷ []);
     session = record { there = refl; name = refl; sessions = refl };
     undone = record { name = refl; done = refl; undone = refl };
-    set = record { edit = record { features = set_between 2 (well 1 (pos 0) (pos 0) ∷ []) (well 3 (pos 4) (pos 4) ∷ []) (Some (well 2 (pos 2) (pos 2))) (Some (well 2 (pos 1) (pos 1))) (record { before = (omega arith, tt); own = refl; after = (omega arith, tt) }) (record { before = (omega arith, tt); own = refl; after = (omega arith, tt) }); dirt = refl; classes = refl; rules = refl; entries = refl }; next = refl };
+    set = record {
+      edit = record {
+        features = set_between 2 (well 1 (pos 0) (pos 0) ∷ []) (well 3 (pos 4) (pos 4) ∷ [])
+            (Some (well 2 (pos 2) (pos 2))) (Some (well 2 (pos 1) (pos 1))) (record {
+              before = (omega arith, tt);
+              own = refl;
+              after =
+                  (omega arith, tt);
+            }) (record { before = (omega arith, tt); own = refl; after = (omega arith, tt) });
+        dirt = refl;
+        classes =
+            refl;
+        rules = refl;
+        entries = refl;
+      };
+      next = refl;
+    };
   },
 )
 
@@ -158,7 +215,8 @@ still_held = refl
 -- ---- by bob undo, once more, and by bob redo
 abbrev bob_back : State
 bob_back = record {
-  project = wells (well 1 (pos 0) (pos 0) ∷ well 2 (pos 1) (pos 1) ∷ []) 4 (spot (pos 0) (pos 0) ∷ spot (pos 1) (pos 1) ∷ spot (pos 2) (pos 2) ∷ spot (pos 4) (pos 4) ∷ []);
+  project = wells (well 1 (pos 0) (pos 0) ∷ well 2 (pos 1) (pos 1) ∷ []) 4 (spot (pos 0) (pos 0) ∷ spot (pos 1) (pos 1) ∷ spot (pos 2)
+      (pos 2) ∷ spot (pos 4) (pos 4) ∷ []);
   sessions = session ann [] (moved_step ∷ []) ∷ session bob [] (third ∷ []) ∷ [];
 }
 
@@ -173,7 +231,19 @@ bob_undoes = (
     is = session bob [] (third ∷ []);
     session = record { there = refl; name = refl; sessions = refl };
     undone = record { name = refl; done = refl; undone = refl };
-    set = record { edit = record { features = set_between 3 (well 1 (pos 0) (pos 0) ∷ well 2 (pos 1) (pos 1) ∷ []) [] (Some (well 3 (pos 4) (pos 4))) None (record { before = (omega arith, (omega arith, tt)); own = refl; after = tt }) (record { before = (omega arith, (omega arith, tt)); own = tt; after = tt }); dirt = refl; classes = refl; rules = refl; entries = refl }; next = refl };
+    set = record {
+      edit = record {
+        features = set_between 3 (well 1 (pos 0) (pos 0) ∷ well 2 (pos 1) (pos 1) ∷ []) []
+            (Some (well 3 (pos 4) (pos 4))) None (record { before = (omega arith, (omega arith, tt)); own = refl; after = tt })
+            (record { before = (omega arith, (omega arith, tt)); own = tt; after = tt });
+        dirt = refl;
+        classes = refl;
+        rules = refl;
+        entries =
+            refl;
+      };
+      next = refl;
+    };
   },
 )
 
@@ -190,11 +260,24 @@ bob_redoes = (
     is = session bob (third ∷ []) [];
     session = record { there = refl; name = refl; sessions = refl };
     undone = record { name = refl; done = refl; undone = refl };
-    set = record { edit = record { features = set_between 3 (well 1 (pos 0) (pos 0) ∷ well 2 (pos 1) (pos 1) ∷ []) [] None (Some (well 3 (pos 4) (pos 4))) (record { before = (omega arith, (omega arith, tt)); own = tt; after = tt }) (record { before = (omega arith, (omega arith, tt)); own = refl; after = tt }); dirt = refl; classes = refl; rules = refl; entries = refl }; next = refl };
+    set = record {
+      edit = record {
+        features = set_between 3 (well 1 (pos 0) (pos 0) ∷ well 2 (pos 1) (pos 1) ∷ []) [] None
+            (Some (well 3 (pos 4) (pos 4))) (record { before = (omega arith, (omega arith, tt)); own = tt; after = tt })
+            (record { before = (omega arith, (omega arith, tt)); own = refl; after = tt });
+        dirt = refl;
+        classes = refl;
+        rules = refl;
+        entries =
+            refl;
+      };
+      next = refl;
+    };
   },
 )
 
-listed : reply_text (FeatureList ann_back.project) ≡ codes "feature 1 wells POINT (0 0)" ++ 10 ∷ codes "feature 2 wells POINT (1 1)" ++ 10 ∷ codes "feature 3 wells POINT (4 4)" ++ 10 ∷ codes "total 3" ++ 10 ∷ []
+listed : reply_text (FeatureList ann_back.project) ≡ codes "feature 1 wells POINT (0 0)" ++ 10 ∷ codes "feature 2 wells POINT (1 1)" ++ 10 ∷
+    codes "feature 3 wells POINT (4 4)" ++ 10 ∷ codes "total 3" ++ 10 ∷ []
 unfolding digits
 listed = refl
 
@@ -212,7 +295,12 @@ abbrev named : List ℕ → Session
 named name = session name [] []
 
 abbrev sixteen : State
-sixteen = record { project = wells [] 1 []; sessions = named (codes "a") ∷ named (codes "b") ∷ named (codes "c") ∷ named (codes "d") ∷ named (codes "e") ∷ named (codes "f") ∷ named (codes "g") ∷ named (codes "h") ∷ named (codes "i") ∷ named (codes "j") ∷ named (codes "k") ∷ named (codes "l") ∷ named (codes "m") ∷ named (codes "n") ∷ named (codes "o") ∷ named (codes "p") ∷ [] }
+sixteen = record {
+  project = wells [] 1 [];
+  sessions = named (codes "a") ∷ named (codes "b") ∷ named (codes "c") ∷ named (codes "d") ∷ named
+      (codes "e") ∷ named (codes "f") ∷ named (codes "g") ∷ named (codes "h") ∷ named (codes "i") ∷ named (codes "j") ∷ named (codes "k") ∷
+      named (codes "l") ∷ named (codes "m") ∷ named (codes "n") ∷ named (codes "o") ∷ named (codes "p") ∷ [];
+}
 
 full : refusal_of sixteen (Begin (codes "q")) ≡ Some SessionsFull
 full = refl
@@ -221,7 +309,8 @@ open_before_full : refusal_of sixteen (Begin (codes "a")) ≡ Some SessionOpen
 open_before_full = refl
 
 -- capitals come before small letters
-capital : IsDone (record { project = wells [] 1 []; sessions = named (codes "ann") ∷ [] }) (Begin (codes "Zed")) Done (record { project = wells [] 1 []; sessions = named (codes "Zed") ∷ named (codes "ann") ∷ [] })
+capital : IsDone (record { project = wells [] 1 []; sessions = named (codes "ann") ∷ [] }) (Begin (codes "Zed")) Done
+    (record { project = wells [] 1 []; sessions = named (codes "Zed") ∷ named (codes "ann") ∷ [] })
 capital = (refl, record { project = refl; sessions = refl })
 
 -- ---- a deleted square comes back: its envelope is dirty
@@ -232,7 +321,15 @@ abbrev lot : ℕ → ℤ → ℤ → Feature
 lot h lo hi = record { handle = h; class = 1; shape = square lo hi }
 
 abbrev lots : List Feature → List Rectangle → Project
-lots F d = record { classes = record { name = codes "lots"; kind = shapes.Polygon } ∷ []; rules = []; features = F; next = 3; dirt = d; entries = [] }
+lots F d = record {
+  classes = record { name = codes "lots"; kind = shapes.Polygon } ∷ [];
+  rules = [];
+  features = F;
+  next = 3;
+  dirt =
+      d;
+  entries = [];
+}
 
 abbrev gone : EditStep
 gone = step 1 (Some (lot 1 (pos 0) (pos 10))) None
@@ -241,7 +338,10 @@ abbrev deleted : State
 deleted = record { project = lots (lot 2 (pos 5) (pos 15) ∷ []) []; sessions = session ann (gone ∷ []) [] ∷ [] }
 
 abbrev returned : State
-returned = record { project = lots (lot 1 (pos 0) (pos 10) ∷ lot 2 (pos 5) (pos 15) ∷ []) (rect_of (pos 0) (pos 0) (pos 10) (pos 10) ∷ []); sessions = session ann [] (gone ∷ []) ∷ [] }
+returned = record {
+  project = lots (lot 1 (pos 0) (pos 10) ∷ lot 2 (pos 5) (pos 15) ∷ []) (rect_of (pos 0) (pos 0) (pos 10) (pos 10) ∷ []);
+  sessions = session ann [] (gone ∷ []) ∷ [];
+}
 
 returns : IsDone deleted (Undo ann) Done returned
 unfolding feature_at add_dirt envelope_of
@@ -253,7 +353,17 @@ returns = (
     is = session ann [] (gone ∷ []);
     session = record { there = refl; name = refl; sessions = refl };
     undone = record { name = refl; done = refl; undone = refl };
-    set = record { edit = record { features = set_between 1 [] (lot 2 (pos 5) (pos 15) ∷ []) None (Some (lot 1 (pos 0) (pos 10))) (record { before = tt; own = tt; after = (omega arith, tt) }) (record { before = tt; own = refl; after = (omega arith, tt) }); dirt = refl; classes = refl; rules = refl; entries = refl }; next = refl };
+    set = record {
+      edit = record {
+        features = set_between 1 [] (lot 2 (pos 5) (pos 15) ∷ []) None (Some (lot 1 (pos 0) (pos 10)))
+            (record { before = tt; own = tt; after = (omega arith, tt) }) (record { before = tt; own = refl; after = (omega arith, tt) });
+        dirt = refl;
+        classes = refl;
+        rules = refl;
+        entries = refl;
+      };
+      next = refl;
+    };
   },
 )
 

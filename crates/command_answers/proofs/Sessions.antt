@@ -30,7 +30,8 @@ abbrev pub May : Project → ℕ → Option Feature → Type 0
 May p = IsMayStand p.classes p.next
 
 -- ---- what may stand still may
-pub all_still : (may can : ℕ → Option Feature → Type 0) (ss : List KeptSession) → ((k : ℕ) (x : Option Feature) → may k x → can k x) → Every (MayAll may) ss → Every (MayAll can) ss
+pub all_still : (may can : ℕ → Option Feature → Type 0) (ss : List KeptSession) → ((k : ℕ) (x : Option Feature) → may k x → can k x)
+    → Every (MayAll may) ss → Every (MayAll can) ss
 all_still may can [] still h = tt
 all_still may can (s ∷ ss) still h = (may_same may can s still h.0, all_still may can ss still h.1)
 
@@ -38,22 +39,37 @@ pub all_same : (p q : Project) (ss : List KeptSession) → q.classes ≡ p.class
 all_same p q ss c n h = all_still (May p) (May q) ss (λ k x. may_in p.classes q.classes p.next q.next k x c n) h
 
 -- ---- a session begins, and ends
-pub begin_done : (p : Project) (name : List ℕ) (ss ts : List KeptSession) → calls.IsBegun name ss ts → IsBegun name (state_of p ss) (state_of p ts)
+pub begin_done : (p : Project) (name : List ℕ) (ss ts : List KeptSession) → calls.IsBegun name ss ts
+    → IsBegun name (state_of p ss) (state_of p ts)
 begin_done p name ss ts b =
     let at = feature_at p.features in
-    record { project = refl; sessions = ap (seen at) b.sessions ∙ (seen_opened at ss b.session b.done b.undone ∙ ap (λ n. with_opened (seen at ss) n) b.named) }
+    record {
+      project = refl;
+      sessions = ap (seen at) b.sessions ∙ (seen_opened at ss b.session b.done b.undone
+          ∙ ap (λ n. with_opened (seen at ss) n) b.named);
+    }
 
 pub begin_world : (p : Project) (name : List ℕ) (ss ts : List KeptSession) → calls.IsBegun name ss ts → IsWorld p ss → IsWorld p ts
 begin_world p name ss ts b w = record {
   sound = w.sound;
   settled = w.settled;
-  keeping = begun_keeps name (state_of p ss) (state_of p ts) w.keeping (open_seen (feature_at p.features) ss name ∙ ap is_some b.free) (begin_done p name ss ts b);
+  keeping = begun_keeps name (state_of p ss) (state_of p ts) w.keeping (open_seen (feature_at p.features) ss name ∙ ap is_some b.free)
+      (begin_done p name ss ts b);
   may = subst (AllMay p) (sym b.sessions) (opened_has (MayAll (May p)) ss b.session
-      (record { done = subst (λ xs. Every (λ (t : KeptStep). May p t.handle t.kept) xs) (sym b.done) tt; undone = subst (λ xs. Every (λ (t : KeptStep). May p t.handle t.kept) xs) (sym b.undone) tt }) w.may);
+      (record {
+        done = subst (λ xs. Every (λ (t : KeptStep). May p t.handle t.kept) xs) (sym b.done) tt;
+        undone =
+            subst (λ xs. Every (λ (t : KeptStep). May p t.handle t.kept) xs) (sym b.undone) tt;
+      }) w.may);
 }
 
-pub end_done : (p : Project) (name : List ℕ) (ss ts : List KeptSession) → ts ≡ without_kept ss name → IsEnded name (state_of p ss) (state_of p ts)
-end_done p name ss ts e = record { project = refl; sessions = ap (seen (feature_at p.features)) e ∙ seen_without (feature_at p.features) ss name }
+pub end_done : (p : Project) (name : List ℕ) (ss ts : List KeptSession) → ts ≡ without_kept ss name
+    → IsEnded name (state_of p ss) (state_of p ts)
+end_done p name ss ts e = record {
+  project = refl;
+  sessions = ap (seen (feature_at p.features)) e
+      ∙ seen_without (feature_at p.features) ss name;
+}
 
 pub end_world : (p : Project) (name : List ℕ) (ss ts : List KeptSession) → ts ≡ without_kept ss name → IsWorld p ss → IsWorld p ts
 end_world p name ss ts e w = record {
@@ -64,7 +80,8 @@ end_world p name ss ts e w = record {
 }
 
 -- ---- a step is undone, or done again
-step_done : (p q : Project) (name : List ℕ) (s u : KeptSession) (ss ts : List KeptSession) (t : KeptStep) → AreAllApart (seen (feature_at p.features) ss) → IsKeptChange name s u ss ts
+step_done : (p q : Project) (name : List ℕ) (s u : KeptSession) (ss ts : List KeptSession) (t : KeptStep)
+    → AreAllApart (seen (feature_at p.features) ss) → IsKeptChange name s u ss ts
     → IsStepUndone (IsGroundSwap poster) t s u p q → IsUndone name (state_of p ss) (state_of q ts)
 step_done p q name s u ss ts t apart c d =
     let at = feature_at p.features in
@@ -81,10 +98,12 @@ step_done p q name s u ss ts t apart c d =
       set = d.swap.set;
     }
 
-pub undo_done : (p q : Project) (name : List ℕ) (ss ts : List KeptSession) → IsKeeping (state_of p ss) → calls.IsUndone (IsGroundSwap poster) name ss ts p q → IsUndone name (state_of p ss) (state_of q ts)
+pub undo_done : (p q : Project) (name : List ℕ) (ss ts : List KeptSession) → IsKeeping (state_of p ss)
+    → calls.IsUndone (IsGroundSwap poster) name ss ts p q → IsUndone name (state_of p ss) (state_of q ts)
 undo_done p q name ss ts k d = step_done p q name d.was d.is ss ts d.undone.step k.apart d.change d.undone.undone
 
-pub redo_done : (p q : Project) (name : List ℕ) (ss ts : List KeptSession) → IsKeeping (state_of p ss) → calls.IsRedone (IsGroundSwap poster) name ss ts p q → IsRedone name (state_of p ss) (state_of q ts)
+pub redo_done : (p q : Project) (name : List ℕ) (ss ts : List KeptSession) → IsKeeping (state_of p ss)
+    → calls.IsRedone (IsGroundSwap poster) name ss ts p q → IsRedone name (state_of p ss) (state_of q ts)
 redo_done p q name ss ts k d =
     let at = feature_at p.features in
     let bt = feature_at q.features in
@@ -103,10 +122,13 @@ redo_done p q name ss ts k d =
     }
 
 -- the session of the name changed so that its steps may stand, and the others' still may
-pub may_changed : (p q : Project) (name : List ℕ) (s u : KeptSession) (ss ts : List KeptSession) → IsKeptChange name s u ss ts → ((k : ℕ) (x : Option Feature) → May p k x → May q k x) → MayAll (May q) u → AllMay p ss → AllMay q ts
-may_changed p q name s u ss ts c still m h = subst (AllMay q) (sym c.sessions) (with_has (MayAll (May q)) ss u (all_still (May p) (May q) ss still h) m)
+pub may_changed : (p q : Project) (name : List ℕ) (s u : KeptSession) (ss ts : List KeptSession) → IsKeptChange name s u ss ts
+    → ((k : ℕ) (x : Option Feature) → May p k x → May q k x) → MayAll (May q) u → AllMay p ss → AllMay q ts
+may_changed p q name s u ss ts c still m h = subst (AllMay q) (sym c.sessions) (with_has (MayAll (May q)) ss u
+    (all_still (May p) (May q) ss still h) m)
 
-pub undo_world : (p q : Project) (name : List ℕ) (ss ts : List KeptSession) → calls.IsUndone (IsGroundSwap poster) name ss ts p q → IsWorld p ss → IsWorld q ts
+pub undo_world : (p q : Project) (name : List ℕ) (ss ts : List KeptSession) → calls.IsUndone (IsGroundSwap poster) name ss ts p q
+    → IsWorld p ss → IsWorld q ts
 undo_world p q name ss ts d w =
     let t = d.undone.step in
     let u = d.undone.undone in
@@ -115,11 +137,13 @@ undo_world p q name ss ts d w =
       settled = u.swap.settled w.settled;
       keeping = undo_keeps name (state_of p ss) (state_of q ts) w.keeping (undo_done p q name ss ts w.keeping d);
       may = may_changed p q name d.was d.is ss ts d.change (λ k x. grounds.may_still poster t.handle u.stood t.kept p q k x u.swap)
-          (may_undone (May p) (May q) d.was d.is t u.stood (λ k x. grounds.may_still poster t.handle u.stood t.kept p q k x u.swap) (λ m. grounds.may_again poster t.handle u.stood t.kept p q m u.swap) u.session
+          (may_undone (May p) (May q) d.was d.is t u.stood (λ k x. grounds.may_still poster t.handle u.stood t.kept p q k x u.swap)
+          (λ m. grounds.may_again poster t.handle u.stood t.kept p q m u.swap) u.session
           (named_has (MayAll (May p)) ss name d.was d.change.there w.may)) w.may;
     }
 
-pub redo_world : (p q : Project) (name : List ℕ) (ss ts : List KeptSession) → calls.IsRedone (IsGroundSwap poster) name ss ts p q → IsWorld p ss → IsWorld q ts
+pub redo_world : (p q : Project) (name : List ℕ) (ss ts : List KeptSession) → calls.IsRedone (IsGroundSwap poster) name ss ts p q
+    → IsWorld p ss → IsWorld q ts
 redo_world p q name ss ts d w =
     let t = d.redone.step in
     let u = d.redone.redone in
@@ -128,7 +152,8 @@ redo_world p q name ss ts d w =
       settled = u.swap.settled w.settled;
       keeping = redo_keeps name (state_of p ss) (state_of q ts) w.keeping (redo_done p q name ss ts w.keeping d);
       may = may_changed p q name d.was d.is ss ts d.change (λ k x. grounds.may_still poster t.handle u.stood t.kept p q k x u.swap)
-          (may_redone (May p) (May q) d.was d.is t u.stood (λ k x. grounds.may_still poster t.handle u.stood t.kept p q k x u.swap) (λ m. grounds.may_again poster t.handle u.stood t.kept p q m u.swap) u.session
+          (may_redone (May p) (May q) d.was d.is t u.stood (λ k x. grounds.may_still poster t.handle u.stood t.kept p q k x u.swap)
+          (λ m. grounds.may_again poster t.handle u.stood t.kept p q m u.swap) u.session
           (named_has (MayAll (May p)) ss name d.was d.change.there w.may)) w.may;
     }
 
@@ -148,28 +173,34 @@ chain_may : (ts : List KeptStep) (s u : KeptSession) (p q : Project) → Chain t
 chain_may [] s u p q c m = subst (λ (r : Project). MayAll (May r) u) (sym c.1) (subst (MayAll (May p)) (sym c.0) m)
 chain_may (t ∷ ts) s u p q c m =
     let d = c.3 in
-    may_undone (May c.1) (May q) c.0 u t d.stood (λ k x. grounds.may_still poster t.handle d.stood t.kept c.1 q k x d.swap) (λ y. grounds.may_again poster t.handle d.stood t.kept c.1 q y d.swap) d.session
+    may_undone (May c.1) (May q) c.0 u t d.stood (λ k x. grounds.may_still poster t.handle d.stood t.kept c.1 q k x d.swap)
+    (λ y. grounds.may_again poster t.handle d.stood t.kept c.1 q y d.swap) d.session
     (chain_may ts s c.0 p c.1 c.2 m)
 
-taken : (at : ℕ → Option Feature) (ts : List KeptStep) (s u : KeptSession) (p q : Project) → Chain ts s u p q → AreTakenBack (done_of at ts) p q
+taken : (at : ℕ → Option Feature) (ts : List KeptStep) (s u : KeptSession) (p q : Project) → Chain ts s u p q
+    → AreTakenBack (done_of at ts) p q
 taken at [] s u p q c = c.1
 taken at (t ∷ ts) s u p q c = (c.1, taken at ts s c.0 p c.1 c.2, c.3.swap.set)
 
-each_first : (t : EditStep) (ts : List EditStep) (ss : List Session) → Every (HoldsNoneOf (t ∷ ts)) ss → Every (λ (o : Session). HoldsNone o t.handle) ss × Every (HoldsNoneOf ts) ss
+each_first : (t : EditStep) (ts : List EditStep) (ss : List Session) → Every (HoldsNoneOf (t ∷ ts)) ss
+    → Every (λ (o : Session). HoldsNone o t.handle) ss × Every (HoldsNoneOf ts) ss
 each_first t ts [] h = (tt, tt)
 each_first t ts (o ∷ ss) h = let r = each_first t ts ss h.1 in ((h.0.0, r.0), (h.0.1, r.1))
 
 -- what others are seen as stays
-chain_seen : (at : ℕ → Option Feature) (ts : List KeptStep) (s u : KeptSession) (p q : Project) (ss : List KeptSession) → Chain ts s u p q → Every (HoldsNoneOf (done_of at ts)) (seen (feature_at p.features) ss)
+chain_seen : (at : ℕ → Option Feature) (ts : List KeptStep) (s u : KeptSession) (p q : Project) (ss : List KeptSession) → Chain ts s u p q
+    → Every (HoldsNoneOf (done_of at ts)) (seen (feature_at p.features) ss)
     → seen (feature_at q.features) ss ≡ seen (feature_at p.features) ss
 chain_seen at [] s u p q ss c h = ap (λ (r : Project). seen (feature_at r.features) ss) c.1
 chain_seen at (t ∷ ts) s u p q ss c h =
-    let f = each_first (record { handle = t.handle; before = t.kept; after = stood at ts t.handle }) (done_of at ts) (seen (feature_at p.features) ss) h in
+    let f = each_first (record { handle = t.handle; before = t.kept; after = stood at ts t.handle }) (done_of at ts)
+    (seen (feature_at p.features) ss) h in
     let r = chain_seen at ts s c.0 p c.1 ss c.2 f.1 in
     let none = subst (λ xs. Every (λ (o : Session). HoldsNone o t.handle) xs) (sym r) f.0 in
     all_seen (feature_at c.1.features) (feature_at q.features) t.handle ss c.3.swap.set.edit.features.others none ∙ r
 
-pub discard_done : (p q : Project) (name : List ℕ) (ss ts : List KeptSession) → IsKeeping (state_of p ss) → calls.IsDiscarded (IsGroundSwap poster) name ss ts p q → IsDiscarded name (state_of p ss) (state_of q ts)
+pub discard_done : (p q : Project) (name : List ℕ) (ss ts : List KeptSession) → IsKeeping (state_of p ss)
+    → calls.IsDiscarded (IsGroundSwap poster) name ss ts p q → IsDiscarded name (state_of p ss) (state_of q ts)
 discard_done p q name ss ts k d =
     let at = feature_at p.features in
     let s = seen_session at d.was in
@@ -181,39 +212,57 @@ discard_done p q name ss ts k d =
       session = s;
       there = there;
       taken_back = taken at d.was.done d.was d.last p q d.undone;
-      sessions = ap (seen (feature_at q.features)) d.sessions ∙ (chain_seen at d.was.done d.was d.last p q (without_kept ss name) d.undone rest ∙ seen_without at ss name);
+      sessions = ap (seen (feature_at q.features)) d.sessions ∙ (chain_seen at d.was.done d.was d.last p q (without_kept ss name) d.undone
+          rest ∙ seen_without at ss name);
     }
 
-pub discard_world : (p q : Project) (name : List ℕ) (ss ts : List KeptSession) → calls.IsDiscarded (IsGroundSwap poster) name ss ts p q → IsWorld p ss → IsWorld q ts
+pub discard_world : (p q : Project) (name : List ℕ) (ss ts : List KeptSession) → calls.IsDiscarded (IsGroundSwap poster) name ss ts p q
+    → IsWorld p ss → IsWorld q ts
 discard_world p q name ss ts d w = record {
   sound = chain_sound poster d.was.done d.was d.last p q d.undone w.sound;
   settled = chain_settled poster d.was.done d.was d.last p q d.undone w.settled;
   keeping = discard_keeps name (state_of p ss) (state_of q ts) w.keeping (discard_done p q name ss ts w.keeping d);
-  may = subst (AllMay q) (sym d.sessions) (without_has (MayAll (May q)) ss name (all_same p q ss (chain_classes d.was.done d.was d.last p q d.undone) (chain_next d.was.done d.was d.last p q d.undone) w.may));
+  may = subst (AllMay q) (sym d.sessions) (without_has (MayAll (May q)) ss name (all_same p q ss
+      (chain_classes d.was.done d.was d.last p q d.undone) (chain_next d.was.done d.was d.last p q d.undone) w.may));
 }
 
 -- a discard that is cut short undoes the last steps
-part_keeps : (name : List ℕ) (ss : List KeptSession) (s : KeptSession) (p : Project) → kept_named ss name ≡ Some s → IsKeeping (state_of p ss) → (ts : List KeptStep) (u : KeptSession) (q : Project) → Chain ts s u p q
+part_keeps : (name : List ℕ) (ss : List KeptSession) (s : KeptSession) (p : Project) → kept_named ss name ≡ Some s
+    → IsKeeping (state_of p ss) → (ts : List KeptStep) (u : KeptSession) (q : Project) → Chain ts s u p q
     → IsKeeping (state_of q (with_kept ss u)) × (u.name ≡ s.name)
 part_keeps name ss s p there k [] u q c =
-    let same : with_kept ss u ≡ ss = ap (with_kept ss) c.0 ∙ with_same ss name s there in
-    (subst (λ (r : Project). IsKeeping (state_of r (with_kept ss u))) (sym c.1) (subst (λ xs. IsKeeping (state_of p xs)) (sym same) k), ap (λ (x : KeptSession). x.name) c.0)
+    let same : with_kept ss u ≡ ss = ap (with_kept ss) c.0 ∙ with_same ss name s there in (
+      subst (λ (r : Project). IsKeeping (state_of r (with_kept ss u))) (sym c.1) (subst (λ xs. IsKeeping (state_of p xs)) (sym same) k),
+      ap
+          (λ (x : KeptSession). x.name) c.0,
+    )
 part_keeps name ss s p there k (t ∷ ts) u q c =
     let r = part_keeps name ss s p there k ts c.0 c.1 c.2 in
     let m = c.0 in
     let n : m.name ≡ name = r.1 ∙ name_of ss name s there in
-    let change : IsKeptChange name m u (with_kept ss m) (with_kept ss u) = record { there = now_named ss name s m there n; name = c.3.session.name; sessions = sym (with_twice ss m u c.3.session.name) } in
-    (undo_keeps name (state_of c.1 (with_kept ss m)) (state_of q (with_kept ss u)) r.0 (step_done c.1 q name m u (with_kept ss m) (with_kept ss u) t r.0.apart change c.3), c.3.session.name ∙ r.1)
+    let change : IsKeptChange name m u (with_kept ss m) (with_kept ss u) = record {
+      there = now_named ss name s m there n;
+      name =
+          c.3.session.name;
+      sessions = sym (with_twice ss m u c.3.session.name);
+    } in (
+      undo_keeps name (state_of c.1 (with_kept ss m)) (state_of q (with_kept ss u)) r.0
+          (step_done c.1 q name m u (with_kept ss m) (with_kept ss u) t r.0.apart change c.3),
+      c.3.session.name ∙ r.1,
+    )
 
-pub part_world : (p q : Project) (name : List ℕ) (ss ts : List KeptSession) → calls.IsDiscardedInPart (IsGroundSwap poster) (λ g h. h ≡ g) name ss ts p q → IsWorld p ss → IsWorld q ts
+pub part_world : (p q : Project) (name : List ℕ) (ss ts : List KeptSession) → calls.IsDiscardedInPart (IsGroundSwap poster) (λ g h. h ≡ g)
+    name ss ts p q → IsWorld p ss → IsWorld q ts
 part_world p q name ss ts d w =
     let c = d.cut_short in
     let chain : Chain c.undone d.was d.is p q = subst (Chain c.undone d.was d.is p) (sym c.then) c.chain in
     record {
       sound = chain_sound poster c.undone d.was d.is p q chain w.sound;
       settled = chain_settled poster c.undone d.was d.is p q chain w.settled;
-      keeping = subst (λ xs. IsKeeping (state_of q xs)) (sym d.change.sessions) (part_keeps name ss d.was p d.change.there w.keeping c.undone d.is q chain).0;
+      keeping = subst (λ xs. IsKeeping (state_of q xs)) (sym d.change.sessions) (part_keeps name ss d.was p d.change.there w.keeping
+          c.undone d.is q chain).0;
       may = may_changed p q name d.was d.is ss ts d.change
-          (λ k x. may_in p.classes q.classes p.next q.next k x (chain_classes c.undone d.was d.is p q chain) (chain_next c.undone d.was d.is p q chain))
+          (λ k x. may_in p.classes q.classes p.next q.next k x (chain_classes c.undone d.was d.is p q chain)
+          (chain_next c.undone d.was d.is p q chain))
           (chain_may c.undone d.was d.is p q chain (named_has (MayAll (May p)) ss name d.was d.change.there w.may)) w.may;
     }

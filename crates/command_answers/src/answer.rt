@@ -7,12 +7,12 @@ ghost use Rattle.script_terms.specs.Reply as replies;
 ghost use Rattle.script_terms.specs.State.{State};
 ghost use Rattle.reply_text.specs.Replies.{said_of};
 
-use crate::classes::NOT_BUILT;
 use crate::world::World;
 use grid_plane::NoMemory;
 use reply_text::Reply;
 use rule_set::poster_law;
 use script_text::Command;
+use topo_core::Key;
 
 /// The law of commands: from one state a command has one reply, and leaves one state.
 #[tactic(auto, using(crate::proofs::OneAnswer::one_answer))]
@@ -43,11 +43,25 @@ impl World {
             Command::Undo(editor) => self.answer_undo(&editor),
             Command::Redo(editor) => self.answer_redo(&editor),
             Command::Validate(window) => self.answer_validate(window),
+            Command::Mark(rule, subject, other) => {
+                Ok(self.answer_mark(Key {
+                    rule,
+                    subject,
+                    other,
+                }))
+            }
+            Command::Unmark(rule, subject, other) => {
+                Ok(self.answer_unmark(Key {
+                    rule,
+                    subject,
+                    other,
+                }))
+            }
             Command::Dirty => Ok(Reply::DirtyList),
             Command::Errors => Ok(Reply::ErrorList),
             Command::Cells => Ok(Reply::CellList),
             Command::Features => Ok(Reply::FeatureList),
-            Command::Mark(..) | Command::Unmark(..) | Command::Rules => Ok(NOT_BUILT),
+            Command::Rules => Ok(Reply::RuleList),
         }
     }
 }

@@ -8,14 +8,10 @@ ghost use Rattle.reply_text.specs.Replies.{said_of};
 use crate::refused::{reply_to_class, reply_to_rule};
 use crate::world::World;
 use grid_plane::{Name, NoMemory};
-use line_terms::LineRefusal;
 use reply_text::{Refusal, Reply};
 use rule_core::RuleRow;
 use rule_words::{Kind, RuleKind};
 use topology_terms::Cause;
-
-/// What is answered to a command that is not built yet.
-pub const NOT_BUILT: Reply = Reply::Refused(Refusal::Line(LineRefusal::NotALine));
 
 impl World {
     /// `class NAME KIND`

@@ -5,6 +5,7 @@ mod answer;
 mod classes;
 mod editors;
 mod edits;
+mod marks;
 mod noted;
 mod refused;
 mod world;

@@ -1,6 +1,8 @@
 ghost use Rattle.std.specs.Prelude.{◌≡◌, None, Err, IfOk, OnErr, MatchResult};
 ghost use Rattle.topology_terms.specs.Project.{Project};
-ghost use Rattle.script_terms.specs.Reply.{Done, Number};
+ghost use Rattle.script_terms.specs.Refusal.{Change};
+ghost use Rattle.script_terms.specs.Reply.{Done, Number, Refused};
+ghost use Rattle.error_store.specs.Marking.{fault_cause};
 ghost use Rattle.feature_store.specs.Faults.{store_cause};
 ghost use Rattle.topo_core.specs.Faults.{edit_cause, row_cause};
 ghost use Rattle.topo_core.specs.declared.fault.ChangeFault.{ChangeFault};
@@ -12,7 +14,7 @@ use edit_session::SessionFault;
 use feature_store::StoreFault;
 use grid_plane::NoMemory;
 use reply_text::{Refusal, Reply};
-use topo_core::{ChangeFault, RuleFault};
+use topo_core::{ChangeFault, MarkFault, RuleFault};
 use topology_terms::Cause;
 
 // What is answered where the topology was not changed: its cause; and out of memory where a call told none.
@@ -87,6 +89,16 @@ pub fn reply_to_rule(added: Result<u16, RuleFault>) -> Result<Reply, NoMemory>
     match added {
         Ok(number) => Ok(Reply::Number(u32::from(number))),
         Err(fault) => refused_rule(fault),
+    }
+}
+
+/// What is answered to a mark that was set or taken away, or to why it was not.
+pub fn reply_to_mark(marked: Result<(), MarkFault>) -> Reply
+    ensures { MatchResult marked (λ u. (p : Project) → said_of p result ≡ Done) (λ e. (p : Project) → said_of p result ≡ Refused (Change (fault_cause e))) }
+{
+    match marked {
+        Ok(()) => Reply::Done,
+        Err(fault) => Reply::Refused(Refusal::Change(fault.cause())),
     }
 }
 

@@ -15,9 +15,10 @@ use Rattle.cell_laws.proofs.Meets.{meet_points}
 use Rattle.convex_cell.proofs.Ranges.{on_true, on_false}
 
 pub all_of_both : {X : Type 0} (P : X → Type 0) (xs ys : List X) → All P (xs ++ ys) ↔ (All P xs × All P ys)
-all_of_both P xs ys =
-    (λ h. let r = (all_append P xs ys).0 (recursion_from_All P (xs ++ ys) h) in (All-from_recursion P xs r.0, All-from_recursion P ys r.1),
-        λ h. All-append P xs ys h.0 h.1)
+all_of_both P xs ys = (
+  λ h. let r = (all_append P xs ys).0 (recursion_from_All P (xs ++ ys) h) in (All-from_recursion P xs r.0, All-from_recursion P ys r.1),
+  λ h. All-append P xs ys h.0 h.1,
+)
 
 pairs_of_both : (o : Option Edge) (Q : Edge → HalfPlane → Type 0) (a b : Cell) → IfSome o (λ l. All (Q l) (a ++ b))
     ↔ (IfSome o (λ l. All (Q l) a) × IfSome o (λ l. All (Q l) b))
@@ -75,4 +76,4 @@ none_in_both a b i h l e r t o m =
     let f = subst (λ r. OnTrue r ((p : Point) → Holds h p → ¬ (All (λ g. Holds g p) b))) t o in
     let s = (all_append (λ g. Holds g m.0) a b).0 m.1 in
     f m.0 (subst (λ g. Holds g m.0) (sym e) (All-get_or (λ g. Holds g m.0) a i h l (All-from_recursion (λ g. Holds g m.0) a s.0)))
-        (All-from_recursion (λ g. Holds g m.0) b s.1)
+    (All-from_recursion (λ g. Holds g m.0) b s.1)

@@ -38,8 +38,12 @@ rounded_holds m k g t s w p h a =
     let b : pos 0 ≤ℤ ((neg_ℤ k -ℤ g *ℤ m) *ℤ pos w) = product_at_least _ (pos w) (omega (arith, ints)) (omega (arith, ints)) in
     let c : pos 0 ≤ℤ (m *ℤ t +ℤ k *ℤ pos w) = Above-weak s _ a in
     let d : pos 0 ≤ℤ (m *ℤ (t -ℤ g *ℤ pos w)) = le_by (num (pos 0)) (num m ⊗ (num t ⊖ num g ⊗ num (pos w)))
-        (omega (arith, le_read (num (pos 0)) ((neg (num k) ⊖ num g ⊗ num m) ⊗ num (pos w)) b, le_read (num (pos 0))
-        (num m ⊗ num t ⊕ num k ⊗ num (pos w)) c)) in
+    (omega (
+      arith,
+      le_read (num (pos 0)) ((neg (num k) ⊖ num g ⊗ num m) ⊗ num (pos w)) b,
+      le_read (num (pos 0))
+          (num m ⊗ num t ⊕ num k ⊗ num (pos w)) c,
+    )) in
     apart t (g *ℤ pos w) (Above-unscaled false m _ p d)
   where
     apart : (a b : ℤ) → pos 0 ≤ℤ (a -ℤ b) → b ≤ℤ a
@@ -63,8 +67,8 @@ pub number_under : (low : Limit) (high : Option Limit) (g : ℤ) → IsLimit low
 number_under low None g v u c h =
     let r : IsRising (line low) = record { positive = v.rising } in
     let q = helly (line low ∷ []) (under g ∷ [])
-        ((record { rising = r; each = (record { rising = record { positive = omega (arith, ints) }; with = meets low g h }, tt) }, tt))
-        ((record { positive = omega (arith, ints) }, tt)) in
+    ((record { rising = r; each = (record { rising = record { positive = omega (arith, ints) }; with = meets low g h }, tt) }, tt))
+    ((record { positive = omega (arith, ints) }, tt)) in
     (q.t, q.w, q.positive, q.below.0, tt, is_under g q.t q.w q.above.0)
   where
     meets : (low : Limit) (g : ℤ) → neg_ℤ low.k <ℤ (g *ℤ low.m) → AreCompatible (line low) (under g)
@@ -74,8 +78,14 @@ number_under low (Some u) g v uv c h =
     let r : IsRising (line low) = record { positive = v.rising } in
     let s : IsRising (line u) = record { positive = uv.rising } in
     let o : IsRising (under g) = record { positive = omega (arith, ints) } in
-    let q = helly (line low ∷ []) (line u ∷ under g ∷ []) ((record { rising = r; each =
-        (record { rising = s; with = c }, (record { rising = o; with = meets low g h }, tt)) }, tt)) ((s, (o, tt))) in
+    let q = helly (line low ∷ []) (line u ∷ under g ∷ []) ((
+      record {
+        rising = r;
+        each =
+            (record { rising = s; with = c }, (record { rising = o; with = meets low g h }, tt));
+      },
+      tt,
+    )) ((s, (o, tt))) in
     (q.t, q.w, q.positive, q.below.0, q.above.0, is_under g q.t q.w q.above.1.0)
   where
     meets : (low : Limit) (g : ℤ) → neg_ℤ low.k <ℤ (g *ℤ low.m) → AreCompatible (line low) (under g)
@@ -124,8 +134,11 @@ at_some P o l e h = subst (λ (x : Option Limit). IfSome x P) (sym e) h
 scaled_under : (t g : ℤ) (w d : ℕ) → 0 < d → t <ℤ (g *ℤ pos w) → (t *ℤ pos d) <ℤ (g *ℤ pos (w * d))
 scaled_under t g w d p h =
     let s = product_over (g *ℤ pos w -ℤ t) (pos d) (omega (arith, ints)) (omega (arith, ints)) in
-    lt_by (num t ⊗ num (pos d)) (num g ⊗ num (pos (w * d))) (omega (arith, lt_read (num (pos 0))
-        ((num g ⊗ num (pos w) ⊖ num t) ⊗ num (pos d)) s))
+    lt_by (num t ⊗ num (pos d)) (num g ⊗ num (pos (w * d))) (omega (
+      arith,
+      lt_read (num (pos 0))
+          ((num g ⊗ num (pos w) ⊖ num t) ⊗ num (pos d)) s,
+    ))
 
 -- no whole number above the rounded bound is below all points of the cell
 pub greatest_from : (hs : List HalfPlane) (r : Range) → ((t : ℤ) → (w : ℕ) → 0 < w
@@ -145,8 +158,12 @@ greatest_from hs r both v some low e q above g all =
     raised : (k m q g : ℤ) → pos 0 <ℤ m → q <ℤ g → neg_ℤ k <ℤ ((q +ℤ pos 1) *ℤ m) → neg_ℤ k <ℤ (g *ℤ m)
     raised k m q g p less h =
         let d = product_at_least (g -ℤ (q +ℤ pos 1)) m (omega (arith, ints)) (omega (arith, ints)) in
-        lt_by (neg (num k)) (num g ⊗ num m) (omega (arith, lt_read (neg (num k)) ((num q ⊕ num (pos 1)) ⊗ num m) h, le_read (num (pos 0))
-            ((num g ⊖ (num q ⊕ num (pos 1))) ⊗ num m) d))
+        lt_by (neg (num k)) (num g ⊗ num m) (omega (
+          arith,
+          lt_read (neg (num k)) ((num q ⊕ num (pos 1)) ⊗ num m) h,
+          le_read (num (pos 0))
+              ((num g ⊖ (num q ⊕ num (pos 1))) ⊗ num m) d,
+        ))
 
 -- ---- a cell that is bounded from below has a low limit
 number_below : (high : Option Limit) (g : ℤ) → IfSome high IsLimit → (t : ℤ) × (w : ℕ) × (0 < w) × IfSome high (AllowsLimit (neg_ℤ t) w)

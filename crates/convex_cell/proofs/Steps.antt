@@ -87,8 +87,12 @@ strict_holds : (q b high z : ℤ) (w : ℕ) → pos 0 <ℤ b → (q *ℤ b) ≤�
 strict_holds q b high z w p h a =
     let s : pos 0 ≤ℤ ((neg_ℤ high -ℤ q *ℤ b) *ℤ pos w) = product_at_least _ (pos w) (omega (arith, ints)) (omega (arith, ints)) in
     let d : pos 0 <ℤ (b *ℤ (z -ℤ q *ℤ pos w)) = lt_by (num (pos 0)) (num b ⊗ (num z ⊖ num q ⊗ num (pos w)))
-        (omega (arith, le_read (num (pos 0)) ((neg (num high) ⊖ num q ⊗ num b) ⊗ num (pos w)) s, lt_read (num (pos 0))
-        (num b ⊗ num z ⊕ num high ⊗ num (pos w)) a)) in
+    (omega (
+      arith,
+      le_read (num (pos 0)) ((neg (num high) ⊖ num q ⊗ num b) ⊗ num (pos w)) s,
+      lt_read (num (pos 0))
+          (num b ⊗ num z ⊕ num high ⊗ num (pos w)) a,
+    )) in
     apart z (q *ℤ pos w) (over_unscaled b _ p d)
   where
     apart : (a b : ℤ) → pos 0 <ℤ (a -ℤ b) → b <ℤ a
@@ -114,7 +118,7 @@ pub high_right : (a c right x : ℤ) (w : ℕ) → pos 0 ≤ℤ a → x ≤ℤ (
 high_right a c right x w p h =
     let d : pos 0 ≤ℤ (a *ℤ (right *ℤ pos w -ℤ x)) = product_at_least a _ p (room (right *ℤ pos w) x h) in
     le_by (num a ⊗ num x ⊕ num c ⊗ num (pos w)) ((num a ⊗ num right ⊕ num c) ⊗ num (pos w))
-        (omega (arith, le_read (num (pos 0)) (num a ⊗ (num right ⊗ num (pos w) ⊖ num x)) d))
+    (omega (arith, le_read (num (pos 0)) (num a ⊗ (num right ⊗ num (pos w) ⊖ num x)) d))
   where
     room : (a b : ℤ) → b ≤ℤ a → pos 0 ≤ℤ (a -ℤ b)
     room a b h = omega (arith, ints)
@@ -123,7 +127,7 @@ pub high_left : (a c left x : ℤ) (w : ℕ) → a <ℤ pos 0 → (left *ℤ pos
 high_left a c left x w p h =
     let d : pos 0 ≤ℤ (neg_ℤ a *ℤ (x -ℤ left *ℤ pos w)) = product_at_least (neg_ℤ a) _ (omega (arith, ints)) (room x (left *ℤ pos w) h) in
     le_by (num a ⊗ num x ⊕ num c ⊗ num (pos w)) ((num a ⊗ num left ⊕ num c) ⊗ num (pos w))
-        (omega (arith, le_read (num (pos 0)) (neg (num a) ⊗ (num x ⊖ num left ⊗ num (pos w))) d))
+    (omega (arith, le_read (num (pos 0)) (neg (num a) ⊗ (num x ⊖ num left ⊗ num (pos w))) d))
   where
     room : (a b : ℤ) → b ≤ℤ a → pos 0 ≤ℤ (a -ℤ b)
     room a b h = omega (arith, ints)

@@ -1,2 +1,4 @@
 mod Lookups
 pub mod Partners
+mod Puts
+mod Totals

@@ -3,6 +3,9 @@
 
 mod finding;
 mod findings;
+mod keeping;
+mod kept;
+mod region;
 mod row;
 mod rule;
 mod view;
@@ -10,6 +13,7 @@ mod work;
 
 pub use finding::Finding;
 pub use findings::Findings;
+pub use region::Region;
 pub use row::{InForce, RuleRow};
 pub use rule::{Rule, RuleSet, judge};
 pub use view::{View, compare_handles};

@@ -1,12 +1,23 @@
-ghost use Rattle.std.specs.Prelude.{◌≡◌};
+ghost use Rattle.std.specs.Prelude.{◌≡◌, IfOk, IfSome};
 ghost use Rattle.topology_terms.specs.Counts.{raised};
+ghost use Rattle.rule_core.specs.Kept.{cells_of};
 
+use crate::keeping::Keeping;
+use crate::region::Region;
+use convex_cell::Cells;
+use grid_plane::NoMemory;
+use shape::Feature;
+use std::alloc::Global;
 use std::marker::Model;
+use std::rc::Rc;
 
-/// How often a rule was tried on a subject: a count that stops at its greatest number.
+/// How often a rule was tried on a subject: a count that stops at its greatest number. It also keeps cells of polygons for the
+/// next judgements, of which no clause but their own says anything: what is kept changes no answer.
 #[derive(Drop)]
 pub struct Work {
     judged: u64,
+    insides: Option<Keeping>,
+    outsides: Option<Keeping>,
 }
 
 impl Model for Work {
@@ -17,12 +28,54 @@ impl Model for Work {
     ghost view = { λ w. w.judged };
 }
 
+fn hits_of(keeping: &Option<Keeping>) -> u64 {
+    match keeping {
+        Some(keeping) => keeping.hits(),
+        None => 0,
+    }
+}
+
+fn look_in(
+    keeping: &mut Option<Keeping>,
+    region: Region,
+    f: &Feature,
+) -> Result<Option<Rc<Cells>>, NoMemory>
+    ensures { IfOk result (λ found. IfSome found (λ cells. cells.value ≡ cells_of region f.now.shape)) }
+{
+    match keeping {
+        Some(keeping) => keeping.look(region, f),
+        None => Ok(None),
+    }
+}
+
+fn keep_in(
+    keeping: &mut Option<Keeping>,
+    alloc: Global,
+    region: Region,
+    f: &Feature,
+    cells: &Rc<Cells>,
+) -> Result<(), NoMemory>
+    requires { cells.now.value ≡ cells_of region f.now.shape }
+{
+    if keeping.is_none() {
+        *keeping = Some(Keeping::new(alloc)?);
+    }
+    match keeping {
+        Some(keeping) => keeping.keep(alloc, region, f, cells),
+        None => Ok(()),
+    }
+}
+
 impl Work {
-    /// Nothing was judged yet.
+    /// Nothing was judged yet, and nothing is kept.
     pub fn new() -> Work
         ensures { result ≡ 0 }
     {
-        Work { judged: 0 }
+        Work {
+            judged: 0,
+            insides: None,
+            outsides: None,
+        }
     }
 
     /// The count.
@@ -32,10 +85,44 @@ impl Work {
         self.judged
     }
 
+    /// How often `look` found cells: a count that stops at its greatest number.
+    pub fn hits(&self) -> u64 {
+        hits_of(&self.insides).saturating_add(hits_of(&self.outsides))
+    }
+
     /// One judgement more.
     pub fn raise(&mut self)
         ensures { self.new ≡ raised self.old 1 }
     {
         self.judged = self.judged.saturating_add(1);
+    }
+
+    /// The cells of this region of the polygon, where they are kept: those of its shape, whatever shape its handle had before.
+    pub fn look(&mut self, region: Region, f: &Feature) -> Result<Option<Rc<Cells>>, NoMemory>
+        ensures cells { IfOk result (λ found. IfSome found (λ cells. cells.value ≡ cells_of region f.now.shape)) }
+        ensures uncounted { self.new ≡ self.old }
+    {
+        match region {
+            Region::Inside => look_in(&mut self.insides, region, f),
+            Region::Outside => look_in(&mut self.outsides, region, f),
+        }
+    }
+
+    /// Keeps the cells of this region of the polygon, for the next `look`. Where memory runs out, or they are too many, it may
+    /// keep none.
+    pub fn keep(
+        &mut self,
+        alloc: Global,
+        region: Region,
+        f: &Feature,
+        cells: &Rc<Cells>,
+    ) -> Result<(), NoMemory>
+        requires { cells.now.value ≡ cells_of region f.now.shape }
+        ensures uncounted { self.new ≡ self.old }
+    {
+        match region {
+            Region::Inside => keep_in(&mut self.insides, alloc, region, f, cells),
+            Region::Outside => keep_in(&mut self.outsides, alloc, region, f, cells),
+        }
     }
 }

@@ -2,7 +2,7 @@ ghost use Rattle.std.specs.Prelude.{◌≡◌, IfOk};
 ghost use Rattle.topology_terms.specs.Plans as plans;
 ghost use Rattle.rule_loops.specs.Views.{of_class};
 
-use crate::polygon::{inside_of, outside_of};
+use crate::polygon::{outside_of, own_inside};
 use convex_cell::Cells;
 use grid_plane::NoMemory;
 use rule_core::{View, Work};
@@ -20,14 +20,15 @@ pub fn area_left(
     ensures left { IfOk result (λ cells. cells ≡ plans.area_left subject.now (of_class class view.now)) }
     ensures uncounted { work.new ≡ work.old }
 {
-    let mut cells = inside_of(alloc, subject, work)?;
+    let mut cells = own_inside(alloc, subject, work)?;
     for i in 0..view.len() {
         if cells.len() == 0 {
             return Ok(cells);
         }
         let other = view.feature(i);
         if other.class() == class {
-            cells = cells.carve(alloc, &outside_of(alloc, other, work)?)?;
+            let outside = outside_of(alloc, other, work)?;
+            cells = cells.carve(alloc, &outside)?;
         }
     }
     Ok(cells)

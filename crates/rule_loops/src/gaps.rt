@@ -36,7 +36,8 @@ fn ground_round(alloc: Global, subject: &Feature, work: &mut Work) -> Result<Cel
 {
     let mut ground = Cells::new(alloc);
     ground.push(Cell::box_round(alloc, &subject.shape().env())?)?;
-    ground.carve(alloc, &outside_of(alloc, subject, work)?)
+    let outside = outside_of(alloc, subject, work)?;
+    ground.carve(alloc, &outside)
 }
 
 // What no polygon of the class that is shown covers round the subject. Stops where nothing is left.
@@ -57,7 +58,8 @@ fn open_ground(
         }
         let other = view.feature(i);
         if is_other(class, subject, other) {
-            ground = ground.carve(alloc, &outside_of(alloc, other, work)?)?;
+            let outside = outside_of(alloc, other, work)?;
+            ground = ground.carve(alloc, &outside)?;
         }
     }
     Ok(ground)

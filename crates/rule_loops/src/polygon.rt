@@ -1,32 +1,77 @@
-ghost use Rattle.std.specs.Prelude.{◌≡◌, map, IfOk};
+ghost use Rattle.std.specs.Prelude.{◌≡◌, false, map, IfOk};
+ghost use Rattle.std.specs.Bool.{OnTrue};
+ghost use Rattle.std.specs.List.{list_any};
 ghost use Rattle.plane_terms.specs.Cell.{on_segment};
 ghost use Rattle.plane_terms.specs.Segment.{Segment};
+ghost use Rattle.plane_terms.specs.declared.kind.Kind.TheVariants as kind;
 ghost use Rattle.topology_terms.specs.Feature.{sides};
-ghost use Rattle.plane_terms.specs.Carve.{carve_of};
 ghost use Rattle.topology_terms.specs.Cells as terms;
 ghost use Rattle.topology_terms.specs.Tests as tests;
+ghost use Rattle.rule_core.specs.Kept.{cells_of};
+ghost use Rattle.rule_laws.proofs.Families.{IsFit};
+ghost use Rattle.rule_loops.specs.Views.{is_out};
 
 use column_cut::{inside, outside};
 use convex_cell::{Cell, Cells};
-use grid_plane::{NoMemory, Seg};
-use rule_core::Work;
+use grid_plane::{NoMemory, Rect, Seg};
+use plane_terms::Kind;
+use rule_core::{Region, Work};
 use shape::Feature;
 use std::alloc::Global;
+use std::rc::Rc;
 
-/// The cells of a polygon's inside. They are made anew; the work is passed so that it may keep them.
-pub fn inside_of(alloc: Global, polygon: &Feature, _work: &mut Work) -> Result<Cells, NoMemory>
-    ensures cells { IfOk result (λ cells. cells ≡ terms.inside polygon.now) }
-    ensures uncounted { _work.new ≡ _work.old }
+fn made_anew(alloc: Global, region: Region, polygon: &Feature) -> Result<Cells, NoMemory>
+    ensures { IfOk result (λ cells. cells ≡ cells_of region polygon.now.shape) }
 {
-    inside(alloc, polygon.shape().segs())
+    match region {
+        Region::Inside => inside(alloc, polygon.shape().segs()),
+        Region::Outside => outside(alloc, polygon.shape().segs()),
+    }
 }
 
-/// The cells of what is closed out of a polygon. They are made anew; the work is passed so that it may keep them.
-pub fn outside_of(alloc: Global, polygon: &Feature, _work: &mut Work) -> Result<Cells, NoMemory>
-    ensures cells { IfOk result (λ cells. cells ≡ terms.outside polygon.now) }
-    ensures uncounted { _work.new ≡ _work.old }
+// The cells that the work keeps, or else cells made anew, which it then keeps if there is memory for it.
+fn kept_or_made(
+    alloc: Global,
+    region: Region,
+    polygon: &Feature,
+    work: &mut Work,
+) -> Result<Rc<Cells>, NoMemory>
+    ensures cells { IfOk result (λ cells. cells.value ≡ cells_of region polygon.now.shape) }
+    ensures uncounted { work.new ≡ work.old }
 {
-    outside(alloc, polygon.shape().segs())
+    if let Some(cells) = work.look(region, polygon)? {
+        return Ok(cells);
+    }
+    let cells = Rc::new(alloc, made_anew(alloc, region, polygon)?)?;
+    let _ = work.keep(alloc, region, polygon, &cells);
+    Ok(cells)
+}
+
+/// The cells of a polygon's inside. The work keeps them for the next call.
+pub fn inside_of(alloc: Global, polygon: &Feature, work: &mut Work) -> Result<Rc<Cells>, NoMemory>
+    ensures cells { IfOk result (λ cells. cells.value ≡ terms.inside polygon.now) }
+    ensures uncounted { work.new ≡ work.old }
+{
+    kept_or_made(alloc, Region::Inside, polygon, work)
+}
+
+/// The cells of what is closed out of a polygon. The work keeps them for the next call.
+pub fn outside_of(alloc: Global, polygon: &Feature, work: &mut Work) -> Result<Rc<Cells>, NoMemory>
+    ensures cells { IfOk result (λ cells. cells.value ≡ terms.outside polygon.now) }
+    ensures uncounted { work.new ≡ work.old }
+{
+    kept_or_made(alloc, Region::Outside, polygon, work)
+}
+
+/// The cells of a polygon's inside, in a list of its own: a copy of what the work keeps, or made anew.
+pub fn own_inside(alloc: Global, polygon: &Feature, work: &mut Work) -> Result<Cells, NoMemory>
+    ensures cells { IfOk result (λ cells. cells ≡ terms.inside polygon.now) }
+    ensures uncounted { work.new ≡ work.old }
+{
+    match work.look(Region::Inside, polygon)? {
+        Some(cells) => cells.try_copy(alloc),
+        None => made_anew(alloc, Region::Inside, polygon),
+    }
 }
 
 // The cells of these segments.
@@ -52,21 +97,60 @@ pub fn closed_cells(alloc: Global, polygon: &Feature, work: &mut Work) -> Result
     ensures cells { IfOk result (λ cells. cells ≡ tests.closed_cells polygon.now) }
     ensures uncounted { work.new ≡ work.old }
 {
-    let mut cells = inside_of(alloc, polygon, work)?;
+    let mut cells = own_inside(alloc, polygon, work)?;
     cells.append(boundary_of(alloc, polygon)?)?;
     Ok(cells)
 }
 
-/// Whether the polygon covers these cells: no point of them is closed out of it.
+// Whether a vertex of these segments is out of the rectangle.
+fn sticks_out(segments: &[Seg], frame: &Rect) -> bool
+    ensures { result ≡ list_any (is_out frame.now) segments.now }
+{
+    segments
+        .iter()
+        .any(|segment| !frame.holds_point(segment.lo()))
+}
+
+fn is_polygon(feature: &Feature) -> bool
+    ensures { OnTrue result (IsFit kind.Polygon feature.now) }
+{
+    let shape = feature.shape();
+    shape.simple_law();
+    shape.kind() == Kind::Polygon
+}
+
+fn are_polygons(subject: &Feature, polygon: &Feature) -> bool
+    ensures subject { OnTrue result (IsFit kind.Polygon subject.now) }
+    ensures polygon { OnTrue result (IsFit kind.Polygon polygon.now) }
+{
+    is_polygon(subject) && is_polygon(polygon)
+}
+
+// Whether a vertex of the subject is out of the polygon's envelope.
+fn is_beyond(subject: &Feature, polygon: &Feature) -> bool
+    ensures { OnTrue result (tests.covers subject.now polygon.now ≡ false) }
+{
+    let frame = polygon.shape().env();
+    are_polygons(subject, polygon) && sticks_out(subject.shape().segs(), &frame)
+}
+
+/// Whether the polygon covers the subject, of which these are the closed cells. A polygon whose envelope does not hold the
+/// subject's vertices is passed over.
 pub fn covers(
     alloc: Global,
     polygon: &Feature,
+    subject: &Feature,
     cells: &Cells,
     work: &mut Work,
 ) -> Result<bool, NoMemory>
-    ensures covers { IfOk result (λ covered. covered ≡ tests.is_empty (carve_of cells.now (terms.outside polygon.now))) }
+    requires { cells.now ≡ tests.closed_cells subject.now }
+    ensures covers { IfOk result (λ covered. covered ≡ tests.covers subject.now polygon.now) }
     ensures uncounted { work.new ≡ work.old }
 {
-    let left = cells.carve(alloc, &outside_of(alloc, polygon, work)?)?;
+    if is_beyond(subject, polygon) {
+        return Ok(false);
+    }
+    let outside = outside_of(alloc, polygon, work)?;
+    let left = cells.carve(alloc, &outside)?;
     Ok(left.len() == 0)
 }

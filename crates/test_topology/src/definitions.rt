@@ -67,7 +67,13 @@ fn polygon(alloc: Global, ring: Vec<GridPoint>) -> Result<Shape, ShapeFault> {
 }
 
 // A square of side 10, from its least corner.
-fn square(alloc: Global, handle: u32, class: u16, x: i16, y: i16) -> Result<Feature, Fail> {
+pub(crate) fn square(
+    alloc: Global,
+    handle: u32,
+    class: u16,
+    x: i16,
+    y: i16,
+) -> Result<Feature, Fail> {
     let (left, low) = (i64::from(x), i64::from(y));
     let mut ring = Vec::new(alloc);
     ring.push(place(left, low)?)?;

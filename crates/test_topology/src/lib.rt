@@ -4,6 +4,8 @@
 #[cfg(test)]
 mod definitions;
 #[cfg(test)]
+mod kept;
+#[cfg(test)]
 mod outside;
 #[cfg(test)]
 mod town;

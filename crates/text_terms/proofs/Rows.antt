@@ -38,5 +38,13 @@ well_text = refl
 
 written : IsWrittenPoint (codes "POINT (3 4)") (point_shape (at (pos 3) (pos 4)))
 unfolding digits
-written = record { place = at (pos 3) (pos 4); in_reach = record { x = record { low = omega (arith, ints); high = omega (arith, ints) }; y =
-    record { low = omega (arith, ints); high = omega (arith, ints) } }; written = refl; shape = refl }
+written = record {
+  place = at (pos 3) (pos 4);
+  in_reach = record {
+    x = record { low = omega (arith, ints); high = omega (arith, ints) };
+    y =
+        record { low = omega (arith, ints); high = omega (arith, ints) };
+  };
+  written = refl;
+  shape = refl;
+}

@@ -1,6 +1,7 @@
 -- The five lines of a town's summary.
 --
--- TownCounts          features: live features at the end; judged: pairs of a rule and a subject, over both validations; errors, dirty: at the end;
+-- TownCounts          features: live features at the end; judged: pairs of a rule and a subject, over both validations;
+--                     errors, dirty: at the end;
 --                     text: the sum of all bytes of the listings of cells and of features at the end, each byte a number from 0 to 255
 -- count_line word n   a line of a word and a number
 -- summary_text c      a line for each, in this order

@@ -43,7 +43,8 @@ place x y = record { x = pos x; y = pos y }
 abbrev pub parcel : ℕ → ℕ → Shape
 parcel i j = record {
   kind = kind.Polygon;
-  parts = ((place (100 * j) (100 * i) ∷ place (100 * j + 100) (100 * i) ∷ place (100 * j + 100) (100 * i + 100) ∷ place (100 * j) (100 * i + 100) ∷ []) ∷ []) ∷ [];
+  parts = ((place (100 * j) (100 * i) ∷ place (100 * j + 100) (100 * i) ∷ place (100 * j + 100) (100 * i + 100) ∷ place (100 * j)
+      (100 * i + 100) ∷ []) ∷ []) ∷ [];
 }
 
 abbrev pub address : ℕ → ℕ → ℕ → ℕ → Shape

@@ -17,4 +17,4 @@ loop-half-preserved c = record {
 pub returns-clause-both : goal.returns-clause-both
 returns-clause-both c =
     λ t w p. all_end (λ g. IfSome (high_of (seen c.args.direction g)) (λ u. Compatible c.args.low u t w)) c.args.halves.now
-        c.loop-half.half-index _ _ (take_all _ _ (omega arith)) (c.loop-half.invariant.both t w p)
+    c.loop-half.half-index _ _ (take_all _ _ (omega arith)) (c.loop-half.invariant.both t w p)

@@ -16,6 +16,6 @@ loop-half-preserved c = record {
 pub returns-clause-both : goal.returns-clause-both
 returns-clause-both c =
     λ t w p. all_kept (λ h. FlatHolds (seen c.args.direction h) t w × PairsSeen c.args.direction c.args.halves.now (seen c.args.direction h)
-        t w) c.args.halves.now _ _ (c.all-range.ensures.all t w) (all_end (λ h. FlatHolds (seen c.args.direction h) t w
-        × PairsSeen c.args.direction c.args.halves.now (seen c.args.direction h) t w) c.args.halves.now c.loop-half.half-index _ _
-        (take_all _ _ (omega arith)) (c.loop-half.invariant.both t w p))
+    t w) c.args.halves.now _ _ (c.all-range.ensures.all t w) (all_end (λ h. FlatHolds (seen c.args.direction h) t w
+    × PairsSeen c.args.direction c.args.halves.now (seen c.args.direction h) t w) c.args.halves.now c.loop-half.half-index _ _
+    (take_all _ _ (omega arith)) (c.loop-half.invariant.both t w p))

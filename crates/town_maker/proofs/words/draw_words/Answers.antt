@@ -16,5 +16,6 @@ pub draws-preserved : goal.draws-preserved
 draws-preserved c = record {
   state = state_is _ _ _ _ _ c.draws.invariant.state c.next_word.ensures;
   many = grind (arith, common_steps, c.in_ok-push.ensures.items, c.draws.invariant.many);
-  words = rw c.in_ok-push.ensures.items (words_more _ _ _ _ c.draws.invariant.many c.draws.invariant.words (word_is _ _ _ _ _ c.draws.invariant.state c.next_word.ensures));
+  words = rw c.in_ok-push.ensures.items (words_more _ _ _ _ c.draws.invariant.many c.draws.invariant.words
+      (word_is _ _ _ _ _ c.draws.invariant.state c.next_word.ensures));
 }

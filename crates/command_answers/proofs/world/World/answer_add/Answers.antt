@@ -4,12 +4,19 @@ use Rattle.command_answers.proofs.world.World.answer_add.Goals as goal
 
 pub returns-clause-answers : goal.returns-clause-answers
 returns-clause-answers c =
-    rw (← c.self.view_is) (add_replied c.self.inside.topology c.add_noted.new.topology c.self.inside.sessions c.add_noted.new.sessions c.args.editor.now c.args.class.now c.args.shape c.in-Some.class c.add_noted.result c.reply_to_add.result c.self.invariant (search rules) (rw c.store.ensures.classes at (sym c.in-Some.ensures)) c.add_noted.ensures.ok c.add_noted.ensures.noted c.add_noted.ensures.may c.add_noted.ensures.refused c.add_noted.ensures.err c.add_noted.ensures.room c.reply_to_add.ensures.said)
+    rw (← c.self.view_is) (add_replied c.self.inside.topology c.add_noted.new.topology c.self.inside.sessions c.add_noted.new.sessions
+    c.args.editor.now c.args.class.now c.args.shape c.in-Some.class c.add_noted.result c.reply_to_add.result c.self.invariant
+    (search rules) (rw c.store.ensures.classes at (sym c.in-Some.ensures)) c.add_noted.ensures.ok c.add_noted.ensures.noted
+    c.add_noted.ensures.may c.add_noted.ensures.refused c.add_noted.ensures.err c.add_noted.ensures.room c.reply_to_add.ensures.said)
 
 pub returns-clause-err : goal.returns-clause-err
 returns-clause-err c =
-    rw (← c.self.view_is) (kept_by _ c.add_noted.result c.reply_to_add.result c.reply_to_add.ensures.spent (room_after c.self.inside.topology c.add_noted.new.topology c.args.editor.now c.self.inside.sessions c.add_noted.new.sessions c.add_noted.result c.add_noted.ensures.err c.add_noted.ensures.room))
+    rw (← c.self.view_is) (kept_by _ c.add_noted.result c.reply_to_add.result c.reply_to_add.ensures.spent
+    (room_after c.self.inside.topology c.add_noted.new.topology c.args.editor.now c.self.inside.sessions c.add_noted.new.sessions
+    c.add_noted.result c.add_noted.ensures.err c.add_noted.ensures.room))
 
 pub invariant_of-self : goal.invariant_of-self
 invariant_of-self c =
-    add_kept c.self.inside.topology c.add_noted.new.topology c.self.inside.sessions c.add_noted.new.sessions c.args.editor.now c.args.shape c.in-Some.class c.add_noted.result c.topology_law.ensures.store c.self.invariant c.add_noted.ensures.ok c.add_noted.ensures.noted c.add_noted.ensures.err c.add_noted.ensures.room c.add_noted.ensures.sound c.add_noted.ensures.settled
+    add_kept c.self.inside.topology c.add_noted.new.topology c.self.inside.sessions c.add_noted.new.sessions c.args.editor.now c.args.shape
+    c.in-Some.class c.add_noted.result c.topology_law.ensures.store c.self.invariant c.add_noted.ensures.ok c.add_noted.ensures.noted
+    c.add_noted.ensures.err c.add_noted.ensures.room c.add_noted.ensures.sound c.add_noted.ensures.settled

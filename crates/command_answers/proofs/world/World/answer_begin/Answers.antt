@@ -4,11 +4,14 @@ use Rattle.command_answers.proofs.world.World.answer_begin.Goals as goal
 
 pub returns-clause-answers : goal.returns-clause-answers
 returns-clause-answers c =
-    rw (← c.self.view_is) (begin_replied c.self.inside.topology c.self.inside.sessions c.begin.new.self c.args.editor c.begin.result c.reply_to_session.result c.begin.ensures.done c.begin.ensures.refused c.begin.ensures.kept c.reply_to_session.ensures.said)
+    rw (← c.self.view_is) (begin_replied c.self.inside.topology c.self.inside.sessions c.begin.new.self c.args.editor c.begin.result
+    c.reply_to_session.result c.begin.ensures.done c.begin.ensures.refused c.begin.ensures.kept c.reply_to_session.ensures.said)
 
 pub returns-clause-err : goal.returns-clause-err
 returns-clause-err c =
-    rw (← c.self.view_is) (kept_by _ c.begin.result c.reply_to_session.result c.reply_to_session.ensures.spent (left_after c.self.inside.topology c.self.inside.sessions c.begin.new.self c.begin.result c.begin.ensures.kept))
+    rw (← c.self.view_is) (kept_by _ c.begin.result c.reply_to_session.result c.reply_to_session.ensures.spent
+    (left_after c.self.inside.topology c.self.inside.sessions c.begin.new.self c.begin.result c.begin.ensures.kept))
 
 pub invariant_of-self : goal.invariant_of-self
-invariant_of-self c = begin_kept c.self.inside.topology c.self.inside.sessions c.begin.new.self c.args.editor c.begin.result c.self.invariant c.begin.ensures.done c.begin.ensures.kept
+invariant_of-self c = begin_kept c.self.inside.topology c.self.inside.sessions c.begin.new.self c.args.editor c.begin.result
+    c.self.invariant c.begin.ensures.done c.begin.ensures.kept

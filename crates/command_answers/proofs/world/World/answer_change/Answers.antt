@@ -9,12 +9,23 @@ use Rattle.command_answers.proofs.world.World.answer_change.Goals as goal
 
 pub returns-clause-answers : goal.returns-clause-answers
 returns-clause-answers c =
-    rw (← c.self.view_is) (change_replied c.self.inside.topology c.change_noted.new.topology c.self.inside.sessions c.change_noted.new.sessions c.args.editor.now c.args.handle c.args.shape c.change_noted.result c.reply_to_change.result c.self.invariant c.order_law.ensures (subst (λ (z : State). refusal_of z (Delete c.args.editor.now c.args.handle) ≡ None) (sym c.self.view_is) c.in_default.ensures) c.change_noted.ensures.ok c.change_noted.ensures.noted c.change_noted.ensures.may c.change_noted.ensures.refused c.change_noted.ensures.err c.change_noted.ensures.room c.reply_to_change.ensures.said)
+    rw (← c.self.view_is) (change_replied c.self.inside.topology c.change_noted.new.topology c.self.inside.sessions
+    c.change_noted.new.sessions c.args.editor.now c.args.handle c.args.shape c.change_noted.result c.reply_to_change.result
+    c.self.invariant c.order_law.ensures (subst (λ (z : State). refusal_of z (Delete c.args.editor.now c.args.handle) ≡ None)
+    (sym c.self.view_is) c.in_default.ensures) c.change_noted.ensures.ok c.change_noted.ensures.noted c.change_noted.ensures.may
+    c.change_noted.ensures.refused c.change_noted.ensures.err c.change_noted.ensures.room c.reply_to_change.ensures.said)
 
 pub returns-clause-err : goal.returns-clause-err
 returns-clause-err c =
-    rw (← c.self.view_is) (kept_by _ c.change_noted.result c.reply_to_change.result c.reply_to_change.ensures.spent (room_after c.self.inside.topology c.change_noted.new.topology c.args.editor.now c.self.inside.sessions c.change_noted.new.sessions c.change_noted.result c.change_noted.ensures.err c.change_noted.ensures.room))
+    rw (← c.self.view_is) (kept_by _ c.change_noted.result c.reply_to_change.result c.reply_to_change.ensures.spent
+    (room_after c.self.inside.topology c.change_noted.new.topology c.args.editor.now c.self.inside.sessions c.change_noted.new.sessions
+    c.change_noted.result c.change_noted.ensures.err c.change_noted.ensures.room))
 
 pub invariant_of-self : goal.invariant_of-self
 invariant_of-self c =
-    set_kept c.self.inside.topology c.change_noted.new.topology c.self.inside.sessions c.change_noted.new.sessions c.args.editor.now c.args.handle (reshaped (feature_at c.self.inside.topology.features c.args.handle) c.args.shape) c.change_noted.result c.topology_law.ensures.store c.self.invariant c.order_law.ensures (subst (λ (z : State). refusal_of z (Delete c.args.editor.now c.args.handle) ≡ None) (sym c.self.view_is) c.in_default.ensures) c.change_noted.ensures.ok c.change_noted.ensures.noted c.change_noted.ensures.live c.change_noted.ensures.err c.change_noted.ensures.room c.change_noted.ensures.sound c.change_noted.ensures.settled
+    set_kept c.self.inside.topology c.change_noted.new.topology c.self.inside.sessions c.change_noted.new.sessions c.args.editor.now
+    c.args.handle (reshaped (feature_at c.self.inside.topology.features c.args.handle) c.args.shape) c.change_noted.result
+    c.topology_law.ensures.store c.self.invariant c.order_law.ensures (subst
+    (λ (z : State). refusal_of z (Delete c.args.editor.now c.args.handle) ≡ None) (sym c.self.view_is) c.in_default.ensures)
+    c.change_noted.ensures.ok c.change_noted.ensures.noted c.change_noted.ensures.live c.change_noted.ensures.err
+    c.change_noted.ensures.room c.change_noted.ensures.sound c.change_noted.ensures.settled

@@ -3,11 +3,15 @@ use Rattle.command_answers.proofs.world.World.answer_class.Goals as goal
 
 pub returns-clause-answers : goal.returns-clause-answers
 returns-clause-answers c =
-    rw (← c.self.view_is) (class_replied c.self.inside.topology c.add_class.new.self c.self.inside.sessions c.args.name c.args.kind c.add_class.result c.reply_to_class.result c.add_class.ensures.ok c.add_class.ensures.number c.add_class.ensures.may c.add_class.ensures.refused c.add_class.ensures.err c.reply_to_class.ensures.said)
+    rw (← c.self.view_is) (class_replied c.self.inside.topology c.add_class.new.self c.self.inside.sessions c.args.name c.args.kind
+    c.add_class.result c.reply_to_class.result c.add_class.ensures.ok c.add_class.ensures.number c.add_class.ensures.may
+    c.add_class.ensures.refused c.add_class.ensures.err c.reply_to_class.ensures.said)
 
 pub returns-clause-err : goal.returns-clause-err
 returns-clause-err c =
-    rw (← c.self.view_is) (kept_by _ c.add_class.result c.reply_to_class.result c.reply_to_class.ensures.spent (same_after c.self.inside.topology c.add_class.new.self c.self.inside.sessions c.add_class.result c.add_class.ensures.err))
+    rw (← c.self.view_is) (kept_by _ c.add_class.result c.reply_to_class.result c.reply_to_class.ensures.spent
+    (same_after c.self.inside.topology c.add_class.new.self c.self.inside.sessions c.add_class.result c.add_class.ensures.err))
 
 pub invariant_of-self : goal.invariant_of-self
-invariant_of-self c = class_kept c.self.inside.topology c.add_class.new.self c.self.inside.sessions c.args.name c.args.kind c.add_class.result c.self.invariant c.add_class.ensures.ok c.add_class.ensures.err c.add_class.ensures.sound c.add_class.ensures.settled
+invariant_of-self c = class_kept c.self.inside.topology c.add_class.new.self c.self.inside.sessions c.args.name c.args.kind
+    c.add_class.result c.self.invariant c.add_class.ensures.ok c.add_class.ensures.err c.add_class.ensures.sound c.add_class.ensures.settled

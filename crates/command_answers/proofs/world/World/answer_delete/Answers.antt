@@ -7,12 +7,22 @@ use Rattle.command_answers.proofs.world.World.answer_delete.Goals as goal
 
 pub returns-clause-answers : goal.returns-clause-answers
 returns-clause-answers c =
-    rw (← c.self.view_is) (delete_replied c.self.inside.topology c.delete_noted.new.topology c.self.inside.sessions c.delete_noted.new.sessions c.args.editor.now c.args.handle c.delete_noted.result c.reply_to_change.result c.self.invariant c.order_law.ensures (subst (λ (z : State). refusal_of z (Delete c.args.editor.now c.args.handle) ≡ None) (sym c.self.view_is) c.in_default.ensures) c.delete_noted.ensures.ok c.delete_noted.ensures.noted c.delete_noted.ensures.refused c.delete_noted.ensures.err c.delete_noted.ensures.room c.reply_to_change.ensures.said)
+    rw (← c.self.view_is) (delete_replied c.self.inside.topology c.delete_noted.new.topology c.self.inside.sessions
+    c.delete_noted.new.sessions c.args.editor.now c.args.handle c.delete_noted.result c.reply_to_change.result c.self.invariant
+    c.order_law.ensures (subst (λ (z : State). refusal_of z (Delete c.args.editor.now c.args.handle) ≡ None) (sym c.self.view_is)
+    c.in_default.ensures) c.delete_noted.ensures.ok c.delete_noted.ensures.noted c.delete_noted.ensures.refused
+    c.delete_noted.ensures.err c.delete_noted.ensures.room c.reply_to_change.ensures.said)
 
 pub returns-clause-err : goal.returns-clause-err
 returns-clause-err c =
-    rw (← c.self.view_is) (kept_by _ c.delete_noted.result c.reply_to_change.result c.reply_to_change.ensures.spent (room_after c.self.inside.topology c.delete_noted.new.topology c.args.editor.now c.self.inside.sessions c.delete_noted.new.sessions c.delete_noted.result c.delete_noted.ensures.err c.delete_noted.ensures.room))
+    rw (← c.self.view_is) (kept_by _ c.delete_noted.result c.reply_to_change.result c.reply_to_change.ensures.spent
+    (room_after c.self.inside.topology c.delete_noted.new.topology c.args.editor.now c.self.inside.sessions c.delete_noted.new.sessions
+    c.delete_noted.result c.delete_noted.ensures.err c.delete_noted.ensures.room))
 
 pub invariant_of-self : goal.invariant_of-self
 invariant_of-self c =
-    set_kept c.self.inside.topology c.delete_noted.new.topology c.self.inside.sessions c.delete_noted.new.sessions c.args.editor.now c.args.handle None c.delete_noted.result c.topology_law.ensures.store c.self.invariant c.order_law.ensures (subst (λ (z : State). refusal_of z (Delete c.args.editor.now c.args.handle) ≡ None) (sym c.self.view_is) c.in_default.ensures) c.delete_noted.ensures.ok c.delete_noted.ensures.noted c.delete_noted.ensures.live c.delete_noted.ensures.err c.delete_noted.ensures.room c.delete_noted.ensures.sound c.delete_noted.ensures.settled
+    set_kept c.self.inside.topology c.delete_noted.new.topology c.self.inside.sessions c.delete_noted.new.sessions c.args.editor.now
+    c.args.handle None c.delete_noted.result c.topology_law.ensures.store c.self.invariant c.order_law.ensures
+    (subst (λ (z : State). refusal_of z (Delete c.args.editor.now c.args.handle) ≡ None) (sym c.self.view_is) c.in_default.ensures)
+    c.delete_noted.ensures.ok c.delete_noted.ensures.noted c.delete_noted.ensures.live c.delete_noted.ensures.err
+    c.delete_noted.ensures.room c.delete_noted.ensures.sound c.delete_noted.ensures.settled

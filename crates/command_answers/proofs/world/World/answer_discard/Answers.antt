@@ -5,11 +5,17 @@ use Rattle.command_answers.proofs.SessionLines.{discard_replied, discard_kept}
 use Rattle.command_answers.proofs.world.World.answer_discard.Goals as goal
 
 pub discard-requires : goal.discard-requires
-discard-requires c = record { may = λ s e. named_has (MayAll (May c.self.inside.topology)) c.self.inside.sessions c.args.editor.now s e c.self.invariant.may }
+discard-requires c = record {
+  may = λ s e. named_has (MayAll (May c.self.inside.topology)) c.self.inside.sessions c.args.editor.now s e
+      c.self.invariant.may;
+}
 
 pub returns : goal.returns
 returns c =
-    rw (← c.self.view_is) (discard_replied c.self.inside.topology c.discard.new.ground c.self.inside.sessions c.discard.new.self c.args.editor.now c.discard.result c.reply_to_session.result c.self.invariant c.discard.ensures.done c.discard.ensures.refused c.reply_to_session.ensures.said)
+    rw (← c.self.view_is) (discard_replied c.self.inside.topology c.discard.new.ground c.self.inside.sessions c.discard.new.self
+    c.args.editor.now c.discard.result c.reply_to_session.result c.self.invariant c.discard.ensures.done c.discard.ensures.refused
+    c.reply_to_session.ensures.said)
 
 pub invariant_of-self : goal.invariant_of-self
-invariant_of-self c = discard_kept c.self.inside.topology c.discard.new.ground c.self.inside.sessions c.discard.new.self c.args.editor.now c.discard.result c.self.invariant c.discard.ensures.done c.discard.ensures.refused
+invariant_of-self c = discard_kept c.self.inside.topology c.discard.new.ground c.self.inside.sessions c.discard.new.self c.args.editor.now
+    c.discard.result c.self.invariant c.discard.ensures.done c.discard.ensures.refused

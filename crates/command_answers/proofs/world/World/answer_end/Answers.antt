@@ -4,11 +4,15 @@ use Rattle.command_answers.proofs.world.World.answer_end.Goals as goal
 
 pub returns-clause-answers : goal.returns-clause-answers
 returns-clause-answers c =
-    rw (← c.self.view_is) (end_replied c.self.inside.topology c.self.inside.sessions c.end.new.self c.args.editor.now c.end.result c.reply_to_session.result c.end.ensures.done c.end.ensures.there c.end.ensures.refused c.end.ensures.kept c.reply_to_session.ensures.said)
+    rw (← c.self.view_is) (end_replied c.self.inside.topology c.self.inside.sessions c.end.new.self c.args.editor.now c.end.result
+    c.reply_to_session.result c.end.ensures.done c.end.ensures.there c.end.ensures.refused c.end.ensures.kept
+    c.reply_to_session.ensures.said)
 
 pub returns-clause-err : goal.returns-clause-err
 returns-clause-err c =
-    rw (← c.self.view_is) (kept_by _ c.end.result c.reply_to_session.result c.reply_to_session.ensures.spent (left_after c.self.inside.topology c.self.inside.sessions c.end.new.self c.end.result c.end.ensures.kept))
+    rw (← c.self.view_is) (kept_by _ c.end.result c.reply_to_session.result c.reply_to_session.ensures.spent
+    (left_after c.self.inside.topology c.self.inside.sessions c.end.new.self c.end.result c.end.ensures.kept))
 
 pub invariant_of-self : goal.invariant_of-self
-invariant_of-self c = end_kept c.self.inside.topology c.self.inside.sessions c.end.new.self c.args.editor.now c.end.result c.self.invariant c.end.ensures.done c.end.ensures.kept
+invariant_of-self c = end_kept c.self.inside.topology c.self.inside.sessions c.end.new.self c.args.editor.now c.end.result c.self.invariant
+    c.end.ensures.done c.end.ensures.kept

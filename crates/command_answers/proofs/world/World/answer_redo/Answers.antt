@@ -6,15 +6,23 @@ use Rattle.command_answers.proofs.Replying.{kept_by}
 use Rattle.command_answers.proofs.world.World.answer_redo.Goals as goal
 
 pub redo-requires : goal.redo-requires
-redo-requires c = record { may = λ s e. named_has (MayAll (May c.self.inside.topology)) c.self.inside.sessions c.args.editor.now s e c.self.invariant.may }
+redo-requires c = record {
+  may = λ s e. named_has (MayAll (May c.self.inside.topology)) c.self.inside.sessions c.args.editor.now s e
+      c.self.invariant.may;
+}
 
 pub returns-clause-answers : goal.returns-clause-answers
 returns-clause-answers c =
-    rw (← c.self.view_is) (redo_replied c.self.inside.topology c.redo.new.ground c.self.inside.sessions c.redo.new.self c.args.editor.now c.redo.result c.reply_to_session.result c.self.invariant c.redo.ensures.done c.redo.ensures.refused c.redo.ensures.kept c.redo.ensures.same c.reply_to_session.ensures.said)
+    rw (← c.self.view_is) (redo_replied c.self.inside.topology c.redo.new.ground c.self.inside.sessions c.redo.new.self c.args.editor.now
+    c.redo.result c.reply_to_session.result c.self.invariant c.redo.ensures.done c.redo.ensures.refused c.redo.ensures.kept
+    c.redo.ensures.same c.reply_to_session.ensures.said)
 
 pub returns-clause-err : goal.returns-clause-err
 returns-clause-err c =
-    rw (← c.self.view_is) (kept_by _ c.redo.result c.reply_to_session.result c.reply_to_session.ensures.spent (still_after c.self.inside.topology c.redo.new.ground c.self.inside.sessions c.redo.new.self c.redo.result c.redo.ensures.kept c.redo.ensures.same))
+    rw (← c.self.view_is) (kept_by _ c.redo.result c.reply_to_session.result c.reply_to_session.ensures.spent
+    (still_after c.self.inside.topology c.redo.new.ground c.self.inside.sessions c.redo.new.self c.redo.result c.redo.ensures.kept
+    c.redo.ensures.same))
 
 pub invariant_of-self : goal.invariant_of-self
-invariant_of-self c = redo_kept c.self.inside.topology c.redo.new.ground c.self.inside.sessions c.redo.new.self c.args.editor.now c.redo.result c.self.invariant c.redo.ensures.done c.redo.ensures.kept c.redo.ensures.same
+invariant_of-self c = redo_kept c.self.inside.topology c.redo.new.ground c.self.inside.sessions c.redo.new.self c.args.editor.now
+    c.redo.result c.self.invariant c.redo.ensures.done c.redo.ensures.kept c.redo.ensures.same

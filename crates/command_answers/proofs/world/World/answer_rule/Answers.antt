@@ -1,4 +1,4 @@
-use Rattle.std.proofs.Common.{◌≡◌, rules, sym, subst, false}
+use Rattle.std.proofs.Common.{◌≡◌, sym, subst, false}
 use Rattle.script_terms.specs.Refusing.{row_of, is_nowhere}
 use Rattle.script_terms.specs.State.{State}
 use Rattle.std.specs.Prelude.{IfOk}
@@ -12,12 +12,19 @@ use Rattle.command_answers.proofs.world.World.answer_rule.Goals as goal
 pub returns-clause-answers : goal.returns-clause-answers
 returns-clause-answers c =
     let there = subst (λ (q : State). is_nowhere q.project c.args.dest.now ≡ false) (sym c.self.view_is) c.in-Some.ensures.0 in
-    let is = subst (λ (q : State). c.in-Some.row ≡ row_of q.project c.args.kind c.args.origin.now c.args.dest.now) (sym c.self.view_is) c.in-Some.ensures.1 in
-    subst (λ (z : State). IfOk c.reply_to_rule.result (λ r. Answers z (Rule c.args.kind c.args.origin.now c.args.dest.now) (said_of c.add_rule.new.self r) (state_of c.add_rule.new.self c.self.inside.sessions))) c.self.view_is (rule_replied c.self.inside.topology c.add_rule.new.self c.self.inside.sessions c.args.kind c.args.origin.now c.args.dest.now c.in-Some.row c.add_rule.result c.reply_to_rule.result (search rules) there is c.add_rule.ensures.ok c.add_rule.ensures.may c.add_rule.ensures.refused c.add_rule.ensures.err c.reply_to_rule.ensures.said)
+    let is = subst (λ (q : State). c.in-Some.row ≡ row_of q.project c.args.kind c.args.origin.now c.args.dest.now) (sym c.self.view_is)
+    c.in-Some.ensures.1 in
+    subst (λ (z : State). IfOk c.reply_to_rule.result (λ r. Answers z (Rule c.args.kind c.args.origin.now c.args.dest.now)
+    (said_of c.add_rule.new.self r) (state_of c.add_rule.new.self c.self.inside.sessions))) c.self.view_is
+    (rule_replied c.self.inside.topology c.add_rule.new.self c.self.inside.sessions c.args.kind c.args.origin.now c.args.dest.now
+    c.in-Some.row c.add_rule.result c.reply_to_rule.result there is c.add_rule.ensures.ok c.add_rule.ensures.may
+    c.add_rule.ensures.refused c.add_rule.ensures.err c.reply_to_rule.ensures.said)
 
 pub returns-clause-err : goal.returns-clause-err
 returns-clause-err c =
-    rw (← c.self.view_is) (kept_by _ c.add_rule.result c.reply_to_rule.result c.reply_to_rule.ensures.spent (same_after c.self.inside.topology c.add_rule.new.self c.self.inside.sessions c.add_rule.result c.add_rule.ensures.err))
+    rw (← c.self.view_is) (kept_by _ c.add_rule.result c.reply_to_rule.result c.reply_to_rule.ensures.spent
+    (same_after c.self.inside.topology c.add_rule.new.self c.self.inside.sessions c.add_rule.result c.add_rule.ensures.err))
 
 pub invariant_of-self : goal.invariant_of-self
-invariant_of-self c = rule_kept c.self.inside.topology c.add_rule.new.self c.self.inside.sessions c.in-Some.row c.add_rule.result c.self.invariant c.add_rule.ensures.ok c.add_rule.ensures.err c.add_rule.ensures.sound c.add_rule.ensures.settled
+invariant_of-self c = rule_kept c.self.inside.topology c.add_rule.new.self c.self.inside.sessions c.in-Some.row c.add_rule.result
+    c.self.invariant c.add_rule.ensures.ok c.add_rule.ensures.err c.add_rule.ensures.sound c.add_rule.ensures.settled

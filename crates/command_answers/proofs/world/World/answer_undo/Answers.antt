@@ -6,15 +6,23 @@ use Rattle.command_answers.proofs.Replying.{kept_by}
 use Rattle.command_answers.proofs.world.World.answer_undo.Goals as goal
 
 pub undo-requires : goal.undo-requires
-undo-requires c = record { may = λ s e. named_has (MayAll (May c.self.inside.topology)) c.self.inside.sessions c.args.editor.now s e c.self.invariant.may }
+undo-requires c = record {
+  may = λ s e. named_has (MayAll (May c.self.inside.topology)) c.self.inside.sessions c.args.editor.now s e
+      c.self.invariant.may;
+}
 
 pub returns-clause-answers : goal.returns-clause-answers
 returns-clause-answers c =
-    rw (← c.self.view_is) (undo_replied c.self.inside.topology c.undo.new.ground c.self.inside.sessions c.undo.new.self c.args.editor.now c.undo.result c.reply_to_session.result c.self.invariant c.undo.ensures.done c.undo.ensures.refused c.undo.ensures.kept c.undo.ensures.same c.reply_to_session.ensures.said)
+    rw (← c.self.view_is) (undo_replied c.self.inside.topology c.undo.new.ground c.self.inside.sessions c.undo.new.self c.args.editor.now
+    c.undo.result c.reply_to_session.result c.self.invariant c.undo.ensures.done c.undo.ensures.refused c.undo.ensures.kept
+    c.undo.ensures.same c.reply_to_session.ensures.said)
 
 pub returns-clause-err : goal.returns-clause-err
 returns-clause-err c =
-    rw (← c.self.view_is) (kept_by _ c.undo.result c.reply_to_session.result c.reply_to_session.ensures.spent (still_after c.self.inside.topology c.undo.new.ground c.self.inside.sessions c.undo.new.self c.undo.result c.undo.ensures.kept c.undo.ensures.same))
+    rw (← c.self.view_is) (kept_by _ c.undo.result c.reply_to_session.result c.reply_to_session.ensures.spent
+    (still_after c.self.inside.topology c.undo.new.ground c.self.inside.sessions c.undo.new.self c.undo.result c.undo.ensures.kept
+    c.undo.ensures.same))
 
 pub invariant_of-self : goal.invariant_of-self
-invariant_of-self c = undo_kept c.self.inside.topology c.undo.new.ground c.self.inside.sessions c.undo.new.self c.args.editor.now c.undo.result c.self.invariant c.undo.ensures.done c.undo.ensures.kept c.undo.ensures.same
+invariant_of-self c = undo_kept c.self.inside.topology c.undo.new.ground c.self.inside.sessions c.undo.new.self c.args.editor.now
+    c.undo.result c.self.invariant c.undo.ensures.done c.undo.ensures.kept c.undo.ensures.same

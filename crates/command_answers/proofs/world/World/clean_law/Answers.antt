@@ -5,4 +5,5 @@ use Rattle.command_answers.proofs.Headlines.{exact}
 use Rattle.command_answers.proofs.world.World.clean_law.Goals as goal
 
 pub returns : goal.returns
-returns c = subst (λ (q : State). q.project.dirt ≡ [] → IsExact q.project) c.self.view_is (exact c.self.inside.topology c.poster_law.ensures.laws c.topology_law.ensures c.self.invariant.sound)
+returns c = subst (λ (q : State). q.project.dirt ≡ [] → IsExact q.project) c.self.view_is
+    (exact c.self.inside.topology c.poster_law.ensures.laws c.topology_law.ensures c.self.invariant.sound)

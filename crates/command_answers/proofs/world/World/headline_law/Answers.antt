@@ -7,7 +7,8 @@ use Rattle.command_answers.proofs.Headlines.{invariant}
 use Rattle.command_answers.proofs.world.World.headline_law.Goals as goal
 
 pub returns-clause-invariant : goal.returns-clause-invariant
-returns-clause-invariant c = subst (λ (q : State). Invariant q.project) c.self.view_is (invariant c.self.inside.topology c.topology_law.ensures c.self.invariant.sound c.self.invariant.settled)
+returns-clause-invariant c = subst (λ (q : State). Invariant q.project) c.self.view_is
+    (invariant c.self.inside.topology c.topology_law.ensures c.self.invariant.sound c.self.invariant.settled)
 
 pub returns-clause-ordered : goal.returns-clause-ordered
 returns-clause-ordered c = subst (λ (q : State). IsOrdered q.project) c.self.view_is c.order_law.ensures

@@ -8,9 +8,15 @@ pub returns-then-m-lt0-clause-both : goal.returns-then-m-lt0-clause-both
 returns-then-m-lt0-clause-both c =
     λ t w p.
     let e = c.tightened-then-m-lt0.ensures.both (neg_ℤ t) w p in
-    let f = turned_back c.args.m c.args.k c.args.strict t w c.requires.m_fits c.requires.k_fits in
-    (λ h. (record { some = h.some; low = h.low; high = (e.0 h.high).0 }, f.0 (e.0 h.high).1), λ h. record { some = h.0.some; low =
-        h.0.low; high = e.1 (h.0.high, f.1 h.1) })
+    let f = turned_back c.args.m c.args.k c.args.strict t w c.requires.m_fits c.requires.k_fits in (
+      λ h. (record { some = h.some; low = h.low; high = (e.0 h.high).0 }, f.0 (e.0 h.high).1),
+      λ h. record {
+        some = h.0.some;
+        low =
+            h.0.low;
+        high = e.1 (h.0.high, f.1 h.1);
+      },
+    )
 
 pub returns-then-is_above-clause-both : goal.returns-then-is_above-clause-both
 returns-then-is_above-clause-both c =
