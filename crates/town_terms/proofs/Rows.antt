@@ -1,10 +1,24 @@
 -- Worked rows: words, and the scripts of two small towns.
-use Rattle.std.proofs.Common.{◌≡◌, [], ◌∷◌, ◌++◌, refl}
+use Rattle.std.proofs.Common.{ℕ, ◌≡◌, [], ◌∷◌, ◌++◌, refl, arith}
 use Rattle.std.specs.Prelude.{codes}
 use Rattle.std.specs.Fmt.{digits}
 use Rattle.town_terms.specs.Words.{state_after, word}
 use Rattle.town_terms.specs.Town.{head_text, town_text}
+use Rattle.town_terms.specs.Request.{IsTownRequest}
 use Rattle.town_terms.specs.Summary.{summary_text}
+
+-- zeros in front are free, and both ends of the rows are taken
+asked : IsTownRequest (codes "town" ∷ codes "007" ∷ codes "60" ∷ []) 7 60
+asked = record {
+  seed_word = codes "007";
+  rows_word = codes "60";
+  spelled = refl;
+  says_seed = record { numeral = record { some = λ e. cc; digits = refl; value = refl }; at_least = omega arith; at_most = omega arith };
+  says_rows = record { numeral = record { some = λ e. cc; digits = refl; value = refl }; at_least = omega arith; at_most = omega arith };
+}
+
+no_town_of_none : (seed n : ℕ) → n ≡ 0 → IsTownRequest (codes "town" ∷ codes "7" ∷ codes "0" ∷ []) seed n → ⊥
+no_town_of_none seed n none h = omega (arith, h.says_rows.at_least)
 
 -- the values of the reference code in C
 words : word 1477776061723855037 0 ∷ word 1477776061723855037 1 ∷ word 1477776061723855037 2 ∷ []

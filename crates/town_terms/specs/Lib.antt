@@ -1,3 +1,4 @@
 pub mod Words
 pub mod Town
 pub mod Summary
+pub mod Request
