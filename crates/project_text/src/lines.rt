@@ -99,7 +99,11 @@ pub fn push_rule_line(out: &mut Vec<u8>, store: &Store, rule: &InForce) -> Resul
 }
 
 /// Appends the line of a feature.
-pub fn push_feature_line(out: &mut Vec<u8>, store: &Store, feature: &Feature) -> Result<(), NoMemory>
+pub fn push_feature_line(
+    out: &mut Vec<u8>,
+    store: &Store,
+    feature: &Feature,
+) -> Result<(), NoMemory>
     ensures { OnOk result (out.new.items ≡ out.old.items ++ feature_text store.now.classes feature.now) }
 {
     push_text(out, b"feature")?;

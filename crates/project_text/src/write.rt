@@ -5,7 +5,8 @@ ghost use Rattle.project_terms.specs.Written.{project_text};
 
 use crate::data::ProjectData;
 use crate::lines::{
-    push_cell_line, push_class_line, push_dirty_line, push_error_line, push_feature_line, push_rule_line,
+    push_cell_line, push_class_line, push_dirty_line, push_error_line, push_feature_line,
+    push_rule_line,
 };
 use crate::push::{push_end, push_number, push_text};
 use convex_cell::Cells;
