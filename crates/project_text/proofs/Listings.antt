@@ -1,5 +1,5 @@
 -- The lines of a section, and the half-planes of a cell, one more at a time.
-use Rattle.std.proofs.Common.{ℕ, zero, suc, ◌≡◌, ◌+◌, ◌-◌, ◌<◌, Bool, true, false, ltb, List, [], ◌∷◌, ◌++◌, take, drop, length, sym, ◌∙◌, ap, append_assoc, append-nil, add-one, Option, Some, None, refl, arith}
+use Rattle.std.proofs.Common.{ℕ, zero, suc, ◌≡◌, ◌+◌, Bool, ltb, List, [], ◌∷◌, ◌++◌, take, drop, length, sym, ◌∙◌, ap, append_assoc, append-nil, add-one, Option, Some, None, refl, arith}
 use Rattle.std.proofs.lemmas.Bool.{le-ltb}
 use Rattle.std.specs.Prelude.{flat_map, slice_get}
 use Rattle.plane_terms.specs.HalfPlane.{HalfPlane}

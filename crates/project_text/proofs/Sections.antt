@@ -1,5 +1,5 @@
 -- The text of a project, section by section, and each line as it is appended.
-use Rattle.std.proofs.Common.{ℕ, ◌≡◌, Bool, true, false, List, [], ◌∷◌, ◌++◌, map, refl, sym, ap, ◌∙◌, append_assoc, append-nil, Option, Some, None}
+use Rattle.std.proofs.Common.{ℕ, ◌≡◌, Bool, true, false, List, [], ◌∷◌, ◌++◌, map, refl, sym, ap, ◌∙◌, append_assoc, Option, Some, None}
 use Rattle.std.specs.Prelude.{flat_map, codes, decimal}
 use Rattle.std.specs.Fmt.{signed_decimal}
 use Rattle.std.proofs.lemmas.Grind.{flat_map-append}
@@ -14,7 +14,7 @@ use Rattle.topology_terms.specs.Entry.{Entry}
 use Rattle.topology_terms.specs.Project.{Project, InForce}
 use Rattle.topology_terms.specs.Lookups.{class_at}
 use Rattle.project_terms.specs.Lines.{joined}
-use Rattle.project_terms.specs.Written.{name_in, rect_fields, cell_fields, mark_word, extent_word, line_text, title, next_line, class_line, rule_line, feature_line, dirty_line, error_line, cell_line, error_lines, last_line, lines_of, project_text}
+use Rattle.project_terms.specs.Written.{name_in, rect_fields, cell_fields, mark_word, extent_word, line_text, title, next_line, class_line, rule_line, feature_line, dirty_line, error_line, cell_line, error_lines, last_line, project_text}
 use Rattle.project_text.specs.Pushed.{name_text, rect_text, half_text, sign_text, halves_text, class_text, rule_text, feature_text, dirty_text, error_text, cell_text, error_texts, head_text, text_of}
 
 -- ---- fields behind spaces
