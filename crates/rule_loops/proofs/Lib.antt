@@ -1,3 +1,4 @@
+mod Blocked
 mod Boxes
 mod Carved
 mod More

@@ -2,6 +2,7 @@
 #![tactic(auto)]
 
 mod area;
+mod blocks;
 mod common;
 mod crossings;
 mod gaps;
