@@ -1,4 +1,5 @@
 mod Beyond
+mod Blocked
 mod Boxes
 mod Carved
 mod More

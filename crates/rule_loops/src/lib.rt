@@ -4,6 +4,7 @@
 mod area;
 mod around;
 mod bad;
+mod blocks;
 mod common;
 mod counts;
 mod crossings;

@@ -3,6 +3,7 @@ ghost use Rattle.plane_terms.specs.Cell as planes;
 ghost use Rattle.plane_terms.specs.Segment.{Segment, IsSegment};
 ghost use Rattle.topology_terms.specs.Cells as terms;
 
+use crate::blocks::{frames_of, row_in_blocks};
 use convex_cell::Cells;
 use grid_plane::{NoMemory, Seg};
 use std::alloc::Global;
@@ -46,9 +47,10 @@ pub fn each_pair<C: Crossing>(
 ) -> Result<Cells, NoMemory>
     ensures { IfOk result (λ cells. cells ≡ terms.each_pair (C.crossing crossing.now) segments.now others.now) }
 {
+    let frames = frames_of(alloc, others)?;
     let mut cells = Cells::new(alloc);
     for segment in segments {
-        cells.append(row(alloc, crossing, segment, others)?)?;
+        cells.append(row_in_blocks(alloc, crossing, segment, others, &frames)?)?;
     }
     Ok(cells)
 }
