@@ -167,9 +167,17 @@ def edit(rng, count):
         return 'validate %d %d %d %d' % box(rng)
     if kind < 0.92:
         return 'droprule %d' % rng.randint(1, 6)
-    if kind < 0.95:
+    if kind < 0.94:
         return 'rule ' + rng.choice(RULES)
-    return rng.choice(['cells', 'cells', 'dirty', 'errors', 'features'])
+    if kind < 0.96:
+        return exception(rng, count)
+    return rng.choice(['cells', 'cells', 'dirty', 'errors', 'features', 'rules'])
+
+
+def exception(rng, count):
+    """A line that marks an error, or takes its mark away; mostly there is no such error."""
+    subject, other = rng.randint(1, min(count, 4) + 1), rng.choice([0, 0, rng.randint(1, min(count, 4) + 1)])
+    return '%s %d %d %d' % (rng.choice(['mark', 'mark', 'unmark']), rng.randint(1, 6), subject, other)
 
 
 CLASSES = {'polygon': ('lots', 'zones'), 'line': ('roads', 'paths'), 'point': ('wells', 'pumps')}
