@@ -31,7 +31,8 @@ loop-frame-preserved g c =
       }
       | else-meets w ↦
           let far : rects_meet (box_of s) r ≡ false = rw (c.env-own.ensures.value) at (sym c.meets.ensures.value ∙ w.if-meets.false) in
-          let none = none_near gives (g.met.C.Crossing.apart c.args.crossing.now) s r (take 32 rest) c.env-own.ensures.valid.proper round.0 far in
+          let none = none_near gives (g.met.C.Crossing.apart c.args.crossing.now) s r (take 32 rest) c.env-own.ensures.valid.proper round.0
+          far in
           record {
             round = rw later at round.1;
             cells = rw later at (block_more (gives s) rest done [] c.if-meets.cells all (sym none)
