@@ -67,19 +67,23 @@ undone_of s editor = steps_of (λ (x : Session). x.undone) (session_of s.session
 abbrev pub refusal_of : State → Command → Option Refusal
 refusal_of s Blank = None
 refusal_of s (AClass name k) = changes (class_cause s.project.classes name)
-refusal_of s (Rule k origin dest) = first_of (when (is_nowhere s.project dest) (Change cause.NoClass) ∷ changes
-    (rule_cause s.project (row_of s.project k origin dest)) ∷ [])
+refusal_of s (Rule k origin dest) = first_of (
+    when (is_nowhere s.project dest) (Change cause.NoClass)
+    ∷ changes (rule_cause s.project (row_of s.project k origin dest)) ∷ [])
 refusal_of s (DropRule r) = changes (drop_cause s.project.rules r)
 refusal_of s (Begin editor) = first_of (when (is_open s editor) SessionOpen ∷ when (length s.sessions == 16) SessionsFull ∷ [])
 refusal_of s (End editor) = when (not (is_open s editor)) NoSession
 refusal_of s (Discard editor) = when (not (is_open s editor)) NoSession
-refusal_of s (Add editor class shape) = first_of (when (not (is_open s editor)) NoSession ∷ changes
-    (add_cause s.project.classes s.project.next (number_or_0 (class_number s.project class)) shape.kind) ∷ [])
-refusal_of s (AChange editor h shape) =
-    first_of (when (not (is_open s editor)) NoSession ∷ changes (delete_cause s.project.features h) ∷ held s editor h ∷ changes
-    (change_cause s.project.features h shape.kind) ∷ [])
-refusal_of s (Delete editor h) = first_of (when (not (is_open s editor)) NoSession ∷ changes (delete_cause s.project.features h) ∷ held s
-    editor h ∷ [])
+refusal_of s (Add editor class shape) = first_of (
+    when (not (is_open s editor)) NoSession
+    ∷ changes (add_cause s.project.classes s.project.next (number_or_0 (class_number s.project class)) shape.kind) ∷ [])
+refusal_of s (AChange editor h shape) = first_of (
+    when (not (is_open s editor)) NoSession
+    ∷ changes (delete_cause s.project.features h)
+    ∷ held s editor h
+    ∷ changes (change_cause s.project.features h shape.kind) ∷ [])
+refusal_of s (Delete editor h) = first_of (
+    when (not (is_open s editor)) NoSession ∷ changes (delete_cause s.project.features h) ∷ held s editor h ∷ [])
 refusal_of s (Undo editor) = first_of (when (not (is_open s editor)) NoSession ∷ when (length (done_of s editor) == 0) NothingToUndo ∷ [])
 refusal_of s (Redo editor) = first_of (when (not (is_open s editor)) NoSession ∷ when (length (undone_of s editor) == 0) NothingToRedo ∷ [])
 refusal_of s (Validate w) = None
