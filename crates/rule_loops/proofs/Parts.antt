@@ -7,7 +7,6 @@ use Rattle.plane_terms.specs.Segment.{Segment, segment_between}
 use Rattle.plane_terms.specs.Cell.{Cell}
 use Rattle.plane_terms.specs.Shape.{Shape, path, closed_path, last_of, rings_of, segments_of, segments_by}
 use Rattle.plane_terms.specs.declared.kind.Kind.{Kind}
-use Rattle.plane_terms.specs.declared.kind.Kind.TheVariants as kind
 use Rattle.shape.specs.Given.{Ring, rings_in, lines_in, all_rings}
 use Rattle.shape.proofs.Dropped.{item_dropped}
 use Rattle.shape.proofs.Filled.{line_rings}

@@ -3,7 +3,7 @@ use Rattle.std.proofs.Common.{◌≡◌, ◌↔◌, ℕ, Bool, true, false, List
 use Rattle.std.specs.List.{filter}
 use Rattle.std.proofs.lemmas.Bool.Decides.{same_from_decides}
 use Rattle.std.proofs.lemmas.Bool.{false≢true}
-use Rattle.plane_terms.specs.Point.{Place, IsAt}
+use Rattle.plane_terms.specs.Point.{Place}
 use Rattle.plane_terms.specs.Segment.{Segment, IsSegment, OnSegment, Overlap, overlap}
 use Rattle.plane_terms.specs.Line.{holds_place}
 use Rattle.plane_terms.specs.Cell.{Cell, out_of_place}

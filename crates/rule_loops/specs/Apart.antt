@@ -12,7 +12,7 @@ use Rattle.cell_laws.proofs.Meets.{meet_points}
 use Rattle.cell_laws.proofs.SegmentCells.{on_segment_points}
 use Rattle.cell_laws.proofs.Envelope.{box_holds}
 use Rattle.sound_laws.proofs.Meetings.{meets_test}
-use Rattle.plane_terms.specs.Carve.{kept, carve_of}
+use Rattle.plane_terms.specs.Carve.{kept}
 
 pub uncovered-nil : (dss : List (List Cell)) → uncovered [] dss ≡ []
 uncovered-nil [] = refl

@@ -1,4 +1,4 @@
-use Rattle.std.proofs.Common.{◌≡◌, sym, ◌∙◌, ap, Bool}
+use Rattle.std.proofs.Common.{sym, ◌∙◌, ap, Bool}
 use Rattle.std.specs.List.{filter}
 use Rattle.plane_terms.specs.Point.{Place}
 use Rattle.plane_terms.specs.Shape.{ends_of}
