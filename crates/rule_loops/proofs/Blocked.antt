@@ -4,15 +4,14 @@ use Rattle.std.specs.Prelude.{flat_map}
 use Rattle.std.proofs.lemmas.Bool.{false≢true}
 use Rattle.std.proofs.lemmas.Int.{ints}
 use Rattle.std.proofs.lemmas.Grind.{flat_map-append}
-use Rattle.std.proofs.lemmas.List.{take-append-drop, take_more, drop_more}
-use Rattle.plane_terms.specs.Lists.{Every}
+use Rattle.std.proofs.lemmas.List.{take-append-drop, take_more}
 use Rattle.plane_terms.specs.Rectangle.{Rectangle, IsWithin, rects_meet}
 use Rattle.plane_terms.specs.Segment.{Segment, IsSegment, box_of}
 use Rattle.plane_terms.specs.Cell.{Cell}
 use Rattle.plane_terms.proofs.ListLemmas.{every_append, every_map}
 use Rattle.grid_plane.specs.Rectangles.{IsJoin}
 use Rattle.topology_terms.specs.Cells.{box_meets}
-use Rattle.rule_loops.specs.Blocks.{IsRound, AreRound}
+use Rattle.rule_loops.specs.Blocks.{IsRound}
 use Rattle.rule_loops.proofs.Boxes.{meets_wider}
 
 -- ---- a rectangle round segments
