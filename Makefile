@@ -31,7 +31,7 @@ install: program
 	chmod 644 "$(DESTDIR)$(man)/topo.1"
 	install -m 644 README.md GLOSSARY.md CHANGES.md "$(DESTDIR)$(doc)"
 	install -m 644 docs/*.md "$(DESTDIR)$(doc)/docs"
-	install -m 644 docs/rules/*.md "$(DESTDIR)$(doc)/docs/rules"
+	install -m 644 docs/rules/*.md docs/rules/*.svg "$(DESTDIR)$(doc)/docs/rules"
 	install -m 644 docs/figures/*.svg "$(DESTDIR)$(doc)/docs/figures"
 	install -m 644 tools/README.md "$(DESTDIR)$(doc)/tools"
 	install -m 644 examples/*.topo examples/Snakefile "$(DESTDIR)$(doc)/examples"

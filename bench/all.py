@@ -18,7 +18,10 @@ import sys
 
 from programs import HERE, ROOT, add_program_words
 
-COMMANDS = ['run.py', 'features.py', 'late.py', 'moved.py', 'together.py', 'town.py', 'borders.py', 'coverings.py', 'shapes.py', 'columns.py', 'cells.py']
+COMMANDS = [
+    'run.py', 'features.py', 'late.py', 'moved.py', 'together.py', 'town.py', 'borders.py', 'coverings.py', 'roads.py', 'wells.py',
+    'shapes.py', 'columns.py', 'cells.py',
+]
 TIMING = {'shapes.py': 'bench_shapes', 'columns.py': 'bench_columns', 'cells.py': 'bench_cells'}
 WITHOUT_BASELINE = {'cells.py'}
 

@@ -1,11 +1,11 @@
 -- Ascending lists of whole numbers.
-use Rattle.std.proofs.Common.{◌≡◌, ℤ, ◌<ℤ◌, arith, sym, subst, refl, ◌⊎◌, inl, inr, Bool, true, false, cond, List, [], ◌∷◌}
+use Rattle.std.proofs.Common.{◌≡◌, ℤ, ◌<ℤ◌, arith, refl, ◌⊎◌, inl, inr, Bool, true, false, cond, List, [], ◌∷◌}
 use Rattle.std.proofs.lemmas.Int.{ints}
 use Rattle.std.specs.Int.RustNames.{int_lt}
 use Rattle.plane_terms.specs.Lists.{Every}
 use Rattle.plane_terms.specs.Columns.{put}
 use Rattle.column_laws.specs.Rising.{IsRising}
-use Rattle.plane_terms.proofs.ListLemmas.{every_map, IsAmong, every_among}
+use Rattle.plane_terms.proofs.ListLemmas.{every_map, IsAmong}
 
 -- the three cases of `put`
 put_cases : (P : List ℤ → Type 0) (v x : ℤ) (xs more : List ℤ) → (v <ℤ x → P (v ∷ x ∷ xs)) → (x <ℤ v → P (x ∷ more))

@@ -4,10 +4,10 @@ use Rattle.std.proofs.lemmas.Int.{ints}
 use Rattle.std.specs.Int.RustNames.{int_le}
 use Rattle.plane_terms.specs.Point.{Point}
 use Rattle.plane_terms.specs.HalfPlane.{HalfPlane, value_at}
-use Rattle.plane_terms.specs.Segment.{Segment, cross, left_of, right_of, IsBetween, OnSegment, IsEndOf, MeetAtEnds}
+use Rattle.plane_terms.specs.Segment.{Segment, cross, left_of, IsBetween, OnSegment, IsEndOf, MeetAtEnds}
 use Rattle.plane_terms.specs.Columns.{gap_at, is_lower}
 use Rattle.number_laws.proofs.Ring.{num, neg, ◌⊕◌, ◌⊖◌, ◌⊗◌, same_by, le_by, le_read, same_read}
-use Rattle.cell_laws.proofs.HalfPlanes.{left_value, right_value}
+use Rattle.cell_laws.proofs.HalfPlanes.{left_value}
 use Rattle.column_laws.proofs.Signs.{most_scaled}
 use Rattle.number_laws.proofs.Order.{product_at_least, least_unscaled, natural, scaled_le, cases_order_ℤ}
 use Rattle.column_laws.specs.Slots.{IsAcross}

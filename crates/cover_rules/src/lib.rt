@@ -10,15 +10,9 @@ mod polygon_must_cover_each_other;
 mod polygon_must_not_have_gaps;
 
 pub use line_must_be_covered_by_boundary_of::{LineMustBeCoveredByBoundaryOf, LineOffBoundaries};
-pub use line_must_be_covered_by_feature_class_of::{
-    LineMustBeCoveredByFeatureClassOf, LineOffLines,
-};
-pub use polygon_area_boundary_must_be_covered_by_boundary_of::{
-    BoundaryOffBoundaries, PolygonAreaBoundaryMustBeCoveredByBoundaryOf,
-};
+pub use line_must_be_covered_by_feature_class_of::{LineMustBeCoveredByFeatureClassOf, LineOffLines};
+pub use polygon_area_boundary_must_be_covered_by_boundary_of::{BoundaryOffBoundaries, PolygonAreaBoundaryMustBeCoveredByBoundaryOf};
 pub use polygon_boundary_must_be_covered_by::{BoundaryOffLines, PolygonBoundaryMustBeCoveredBy};
-pub use polygon_must_be_covered_by_feature_class_of::{
-    AreaOffClass, PolygonMustBeCoveredByFeatureClassOf,
-};
+pub use polygon_must_be_covered_by_feature_class_of::{AreaOffClass, PolygonMustBeCoveredByFeatureClassOf};
 pub use polygon_must_cover_each_other::{AreaOffOther, PolygonMustCoverEachOther};
 pub use polygon_must_not_have_gaps::{Gaps, PolygonMustNotHaveGaps};

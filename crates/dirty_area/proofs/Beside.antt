@@ -32,27 +32,33 @@ part_loose s y x w h m n l = record { left = inner (is_within s x) refl; right =
         let f = l.right in
         cc
 
-left_part : (y w : Rectangle) → IsProper w → rects_meet y w ≡ true → IsWithin (rect_of y.x0 y.y0 w.x0 y.y1) y × (rects_meet (rect_of y.x0 y.y0 w.x0 y.y1) w ≡ true)
+left_part : (y w : Rectangle) → IsProper w → rects_meet y w ≡ true → IsWithin (rect_of y.x0 y.y0 w.x0 y.y1) y
+    × (rects_meet (rect_of y.x0 y.y0 w.x0 y.y1) w ≡ true)
 left_part y w v e = let k = meeting y w e in (omega (arith, ints), grind (arith, ints))
 
-right_part : (y w : Rectangle) → IsProper w → rects_meet y w ≡ true → IsWithin (rect_of w.x1 y.y0 y.x1 y.y1) y × (rects_meet (rect_of w.x1 y.y0 y.x1 y.y1) w ≡ true)
+right_part : (y w : Rectangle) → IsProper w → rects_meet y w ≡ true → IsWithin (rect_of w.x1 y.y0 y.x1 y.y1) y
+    × (rects_meet (rect_of w.x1 y.y0 y.x1 y.y1) w ≡ true)
 right_part y w v e = let k = meeting y w e in (omega (arith, ints), grind (arith, ints))
 
 below_part : (y w : Rectangle) → IsProper w → rects_meet y w ≡ true
-    → IsWithin (rect_of (int_max y.x0 w.x0) y.y0 (int_min y.x1 w.x1) w.y0) y × (rects_meet (rect_of (int_max y.x0 w.x0) y.y0 (int_min y.x1 w.x1) w.y0) w ≡ true)
+    → IsWithin (rect_of (int_max y.x0 w.x0) y.y0 (int_min y.x1 w.x1) w.y0) y × (rects_meet
+        (rect_of (int_max y.x0 w.x0) y.y0 (int_min y.x1 w.x1) w.y0) w ≡ true)
 below_part y w v e = let k = meeting y w e in (omega (arith, ints, clamps), grind (arith, ints, clamps))
 
 above_part : (y w : Rectangle) → IsProper w → rects_meet y w ≡ true
-    → IsWithin (rect_of (int_max y.x0 w.x0) w.y1 (int_min y.x1 w.x1) y.y1) y × (rects_meet (rect_of (int_max y.x0 w.x0) w.y1 (int_min y.x1 w.x1) y.y1) w ≡ true)
+    → IsWithin (rect_of (int_max y.x0 w.x0) w.y1 (int_min y.x1 w.x1) y.y1) y × (rects_meet
+        (rect_of (int_max y.x0 w.x0) w.y1 (int_min y.x1 w.x1) y.y1) w ≡ true)
 above_part y w v e = let k = meeting y w e in (omega (arith, ints, clamps), grind (arith, ints, clamps))
 
 -- ---- all that is left
-piece_added : (P : Rectangle → Type 0) (d : List Rectangle) (b : Bool) (s : Rectangle) → Every P d → P s → Every P (add_all d (piece_if b s))
+piece_added : (P : Rectangle → Type 0) (d : List Rectangle) (b : Bool) (s : Rectangle) → Every P d → P s
+    → Every P (add_all d (piece_if b s))
 unfolding add_all
 piece_added P d true s h k = every_added P d s h k
 piece_added P d false s h k = h
 
-pieces_loose : (d : List Rectangle) (y x w : Rectangle) → IsProper w → rects_meet x w ≡ false → AreLoose y x → Every (λ s. AreLoose s x) d → Every (λ s. AreLoose s x) (add_all d (pieces y w))
+pieces_loose : (d : List Rectangle) (y x w : Rectangle) → IsProper w → rects_meet x w ≡ false → AreLoose y x → Every (λ s. AreLoose s x) d
+    → Every (λ s. AreLoose s x) (add_all d (pieces y w))
 pieces_loose d y x w v n l h = by (rects_meet y w) refl
   where
     by : (b : Bool) → rects_meet y w ≡ b → Every (λ s. AreLoose s x) (add_all d (pieces y w))
@@ -74,7 +80,8 @@ pieces_loose d y x w v n l h = by (rects_meet y w) refl
         (part_loose _ y x w c.0 c.1 n l))
         (part_loose _ y x w f.0 f.1 n l))
 
-left_loose : (d ys : List Rectangle) (x w : Rectangle) → IsProper w → rects_meet x w ≡ false → Every (λ y. AreLoose y x) ys → Every (λ s. AreLoose s x) d → Every (λ s. AreLoose s x) (cut_from d ys w)
+left_loose : (d ys : List Rectangle) (x w : Rectangle) → IsProper w → rects_meet x w ≡ false → Every (λ y. AreLoose y x) ys
+    → Every (λ s. AreLoose s x) d → Every (λ s. AreLoose s x) (cut_from d ys w)
 unfolding cut_from
 left_loose d [] x w v n l h = h
 left_loose d (y ∷ ys) x w v n l h = left_loose (add_all d (pieces y w)) ys x w v n l.1 (pieces_loose d y x w v n l.0 h)
@@ -85,7 +92,8 @@ each_at P [] i x h k = absurd (omega arith)
 each_at P (y ∷ xs) zero x h k = h.0
 each_at P (y ∷ xs) (suc i) x h k = each_at P xs i x h.1 (omega arith)
 
-before_loose : (xs : List Rectangle) (i : ℕ) (x : Rectangle) → IsLoose xs → i < length xs → Every (λ y. AreLoose y (get_or xs i x)) (take i xs)
+before_loose : (xs : List Rectangle) (i : ℕ) (x : Rectangle) → IsLoose xs → i < length xs
+    → Every (λ y. AreLoose y (get_or xs i x)) (take i xs)
 before_loose [] i x h k = absurd (omega arith)
 before_loose (y ∷ xs) zero x h k = tt
 before_loose (y ∷ xs) (suc i) x h k = (each_at (AreLoose y) xs i x h.0 (omega arith), before_loose xs i x h.1 (omega arith))
@@ -103,8 +111,10 @@ put_last : (d : List Rectangle) (x : Rectangle) → Every (λ s. AreLoose s x) d
 put_last d x h = rw (add_dirt-loose d x (not_held d x h), none_dropped d x h) refl
 
 -- what the loop owes for one rectangle more: its pieces are added where it meets the window, else it is put last
-pub cut_step : (xs old new : List Rectangle) (w x : Rectangle) (i : ℕ) → IsLoose xs → IsProper w → old ≡ cut_from [] (take i xs) w → i < length xs → x ≡ get_or xs i x
-    → (rects_meet x w ≡ true → new ≡ add_all old (pieces x w)) → (rects_meet x w ≡ false → new ≡ old ++ x ∷ []) → new ≡ cut_from [] (take (i + 1) xs) w
+pub cut_step : (xs old new : List Rectangle) (w x : Rectangle) (i : ℕ) → IsLoose xs → IsProper w → old ≡ cut_from [] (take i xs) w
+    → i < length xs → x ≡ get_or xs i x
+    → (rects_meet x w ≡ true → new ≡ add_all old (pieces x w)) → (rects_meet x w ≡ false → new ≡ old ++ x ∷ [])
+        → new ≡ cut_from [] (take (i + 1) xs) w
 cut_step xs old new w x i l v h k e met beside = cut_more xs old new w x i h k e (by (rects_meet x w) refl)
   where
     by : (b : Bool) → rects_meet x w ≡ b → new ≡ add_all old (pieces x w)

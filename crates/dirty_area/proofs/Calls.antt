@@ -22,7 +22,8 @@ pub add_dirt-held : (d : List Rectangle) (r : Rectangle) → list_any (λ s. is_
 unfolding add_dirt
 add_dirt-held d r e = rw e
 
-pub add_dirt-loose : (d : List Rectangle) (r : Rectangle) → list_any (λ s. is_within r s) d ≡ false → add_dirt d r ≡ filter (λ s. not (is_within s r)) d ++ r ∷ []
+pub add_dirt-loose : (d : List Rectangle) (r : Rectangle) → list_any (λ s. is_within r s) d ≡ false
+    → add_dirt d r ≡ filter (λ s. not (is_within s r)) d ++ r ∷ []
 unfolding add_dirt
 add_dirt-loose d r e = rw e
 
@@ -83,7 +84,8 @@ cut_from-one : (d : List Rectangle) (x w : Rectangle) → cut_from d (x ∷ []) 
 unfolding cut_from
 cut_from-one d x w = refl
 
-pub cut_more : (xs old new : List Rectangle) (w x : Rectangle) (i : ℕ) → old ≡ cut_from [] (take i xs) w → i < length xs → x ≡ get_or xs i x → new ≡ add_all old (pieces x w) → new ≡ cut_from [] (take (i + 1) xs) w
+pub cut_more : (xs old new : List Rectangle) (w x : Rectangle) (i : ℕ) → old ≡ cut_from [] (take i xs) w → i < length xs → x ≡ get_or xs i x
+    → new ≡ add_all old (pieces x w) → new ≡ cut_from [] (take (i + 1) xs) w
 cut_more xs old new w x i h l e n =
     let t = take_more xs i x l in
     let k = cut_from-append [] (take i xs) (x ∷ []) w in
@@ -109,7 +111,8 @@ apart_test r w i j n = at (rects_meet r w) refl
     at false e = refl
 
 -- a rectangle of the list meets r exactly where some point of r is dirty
-some_meets : (d : List Rectangle) (r : Rectangle) → Every IsRectangle d → IsRectangle r → list_any (λ s. rects_meet s r) d ≡ true → MeetsDirt d r
+some_meets : (d : List Rectangle) (r : Rectangle) → Every IsRectangle d → IsRectangle r → list_any (λ s. rects_meet s r) d ≡ true
+    → MeetsDirt d r
 some_meets [] r h i e = absurd cc
 some_meets (s ∷ d) r h i e = elim (or_cases (rects_meet s r) (list_any (λ t. rects_meet t r) d) e) [
   | inl t ↦ let m = meets_from_test s r h.0.proper i.proper t in (m.0, inl m.1, m.2)
@@ -123,26 +126,31 @@ met (s ∷ d) r p h k = elim h [
   | inr t ↦ or_right (rects_meet s r) (list_any (λ t. rects_meet t r) d) (met d r p t k)
 ]
 
-pub meets_dirt : (d : List Rectangle) (r : Rectangle) (t : Bool) → Every IsRectangle d → IsRectangle r → t ≡ list_any (λ s. rects_meet s r) d → IsTrue t ↔ MeetsDirt d r
+pub meets_dirt : (d : List Rectangle) (r : Rectangle) (t : Bool) → Every IsRectangle d → IsRectangle r
+    → t ≡ list_any (λ s. rects_meet s r) d → IsTrue t ↔ MeetsDirt d r
 meets_dirt d r t h i e = ((λ k. some_meets d r h i (sym e ∙ k)), (λ k. e ∙ met d r k.0 k.1 k.2))
 
 -- a point of both rectangles that some of the dirt holds
-pub meets_part_by : (d : List Rectangle) (w r m : Rectangle) (t : Bool) → ((p : Point) → RectHolds m p ↔ (RectHolds w p × RectHolds r p)) → (IsTrue t ↔ MeetsDirt d m) → IsTrue t ↔ MeetsPart d w r
+pub meets_part_by : (d : List Rectangle) (w r m : Rectangle) (t : Bool) → ((p : Point) → RectHolds m p ↔ (RectHolds w p × RectHolds r p))
+    → (IsTrue t ↔ MeetsDirt d m) → IsTrue t ↔ MeetsPart d w r
 meets_part_by d w r m t same meets = (
   (λ e. let k = meets.0 e in let b = (same k.0).0 k.2 in (k.0, k.1, b.0, b.1)),
   (λ k. meets.1 (k.0, k.1, (same k.0).1 (k.2, k.3))),
 )
 
 -- ---- the invariant
-pub dirt_added : (d e : List Rectangle) (r : Rectangle) (o : Result (Unit {0}) NoMemory) → OnOk o (e ≡ add_dirt d r) → OnErr o (e ≡ d) → IsDirt d → IsRectangle r → IsDirt e
+pub dirt_added : (d e : List Rectangle) (r : Rectangle) (o : Result (Unit {0}) NoMemory) → OnOk o (e ≡ add_dirt d r) → OnErr o (e ≡ d)
+    → IsDirt d → IsRectangle r → IsDirt e
 dirt_added d e r (Ok u) h k i j = rw h (record { loose = add_loose d r i.loose; on_grid = every_added IsRectangle d r i.on_grid j })
 dirt_added d e r (Err u) h k i j = rw k i
 
 one_added : (d : List Rectangle) (o : Option Rectangle) → IfSome o IsRectangle → IsDirt d → IsDirt (add_all d (option_to_list o))
 one_added d None h i = rw (add_all-none d) i
-one_added d (Some r) h i = rw (add_all-one d r) (record { loose = add_loose d r i.loose; on_grid = every_added IsRectangle d r i.on_grid h })
+one_added d (Some r) h i = rw (add_all-one d r) (record { loose = add_loose d r i.loose; on_grid =
+    every_added IsRectangle d r i.on_grid h })
 
-pub dirt_two : (d e : List Rectangle) (a b : Option Rectangle) (o : Result (Unit {0}) NoMemory) → OnOk o (e ≡ add_all (add_all d (option_to_list a)) (option_to_list b)) → OnErr o (e ≡ d)
+pub dirt_two : (d e : List Rectangle) (a b : Option Rectangle) (o : Result (Unit {0}) NoMemory)
+    → OnOk o (e ≡ add_all (add_all d (option_to_list a)) (option_to_list b)) → OnErr o (e ≡ d)
     → IsDirt d → IfSome a IsRectangle → IfSome b IsRectangle → IsDirt e
 dirt_two d e a b (Ok u) h k i ha hb = rw h (one_added (add_all d (option_to_list a)) b hb (one_added d a ha i))
 dirt_two d e a b (Err u) h k i ha hb = rw k i

@@ -23,13 +23,16 @@ pub record IsStoreSwap (h : ℕ) (before after : Option Feature) (s t : Stored) 
   pub own : IfSome before (λ (f : Feature). f.handle ≡ h)
   pub fits : IfSome before (IsOfClass t.classes)
 
-pub may_again : (h : ℕ) (before after : Option Feature) (s t : Stored) → IsMayStand s.classes s.next h after → IsStoreSwap h before after s t → IsMayStand t.classes t.next h before
+pub may_again : (h : ℕ) (before after : Option Feature) (s t : Stored) → IsMayStand s.classes s.next h after
+    → IsStoreSwap h before after s t → IsMayStand t.classes t.next h before
 may_again h before after s t m w = record { from_1 = m.from_1; given = subst (λ n. h < n) (sym w.next) m.given; own = w.own; fits = w.fits }
 
 pub may_in : (cs ds : List Class) (n m : ℕ) (k : ℕ) (x : Option Feature) → ds ≡ cs → m ≡ n → IsMayStand cs n k x → IsMayStand ds m k x
-may_in cs ds n m k x e f w = record { from_1 = w.from_1; given = subst (λ j. k < j) (sym f) w.given; own = w.own; fits = subst (λ es. IfSome x (IsOfClass es)) (sym e) w.fits }
+may_in cs ds n m k x e f w = record { from_1 = w.from_1; given = subst (λ j. k < j) (sym f) w.given; own = w.own; fits =
+    subst (λ es. IfSome x (IsOfClass es)) (sym e) w.fits }
 
-pub may_still : (h : ℕ) (before after : Option Feature) (s t : Stored) (k : ℕ) (x : Option Feature) → IsStoreSwap h before after s t → IsMayStand s.classes s.next k x → IsMayStand t.classes t.next k x
+pub may_still : (h : ℕ) (before after : Option Feature) (s t : Stored) (k : ℕ) (x : Option Feature) → IsStoreSwap h before after s t
+    → IsMayStand s.classes s.next k x → IsMayStand t.classes t.next k x
 may_still h before after s t k x w m = may_in s.classes t.classes s.next t.next k x w.classes w.next m
 
 pub same_live : (s t : Stored) (k : ℕ) → IsSame s t → feature_at t.features k ≡ feature_at s.features k

@@ -6,7 +6,8 @@
 -- IsNoted name t old new       the step is the last done one of the session of this name, and its undone ones went
 -- IsUndone, IsRedone         the last done step of the session of this name was undone on the ground; its first undone one was done again
 -- IsStill same g h             the ground is as it was, or the same as it
--- IsDiscarded, IsDiscardedInPart     its done steps were undone on the ground, the last one first, and it went; the last ones were, and it stays
+-- IsDiscarded, IsDiscardedInPart     its done steps were undone on the ground, the last one first, and it went; the last ones were, and it
+--                                    stays
 use Rattle.std.specs.Prelude.{◌≡◌, ◌⊎◌, ◌<◌, ℕ, [], length, List, Option, Some, None}
 use Rattle.topology_terms.specs.Feature.{Feature}
 use Rattle.session_terms.specs.Kept.{KeptStep, KeptSession}
@@ -39,13 +40,15 @@ pub record IsNoted (name : List ℕ) (t : KeptStep) (old new : List KeptSession)
   pub change : IsKeptChange name was is old new
   pub noted : IsKeptNoted was t is
 
-pub record IsUndone {G : Type 0} (swapped : ℕ → Option Feature → Option Feature → G → G → Type 0) (name : List ℕ) (old new : List KeptSession) (g h : G) : Type 0 where
+pub record IsUndone {G : Type 0} (swapped : ℕ → Option Feature → Option Feature → G → G
+    → Type 0) (name : List ℕ) (old new : List KeptSession) (g h : G) : Type 0 where
   pub was : KeptSession
   pub is : KeptSession
   pub change : IsKeptChange name was is old new
   pub undone : IsUndoneOn swapped was is g h
 
-pub record IsRedone {G : Type 0} (swapped : ℕ → Option Feature → Option Feature → G → G → Type 0) (name : List ℕ) (old new : List KeptSession) (g h : G) : Type 0 where
+pub record IsRedone {G : Type 0} (swapped : ℕ → Option Feature → Option Feature → G → G
+    → Type 0) (name : List ℕ) (old new : List KeptSession) (g h : G) : Type 0 where
   pub was : KeptSession
   pub is : KeptSession
   pub change : IsKeptChange name was is old new
@@ -54,14 +57,16 @@ pub record IsRedone {G : Type 0} (swapped : ℕ → Option Feature → Option Fe
 abbrev pub IsStill : {G : Type 0} → (G → G → Type 0) → G → G → Type 0
 IsStill same g h = (h ≡ g) ⊎ same g h
 
-pub record IsDiscarded {G : Type 0} (swapped : ℕ → Option Feature → Option Feature → G → G → Type 0) (name : List ℕ) (old new : List KeptSession) (g h : G) : Type 0 where
+pub record IsDiscarded {G : Type 0} (swapped : ℕ → Option Feature → Option Feature → G → G
+    → Type 0) (name : List ℕ) (old new : List KeptSession) (g h : G) : Type 0 where
   pub was : KeptSession
   pub last : KeptSession
   pub there : kept_named old name ≡ Some was
   pub undone : AreUndoneOn swapped was.done was last g h
   pub sessions : new ≡ without_kept old name
 
-pub record IsDiscardedInPart {G : Type 0} (swapped : ℕ → Option Feature → Option Feature → G → G → Type 0) (stays : G → G → Type 0) (name : List ℕ) (old new : List KeptSession) (g h : G) : Type 0 where
+pub record IsDiscardedInPart {G : Type 0} (swapped : ℕ → Option Feature → Option Feature → G → G → Type 0) (stays : G → G
+    → Type 0) (name : List ℕ) (old new : List KeptSession) (g h : G) : Type 0 where
   pub was : KeptSession
   pub is : KeptSession
   pub change : IsKeptChange name was is old new
@@ -72,7 +77,8 @@ pub record IsAbsent {G : Type 0} (name : List ℕ) (old new : List KeptSession) 
   pub sessions : new ≡ old
   pub features : h ≡ g
 
-abbrev pub IsDiscardFault : {G : Type 0} → (ℕ → Option Feature → Option Feature → G → G → Type 0) → (G → G → Type 0) → List ℕ → List KeptSession → List KeptSession → G → G → SessionFault → Type 0
+abbrev pub IsDiscardFault : {G : Type 0} → (ℕ → Option Feature → Option Feature → G → G → Type 0) → (G → G → Type 0) → List ℕ
+    → List KeptSession → List KeptSession → G → G → SessionFault → Type 0
 IsDiscardFault swapped stays name old new g h fault.NoSession = IsAbsent name old new g h
 IsDiscardFault swapped stays name old new g h fault.NoMemory = IsDiscardedInPart swapped stays name old new g h
 IsDiscardFault swapped stays name old new g h other = ⊥

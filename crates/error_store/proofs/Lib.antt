@@ -1,4 +1,5 @@
 mod Dropping
 mod Finding
+mod Marking
 mod Merging
 mod Steps

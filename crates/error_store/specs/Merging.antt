@@ -4,7 +4,8 @@
 -- HaveSameKey e f      the same rule, subject and partner
 -- Outcome selected a old fresh new     what becomes of a key of the subject a
 -- KeyStands ..         a key is still to come, with nothing put out, or is done, and nothing of it is left
--- IsMerging selected old0 fresh0 out old fresh     of two lists these are left, and out is put out; each key stands so, and out with either ascends
+-- IsMerging selected old0 fresh0 out old fresh     of two lists these are left, and out is put out; each key stands so, and out with
+--                                                  either ascends
 -- FrontsAre o old fresh    o says how the first keys of both lists compare; a list that is at its end comes last
 use Rattle.std.specs.Prelude.{◌≡◌, ◌⊎◌, ℕ, List, [], ◌∷◌, ◌++◌, Option, None, Contains}
 use Rattle.std.specs.declared.cmp.Ordering.{Ordering}
@@ -31,7 +32,8 @@ KeyStands sel a o0 f0 o f n = ((n ≡ None) × (o ≡ o0) × (f ≡ f0)) ⊎ ((o
 
 -- the entries put out so far, and those that are left
 pub record IsMerging (sel : List ℕ) (old0 fresh0 out old fresh : List Entry) : Type 0 where
-  pub keys : (r a b : ℕ) → KeyStands sel a (entry_at old0 r a b) (entry_at fresh0 r a b) (entry_at old r a b) (entry_at fresh r a b) (entry_at out r a b)
+  pub keys : (r a b : ℕ) → KeyStands sel a (entry_at old0 r a b) (entry_at fresh0 r a b) (entry_at old r a b) (entry_at fresh r a b)
+      (entry_at out r a b)
   pub above_old : IsAscending (out ++ old)
   pub above_fresh : IsAscending (out ++ fresh)
 

@@ -1,11 +1,11 @@
-ghost use Rattle.std.specs.Prelude.{◌≡◌, ◌↔◌, IsTrue, Some, IfOk};
+ghost use Rattle.std.specs.Prelude.{◌≡◌, ◌↔◌, [], ◌∷◌, ◌++◌, IsTrue, Some, IfOk, OnOk, OnErr};
 ghost use Rattle.topology_terms.specs.Changes.{IsUnchanged};
 ghost use Rattle.topology_terms.specs.Entry as terms;
 ghost use Rattle.validation_laws.specs.Replaced.{IsRemarked};
 ghost use Rattle.error_store.specs.Keys.{key_of};
 
 use crate::key::Key;
-use convex_cell::Cells;
+use convex_cell::{Cell, Cells};
 use grid_plane::{NoMemory, Rect};
 use std::alloc::Global;
 use std::marker::Model;
@@ -83,6 +83,14 @@ impl Entry {
         &self.cells
     }
 
+    /// A cell more, behind the others. After an `Err`, want of memory, nothing has changed.
+    pub fn push_cell(&mut self, cell: Cell) -> Result<(), NoMemory>
+        ensures ok { OnOk result (self.new ≡ record self.old { cells = self.old.cells ++ cell ∷ [] }) }
+        ensures err { OnErr result (self.new ≡ self.old) }
+    {
+        self.cells.push(cell)
+    }
+
     fn is_unchanged(&self, other: &Entry) -> bool
         ensures { IsTrue result ↔ IsUnchanged self.now other.now }
     {
@@ -91,11 +99,18 @@ impl Entry {
             && self.cells.same(&other.cells)
     }
 
+    /// Sets the mark, or takes it away.
+    pub(crate) fn set_mark(&mut self, on: bool)
+        ensures { self.new ≡ record self.old { marked = on } }
+    {
+        self.marked = on;
+    }
+
     fn with_mark(self, on: bool) -> Entry
         ensures { result ≡ record self { marked = on } }
     {
         let mut entry = self;
-        entry.marked = on;
+        entry.set_mark(on);
         entry
     }
 

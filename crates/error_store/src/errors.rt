@@ -1,11 +1,14 @@
-ghost use Rattle.std.specs.Prelude.{◌≡◌, ◌≢◌, ◌==◌, ◌<◌, ◌≤◌, ◌+◌, ℕ, [], not, filter, length, slice_get, None, Some, MatchOption, IfOk, OnOk, OnErr, vec_len, vec_capacity};
+ghost use Rattle.std.specs.Prelude.{◌≡◌, ◌≢◌, ◌==◌, ◌<◌, ◌≤◌, ◌+◌, ℕ, [], not, filter, length, slice_get, None, Some, MatchOption, IfOk, IfErr, OnOk, OnErr, vec_len, vec_capacity};
+ghost use Rattle.topology_terms.specs.Causes.{mark_cause};
 ghost use Rattle.topology_terms.specs.Entry.{entry_at, IsAscending};
 ghost use Rattle.topology_terms.specs.Entry as terms;
 ghost use Rattle.validation_laws.specs.Replaced.{IsReplaced, AreFresh};
+ghost use Rattle.error_store.specs.Marking.{IsMarkSet, fault_cause};
 
 use crate::entry::Entry;
+use crate::fault::MarkFault;
 use crate::key::Key;
-use crate::list::{copy_of, drop_from, find_in};
+use crate::list::{copy_of, drop_from, find_in, place_of};
 use crate::merge::merge;
 use grid_plane::{Handles, NoMemory};
 use std::alloc::{AllocError, Global};
@@ -49,6 +52,14 @@ impl Errors {
         Errors {
             entries: Vec::new(alloc),
         }
+    }
+
+    /// The errors of this list.
+    pub fn of(entries: Vec<Entry>) -> Errors
+        requires { IsAscending entries.items }
+        ensures { result ≡ entries.items }
+    {
+        Errors { entries }
     }
 
     /// How many errors there are.
@@ -112,6 +123,26 @@ impl Errors {
         ensures ascending { IsAscending self.new }
     {
         drop_from(&mut self.entries, rule);
+    }
+
+    /// Marks the error of this key as an exception, or takes its mark away; all else stays. Refused where no error has this
+    /// key, then where its mark is so already. Takes steps by the logarithm of their number, and no memory.
+    pub fn set_mark(&mut self, key: Key, on: bool) -> Result<(), MarkFault>
+        ensures set { OnOk result (IsMarkSet key.rule key.subject key.other on self.old self.new) }
+        ensures may { OnOk result (mark_cause self.old key.rule key.subject key.other on ≡ None) }
+        ensures refused { IfErr result (λ e. mark_cause self.old key.rule key.subject key.other on ≡ Some (fault_cause e)) }
+        ensures ascending { IsAscending self.new }
+        ensures err { OnErr result (self.new ≡ self.old) }
+    {
+        let Some(place) = place_of(&self.entries, key) else {
+            return Err(MarkFault::NoError);
+        };
+        let entry = &mut self.entries[place];
+        if entry.marked() == on {
+            return Err(MarkFault::AlreadySo);
+        }
+        entry.set_mark(on);
+        Ok(())
     }
 
     /// An equal value.

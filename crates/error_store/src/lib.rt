@@ -4,10 +4,12 @@
 mod compare;
 mod entry;
 mod errors;
+mod fault;
 mod key;
 mod list;
 mod merge;
 
 pub use entry::Entry;
 pub use errors::Errors;
+pub use fault::MarkFault;
 pub use key::Key;

@@ -1,4 +1,4 @@
-ghost use Rattle.std.specs.Prelude.{◌≡◌, ◌==◌, not, filter, None, Some, IfOk, MatchOption};
+ghost use Rattle.std.specs.Prelude.{◌≡◌, ◌==◌, ◌<◌, not, filter, length, slice_get, None, Some, IfOk, MatchOption};
 ghost use Rattle.topology_terms.specs.Entry.{entry_at};
 ghost use Rattle.topology_terms.specs.Entry as terms;
 
@@ -8,15 +8,25 @@ use crate::key::Key;
 use grid_plane::NoMemory;
 use std::alloc::Global;
 
+/// Where the error of this key stands.
+pub fn place_of(entries: &[Entry], key: Key) -> Option<usize>
+    requires { terms.IsAscending entries.now }
+    ensures { MatchOption result (entry_at entries.now key.rule key.subject key.other ≡ None)
+        (λ i. (i < length entries.now) × (slice_get entries.now i ≡ entry_at entries.now key.rule key.subject key.other)) }
+{
+    match entries.binary_search_by(|e| compare(e.key(), key)) {
+        Ok(place) => Some(place),
+        Err(_) => None,
+    }
+}
+
 /// The error of this key.
 pub fn find_in(entries: &[Entry], key: Key) -> Option<&Entry>
     requires { terms.IsAscending entries.now }
     ensures { MatchOption result (entry_at entries.now key.rule key.subject key.other ≡ None) (λ e. entry_at entries.now key.rule key.subject key.other ≡ Some e.now) }
 {
-    match entries.binary_search_by(|e| compare(e.key(), key)) {
-        Ok(i) => Some(&entries[i]),
-        Err(_) => None,
-    }
+    let place = place_of(entries, key)?;
+    Some(&entries[place])
 }
 
 // Whether the error is of another rule.

@@ -1,5 +1,5 @@
 -- What every store keeps is kept as a class or a feature comes.
-use Rattle.std.proofs.Common.{ℕ, zero, suc, ◌≡◌, ◌≢◌, ◌<◌, ◌≤◌, ◌+◌, ◌-◌, Bool, true, false, List, [], ◌∷◌, ◌++◌, length, refl, sym, ◌∙◌, ap, arith, Option, Some, None, length-append, eqb}
+use Rattle.std.proofs.Common.{ℕ, zero, suc, ◌≡◌, ◌≢◌, ◌<◌, ◌≤◌, ◌+◌, ◌-◌, Bool, true, false, List, [], ◌∷◌, ◌++◌, length, refl, ◌∙◌, ap, arith, Option, Some, None, length-append, eqb}
 use Rattle.std.proofs.lemmas.Bool.Decides.{nat_tests}
 use Rattle.std.proofs.lemmas.Slice.Eq.{bytes_eq-Decides}
 use Rattle.std.specs.Prelude.{bytes_eq, is_none, is_some, not, slice_get, if◌then◌else◌}
@@ -13,7 +13,7 @@ use Rattle.sound_laws.proofs.Keyed.{ascending_last}
 use Rattle.sound_laws.proofs.FeatureLists.{handles, handle_of}
 use Rattle.sound_laws.proofs.FeatureLists.{live_each as each_live}
 use Rattle.topology_terms.specs.Lookups.{class_at, number_from, kind_of_class}
-use Rattle.topology_terms.specs.Causes.{when, first_of, same_kind, is_kind, class_cause, add_cause}
+use Rattle.topology_terms.specs.Causes.{when, first_of, same_kind, is_kind, add_cause}
 use Rattle.topology_terms.specs.declared.cause.Cause.TheVariants as cause
 use Rattle.feature_store.specs.Keeps.{IsOfClass, IsGiven, HasSimpleSides, AreUnlike, IsStore}
 
@@ -35,32 +35,40 @@ none_of None e = refl
 none_of (Some n) e = cc
 
 -- what may be added fits its class, and has a handle
-pub fits_class : (cs : List Class) (next n : ℕ) (k : Kind) → add_cause cs next n k ≡ None → (kind_of_class cs n ≡ Some k) × (next ≢ 4294967295)
+pub fits_class : (cs : List Class) (next n : ℕ) (k : Kind) → add_cause cs next n k ≡ None
+    → (kind_of_class cs n ≡ Some k) × (next ≢ 4294967295)
 fits_class cs next n k e = by (kind_of_class cs n) refl e
   where
     last : (t : Bool) → eqb next 4294967295 ≡ t → first_of (when t cause.HandlesSpent ∷ []) ≡ None → next ≢ 4294967295
     last true w h = cc
     last false w h = λ s. let t : eqb next 4294967295 ≡ true = grind (arith, nat_tests) in cc
 
-    same : (l : Kind) (t : Bool) → same_kind l k ≡ t → first_of (when (not t) cause.WrongKind ∷ when (eqb next 4294967295) cause.HandlesSpent ∷ []) ≡ None → (Some l ≡ Some k) × (next ≢ 4294967295)
+    same : (l : Kind) (t : Bool) → same_kind l k ≡ t
+        → first_of (when (not t) cause.WrongKind ∷ when (eqb next 4294967295) cause.HandlesSpent ∷ []) ≡ None
+        → (Some l ≡ Some k) × (next ≢ 4294967295)
     same l true w h = (ap (λ m. Some m) (kinds_same l k w), last (eqb next 4294967295) refl h)
     same l false w h = cc
 
-    by : (o : Option Kind) → kind_of_class cs n ≡ o → first_of (when (is_none o) cause.NoClass ∷ when (not (is_kind o k)) cause.WrongKind ∷ when (eqb next 4294967295) cause.HandlesSpent ∷ []) ≡ None → (o ≡ Some k) × (next ≢ 4294967295)
+    by : (o : Option Kind) → kind_of_class cs n ≡ o
+        → first_of (when (is_none o) cause.NoClass ∷ when (not (is_kind o k)) cause.WrongKind ∷ when (eqb next 4294967295)
+        cause.HandlesSpent ∷ []) ≡ None → (o ≡ Some k) × (next ≢ 4294967295)
     by None w h = cc
     by (Some l) w h = same l (same_kind l k) refl h
 
 -- ---- a class more
 -- none of these classes has the name
-unnamed : (n : ℕ) (cs : List Class) (name : List ℕ) (d : Class) → d.name ≡ name → number_from n cs name ≡ None → Every (λ (c : Class). AreUnlike c d) cs
+unnamed : (n : ℕ) (cs : List Class) (name : List ℕ) (d : Class) → d.name ≡ name → number_from n cs name ≡ None
+    → Every (λ (c : Class). AreUnlike c d) cs
 unnamed n [] name d same e = tt
 unnamed n (c ∷ cs) name d same e = by (bytes_eq c.name name) refl e (λ k. unnamed (n + 1) cs name d same k)
   where
-    by : (t : Bool) → bytes_eq c.name name ≡ t → (if t then Some n else number_from (n + 1) cs name) ≡ None → (number_from (n + 1) cs name ≡ None → Every (λ (c : Class). AreUnlike c d) cs) → Every (λ (c : Class). AreUnlike c d) (c ∷ cs)
+    by : (t : Bool) → bytes_eq c.name name ≡ t → (if t then Some n else number_from (n + 1) cs name) ≡ None
+        → (number_from (n + 1) cs name ≡ None → Every (λ (c : Class). AreUnlike c d) cs) → Every (λ (c : Class). AreUnlike c d) (c ∷ cs)
     by true w h rest = cc
     by false w h rest = ((λ k. let one : bytes_eq c.name name ≡ true = (bytes_eq-Decides c.name name).1 (k ∙ same) in cc), rest h)
 
-pairs_end : (cs : List Class) (d : Class) → EveryPair AreUnlike cs → Every (λ (c : Class). AreUnlike c d) cs → EveryPair AreUnlike (cs ++ d ∷ [])
+pairs_end : (cs : List Class) (d : Class) → EveryPair AreUnlike cs → Every (λ (c : Class). AreUnlike c d) cs
+    → EveryPair AreUnlike (cs ++ d ∷ [])
 pairs_end [] d h p = (tt, tt)
 pairs_end (c ∷ cs) d h p = (every_append (AreUnlike c) cs (d ∷ []) h.0 (p.0, tt), pairs_end cs d h.1 p.1)
 
@@ -86,7 +94,8 @@ kind_end cs d n k e = by (class_at cs n) refl e
 kinds_end : (cs : List Class) (d : Class) (F : List Feature) → Every (IsOfClass cs) F → Every (IsOfClass (cs ++ d ∷ [])) F
 kinds_end cs d F h = every_map (IsOfClass cs) (IsOfClass (cs ++ d ∷ [])) (λ f k. kind_end cs d f.class f.shape.kind k) F h
 
-pub class_kept : (cs : List Class) (F : List Feature) (next : ℕ) (d : Class) (name : List ℕ) → d.name ≡ name → number_from 1 cs name ≡ None → length cs ≢ 64 → IsStore cs F next → IsStore (cs ++ d ∷ []) F next
+pub class_kept : (cs : List Class) (F : List Feature) (next : ℕ) (d : Class) (name : List ℕ) → d.name ≡ name → number_from 1 cs name ≡ None
+    → length cs ≢ 64 → IsStore cs F next → IsStore (cs ++ d ∷ []) F next
 class_kept cs F next d name same free some_left s = record {
   few = let l = s.few in omega (arith, length-append cs (d ∷ []));
   names = pairs_end cs d s.names (unnamed 1 cs name d same free);
@@ -102,16 +111,19 @@ pub below_next : (next : ℕ) (F : List Feature) → Every (IsGiven next) F → 
 below_next next F h = every_map (IsGiven next) (λ (f : Feature). f.handle < next) (λ f k. k.before) F h
 
 pub given_later : (next later : ℕ) (F : List Feature) → next ≤ later → Every (IsGiven next) F → Every (IsGiven later) F
-given_later next later F upto h = every_map (IsGiven next) (IsGiven later) (λ f k. record { from_1 = k.from_1; before = let b = k.before in omega arith }) F h
+given_later next later F upto h = every_map (IsGiven next) (IsGiven later) (λ f k. record { from_1 = k.from_1; before = let b = k.before
+    in omega arith }) F h
 
-pub feature_kept : (cs : List Class) (F : List Feature) (next : ℕ) (f : Feature) → f.handle ≡ next → IsOfClass cs f → HasSimpleSides f → IsStore cs F next → IsStore cs (F ++ f ∷ []) (next + 1)
+pub feature_kept : (cs : List Class) (F : List Feature) (next : ℕ) (f : Feature) → f.handle ≡ next → IsOfClass cs f → HasSimpleSides f
+    → IsStore cs F next → IsStore cs (F ++ f ∷ []) (next + 1)
 feature_kept cs F next f same of_class simple s =
     let first = s.from_1 in
     record {
       few = s.few;
       names = s.names;
       ascending = ascending_last by_handle handles F f s.ascending (rw same (below_next next F s.given));
-      given = every_append (IsGiven (next + 1)) F (f ∷ []) (given_later next (next + 1) F (omega arith) s.given) (record { from_1 = omega arith; before = omega arith }, tt);
+      given = every_append (IsGiven (next + 1)) F (f ∷ []) (given_later next (next + 1) F (omega arith) s.given)
+          (record { from_1 = omega arith; before = omega arith }, tt);
       kinds = every_append (IsOfClass cs) F (f ∷ []) s.kinds (of_class, tt);
       simple = every_append HasSimpleSides F (f ∷ []) s.simple (simple, tt);
       from_1 = omega arith;

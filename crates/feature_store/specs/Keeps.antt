@@ -3,7 +3,8 @@
 -- IsOfClass cs f   the class of the feature is one of these, and has the kind of its shape
 -- IsGiven n f      the handle of the feature was given before the handle n
 -- HasSimpleSides f the segments of the feature are proper; those of a polygon meet at ends alone, and there are some
--- IsStore cs F n   at most 64 classes, no two of one name; features ascend by handle, each of a class of its kind, under a handle that was given; each with simple sides
+-- IsStore cs F n   at most 64 classes, no two of one name; features ascend by handle, each of a class of its kind, under a handle that was
+--                  given; each with simple sides
 use Rattle.std.specs.Prelude.{◌≡◌, ◌≢◌, ℕ, ◌<◌, ◌≤◌, List, [], length, Some}
 use Rattle.plane_terms.specs.Lists.{Every, EveryPair}
 use Rattle.plane_terms.specs.Segment.{IsSegment}

@@ -18,7 +18,8 @@ class_line : HasForm (codes "class wells  point ") (Class (codes "wells") shapes
 class_line = (refl, ((refl, refl), (refl, refl)))
 
 -- a rule that takes a second class, and one that takes none
-contains_line : HasForm (codes "rule polygon_contains_point lots wells") (Rule rule.PolygonContainsPoint (codes "lots") (Some (codes "wells")))
+contains_line : HasForm (codes "rule polygon_contains_point lots wells") (Rule rule.PolygonContainsPoint (codes "lots")
+    (Some (codes "wells")))
 contains_line = (refl, (refl, ((refl, refl), ((refl, refl), refl))))
 
 disjoint_line : HasForm (codes "rule point_must_be_disjoint wells") (Rule rule.PointMustBeDisjoint (codes "wells") None)

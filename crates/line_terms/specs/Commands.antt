@@ -1,6 +1,7 @@
 -- The commands of a script, and what its lines say before their shapes and windows are read.
 --
--- CommandOf S W  one constructor a command, with the values of its line's fields in their order; a name is its bytes; S stands for its shape,
+-- CommandOf S W  one constructor a command, with the values of its line's fields in their order; a name is its bytes; S stands for its
+--                shape,
 --                and W for its window
 -- Command        with the shape, and with the window's rectangle
 -- Window         a window as it is written: as the word `all`, or as four whole numbers of any size, in the order of a rectangle's

@@ -6,7 +6,8 @@
 -- IsCommandLine line c   so, and the line is no longer than a line may be
 -- IsFaultOf f r          what the form says is no command, and r says why: its shape's text is none, with the first fault of it;
 --                        or its window is none
--- IsLineFault line r     the line is no command's, and r says why: it is too long, whatever it holds; else it has no form; else as its form's fault
+-- IsLineFault line r     the line is no command's, and r says why: it is too long, whatever it holds; else it has no form; else as its
+--                        form's fault
 --
 -- A line has one command at most, and a line that has one has no fault. Source: own.
 use Rattle.std.specs.Prelude.{◌≡◌, ◌⊎◌, ◌<◌, ◌≤◌, ℕ, List, length}

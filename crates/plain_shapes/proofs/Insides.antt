@@ -20,7 +20,8 @@ use Rattle.cell_laws.proofs.Meeting.{at_turn, times_zero, turn_zero}
 from_left : (a x v : ℤ) (w : ℕ) → 0 < w → v ≡ x *ℤ pos w → int_le (a *ℤ pos w) v ≡ int_le a x
 from_left a x v w o e =
     same_from_decides _ _
-    (Decides-like _ (λ h. le_from_scaled a x w o (omega (arith, ints))) (λ h. omega (arith, ints, scaled_le a x w h)) (Decides-int_le (a *ℤ pos w) v))
+    (Decides-like _ (λ h. le_from_scaled a x w o (omega (arith, ints))) (λ h. omega (arith, ints, scaled_le a x w h))
+        (Decides-int_le (a *ℤ pos w) v))
     (Decides-int_le a x)
 
 to_right : (x b v : ℤ) (w : ℕ) → 0 < w → v ≡ x *ℤ pos w → int_lt v (b *ℤ pos w) ≡ int_lt x b
@@ -31,22 +32,26 @@ to_right x b v w o e =
     less h = elim (cases_order_ℤ x b) [ inl k ↦ k | inr k ↦ absurd (omega (arith, ints, scaled_le b x w k)) ]
 
     more : x <ℤ b → v <ℤ (b *ℤ pos w)
-    more h = elim (cases_order_ℤ v (b *ℤ pos w)) [ inl k ↦ k | inr k ↦ absurd (omega (arith, ints, le_from_scaled b x w o (omega (arith, ints)))) ]
+    more h = elim (cases_order_ℤ v (b *ℤ pos w)) [ inl k ↦ k | inr k ↦ absurd (omega
+        (arith, ints, le_from_scaled b x w o (omega (arith, ints)))) ]
 
 above : (s : Segment) (q : Place) (p : Point) → IsAt q p → int_lt (pos 0) (cross s p) ≡ int_lt (pos 0) (turn s q)
 above s q p i =
     let e : cross s p ≡ pos p.w *ℤ turn s q = rw (i.x, i.y) (at_turn s.lo.x s.lo.y s.hi.x s.hi.y q.x q.y (pos p.w)) in
     let w : pos 0 <ℤ pos p.w = omega (arith, ints, p.positive) in
     ap (int_lt (pos 0)) e ∙ same_from_decides _ _
-    (Decides-like _ (over_unscaled (pos p.w) (turn s q) w) (product_over (pos p.w) (turn s q) w) (Decides-int_lt (pos 0) (pos p.w *ℤ turn s q)))
+    (Decides-like _ (over_unscaled (pos p.w) (turn s q) w) (product_over (pos p.w) (turn s q) w)
+        (Decides-int_lt (pos 0) (pos p.w *ℤ turn s q)))
     (Decides-int_lt (pos 0) (turn s q))
 
 signed : (z : ℤ) → int_lt (pos 0) (int_signum z) ≡ int_lt (pos 0) z
 signed (pos zero) = refl
-signed (pos (suc n)) = same_from_decides _ _ (Decides-like _ (λ h. omega (arith, ints)) (λ h. omega (arith, ints)) (Decides-int_lt (pos 0) (int_signum (pos (suc n))))) (Decides-int_lt (pos 0) (pos (suc n)))
+signed (pos (suc n)) = same_from_decides _ _ (Decides-like _ (λ h. omega (arith, ints)) (λ h. omega (arith, ints))
+    (Decides-int_lt (pos 0) (int_signum (pos (suc n))))) (Decides-int_lt (pos 0) (pos (suc n)))
 signed (negsuc n) = refl
 
-counts-at : (s : Segment) (q : Place) (p : Point) → IsAt q p → counts s p ≡ (int_le s.lo.x q.x && (int_lt q.x s.hi.x && int_lt (pos 0) (turn s q)))
+counts-at : (s : Segment) (q : Place) (p : Point) → IsAt q p
+    → counts s p ≡ (int_le s.lo.x q.x && (int_lt q.x s.hi.x && int_lt (pos 0) (turn s q)))
 counts-at s q p i =
     let a = from_left s.lo.x q.x p.x p.w p.positive i.x in
     let b = to_right q.x s.hi.x p.x p.w p.positive i.x in
@@ -54,7 +59,8 @@ counts-at s q p i =
     cc
 
 -- of a segment that runs below or above the place, the side tells
-pub counted : (s : Segment) (q : Place) (p : Point) → IsAt q p → (s.lo.x ≤ℤ q.x) × (q.x <ℤ s.hi.x) → int_lt (pos 0) (int_signum (turn s q)) ≡ counts s p
+pub counted : (s : Segment) (q : Place) (p : Point) → IsAt q p → (s.lo.x ≤ℤ q.x) × (q.x <ℤ s.hi.x)
+    → int_lt (pos 0) (int_signum (turn s q)) ≡ counts s p
 counted s q p i h =
     let a = (Decides-int_le s.lo.x q.x).1 h.0 in
     let b = (Decides-int_lt q.x s.hi.x).1 h.1 in
@@ -77,7 +83,8 @@ pub how_many-filter : {A : Type 0} (test : A → Bool) (xs : List A) → how_man
 how_many-filter test [] = refl
 how_many-filter {A} test (x ∷ xs) = by_test (test x) (how_many-filter test xs)
   where
-    by_test : (b : Bool) → how_many test xs ≡ length (filter test xs) → cond b (suc (how_many test xs)) (how_many test xs) ≡ length (cond b (x ∷ filter test xs) (filter test xs))
+    by_test : (b : Bool) → how_many test xs ≡ length (filter test xs) → cond b (suc (how_many test xs)) (how_many test xs) ≡ length
+        (cond b (x ∷ filter test xs) (filter test xs))
     by_test true e = ap (λ n. suc n) e
     by_test false e = e
 
@@ -95,15 +102,19 @@ odd_is n = elim (odd_or_even n) [
 ]
 
 -- ---- on a segment, all points at a place are alike
-between_moved : (a b v x y : ℤ) (w u : ℕ) → 0 < w → x ≡ v *ℤ pos w → y ≡ v *ℤ pos u → IsBetween (a *ℤ pos w) (b *ℤ pos w) x → IsBetween (a *ℤ pos u) (b *ℤ pos u) y
-between_moved a b v x y w u o e f (inl h) = inl (omega (arith, ints, scaled_le a v u (le_from_scaled a v w o (omega (arith, ints, h.0)))), omega (arith, ints, scaled_le v b u (le_from_scaled v b w o (omega (arith, ints, h.1)))))
-between_moved a b v x y w u o e f (inr h) = inr (omega (arith, ints, scaled_le b v u (le_from_scaled b v w o (omega (arith, ints, h.0)))), omega (arith, ints, scaled_le v a u (le_from_scaled v a w o (omega (arith, ints, h.1)))))
+between_moved : (a b v x y : ℤ) (w u : ℕ) → 0 < w → x ≡ v *ℤ pos w → y ≡ v *ℤ pos u → IsBetween (a *ℤ pos w) (b *ℤ pos w) x
+    → IsBetween (a *ℤ pos u) (b *ℤ pos u) y
+between_moved a b v x y w u o e f (inl h) = inl (omega (arith, ints, scaled_le a v u (le_from_scaled a v w o (omega (arith, ints, h.0)))),
+    omega (arith, ints, scaled_le v b u (le_from_scaled v b w o (omega (arith, ints, h.1)))))
+between_moved a b v x y w u o e f (inr h) = inr (omega (arith, ints, scaled_le b v u (le_from_scaled b v w o (omega (arith, ints, h.0)))),
+    omega (arith, ints, scaled_le v a u (le_from_scaled v a w o (omega (arith, ints, h.1)))))
 
 pub on_place : (q : Place) (p : Point) → IsAt q p → (s : Segment) → HoldsAt q (OnSegment s) ↔ OnSegment s p
 on_place q p i s = (
   λ h. h p i,
   λ o r j. record {
-    straight = rw (j.x, j.y) (at_turn s.lo.x s.lo.y s.hi.x s.hi.y q.x q.y (pos r.w) ∙ times_zero (pos r.w) (turn s q) (turn_zero s q p i o));
+    straight = rw (j.x, j.y) (at_turn s.lo.x s.lo.y s.hi.x s.hi.y q.x q.y (pos r.w)
+        ∙ times_zero (pos r.w) (turn s q) (turn_zero s q p i o));
     across = between_moved s.lo.x s.hi.x q.x p.x r.x p.w r.w p.positive i.x j.x o.across;
     along = between_moved s.lo.y s.hi.y q.y p.y r.y p.w r.w p.positive i.y j.y o.along;
   },

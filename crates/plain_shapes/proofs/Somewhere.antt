@@ -18,6 +18,7 @@ none_of P (x ∷ xs) n h = elim h [
   | inr a ↦ none_of P xs (λ k d l. n (suc k) d (omega arith)) a
 ]
 
-pub some_is : {A : Type 0} (P : A → Type 0) (r : Bool) (xs : List A) → MatchBool r ((k : ℕ) × (k < length xs) × HoldsAt P xs k) (AllWithin (λ x. ¬ (P x)) xs 0 (length xs)) → IsTrue r ↔ SomeOf P xs
+pub some_is : {A : Type 0} (P : A → Type 0) (r : Bool) (xs : List A) → MatchBool r ((k : ℕ) × (k < length xs) × HoldsAt P xs k)
+    (AllWithin (λ x. ¬ (P x)) xs 0 (length xs)) → IsTrue r ↔ SomeOf P xs
 some_is P true xs h = ((λ _. some_at P xs h.0 h.1 h.2), (λ _. refl))
 some_is P false xs h = ((λ t. absurd (false≢true t)), (λ s. absurd (none_of P xs (λ k d l. h k d (omega arith) l) s)))

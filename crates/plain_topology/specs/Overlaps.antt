@@ -14,7 +14,8 @@ abbrev pub overlap_row : ℕ → Row
 overlap_row class = record { kind = kind.PolygonMustNotOverlap; origin = record { class = class }; dest = record { class = 0 } }
 
 abbrev pub overlap_with_row : ℕ → ℕ → Row
-overlap_with_row class other = record { kind = kind.PolygonMustNotOverlapWith; origin = record { class = class }; dest = record { class = other } }
+overlap_with_row class other = record { kind = kind.PolygonMustNotOverlapWith; origin = record { class = class }; dest =
+    record { class = other } }
 
 pub record IsInsideOf (F : List Feature) (class h : ℕ) (p : Point) : Type 0 where
   pub f : Feature

@@ -35,7 +35,8 @@ abbrev pub features_of : List PlainPoint → List Feature
 features_of ps = map feature_of ps
 
 abbrev pub entry_of : PlainEntry → Entry
-entry_of e = record { rule = 1; subject = e.subject; other = e.other; whole = false; marked = false; frame = rect_at e.place; cells = at_place e.place ∷ [] }
+entry_of e = record { rule = 1; subject = e.subject; other = e.other; whole = false; marked = false; frame = rect_at e.place; cells =
+    at_place e.place ∷ [] }
 
 abbrev pub entries_of : List PlainEntry → List Entry
 entries_of es = map entry_of es

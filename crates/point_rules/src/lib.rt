@@ -11,9 +11,7 @@ mod polygon_contains_point;
 mod polygon_must_be_covered_by;
 mod same_place;
 
-pub use point_must_be_covered_by_boundary_of::{
-    PlaceOffBoundaries, PointMustBeCoveredByBoundaryOf,
-};
+pub use point_must_be_covered_by_boundary_of::{PlaceOffBoundaries, PointMustBeCoveredByBoundaryOf};
 pub use point_must_be_covered_by_endpoint_of::{PlaceOffEnds, PointMustBeCoveredByEndpointOf};
 pub use point_must_be_covered_by_line::{PlaceOffLines, PointMustBeCoveredByLine};
 pub use point_must_be_disjoint::{LaterAtPlace, PointMustBeDisjoint};

@@ -1,6 +1,5 @@
-ghost use Rattle.plane_terms.specs.Carve.{carve_of};
-ghost use Rattle.topology_terms.specs.Cells.{outside};
-ghost use Rattle.topology_terms.specs.Tests.{is_empty};
+ghost use Rattle.std.specs.Prelude.{◌≡◌};
+ghost use Rattle.topology_terms.specs.Tests as tests;
 ghost use Rattle.rule_words.specs.declared.rule_kind.RuleKind.TheVariants as kind;
 
 use convex_cell::Cells;
@@ -20,26 +19,27 @@ pub type PolygonMustBeCoveredBy = Of<NoCover>;
 /// What Must Be Covered By has of its own.
 pub struct NoCover;
 
-/// The cells of a polygon and of its boundary, which a partner may cover.
+/// A polygon, with the cells of its inside and of its boundary, which a partner may cover.
 #[derive(Drop)]
-struct ClosedPolygon {
+struct ClosedPolygon<'a> {
+    polygon: &'a Feature,
     cells: Cells,
+    ghost closed: { cells ≡ tests.closed_cells polygon.now },
 }
 
-impl Model for ClosedPolygon {
-    ghost use Rattle.std.specs.Prelude.{List};
-    ghost use Rattle.plane_terms.specs.Cell.{Cell};
+impl<'a> Model for ClosedPolygon<'a> {
+    ghost use Rattle.topology_terms.specs.Feature.{Feature};
 
-    ghost Value = { List Cell };
+    ghost Value = { Feature };
 
-    ghost view = { λ p. p.cells };
+    ghost view = { λ p. p.polygon.now };
 }
 
-impl Test for ClosedPolygon {
-    ghost test = { λ cells g. is_empty (carve_of cells (outside g)) };
+impl<'a> Test for ClosedPolygon<'a> {
+    ghost test = { tests.covers };
 
     fn passes(&self, alloc: Global, partner: &Feature, work: &mut Work) -> Result<bool, NoMemory> {
-        covers(alloc, partner, &self.cells, work)
+        covers(alloc, partner, self.polygon, &self.cells, work)
     }
 }
 
@@ -59,6 +59,7 @@ impl Kinded for NoCover {
         work: &mut Work,
     ) -> Result<Findings, NoMemory> {
         let polygon = ClosedPolygon {
+            polygon: subject,
             cells: closed_cells(alloc, subject, work)?,
         };
         whole_without(alloc, &polygon, dest, view, work)

@@ -30,3 +30,4 @@ said_of p reply.DirtyList = replies.DirtyList p
 said_of p reply.ErrorList = replies.ErrorList p
 said_of p reply.CellList = replies.CellList p
 said_of p reply.FeatureList = replies.FeatureList p
+said_of p reply.RuleList = replies.RuleList p

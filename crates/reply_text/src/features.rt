@@ -7,8 +7,8 @@ use grid_plane::NoMemory;
 use shape::Feature;
 use wkt_text::write_wkt;
 
-// The name of the class of this number; nothing where there is none.
-fn push_class_name(out: &mut Vec<u8>, store: &Store, class: u16) -> Result<(), NoMemory>
+/// Appends the name of the class of this number; nothing where there is none.
+pub fn push_class_name(out: &mut Vec<u8>, store: &Store, class: u16) -> Result<(), NoMemory>
     ensures { OnOk result (out.new.items ≡ out.old.items ++ class_name store.now.classes class) }
 {
     match store.class_name(class) {

@@ -8,6 +8,7 @@ mod features;
 mod numbers;
 mod refusal;
 mod reply;
+mod rules;
 
 pub use refusal::Refusal;
 pub use reply::{Reply, push_reply};

@@ -97,6 +97,8 @@ fn push_cause(out: &mut Vec<u8>, cause: Cause) -> Result<(), NoMemory>
         Cause::WrongKind => push_text(out, b"E13"),
         Cause::NoFeature => push_text(out, b"E19"),
         Cause::HandlesSpent => push_text(out, b"E21"),
+        Cause::NoError => push_text(out, b"E25"),
+        Cause::AlreadySo => push_text(out, b"E26"),
     }
 }
 

@@ -8,6 +8,7 @@ use crate::errors::push_error_list;
 use crate::features::push_feature_list;
 use crate::numbers::{push_number, push_text};
 use crate::refusal::{Refusal, push_refusal};
+use crate::rules::push_rule_list;
 use grid_plane::NoMemory;
 use topo_core::{KindRules, Summary, Topology};
 
@@ -32,6 +33,8 @@ pub enum Reply {
     CellList,
     /// The live features.
     FeatureList,
+    /// The rules in force.
+    RuleList,
 }
 
 pub fn push_given(out: &mut Vec<u8>, number: u32) -> Result<(), NoMemory>
@@ -81,5 +84,6 @@ pub fn push_reply<R: KindRules>(
         Reply::ErrorList => push_error_list(out, topology.errors()),
         Reply::CellList => push_cell_list(out, topology.errors()),
         Reply::FeatureList => push_feature_list(out, topology.store()),
+        Reply::RuleList => push_rule_list(out, topology.store(), topology.rules()),
     }
 }

@@ -15,7 +15,8 @@ module _ (c : LruCache ℕ KeptShape) (h k : ℕ) (v w : KeptShape) (new : List 
       → new ≡ put_entries nat_eq c h v → h ≡ k → v ≡ w → IsPut old k w new
   is_put old front cap e hk vw =
       let left = length c.entries in
-      let whole : c ≡ lru_cache (take left old) most_features = ap (λ es. lru_cache es c.cap) front ∙ ap (λ n. lru_cache (take left old) n) cap in
+      let whole : c ≡ lru_cache (take left old) most_features = ap (λ es. lru_cache es c.cap) front
+          ∙ ap (λ n. lru_cache (take left old) n) cap in
       record {
         left = left;
         put = e ∙ (ap (λ d. put_entries nat_eq d h v) whole ∙ (ap (λ j. put_entries nat_eq (lru_cache (take left old) most_features) j v) hk

@@ -24,7 +24,8 @@ module _ {V : Type 0} (size : V → ℕ) where
   weigh es = sum_by weight es
 
   -- ---- the last
-  pub last_out : (es : List (ℕ × V)) (e : ℕ × V) → slice_get es (length es - 1) ≡ Some e → weigh (take (length es - 1) es) + size e.1 ≡ weigh es
+  pub last_out : (es : List (ℕ × V)) (e : ℕ × V) → slice_get es (length es - 1) ≡ Some e
+      → weigh (take (length es - 1) es) + size e.1 ≡ weigh es
   last_out es e h =
       let l : length es - 1 < length es = slice_get_within es (length es - 1) e h in
       let all : take (length es - 1 + 1) es ≡ es = take_all (length es - 1 + 1) es (omega (arith, l)) in

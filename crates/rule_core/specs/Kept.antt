@@ -10,9 +10,11 @@
 -- Keeping           what is kept: the pairs of a handle and what was made of its shape, the most recently used first;
 --                   and how often a look-up found what it sought, a count that stops at its greatest number
 -- total es          how many half-planes all the pairs have
--- IsWithin room es n    there is room for so many pairs as features are kept of, at most; the pairs have n half-planes, which are not too many
+-- IsWithin room es n    there is room for so many pairs as features are kept of, at most; the pairs have n half-planes, which are not too
+--                       many
 -- kept_at K h       what is kept for the handle h
--- IsPut old h k new what is kept once k is put in for h: k goes first, and of the pairs that were most recently used some stay, in their order
+-- IsPut old h k new what is kept once k is put in for h: k goes first, and of the pairs that were most recently used some stay, in their
+-- order
 -- looked b K h      after a look-up for the handle h: where it found what it sought, the pair went to the front and was counted
 use Rattle.std.specs.Prelude.{◌≡◌, ◌≤◌, ℕ, Bool, true, false, List, Option, nat_eq, length, take}
 use Rattle.std.specs.List.{sum_by}

@@ -1,6 +1,7 @@
 -- What a rule is shown when it judges a subject.
 --
--- IsShown row V a      V ascends by handle, has the subject a, which the row judges, and holds no feature whose envelope does not meet the subject's
+-- IsShown row V a      V ascends by handle, has the subject a, which the row judges, and holds no feature whose envelope does not meet the
+--                      subject's
 use Rattle.std.specs.Prelude.{◌≡◌, ℕ, true, List, Some}
 use Rattle.plane_terms.specs.Rectangle.{RectsMeet}
 use Rattle.topology_terms.specs.Feature.{Feature, feature_at, env, IsAscending}

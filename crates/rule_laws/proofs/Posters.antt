@@ -1,6 +1,6 @@
 -- The product's rules keep the laws: from what each is shown to keep, once for all.
 use Rattle.std.proofs.Common.{◌≡◌, ℕ, Bool, true, false, refl, sym, ◌∙◌, List, [], Some}
-use Rattle.std.specs.Prelude.{◌&&◌, if◌then◌else◌}
+use Rattle.std.specs.Prelude.{if◌then◌else◌}
 use Rattle.plane_terms.specs.Point.{Point}
 use Rattle.plane_terms.specs.Rectangle.{RectsMeet}
 use Rattle.rule_words.specs.declared.rule_kind.RuleKind.{RuleKind}

@@ -1,6 +1,10 @@
+mod Beyond
 mod Boxes
 mod Carved
 mod More
 mod Once
+mod Parts
+mod Rest
 mod Seen
 mod Spots
+mod Tested

@@ -1,8 +1,7 @@
 -- Each place once, at its first: with one place more.
-use Rattle.std.proofs.Common.{◌≡◌, ℕ, ◌+◌, ◌<◌, Bool, true, false, List, [], ◌∷◌, ◌++◌, Some, refl, sym, ◌∙◌, ap, take, length, get_or, cond, append-nil, arith}
-use Rattle.std.specs.Prelude.{slice_get, not, ◌&&◌, ◌||◌}
+use Rattle.std.proofs.Common.{◌≡◌, ℕ, ◌+◌, Bool, true, false, List, [], ◌∷◌, ◌++◌, Some, refl, sym, ◌∙◌, ap, take, get_or, cond}
+use Rattle.std.specs.Prelude.{slice_get, not}
 use Rattle.std.specs.List.{filter, list_any}
-use Rattle.std.proofs.lemmas.Bool.{false≢true}
 use Rattle.std.proofs.lemmas.List.{take_more}
 use Rattle.std.proofs.lemmas.List.Elements.{filter-append}
 use Rattle.std.proofs.lemmas.Map.Views.{any-filter_same}
@@ -13,7 +12,8 @@ use Rattle.cell_laws.proofs.AtPlaces.{same_is, is_same}
 use Rattle.rule_loops.proofs.Spots.{same_by_truth}
 
 turned : (q r : Place) → same_place q r ≡ same_place r q
-turned q r = same_by_truth (same_place q r) (same_place r q) (λ t. is_same r q (sym (same_is q r t))) (λ t. is_same q r (sym (same_is r q t)))
+turned q r = same_by_truth (same_place q r) (same_place r q) (λ t. is_same r q (sym (same_is q r t)))
+    (λ t. is_same q r (sym (same_is r q t)))
 
 -- what is at r is not at q, where r is not
 elsewhere : (q r : Place) → same_place q r ≡ false → (s : Place) → same_place r s ≡ true → not (same_place q s) ≡ true

@@ -1,6 +1,7 @@
 -- Over a view: whether a feature of the class passes a test, and how many of all their segments or ends do.
-use Rattle.std.proofs.Common.{◌≡◌, ℕ, ◌+◌, ◌<◌, ◌≤◌, Bool, true, false, List, [], ◌∷◌, ◌++◌, Some, refl, sym, ◌∙◌, ap, take, length, get_or, cond, append-nil, arith}
-use Rattle.std.specs.Prelude.{slice_get, nat_lt, not, ◌==◌, ◌&&◌, ◌||◌, flat_map, if◌then◌else◌}
+use Rattle.std.proofs.Common.{◌≡◌, ℕ, ◌+◌, ◌<◌, ◌≤◌, Bool, true, false, List, [], ◌∷◌, Some}
+use Rattle.std.proofs.Common.{refl, sym, ◌∙◌, ap, take, length, get_or, cond, append-nil, arith}
+use Rattle.std.specs.Prelude.{slice_get, ◌==◌, ◌&&◌, ◌||◌, flat_map}
 use Rattle.std.specs.List.{filter, list_any}
 use Rattle.std.proofs.lemmas.Grind.{flat_map-append}
 use Rattle.std.proofs.lemmas.Int.{ints}
@@ -22,7 +23,7 @@ use Rattle.cell_laws.proofs.AtPlaces.{same_is}
 use Rattle.rule_loops.specs.Views.{of_class, round_of, up_to_three}
 use Rattle.rule_loops.proofs.Boxes.{box_within}
 use Rattle.rule_loops.proofs.More.{class_more}
-use Rattle.rule_loops.proofs.Spots.{same_by_truth, many_append}
+use Rattle.rule_loops.proofs.Spots.{many_append}
 
 -- ---- one that passes
 -- of those kept, one passes where one of all is kept and passes
@@ -35,7 +36,8 @@ any_kept {A} kept test (x ∷ xs) = pick (kept x) (any_kept kept test xs)
     pick true e = rw e refl
     pick false e = e
 
-pub any_there : {A : Type 0} (test : A → Bool) (xs : List A) (i : ℕ) (x : A) → slice_get xs i ≡ Some x → test x ≡ true → list_any test xs ≡ true
+pub any_there : {A : Type 0} (test : A → Bool) (xs : List A) (i : ℕ) (x : A) → slice_get xs i ≡ Some x → test x ≡ true
+    → list_any test xs ≡ true
 any_there test xs i x e t =
     let there : get_or xs i x ≡ x = get_or_from_slice_get xs i x x e in
     list_any_at test xs i x (slice_get_within xs i x e) (rw there t)
@@ -46,7 +48,8 @@ none_more test xs i x e t h =
     let there : get_or xs i x ≡ x = get_or_from_slice_get xs i x x e in
     list_any_more test xs i x (slice_get_within xs i x e) ∙ rw (h, there, t) refl
 
-pub none_in_all : {A : Type 0} (test : A → Bool) (xs : List A) (i : ℕ) → length xs ≤ i → list_any test (take i xs) ≡ false → list_any test xs ≡ false
+pub none_in_all : {A : Type 0} (test : A → Bool) (xs : List A) (i : ℕ) → length xs ≤ i → list_any test (take i xs) ≡ false
+    → list_any test xs ≡ false
 none_in_all test xs i l h = ap (list_any test) (sym (take_all i xs l)) ∙ h
 
 -- ---- up to three
@@ -57,7 +60,8 @@ pub three_is : (m n k : ℕ) → m ≡ up_to_three n → k < 3 → (m == k) ≡ 
 three_is m n k e l = grind (arith, nat_tests)
 
 -- ---- how many of all
-module _ {A : Type 0} (test : A → Bool) (items : Feature → List A) (n : ℕ) (V : List Feature) (i : ℕ) (g : Feature) (e : slice_get V i ≡ Some g) where
+module _ {A : Type 0} (test : A → Bool) (items : Feature → List A) (n : ℕ) (V : List Feature) (i : ℕ) (g : Feature)
+    (e : slice_get V i ≡ Some g) where
   all_with : (b : Bool) → (g.class == n) ≡ b → how_many test (flat_map items (of_class n (take (i + 1) V)))
       ≡ how_many test (flat_map items (of_class n (take i V))) + how_many test (flat_map items (cond b (g ∷ []) []))
   all_with b t =
@@ -75,7 +79,8 @@ module _ {A : Type 0} (test : A → Bool) (items : Feature → List A) (n : ℕ)
   all_same t = let a = all_with false t in omega (arith, a)
 
 -- those whose envelope does not hold the place have nothing there
-none_many : {A : Type 0} (test : A → Bool) (P : A → Type 0) → ((x : A) → P x → test x ≡ false) → (xs : List A) → Every P xs → how_many test xs ≡ 0
+none_many : {A : Type 0} (test : A → Bool) (P : A → Type 0) → ((x : A) → P x → test x ≡ false) → (xs : List A) → Every P xs
+    → how_many test xs ≡ 0
 none_many test P m [] u = refl
 none_many test P m (x ∷ xs) u = rw (m x u.0) (none_many test P m xs u.1)
 
@@ -107,7 +112,8 @@ module _ {A : Type 0} (test : A → Bool) (items : Feature → List A) (q : Plac
     (none : (g : Feature) → is_within (rect_at q) (env g) ≡ false → how_many test (items g) ≡ 0) where
   round_more : (n : ℕ) (V : List Feature) (i : ℕ) (g : Feature) (count : ℕ) → slice_get V i ≡ Some g → round_of n q g ≡ true
       → count ≡ up_to_three (how_many test (flat_map items (of_class n (take i V))))
-      → up_to_three (count + up_to_three (how_many test (items g))) ≡ up_to_three (how_many test (flat_map items (of_class n (take (i + 1) V))))
+      → up_to_three (count + up_to_three (how_many test (items g)))
+      ≡ up_to_three (how_many test (flat_map items (of_class n (take (i + 1) V))))
   round_more n V i g count e t h =
       let before = how_many test (flat_map items (of_class n (take i V))) in
       rw h (three_more before (how_many test (items g)) ∙ sym (ap up_to_three (all_more test items n V i g e (and_left _ _ t))))
@@ -130,20 +136,24 @@ module _ {A : Type 0} (test : A → Bool) (items : Feature → List A) (q : Plac
       by_class false c m = all_same test items n V i g e c
 
 -- segments, and ends
-pub segments_more : (q : Place) (n : ℕ) (V : List Feature) (i : ℕ) (g : Feature) (count : ℕ) → slice_get V i ≡ Some g → round_of n q g ≡ true
-    → count ≡ up_to_three (segments_at (of_class n (take i V)) q)
-    → up_to_three (count + up_to_three (how_many (λ t. holds_place t q) (sides g))) ≡ up_to_three (segments_at (of_class n (take (i + 1) V)) q)
+pub segments_more : (q : Place) (n : ℕ) (V : List Feature) (i : ℕ) (g : Feature) (count : ℕ) → slice_get V i ≡ Some g
+    → round_of n q g ≡ true → count ≡ up_to_three (segments_at (of_class n (take i V)) q)
+    → up_to_three (count + up_to_three (how_many (λ t. holds_place t q) (sides g)))
+    ≡ up_to_three (segments_at (of_class n (take (i + 1) V)) q)
 segments_more q = round_more (λ (t : Segment). holds_place t q) sides q (no_segment q)
 
-pub segments_same : (q : Place) (n : ℕ) (V : List Feature) (i : ℕ) (g : Feature) (count : ℕ) → slice_get V i ≡ Some g → round_of n q g ≡ false
-    → count ≡ up_to_three (segments_at (of_class n (take i V)) q) → count ≡ up_to_three (segments_at (of_class n (take (i + 1) V)) q)
+pub segments_same : (q : Place) (n : ℕ) (V : List Feature) (i : ℕ) (g : Feature) (count : ℕ) → slice_get V i ≡ Some g
+    → round_of n q g ≡ false → count ≡ up_to_three (segments_at (of_class n (take i V)) q)
+    → count ≡ up_to_three (segments_at (of_class n (take (i + 1) V)) q)
 segments_same q = round_same (λ (t : Segment). holds_place t q) sides q (no_segment q)
 
-pub ends_more : (q : Place) (n : ℕ) (V : List Feature) (i : ℕ) (g : Feature) (count : ℕ) → slice_get V i ≡ Some g → round_of n q g ≡ true
-    → count ≡ up_to_three (ends_at (of_class n (take i V)) q)
-    → up_to_three (count + up_to_three (how_many (same_place q) (ends g))) ≡ up_to_three (ends_at (of_class n (take (i + 1) V)) q)
+pub ends_more : (q : Place) (n : ℕ) (V : List Feature) (i : ℕ) (g : Feature) (count : ℕ) → slice_get V i ≡ Some g
+    → round_of n q g ≡ true → count ≡ up_to_three (ends_at (of_class n (take i V)) q)
+    → up_to_three (count + up_to_three (how_many (same_place q) (ends g)))
+    ≡ up_to_three (ends_at (of_class n (take (i + 1) V)) q)
 ends_more q = round_more (same_place q) ends q (no_end q)
 
-pub ends_same : (q : Place) (n : ℕ) (V : List Feature) (i : ℕ) (g : Feature) (count : ℕ) → slice_get V i ≡ Some g → round_of n q g ≡ false
-    → count ≡ up_to_three (ends_at (of_class n (take i V)) q) → count ≡ up_to_three (ends_at (of_class n (take (i + 1) V)) q)
+pub ends_same : (q : Place) (n : ℕ) (V : List Feature) (i : ℕ) (g : Feature) (count : ℕ) → slice_get V i ≡ Some g
+    → round_of n q g ≡ false → count ≡ up_to_three (ends_at (of_class n (take i V)) q)
+    → count ≡ up_to_three (ends_at (of_class n (take (i + 1) V)) q)
 ends_same q = round_same (same_place q) ends q (no_end q)

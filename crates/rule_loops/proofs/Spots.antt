@@ -1,5 +1,6 @@
 -- Tests at a place of the grid: on a segment, below it; and how many elements pass a test.
-use Rattle.std.proofs.Common.{◌≡◌, ◌↔◌, ℕ, ◌+◌, ◌<◌, suc, ℤ, pos, negsuc, ◌*ℤ◌, ◌≤ℤ◌, ◌<ℤ◌, Bool, true, false, List, [], ◌∷◌, ◌++◌, Some, IsTrue, refl, sym, ◌∙◌, ap, take, length, get_or, cond, arith, zero, inl, inr}
+use Rattle.std.proofs.Common.{◌≡◌, ◌↔◌, ℕ, ◌+◌, ◌<◌, suc, ℤ, pos, negsuc, ◌*ℤ◌, ◌≤ℤ◌, ◌<ℤ◌, Bool, true, false, List, [], ◌∷◌}
+use Rattle.std.proofs.Common.{◌++◌, Some, IsTrue, refl, sym, ◌∙◌, ap, take, length, get_or, cond, arith, zero, inl, inr}
 use Rattle.std.specs.Prelude.{slice_get, not, ◌&&◌, int_lt, int_le}
 use Rattle.std.specs.Int.{int_signum}
 use Rattle.std.specs.List.{filter}

@@ -5,11 +5,12 @@
 -- other_of n f g       g is of the class n, and is not f
 -- round_of n q g       g is of the class n, and its envelope holds the place q
 -- up_to_three n        n, or 3 where it is more: no rule asks for more than two of a place
+-- is_out r s           the lower end of the segment s is out of the rectangle r
 -- beside n s g         g is of the class n, and its envelope meets the box of the segment s
 -- left_of_segment gs s what the features gs leave of the segment s: one of the lists of `sides_left`
 use Rattle.std.specs.Prelude.{ℕ, nat_lt, not, Bool, ◌==◌, ◌&&◌, List, [], ◌∷◌, flat_map, filter, if◌then◌else◌}
 use Rattle.plane_terms.specs.Point.{Place}
-use Rattle.plane_terms.specs.Rectangle.{rects_meet, rect_at, is_within}
+use Rattle.plane_terms.specs.Rectangle.{Rectangle, rects_meet, rect_at, is_within}
 use Rattle.plane_terms.specs.Segment.{Segment, box_of}
 use Rattle.plane_terms.specs.Cell.{Cell, on_segment}
 use Rattle.topology_terms.specs.Feature.{Feature, sides, env}
@@ -26,6 +27,9 @@ other_of n f g = g.class == n && not (g.handle == f.handle)
 
 abbrev pub round_of : ℕ → Place → Feature → Bool
 round_of n q g = g.class == n && is_within (rect_at q) (env g)
+
+abbrev pub is_out : Rectangle → Segment → Bool
+is_out r s = not (is_within (rect_at s.lo) r)
 
 abbrev pub up_to_three : ℕ → ℕ
 up_to_three n = if nat_lt n 3 then n else 3

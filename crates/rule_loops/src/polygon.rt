@@ -1,15 +1,20 @@
-ghost use Rattle.std.specs.Prelude.{◌≡◌, map, IfOk};
+ghost use Rattle.std.specs.Prelude.{◌≡◌, false, map, IfOk};
+ghost use Rattle.std.specs.Bool.{OnTrue};
+ghost use Rattle.std.specs.List.{list_any};
 ghost use Rattle.plane_terms.specs.Cell.{on_segment};
 ghost use Rattle.plane_terms.specs.Segment.{Segment};
+ghost use Rattle.plane_terms.specs.declared.kind.Kind.TheVariants as kind;
 ghost use Rattle.topology_terms.specs.Feature.{sides};
-ghost use Rattle.plane_terms.specs.Carve.{carve_of};
 ghost use Rattle.topology_terms.specs.Cells as terms;
 ghost use Rattle.topology_terms.specs.Tests as tests;
 ghost use Rattle.rule_core.specs.Kept.{cells_of};
+ghost use Rattle.rule_laws.proofs.Families.{IsFit};
+ghost use Rattle.rule_loops.specs.Views.{is_out};
 
 use column_cut::{inside, outside};
 use convex_cell::{Cell, Cells};
-use grid_plane::{NoMemory, Seg};
+use grid_plane::{NoMemory, Rect, Seg};
+use plane_terms::Kind;
 use rule_core::{Region, Work};
 use shape::Feature;
 use std::alloc::Global;
@@ -97,16 +102,54 @@ pub fn closed_cells(alloc: Global, polygon: &Feature, work: &mut Work) -> Result
     Ok(cells)
 }
 
-/// Whether the polygon covers these cells: no point of them is closed out of it.
+// Whether a vertex of these segments is out of the rectangle.
+fn sticks_out(segments: &[Seg], frame: &Rect) -> bool
+    ensures { result ≡ list_any (is_out frame.now) segments.now }
+{
+    segments
+        .iter()
+        .any(|segment| !frame.holds_point(segment.lo()))
+}
+
+fn is_polygon(feature: &Feature) -> bool
+    ensures { OnTrue result (IsFit kind.Polygon feature.now) }
+{
+    let shape = feature.shape();
+    shape.simple_law();
+    shape.kind() == Kind::Polygon
+}
+
+fn are_polygons(subject: &Feature, polygon: &Feature) -> bool
+    ensures subject { OnTrue result (IsFit kind.Polygon subject.now) }
+    ensures polygon { OnTrue result (IsFit kind.Polygon polygon.now) }
+{
+    is_polygon(subject) && is_polygon(polygon)
+}
+
+// Whether a vertex of the subject is out of the polygon's envelope.
+fn is_beyond(subject: &Feature, polygon: &Feature) -> bool
+    ensures { OnTrue result (tests.covers subject.now polygon.now ≡ false) }
+{
+    let frame = polygon.shape().env();
+    are_polygons(subject, polygon) && sticks_out(subject.shape().segs(), &frame)
+}
+
+/// Whether the polygon covers the subject, of which these are the closed cells. A polygon whose envelope does not hold the
+/// subject's vertices is passed over.
 pub fn covers(
     alloc: Global,
     polygon: &Feature,
+    subject: &Feature,
     cells: &Cells,
     work: &mut Work,
 ) -> Result<bool, NoMemory>
-    ensures covers { IfOk result (λ covered. covered ≡ tests.is_empty (carve_of cells.now (terms.outside polygon.now))) }
+    requires { cells.now ≡ tests.closed_cells subject.now }
+    ensures covers { IfOk result (λ covered. covered ≡ tests.covers subject.now polygon.now) }
     ensures uncounted { work.new ≡ work.old }
 {
+    if is_beyond(subject, polygon) {
+        return Ok(false);
+    }
     let outside = outside_of(alloc, polygon, work)?;
     let left = cells.carve(alloc, &outside)?;
     Ok(left.len() == 0)

@@ -10,7 +10,10 @@ use cover_rules::{
     LineOffLines,
 };
 use grid_plane::NoMemory;
-use line_rules::{DanglingEnds, EndsOffPoints, JoinedEnds, ManyParts};
+use line_rules::{
+    DanglingEnds, EndsOffPoints, JoinedEnds, LaterButEnds, LaterInner, LaterStretches, ManyParts,
+    OwnCrossings, OwnStretches, SecondStretches,
+};
 use point_rules::{
     LaterAtPlace, NoCover, NoPointInside, PlaceOffBoundaries, PlaceOffEnds, PlaceOffInsides,
     PlaceOffLines, PlaceOffPoints,
@@ -62,11 +65,17 @@ impl<'a> Case<'a> {
             >(work),
             RuleKind::PolygonMustBeCoveredBy => self.by::<NoCover>(work),
             RuleKind::PolygonContainsPoint => self.by::<NoPointInside>(work),
+            RuleKind::LineMustNotOverlap => self.by::<LaterStretches>(work),
+            RuleKind::LineMustNotOverlapWith => self.by::<SecondStretches>(work),
+            RuleKind::LineMustNotIntersect => self.by::<LaterInner>(work),
+            RuleKind::LineMustNotIntersectOrTouchInterior => self.by::<LaterButEnds>(work),
             RuleKind::LineMustNotHaveDangles => self.by::<DanglingEnds>(work),
             RuleKind::LineMustNotHavePseudoNodes => self.by::<JoinedEnds>(work),
             RuleKind::LineMustBeCoveredByFeatureClassOf => self.by::<LineOffLines>(work),
             RuleKind::LineMustBeCoveredByBoundaryOf => self.by::<LineOffBoundaries>(work),
             RuleKind::LineEndpointMustBeCoveredBy => self.by::<EndsOffPoints>(work),
+            RuleKind::LineMustNotSelfOverlap => self.by::<OwnStretches>(work),
+            RuleKind::LineMustNotSelfIntersect => self.by::<OwnCrossings>(work),
             RuleKind::LineMustBeSinglePart => self.by::<ManyParts>(work),
             RuleKind::PointMustBeDisjoint => self.by::<LaterAtPlace>(work),
             RuleKind::PointMustCoincideWith => self.by::<PlaceOffPoints>(work),
@@ -74,10 +83,6 @@ impl<'a> Case<'a> {
             RuleKind::PointMustBeCoveredByBoundaryOf => self.by::<PlaceOffBoundaries>(work),
             RuleKind::PointMustBeCoveredByLine => self.by::<PlaceOffLines>(work),
             RuleKind::PointMustBeCoveredByEndpointOf => self.by::<PlaceOffEnds>(work),
-            _ => {
-                work.raise();
-                Err(NoMemory)
-            }
         }
     }
 }

@@ -48,6 +48,7 @@ pub has_word : (word : List ℕ) (rules : List RuleKind) → IfSome (first_of_wo
 has_word word [] = tt
 has_word word (k ∷ rules) = by (bytes_eq (word_of k) word) refl (has_word word rules)
   where
-    by : (t : Bool) → bytes_eq (word_of k) word ≡ t → IfSome (first_of_word word rules) (λ k. word_of k ≡ word) → IfSome (if t then Some k else first_of_word word rules) (λ k. word_of k ≡ word)
+    by : (t : Bool) → bytes_eq (word_of k) word ≡ t → IfSome (first_of_word word rules) (λ k. word_of k ≡ word)
+        → IfSome (if t then Some k else first_of_word word rules) (λ k. word_of k ≡ word)
     by true e others = (bytes_eq-Decides (word_of k) word).0 e
     by false e others = others

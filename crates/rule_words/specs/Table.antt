@@ -106,7 +106,14 @@ judges_either rule.PolygonMustCoverEachOther = true
 judges_either other = false
 
 abbrev pub all_rules : List RuleKind
-all_rules = rule.PolygonMustNotOverlap ∷ rule.PolygonMustNotOverlapWith ∷ rule.PolygonMustNotHaveGaps ∷ rule.PolygonMustBeCoveredByFeatureClassOf ∷ rule.PolygonMustCoverEachOther ∷ rule.PolygonBoundaryMustBeCoveredBy ∷ rule.PolygonAreaBoundaryMustBeCoveredByBoundaryOf ∷ rule.PolygonMustBeCoveredBy ∷ rule.PolygonContainsPoint ∷ rule.LineMustNotOverlap ∷ rule.LineMustNotOverlapWith ∷ rule.LineMustNotIntersect ∷ rule.LineMustNotIntersectOrTouchInterior ∷ rule.LineMustNotHaveDangles ∷ rule.LineMustNotHavePseudoNodes ∷ rule.LineMustBeCoveredByFeatureClassOf ∷ rule.LineMustBeCoveredByBoundaryOf ∷ rule.LineEndpointMustBeCoveredBy ∷ rule.LineMustNotSelfOverlap ∷ rule.LineMustNotSelfIntersect ∷ rule.LineMustBeSinglePart ∷ rule.PointMustBeDisjoint ∷ rule.PointMustCoincideWith ∷ rule.PointMustBeProperlyInside ∷ rule.PointMustBeCoveredByBoundaryOf ∷ rule.PointMustBeCoveredByLine ∷ rule.PointMustBeCoveredByEndpointOf ∷ []
+all_rules = rule.PolygonMustNotOverlap ∷ rule.PolygonMustNotOverlapWith ∷ rule.PolygonMustNotHaveGaps ∷
+    rule.PolygonMustBeCoveredByFeatureClassOf ∷ rule.PolygonMustCoverEachOther ∷ rule.PolygonBoundaryMustBeCoveredBy ∷
+    rule.PolygonAreaBoundaryMustBeCoveredByBoundaryOf ∷ rule.PolygonMustBeCoveredBy ∷ rule.PolygonContainsPoint ∷ rule.LineMustNotOverlap ∷
+    rule.LineMustNotOverlapWith ∷ rule.LineMustNotIntersect ∷ rule.LineMustNotIntersectOrTouchInterior ∷ rule.LineMustNotHaveDangles ∷
+    rule.LineMustNotHavePseudoNodes ∷ rule.LineMustBeCoveredByFeatureClassOf ∷ rule.LineMustBeCoveredByBoundaryOf ∷
+    rule.LineEndpointMustBeCoveredBy ∷ rule.LineMustNotSelfOverlap ∷ rule.LineMustNotSelfIntersect ∷ rule.LineMustBeSinglePart ∷
+    rule.PointMustBeDisjoint ∷ rule.PointMustCoincideWith ∷ rule.PointMustBeProperlyInside ∷ rule.PointMustBeCoveredByBoundaryOf ∷
+    rule.PointMustBeCoveredByLine ∷ rule.PointMustBeCoveredByEndpointOf ∷ []
 
 abbrev pub first_of_word : List ℕ → List RuleKind → Option RuleKind
 first_of_word word rules = find (λ (k : RuleKind). bytes_eq (word_of k) word) rules

@@ -47,16 +47,20 @@ own_alone (o ∷ ss) s h k a = ((λ n. by (has_step o h) refl ((a.0 n).steps h))
 
 pub last_there : (s u : Session) (t : EditStep) → IsUndoneTo s t u → has_step s t.handle ≡ true
 last_there s u t k =
-    subst (λ xs. list_any (λ (x : EditStep). eqb x.handle t.handle) xs ≡ true) (sym (ap (λ d. d ++ s.undone) k.done ∙ append_assoc u.done (t ∷ []) s.undone)) (step_there u.done s.undone t)
+    subst (λ xs. list_any (λ (x : EditStep). eqb x.handle t.handle) xs ≡ true) (sym (ap (λ d. d ++ s.undone) k.done
+        ∙ append_assoc u.done (t ∷ []) s.undone)) (step_there u.done s.undone t)
 
 pub first_there : (s u : Session) (t : EditStep) → IsUndoneTo u t s → has_step s t.handle ≡ true
 first_there s u t k =
-    subst (λ xs. list_any (λ (x : EditStep). eqb x.handle t.handle) xs ≡ true) (sym (ap (λ d. s.done ++ d) k.undone)) (step_there s.done u.undone t)
+    subst (λ xs. list_any (λ (x : EditStep). eqb x.handle t.handle) xs ≡ true) (sym (ap (λ d. s.done ++ d) k.undone))
+        (step_there s.done u.undone t)
 
 -- ---- one session changes with one handle
-pub changed_keeps : (old new : State) (name : List ℕ) (s u : Session) (h : ℕ) (x : Option Feature) → IsKeeping old → IsSessionChanged name s u old.sessions new.sessions
+pub changed_keeps : (old new : State) (name : List ℕ) (s u : Session) (h : ℕ) (x : Option Feature) → IsKeeping old
+    → IsSessionChanged name s u old.sessions new.sessions
     → IsSetAt h x old.project.features new.project.features → Every (IsBelow new.project.next) old.sessions
-    → IsAlone old.sessions s.name h → IsApartFromOthers old.sessions u → IsChained (feature_at new.project.features) u → IsBelow new.project.next u → IsKeeping new
+    → IsAlone old.sessions s.name h → IsApartFromOthers old.sessions u → IsChained (feature_at new.project.features) u
+        → IsBelow new.project.next u → IsKeeping new
 changed_keeps old new name s u h x k c set g alone a l b =
     let f = feature_at old.project.features in
     let e = feature_at new.project.features in
@@ -67,11 +71,13 @@ changed_keeps old new name s u h x k c set g alone a l b =
       given = subst (Every (IsBelow new.project.next)) (sym c.sessions) (each_with (IsBelow new.project.next) old.sessions u g b);
     }
 
-pub end_below : (n : ℕ) (ts : List EditStep) (t : EditStep) → Every (λ (x : EditStep). x.handle < n) ts → t.handle < n → Every (λ (x : EditStep). x.handle < n) (ts ++ t ∷ [])
+pub end_below : (n : ℕ) (ts : List EditStep) (t : EditStep) → Every (λ (x : EditStep). x.handle < n) ts → t.handle < n
+    → Every (λ (x : EditStep). x.handle < n) (ts ++ t ∷ [])
 end_below n [] t h l = (l, tt)
 end_below n (x ∷ ts) t h l = (h.0, end_below n ts t h.1 l)
 
-front_below : (n : ℕ) (ts : List EditStep) (t : EditStep) → Every (λ (x : EditStep). x.handle < n) (ts ++ t ∷ []) → Every (λ (x : EditStep). x.handle < n) ts × (t.handle < n)
+front_below : (n : ℕ) (ts : List EditStep) (t : EditStep) → Every (λ (x : EditStep). x.handle < n) (ts ++ t ∷ [])
+    → Every (λ (x : EditStep). x.handle < n) ts × (t.handle < n)
 front_below n [] t h = (tt, h.0)
 front_below n (x ∷ ts) t h = let r = front_below n ts t h.1 in ((h.0, r.0), r.1)
 
@@ -98,9 +104,11 @@ undo_keeps editor old new k d =
     let a = named_apart old.sessions editor s d.session.there k.apart in
     let c = named_has (IsChained f) old.sessions editor s d.session.there k.chained in
     let b = named_has (IsBelow old.project.next) old.sessions editor s d.session.there k.given in
-    changed_keeps old new editor s u t.handle t.before k d.session set (each_same old.project.next new.project.next old.sessions d.set.next k.given)
+    changed_keeps old new editor s u t.handle t.before k d.session set (each_same old.project.next new.project.next old.sessions d.set.next
+        k.given)
     (own_alone old.sessions s t.handle (last_there s u t d.undone) a.1) (undo_apart s u t old.sessions d.undone a.1)
-    (undo_chained f e s u t d.undone (set_to t.handle t.before old.project.features new.project.features set) c) (undone_below new.project.next s u t d.undone (rw d.set.next b))
+    (undo_chained f e s u t d.undone (set_to t.handle t.before old.project.features new.project.features set) c)
+        (undone_below new.project.next s u t d.undone (rw d.set.next b))
 
 pub redo_keeps : (editor : List ℕ) (old new : State) → IsKeeping old → IsRedone editor old new → IsKeeping new
 redo_keeps editor old new k d =
@@ -111,12 +119,15 @@ redo_keeps editor old new k d =
     let a = named_apart old.sessions editor s d.session.there k.apart in
     let c = named_has (IsChained f) old.sessions editor s d.session.there k.chained in
     let b = named_has (IsBelow old.project.next) old.sessions editor s d.session.there k.given in
-    changed_keeps old new editor s u t.handle t.after k d.session set (each_same old.project.next new.project.next old.sessions d.set.next k.given)
+    changed_keeps old new editor s u t.handle t.after k d.session set (each_same old.project.next new.project.next old.sessions d.set.next
+        k.given)
     (own_alone old.sessions s t.handle (first_there s u t d.undone) a.1) (redo_apart s u t old.sessions d.undone a.1)
-    (redo_chained f e s u t d.undone (set_to t.handle t.after old.project.features new.project.features set) c) (redone_below new.project.next s u t d.undone (rw d.set.next b))
+    (redo_chained f e s u t d.undone (set_to t.handle t.after old.project.features new.project.features set) c)
+        (redone_below new.project.next s u t d.undone (rw d.set.next b))
 
 -- an edit of a handle that no other session holds
-pub altered_keeps : (editor : List ℕ) (h : ℕ) (x : Option Feature) (old new : State) → IsKeeping old → IsAlone old.sessions editor h → h < old.project.next
+pub altered_keeps : (editor : List ℕ) (h : ℕ) (x : Option Feature) (old new : State) → IsKeeping old → IsAlone old.sessions editor h
+    → h < old.project.next
     → LeavesNoted editor (set_step old.project h x) (IsFeatureSet h x) old new → IsKeeping new
 altered_keeps editor h x old new k alone given d =
     let f = feature_at old.project.features in
@@ -128,7 +139,8 @@ altered_keeps editor h x old new k alone given d =
     let c = named_has (IsChained f) old.sessions editor s ch.there k.chained in
     let b = named_has (IsBelow old.project.next) old.sessions editor s ch.there k.given in
     let mine : IsAlone old.sessions s.name h = subst (λ n. IsAlone old.sessions n h) (sym a.0) alone in
-    changed_keeps old new editor s (with_step s t) h x k ch set (each_same old.project.next new.project.next old.sessions d.project.next k.given)
+    changed_keeps old new editor s (with_step s t) h x k ch set (each_same old.project.next new.project.next old.sessions d.project.next
+        k.given)
     mine (note_apart s t old.sessions mine a.1)
     (note_chained f e s h x (set_to h x old.project.features new.project.features set) c)
     (record { done = end_below new.project.next s.done t (rw d.project.next b.done) (rw d.project.next given); undone = tt })

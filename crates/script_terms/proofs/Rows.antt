@@ -9,16 +9,18 @@ use Rattle.plane_terms.specs.HalfPlane.{x_is, y_is}
 use Rattle.plane_terms.specs.Shape.{Shape}
 use Rattle.plane_terms.specs.declared.kind.Kind.TheVariants as shapes
 use Rattle.rule_words.specs.declared.rule_kind.RuleKind.TheVariants as kind
+use Rattle.topology_terms.specs.Entry.{entry_at}
 use Rattle.topology_terms.specs.Feature.{feature_at}
-use Rattle.topology_terms.specs.declared.cause.Cause.TheVariants.{ClassTaken, NoClass, Unfit, RuleThere, NoRule, WrongKind, NoFeature}
+use Rattle.topology_terms.specs.declared.cause.Cause.TheVariants.{ClassTaken, NoClass, Unfit, RuleThere, NoRule, WrongKind, NoFeature, NoError, AlreadySo}
 use Rattle.topology_terms.specs.Project.{Project, rule_at}
 use Rattle.plane_terms.specs.declared.shape_fault.ShapeFault.TheVariants as fault
 use Rattle.line_terms.specs.declared.line_refusal.LineRefusal.TheVariants as line
-use Rattle.line_terms.specs.Commands.{Class, Rule, DropRule, Begin, Add, Change as AChange, Delete, Undo}
+use Rattle.line_terms.specs.Commands.{Class, Rule, DropRule, Begin, Add, Change as AChange, Delete, Undo, Mark, Unmark, Rules}
 use Rattle.script_terms.specs.Refusal.{Line, SessionOpen, NoSession, NothingToUndo, Change}
-use Rattle.script_terms.specs.Reply.{Judged, Refused, CellList, DirtyList, ErrorList, FeatureList, reply_text}
+use Rattle.script_terms.specs.Reply.{Judged, Refused, CellList, DirtyList, ErrorList, FeatureList, RuleList, reply_text}
 use Rattle.script_terms.specs.State.{State}
-use Rattle.script_terms.specs.Refusing.{not_built, refusal_of}
+use Rattle.script_terms.specs.Refusing.{refusal_of}
+use Rattle.script_terms.specs.Report.{report_text}
 
 abbrev at : ℤ → ℤ → Place
 at x y = record { x = x; y = y }
@@ -30,18 +32,22 @@ point x y = record { kind = shapes.Point; parts = ((at x y ∷ []) ∷ []) ∷ [
 abbrev wells : Project
 wells = record {
   classes = record { name = codes "wells"; kind = shapes.Point } ∷ [];
-  rules = record { number = 1; row = record { kind = kind.PointMustBeDisjoint; origin = record { class = 1 }; dest = record { class = 0 } } } ∷ [];
-  features = record { handle = 1; class = 1; shape = point (pos 3) (pos 4) } ∷ record { handle = 2; class = 1; shape = point (pos 3) (pos 4) } ∷ [];
+  rules = record { number = 1; row = record { kind = kind.PointMustBeDisjoint; origin = record { class = 1 }; dest = record { class = 0 } }
+      } ∷ [];
+  features = record { handle = 1; class = 1; shape = point (pos 3) (pos 4) } ∷ record { handle = 2; class = 1; shape =
+      point (pos 3) (pos 4) } ∷ [];
   next = 3;
   dirt = [];
-  entries = record { rule = 1; subject = 1; other = 2; whole = false; marked = false; frame = rect_at (at (pos 3) (pos 4)); cells = (x_is (pos 3) ∷ y_is (pos 4) ∷ []) ∷ [] } ∷ [];
+  entries = record { rule = 1; subject = 1; other = 2; whole = false; marked = false; frame = rect_at (at (pos 3) (pos 4)); cells =
+      (x_is (pos 3) ∷ y_is (pos 4) ∷ []) ∷ [] } ∷ [];
 }
 
 abbrev open_ann : State
 open_ann = record { project = wells; sessions = record { name = codes "ann"; done = []; undone = [] } ∷ [] }
 
 -- ---- the replies of the row
-cells : reply_text (CellList wells) ≡ codes "error 1 1 2 cells 3 4 3 4" ++ 10 ∷ codes "cell 1 0 -3 =, 0 1 -4 =" ++ 10 ∷ codes "total 1" ++ 10 ∷ []
+cells : reply_text (CellList wells) ≡ codes "error 1 1 2 cells 3 4 3 4" ++ 10 ∷ codes "cell 1 0 -3 =, 0 1 -4 =" ++ 10 ∷ codes "total 1" ++
+    10 ∷ []
 unfolding digits
 cells = refl
 
@@ -67,7 +73,8 @@ no_class = refl
 accepted : refusal_of open_ann (Add (codes "ann") (codes "wells") (point (pos 0) (pos 0))) ≡ None
 accepted = refl
 
-other_kind : refusal_of open_ann (Add (codes "ann") (codes "wells") (record { kind = shapes.Line; parts = ((at (pos 0) (pos 0) ∷ at (pos 5) (pos 0) ∷ []) ∷ []) ∷ [] })) ≡ Some (Change WrongKind)
+other_kind : refusal_of open_ann (Add (codes "ann") (codes "wells") (record { kind = shapes.Line; parts =
+    ((at (pos 0) (pos 0) ∷ at (pos 5) (pos 0) ∷ []) ∷ []) ∷ [] })) ≡ Some (Change WrongKind)
 other_kind = refl
 
 second_class : refusal_of open_ann (Class (codes "wells") shapes.Line) ≡ Some (Change ClassTaken)
@@ -81,6 +88,9 @@ lots_of_points = refl
 
 no_such_class : refusal_of open_ann (Rule kind.PointMustBeDisjoint (codes "roads") None) ≡ Some (Change NoClass)
 no_such_class = refl
+
+lines_nowhere : refusal_of open_ann (Rule kind.LineMustNotOverlap (codes "roads") None) ≡ Some (Change NoClass)
+lines_nowhere = refl
 
 no_such_rule : refusal_of open_ann (DropRule 2) ≡ Some (Change NoRule)
 unfolding rule_at
@@ -103,6 +113,51 @@ moved = refl
 undone : refusal_of open_ann (Undo (codes "ann")) ≡ Some NothingToUndo
 undone = refl
 
+-- ---- exceptions
+marks : refusal_of open_ann (Mark 1 1 2) ≡ None
+unfolding entry_at
+marks = refl
+
+no_such_error : refusal_of open_ann (Mark 1 2 1) ≡ Some (Change NoError)
+unfolding entry_at
+no_such_error = refl
+
+not_marked : refusal_of open_ann (Unmark 1 1 2) ≡ Some (Change AlreadySo)
+unfolding entry_at
+not_marked = refl
+
+absent_before_so : refusal_of open_ann (Unmark 2 1 2) ≡ Some (Change NoError)
+unfolding entry_at
+absent_before_so = refl
+
+already_text : reply_text (Refused (Change AlreadySo)) ≡ codes "refused E26" ++ 10 ∷ []
+already_text = refl
+
+-- ---- the rules in force, and the report
+rules : reply_text (RuleList wells) ≡ codes "rule 1 point_must_be_disjoint wells" ++ 10 ∷ codes "total 1" ++ 10 ∷ []
+unfolding digits
+rules = refl
+
+listed_rules : refusal_of open_ann Rules ≡ None
+listed_rules = refl
+
+-- a rule of two classes
+abbrev zones : Project
+zones = record wells {
+  classes = record { name = codes "parcels"; kind = shapes.Polygon } ∷ record { name = codes "zones"; kind = shapes.Polygon } ∷ [];
+  rules = record { number = 3; row = record { kind = kind.PolygonMustBeCoveredBy; origin = record { class = 1 }; dest =
+      record { class = 2 } } } ∷ [];
+}
+
+rules_of_two : reply_text (RuleList zones) ≡ codes "rule 3 polygon_must_be_covered_by parcels zones" ++ 10 ∷ codes "total 1" ++ 10 ∷ []
+unfolding digits
+rules_of_two = refl
+
+report : report_text wells ≡ codes "rule,kind,subject,other,extent,mark,x0,y0,x1,y1" ++ 10 ∷ codes
+    "1,point_must_be_disjoint,1,2,cells,error,3,4,3,4" ++ 10 ∷ []
+unfolding digits rule_at
+report = refl
+
 -- ---- the words of refusals
 beyond_text : reply_text (Refused (Line (line.OutOfReach 3))) ≡ codes "refused E15 3" ++ 10 ∷ []
 unfolding digits
@@ -113,13 +168,15 @@ unfolding digits
 crossed_text = refl
 
 -- ---- features
-features : reply_text (FeatureList wells) ≡ codes "feature 1 wells POINT (3 4)" ++ 10 ∷ codes "feature 2 wells POINT (3 4)" ++ 10 ∷ codes "total 2" ++ 10 ∷ []
+features : reply_text (FeatureList wells) ≡ codes "feature 1 wells POINT (3 4)" ++ 10 ∷ codes "feature 2 wells POINT (3 4)" ++ 10 ∷ codes
+    "total 2" ++ 10 ∷ []
 unfolding digits
 features = refl
 
 -- ---- a window in the middle of the grid: the four pieces round it stay dirty
 four_left : reply_text (DirtyList (record wells { dirt = cut_dirt (whole_grid ∷ []) (rect_of (pos 0) (pos 0) (pos 5) (pos 5)) })) ≡
-    codes "dirty -4194304 -4194304 0 4194304" ++ 10 ∷ codes "dirty 5 -4194304 4194304 4194304" ++ 10 ∷ codes "dirty 0 -4194304 5 0" ++ 10 ∷ codes "dirty 0 5 5 4194304" ++ 10 ∷ codes "total 4" ++ 10 ∷ []
+    codes "dirty -4194304 -4194304 0 4194304" ++ 10 ∷ codes "dirty 5 -4194304 4194304 4194304" ++ 10 ∷ codes "dirty 0 -4194304 5 0" ++ 10 ∷
+        codes "dirty 0 5 5 4194304" ++ 10 ∷ codes "total 4" ++ 10 ∷ []
 unfolding digits cut_from add_all pieces add_dirt
 four_left = refl
 

@@ -1,7 +1,6 @@
 -- Each line of a run, and so each run, keeps sessions apart and chained.
-use Rattle.std.proofs.Common.{ℕ, ◌≡◌, ◌<◌, Bool, true, false, List, [], ◌∷◌, Option, Some, None, refl, ◌∙◌, ap, subst, arith, eqb}
+use Rattle.std.proofs.Common.{ℕ, ◌≡◌, ◌<◌, Bool, true, false, List, [], ◌∷◌, Option, Some, None, refl, ◌∙◌, ap, subst, eqb}
 use Rattle.std.proofs.lemmas.Slice.Eq.{bytes_eq-Decides}
-use Rattle.std.proofs.lemmas.Bool.Decides.{nat_tests}
 use Rattle.std.specs.Prelude.{if◌then◌else◌, bytes_eq, not, is_some, is_none}
 use Rattle.plane_terms.specs.Lists.{Every}
 use Rattle.topology_terms.specs.Feature.{Feature, feature_at}
@@ -39,10 +38,12 @@ not_false : (b : Bool) → not b ≡ false → b ≡ true
 not_false true e = refl
 not_false false e = cc
 
-pub by_none : (ss : List Session) (o : Option (List ℕ)) (editor : List ℕ) (h : ℕ) → AreAllApart ss → holder ss h ≡ o → held_by o editor ≡ None → IsAlone ss editor h
+pub by_none : (ss : List Session) (o : Option (List ℕ)) (editor : List ℕ) (h : ℕ) → AreAllApart ss → holder ss h ≡ o
+    → held_by o editor ≡ None → IsAlone ss editor h
 by_none ss None editor h a e n = free_alone ss editor h e
 by_none ss (Some name) editor h a e n =
-    let same : name ≡ editor = (bytes_eq-Decides name editor).0 (not_false (bytes_eq name editor) (when_none (not (bytes_eq name editor)) (HeldBy name) n)) in
+    let same : name ≡ editor = (bytes_eq-Decides name editor).0 (not_false (bytes_eq name editor)
+        (when_none (not (bytes_eq name editor)) (HeldBy name) n)) in
     held_alone ss editor h a (e ∙ ap (λ (m : List ℕ). Some m) same)
 
 pub changes_none : (o : Option Cause) → changes o ≡ None → o ≡ None
@@ -58,13 +59,15 @@ unfolding feature_at
 live_below n [] h a e = cc
 live_below n (f ∷ F) h a e = by (eqb f.handle h) refl e (λ r. live_below n F h a.1 r)
   where
-    by : (b : Bool) → eqb f.handle h ≡ b → is_some (if b then Some f else feature_at F h) ≡ true → (is_some (feature_at F h) ≡ true → h < n) → h < n
+    by : (b : Bool) → eqb f.handle h ≡ b → is_some (if b then Some f else feature_at F h) ≡ true → (is_some (feature_at F h) ≡ true → h < n)
+        → h < n
     by true k e r = let s : f.handle ≡ h = eqb-true f.handle h k in subst (λ m. m < n) s a.0
     by false k e r = r e
 
 -- an edit of a live handle that is not refused
 pub may_edit : (s : State) (editor : List ℕ) (h : ℕ) (rest : List (Option Refusal)) → IsKeeping s → IsOrdered s.project
-    → first_of (when (not (is_open s editor)) NoSession ∷ changes (delete_cause s.project.features h) ∷ held s editor h ∷ rest) ≡ None → IsAlone s.sessions editor h × (h < s.project.next)
+    → first_of (when (not (is_open s editor)) NoSession ∷ changes (delete_cause s.project.features h) ∷ held s editor h ∷ rest) ≡ None
+        → IsAlone s.sessions editor h × (h < s.project.next)
 may_edit s editor h rest k ord n =
     let a = first_none (when (not (is_open s editor)) NoSession) (changes (delete_cause s.project.features h) ∷ held s editor h ∷ rest) n in
     let b = first_none (changes (delete_cause s.project.features h)) (held s editor h ∷ rest) a.1 in
@@ -74,30 +77,37 @@ may_edit s editor h rest k ord n =
       live_below s.project.next s.project.features h ord.next (is_there (feature_at s.project.features h) absent),
     )
 
-pub done_keeps : (old : State) (c : Command) (reply : Reply) (new : State) → IsKeeping old → IsOrdered old.project → refusal_of old c ≡ None → IsDone old c reply new → IsKeeping new
+pub done_keeps : (old : State) (c : Command) (reply : Reply) (new : State) → IsKeeping old → IsOrdered old.project → refusal_of old c ≡ None
+    → IsDone old c reply new → IsKeeping new
 done_keeps old Blank reply new k ord n d = equal_keeps old new k d.1.same
 done_keeps old (Class name kd) reply new k ord n d = same_keeps old new k d.1.sessions d.1.project.features d.1.project.next
 done_keeps old (Rule r o e) reply new k ord n d = same_keeps old new k d.2.sessions d.2.project.features d.2.project.next
 done_keeps old (DropRule r) reply new k ord n d = same_keeps old new k d.1.sessions d.1.project.features d.1.project.next
-done_keeps old (Begin editor) reply new k ord n d = begun_keeps editor old new k (when_none (is_open old editor) SessionOpen (first_none (when (is_open old editor) SessionOpen) _ n).0) d.1
+done_keeps old (Begin editor) reply new k ord n d = begun_keeps editor old new k
+    (when_none (is_open old editor) SessionOpen (first_none (when (is_open old editor) SessionOpen) _ n).0) d.1
 done_keeps old (End editor) reply new k ord n d = ended_keeps editor old new k d.1
 done_keeps old (Discard editor) reply new k ord n d = discard_keeps editor old new k d.1
-done_keeps old (Add editor class shape) reply new k ord n d = added_keeps editor (number_or_0 (class_number old.project class)) shape d.0 old new k d.2
-done_keeps old (Change editor h shape) reply new k ord n d = let m = may_edit old editor h _ k ord n in altered_keeps editor h (reshaped (feature_at old.project.features h) shape) old new k m.0 m.1 d.1
-done_keeps old (Delete editor h) reply new k ord n d = let m = may_edit old editor h _ k ord n in altered_keeps editor h None old new k m.0 m.1 d.1
+done_keeps old (Add editor class shape) reply new k ord n d = added_keeps editor (number_or_0 (class_number old.project class)) shape d.0
+    old new k d.2
+done_keeps old (Change editor h shape) reply new k ord n d = let m = may_edit old editor h _ k ord n
+    in altered_keeps editor h (reshaped (feature_at old.project.features h) shape) old new k m.0 m.1 d.1
+done_keeps old (Delete editor h) reply new k ord n d = let m = may_edit old editor h _ k ord n
+    in altered_keeps editor h None old new k m.0 m.1 d.1
 done_keeps old (Undo editor) reply new k ord n d = undo_keeps editor old new k d.1
 done_keeps old (Redo editor) reply new k ord n d = redo_keeps editor old new k d.1
-done_keeps old (Validate w) reply new k ord n d = same_keeps old new k d.4.sessions d.4.project.validated.features d.4.project.validated.next
-done_keeps old (Mark r h g) reply new k ord n d = absurd d
-done_keeps old (Unmark r h g) reply new k ord n d = absurd d
+done_keeps old (Validate w) reply new k ord n d = same_keeps old new k d.4.sessions d.4.project.validated.features
+    d.4.project.validated.next
+done_keeps old (Mark r h g) reply new k ord n d = same_keeps old new k d.1.sessions d.1.project.marking.features d.1.project.marking.next
+done_keeps old (Unmark r h g) reply new k ord n d = same_keeps old new k d.1.sessions d.1.project.marking.features d.1.project.marking.next
 done_keeps old Dirty reply new k ord n d = equal_keeps old new k d.1.same
 done_keeps old Errors reply new k ord n d = equal_keeps old new k d.1.same
 done_keeps old Cells reply new k ord n d = equal_keeps old new k d.1.same
 done_keeps old Features reply new k ord n d = equal_keeps old new k d.1.same
-done_keeps old Rules reply new k ord n d = absurd d
+done_keeps old Rules reply new k ord n d = equal_keeps old new k d.1.same
 
 -- a command that is answered
-pub answers_keep : (old : State) (c : Command) (reply : Reply) (new : State) (o : Option Refusal) → refusal_of old c ≡ o → IsKeeping old → IsOrdered old.project → answers_by o old c reply new → IsKeeping new
+pub answers_keep : (old : State) (c : Command) (reply : Reply) (new : State) (o : Option Refusal) → refusal_of old c ≡ o → IsKeeping old
+    → IsOrdered old.project → answers_by o old c reply new → IsKeeping new
 answers_keep old c reply new None e k ord a = done_keeps old c reply new k ord e a
 answers_keep old c reply new (Some r) e k ord a = equal_keeps old new k a.1.same
 
@@ -105,7 +115,8 @@ comes_keep : (s : State) (r : Reading) (o : Outcome) → IsKeeping s → IsOrder
 comes_keep s (Reads c) o k ord a = answers_keep s c a.0 o.after (refusal_of s c) refl k ord a.1
 comes_keep s (Faulty r) o k ord a = equal_keeps s o.after k a.0
 
-pub run_keeps : (s : State) (lines : List (List ℕ)) (os : List Outcome) → IsKeeping s → IsOrdered s.project → Run s lines os → EachKeeping s os
+pub run_keeps : (s : State) (lines : List (List ℕ)) (os : List Outcome) → IsKeeping s → IsOrdered s.project → Run s lines os
+    → EachKeeping s os
 run_keeps s [] [] k ord r = k
 run_keeps s [] (o ∷ os) k ord r = absurd r
 run_keeps s (line ∷ lines) [] k ord r = absurd r

@@ -1,16 +1,18 @@
 -- What each command does when it is not refused.
 --
--- IsDone old c reply new  the command is done: this is the reply, and this is what it leaves; one that is not built is never done
+-- IsDone old c reply new  the command is done: this is the reply, and this is what it leaves
 -- Answers old c reply new     refused with the state as it was, or done
 -- Leaves P old new        the project becomes what P says, and the sessions stay
 -- IsBegun, IsEnded        the session of this editor is open, without steps; it is gone, and its steps stand
--- LeavesNoted editor t P old new     the project becomes what P says, and t is the last done step of the editor's session, whose undone ones go
--- IsUndone, IsRedone      the last done step of the editor's session is undone: its handle has what stood there before it; the first undone one is done again
+-- LeavesNoted editor t P old new     the project becomes what P says, and t is the last done step of the editor's session, whose undone
+--                                    ones go
+-- IsUndone, IsRedone      the last done step of the editor's session is undone: its handle has what stood there before it; the first
+--                         undone one is done again
 -- AreTakenBack ts p q     these steps are undone, the last one first
 -- IsDiscarded             the done steps of the editor's session are taken back, and it is gone
 --
 -- What is not named stays. Source: editing and validation of a geodatabase topology (Esri).
-use Rattle.std.specs.Prelude.{◌≡◌, ℕ, ◌+◌, List, [], ◌∷◌, length, Option, Some, None}
+use Rattle.std.specs.Prelude.{◌≡◌, ℕ, ◌+◌, true, false, List, [], ◌∷◌, length, Option, Some, None}
 use Rattle.plane_terms.specs.Lists.{IsThose}
 use Rattle.plane_terms.specs.Rectangle.{Rectangle}
 use Rattle.plane_terms.specs.Shape.{Shape}
@@ -19,13 +21,13 @@ use Rattle.topology_terms.specs.Poster.{poster}
 use Rattle.topology_terms.specs.Project.{Project}
 use Rattle.topology_terms.specs.Lookups.{class_number}
 use Rattle.topology_terms.specs.Session.{EditStep, Session, session_of, with_step}
-use Rattle.topology_terms.specs.Changes.{IsClassAdded, IsFeatureAdded, IsFeatureSet, IsRuleAdded, IsRuleDropped, IsSelected, reshaped}
+use Rattle.topology_terms.specs.Changes.{IsClassAdded, IsFeatureAdded, IsFeatureSet, IsRuleAdded, IsRuleDropped, IsMarked, IsSelected, reshaped}
 use Rattle.topology_terms.specs.Settled.{IsValidatedBy}
 use Rattle.topology_terms.specs.Counts.{judged_of}
 use Rattle.session_terms.specs.Steps.{IsUndoneTo, with_session, with_opened, without}
-use Rattle.line_terms.specs.Commands.{Command, Blank, Class as AClass, Rule, DropRule, Begin, End, Discard, Add, Change, Delete, Undo, Redo, Validate, Dirty, Errors, Cells, Features}
+use Rattle.line_terms.specs.Commands.{Command, Blank, Class as AClass, Rule, DropRule, Begin, End, Discard, Add, Change, Delete, Undo, Redo, Validate, Mark, Unmark, Dirty, Errors, Cells, Features, Rules}
 use Rattle.script_terms.specs.Refusal.{Refusal}
-use Rattle.script_terms.specs.Reply.{Reply, Nothing, Done, Number, Judged, Refused, DirtyList, ErrorList, CellList, FeatureList}
+use Rattle.script_terms.specs.Reply.{Reply, Nothing, Done, Number, Judged, Refused, DirtyList, ErrorList, CellList, FeatureList, RuleList}
 use Rattle.script_terms.specs.State.{State}
 use Rattle.script_terms.specs.Refusing.{number_or_0, row_of, refusal_of}
 
@@ -119,11 +121,13 @@ IsDone old (Delete editor h) reply new = (reply ≡ Done) × LeavesNoted editor 
 IsDone old (Undo editor) reply new = (reply ≡ Done) × IsUndone editor old new
 IsDone old (Redo editor) reply new = (reply ≡ Done) × IsRedone editor old new
 IsDone old (Validate w) reply new = (j e d : ℕ) × (reply ≡ Judged j e d) × Leaves (λ p q. IsValidation w p q j e d) old new
+IsDone old (Mark r a b) reply new = (reply ≡ Done) × Leaves (IsMarked r a b true) old new
+IsDone old (Unmark r a b) reply new = (reply ≡ Done) × Leaves (IsMarked r a b false) old new
 IsDone old Dirty reply new = (reply ≡ DirtyList old.project) × IsSame old new
 IsDone old Errors reply new = (reply ≡ ErrorList old.project) × IsSame old new
 IsDone old Cells reply new = (reply ≡ CellList old.project) × IsSame old new
 IsDone old Features reply new = (reply ≡ FeatureList old.project) × IsSame old new
-IsDone old other reply new = ⊥
+IsDone old Rules reply new = (reply ≡ RuleList old.project) × IsSame old new
 
 -- refused, with the state as it was, or done
 abbrev pub answers_by : Option Refusal → State → Command → Reply → State → Type 0

@@ -1,14 +1,16 @@
 -- How a replay ends: its status, what was read, and what was written.
 --
 -- EndsAs s k status     of the source s and the sink k: a replay from the empty topology ends with this status
---   Done, Refused       the source was read to its end; the whole text of a run over its lines was written, in which no line, or some line, was refused
+--   Done, Refused       the source was read to its end; the whole text of a run over its lines was written, in which no line, or some
+--                       line, was refused
 --   ReadFault, TooLong  the reading failed, or gave too much; the whole text of a run over the lines whose LF was kept was written
 --   WriteFault          the sink's count of faults rose; a prefix of the text of a run over first lines was written
 --   NoMemory            want of memory: the same, or nothing was read that is told of
 --   Usage               never
 -- usage_text            the usage line
 -- EndsAsUsage k status  it was written, or a prefix of it
--- IsComplete s k status code     with no fault counted and a script within the limit the whole text is written and the status is 0 or 1, or it is 5
+-- IsComplete s k status code     with no fault counted and a script within the limit the whole text is written and the status is 0 or 1,
+--                                or it is 5
 --
 -- In every state of a run that is spoken of the invariant holds (`WritesRun`, `WritesPrefix`). Source: own.
 use Rattle.std.specs.Prelude.{ℕ, ◌≡◌, ◌≤◌, ◌⊎◌, Bool, true, false, List, [], ◌∷◌, ◌++◌, codes, map, length, Some, String, string_bytes}
@@ -37,8 +39,10 @@ EndsAs s k status.Done = (kept : List ℕ) × Read s kept AtEnd × WritesAll k (
 EndsAs s k status.Refused = (kept : List ℕ) × Read s kept AtEnd × WritesAll k (lines_of true kept) true
 EndsAs s k status.ReadFault = (kept : List ℕ) × (refused : Bool) × Read s kept Failed × WritesAll k (lines_of false kept) refused
 EndsAs s k status.TooLong = (kept : List ℕ) × (refused : Bool) × Read s kept TooLong × WritesAll k (lines_of false kept) refused
-EndsAs s k status.WriteFault = Rose k.before k.now × ((kept : List ℕ) × (end : End) × Read s kept end × WritesSome k (lines_of (is_at_end end) kept))
-EndsAs s k status.NoMemory = ((kept : List ℕ) × (end : End) × Read s kept end × WritesSome k (lines_of (is_at_end end) kept)) ⊎ Appends k.old k.new []
+EndsAs s k status.WriteFault = Rose k.before k.now × ((kept : List ℕ) × (end : End) × Read s kept end
+    × WritesSome k (lines_of (is_at_end end) kept))
+EndsAs s k status.NoMemory = ((kept : List ℕ) × (end : End) × Read s kept end × WritesSome k (lines_of (is_at_end end) kept))
+    ⊎ Appends k.old k.new []
 EndsAs s k status.Usage = ⊥
 
 -- the words are `replay` alone
@@ -60,5 +64,6 @@ pub record WritesWhole (s k : Passage) (script : List ℕ) (refused : Bool) : Ty
   pub written : WritesAll k (lines_of true script) refused
 
 abbrev pub IsComplete : Passage → Passage → ℕ → Type 0
-IsComplete s k code = (script : List ℕ) → s.old ≡ Some script → length script ≤ script_limit → ¬ (Rose s.before s.now) → ¬ (Rose k.before k.now) →
+IsComplete s k code = (script : List ℕ) → s.old ≡ Some script → length script ≤ script_limit → ¬ (Rose s.before s.now)
+    → ¬ (Rose k.before k.now) →
     ((code ≡ 0) × WritesWhole s k script false) ⊎ (((code ≡ 1) × WritesWhole s k script true) ⊎ (code ≡ 5))

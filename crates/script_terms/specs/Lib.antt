@@ -1,5 +1,6 @@
 pub mod Refusal
 pub mod Reply
+pub mod Report
 pub mod State
 pub mod Refusing
 pub mod Answer

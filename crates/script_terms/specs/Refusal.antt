@@ -1,6 +1,7 @@
 -- Why a line is refused, and the words of each refusal.
 --
--- Refusal            a fault of the line's own; what is wrong with the editor's session; the handle is held by the session of this name; or why the project
+-- Refusal            a fault of the line's own; what is wrong with the editor's session; the handle is held by the session of this name;
+--                    or why the project
 --                    is not changed
 -- shape_fault_text f     what is wrong with a shape, and the numbers that say where
 -- cause_code c       the code of a cause

@@ -42,7 +42,8 @@ pub with_apart : (ss : List Session) (s : Session) → AreAllApart ss → IsApar
 with_apart [] s h a = tt
 with_apart (o ∷ ss) s h a = by (bytes_eq o.name s.name) refl (with_apart ss s h.1 a.1)
   where
-    by : (b : Bool) → bytes_eq o.name s.name ≡ b → AreAllApart (with_session ss s) → AreAllApart (if b then s ∷ ss else o ∷ with_session ss s)
+    by : (b : Bool) → bytes_eq o.name s.name ≡ b → AreAllApart (with_session ss s)
+        → AreAllApart (if b then s ∷ ss else o ∷ with_session ss s)
     by true e r = (apart_new o s ss (same_name o.name s.name e) h.0 a.1, h.1)
     by false e r = (apart_all o s ss (a.0 (other_name o.name s.name e)) h.0, r)
 
@@ -75,11 +76,13 @@ apart_fresh : (name : List ℕ) (ss : List Session) → IsUnnamed ss name → Ev
 apart_fresh name [] n = tt
 apart_fresh name (o ∷ ss) n = (apart_back o (opened name) (fresh_apart o name n.0), apart_fresh name ss n.1)
 
-every_opened : (o : Session) (name : List ℕ) (ss : List Session) → AreApart o (opened name) → Every (AreApart o) ss → Every (AreApart o) (with_opened ss name)
+every_opened : (o : Session) (name : List ℕ) (ss : List Session) → AreApart o (opened name) → Every (AreApart o) ss
+    → Every (AreApart o) (with_opened ss name)
 every_opened o name [] a h = (a, tt)
 every_opened o name (t ∷ ss) a h = by (is_below name t.name) (every_opened o name ss a h.1)
   where
-    by : (b : Bool) → Every (AreApart o) (with_opened ss name) → Every (AreApart o) (if b then opened name ∷ t ∷ ss else t ∷ with_opened ss name)
+    by : (b : Bool) → Every (AreApart o) (with_opened ss name) → Every (AreApart o)
+        (if b then opened name ∷ t ∷ ss else t ∷ with_opened ss name)
     by true r = (a, h)
     by false r = (h.0, r)
 
@@ -97,7 +100,8 @@ pub free_alone : (ss : List Session) (name : List ℕ) (h : ℕ) → holder ss h
 free_alone [] name h e = tt
 free_alone (o ∷ ss) name h e = by (has_step o h) refl e (λ r. free_alone ss name h r)
   where
-    by : (b : Bool) → has_step o h ≡ b → option_map (λ (s : Session). s.name) (if b then Some o else find (λ (s : Session). has_step s h) ss) ≡ None → (holder ss h ≡ None → IsAlone ss name h) → IsAlone (o ∷ ss) name h
+    by : (b : Bool) → has_step o h ≡ b → option_map (λ (s : Session). s.name) (if b then Some o else find (λ (s : Session). has_step s h)
+        ss) ≡ None → (holder ss h ≡ None → IsAlone ss name h) → IsAlone (o ∷ ss) name h
     by true k e rest = cc
     by false k e rest = ((λ n. k), rest e)
 
@@ -110,6 +114,7 @@ pub held_alone : (ss : List Session) (name : List ℕ) (h : ℕ) → AreAllApart
 held_alone [] name h a e = cc
 held_alone (o ∷ ss) name h a e = by (has_step o h) refl e (λ r. held_alone ss name h a.1 r)
   where
-    by : (b : Bool) → has_step o h ≡ b → option_map (λ (s : Session). s.name) (if b then Some o else find (λ (s : Session). has_step s h) ss) ≡ Some name → (holder ss h ≡ Some name → IsAlone ss name h) → IsAlone (o ∷ ss) name h
+    by : (b : Bool) → has_step o h ≡ b → option_map (λ (s : Session). s.name) (if b then Some o else find (λ (s : Session). has_step s h)
+        ss) ≡ Some name → (holder ss h ≡ Some name → IsAlone ss name h) → IsAlone (o ∷ ss) name h
     by true k e rest = let same : o.name ≡ name = cc in ((λ n. absurd (n same)), behind o ss name h k a.0)
     by false k e rest = ((λ n. k), rest e)

@@ -33,7 +33,8 @@ done_same at bt (t ∷ ts) a =
 set_same : (at bt : ℕ → Option Feature) (h : ℕ) (x : Option Feature) (k : ℕ) → bt k ≡ at k → set_at bt h x k ≡ set_at at h x k
 set_same at bt h x k e = ap (λ y. if eqb k h then x else y) e
 
-agree_set : (at bt : ℕ → Option Feature) (h : ℕ) (x : Option Feature) (ts : List KeptStep) → AgreeAt ts at bt → AgreeAt ts (set_at at h x) (set_at bt h x)
+agree_set : (at bt : ℕ → Option Feature) (h : ℕ) (x : Option Feature) (ts : List KeptStep) → AgreeAt ts at bt
+    → AgreeAt ts (set_at at h x) (set_at bt h x)
 agree_set at bt h x [] a = tt
 agree_set at bt h x (t ∷ ts) a = (set_same at bt h x t.handle a.0, agree_set at bt h x ts a.1)
 
@@ -49,7 +50,8 @@ agree_all at bt [] e = tt
 agree_all at bt (t ∷ ts) e = (e t.handle, agree_all at bt ts e)
 
 -- what stood before the steps and one more is what stood before the steps
-stood_more : (at bt : ℕ → Option Feature) (ts : List KeptStep) (t : KeptStep) (k : ℕ) → t.kept ≡ at t.handle → ((j : ℕ) → j ≢ t.handle → bt j ≡ at j) → stood bt (ts ++ t ∷ []) k ≡ stood at ts k
+stood_more : (at bt : ℕ → Option Feature) (ts : List KeptStep) (t : KeptStep) (k : ℕ) → t.kept ≡ at t.handle
+    → ((j : ℕ) → j ≢ t.handle → bt j ≡ at j) → stood bt (ts ++ t ∷ []) k ≡ stood at ts k
 stood_more at bt [] t k keeps others = by (eqb t.handle k) refl
   where
     by : (b : Bool) → eqb t.handle k ≡ b → (if b then t.kept else bt k) ≡ at k
@@ -57,7 +59,8 @@ stood_more at bt [] t k keeps others = by (eqb t.handle k) refl
     by false e = others k (differ t.handle k e)
 stood_more at bt (s ∷ ts) t k keeps others = ap (λ x. if eqb s.handle k then s.kept else x) (stood_more at bt ts t k keeps others)
 
-pub done_more : (at bt : ℕ → Option Feature) (ts : List KeptStep) (t : KeptStep) → t.kept ≡ at t.handle → ((j : ℕ) → j ≢ t.handle → bt j ≡ at j)
+pub done_more : (at bt : ℕ → Option Feature) (ts : List KeptStep) (t : KeptStep) → t.kept ≡ at t.handle
+    → ((j : ℕ) → j ≢ t.handle → bt j ≡ at j)
     → done_of bt (ts ++ t ∷ []) ≡ done_of at ts ++ record { handle = t.handle; before = t.kept; after = bt t.handle } ∷ []
 done_more at bt [] t keeps others = refl
 done_more at bt (s ∷ ts) t keeps others =
@@ -65,7 +68,8 @@ done_more at bt (s ∷ ts) t keeps others =
     let r = done_more at bt ts t keeps others in
     rw (e, r) refl
 
-back_set : (at bt : ℕ → Option Feature) (h : ℕ) (x : Option Feature) (k : ℕ) → x ≡ bt h → ((j : ℕ) → j ≢ h → bt j ≡ at j) → set_at at h x k ≡ bt k
+back_set : (at bt : ℕ → Option Feature) (h : ℕ) (x : Option Feature) (k : ℕ) → x ≡ bt h → ((j : ℕ) → j ≢ h → bt j ≡ at j)
+    → set_at at h x k ≡ bt k
 back_set at bt h x k keeps others = by (eqb k h) refl
   where
     by : (b : Bool) → eqb k h ≡ b → (if b then x else at k) ≡ bt k
@@ -73,8 +77,10 @@ back_set at bt h x k keeps others = by (eqb k h) refl
     by false e = sym (others k (λ d. differ k h e (sym d)))
 
 -- `at` is after the undo, `bt` before it
-pub undone_more : (at bt : ℕ → Option Feature) (t : KeptStep) (ts : List KeptStep) → t.kept ≡ bt t.handle → ((j : ℕ) → j ≢ t.handle → bt j ≡ at j)
+pub undone_more : (at bt : ℕ → Option Feature) (t : KeptStep) (ts : List KeptStep) → t.kept ≡ bt t.handle
+    → ((j : ℕ) → j ≢ t.handle → bt j ≡ at j)
     → undone_of at (t ∷ ts) ≡ record { handle = t.handle; before = at t.handle; after = t.kept } ∷ undone_of bt ts
 undone_more at bt t ts keeps others =
-    let e = undone_same bt (set_at at t.handle t.kept) ts (agree_all bt (set_at at t.handle t.kept) ts (λ k. back_set at bt t.handle t.kept k keeps others)) in
+    let e = undone_same bt (set_at at t.handle t.kept) ts (agree_all bt (set_at at t.handle t.kept) ts
+        (λ k. back_set at bt t.handle t.kept k keeps others)) in
     rw e refl

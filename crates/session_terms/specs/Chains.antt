@@ -1,8 +1,10 @@
 -- Steps that fit one another and the features.
 --
 -- kept_of s          what is kept of a session: of a done step its `before`, of an undone one its `after`
--- IsChained at s     the rest of each step is told by the others, and by what stands: the `after` of a done step is the `before` of the next
---                    done one of its handle, or stands there; the `before` of an undone step is the `after` of the last earlier undone one, or stands there
+-- IsChained at s     the rest of each step is told by the others, and by what stands: the `after` of a done step is the `before` of the
+--                    next
+--                    done one of its handle, or stands there; the `before` of an undone step is the `after` of the last earlier undone
+--                    one, or stands there
 -- IsBelow n s        each step's handle is below n
 use Rattle.std.specs.Prelude.{◌≡◌, ◌<◌, ℕ, Option, map}
 use Rattle.plane_terms.specs.Lists.{Every}

@@ -6,7 +6,8 @@
 -- IsKeptNoted s t u     the step t was put last, done, and the undone ones went
 -- IsSameButRoom s u     the same name and steps
 -- kept_named ss name    the session of this name
--- with_kept ss s, without_kept ss name, with_kept_opened ss name     the session of this name is s; it is gone; it comes, in the order of names
+-- with_kept ss s, without_kept ss name, with_kept_opened ss name     the session of this name is s; it is gone; it comes, in the order of
+-- names
 -- has_kept_step s h, kept_holder ss h     the session has a step of the handle; the name of the first one that has
 -- IsKeptChange name s u old new     the session of this name was s and is u; the others stay
 use Rattle.std.specs.Prelude.{◌≡◌, ◌≢◌, ℕ, Bool, true, false, List, [], ◌∷◌, ◌++◌, Option, Some, find, bytes_eq, ◌==◌, if◌then◌else◌}

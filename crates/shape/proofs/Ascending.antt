@@ -1,11 +1,10 @@
 -- A sort by the abscissas of the lower ends.
-use Rattle.std.proofs.Common.{◌≡◌, ℕ, zero, suc, ◌<◌, ◌≤◌, ℤ, ◌≤ℤ◌, false, List, [], ◌∷◌, length, get_or, arith}
-use Rattle.std.proofs.lemmas.Int.{ints}
+use Rattle.std.proofs.Common.{ℕ, zero, suc, ◌<◌, ◌≤◌, ℤ, ◌≤ℤ◌, List, [], ◌∷◌, length, get_or, arith}
 use Rattle.std.proofs.lemmas.List.Sorted.{sorted_far, ranks_by}
 use Rattle.std.proofs.lemmas.Cmp.{int_cmp_total}
 use Rattle.std.specs.List.Sorted.{IsSortedByKey}
 use Rattle.std.specs.Ordering.{int_cmp, is_lt}
-use Rattle.plane_terms.specs.Lists.{Every, EveryPair}
+use Rattle.plane_terms.specs.Lists.{EveryPair}
 use Rattle.shape.specs.declared.numbered.Numbered.{Numbered}
 use Rattle.shape.specs.Sweep.{Ascends}
 use Rattle.plane_terms.proofs.ListLemmas.{every_by_index}

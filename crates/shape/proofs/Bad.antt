@@ -5,7 +5,7 @@ use Rattle.std.specs.List.{slice_get}
 use Rattle.plane_terms.specs.Lists.{Every, EveryPair}
 use Rattle.plane_terms.specs.Point.{Point}
 use Rattle.plane_terms.specs.Rectangle.{Rectangle, RectHolds, RectsMeet, rects_meet}
-use Rattle.plane_terms.specs.Segment.{Segment, IsSegment, SharePoint, Overlap, OnSegment, IsEndOf, box_of}
+use Rattle.plane_terms.specs.Segment.{Segment, IsSegment, SharePoint, OnSegment, IsEndOf, box_of}
 use Rattle.plane_terms.specs.Shape.{AreSimple}
 use Rattle.plane_terms.specs.Share.{share_of, AreSame}
 use Rattle.plane_terms.specs.declared.share.Share.{Share}

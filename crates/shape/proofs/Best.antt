@@ -2,9 +2,9 @@
 use Rattle.std.proofs.Common.{◌≡◌, ℕ, zero, suc, ◌+◌, ◌<◌, ◌==◌, nat_lt, Bool, true, false, not, cond, ◌&&◌, ◌||◌, ◌⊎◌, inl, inr, List, [], ◌∷◌, length, Option, Some, None, refl, sym, ap, subst, ◌∙◌, arith, get_or, ℤ, ◌<ℤ◌, ◌≤ℤ◌}
 use Rattle.std.proofs.lemmas.Int.{ints}
 use Rattle.std.proofs.lemmas.List.Sorted.{Contains-permutation, IsPermutation-sym}
-use Rattle.std.specs.List.{slice_get, Contains}
+use Rattle.std.specs.List.{slice_get}
 use Rattle.std.specs.List.Sorted.{IsPermutation}
-use Rattle.plane_terms.specs.Lists.{Every, EveryPair, SomeOf}
+use Rattle.plane_terms.specs.Lists.{Every, EveryPair}
 use Rattle.plane_terms.specs.Rectangle.{Rectangle, rects_meet}
 use Rattle.plane_terms.specs.Segment.{Segment, IsSegment, Overlap, box_of}
 use Rattle.plane_terms.specs.Share.{CrossOnce}

@@ -4,7 +4,7 @@ use Rattle.std.proofs.lemmas.Int.{ints}
 use Rattle.std.specs.Int.{int_max, int_min}
 use Rattle.plane_terms.specs.Lists.{Every}
 use Rattle.plane_terms.specs.Point.{Place, IsInReach}
-use Rattle.plane_terms.specs.Rectangle.{Rectangle, rect_at, rect_of, join_of}
+use Rattle.plane_terms.specs.Rectangle.{Rectangle, rect_at, join_of}
 use Rattle.plane_terms.specs.Shape.{box_from, box_of_places}
 use Rattle.plane_terms.proofs.ListLemmas.{every_append}
 use Rattle.cell_laws.proofs.Envelope.{rect_same}

@@ -6,7 +6,7 @@ use Rattle.std.specs.Prelude.{int_lt, if◌then◌else◌}
 use Rattle.std.specs.Int.{int_max, int_min}
 use Rattle.std.specs.List.{list_any, filter}
 use Rattle.std.proofs.lemmas.Int.{ints}
-use Rattle.std.specs.Prelude.{◌||◌, cond}
+use Rattle.std.specs.Prelude.{cond}
 use Rattle.plane_terms.specs.Point.{Point}
 use Rattle.plane_terms.specs.Rectangle.{Rectangle, RectHolds, is_within, rects_meet, rect_of}
 use Rattle.plane_terms.specs.Dirt.{Covers, add_dirt, piece_if, pieces, add_all, cut_from, cut_dirt}
@@ -147,7 +147,8 @@ pieces_cover r w p h n =
           (in_piece (int_lt r.x0 w.x0) (rect_of r.x0 r.y0 w.x0 r.y1) p (lt_from_scaled r.x0 w.x0 p.x p.w h.left a.1) (omega (arith, ints)))
       | inl a ↦ elim (le_or_lt p.x (w.x1 *ℤ pos p.w)) [
         | inr b ↦ Covers_right left (right ++ (below ++ above)) p (Covers_left right (below ++ above) p
-            (in_piece (int_lt w.x1 r.x1) (rect_of w.x1 r.y0 r.x1 r.y1) p (lt_from_below w.x1 r.x1 p.x p.w b.1 h.right) (omega (arith, ints))))
+            (in_piece (int_lt w.x1 r.x1) (rect_of w.x1 r.y0 r.x1 r.y1) p (lt_from_below w.x1 r.x1 p.x p.w b.1 h.right)
+                (omega (arith, ints))))
         | inl b ↦
             let low = pick_at_most (int_lt w.x0 r.x0) r.x0 w.x0 p.x p.w h.left a.1 in
             let high = pick_at_least (int_lt w.x1 r.x1) w.x1 r.x1 p.x p.w b.1 h.right in

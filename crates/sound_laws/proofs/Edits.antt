@@ -19,18 +19,24 @@ envelope_keeps : (d : List Rectangle) (o : Option Feature) (p : Point) → Cover
 envelope_keeps d None p h = h
 envelope_keeps d (Some f) p h = add_keeps d (env f) p h
 
-envelope_covers : (d : List Rectangle) (o : Option Feature) (f : Feature) (p : Point) → o ≡ Some f → RectHolds (env f) p → Covers (add_envelope d o) p
+envelope_covers : (d : List Rectangle) (o : Option Feature) (f : Feature) (p : Point) → o ≡ Some f → RectHolds (env f) p
+    → Covers (add_envelope d o) p
 envelope_covers d o f p e h = rw e (add_covers d (env f) p h)
 
-pub edit_keeps : (h : ℕ) (after : Option Feature) (old new : Project) → IsEdit h after old new → (p : Point) → Covers old.dirt p → Covers new.dirt p
+pub edit_keeps : (h : ℕ) (after : Option Feature) (old new : Project) → IsEdit h after old new → (p : Point) → Covers old.dirt p
+    → Covers new.dirt p
 edit_keeps h after old new i p c =
-    rw i.dirt (envelope_keeps (add_envelope old.dirt (feature_at old.features h)) after p (envelope_keeps old.dirt (feature_at old.features h) p c))
+    rw i.dirt (envelope_keeps (add_envelope old.dirt (feature_at old.features h)) after p
+        (envelope_keeps old.dirt (feature_at old.features h) p c))
 
-pub edit_before : (h : ℕ) (after : Option Feature) (old new : Project) → IsEdit h after old new → (f : Feature) → feature_at old.features h ≡ Some f → (p : Point) → RectHolds (env f) p → Covers new.dirt p
+pub edit_before : (h : ℕ) (after : Option Feature) (old new : Project) → IsEdit h after old new → (f : Feature)
+    → feature_at old.features h ≡ Some f → (p : Point) → RectHolds (env f) p → Covers new.dirt p
 edit_before h after old new i f e p c =
-    rw i.dirt (envelope_keeps (add_envelope old.dirt (feature_at old.features h)) after p (envelope_covers old.dirt (feature_at old.features h) f p e c))
+    rw i.dirt (envelope_keeps (add_envelope old.dirt (feature_at old.features h)) after p
+        (envelope_covers old.dirt (feature_at old.features h) f p e c))
 
-pub edit_after : (h : ℕ) (after : Option Feature) (old new : Project) → IsEdit h after old new → (f : Feature) → feature_at new.features h ≡ Some f → (p : Point) → RectHolds (env f) p → Covers new.dirt p
+pub edit_after : (h : ℕ) (after : Option Feature) (old new : Project) → IsEdit h after old new → (f : Feature)
+    → feature_at new.features h ≡ Some f → (p : Point) → RectHolds (env f) p → Covers new.dirt p
 edit_after h after old new i f e p c =
     rw i.dirt (envelope_covers (add_envelope old.dirt (feature_at old.features h)) after f p (sym i.features.here ∙ e) c)
 
@@ -55,7 +61,8 @@ pub agree_back : (P : Feature → Type 0) (F G : List Feature) → Agree P F G �
 agree_back P F G a = record { forth = a.back; back = a.forth }
 
 -- around a subject whose envelope the new dirt does not meet, nothing changed
-pub edit_agrees : (h : ℕ) (after : Option Feature) (old new : Project) → IsEdit h after old new → (f : Feature) → (MeetsDirt new.dirt (env f) → ⊥) → Agree (λ x. RectsMeet (env f) (env x)) old.features new.features
+pub edit_agrees : (h : ℕ) (after : Option Feature) (old new : Project) → IsEdit h after old new → (f : Feature)
+    → (MeetsDirt new.dirt (env f) → ⊥) → Agree (λ x. RectsMeet (env f) (env x)) old.features new.features
 edit_agrees h after old new i f n = set_agrees (λ x. RectsMeet (env f) (env x)) h after old.features new.features i.features
     (λ x l m. n (m.0, edit_before h after old new i x l m.0 m.2, m.1))
     (λ x l m. n (m.0, edit_after h after old new i x l m.0 m.2, m.1))
@@ -69,7 +76,8 @@ edit_frames M h after old new u i r a was b x k =
       | inr y ↦ elim (same_or_not a h) [
         | inl t ↦
             let held = holds_corner x.frame (u.made.frames r a b x k) in
-            inl (corner x.frame, edit_before h after old new i y.0 (rw t at y.1) (corner x.frame) (within_Holds x.frame (env y.0) y.2 (corner x.frame) held), held)
+            inl (corner x.frame, edit_before h after old new i y.0 (rw t at y.1) (corner x.frame)
+                (within_Holds x.frame (env y.0) y.2 (corner x.frame) held), held)
         | inr t ↦ inr (y.0, i.features.others a t ∙ y.1, y.2)
       ]
     ]
@@ -90,7 +98,8 @@ edit_sound M L h after old new v u i s = record {
             let o = was.points p (λ c. n (edit_keeps h after old new i p c)) b in
             rw i.entries (
               (λ x. L.point row old.features new.features a b p fits fits' agree (o.0 x)),
-              (λ x. o.1 (L.point row new.features old.features a b p fits' fits (agree_back (λ f. RectHolds (env f) p) old.features new.features agree) x)),
+              (λ x. o.1 (L.point row new.features old.features a b p fits' fits (agree_back (λ f. RectHolds (env f) p) old.features
+                  new.features agree) x)),
             );
         whole = λ f k n. elim (same_or_not a h) [
           | inl t ↦
@@ -102,7 +111,8 @@ edit_sound M L h after old new v u i s = record {
               let agree = edit_agrees h after old new i f n in
               rw i.entries (
                 (λ x. L.feature row old.features new.features a f fits fits' k' k agree (o.0 x)),
-                (λ x. o.1 (L.feature row new.features old.features a f fits' fits k k' (agree_back (λ x. RectsMeet (env f) (env x)) old.features new.features agree) x)),
+                (λ x. o.1 (L.feature row new.features old.features a f fits' fits k k'
+                    (agree_back (λ x. RectsMeet (env f) (env x)) old.features new.features agree) x)),
               )
         ];
         cells = λ b x k t. was.cells b x (rw i.entries at k) t;

@@ -1,5 +1,5 @@
 -- Features by handle: the laws of a list that ascends by a key, for `feature_at`.
-use Rattle.std.proofs.Common.{◌≡◌, ◌<◌, ℕ, Bool, true, false, List, ◌∷◌, Option, Some, None, length, get_or}
+use Rattle.std.proofs.Common.{◌≡◌, ◌<◌, ℕ, Bool, true, false, List, ◌∷◌, Some, None, length, get_or}
 use Rattle.std.specs.Prelude.{cond, ◌==◌}
 use Rattle.std.specs.List.{filter}
 use Rattle.std.specs.List.{HoldsAt}
@@ -53,27 +53,32 @@ same_features F G u v e = keyed.same_lists by_handle handles F G u v e
 pub ascending_filter : (test : Feature → Bool) (F : List Feature) → IsAscending F → IsAscending (filter test F)
 ascending_filter test F u = keyed.ascending_filter by_handle handles test F u
 
-pub past_pick : (b : Bool) (f : Feature) (F : List Feature) (h : ℕ) → (f.handle == h) ≡ false → feature_at (cond b (f ∷ F) F) h ≡ feature_at F h
+pub past_pick : (b : Bool) (f : Feature) (F : List Feature) (h : ℕ) → (f.handle == h) ≡ false
+    → feature_at (cond b (f ∷ F) F) h ≡ feature_at F h
 unfolding feature_at
 past_pick b f F h t = keyed.past_pick by_handle handles b f F h t
 
 -- a filter of an ascending list has the features that pass
-pub feature_at-filter : (test : Feature → Bool) (F : List Feature) (h : ℕ) → IsAscending F → feature_at (filter test F) h ≡ passing test (feature_at F h)
+pub feature_at-filter : (test : Feature → Bool) (F : List Feature) (h : ℕ) → IsAscending F
+    → feature_at (filter test F) h ≡ passing test (feature_at F h)
 unfolding feature_at
 feature_at-filter test F h u = keyed.item_filter by_handle handles test F h u
 
 -- and no others
-pub of_filter : (test : Feature → Bool) (F : List Feature) (h : ℕ) (f : Feature) → IsAscending F → feature_at (filter test F) h ≡ Some f → (feature_at F h ≡ Some f) × (test f ≡ true)
+pub of_filter : (test : Feature → Bool) (F : List Feature) (h : ℕ) (f : Feature) → IsAscending F → feature_at (filter test F) h ≡ Some f
+    → (feature_at F h ≡ Some f) × (test f ≡ true)
 unfolding feature_at
 of_filter test F h f u e = keyed.of_filter by_handle handles test F h f u e
 
 -- what passes is kept, whatever the order
-pub kept_at : (test : Feature → Bool) (F : List Feature) (h : ℕ) (g : Feature) → feature_at F h ≡ Some g → test g ≡ true → feature_at (filter test F) h ≡ Some g
+pub kept_at : (test : Feature → Bool) (F : List Feature) (h : ℕ) (g : Feature) → feature_at F h ≡ Some g → test g ≡ true
+    → feature_at (filter test F) h ≡ Some g
 unfolding feature_at
 kept_at test F h g e t = keyed.kept_found by_handle handles test F h g e t
 
 -- what holds of each live feature holds of each of the list
-pub each_live : (P : Feature → Type 0) (F : List Feature) → IsAscending F → ((h : ℕ) (g : Feature) → feature_at F h ≡ Some g → P g) → Every P F
+pub each_live : (P : Feature → Type 0) (F : List Feature) → IsAscending F → ((h : ℕ) (g : Feature) → feature_at F h ≡ Some g → P g)
+    → Every P F
 unfolding feature_at
 each_live P F u n = keyed.each_found by_handle handles P F u n
 
@@ -94,10 +99,12 @@ pub rises : (F : List Feature) (h : ℕ) → IsAscending F → IsNonDecreasingBy
 unfolding handle_order
 rises F h u = searches.rises by_handle handles F h u
 
-pub found_there : (F : List Feature) (h i : ℕ) (f : Feature) → IsAscending F → i < length F → f ≡ get_or F i f → HoldsAt (λ x. handle_order h x ≡ Equal) F i → feature_at F h ≡ Some f
+pub found_there : (F : List Feature) (h i : ℕ) (f : Feature) → IsAscending F → i < length F → f ≡ get_or F i f
+    → HoldsAt (λ x. handle_order h x ≡ Equal) F i → feature_at F h ≡ Some f
 unfolding handle_order feature_at
 found_there F h i f u l is o = searches.found_there by_handle handles F h i f u l is o
 
-pub not_there : (F : List Feature) (h i : ℕ) → IsPartitionPoint (λ f. handle_order h f ≡ Less) (λ f. handle_order h f ≡ Greater) F i → feature_at F h ≡ None
+pub not_there : (F : List Feature) (h i : ℕ) → IsPartitionPoint (λ f. handle_order h f ≡ Less) (λ f. handle_order h f ≡ Greater) F i
+    → feature_at F h ≡ None
 unfolding handle_order feature_at
 not_there F h i p = searches.not_there by_handle handles F h i p

@@ -1,12 +1,12 @@
 -- Lists that ascend by a key: what is found in them, and what an element more or less leaves.
-use Rattle.std.proofs.Common.{◌≡◌, ◌≢◌, ◌⊎◌, inl, inr, ℕ, ◌<◌, ◌≤◌, Bool, true, false, zero, suc, length, get_or, arith, refl, sym, ap, ◌∙◌, subst, List, [], ◌∷◌, ◌++◌, Option, Some, None}
+use Rattle.std.proofs.Common.{◌≡◌, ◌≢◌, ◌⊎◌, inl, inr, ℕ, ◌<◌, Bool, true, false, zero, suc, length, get_or, arith, refl, sym, ap, ◌∙◌, subst, List, [], ◌∷◌, ◌++◌, Option, Some, None}
 use Rattle.std.specs.Prelude.{cond, not}
 use Rattle.std.specs.List.{filter, Contains}
 use Rattle.std.specs.Option.{option_to_list, IfSome}
 use Rattle.std.proofs.lemmas.Bool.{cases_Bool, not-true}
 use Rattle.std.proofs.lemmas.Bool.Decides.{nat_tests}
 use Rattle.plane_terms.specs.Lists.{Every, SomeOf}
-use Rattle.plane_terms.proofs.ListLemmas.{every_append, every_left, every_right, every_map, every_filter, every_of_all, every_passing}
+use Rattle.plane_terms.proofs.ListLemmas.{every_append, every_left, every_map, every_filter, every_of_all, every_passing}
 use Rattle.topology_terms.specs.Keyed.{Keyed, numbered, item_at, IsAscendingBy, without}
 
 -- the test tells keys apart, and of two keys one comes first
@@ -68,7 +68,8 @@ module _ {A K : Type 0} (by : Keyed A K) (keys : AreKeys by) where
   Lacks k x = by.same (by.key x) k ≡ false
 
   pub after_later : (j k : K) (xs : List A) → by.IsBefore j k → AllAfter k xs → AllAfter j xs
-  after_later j k xs h u = every_map (λ (x : A). by.IsBefore k (by.key x)) (λ (x : A). by.IsBefore j (by.key x)) (λ x l. keys.later j k (by.key x) h l) xs u
+  after_later j k xs h u = every_map (λ (x : A). by.IsBefore k (by.key x)) (λ (x : A). by.IsBefore j (by.key x))
+      (λ x l. keys.later j k (by.key x) h l) xs u
 
   pub lacks_after : (k : K) (xs : List A) → AllAfter k xs → Every (Lacks k) xs
   lacks_after k xs u = every_map (λ (x : A). by.IsBefore k (by.key x)) (Lacks k) (λ x l. apart_later k (by.key x) l) xs u
@@ -105,7 +106,8 @@ module _ {A K : Type 0} (by : Keyed A K) (keys : AreKeys by) where
   pub key_found : (xs : List A) (k : K) (x : A) → item_at by xs k ≡ Some x → by.key x ≡ k
   key_found [] k x e = cc
   key_found (y ∷ xs) k x e = elim (cases_Bool (by.same (by.key y) k)) [
-    | inl t ↦ let l : Some y ≡ Some x = sym (at_first y xs k t) ∙ e in let same : y ≡ x = cc in ap by.key (sym same) ∙ keys.tells (by.key y) k t
+    | inl t ↦ let l : Some y ≡ Some x = sym (at_first y xs k t) ∙ e in let same : y ≡ x = cc in ap by.key (sym same)
+        ∙ keys.tells (by.key y) k t
     | inr t ↦ key_found xs k x (sym (past_first y xs k t) ∙ e)
   ]
 
@@ -153,7 +155,8 @@ module _ {A K : Type 0} (by : Keyed A K) (keys : AreKeys by) where
   ]
 
   -- ---- lists that have the same at each key are one
-  none_other : (x y : A) (ys : List A) → IsAscendingBy by (y ∷ ys) → by.IsBefore (by.key x) (by.key y) → item_at by (y ∷ ys) (by.key x) ≡ None
+  none_other : (x y : A) (ys : List A) → IsAscendingBy by (y ∷ ys) → by.IsBefore (by.key x) (by.key y)
+      → item_at by (y ∷ ys) (by.key x) ≡ None
   none_other x y ys v l = none_after (by.key x) (y ∷ ys) (l, after_later (by.key x) (by.key y) ys l v.0)
 
   pub same_lists : (xs ys : List A) → IsAscendingBy by xs → IsAscendingBy by ys → ((k : K) → item_at by xs k ≡ item_at by ys k) → xs ≡ ys
@@ -168,7 +171,8 @@ module _ {A K : Type 0} (by : Keyed A K) (keys : AreKeys by) where
           let k : Some x ≡ Some y = sym (at_own x xs) ∙ (h (by.key x) ∙ at_first y ys (by.key x) (alike (by.key y) (by.key x) (sym e))) in
           let one : x ≡ y = cc in
           let rest = same_lists xs ys u.1 v.1 (λ k. elim (same_or_not (by.key x) k) [
-            | inl t ↦ none_after k xs (subst (λ j. AllAfter j xs) t.1 u.0) ∙ sym (none_after k ys (subst (λ j. AllAfter j ys) (sym e ∙ t.1) v.0))
+            | inl t ↦ none_after k xs (subst (λ j. AllAfter j xs) t.1 u.0) ∙ sym
+                (none_after k ys (subst (λ j. AllAfter j ys) (sym e ∙ t.1) v.0))
             | inr t ↦ sym (past_first x xs k t.0) ∙ (h k ∙ past_first y ys k (subst (λ j. by.same j k ≡ false) e t.0))
           ]) in
           cc
@@ -182,32 +186,39 @@ module _ {A K : Type 0} (by : Keyed A K) (keys : AreKeys by) where
 
   pub ascending_filter : (test : A → Bool) (xs : List A) → IsAscendingBy by xs → IsAscendingBy by (filter test xs)
   ascending_filter test [] u = tt
-  ascending_filter test (x ∷ xs) u = ascending_pick (test x) x (filter test xs) (every_filter (λ (y : A). by.IsBefore (by.key x) (by.key y)) test xs u.0) (ascending_filter test xs u.1)
+  ascending_filter test (x ∷ xs) u = ascending_pick (test x) x (filter test xs) (every_filter (λ (y : A). by.IsBefore (by.key x) (by.key y))
+      test xs u.0) (ascending_filter test xs u.1)
 
-  here_pick : (b : Bool) (x : A) (xs : List A) (k : K) → by.same (by.key x) k ≡ true → item_at by xs k ≡ None → item_at by (cond b (x ∷ xs) xs) k ≡ cond b (Some x) None
+  here_pick : (b : Bool) (x : A) (xs : List A) (k : K) → by.same (by.key x) k ≡ true → item_at by xs k ≡ None
+      → item_at by (cond b (x ∷ xs) xs) k ≡ cond b (Some x) None
   here_pick true x xs k t n = at_first x xs k t
   here_pick false x xs k t n = n
 
-  pub past_pick : (b : Bool) (x : A) (xs : List A) (k : K) → by.same (by.key x) k ≡ false → item_at by (cond b (x ∷ xs) xs) k ≡ item_at by xs k
+  pub past_pick : (b : Bool) (x : A) (xs : List A) (k : K) → by.same (by.key x) k ≡ false
+      → item_at by (cond b (x ∷ xs) xs) k ≡ item_at by xs k
   past_pick true x xs k t = past_first x xs k t
   past_pick false x xs k t = refl
 
   -- a filter has the elements that pass
-  pub item_filter : (test : A → Bool) (xs : List A) (k : K) → IsAscendingBy by xs → item_at by (filter test xs) k ≡ passing test (item_at by xs k)
+  pub item_filter : (test : A → Bool) (xs : List A) (k : K) → IsAscendingBy by xs
+      → item_at by (filter test xs) k ≡ passing test (item_at by xs k)
   item_filter test [] k u = refl
   item_filter test (x ∷ xs) k u = elim (same_or_not (by.key x) k) [
     | inl t ↦
-        let none = none_after k (filter test xs) (subst (λ j. AllAfter j (filter test xs)) t.1 (every_filter (λ (y : A). by.IsBefore (by.key x) (by.key y)) test xs u.0)) in
+        let none = none_after k (filter test xs) (subst (λ j. AllAfter j (filter test xs)) t.1
+            (every_filter (λ (y : A). by.IsBefore (by.key x) (by.key y)) test xs u.0)) in
         here_pick (test x) x (filter test xs) k t.0 none ∙ sym (ap (passing test) (at_first x xs k t.0))
     | inr t ↦ past_pick (test x) x (filter test xs) k t.0 ∙ (item_filter test xs k u.1 ∙ sym (ap (passing test) (past_first x xs k t.0)))
   ]
 
   -- and no others
-  pub of_filter : (test : A → Bool) (xs : List A) (k : K) (x : A) → IsAscendingBy by xs → item_at by (filter test xs) k ≡ Some x → (item_at by xs k ≡ Some x) × (test x ≡ true)
+  pub of_filter : (test : A → Bool) (xs : List A) (k : K) (x : A) → IsAscendingBy by xs → item_at by (filter test xs) k ≡ Some x
+      → (item_at by xs k ≡ Some x) × (test x ≡ true)
   of_filter test xs k x u e = of_passing test (item_at by xs k) x (sym (item_filter test xs k u) ∙ e)
 
   -- what passes is kept, whatever the order
-  pub kept_found : (test : A → Bool) (xs : List A) (k : K) (x : A) → item_at by xs k ≡ Some x → test x ≡ true → item_at by (filter test xs) k ≡ Some x
+  pub kept_found : (test : A → Bool) (xs : List A) (k : K) (x : A) → item_at by xs k ≡ Some x → test x ≡ true
+      → item_at by (filter test xs) k ≡ Some x
   kept_found test [] k x e t = cc
   kept_found test (y ∷ xs) k x e t = elim (cases_Bool (by.same (by.key y) k)) [
     | inl s ↦
@@ -219,7 +230,8 @@ module _ {A K : Type 0} (by : Keyed A K) (keys : AreKeys by) where
   ]
 
   -- a test that lets through all of a key leaves that key alone
-  pub filter_same : (test : A → Bool) (xs : List A) (k : K) → Every (λ (x : A). by.same (by.key x) k ≡ true → test x ≡ true) xs → item_at by (filter test xs) k ≡ item_at by xs k
+  pub filter_same : (test : A → Bool) (xs : List A) (k : K) → Every (λ (x : A). by.same (by.key x) k ≡ true → test x ≡ true) xs
+      → item_at by (filter test xs) k ≡ item_at by xs k
   filter_same test [] k h = refl
   filter_same test (x ∷ xs) k h = elim (cases_Bool (by.same (by.key x) k)) [
     | inl t ↦ rw (h.0 t) (at_first x (filter test xs) k t ∙ sym (at_first x xs k t))
@@ -228,11 +240,13 @@ module _ {A K : Type 0} (by : Keyed A K) (keys : AreKeys by) where
 
   -- ---- the elements of a key taken out
   pub without_here : (xs : List A) (k : K) → item_at by (without by xs k) k ≡ None
-  without_here xs k = none_lacks k (without by xs k) (every_passing (Lacks k) (λ (x : A). not (by.same (by.key x) k)) (λ x t. not-true (by.same (by.key x) k) t) xs)
+  without_here xs k = none_lacks k (without by xs k) (every_passing (Lacks k) (λ (x : A). not (by.same (by.key x) k))
+      (λ x t. not-true (by.same (by.key x) k) t) xs)
 
   pub without_others : (xs : List A) (k j : K) → j ≢ k → item_at by (without by xs k) j ≡ item_at by xs j
   without_others xs k j n = filter_same (λ (x : A). not (by.same (by.key x) k)) xs j
-      (every_of_all (λ (x : A). by.same (by.key x) j ≡ true → not (by.same (by.key x) k) ≡ true) (λ x t. ap not (differ (by.key x) k (λ e. n (sym (keys.tells (by.key x) j t) ∙ e)))) xs)
+      (every_of_all (λ (x : A). by.same (by.key x) j ≡ true → not (by.same (by.key x) k) ≡ true)
+          (λ x t. ap not (differ (by.key x) k (λ e. n (sym (keys.tells (by.key x) j t) ∙ e)))) xs)
 
   -- ---- two lists joined
   pub past_front : (xs ys : List A) (k : K) → Every (Lacks k) xs → item_at by (xs ++ ys) k ≡ item_at by ys k
@@ -247,9 +261,11 @@ module _ {A K : Type 0} (by : Keyed A K) (keys : AreKeys by) where
   ]
 
   -- lists that ascend, of which each key of the first comes before each of the second
-  pub ascending_append : (xs ys : List A) → IsAscendingBy by xs → IsAscendingBy by ys → Every (λ (x : A). AllAfter (by.key x) ys) xs → IsAscendingBy by (xs ++ ys)
+  pub ascending_append : (xs ys : List A) → IsAscendingBy by xs → IsAscendingBy by ys → Every (λ (x : A). AllAfter (by.key x) ys) xs
+      → IsAscendingBy by (xs ++ ys)
   ascending_append [] ys u v h = v
-  ascending_append (x ∷ xs) ys u v h = (every_append (λ (y : A). by.IsBefore (by.key x) (by.key y)) xs ys u.0 h.0, ascending_append xs ys u.1 v h.1)
+  ascending_append (x ∷ xs) ys u v h = (every_append (λ (y : A). by.IsBefore (by.key x) (by.key y)) xs ys u.0 h.0, ascending_append xs ys
+      u.1 v h.1)
 
   pub ascending_left : (xs ys : List A) → IsAscendingBy by (xs ++ ys) → IsAscendingBy by xs
   ascending_left [] ys u = tt
@@ -261,9 +277,11 @@ module _ {A K : Type 0} (by : Keyed A K) (keys : AreKeys by) where
 
   -- an element put last
   pub ascending_last : (xs : List A) (x : A) → IsAscendingBy by xs → AllBefore (by.key x) xs → IsAscendingBy by (xs ++ x ∷ [])
-  ascending_last xs x u h = ascending_append xs (x ∷ []) u (tt, tt) (every_map (λ (y : A). by.IsBefore (by.key y) (by.key x)) (λ (y : A). AllAfter (by.key y) (x ∷ [])) (λ y l. (l, tt)) xs h)
+  ascending_last xs x u h = ascending_append xs (x ∷ []) u (tt, tt) (every_map (λ (y : A). by.IsBefore (by.key y) (by.key x))
+      (λ (y : A). AllAfter (by.key y) (x ∷ [])) (λ y l. (l, tt)) xs h)
 
-  pub last_here : (xs : List A) (x : A) (k : K) → by.same (by.key x) k ≡ true → item_at by xs k ≡ None → item_at by (xs ++ x ∷ []) k ≡ Some x
+  pub last_here : (xs : List A) (x : A) (k : K) → by.same (by.key x) k ≡ true → item_at by xs k ≡ None
+      → item_at by (xs ++ x ∷ []) k ≡ Some x
   last_here [] x k t n = at_first x [] k t
   last_here (y ∷ xs) x k t n = elim (cases_Bool (by.same (by.key y) k)) [
     | inl s ↦ absurd (let l : Some y ≡ None = sym (at_first y xs k s) ∙ n in cc)
@@ -279,19 +297,22 @@ module _ {A K : Type 0} (by : Keyed A K) (keys : AreKeys by) where
     pub own : IfSome middle (λ (x : A). by.key x ≡ k)
     pub after : AllAfter k post
 
-  pub split_here : (k : K) (pre : List A) (middle : Option A) (post : List A) → IsSplit k pre middle post → item_at by (pre ++ (option_to_list middle ++ post)) k ≡ middle
+  pub split_here : (k : K) (pre : List A) (middle : Option A) (post : List A) → IsSplit k pre middle post
+      → item_at by (pre ++ (option_to_list middle ++ post)) k ≡ middle
   split_here k pre middle post s = past_front pre (option_to_list middle ++ post) k (lacks_before k pre s.before) ∙ at middle s.own
     where
       at : (o : Option A) → IfSome o (λ (x : A). by.key x ≡ k) → item_at by (option_to_list o ++ post) k ≡ o
       at None own = none_after k post s.after
       at (Some x) own = at_first x post k (alike (by.key x) k own)
 
-  split_other : (k : K) (pre : List A) (middle : Option A) (post : List A) (j : K) → IfSome middle (λ (x : A). by.key x ≡ k) → j ≢ k → item_at by (pre ++ (option_to_list middle ++ post)) j ≡ item_at by (pre ++ post) j
+  split_other : (k : K) (pre : List A) (middle : Option A) (post : List A) (j : K) → IfSome middle (λ (x : A). by.key x ≡ k) → j ≢ k
+      → item_at by (pre ++ (option_to_list middle ++ post)) j ≡ item_at by (pre ++ post) j
   split_other k [] None post j own n = refl
   split_other k [] (Some x) post j own n = past_first x post j (differ (by.key x) j (λ e. n (sym e ∙ own)))
   split_other k (y ∷ pre) middle post j own n = elim (cases_Bool (by.same (by.key y) j)) [
     | inl t ↦ at_first y (pre ++ (option_to_list middle ++ post)) j t ∙ sym (at_first y (pre ++ post) j t)
-    | inr t ↦ past_first y (pre ++ (option_to_list middle ++ post)) j t ∙ (split_other k pre middle post j own n ∙ sym (past_first y (pre ++ post) j t))
+    | inr t ↦ past_first y (pre ++ (option_to_list middle ++ post)) j t ∙ (split_other k pre middle post j own n
+        ∙ sym (past_first y (pre ++ post) j t))
   ]
 
   -- one put for another: no other key changes
@@ -299,9 +320,12 @@ module _ {A K : Type 0} (by : Keyed A K) (keys : AreKeys by) where
       → item_at by (pre ++ (option_to_list new ++ post)) j ≡ item_at by (pre ++ (option_to_list old ++ post)) j
   set_other k pre post old new s t j n = split_other k pre new post j t.own n ∙ sym (split_other k pre old post j s.own n)
 
-  pub ascending_set : (k : K) (pre post : List A) (old new : Option A) → IsAscendingBy by (pre ++ (option_to_list old ++ post)) → IsSplit k pre new post → IsAscendingBy by (pre ++ (option_to_list new ++ post))
-  ascending_set k pre post old new u s = ascending_append pre (option_to_list new ++ post) (ascending_left pre (option_to_list old ++ post) u) (rest new s.own)
-      (every_map (λ (y : A). by.IsBefore (by.key y) k) (λ (y : A). AllAfter (by.key y) (option_to_list new ++ post)) (λ y l. above y l new s.own) pre s.before)
+  pub ascending_set : (k : K) (pre post : List A) (old new : Option A) → IsAscendingBy by (pre ++ (option_to_list old ++ post))
+      → IsSplit k pre new post → IsAscendingBy by (pre ++ (option_to_list new ++ post))
+  ascending_set k pre post old new u s = ascending_append pre (option_to_list new ++ post)
+      (ascending_left pre (option_to_list old ++ post) u) (rest new s.own)
+      (every_map (λ (y : A). by.IsBefore (by.key y) k) (λ (y : A). AllAfter (by.key y) (option_to_list new ++ post))
+          (λ y l. above y l new s.own) pre s.before)
     where
       behind : IsAscendingBy by post
       behind = ascending_right (option_to_list old) post (ascending_right pre (option_to_list old ++ post) u)
@@ -310,6 +334,7 @@ module _ {A K : Type 0} (by : Keyed A K) (keys : AreKeys by) where
       rest None own = behind
       rest (Some x) own = (subst (λ j. AllAfter j post) (sym own) s.after, behind)
 
-      above : (y : A) → by.IsBefore (by.key y) k → (o : Option A) → IfSome o (λ (x : A). by.key x ≡ k) → AllAfter (by.key y) (option_to_list o ++ post)
+      above : (y : A) → by.IsBefore (by.key y) k → (o : Option A) → IfSome o (λ (x : A). by.key x ≡ k)
+          → AllAfter (by.key y) (option_to_list o ++ post)
       above y l None own = after_later (by.key y) k post l s.after
       above y l (Some x) own = (subst (by.IsBefore (by.key y)) (sym own) l, after_later (by.key y) k post l s.after)

@@ -11,7 +11,8 @@ use Rattle.plane_terms.specs.Dirt.{Covers, add_dirt, piece_if, pieces, add_all, 
 use Rattle.number_laws.proofs.Order.{scaled_le}
 use Rattle.sound_laws.proofs.Dirts.{Covers_append}
 
-from_test : (b : Bool) (d e : List Rectangle) (p : Point) → Covers (if b then d else e) p → ((b ≡ true) × Covers d p) ⊎ ((b ≡ false) × Covers e p)
+from_test : (b : Bool) (d e : List Rectangle) (p : Point) → Covers (if b then d else e) p
+    → ((b ≡ true) × Covers d p) ⊎ ((b ≡ false) × Covers e p)
 from_test true d e p h = inl (refl, h)
 from_test false d e p h = inr (refl, h)
 
@@ -53,14 +54,16 @@ le_max a b = omega (arith, ints, clamps)
 min_le : (a b : ℤ) → int_min a b ≤ℤ a
 min_le a b = omega (arith, ints, clamps)
 
-piece_below : (r w : Rectangle) (p : Point) (a b : ℤ) → r.x0 ≤ℤ a → b ≤ℤ r.x1 → w.y0 ≤ℤ r.y1 → RectHolds (rect_of a r.y0 b w.y0) p → RectHolds r p
+piece_below : (r w : Rectangle) (p : Point) (a b : ℤ) → r.x0 ≤ℤ a → b ≤ℤ r.x1 → w.y0 ≤ℤ r.y1 → RectHolds (rect_of a r.y0 b w.y0) p
+    → RectHolds r p
 piece_below r w p a b s t u h =
     let d = scaled_le r.x0 a p.w s in
     let e = scaled_le b r.x1 p.w t in
     let f = scaled_le w.y0 r.y1 p.w u in
     omega (arith, ints)
 
-piece_above : (r w : Rectangle) (p : Point) (a b : ℤ) → r.x0 ≤ℤ a → b ≤ℤ r.x1 → r.y0 ≤ℤ w.y1 → RectHolds (rect_of a w.y1 b r.y1) p → RectHolds r p
+piece_above : (r w : Rectangle) (p : Point) (a b : ℤ) → r.x0 ≤ℤ a → b ≤ℤ r.x1 → r.y0 ≤ℤ w.y1 → RectHolds (rect_of a w.y1 b r.y1) p
+    → RectHolds r p
 piece_above r w p a b s t u h =
     let d = scaled_le r.x0 a p.w s in
     let e = scaled_le b r.x1 p.w t in
@@ -85,8 +88,10 @@ pieces_within r w p h =
             | inr k ↦ elim (Covers_append right (below ++ above) p k) [
               | inl l ↦ piece_right r w p m.0 (from_piece (int_lt w.x1 r.x1) (rect_of w.x1 r.y0 r.x1 r.y1) p l)
               | inr l ↦ elim (Covers_append below above p l) [
-                | inl n ↦ piece_below r w p mx0 mx1 (le_max r.x0 w.x0) (min_le r.x1 w.x1) m.3 (from_piece (int_lt r.y0 w.y0) (rect_of mx0 r.y0 mx1 w.y0) p n)
-                | inr n ↦ piece_above r w p mx0 mx1 (le_max r.x0 w.x0) (min_le r.x1 w.x1) m.2 (from_piece (int_lt w.y1 r.y1) (rect_of mx0 w.y1 mx1 r.y1) p n)
+                | inl n ↦ piece_below r w p mx0 mx1 (le_max r.x0 w.x0) (min_le r.x1 w.x1) m.3
+                    (from_piece (int_lt r.y0 w.y0) (rect_of mx0 r.y0 mx1 w.y0) p n)
+                | inr n ↦ piece_above r w p mx0 mx1 (le_max r.x0 w.x0) (min_le r.x1 w.x1) m.2
+                    (from_piece (int_lt w.y1 r.y1) (rect_of mx0 w.y1 mx1 r.y1) p n)
               ]
             ]
           ]
@@ -139,14 +144,16 @@ loose_end [] r h k = (tt, tt)
 loose_end (s ∷ d) r h k = (each_end (AreLoose s) d r h.0 k.0, loose_end d r h.1 k.1)
 
 -- what is left by the filter does not lie in the new rectangle, nor it in any of the list
-kept_apart : (d : List Rectangle) (r : Rectangle) → list_any (λ s. is_within r s) d ≡ false → Every (λ s. AreLoose s r) (filter (λ s. not (is_within s r)) d)
+kept_apart : (d : List Rectangle) (r : Rectangle) → list_any (λ s. is_within r s) d ≡ false
+    → Every (λ s. AreLoose s r) (filter (λ s. not (is_within s r)) d)
 kept_apart [] r e = tt
 kept_apart (s ∷ d) r e =
     let a : is_within r s ≡ false = grind arith in
     let b : list_any (λ s. is_within r s) d ≡ false = grind arith in
     pick (is_within s r) s r (filter (λ s. not (is_within s r)) d) refl a (kept_apart d r b)
   where
-    pick : (b : Bool) (s r : Rectangle) (d : List Rectangle) → is_within s r ≡ b → is_within r s ≡ false → Every (λ s. AreLoose s r) d → Every (λ s. AreLoose s r) (cond (not b) (s ∷ d) d)
+    pick : (b : Bool) (s r : Rectangle) (d : List Rectangle) → is_within s r ≡ b → is_within r s ≡ false → Every (λ s. AreLoose s r) d
+        → Every (λ s. AreLoose s r) (cond (not b) (s ∷ d) d)
     pick true s r d e f k = k
     pick false s r d e f k = (record { left = e; right = f }, k)
 

@@ -15,7 +15,8 @@ use Rattle.sound_laws.proofs.Dirts.{add_keeps, add_covers}
 use Rattle.sound_laws.proofs.Edits.{same_or_not}
 
 -- a rule that is not in force has no entry
-pub no_entry : (M : Meaning) (s : Project) → IsProject M s → (n a b : ℕ) → rule_at s.rules n ≡ None → (e : Entry) → entry_at s.entries n a b ≡ Some e → ⊥
+pub no_entry : (M : Meaning) (s : Project) → IsProject M s → (n a b : ℕ) → rule_at s.rules n ≡ None → (e : Entry)
+    → entry_at s.entries n a b ≡ Some e → ⊥
 no_entry M s v n a b none e k = let y = v.made.ruled n a b e k in let t = y.1 in cc
 
 pub add_rule_sound : (M : Meaning) → Laws M → (n : ℕ) (row : Row) (old new : Project)
@@ -26,7 +27,8 @@ add_rule_sound M L n row old new v u i s =
     record {
       each = λ r q e a. elim (same_or_not r n) [
         | inl t ↦
-            let none : (b : ℕ) (x : Entry) → entry_at new.entries r a b ≡ Some x → ⊥ = λ b x k. no_entry M old v n a b i.free x (rw (← i.entries, ← t) k) in
+            let none : (b : ℕ) (x : Entry) → entry_at new.entries r a b ≡ Some x
+                → ⊥ = λ b x k. no_entry M old v n a b i.free x (rw (← i.entries, ← t) k) in
             record {
               points = λ p c b. (
                 (λ x. absurd (none b x.0 x.1)),
@@ -37,7 +39,8 @@ add_rule_sound M L n row old new v u i s =
               whole = λ f k c.
                   let z = v.made.envelopes a f (rw i.features at k) in
                   let held = holds_corner (env f) z.proper in
-                  absurd (c (corner (env f), dirty (corner (env f)) (within_Holds (env f) whole_grid z.on_grid (corner (env f)) held), held));
+                  absurd (c (corner (env f), dirty (corner (env f)) (within_Holds (env f) whole_grid z.on_grid (corner (env f)) held),
+                      held));
               cells = λ b x k w. absurd (none b x k);
               frames = λ b x k. absurd (none b x k);
             }
@@ -48,7 +51,8 @@ add_rule_sound M L n row old new v u i s =
               whole = λ f k c.
                   let z = v.made.envelopes a f (rw i.features at k) in
                   let held = holds_corner (env f) z.proper in
-                  absurd (c (corner (env f), dirty (corner (env f)) (within_Holds (env f) whole_grid z.on_grid (corner (env f)) held), held));
+                  absurd (c (corner (env f), dirty (corner (env f)) (within_Holds (env f) whole_grid z.on_grid (corner (env f)) held),
+                      held));
               cells = λ b x k w. was.cells b x (rw i.entries at k) w;
               frames = λ b x k. elim (was.frames b x (rw i.entries at k)) [
                 | inl m ↦ inl (m.0, keeps m.0 m.1, m.2)

@@ -1,5 +1,5 @@
 -- Rules in force by number: the laws of a list that ascends by a key, for `rule_at`.
-use Rattle.std.proofs.Common.{◌≡◌, ◌≢◌, ℕ, true, false, List, [], ◌∷◌, Option, Some, None, refl, sym, ap, subst, ◌∙◌}
+use Rattle.std.proofs.Common.{◌≡◌, ◌≢◌, ℕ, true, false, List, ◌∷◌, Option, Some, None, refl, sym, ap, subst, ◌∙◌}
 use Rattle.std.specs.Prelude.{◌==◌}
 use Rattle.std.specs.Option.{option_map}
 use Rattle.plane_terms.specs.Lists.{Every}
@@ -43,14 +43,17 @@ found_rule rules n row e = by (item_at by_number rules n) refl e
     by (Some q) f e = record { rule = q; found = f; row_is = cc }
 
 -- what holds of every rule holds of the one of a number
-pub rule_each : (P : Row → Type 0) (rules : List InForce) (n : ℕ) (row : Row) → Every (λ (q : InForce). P q.row) rules → rule_at rules n ≡ Some row → P row
+pub rule_each : (P : Row → Type 0) (rules : List InForce) (n : ℕ) (row : Row) → Every (λ (q : InForce). P q.row) rules
+    → rule_at rules n ≡ Some row → P row
 rule_each P rules n row h e =
     let q = found_rule rules n row e in
     subst P q.row_is (keyed.every_found by_number rule_numbers (λ (q : InForce). P q.row) rules n q.rule h q.found)
 
 -- and what holds of the one of each number holds of every rule
-pub each_rule : (P : Row → Type 0) (rules : List InForce) → AreAscending rules → ((n : ℕ) (row : Row) → rule_at rules n ≡ Some row → P row) → Every (λ (q : InForce). P q.row) rules
-each_rule P rules u h = keyed.each_found by_number rule_numbers (λ (q : InForce). P q.row) rules u (λ n q e. h n q.row (rule_found rules n q e))
+pub each_rule : (P : Row → Type 0) (rules : List InForce) → AreAscending rules → ((n : ℕ) (row : Row) → rule_at rules n ≡ Some row → P row)
+    → Every (λ (q : InForce). P q.row) rules
+each_rule P rules u h = keyed.each_found by_number rule_numbers (λ (q : InForce). P q.row) rules u
+    (λ n q e. h n q.row (rule_found rules n q e))
 
 -- ---- a rule taken out
 pub without_here : (rules : List InForce) (n : ℕ) → rule_at (without by_number rules n) n ≡ None
@@ -65,11 +68,15 @@ without_others rules n k d = ap row_of (keyed.without_others by_number rule_numb
 rule_of : (rules : List InForce) (n : ℕ) (q : InForce) → item_at by_number rules n ≡ Some q → q ≡ record { number = n; row = q.row }
 rule_of rules n q e = ap (λ m. record { number = m; row = q.row }) (keyed.key_found by_number rule_numbers rules n q e)
 
-pub same_rules : (rules others : List InForce) → AreAscending rules → AreAscending others → ((n : ℕ) → rule_at rules n ≡ rule_at others n) → rules ≡ others
+pub same_rules : (rules others : List InForce) → AreAscending rules → AreAscending others → ((n : ℕ) → rule_at rules n ≡ rule_at others n)
+    → rules ≡ others
 unfolding rule_at
-same_rules rules others u v h = keyed.same_lists by_number rule_numbers rules others u v (λ n. by n (item_at by_number rules n) (item_at by_number others n) refl refl (h n))
+same_rules rules others u v h = keyed.same_lists by_number rule_numbers rules others u v
+    (λ n. by n (item_at by_number rules n) (item_at by_number others n) refl refl (h n))
   where
-    by : (n : ℕ) (o p : Option InForce) → item_at by_number rules n ≡ o → item_at by_number others n ≡ p → option_map (λ (q : InForce). q.row) o ≡ option_map (λ (q : InForce). q.row) p → item_at by_number rules n ≡ item_at by_number others n
+    by : (n : ℕ) (o p : Option InForce) → item_at by_number rules n ≡ o → item_at by_number others n ≡ p
+        → option_map (λ (q : InForce). q.row) o ≡ option_map (λ (q : InForce). q.row) p
+        → item_at by_number rules n ≡ item_at by_number others n
     by n None None e f s = e ∙ sym f
     by n None (Some q) e f s = absurd cc
     by n (Some q) None e f s = absurd cc

@@ -1,13 +1,12 @@
 -- With no dirt, the errors of a settled project are those of a validation from scratch; of these there is one list.
-use Rattle.std.proofs.Common.{◌≡◌, ◌⊎◌, inl, inr, ℕ, refl, sym, ◌∙◌, ap, false, List, [], ◌∷◌, map, Option, Some, None}
+use Rattle.std.proofs.Common.{◌≡◌, inl, inr, ℕ, refl, sym, ◌∙◌, ap, false, List, [], ◌∷◌, map, Option, Some, None}
 use Rattle.plane_terms.specs.Lists.{Every}
-use Rattle.plane_terms.specs.Dirt.{MeetsDirt}
 use Rattle.topology_terms.specs.Feature.{Feature, feature_at}
 use Rattle.topology_terms.specs.Broken.{Row}
 use Rattle.topology_terms.specs.Meaning.{Finding, finding_at, Meaning, CutsRight}
 use Rattle.topology_terms.specs.Entry.{Entry, entry_at, IsAscending}
 use Rattle.topology_terms.specs.Project.{rule_at, Project, IsProject}
-use Rattle.topology_terms.specs.Settled.{IsEntryOf, AreAlike, AreOf, AreCut, IsSettledUnder}
+use Rattle.topology_terms.specs.Settled.{AreAlike, IsSettledUnder}
 use Rattle.topology_terms.specs.Scratch.{unmarked, IsFromScratch}
 use Rattle.sound_laws.proofs.RuleChanges.{no_entry}
 use Rattle.sound_laws.proofs.Lists.{unmark_option, entry_at-unmark, ascending-unmark, same_entries, entry_key}
@@ -44,7 +43,8 @@ no_rule M p v r a b n = elim (there_or_not (entry_at p.entries r a b)) [
 none_unmarked : (es : List Entry) (r a b : ℕ) → entry_at es r a b ≡ None → entry_at (map unmarked es) r a b ≡ None
 none_unmarked es r a b n = entry_at-unmark es r a b ∙ ap unmark_option n
 
-pub settled_scratch : (M : Meaning) (p : Project) → IsProject M p → IsSettledUnder M p → IsAscending p.entries → p.dirt ≡ [] → IsFromScratch M p (map unmarked p.entries)
+pub settled_scratch : (M : Meaning) (p : Project) → IsProject M p → IsSettledUnder M p → IsAscending p.entries → p.dirt ≡ []
+    → IsFromScratch M p (map unmarked p.entries)
 settled_scratch M p v s order clean = record {
   ascending = ascending-unmark p.entries order;
   bare = bare_all p.entries;
@@ -79,6 +79,7 @@ one_scratch M C p es fs u v = same_entries es fs u.ascending v.ascending (λ r a
             let n = (v.anew a).live z.0 z.1 r y.0 y.1 in
             let e = C.one y.0 p.features a n.0 m.0 n.1 m.1 in
             let l : AreAlike z.0 (finding_at m.0 b) (entry_at fs r a b) = rw e at (n.2 b) in
-            alike_same z.0 (finding_at m.0 b) (entry_at es r a b) (entry_at fs r a b) r a b (λ x l. entry_key es r a b x l) (λ x l. entry_key fs r a b x l) (m.2 b) l
+            alike_same z.0 (finding_at m.0 b) (entry_at es r a b) (entry_at fs r a b) r a b (λ x l. entry_key es r a b x l)
+                (λ x l. entry_key fs r a b x l) (m.2 b) l
       ]
     ] ∙ bare_at fs r a b v.bare))

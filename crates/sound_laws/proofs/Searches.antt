@@ -1,14 +1,13 @@
 -- What a binary search finds in a list that ascends by a key.
-use Rattle.std.proofs.Common.{◌≡◌, ◌⊎◌, inl, inr, ℕ, zero, suc, ◌<◌, ◌≤◌, true, false, arith, refl, sym, ◌∙◌, subst, List, [], ◌∷◌, Some, None, length, get_or}
+use Rattle.std.proofs.Common.{◌≡◌, ◌⊎◌, inl, inr, ℕ, zero, suc, ◌<◌, ◌≤◌, false, arith, refl, sym, subst, List, [], ◌∷◌, Some, None, length, get_or}
 use Rattle.std.specs.Ordering.{MatchOrdering, ordering_index}
 use Rattle.std.specs.declared.cmp.Ordering.{Ordering}
 use Rattle.std.specs.declared.cmp.Ordering.TheVariants.{Less, Equal, Greater}
 use Rattle.std.specs.List.{HoldsAt}
 use Rattle.std.specs.List.Sorted.{IsPartitionPoint, IsNonDecreasingBy}
-use Rattle.plane_terms.specs.Lists.{Every}
 use Rattle.plane_terms.proofs.ListLemmas.{every_at, every_by_index}
 use Rattle.topology_terms.specs.Keyed.{Keyed, item_at, IsAscendingBy}
-use Rattle.sound_laws.proofs.Keyed.{AreKeys, differ, none_lacks, contained_found, apart_later}
+use Rattle.sound_laws.proofs.Keyed.{AreKeys, none_lacks, contained_found, apart_later}
 
 module _ {A K : Type 0} (by : Keyed A K) (keys : AreKeys by) where
   never : (k : K) → by.IsBefore k k → ⊥
@@ -74,7 +73,8 @@ module _ {A K : Type 0} (by : Keyed A K) (keys : AreKeys by) where
   rises (x ∷ xs) k u zero zero d upto short = omega arith
   rises (x ∷ xs) k u zero (suc j) d upto short =
       let y = get_or xs j d in
-      rises_pair (order_of (by.key x) k) (order_of (by.key y) k) (by.key x) (by.key y) k (every_at (λ (z : A). by.IsBefore (by.key x) (by.key z)) xs j d u.0 (omega arith)) (stands (by.key x) k) (stands (by.key y) k)
+      rises_pair (order_of (by.key x) k) (order_of (by.key y) k) (by.key x) (by.key y) k
+          (every_at (λ (z : A). by.IsBefore (by.key x) (by.key z)) xs j d u.0 (omega arith)) (stands (by.key x) k) (stands (by.key y) k)
   rises (x ∷ xs) k u (suc i) zero d upto short = absurd (omega arith)
   rises (x ∷ xs) k u (suc i) (suc j) d upto short = rises xs k u.1 i j d (omega arith) (omega arith)
 
@@ -82,16 +82,21 @@ module _ {A K : Type 0} (by : Keyed A K) (keys : AreKeys by) where
   equal_keys : (j k : K) → order_of j k ≡ Equal → j ≡ k
   equal_keys j k e = subst (λ o. Stands o j k) e (stands j k)
 
-  pub found_there : (xs : List A) (k : K) (i : ℕ) (x : A) → IsAscendingBy by xs → i < length xs → x ≡ get_or xs i x → HoldsAt (λ y. order_of (by.key y) k ≡ Equal) xs i → item_at by xs k ≡ Some x
+  pub found_there : (xs : List A) (k : K) (i : ℕ) (x : A) → IsAscendingBy by xs → i < length xs → x ≡ get_or xs i x
+      → HoldsAt (λ y. order_of (by.key y) k ≡ Equal) xs i → item_at by xs k ≡ Some x
   found_there xs k i x u l is o =
       let own : order_of (by.key x) k ≡ Equal = subst (λ (y : A). order_of (by.key y) k ≡ Equal) (sym is) (o x) in
       subst (λ j. item_at by xs j ≡ Some x) (equal_keys (by.key x) k own) (contained_found by keys xs x u (i, l, sym is))
 
   -- ---- not there
-  pub not_there : (xs : List A) (k : K) (i : ℕ) → IsPartitionPoint (λ x. order_of (by.key x) k ≡ Less) (λ x. order_of (by.key x) k ≡ Greater) xs i → item_at by xs k ≡ None
-  not_there xs k i p = none_lacks by keys k xs (every_by_index (λ (x : A). by.same (by.key x) k ≡ false) xs (λ j d l. elim (early_or_not j i) [
-    | inl s ↦ keys.apart (by.key (get_or xs j d)) k (subst (λ o. Stands o (by.key (get_or xs j d)) k) (p.0 j d (omega arith) s) (stands (by.key (get_or xs j d)) k))
-    | inr s ↦ apart_later by keys k (by.key (get_or xs j d)) (subst (λ o. Stands o (by.key (get_or xs j d)) k) (p.1 j d s l) (stands (by.key (get_or xs j d)) k))
+  pub not_there : (xs : List A) (k : K) (i : ℕ) → IsPartitionPoint (λ x. order_of (by.key x) k ≡ Less)
+      (λ x. order_of (by.key x) k ≡ Greater) xs i → item_at by xs k ≡ None
+  not_there xs k i p = none_lacks by keys k xs (every_by_index (λ (x : A). by.same (by.key x) k ≡ false) xs
+      (λ j d l. elim (early_or_not j i) [
+    | inl s ↦ keys.apart (by.key (get_or xs j d)) k (subst (λ o. Stands o (by.key (get_or xs j d)) k) (p.0 j d (omega arith) s)
+        (stands (by.key (get_or xs j d)) k))
+    | inr s ↦ apart_later by keys k (by.key (get_or xs j d)) (subst (λ o. Stands o (by.key (get_or xs j d)) k) (p.1 j d s l)
+        (stands (by.key (get_or xs j d)) k))
   ]))
     where
       early_or_not : (m n : ℕ) → (m < n) ⊎ (n ≤ m)

@@ -1,5 +1,5 @@
 -- The changing calls keep a state settled.
-use Rattle.std.proofs.Common.{◌≡◌, ◌↔◌, ◌⊎◌, inl, inr, ℕ, refl, sym, ◌∙◌, ap, List, [], map, Option, Some, None}
+use Rattle.std.proofs.Common.{◌≡◌, ◌↔◌, inl, inr, ℕ, refl, sym, ◌∙◌, ap, List, [], map, Option, Some, None}
 use Rattle.plane_terms.specs.Point.{Point}
 use Rattle.plane_terms.specs.Rectangle.{whole_grid, Rectangle}
 use Rattle.plane_terms.specs.Dirt.{Covers, MeetsDirt}
@@ -31,10 +31,12 @@ finding_entry : (f : Feature) (x : Finding) (o : Option Entry) → AreAlike f (S
 finding_entry f x None h = absurd h
 finding_entry f x (Some e) h = (e, refl, h)
 
-of_same : (f : Feature) (xs : List Finding) (es fs : List Entry) (r a : ℕ) → ((b : ℕ) → entry_at fs r a b ≡ entry_at es r a b) → AreOf f xs es r a → AreOf f xs fs r a
+of_same : (f : Feature) (xs : List Finding) (es fs : List Entry) (r a : ℕ) → ((b : ℕ) → entry_at fs r a b ≡ entry_at es r a b)
+    → AreOf f xs es r a → AreOf f xs fs r a
 of_same f xs es fs r a e h b = rw (e b) (h b)
 
-cut_at : (M : Meaning) (row : Row) (F G : List Feature) (a : ℕ) (xs : List Finding) → G ≡ F → M.IsCutting row F a xs → M.IsCutting row G a xs
+cut_at : (M : Meaning) (row : Row) (F G : List Feature) (a : ℕ) (xs : List Finding) → G ≡ F → M.IsCutting row F a xs
+    → M.IsCutting row G a xs
 cut_at M row F G a xs e h = rw e h
 
 -- entries of right findings are judged right
@@ -65,7 +67,8 @@ judged_by_cut M F es r row f a xs t h = record {
       (z.0, z.1, z.2.whole ∙ y.2);
 }
 
-pub validated_by_cut : (M : Meaning) → CutsRight M → (w : Rectangle) (old new : Project) → IsProject M old → features.IsAscending old.features → IsValidatedBy M w old new → IsValidated M w old new
+pub validated_by_cut : (M : Meaning) → CutsRight M → (w : Rectangle) (old new : Project) → IsProject M old
+    → features.IsAscending old.features → IsValidatedBy M w old new → IsValidated M w old new
 validated_by_cut M C w old new v u i = record {
   classes = i.classes;
   next = i.next;
@@ -77,7 +80,8 @@ validated_by_cut M C w old new v u i = record {
     | inl y ↦ inl (
       y.0,
       record {
-        live = λ f k r row e. let z = y.1.live f k r row e in judged_by_cut M old.features new.entries r row f a z.0 (C.right row old.features a f u (v.fits r row e) k z.0 z.1) z.2;
+        live = λ f k r row e. let z = y.1.live f k r row e in judged_by_cut M old.features new.entries r row f a z.0
+            (C.right row old.features a f u (v.fits r row e) k z.0 z.1) z.2;
         dead = y.1.dead;
         idle = y.1.idle;
       },
@@ -98,7 +102,9 @@ edit_settled M L h after old new v u was_ordered is_ordered i s = record {
         let k' = sym (i.features.others a t) ∙ k in
         let e' = rw i.rules at e in
         let y = s.cut r row e' a f k' (λ m. n (m.0, edit_keeps h after old new i m.0 m.1, m.2)) in
-        (y.0, L.cutting row old.features new.features a f was_ordered is_ordered (v.fits r row e') (u.fits r row e) k' k (edit_agrees h after old new i f n) y.0 y.1, of_same f y.0 old.entries new.entries r a (λ b. ap (λ x. entry_at x r a b) i.entries) y.2)
+        (y.0, L.cutting row old.features new.features a f was_ordered is_ordered (v.fits r row e') (u.fits r row e) k' k
+            (edit_agrees h after old new i f n) y.0 y.1, of_same f y.0 old.entries new.entries r a
+            (λ b. ap (λ x. entry_at x r a b) i.entries) y.2)
   ];
   frames = λ r row e a. edit_frames M h after old new u i r a (s.frames r row (rw i.rules at e) a);
 }
@@ -113,13 +119,15 @@ validated_settled M L C w old new v u i s =
           let e' = rw i.rules at e in
           elim (i.each a) [
             | inl y ↦ rw i.features (y.1.live f k' r row e')
-            | inr y ↦ let z = s.cut r row e' a f k' (kept_envelope M w old new j a f k' y.0 n) in (z.0, cut_at M row old.features new.features a z.0 i.features z.1, of_same f z.0 old.entries new.entries r a (y.1 r) z.2)
+            | inr y ↦ let z = s.cut r row e' a f k' (kept_envelope M w old new j a f k' y.0 n)
+                in (z.0, cut_at M row old.features new.features a z.0 i.features z.1, of_same f z.0 old.entries new.entries r a (y.1 r) z.2)
           ];
       frames = λ r row e a.
           let e' = rw i.rules at e in
           elim (j.each a) [
             | inl y ↦ λ b x k. elim (there_or_not (feature_at old.features a)) [
-              | inl z ↦ inr (z.0, rw i.features z.1, fresh_frame M L old.features row z.0 a b x (v.fits r row e') z.1 ((y.1.live z.0 z.1 r row e').fresh b x k))
+              | inl z ↦ inr (z.0, rw i.features z.1, fresh_frame M L old.features row z.0 a b x (v.fits r row e') z.1
+                  ((y.1.live z.0 z.1 r row e').fresh b x k))
               | inr z ↦ let l = y.1.dead z r b in absurd cc
             ]
             | inr y ↦ kept_frames M w old new j r a y.0 (y.1 r) (s.frames r row e' a)
@@ -134,7 +142,8 @@ add_rule_settled M n row old new v i s =
       cut = λ r q e a f k c.
           let z = v.made.envelopes a f (rw i.features at k) in
           let held = holds_corner (env f) z.proper in
-          absurd (c (corner (env f), rw i.dirt (add_covers old.dirt whole_grid (corner (env f)) (within_Holds (env f) whole_grid z.on_grid (corner (env f)) held)), held));
+          absurd (c (corner (env f), rw i.dirt (add_covers old.dirt whole_grid (corner (env f))
+              (within_Holds (env f) whole_grid z.on_grid (corner (env f)) held)), held));
       frames = λ r q e a b x k. elim (same_or_not r n) [
         | inl t ↦ absurd (no_entry M old v n a b i.free x (rw (← i.entries, ← t) k))
         | inr t ↦ elim (s.frames r q (sym (i.others r t) ∙ e) a b x (rw i.entries at k)) [
@@ -148,7 +157,9 @@ pub drop_rule_settled : (M : Meaning) (n : ℕ) (old new : Project) → IsRuleDr
 drop_rule_settled M n old new i s = record {
   cut = λ r q e a f k c. elim (same_or_not r n) [
     | inl t ↦ let gone = i.here in let here : rule_at new.rules n ≡ Some q = rw t at e in absurd cc
-    | inr t ↦ let z = s.cut r q (sym (i.others r t) ∙ e) a f (rw i.features at k) (λ m. c (rw i.dirt m)) in (z.0, cut_at M q old.features new.features a z.0 i.features z.1, of_same f z.0 old.entries new.entries r a (λ b. i.kept r a b t) z.2)
+    | inr t ↦ let z = s.cut r q (sym (i.others r t) ∙ e) a f (rw i.features at k) (λ m. c (rw i.dirt m))
+        in (z.0, cut_at M q old.features new.features a z.0 i.features z.1, of_same f z.0 old.entries new.entries r a (λ b. i.kept r a b t)
+        z.2)
   ];
   frames = λ r q e a b x k. elim (same_or_not r n) [
     | inl t ↦ let gone = i.here in let here : rule_at new.rules n ≡ Some q = rw t at e in absurd cc
@@ -157,16 +168,19 @@ drop_rule_settled M n old new i s = record {
 }
 
 -- with no dirt, points and faults are told exactly, and every entry's subject is live
-pub clean_points : (M : Meaning) (s : Project) → IsSoundUnder M s → s.dirt ≡ [] → (r : ℕ) (row : Row) → rule_at s.rules r ≡ Some row → (a b : ℕ) (p : Point) → HasCellsAt s.entries r a b p ↔ M.BrokenAt row s.features a b p
+pub clean_points : (M : Meaning) (s : Project) → IsSoundUnder M s → s.dirt ≡ [] → (r : ℕ) (row : Row) → rule_at s.rules r ≡ Some row
+    → (a b : ℕ) (p : Point) → HasCellsAt s.entries r a b p ↔ M.BrokenAt row s.features a b p
 clean_points M s t d r row e a b p = (t.each r row e a).points p (λ c. rw d at c) b
 
-pub clean_live : (M : Meaning) (s : Project) → IsSoundUnder M s → s.dirt ≡ [] → (r : ℕ) (row : Row) → rule_at s.rules r ≡ Some row → (a b : ℕ) (x : Entry) → entry_at s.entries r a b ≡ Some x → (f : Feature) × (feature_at s.features a ≡ Some f)
+pub clean_live : (M : Meaning) (s : Project) → IsSoundUnder M s → s.dirt ≡ [] → (r : ℕ) (row : Row) → rule_at s.rules r ≡ Some row
+    → (a b : ℕ) (x : Entry) → entry_at s.entries r a b ≡ Some x → (f : Feature) × (feature_at s.features a ≡ Some f)
 clean_live M s t d r row e a b x k = elim ((t.each r row e a).frames b x k) [
   | inl m ↦ absurd (rw d at m.1)
   | inr y ↦ (y.0, y.1)
 ]
 
-pub clean_whole : (M : Meaning) → Laws M → (s : Project) → IsSoundUnder M s → s.dirt ≡ [] → (r : ℕ) (row : Row) → rule_at s.rules r ≡ Some row → (a : ℕ) → HasWhole s.entries r a ↔ M.BrokenWhole row s.features a
+pub clean_whole : (M : Meaning) → Laws M → (s : Project) → IsSoundUnder M s → s.dirt ≡ [] → (r : ℕ) (row : Row)
+    → rule_at s.rules r ≡ Some row → (a : ℕ) → HasWhole s.entries r a ↔ M.BrokenWhole row s.features a
 clean_whole M L s t d r row e a =
     let not_met : (f : Feature) → MeetsDirt s.dirt (env f) → ⊥ = λ f m. rw d at m.1 in (
       (λ x. let y = clean_live M s t d r row e a 0 x.0 x.1 in ((t.each r row e a).whole y.0 y.1 (not_met y.0)).0 x),
@@ -178,7 +192,8 @@ frame_same : (r s : Rectangle) (cells : List Cell) → IsLeastFrame r cells → 
 frame_same r s cells u v = rect_same r s (u.least s v.holds) (v.least r u.holds)
 
 -- entries of one finding and one key are one, marks aside
-entry_same : (f : Feature) (x : Finding) (d e : Entry) → d.rule ≡ e.rule → d.subject ≡ e.subject → d.other ≡ e.other → IsEntryOf f x d → IsEntryOf f x e → unmark d ≡ unmark e
+entry_same : (f : Feature) (x : Finding) (d e : Entry) → d.rule ≡ e.rule → d.subject ≡ e.subject → d.other ≡ e.other → IsEntryOf f x d
+    → IsEntryOf f x e → unmark d ≡ unmark e
 entry_same f x d e i j k u v =
     let w = u.whole ∙ sym v.whole in
     let c = u.cells ∙ sym v.cells in
@@ -229,7 +244,8 @@ settled_same M C s t u v h k c d i j p q = same_unmarked s.entries t.entries p q
       | inl e ↦ absurd (no_entry M s v r a b n e.0 e.1)
     ]
 
-    no_subject : (M : Meaning) (s : Project) → IsSettledUnder M s → s.dirt ≡ [] → (r : ℕ) (row : Row) → rule_at s.rules r ≡ Some row → (a b : ℕ) → feature_at s.features a ≡ None → entry_at s.entries r a b ≡ None
+    no_subject : (M : Meaning) (s : Project) → IsSettledUnder M s → s.dirt ≡ [] → (r : ℕ) (row : Row) → rule_at s.rules r ≡ Some row
+        → (a b : ℕ) → feature_at s.features a ≡ None → entry_at s.entries r a b ≡ None
     no_subject M s h c r row l a b n = elim (there_or_not (entry_at s.entries r a b)) [
       | inr k ↦ k
       | inl e ↦ elim (h.frames r row l a b e.0 e.1) [

@@ -1,5 +1,5 @@
 -- The changing calls keep what the types of the parts keep.
-use Rattle.std.proofs.Common.{◌≡◌, ◌≢◌, ◌⊎◌, inl, inr, ℕ, refl, sym, ◌∙◌, List, [], ◌∷◌, Option, Some, None}
+use Rattle.std.proofs.Common.{◌≡◌, ◌≢◌, inl, inr, ℕ, refl, sym, ◌∙◌, List, [], ◌∷◌, Option, Some, None}
 use Rattle.plane_terms.specs.Point.{Point}
 use Rattle.plane_terms.specs.Rectangle.{IsRectangle, Rectangle, IsProper}
 use Rattle.plane_terms.specs.Cell.{Cell, InCells, HavePoints}
@@ -37,7 +37,8 @@ edit_state M h after old new v i t fits = record {
   };
 }
 
-fresh_rect : (M : Meaning) (F : List Feature) (row : Row) (f : Feature) (a b : ℕ) (e : Entry) → IsProper (env f) → IsFresh M F row f a b e → IsProper e.frame
+fresh_rect : (M : Meaning) (F : List Feature) (row : Row) (f : Feature) (a b : ℕ) (e : Entry) → IsProper (env f) → IsFresh M F row f a b e
+    → IsProper e.frame
 fresh_rect M F row f a b e v i = elim (bool_cases e.whole) [
   | inl t ↦ rw (i.envelope t) v
   | inr t ↦
@@ -62,7 +63,8 @@ validated_state M w old new v i =
             | inr n ↦ let l = unruled r n a b in absurd cc
             | inl q ↦ elim (there_or_not (feature_at old.features a)) [
               | inr n ↦ let l = y.1.dead n r b in absurd cc
-              | inl z ↦ fresh_rect M old.features q.0 z.0 a b e (v.made.envelopes a z.0 z.1).proper ((y.1.live z.0 z.1 r q.0 q.1).fresh b e k)
+              | inl z ↦ fresh_rect M old.features q.0 z.0 a b e (v.made.envelopes a z.0 z.1).proper
+                  ((y.1.live z.0 z.1 r q.0 q.1).fresh b e k)
             ]
           ]
         ];

@@ -1,5 +1,5 @@
 -- A validation keeps a state sound.
-use Rattle.std.proofs.Common.{◌≡◌, ◌↔◌, ◌⊎◌, inl, inr, ℕ, refl, sym, ◌∙◌, List, [], Option, Some, None}
+use Rattle.std.proofs.Common.{◌≡◌, ◌↔◌, inl, inr, ℕ, sym, ◌∙◌, List, [], Some}
 use Rattle.plane_terms.specs.Point.{Point}
 use Rattle.plane_terms.specs.Rectangle.{Rectangle, RectHolds, IsWithin}
 use Rattle.plane_terms.specs.Dirt.{Covers, MeetsDirt, cut_dirt}
@@ -16,20 +16,23 @@ use Rattle.sound_laws.proofs.Dirts.{cut_covers, covers_or_not, bool_cases}
 use Rattle.plane_terms.proofs.Truths.{there_or_not}
 
 -- what is said of each feature of the handle holds of this one
-same_feature : (P : Feature → Type 0) (F : List Feature) (a : ℕ) (f : Feature) → feature_at F a ≡ Some f → ((g : Feature) × (feature_at F a ≡ Some g) × P g) → P f
+same_feature : (P : Feature → Type 0) (F : List Feature) (a : ℕ) (f : Feature) → feature_at F a ≡ Some f
+    → ((g : Feature) × (feature_at F a ≡ Some g) × P g) → P f
 same_feature P F a f k y = let e : y.0 ≡ f = (let l = y.1 in cc) in rw e at y.2
 
 no_cells : (e : Entry) (p : Point) → e.cells ≡ [] → InCells e.cells p → ⊥
 no_cells e p k c = rw k at c
 
 -- what a fresh entry's frame holds is in the envelope
-pub fresh_frame : (M : Meaning) → Laws M → (F : List Feature) (row : Row) (f : Feature) (a b : ℕ) (e : Entry) → M.Fits row F → feature_at F a ≡ Some f → IsFresh M F row f a b e → IsWithin e.frame (env f)
+pub fresh_frame : (M : Meaning) → Laws M → (F : List Feature) (row : Row) (f : Feature) (a b : ℕ) (e : Entry) → M.Fits row F
+    → feature_at F a ≡ Some f → IsFresh M F row f a b e → IsWithin e.frame (env f)
 fresh_frame M L F row f a b e u k i = elim (bool_cases e.whole) [
   | inl t ↦ rw (i.envelope t) (within_self (env f))
   | inr t ↦ (i.frame t).least (env f) (λ p c. same_feature (λ g. RectHolds (env g) p) F a f k (L.inside row F a b p u ((i.points t p).0 c)))
 ]
 
-pub fresh_points : (M : Meaning) (F : List Feature) (es : List Entry) (r : ℕ) (row : Row) (f : Feature) (a : ℕ) → IsJudged M F es r row f a → (b : ℕ) (p : Point) → HasCellsAt es r a b p ↔ M.BrokenAt row F a b p
+pub fresh_points : (M : Meaning) (F : List Feature) (es : List Entry) (r : ℕ) (row : Row) (f : Feature) (a : ℕ) → IsJudged M F es r row f a
+    → (b : ℕ) (p : Point) → HasCellsAt es r a b p ↔ M.BrokenAt row F a b p
 fresh_points M F es r row f a j b p = (
   (λ x. elim (bool_cases x.0.whole) [
     | inl t ↦ absurd (no_cells x.0 p ((j.fresh b x.0 x.1).bare t) x.2)
@@ -38,14 +41,16 @@ fresh_points M F es r row f a j b p = (
   (λ x. j.each_point b p x),
 )
 
-pub fresh_whole : (M : Meaning) (F : List Feature) (es : List Entry) (r : ℕ) (row : Row) (f : Feature) (a : ℕ) → IsJudged M F es r row f a → HasWhole es r a ↔ M.BrokenWhole row F a
+pub fresh_whole : (M : Meaning) (F : List Feature) (es : List Entry) (r : ℕ) (row : Row) (f : Feature) (a : ℕ) → IsJudged M F es r row f a
+    → HasWhole es r a ↔ M.BrokenWhole row F a
 fresh_whole M F es r row f a j = (
   (λ x. ((j.fresh 0 x.0 x.1).broken_whole x.2).1),
   (λ x. j.each_whole x),
 )
 
 -- outside the window nothing gets clean
-still_meets : (d : List Rectangle) (w r : Rectangle) → MeetsDirt d r → ((p : Point) → Covers d p → RectHolds w p → RectHolds r p → ⊥) → MeetsDirt (cut_dirt d w) r
+still_meets : (d : List Rectangle) (w r : Rectangle) → MeetsDirt d r → ((p : Point) → Covers d p → RectHolds w p → RectHolds r p → ⊥)
+    → MeetsDirt (cut_dirt d w) r
 still_meets d w r m n = (m.0, cut_covers d w m.0 m.1 (λ h. n m.0 m.1 h m.2), m.2)
 
 -- the frames of a subject that is not selected
@@ -59,7 +64,8 @@ kept_frames M w old new i r a n same was b x k =
     ]
 
 -- the envelope of a subject that is not selected meets the dirt if it did
-pub kept_envelope : (M : Meaning) (w : Rectangle) (old new : Project) → IsValidated M w old new → (a : ℕ) (f : Feature) → feature_at old.features a ≡ Some f
+pub kept_envelope : (M : Meaning) (w : Rectangle) (old new : Project) → IsValidated M w old new → (a : ℕ) (f : Feature)
+    → feature_at old.features a ≡ Some f
     → (IsSelected old w a → ⊥) → (MeetsDirt new.dirt (env f) → ⊥) → MeetsDirt old.dirt (env f) → ⊥
 kept_envelope M w old new i a f k n c m = c (rw i.dirt (still_meets old.dirt w (env f) m (λ p d h l. n (p, d, h, inl (f, k, l)))))
 
@@ -91,13 +97,16 @@ validated_sound M L w old new v i s = record {
     ]
     | inr y ↦
         let was = s.each r row (rw i.rules at e) a in
-        let seen : (p : Point) → Covers old.dirt p → RectHolds w p → (f : Feature) → feature_at old.features a ≡ Some f → RectHolds (env f) p → ⊥ = λ p c h f k m. y.0 (p, c, h, inl (f, k, m)) in
-        let framed : (p : Point) → Covers old.dirt p → RectHolds w p → (b : ℕ) (x : Entry) → entry_at old.entries r a b ≡ Some x → RectHolds x.frame p → ⊥ = λ p c h b x k m. y.0 (p, c, h, inr (r, b, x, k, m)) in
+        let seen : (p : Point) → Covers old.dirt p → RectHolds w p → (f : Feature) → feature_at old.features a ≡ Some f
+            → RectHolds (env f) p → ⊥ = λ p c h f k m. y.0 (p, c, h, inl (f, k, m)) in
+        let framed : (p : Point) → Covers old.dirt p → RectHolds w p → (b : ℕ) (x : Entry) → entry_at old.entries r a b ≡ Some x
+            → RectHolds x.frame p → ⊥ = λ p c h b x k m. y.0 (p, c, h, inr (r, b, x, k, m)) in
         record {
           points = λ p c b. elim (covers_or_not old.dirt p) [
             | inr n ↦ rw (y.1 r b, i.features) (was.points p n b)
             | inl d ↦
-                let inw : RectHolds w p = elim (holds_or_not w p) [ inl h ↦ h | inr n ↦ absurd (c (rw i.dirt (cut_covers old.dirt w p d n))) ] in (
+                let inw : RectHolds w p = elim (holds_or_not w p) [ inl h ↦ h | inr n ↦ absurd (c (rw i.dirt (cut_covers old.dirt w p d n)))
+                    ] in (
                   (λ x.
                       let k = sym (y.1 r b) ∙ x.1 in
                       elim (bool_cases x.0.whole) [

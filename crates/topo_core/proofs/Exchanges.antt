@@ -1,5 +1,5 @@
 -- What the store does, with the dirt, is an edit.
-use Rattle.std.proofs.Common.{◌≡◌, ◌≢◌, inl, inr, ℕ, ◌+◌, ◌<◌, ◌≤◌, List, [], ◌∷◌, ◌++◌, Option, Some, None, true, Result, Ok, Err, refl, sym, ap, subst, ◌∙◌}
+use Rattle.std.proofs.Common.{◌≡◌, ℕ, ◌+◌, ◌<◌, ◌≤◌, List, [], ◌∷◌, ◌++◌, Option, Some, None, true, Result, Ok, Err, refl, sym, ap, subst, ◌∙◌}
 use Rattle.std.specs.Prelude.{is_some, MatchOption}
 use Rattle.std.specs.Option.{option_map, option_to_list}
 use Rattle.std.specs.Result.{IsErrAnd, IfErr}
@@ -41,7 +41,8 @@ pub record ChangesFeatures (next : ℕ) (F : List Feature) (s t : Stored) : Type
 
 -- s is the store before room was made, r with it, t after the change
 pub added : (class : ℕ) (shape : Shape) (h : ℕ) (s r t : Stored) (rules : List InForce) (d e : List Rectangle) (es : List Entry)
-    → IsTopology (project_of s rules d es) → IsSame s r → h ≡ r.next → ChangesFeatures (r.next + 1) (r.features ++ record { handle = h; class = class; shape = shape } ∷ []) r t → e ≡ add_dirt d (envelope_of shape)
+    → IsTopology (project_of s rules d es) → IsSame s r → h ≡ r.next → ChangesFeatures (r.next + 1)
+        (r.features ++ record { handle = h; class = class; shape = shape } ∷ []) r t → e ≡ add_dirt d (envelope_of shape)
     → IsFeatureAdded class shape h (project_of s rules d es) (project_of t rules e es)
 added class shape h s r t rules d e es top same number i dirt =
     let handle : h ≡ s.next = number ∙ same.next in
@@ -51,12 +52,14 @@ added class shape h s r t rules d e es top same number i dirt =
     record {
       number = handle;
       absent = none;
-      edit = record { features = rw (i.features, same.features) set; dirt = rw none dirt; classes = i.classes ∙ same.classes; rules = refl; entries = refl };
+      edit = record { features = rw (i.features, same.features) set; dirt = rw none dirt; classes = i.classes ∙ same.classes; rules =
+          refl; entries = refl };
       next = i.next_is ∙ ap (λ n. n + 1) same.next;
     }
 
 pub exchanged : (h : ℕ) (after : Option Feature) (s r t : Stored) (rules : List InForce) (d e : List Rectangle) (es : List Entry)
-    → IsSame s r → IsSetAt h after r.features t.features → t.classes ≡ r.classes → t.next ≡ r.next → e ≡ add_envelope (add_envelope d (feature_at r.features h)) after
+    → IsSame s r → IsSetAt h after r.features t.features → t.classes ≡ r.classes → t.next ≡ r.next
+        → e ≡ add_envelope (add_envelope d (feature_at r.features h)) after
     → IsFeatureSet h after (project_of s rules d es) (project_of t rules e es)
 exchanged h after s r t rules d e es same set classes next dirt = record {
   edit = record {
@@ -76,10 +79,12 @@ envelope_added d (Some f) = add_all-one d (env f)
 
 pub envelopes_added : (d : List Rectangle) (a b : Option Feature) (x y : Option Rectangle) → x ≡ option_map env a → y ≡ option_map env b
     → add_all (add_all d (option_to_list x)) (option_to_list y) ≡ add_envelope (add_envelope d a) b
-envelopes_added d a b x y p q = rw (p, q) (envelope_added (add_all d (option_to_list (option_map env a))) b ∙ ap (λ s. add_envelope s b) (envelope_added d a))
+envelopes_added d a b x y p q = rw (p, q) (envelope_added (add_all d (option_to_list (option_map env a))) b
+    ∙ ap (λ s. add_envelope s b) (envelope_added d a))
 
 -- the store's cause is the topology's
-pub told_add : (x : StoreFault) (cs : List Class) (next n : ℕ) (k : Kind) → Tells (store_cause x) (add_cause cs next n k) → Tells (edit_cause (change_fault x)) (add_cause cs next n k)
+pub told_add : (x : StoreFault) (cs : List Class) (next n : ℕ) (k : Kind) → Tells (store_cause x) (add_cause cs next n k)
+    → Tells (edit_cause (change_fault x)) (add_cause cs next n k)
 told_add store_fault.ClassTaken cs next n k i = tt
 told_add store_fault.ClassesFull cs next n k i = tt
 told_add store_fault.NoClass cs next n k i = i
@@ -96,12 +101,14 @@ pub live_some : {A : Type 0} (o : Option A) (N : Type 0) (S : A → Type 0) → 
 live_some None N S m e = cc
 live_some (Some x) N S m e = (x, m)
 
-pub other_shape : (p : Project) → IsTopology p → (h n : ℕ) (f : Feature) (shape : Shape) → feature_at p.features h ≡ Some f → n ≡ f.class → shape.kind ≡ f.shape.kind → IsOfClass p.classes (record { handle = h; class = n; shape = shape })
+pub other_shape : (p : Project) → IsTopology p → (h n : ℕ) (f : Feature) (shape : Shape) → feature_at p.features h ≡ Some f → n ≡ f.class
+    → shape.kind ≡ f.shape.kind → IsOfClass p.classes (record { handle = h; class = n; shape = shape })
 other_shape p t h n f shape e same kind =
     let o : IsOfClass p.classes f = (let l = live_each (IsOfClass p.classes) p.features h t.store.kinds in rw e at l) in
     rw (same, kind) o
 
-pub nothing : (s : Stored) (rules : List InForce) (d : List Rectangle) (es : List Entry) → s.classes ≡ [] → s.features ≡ [] → s.next ≡ 1 → rules ≡ [] → d ≡ [] → es ≡ [] → project_of s rules d es ≡ empty_project
+pub nothing : (s : Stored) (rules : List InForce) (d : List Rectangle) (es : List Entry) → s.classes ≡ [] → s.features ≡ [] → s.next ≡ 1
+    → rules ≡ [] → d ≡ [] → es ≡ [] → project_of s rules d es ≡ empty_project
 nothing s rules d es a b c k m n = rw (a, b, c, k, m, n) refl
 
 -- an error that was told from another cause

@@ -49,18 +49,23 @@ edit_sound_kept M L K h after old new t u i s = edit_sound M L h after old new (
 
 pub edit_settled_kept : (M : Meaning) → Laws M → TakesKinds M → (h : ℕ) (after : Option Feature) (old new : Project)
     → IsTopology old → IsTopology new → IsEdit h after old new → IsSettledUnder M old → IsSettledUnder M new
-edit_settled_kept M L K h after old new t u i s = edit_settled M L h after old new (valid M K old t) (valid M K new u) t.store.ascending u.store.ascending i s
+edit_settled_kept M L K h after old new t u i s = edit_settled M L h after old new (valid M K old t) (valid M K new u) t.store.ascending
+    u.store.ascending i s
 
 -- ---- a class more
-dest_end : (cs : List Class) (d : Class) (n : ℕ) (o : Option Kind) → IfSome o (λ k. kind_of_class cs n ≡ Some k) → IfSome o (λ k. kind_of_class (cs ++ d ∷ []) n ≡ Some k)
+dest_end : (cs : List Class) (d : Class) (n : ℕ) (o : Option Kind) → IfSome o (λ k. kind_of_class cs n ≡ Some k)
+    → IfSome o (λ k. kind_of_class (cs ++ d ∷ []) n ≡ Some k)
 dest_end cs d n None h = tt
 dest_end cs d n (Some k) h = kind_end cs d n k h
 
-kinds_end : (cs : List Class) (d : Class) (rules : List InForce) → Every (λ (q : InForce). HasKinds cs q.row) rules → Every (λ (q : InForce). HasKinds (cs ++ d ∷ []) q.row) rules
+kinds_end : (cs : List Class) (d : Class) (rules : List InForce) → Every (λ (q : InForce). HasKinds cs q.row) rules
+    → Every (λ (q : InForce). HasKinds (cs ++ d ∷ []) q.row) rules
 kinds_end cs d rules h = every_map (λ (q : InForce). HasKinds cs q.row) (λ (q : InForce). HasKinds (cs ++ d ∷ []) q.row)
-    (λ q k. record { origin = kind_end cs d q.row.origin.class (origin_of q.row.kind) k.origin; dest = dest_end cs d q.row.dest.class (dest_of q.row.kind) k.dest }) rules h
+    (λ q k. record { origin = kind_end cs d q.row.origin.class (origin_of q.row.kind) k.origin; dest =
+        dest_end cs d q.row.dest.class (dest_of q.row.kind) k.dest }) rules h
 
-pub class_keeps : (name : List ℕ) (k : Kind) (old new : Project) → IsTopology old → IsClassAdded name k old new → IsStore new.classes new.features new.next → IsTopology new
+pub class_keeps : (name : List ℕ) (k : Kind) (old new : Project) → IsTopology old → IsClassAdded name k old new
+    → IsStore new.classes new.features new.next → IsTopology new
 class_keeps name k old new t i s = record {
   store = s;
   rules = rw i.rules t.rules;
@@ -75,7 +80,8 @@ class_keeps name k old new t i s = record {
   };
 }
 
-pub class_sound : (M : Meaning) (name : List ℕ) (k : Kind) (old new : Project) → IsClassAdded name k old new → IsSoundUnder M old → IsSoundUnder M new
+pub class_sound : (M : Meaning) (name : List ℕ) (k : Kind) (old new : Project) → IsClassAdded name k old new → IsSoundUnder M old
+    → IsSoundUnder M new
 class_sound M name k old new i s = record {
   each = λ r row e a.
       let o = s.each r row (rw i.rules at e) a in
@@ -87,14 +93,16 @@ class_sound M name k old new i s = record {
       };
 }
 
-pub class_settled : (M : Meaning) (name : List ℕ) (k : Kind) (old new : Project) → IsClassAdded name k old new → IsSettledUnder M old → IsSettledUnder M new
+pub class_settled : (M : Meaning) (name : List ℕ) (k : Kind) (old new : Project) → IsClassAdded name k old new → IsSettledUnder M old
+    → IsSettledUnder M new
 class_settled M name k old new i s = record {
   cut = λ r row e a f k n. rw (i.entries, i.features) (s.cut r row (rw i.rules at e) a f (rw i.features at k) (λ m. n (rw i.dirt m)));
   frames = λ r row e a b x k. rw (i.dirt, i.features) (s.frames r row (rw i.rules at e) a b x (rw i.entries at k));
 }
 
 -- ---- a validation
-pub validated_keeps : (M : Meaning) → CutsRight M → TakesKinds M → (w : Rectangle) (old new : Project) → IsTopology old → IsValidatedBy M w old new → entries.IsAscending new.entries → IsTopology new
+pub validated_keeps : (M : Meaning) → CutsRight M → TakesKinds M → (w : Rectangle) (old new : Project) → IsTopology old
+    → IsValidatedBy M w old new → entries.IsAscending new.entries → IsTopology new
 validated_keeps M C K w old new t i order = record {
   store = rw (i.classes, i.features, i.next) t.store;
   rules = rw i.rules t.rules;
@@ -104,8 +112,10 @@ validated_keeps M C K w old new t i order = record {
   made = (parts_kept_valid M C w old new i (valid M K old t) t.store.ascending).made;
 }
 
-pub validated_sound_kept : (M : Meaning) → Laws M → CutsRight M → TakesKinds M → (w : Rectangle) (old new : Project) → IsTopology old → IsValidatedBy M w old new → IsSoundUnder M old → IsSoundUnder M new
+pub validated_sound_kept : (M : Meaning) → Laws M → CutsRight M → TakesKinds M → (w : Rectangle) (old new : Project) → IsTopology old
+    → IsValidatedBy M w old new → IsSoundUnder M old → IsSoundUnder M new
 validated_sound_kept M L C K w old new t i s = parts_kept_sound M L C w old new i (valid M K old t) t.store.ascending s
 
-pub validated_settled_kept : (M : Meaning) → Laws M → CutsRight M → TakesKinds M → (w : Rectangle) (old new : Project) → IsTopology old → IsValidatedBy M w old new → IsSettledUnder M old → IsSettledUnder M new
+pub validated_settled_kept : (M : Meaning) → Laws M → CutsRight M → TakesKinds M → (w : Rectangle) (old new : Project) → IsTopology old
+    → IsValidatedBy M w old new → IsSettledUnder M old → IsSettledUnder M new
 validated_settled_kept M L C K w old new t i s = parts_kept_settled M L C w old new i (valid M K old t) t.store.ascending s

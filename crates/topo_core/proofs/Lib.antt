@@ -1,5 +1,6 @@
 mod Whole
 mod Kept
+mod Marking
 mod Exchanges
 mod RuleLists
 mod Rows

@@ -1,18 +1,15 @@
 -- Rows that are equal, and classes that fit a row, as their tests tell.
-use Rattle.std.proofs.Common.{◌≡◌, ℕ, Bool, true, false, ◌&&◌, ◌||◌, not, refl, ap, ◌∙◌, List, [], ◌∷◌, Option, Some, None, arith}
-use Rattle.std.specs.Prelude.{◌==◌, bytes_eq, is_none, IfSome}
-use Rattle.std.specs.List.{list_any}
+use Rattle.std.proofs.Common.{◌≡◌, ℕ, Bool, true, false, ◌||◌, not, refl, ap, List, [], ◌∷◌, Option, Some, None, arith}
+use Rattle.std.specs.Prelude.{◌==◌, IfSome}
 use Rattle.std.proofs.lemmas.Bool.Decides.{nat_tests}
 use Rattle.std.proofs.lemmas.Slice.Eq.{bytes_eq-Decides}
 use Rattle.plane_terms.specs.declared.kind.Kind.{Kind}
 use Rattle.rule_words.specs.Table.{word_of, origin_of, dest_of}
-use Rattle.rule_words.specs.declared.rule_kind.RuleKind.{RuleKind}
 use Rattle.topology_terms.specs.Feature.{Class}
 use Rattle.topology_terms.specs.Broken.{Row}
 use Rattle.topology_terms.specs.Project.{InForce, rule_at}
 use Rattle.topology_terms.specs.Lookups.{kind_of_class}
-use Rattle.topology_terms.specs.Causes.{when, first_of, is_kind, is_row, is_there, is_missing, is_fit, lacks_dest, fits_dest, fit_cause}
-use Rattle.topology_terms.specs.declared.cause.Cause.{Cause}
+use Rattle.topology_terms.specs.Causes.{when, first_of, is_kind, is_row, is_there, is_missing, is_fit, fits_dest, fit_cause}
 use Rattle.topology_terms.specs.declared.cause.Cause.TheVariants as cause
 use Rattle.feature_store.proofs.Keeping.{kinds_same}
 use Rattle.topo_core.specs.Kinds.{HasKinds}
@@ -48,11 +45,15 @@ no_fault true t e = cc
 no_fault false true e = refl
 no_fault false false e = cc
 
-dest_told : (cs : List Class) (row : Row) (o : Option Kind) → fits_dest cs row o ≡ true → IfSome o (λ k. kind_of_class cs row.dest.class ≡ Some k)
+dest_told : (cs : List Class) (row : Row) (o : Option Kind) → fits_dest cs row o ≡ true
+    → IfSome o (λ k. kind_of_class cs row.dest.class ≡ Some k)
 dest_told cs row None e = tt
-dest_told cs row (Some k) e = kind_told (kind_of_class cs row.dest.class) k (both_parts (is_kind (kind_of_class cs row.dest.class) k) (not (row.dest.class == row.origin.class)) e).0
+dest_told cs row (Some k) e = kind_told (kind_of_class cs row.dest.class) k (both_parts (is_kind (kind_of_class cs row.dest.class) k)
+    (not (row.dest.class == row.origin.class)) e).0
 
 pub has_kinds : (cs : List Class) (row : Row) → fit_cause cs row ≡ None → HasKinds cs row
 has_kinds cs row e =
-    let fit = both_parts (is_kind (kind_of_class cs row.origin.class) (origin_of row.kind)) (fits_dest cs row (dest_of row.kind)) (no_fault (is_missing cs row) (is_fit cs row) e) in
-    record { origin = kind_told (kind_of_class cs row.origin.class) (origin_of row.kind) fit.0; dest = dest_told cs row (dest_of row.kind) fit.1 }
+    let fit = both_parts (is_kind (kind_of_class cs row.origin.class) (origin_of row.kind)) (fits_dest cs row (dest_of row.kind))
+        (no_fault (is_missing cs row) (is_fit cs row) e) in
+    record { origin = kind_told (kind_of_class cs row.origin.class) (origin_of row.kind) fit.0; dest =
+        dest_told cs row (dest_of row.kind) fit.1 }

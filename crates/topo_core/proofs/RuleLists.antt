@@ -1,5 +1,5 @@
 -- A rule more in an ascending list.
-use Rattle.std.proofs.Common.{◌≡◌, ◌≢◌, inl, inr, ℕ, zero, suc, ◌<◌, ◌≤◌, ◌+◌, Bool, true, false, List, [], ◌∷◌, Some, None, length, drop, get_or, drop-cons, refl, sym, subst, ap, ◌∙◌, arith, eqb, ltb}
+use Rattle.std.proofs.Common.{◌≡◌, ◌≢◌, inl, inr, ℕ, zero, suc, ◌<◌, ◌≤◌, ◌+◌, true, false, List, [], ◌∷◌, Some, None, length, drop, get_or, refl, sym, subst, ap, ◌∙◌, arith, ltb}
 use Rattle.std.specs.Prelude.{is_some, insert, ◌⊎◌, ◌==◌, if◌then◌else◌}
 use Rattle.std.proofs.lemmas.Bool.{eq-eqb, ne_eqb, cases_lt, lt-ltb, le-ltb}
 use Rattle.std.proofs.lemmas.Bool.Decides.{nat_tests, eqb_tells}
@@ -40,7 +40,8 @@ run_free (q ∷ qs) n a = elim (eqb_tells q.number n) [
       let m = run_on (n + 1) qs in
       let l = run_from qs (n + 1) in
       let on : m ≡ run_on n (q ∷ qs) = rw t.0 refl in
-      subst (λ k. rule_at (q ∷ qs) k ≡ None) on (past_number q qs m (ne_eqb q.number m (λ e. let k = t.1 in omega arith)) ∙ run_free qs (n + 1) a.1)
+      subst (λ k. rule_at (q ∷ qs) k ≡ None) on (past_number q qs m (ne_eqb q.number m (λ e. let k = t.1 in omega arith))
+          ∙ run_free qs (n + 1) a.1)
   | inr t ↦
       let m = run_on n qs in
       let on : m ≡ run_on n (q ∷ qs) = rw t.0 refl in
@@ -81,7 +82,8 @@ pub run_ends : (rs : List InForce) (i m : ℕ) → length rs ≤ i → run_on m 
 run_ends rs i m l e = subst (λ g. run_on m g ≡ run_on 1 rs) (end_drop rs i l) e
 
 -- ---- a rule of a row
-pub row_at : (rs : List InForce) (i : ℕ) (q : InForce) → AreAscending rs → i < length rs → q ≡ get_or rs i q → rule_at rs q.number ≡ Some q.row
+pub row_at : (rs : List InForce) (i : ℕ) (q : InForce) → AreAscending rs → i < length rs → q ≡ get_or rs i q
+    → rule_at rs q.number ≡ Some q.row
 row_at rs i q a below is = rule_found rs q.number q (contained_found by_number rule_numbers rs q a (i, below, sym is))
 
 -- ---- a rule put at its place
@@ -149,7 +151,8 @@ with_ascending [] r e a = (tt, tt)
 with_ascending (q ∷ qs) r e a = elim (eqb_tells q.number r.number) [
   | inl s ↦ absurd (let k : None ≡ Some q.row = sym e ∙ at_number q qs r.number s.0 in cc)
   | inr s ↦ elim (lower_or_not q.number r.number) [
-    | inl t ↦ rw t.0 (with_every (λ (x : InForce). q.number < x.number) qs r a.0 t.1, with_ascending qs r (sym (past_number q qs r.number s.0) ∙ e) a.1)
+    | inl t ↦ rw t.0 (with_every (λ (x : InForce). q.number < x.number) qs r a.0 t.1, with_ascending qs r
+        (sym (past_number q qs r.number s.0) ∙ e) a.1)
     | inr t ↦
         let d = s.1 in
         let l = t.1 in

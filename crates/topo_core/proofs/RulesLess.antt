@@ -1,12 +1,11 @@
 -- A rule less keeps what every topology keeps.
-use Rattle.std.proofs.Common.{◌≡◌, ◌≢◌, ◌<◌, ◌≤◌, arith, length, inl, inr, ℕ, Bool, true, false, List, [], ◌∷◌, None, Some, refl, sym, ◌∙◌}
-use Rattle.std.specs.Prelude.{cond, not, ◌==◌}
+use Rattle.std.proofs.Common.{◌≡◌, ◌≢◌, ◌≤◌, arith, length, inl, inr, ℕ, Bool, List, [], ◌∷◌, None, Some, refl, sym, ◌∙◌}
+use Rattle.std.specs.Prelude.{not, ◌==◌}
 use Rattle.std.proofs.lemmas.Bool.Decides.{eqb_tells}
-use Rattle.plane_terms.specs.Lists.{Every}
 use Rattle.plane_terms.specs.Rectangle.{Rectangle}
 use Rattle.topology_terms.specs.Entry.{Entry, entry_at}
 use Rattle.topology_terms.specs.Entry as entries
-use Rattle.topology_terms.specs.Project.{Project, InForce, by_number}
+use Rattle.topology_terms.specs.Project.{InForce, by_number}
 use Rattle.topology_terms.specs.Changes.{IsRuleDropped}
 use Rattle.plane_terms.proofs.ListLemmas.{every_filter}
 use Rattle.sound_laws.proofs.Keyed.{ascending_filter}
@@ -46,7 +45,8 @@ rule_dropped n s rules less d es fs l e = record {
 }
 
 pub rule_leaves : (n : ℕ) (s : Stored) (rules less : List InForce) (d : List Rectangle) (es fs : List Entry)
-    → less ≡ without_rule rules n → AreLeft n es fs → entries.IsAscending fs → IsTopology (project_of s rules d es) → IsTopology (project_of s less d fs)
+    → less ≡ without_rule rules n → AreLeft n es fs → entries.IsAscending fs → IsTopology (project_of s rules d es)
+        → IsTopology (project_of s less d fs)
 rule_leaves n s rules less d es fs l left order t = record {
   store = t.store;
   rules = rw l (ascending_filter by_number rule_numbers (is_other n) rules t.rules);

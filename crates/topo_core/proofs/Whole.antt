@@ -1,5 +1,5 @@
 -- What every topology keeps: it is ordered, its rules fit, and it is a project by any meaning that asks for kinds alone.
-use Rattle.std.proofs.Common.{◌≡◌, inl, inr, ℕ, ◌<◌, List, [], ◌∷◌, Option, Some, None, refl, sym, ◌∙◌, ap, arith}
+use Rattle.std.proofs.Common.{◌≡◌, ℕ, List, Option, Some, None, sym, ◌∙◌, ap, arith}
 use Rattle.std.specs.Option.{IfSome}
 use Rattle.plane_terms.specs.Lists.{Every}
 use Rattle.plane_terms.specs.declared.kind.Kind.{Kind}
@@ -11,7 +11,7 @@ use Rattle.topology_terms.specs.Entry.{entry_at}
 use Rattle.topology_terms.specs.Lookups.{kind_of_class}
 use Rattle.topology_terms.specs.Sound.{IsSoundUnder}
 use Rattle.topology_terms.specs.Settled.{IsSettledUnder}
-use Rattle.topology_terms.specs.Project.{Project, InForce, IsProject, IsOrdered, rule_at, empty_project}
+use Rattle.topology_terms.specs.Project.{Project, IsProject, IsOrdered, rule_at, empty_project}
 use Rattle.sound_laws.proofs.Keyed.{none_lacks, lacks_before}
 use Rattle.sound_laws.proofs.FeatureLists.{handles}
 use Rattle.sound_laws.proofs.RuleLists.{rule_each}
@@ -28,7 +28,8 @@ pub none_given : (h : ℕ) (F : List Feature) → Every (IsGiven h) F → featur
 unfolding feature_at
 none_given h F g = none_lacks by_handle handles h F (lacks_before by_handle handles h F (below_next h F g))
 
-kind_agrees : (cs : List Class) (f : Feature) (n : ℕ) (k : Kind) → IsOfClass cs f → f.class ≡ n → kind_of_class cs n ≡ Some k → f.shape.kind ≡ k
+kind_agrees : (cs : List Class) (f : Feature) (n : ℕ) (k : Kind) → IsOfClass cs f → f.class ≡ n → kind_of_class cs n ≡ Some k
+    → f.shape.kind ≡ k
 kind_agrees cs f n k o e h =
     let both : Some f.shape.kind ≡ Some k = sym o ∙ (ap (kind_of_class cs) e ∙ h) in
     cc
@@ -74,7 +75,8 @@ empty_topology = record {
   few = omega arith;
   kinds = tt;
   order = tt;
-  made = record { envelopes = λ a f e. absurd cc; frames = λ r a b e k. absurd cc; bare = λ r a b e k w. absurd cc; ruled = λ r a b e k. absurd cc };
+  made = record { envelopes = λ a f e. absurd cc; frames = λ r a b e k. absurd cc; bare = λ r a b e k w. absurd cc; ruled =
+      λ r a b e k. absurd cc };
 }
 
 pub empty_sound : (M : Meaning) → IsSoundUnder M empty_project

@@ -1,7 +1,8 @@
 -- The kinds of shape that a rule in force takes, and its classes.
 --
 -- HasKinds cs row      the class of the subjects has the kind that the rule takes; so has the second class, where the rule takes one
--- TakesKinds M         the meaning asks no more of the features than that they ascend, both sides have the rule's kinds, and segments are as shapes have them
+-- TakesKinds M         the meaning asks no more of the features than that they ascend, both sides have the rule's kinds, and segments are
+--                      as shapes have them
 use Rattle.std.specs.Prelude.{◌≡◌, List, Some, IfSome}
 use Rattle.topology_terms.specs.Feature.{Class, Feature}
 use Rattle.topology_terms.specs.Lookups.{kind_of_class}

@@ -16,4 +16,5 @@ pub record IsCounted (w : Rectangle) (p : Project) (old done : ℕ) : Type 0 whe
   pub count : done ≡ raised old (judged_of p.rules subjects)
 
 abbrev pub IsCountWithin : Rectangle → Project → ℕ → ℕ → Type 0
-IsCountWithin w p old done = (subjects : List Feature) → IsThose (λ (f : Feature). IsSelected p w f.handle) p.features subjects → done ≤ raised old (judged_of p.rules subjects)
+IsCountWithin w p old done = (subjects : List Feature) → IsThose (λ (f : Feature). IsSelected p w f.handle) p.features subjects
+    → done ≤ raised old (judged_of p.rules subjects)

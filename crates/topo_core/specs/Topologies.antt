@@ -1,7 +1,8 @@
 -- What every topology keeps.
 --
 -- project_of s rules d es     the project of the store s, these rules in force, this dirt and these entries
--- IsTopology p         classes and features as a store keeps them; at most 256 rules, by number, each of classes of its kinds; entries by key; it is well made
+-- IsTopology p         classes and features as a store keeps them; at most 256 rules, by number, each of classes of its kinds; entries by
+--                      key; it is well made
 use Rattle.std.specs.Prelude.{◌≤◌, List, length}
 use Rattle.plane_terms.specs.Lists.{Every}
 use Rattle.plane_terms.specs.Rectangle.{Rectangle}

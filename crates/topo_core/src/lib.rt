@@ -10,6 +10,7 @@ mod rule_fault;
 mod rules;
 mod topology;
 
+pub use error_store::{Key, MarkFault};
 pub use fault::ChangeFault;
 pub use feature_store::{Feature, Kind, Name, NoMemory, Shape, StoreFault};
 pub use kinds::KindRules;

@@ -3,9 +3,10 @@ ghost use Rattle.topology_terms.specs.Feature.{feature_at};
 ghost use Rattle.topology_terms.specs.Project.{empty_project, IsOrdered};
 ghost use Rattle.topology_terms.specs.Sound.{IsSoundUnder};
 ghost use Rattle.topology_terms.specs.Settled.{IsSettledUnder, IsValidatedBy};
-ghost use Rattle.topology_terms.specs.Causes.{Tells, class_cause, add_cause, change_cause, delete_cause, rule_cause, drop_cause};
+ghost use Rattle.topology_terms.specs.Causes.{Tells, class_cause, add_cause, change_cause, delete_cause, rule_cause, drop_cause, mark_cause};
 ghost use Rattle.topology_terms.specs.declared.cause.Cause.TheVariants as cause;
-ghost use Rattle.topology_terms.specs.Changes.{IsClassAdded, IsFeatureAdded, IsFeatureSet, IsRuleAdded, IsRuleDropped, reshaped};
+ghost use Rattle.topology_terms.specs.Changes.{IsClassAdded, IsFeatureAdded, IsFeatureSet, IsRuleAdded, IsRuleDropped, IsMarked, reshaped};
+ghost use Rattle.error_store.specs.Marking.{fault_cause};
 ghost use Rattle.feature_store.specs.Keeps.{IsOfClass, IsStore};
 ghost use Rattle.feature_store.specs.Faults.{store_cause};
 ghost use Rattle.topo_core.specs.Faults.{edit_cause, row_cause, IsThereAt};
@@ -20,7 +21,7 @@ use crate::no_rule::NoRule;
 use crate::rule_fault::RuleFault;
 use crate::rules::{drop_from, free_number, has_number, number_of_row, put_rule};
 use dirty_area::Dirt;
-use error_store::Errors;
+use error_store::{Errors, Key, MarkFault};
 use feature_store::{Store, StoreFault};
 use grid_plane::{Name, NoMemory, Rect};
 use rule_core::{InForce, RuleRow, Work};
@@ -184,6 +185,21 @@ impl<R: KindRules> Topology<R> {
         }
         drop_from(&mut self.rules, number);
         self.entries.drop_rule(number);
+        Ok(())
+    }
+
+    /// Marks the error of this key as an exception, or takes its mark away; all else stays. Refused where no error has this
+    /// key, then where its mark is so already. Takes no memory.
+    pub fn mark(&mut self, key: Key, on: bool) -> Result<(), MarkFault>
+        ensures ok { OnOk result (IsMarked key.rule key.subject key.other on self.old self.new) }
+        ensures may { OnOk result (mark_cause self.old.entries key.rule key.subject key.other on ≡ None) }
+        ensures refused { IfErr result (λ e. mark_cause self.old.entries key.rule key.subject key.other on ≡ Some (fault_cause e)) }
+        ensures sound { IsSoundUnder R.meaning self.old → IsSoundUnder R.meaning self.new }
+        ensures settled { IsSettledUnder R.meaning self.old → IsSettledUnder R.meaning self.new }
+        ensures ordered { IsOrdered self.new }
+        ensures err { OnErr result (self.new ≡ self.old) }
+    {
+        self.entries.set_mark(key, on)?;
         Ok(())
     }
 

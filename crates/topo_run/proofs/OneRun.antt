@@ -18,7 +18,8 @@ same_outcome o p t a r =
     ∙ (ap (λ (x : State). record { text = p.text; after = x; refused = o.refused }) a
     ∙ ap (λ (x : Bool). record { text = p.text; after = p.after; refused = x }) r)
 
-replies : (o p : Outcome) (reply said : Reply) → o.text ≡ reply_text reply → o.refused ≡ is_refusal reply → p.text ≡ reply_text said → p.refused ≡ is_refusal said
+replies : (o p : Outcome) (reply said : Reply) → o.text ≡ reply_text reply → o.refused ≡ is_refusal reply → p.text ≡ reply_text said
+    → p.refused ≡ is_refusal said
     → reply ≡ said → o.after ≡ p.after → o ≡ p
 replies o p reply said t r u q same after =
     same_outcome o p (t ∙ (ap reply_text same ∙ sym u)) after (r ∙ (ap is_refusal same ∙ sym q))
@@ -29,14 +30,16 @@ one_step C s line o p one a b = by a.reading b.reading a.reads b.reads a.comes b
     by : (x y : Reading) → ReadsAs line x → ReadsAs line y → ComesOf s x o → ComesOf s y p → o ≡ p
     by (Reads c) (Faulty r) i j k l = absurd (j.0 c i)
     by (Faulty r) (Reads c) i j k l = absurd (i.0 c j)
-    by (Faulty r) (Faulty q) i j k l = replies o p (Refused (Line r)) (Refused (Line q)) k.1.text k.1.refused l.1.text l.1.refused (ap (λ x. Refused (Line x)) (one r q i.1 j.1)) (k.0 ∙ sym l.0)
+    by (Faulty r) (Faulty q) i j k l = replies o p (Refused (Line r)) (Refused (Line q)) k.1.text k.1.refused l.1.text l.1.refused
+        (ap (λ x. Refused (Line x)) (one r q i.1 j.1)) (k.0 ∙ sym l.0)
     by (Reads c) (Reads d) i j k l =
         let same : c ≡ d = one_command line c d i j in
         let l' = subst (λ (e : Command). ComesOf s (Reads e) p) (sym same) l in
         let answer = one_answer C s o.after p.after c k.0 l'.0 a.ordered b.ordered k.1 l'.1 in
         replies o p k.0 l'.0 k.2.text k.2.refused l'.2.text l'.2.refused answer.0 answer.1
 
-pub one_run : CutsRight poster → (s : State) (lines : List (List ℕ)) (os ps : List Outcome) → Every HasOneFault lines → Run s lines os → Run s lines ps → os ≡ ps
+pub one_run : CutsRight poster → (s : State) (lines : List (List ℕ)) (os ps : List Outcome) → Every HasOneFault lines → Run s lines os
+    → Run s lines ps → os ≡ ps
 one_run C s [] [] [] one a b = refl
 one_run C s [] [] (p ∷ ps) one a b = absurd b
 one_run C s [] (o ∷ os) ps one a b = absurd a

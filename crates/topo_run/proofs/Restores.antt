@@ -15,7 +15,8 @@ use Rattle.script_terms.proofs.Runs.{run_keeps, last_keeps, empty_keeps}
 use Rattle.topo_run.proofs.Runs.{empty_ordered}
 
 -- what a command leaves that is read, answered and not refused
-command_done : (s : State) (line : List ℕ) (c : Command) (o : Outcome) → Step s line o → IsCommandLine line c → o.refused ≡ false → (reply : Reply) × IsDone s c reply o.after
+command_done : (s : State) (line : List ℕ) (c : Command) (o : Outcome) → Step s line o → IsCommandLine line c → o.refused ≡ false
+    → (reply : Reply) × IsDone s c reply o.after
 command_done s line c o step is free = by step.reading step.reads step.comes
   where
     done : (x : Option Refusal) (reply : Reply) → answers_by x s c reply o.after → is_refusal reply ≡ false → IsDone s c reply o.after
@@ -29,14 +30,16 @@ command_done s line c o step is free = by step.reading step.reads step.comes
         let k = subst (λ (e : Command). ComesOf s (Reads e) o) same comes in
         (k.0, done (refusal_of s c) k.0 k.1 (sym k.2.refused ∙ free))
 
-pub undo_over : (lines : List (List ℕ)) (os : List Outcome) (line editor : List ℕ) (o : Outcome) → Run empty_state lines os → Step (last_state empty_state os) line o → IsCommandLine line (Undo editor) → o.refused ≡ false
+pub undo_over : (lines : List (List ℕ)) (os : List Outcome) (line editor : List ℕ) (o : Outcome) → Run empty_state lines os
+    → Step (last_state empty_state os) line o → IsCommandLine line (Undo editor) → o.refused ≡ false
     → IsRestored editor (last_state empty_state os) o.after
 undo_over lines os line editor o run step is free =
     let s = last_state empty_state os in
     let d = command_done s line (Undo editor) o step is free in
     undo_restores editor s o.after (last_keeps empty_state os (run_keeps empty_state lines os empty_keeps empty_ordered run)) d.1.1
 
-pub discard_over : (lines : List (List ℕ)) (os : List Outcome) (line editor : List ℕ) (o : Outcome) → Run empty_state lines os → Step (last_state empty_state os) line o → IsCommandLine line (Discard editor) → o.refused ≡ false
+pub discard_over : (lines : List (List ℕ)) (os : List Outcome) (line editor : List ℕ) (o : Outcome) → Run empty_state lines os
+    → Step (last_state empty_state os) line o → IsCommandLine line (Discard editor) → o.refused ≡ false
     → IsAllRestored editor (last_state empty_state os) o.after
 discard_over lines os line editor o run step is free =
     let s = last_state empty_state os in

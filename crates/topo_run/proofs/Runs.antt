@@ -14,7 +14,8 @@ use Rattle.script_terms.proofs.Runs.{run_keeps, empty_keeps}
 use Rattle.topology_terms.specs.Project.{IsOrdered, empty_project}
 use Rattle.topo_run.proofs.Stepping.{Takes}
 
-pub record SoFar (start : State) (all rest : List (List ℕ)) (now : State) (before written : Option (List ℕ)) (pending : List ℕ) (refused : Bool) : Type 0 where
+pub record SoFar (start : State) (all rest : List (List ℕ)) (now : State) (before written : Option (List ℕ)) (pending : List ℕ)
+    (refused : Bool) : Type 0 where
   pub done : List (List ℕ)
   pub split : all ≡ done ++ rest
   pub outcomes : List Outcome
@@ -26,7 +27,8 @@ pub record SoFar (start : State) (all rest : List (List ℕ)) (now : State) (bef
   pub any : any_refused outcomes ≡ refused
   pub invariant : EachInvariant start outcomes
 
-run_snoc : (s : State) (lines : List (List ℕ)) (os : List Outcome) (line : List ℕ) (o : Outcome) → Run s lines os → Step (last_state s os) line o → Run s (lines ++ line ∷ []) (os ++ o ∷ [])
+run_snoc : (s : State) (lines : List (List ℕ)) (os : List Outcome) (line : List ℕ) (o : Outcome) → Run s lines os
+    → Step (last_state s os) line o → Run s (lines ++ line ∷ []) (os ++ o ∷ [])
 run_snoc s [] [] line o run step = (step, tt)
 run_snoc s [] (p ∷ os) line o run step = absurd run
 run_snoc s (l ∷ lines) [] line o run step = absurd run
@@ -44,16 +46,21 @@ any_snoc : (os : List Outcome) (o : Outcome) → any_refused (os ++ o ∷ []) �
 any_snoc [] o = search rules
 any_snoc (p ∷ os) o = grind (arith, any_snoc os o)
 
-invariant_snoc : (s : State) (os : List Outcome) (o : Outcome) → EachInvariant s os → Invariant o.after.project → EachInvariant s (os ++ o ∷ [])
+invariant_snoc : (s : State) (os : List Outcome) (o : Outcome) → EachInvariant s os → Invariant o.after.project
+    → EachInvariant s (os ++ o ∷ [])
 invariant_snoc s [] o h k = (h, k)
 invariant_snoc s (p ∷ os) o h k = (h.0, invariant_snoc p.after os o h.1 k)
 
-pub begins : (start : State) (all : List (List ℕ)) (before : Option (List ℕ)) → Invariant start.project → SoFar start all all start before before [] false
-begins start all before invariant = record { done = []; split = refl; outcomes = []; run = tt; last = refl; front = []; text = refl; appended = Appends-nil before; any = refl; invariant = invariant }
+pub begins : (start : State) (all : List (List ℕ)) (before : Option (List ℕ)) → Invariant start.project
+    → SoFar start all all start before before [] false
+begins start all before invariant = record { done = []; split = refl; outcomes = []; run = tt; last = refl; front = []; text =
+    refl; appended = Appends-nil before; any = refl; invariant = invariant }
 
 -- a line was answered, and its reply is pending
-pub goes_on : {start now : State} {all : List (List ℕ)} {line : List ℕ} {rest : List (List ℕ)} {before written : Option (List ℕ)} {pending more : List ℕ} {refused : Bool} {o : Outcome} →
-    SoFar start all (line ∷ rest) now before written pending refused → Step now line o → Invariant o.after.project → more ≡ pending ++ o.text → SoFar start all rest o.after before written more (refused || o.refused)
+pub goes_on : {start now : State} {all : List (List ℕ)} {line : List ℕ} {rest : List (List ℕ)} {before written : Option (List ℕ)}
+    {pending more : List ℕ} {refused : Bool} {o : Outcome} →
+    SoFar start all (line ∷ rest) now before written pending refused → Step now line o → Invariant o.after.project
+        → more ≡ pending ++ o.text → SoFar start all rest o.after before written more (refused || o.refused)
 goes_on {start} {now} {all} {line} {rest} {before} {written} {pending} {more} {refused} {o} far step invariant grown = record {
   done = far.done ++ line ∷ [];
   split = far.split ∙ sym (append_assoc far.done (line ∷ []) rest);
@@ -61,15 +68,18 @@ goes_on {start} {now} {all} {line} {rest} {before} {written} {pending} {more} {r
   run = run_snoc start far.done far.outcomes line o far.run (rw far.last step);
   last = last_snoc start far.outcomes o;
   front = far.front;
-  text = text_snoc far.outcomes o ∙ (ap (λ t. t ++ o.text) far.text ∙ (append_assoc far.front pending o.text ∙ ap (λ t. far.front ++ t) (sym grown)));
+  text = text_snoc far.outcomes o ∙ (ap (λ t. t ++ o.text) far.text ∙ (append_assoc far.front pending o.text
+      ∙ ap (λ t. far.front ++ t) (sym grown)));
   appended = far.appended;
   any = rw (any_snoc far.outcomes o, far.any) refl;
   invariant = invariant_snoc start far.outcomes o far.invariant invariant;
 }
 
 -- the first of what was pending was written, and this is pending still
-pub flushed : {start now : State} {all rest : List (List ℕ)} {before written mid : Option (List ℕ)} {pending left : List ℕ} {refused : Bool} (part : List ℕ) →
-    SoFar start all rest now before written pending refused → pending ≡ part ++ left → Appends written mid part → SoFar start all rest now before mid left refused
+pub flushed : {start now : State} {all rest : List (List ℕ)} {before written mid : Option (List ℕ)} {pending left : List ℕ} {refused : Bool}
+    (part : List ℕ) →
+    SoFar start all rest now before written pending refused → pending ≡ part ++ left → Appends written mid part
+        → SoFar start all rest now before mid left refused
 flushed {start} {now} {all} {rest} {before} {written} {mid} {pending} {left} {refused} part far split more = record {
   done = far.done;
   split = far.split;
@@ -84,30 +94,36 @@ flushed {start} {now} {all} {rest} {before} {written} {mid} {pending} {left} {re
 }
 
 -- the same for a line and a reply as the calls tell them
-pub takes : {start now next : State} {all lines : List (List ℕ)} {line : List ℕ} {rest : List (List ℕ)} {before written : Option (List ℕ)} {pending more : List ℕ} {refused bad : Bool} →
-    SoFar start all lines now before written pending refused → lines ≡ line ∷ rest → Takes now line pending more bad next → SoFar start all rest next before written more (refused || bad)
+pub takes : {start now next : State} {all lines : List (List ℕ)} {line : List ℕ} {rest : List (List ℕ)} {before written : Option (List ℕ)}
+    {pending more : List ℕ} {refused bad : Bool} →
+    SoFar start all lines now before written pending refused → lines ≡ line ∷ rest → Takes now line pending more bad next
+        → SoFar start all rest next before written more (refused || bad)
 takes {start} {now} {next} {all} {lines} {line} {rest} {before} {written} {pending} {more} {refused} {bad} far is taken =
-    goes_on {o = record { text = taken.0; after = next; refused = bad }} (subst (λ (ls : List (List ℕ)). SoFar start all ls now before written pending refused) is far) taken.2 taken.3 taken.1
+    goes_on {o = record { text = taken.0; after = next; refused = bad }} (subst (λ (ls : List (List ℕ)). SoFar start all ls now before
+        written pending refused) is far) taken.2 taken.3 taken.1
 
 pub empty_ordered : IsOrdered empty_project
 empty_ordered = record { rules = tt; features = tt; next = tt; entries = tt }
 
 -- all lines were answered, and what was pending is written
 pub ends : {now : State} {all lines : List (List ℕ)} {before written after : Option (List ℕ)} {pending bytes : List ℕ} {refused : Bool} →
-    SoFar empty_state all lines now before written pending refused → lines ≡ [] → bytes ≡ pending → Appends written after bytes → WritesRun empty_state all before after refused
+    SoFar empty_state all lines now before written pending refused → lines ≡ [] → bytes ≡ pending → Appends written after bytes
+        → WritesRun empty_state all before after refused
 ends {now} {all} {lines} {before} {written} {after} {pending} {bytes} {refused} far none same more =
     let run : Run empty_state all far.outcomes = rw (far.split, none, append-nil far.done) far.run in
     record {
       outcomes = far.outcomes;
       run = run;
-      written = rw far.text (Appends-trans before written after far.front pending far.appended (subst (λ (t : List ℕ). Appends written after t) same more));
+      written = rw far.text (Appends-trans before written after far.front pending far.appended
+          (subst (λ (t : List ℕ). Appends written after t) same more));
       any = far.any;
       invariant = far.invariant;
       keeping = run_keeps empty_state all far.outcomes empty_keeps empty_ordered run;
     }
 
 -- what was written so far is a prefix
-pub stops : {now : State} {all rest : List (List ℕ)} {before written : Option (List ℕ)} {pending : List ℕ} {refused : Bool} → SoFar empty_state all rest now before written pending refused → WritesPrefix empty_state all before written
+pub stops : {now : State} {all rest : List (List ℕ)} {before written : Option (List ℕ)} {pending : List ℕ} {refused : Bool}
+    → SoFar empty_state all rest now before written pending refused → WritesPrefix empty_state all before written
 stops {now} {all} {rest} {before} {written} {pending} {refused} far = record {
   first = far.done;
   is_first = (rest, far.split);
@@ -127,7 +143,8 @@ at_err (Err e) p = p
 
 -- a part of what is left was taken
 pub split_more : (all front rest : List ℕ) (n : ℕ) → all ≡ front ++ rest → all ≡ (front ++ take n rest) ++ drop n rest
-split_more all front rest n split = split ∙ (ap (λ t. front ++ t) (sym (take-append-drop n rest)) ∙ sym (append_assoc front (take n rest) (drop n rest)))
+split_more all front rest n split = split ∙ (ap (λ t. front ++ t) (sym (take-append-drop n rest))
+    ∙ sym (append_assoc front (take n rest) (drop n rest)))
 
 -- what a slice from an index on is
 pub rest_from : (xs : List ℕ) (n : ℕ) → take (length xs - n) (drop n xs) ≡ drop n xs

@@ -21,13 +21,16 @@ front_and_last : (xs : List ℕ) → 0 < length xs → xs ≡ take (length xs - 
 front_and_last xs some =
     let below : length xs - 1 < length xs = omega arith in
     let past : length xs ≤ suc (length xs - 1) = omega arith in
-    sym (take-append-drop (length xs - 1) xs) ∙ ap (λ t. take (length xs - 1) xs ++ t) (drop-cons xs (length xs - 1) 0 below ∙ ap (λ t. get_or xs (length xs - 1) 0 ∷ t) (drop_of_length-le xs past))
+    sym (take-append-drop (length xs - 1) xs) ∙ ap (λ t. take (length xs - 1) xs ++ t) (drop-cons xs (length xs - 1) 0 below
+        ∙ ap (λ t. get_or xs (length xs - 1) 0 ∷ t) (drop_of_length-le xs past))
 
 pub cr_is_cut : (line : List ℕ) → 0 < length line → get_or line (length line - 1) 0 ≡ 13 → take (length line - 1) line ≡ without_cr line
-cr_is_cut line some cr = sym (ap without_cr (front_and_last line some) ∙ without_cr_at (take (length line - 1) line) (get_or line (length line - 1) 0) cr)
+cr_is_cut line some cr = sym (ap without_cr (front_and_last line some) ∙ without_cr_at (take (length line - 1) line)
+    (get_or line (length line - 1) 0) cr)
 
 pub no_cr_is_cut : (line : List ℕ) → (0 < length line → get_or line (length line - 1) 0 ≢ 13) → line ≡ without_cr line
 no_cr_is_cut [] other = refl
-no_cr_is_cut (x ∷ xs) other = front_and_last (x ∷ xs) (omega arith) ∙ sym (ap without_cr (front_and_last (x ∷ xs) (omega arith)) ∙ without_cr_other (take (length (x ∷ xs) - 1) (x ∷ xs)) (get_or (x ∷ xs) (length (x ∷ xs) - 1) 0) (other (omega arith)))
+no_cr_is_cut (x ∷ xs) other = front_and_last (x ∷ xs) (omega arith) ∙ sym (ap without_cr (front_and_last (x ∷ xs) (omega arith))
+    ∙ without_cr_other (take (length (x ∷ xs) - 1) (x ∷ xs)) (get_or (x ∷ xs) (length (x ∷ xs) - 1) 0) (other (omega arith)))
 
 pub ruleset cuts = (cr_is_cut, no_cr_is_cut)

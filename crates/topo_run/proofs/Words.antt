@@ -3,7 +3,8 @@ use Rattle.std.proofs.Common.{ℕ, List, [], ◌∷◌, ◌≡◌, length, get_o
 use Rattle.std.specs.Prelude.{◌↔◌}
 
 -- one word, and what it is
-pub one_word : {X : Type 0} (f : X → List ℕ) (ws : List X) (w : X) (text : List ℕ) → length ws ≡ 1 → w ≡ get_or ws 0 w → (map f ws ≡ text ∷ []) ↔ (f w ≡ text)
+pub one_word : {X : Type 0} (f : X → List ℕ) (ws : List X) (w : X) (text : List ℕ) → length ws ≡ 1 → w ≡ get_or ws 0 w
+    → (map f ws ≡ text ∷ []) ↔ (f w ≡ text)
 one_word f [] w text one is = absurd (omega arith)
 one_word f (x ∷ []) w text one is = record { 0 = λ e. ap f is ∙ head_same e; 1 = λ e. ap (λ t. t ∷ []) (ap f (sym is) ∙ e) }
   where

@@ -9,7 +9,7 @@
 --                  proper, those of a polygon meet at ends alone, and a polygon has some
 --
 -- Each rule's sentence stands in a file of its own in `Rules/`. Source: the ArcGIS topology rules poster, read point by point (own).
-use Rattle.std.specs.Prelude.{◌≡◌, ◌≢◌, ℕ, Bool, true, false, ◌&&◌, ◌||◌, List, [], Some, IfSome}
+use Rattle.std.specs.Prelude.{◌≡◌, ◌≢◌, ℕ, Bool, ◌&&◌, ◌||◌, List, [], Some, IfSome}
 use Rattle.plane_terms.specs.Lists.{Every}
 use Rattle.plane_terms.specs.Point.{Point}
 use Rattle.plane_terms.specs.Segment.{IsSegment}

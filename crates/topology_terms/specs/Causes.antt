@@ -2,7 +2,8 @@
 --
 -- when b c, first_of cs    the cause where b is true; the first of a list that there is
 -- class_cause cs name      why a class of this name is not added: the name is taken; there are 64
--- add_cause cs next n k    why a feature of the class n and a shape of the kind k is not added: no such class; another kind; the next handle is the last
+-- add_cause cs next n k    why a feature of the class n and a shape of the kind k is not added: no such class; another kind; the next
+--                          handle is the last
 -- change_cause F h k       why the feature h does not get a shape of the kind k: no such feature; another kind
 -- delete_cause F h         why the feature h is not taken away: no such feature
 -- fit_cause cs row         why the classes do not serve the row: one is missing; they do not fit
@@ -51,7 +52,8 @@ abbrev pub class_cause : List Class → List ℕ → Option Cause
 class_cause cs name = first_of (when (is_some (number_from 1 cs name)) ClassTaken ∷ when (length cs == 64) ClassesFull ∷ [])
 
 abbrev pub add_cause : List Class → ℕ → ℕ → Kind → Option Cause
-add_cause cs next n k = first_of (when (is_none (kind_of_class cs n)) NoClass ∷ when (not (is_kind (kind_of_class cs n) k)) WrongKind ∷ when (next == 4294967295) HandlesSpent ∷ [])
+add_cause cs next n k = first_of (when (is_none (kind_of_class cs n)) NoClass ∷ when (not (is_kind (kind_of_class cs n) k)) WrongKind ∷ when
+    (next == 4294967295) HandlesSpent ∷ [])
 
 abbrev pub change_cause : List Feature → ℕ → Kind → Option Cause
 change_cause F h k = first_of (when (is_none (feature_at F h)) NoFeature ∷ when (not (is_kind (kind_at F h) k)) WrongKind ∷ [])

@@ -5,7 +5,7 @@
 -- IsAscendingBy by xs  each key comes before those behind it
 
 -- without by xs k      the list without the elements of this key, in its order
-use Rattle.std.specs.Prelude.{ℕ, ◌==◌, ◌<◌, Bool, not, List, [], ◌∷◌, Option, if◌then◌else◌}
+use Rattle.std.specs.Prelude.{ℕ, ◌==◌, ◌<◌, Bool, not, List, Option}
 use Rattle.std.specs.List.{find, filter}
 use Rattle.plane_terms.specs.Lists.{EveryPair}
 

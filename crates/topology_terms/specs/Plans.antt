@@ -1,6 +1,7 @@
 -- How the findings of each rule are cut.
 --
--- near A f F           the features of the side whose envelope meets the subject's, in the order of F; with the subject itself, where it is of the side
+-- near A f F           the features of the side whose envelope meets the subject's, in the order of F; with the subject itself, where it
+--                      is of the side
 -- near_after A f F     of those, the ones whose handle is above the subject's
 -- Around               whom a subject is judged with: the near of its own class that come after it, all the near of its own class, itself
 --                      included, the near of the second class, or, where subjects are of both classes, the near of the other one
@@ -104,7 +105,8 @@ abbrev pub area_left : Feature → List Feature → List Cell
 area_left f gs = uncovered (inside f) (map {A = Feature} outside gs)
 
 abbrev pub sides_left : Feature → List Feature → List Cell
-sides_left f gs = flat_map (λ (s : Segment). uncovered (on_segment s ∷ []) (flat_map (λ (g : Feature). out_of_segments s (sides g)) gs)) (sides f)
+sides_left f gs = flat_map (λ (s : Segment). uncovered (on_segment s ∷ []) (flat_map (λ (g : Feature). out_of_segments s (sides g)) gs))
+    (sides f)
 
 -- ---- gaps
 abbrev pub others : Feature → List Feature → List Feature

@@ -1,7 +1,8 @@
 -- The errors of one full validation from scratch.
 --
 -- unmarked e           the error without its mark
--- IsFromScratch M p es     es are, in order of keys and without marks, the errors of each live feature of p under each rule in force, as the
+-- IsFromScratch M p es     es are, in order of keys and without marks, the errors of each live feature of p under each rule in force, as
+--                          the
 --                      rules cut them, and no others; there is one such list at most
 --
 -- It names no dirt and no errors that were there before. Source: own.

@@ -37,7 +37,8 @@ CoverParts ss rs w = (p : Point) → Covers (envs_of ss) p ↔ (Covers rs p × R
 front_more : (rs : List Rectangle) (i : ℕ) (r : Rectangle) → i < length rs → r ≡ get_or rs i r → take (i + 1) rs ≡ take i rs ++ r ∷ []
 front_more rs i r l e = take_more rs i r l ∙ ap (λ y. take i rs ++ y ∷ []) (sym e)
 
-pub parts_more : (ss new : List Spot) (s : Spot) (rs : List Rectangle) (w r : Rectangle) (i : ℕ) → i < length rs → r ≡ get_or rs i r → ((p : Point) → RectHolds s.env p ↔ (RectHolds r p × RectHolds w p))
+pub parts_more : (ss new : List Spot) (s : Spot) (rs : List Rectangle) (w r : Rectangle) (i : ℕ) → i < length rs → r ≡ get_or rs i r
+    → ((p : Point) → RectHolds s.env p ↔ (RectHolds r p × RectHolds w p))
     → new ≡ ss ++ s ∷ [] → CoverParts ss (take i rs) w → CoverParts new (take (i + 1) rs) w
 parts_more ss new s rs w r i l e part grown was p =
     let mine = covers_last (envs_of ss) s.env p in
@@ -50,7 +51,8 @@ parts_more ss new s rs w r i l e part grown was p =
       (λ h. mine.1 (elim (theirs.0 h.0) [ inl k ↦ inl ((was p).1 (k, h.1)) | inr k ↦ inr ((part p).1 (k, h.1)) ])),
     )
 
-pub parts_same : (ss : List Spot) (rs : List Rectangle) (w r : Rectangle) (i : ℕ) → i < length rs → r ≡ get_or rs i r → ¬ (RectsMeet r w) → CoverParts ss (take i rs) w → CoverParts ss (take (i + 1) rs) w
+pub parts_same : (ss : List Spot) (rs : List Rectangle) (w r : Rectangle) (i : ℕ) → i < length rs → r ≡ get_or rs i r → ¬ (RectsMeet r w)
+    → CoverParts ss (take i rs) w → CoverParts ss (take (i + 1) rs) w
 parts_same ss rs w r i l e apart was p =
     let theirs = covers_last (take i rs) r p in
     rw (front_more rs i r l e) (
@@ -62,7 +64,8 @@ every_last : (A : List Rectangle) (m : Rectangle) → Every IsRectangle A → Is
 every_last [] m h k = (k, tt)
 every_last (a ∷ A) m h k = (h.0, every_last A m h.1 k)
 
-pub grid_more : (ss new : List Spot) (s : Spot) → new ≡ ss ++ s ∷ [] → Every IsRectangle (envs_of ss) → IsRectangle s.env → Every IsRectangle (envs_of new)
+pub grid_more : (ss new : List Spot) (s : Spot) → new ≡ ss ++ s ∷ [] → Every IsRectangle (envs_of ss) → IsRectangle s.env
+    → Every IsRectangle (envs_of new)
 grid_more ss new s grown h k = rw (grown, envs_last ss s) (every_last (envs_of ss) s.env h k)
 
 -- ---- in another order
@@ -75,7 +78,8 @@ covers_moved ss new p m =
 
 pub grid_moved : (ss new : List Spot) → IsPermutation ss new → Every IsRectangle (envs_of ss) → Every IsRectangle (envs_of new)
 grid_moved ss new m h =
-    recursion_from_All IsRectangle (envs_of new) (All-permutation IsRectangle (envs_of ss) (envs_of new) (IsPermutation-map (λ (s : Spot). s.env) ss new m) (All-from_recursion IsRectangle (envs_of ss) h))
+    recursion_from_All IsRectangle (envs_of new) (All-permutation IsRectangle (envs_of ss) (envs_of new)
+        (IsPermutation-map (λ (s : Spot). s.env) ss new m) (All-from_recursion IsRectangle (envs_of ss) h))
 
 -- ---- the question
 meets_back : (r s : Rectangle) → rects_meet r s ≡ rects_meet s r
@@ -85,22 +89,28 @@ any_env : (r : Rectangle) (ss : List Spot) → list_any (meets_spot r) ss ≡ li
 any_env r [] = refl
 any_env r (s ∷ ss) = rw (meets_back r s.env, any_env r ss) refl
 
-pub parts_met : (r : Rectangle) (ss : List Spot) (t : Bool) → Every IsRectangle (envs_of ss) → IsRectangle r → t ≡ list_any (meets_spot r) ss → IsTrue t ↔ MeetsDirt (envs_of ss) r
+pub parts_met : (r : Rectangle) (ss : List Spot) (t : Bool) → Every IsRectangle (envs_of ss) → IsRectangle r
+    → t ≡ list_any (meets_spot r) ss → IsTrue t ↔ MeetsDirt (envs_of ss) r
 parts_met r ss t h i e = meets_dirt (envs_of ss) r t h i (e ∙ any_env r ss)
 
-pub cover_moved : (ss new : List Spot) (rs : List Rectangle) (w : Rectangle) → IsPermutation ss new → CoverParts ss rs w → CoverParts new rs w
+pub cover_moved : (ss new : List Spot) (rs : List Rectangle) (w : Rectangle) → IsPermutation ss new → CoverParts ss rs w
+    → CoverParts new rs w
 cover_moved ss new rs w m h p = let same = covers_moved ss new p m in ((λ k. (h p).0 (same.1 k)), (λ k. same.0 ((h p).1 k)))
 
 -- ---- what meets the parts
-pub meets_parts : (parts d : List Rectangle) (w : Rectangle) → ((p : Point) → Covers parts p ↔ (Covers d p × RectHolds w p)) → (r : Rectangle) → MeetsDirt parts r ↔ MeetsPart d w r
+pub meets_parts : (parts d : List Rectangle) (w : Rectangle) → ((p : Point) → Covers parts p ↔ (Covers d p × RectHolds w p))
+    → (r : Rectangle) → MeetsDirt parts r ↔ MeetsPart d w r
 meets_parts parts d w h r = ((λ m. let y = (h m.0).0 m.1 in (m.0, y.0, y.1, m.2)), (λ m. (m.0, (h m.0).1 (m.1, m.2), m.3)))
 
 some_as : {X : Type 0} (P Q : X → Type 0) (xs : List X) → ((x : X) → P x → Q x) → SomeOf P xs → SomeOf Q xs
 some_as P Q [] e h = h
 some_as P Q (x ∷ xs) e h = elim h [ inl k ↦ inl (e x k) | inr k ↦ inr (some_as P Q xs e k) ]
 
-pub picked_as : {X : Type 0} (P Q : X → Type 0) (number : X → ℕ) (xs : List X) (before out : List ℕ) → ((x : X) → P x ↔ Q x) → ArePicked P number xs before out → ArePicked Q number xs before out
+pub picked_as : {X : Type 0} (P Q : X → Type 0) (number : X → ℕ) (xs : List X) (before out : List ℕ) → ((x : X) → P x ↔ Q x)
+    → ArePicked P number xs before out → ArePicked Q number xs before out
 picked_as {X} P Q number xs before out e h a = (
-  (λ k. elim ((h a).0 k) [ inl m ↦ inl m | inr m ↦ inr (some_as (λ (x : X). (number x ≡ a) × P x) (λ (x : X). (number x ≡ a) × Q x) xs (λ x y. (y.0, (e x).0 y.1)) m) ]),
-  (λ k. (h a).1 (elim k [ inl m ↦ inl m | inr m ↦ inr (some_as (λ (x : X). (number x ≡ a) × Q x) (λ (x : X). (number x ≡ a) × P x) xs (λ x y. (y.0, (e x).1 y.1)) m) ])),
+  (λ k. elim ((h a).0 k) [ inl m ↦ inl m | inr m ↦ inr (some_as (λ (x : X). (number x ≡ a) × P x) (λ (x : X). (number x ≡ a) × Q x) xs
+      (λ x y. (y.0, (e x).0 y.1)) m) ]),
+  (λ k. (h a).1 (elim k [ inl m ↦ inl m | inr m ↦ inr (some_as (λ (x : X). (number x ≡ a) × Q x) (λ (x : X). (number x ≡ a) × P x) xs
+      (λ x y. (y.0, (e x).1 y.1)) m) ])),
 )

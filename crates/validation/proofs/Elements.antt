@@ -25,7 +25,9 @@ all_before xs i x u l e = All-from_get_or (λ h. h < x) (take i xs) x (λ k m.
     subst (λ n. n < x) (sym (get_or-take i xs k x short)) (subst (λ n. get_or xs k x < n) (sym e) p))
 
 -- the features before one of an ascending list have lower handles
-pub every_before : (F : List Feature) (i : ℕ) (f : Feature) → IsAscending F → i < length F → f ≡ get_or F i f → Every (λ (g : Feature). g.handle < f.handle) (take i F)
+pub every_before : (F : List Feature) (i : ℕ) (f : Feature) → IsAscending F → i < length F → f ≡ get_or F i f
+    → Every (λ (g : Feature). g.handle < f.handle) (take i F)
 every_before [] i f u l e = absurd (omega arith)
 every_before (g ∷ F) zero f u l e = tt
-every_before (g ∷ F) (suc i) f u l e = (every_at (λ (x : Feature). g.handle < x.handle) F i f u.0 (omega arith) e, every_before F i f u.1 (omega arith) e)
+every_before (g ∷ F) (suc i) f u l e = (every_at (λ (x : Feature). g.handle < x.handle) F i f u.0 (omega arith) e, every_before F i f u.1
+    (omega arith) e)

@@ -18,22 +18,29 @@ use Rattle.validation_laws.proofs.Validating.{validated_by_parts}
 use Rattle.validation_laws.proofs.Counting.{live_those}
 use Rattle.validation.specs.Projects.{HasParts, with_parts}
 
-pub validated : (M : Meaning) (w : Rectangle) (p : Project) (rules : List InForce) (F : List Feature) (d new : List Rectangle) (es after fresh : List Entry) (selected : List ℕ)
+pub validated : (M : Meaning) (w : Rectangle) (p : Project) (rules : List InForce) (F : List Feature) (d new : List Rectangle)
+    (es after fresh : List Entry) (selected : List ℕ)
     → HasParts p rules F d es → AreAscending rules → IsRising selected → ((a : ℕ) → Contains selected a ↔ IsSelected p w a)
-    → IsJudging M F rules selected fresh → IsReplaced selected es fresh after → new ≡ cut_dirt d w → IsValidatedBy M w p (with_parts p new after)
+    → IsJudging M F rules selected fresh → IsReplaced selected es fresh after → new ≡ cut_dirt d w
+        → IsValidatedBy M w p (with_parts p new after)
 validated M w p rules F d new es after fresh selected h v u chosen judging replaced cut =
-    validated_by_parts M w p (with_parts p new after) selected fresh (rw h.rules v) u (record { classes = refl; rules = refl; features = refl; next = refl })
+    validated_by_parts M w p (with_parts p new after) selected fresh (rw h.rules v) u
+        (record { classes = refl; rules = refl; features = refl; next = refl })
     (record { chosen = chosen; judging = rw (h.features, h.rules) judging; replaced = rw h.entries replaced; dirt = rw h.dirt cut })
 
-pub selected_live : (w : Rectangle) (p : Project) (F : List Feature) (selected : List ℕ) → IsAscending F → IsRising selected → ((a : ℕ) → Contains selected a ↔ IsSelected p w a)
+pub selected_live : (w : Rectangle) (p : Project) (F : List Feature) (selected : List ℕ) → IsAscending F → IsRising selected
+    → ((a : ℕ) → Contains selected a ↔ IsSelected p w a)
     → IsThose (λ (f : Feature). IsSelected p w f.handle) F (live_of F selected)
 selected_live w p F selected u v chosen = live_those (λ a. IsSelected p w a) F selected u v chosen
 
 -- no more are judged than are selected
-pub judged_upto : (w : Rectangle) (p : Project) (rules : List InForce) (F : List Feature) (selected : List ℕ) (old done : ℕ) → IsAscending F → IsRising selected → ((a : ℕ) → Contains selected a ↔ IsSelected p w a)
-    → done ≤ raised old (judged_of rules (live_of F selected)) → (fs : List Feature) → IsThose (λ (f : Feature). IsSelected p w f.handle) F fs → done ≤ raised old (judged_of rules fs)
+pub judged_upto : (w : Rectangle) (p : Project) (rules : List InForce) (F : List Feature) (selected : List ℕ) (old done : ℕ) → IsAscending F
+    → IsRising selected → ((a : ℕ) → Contains selected a ↔ IsSelected p w a)
+    → done ≤ raised old (judged_of rules (live_of F selected)) → (fs : List Feature)
+        → IsThose (λ (f : Feature). IsSelected p w f.handle) F fs → done ≤ raised old (judged_of rules fs)
 judged_upto w p rules F selected old done u v chosen l fs those =
-    let one = those_one (λ (f : Feature). IsSelected p w f.handle) F (live_of F selected) fs (selected_live w p F selected u v chosen) those in
+    let one = those_one (λ (f : Feature). IsSelected p w f.handle) F (live_of F selected) fs (selected_live w p F selected u v chosen) those
+        in
     subst (λ gs. done ≤ raised old (judged_of rules gs)) one l
 
 pub le_of_eq : (m n : ℕ) → m ≡ n → m ≤ n

@@ -24,7 +24,8 @@ abbrev pub is_upto : ℤ → Spot → Bool
 is_upto x s = int_le s.env.x0 x
 
 further : (ss : List Spot) (i j : ℕ) (d : Spot) → RunsEast ss → i ≤ j → j < length ss → west (get_or ss i d) ≤ℤ west (get_or ss j d)
-further ss i j d s l h = no_less (west (get_or ss i d)) (west (get_or ss j d)) (sorted_far (λ x y. is_lt (int_cmp (west x) (west y))) (ranks_by int_cmp_total west) ss s i j d l h)
+further ss i j d s l h = no_less (west (get_or ss i d)) (west (get_or ss j d)) (sorted_far (λ x y. is_lt (int_cmp (west x) (west y)))
+    (ranks_by int_cmp_total west) ss s i j d l h)
 
 before_too : (a b x : ℤ) → a ≤ℤ b → int_lt b x ≡ true → int_lt a x ≡ true
 before_too a b x l t = grind (arith, ints)
@@ -36,7 +37,8 @@ pub before_parted : (x : ℤ) (ss : List Spot) → RunsEast ss → IsPartitioned
 before_parted x ss s i j d l h t = before_too (west (get_or ss i d)) (west (get_or ss j d)) x (further ss i j d s l h) t
 
 pub upto_parted : (x : ℤ) (ss : List Spot) (k : ℕ) → RunsEast ss → IsPartitionedBy (is_upto x) (drop k ss)
-upto_parted x ss k s = parted_rest (is_upto x) ss k (λ i j d l h t. upto_too (west (get_or ss i d)) (west (get_or ss j d)) x (further ss i j d s l h) t)
+upto_parted x ss k s = parted_rest (is_upto x) ss k (λ i j d l h t. upto_too (west (get_or ss i d)) (west (get_or ss j d)) x
+    (further ss i j d s l h) t)
 
 too_far_west : (r s : Rectangle) (w : ℤ) → s.x1 ≤ℤ (s.x0 +ℤ w) → int_lt s.x0 (r.x0 -ℤ w) ≡ true → rects_meet r s ≡ false
 too_far_west r s w l t = grind (arith, ints)
@@ -48,7 +50,8 @@ too_far_east r s t = grind (arith, ints)
 pub between : (r : Rectangle) (w least greatest : ℤ) (ss : List Spot) (i k : ℕ)
     → IsPartitionPoint (λ s. is_before least s ≡ true) (λ s. is_before least s ≡ false) ss i
     → IsPartitionPoint (λ s. is_upto greatest s ≡ true) (λ s. is_upto greatest s ≡ false) (drop i ss) k
-    → least ≡ r.x0 -ℤ w → greatest ≡ r.x1 → All (IsUpTo w) ss → i ≤ length ss → filter (meets_spot r) (take k (drop i ss)) ≡ filter (meets_spot r) ss
+    → least ≡ r.x0 -ℤ w → greatest ≡ r.x1 → All (IsUpTo w) ss → i ≤ length ss → filter (meets_spot r) (take k (drop i ss)) ≡ filter
+        (meets_spot r) ss
 between r w least greatest ss i k p q el eg n b =
     filter_front (meets_spot r) (drop i ss) k (λ j d l h. too_far_east r (get_or (drop i ss) j d).env (rw eg at (q.1 j d l h)))
     ∙ filter_back (meets_spot r) ss i b (λ j d l h. too_far_west r (get_or ss j d).env w (n j d (omega arith)) (rw el at (p.0 j d l h)))
@@ -57,7 +60,8 @@ between r w least greatest ss i k p q el eg n b =
 no_narrower : (a b v w : ℤ) → a ≤ℤ (b +ℤ v) → v ≤ℤ w → a ≤ℤ (b +ℤ w)
 no_narrower a b v w h l = omega (arith, ints)
 
-wider : (ss : List Spot) (i : ℕ) (s : Spot) (v w : ℤ) → i < length ss → s ≡ get_or ss i s → AllWithin (IsUpTo v) ss 0 i → v ≤ℤ w → IsUpTo w s → AllWithin (IsUpTo w) ss 0 (i + 1)
+wider : (ss : List Spot) (i : ℕ) (s : Spot) (v w : ℤ) → i < length ss → s ≡ get_or ss i s → AllWithin (IsUpTo v) ss 0 i → v ≤ℤ w
+    → IsUpTo w s → AllWithin (IsUpTo w) ss 0 (i + 1)
 wider ss i s v w l is h m u = λ k d low below. elim (cases_lt k i) [
   | inl q ↦ no_narrower (get_or ss k d).env.x1 (get_or ss k d).env.x0 v w (h k d low q) m
   | inr q ↦ let e : k ≡ i = omega arith in rw (e, get_or_default ss i d s l) (rw is at u)
@@ -76,7 +80,8 @@ pub record IsWidest (w : ℤ) (ss : List Spot) (i : ℕ) : Type 0 where
   pub least : pos 0 ≤ℤ w
   pub greatest : w ≤ℤ pos 8388608
 
-pub widest_more : (ss : List Spot) (i : ℕ) (s : Spot) (v d w : ℤ) → w ≡ cond (is_lt (int_cmp d v)) v d → i < length ss → s ≡ get_or ss i s → IsWidest v ss i → d ≡ s.env.x1 -ℤ s.env.x0 → d ≤ℤ pos 8388608 → IsWidest w ss (i + 1)
+pub widest_more : (ss : List Spot) (i : ℕ) (s : Spot) (v d w : ℤ) → w ≡ cond (is_lt (int_cmp d v)) v d → i < length ss → s ≡ get_or ss i s
+    → IsWidest v ss i → d ≡ s.env.x1 -ℤ s.env.x0 → d ≤ℤ pos 8388608 → IsWidest w ss (i + 1)
 widest_more ss i s v d w e l is h is_width short =
     let y = larger v d w (is_lt (int_cmp d v)) refl e in
     let up = y.1 in

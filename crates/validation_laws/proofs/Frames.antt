@@ -1,5 +1,5 @@
 -- Findings that are right have frames, and the frame of a list of cells is joined from those of its cells.
-use Rattle.std.proofs.Common.{◌≡◌, inl, inr, ℕ, ◌<◌, true, false, arith, List, [], ◌∷◌, ◌++◌, Some, ◌∙◌, refl}
+use Rattle.std.proofs.Common.{◌≡◌, inl, inr, ℕ, arith, List, [], ◌∷◌, ◌++◌, Some}
 use Rattle.std.proofs.lemmas.Int.{ints, clamps}
 use Rattle.plane_terms.specs.Lists.{Every}
 use Rattle.plane_terms.proofs.ListLemmas.{SomeOf-append_left, SomeOf-append_right}
@@ -16,19 +16,22 @@ use Rattle.validation_laws.specs.Framed.{IsFramable}
 use Rattle.validation_laws.proofs.Viewed.{in_envelope}
 
 -- ---- on the grid
-every_cell : (Q : Point → Type 0) (cs : List Cell) → ((p : Point) → InCells cs p → Q p) → Every (λ (c : Cell). (p : Point) → InCell c p → Q p) cs
+every_cell : (Q : Point → Type 0) (cs : List Cell) → ((p : Point) → InCells cs p → Q p)
+    → Every (λ (c : Cell). (p : Point) → InCell c p → Q p) cs
 every_cell Q [] h = tt
 every_cell Q (c ∷ cs) h = ((λ p k. h p (inl k)), every_cell Q cs (λ p k. h p (inr k)))
 
 pub framable : (M : Meaning) → Laws M → CutsRight M → (row : Row) (F : List Feature) (a : ℕ) (f : Feature) (xs : List Finding)
-    → IsAscending F → M.Fits row F → feature_at F a ≡ Some f → IsRectangle (env f) → M.IsCutting row F a xs → AreInOrder xs → Every IsFramable xs
+    → IsAscending F → M.Fits row F → feature_at F a ≡ Some f → IsRectangle (env f) → M.IsCutting row F a xs → AreInOrder xs
+        → Every IsFramable xs
 unfolding finding_at
 framable M L C row F a f xs u fits e r cut order =
     let right = C.right row F a f u fits e xs cut in
     each_found by_partner (numbers (λ (x : Finding). x.other)) IsFramable xs order (λ b x k. record {
       some = right.some b x k;
       points = right.have_points b x k;
-      on_grid = λ w. every_cell (λ p. RectHolds whole_grid p) x.cells (λ p c. within_Holds (env f) whole_grid r.on_grid p (in_envelope M L row F a b f p fits e ((right.points b x k w p).0 c)));
+      on_grid = λ w. every_cell (λ p. RectHolds whole_grid p) x.cells (λ p c. within_Holds (env f) whole_grid r.on_grid p
+          (in_envelope M L row F a b f p fits e ((right.points b x k w p).0 c)));
     })
 
 -- ---- frames
@@ -47,6 +50,8 @@ in_either (c ∷ cs) ds p h P f g = elim h [ inl k ↦ f (inl k) | inr k ↦ in_
 
 pub frame_joined : (r s : Rectangle) (cs ds : List Cell) → IsLeastFrame r cs → IsLeastFrame s ds → IsLeastFrame (join_of r s) (cs ++ ds)
 frame_joined r s cs ds h k = record {
-  holds = λ p c. in_either cs ds p c (RectHolds (join_of r s) p) (λ m. within_Holds r (join_of r s) (within_join_left r s) p (h.holds p m)) (λ m. within_Holds s (join_of r s) (within_join_right r s) p (k.holds p m));
-  least = λ t each. join_within r s t (h.least t (λ p c. each p (SomeOf-append_left (λ (c : Cell). InCell c p) cs ds c))) (k.least t (λ p c. each p (SomeOf-append_right (λ (c : Cell). InCell c p) cs ds c)));
+  holds = λ p c. in_either cs ds p c (RectHolds (join_of r s) p) (λ m. within_Holds r (join_of r s) (within_join_left r s) p (h.holds p m))
+      (λ m. within_Holds s (join_of r s) (within_join_right r s) p (k.holds p m));
+  least = λ t each. join_within r s t (h.least t (λ p c. each p (SomeOf-append_left (λ (c : Cell). InCell c p) cs ds c)))
+      (k.least t (λ p c. each p (SomeOf-append_right (λ (c : Cell). InCell c p) cs ds c)));
 }

@@ -1,5 +1,5 @@
 -- Ascending lists of handles, and which are among them.
-use Rattle.std.proofs.Common.{◌≡◌, ◌≢◌, ◌⊎◌, inl, inr, ℕ, ◌<◌, zero, suc, arith, List, [], ◌∷◌, sym, Contains, length, get_or}
+use Rattle.std.proofs.Common.{◌⊎◌, inl, inr, ℕ, ◌<◌, suc, arith, List, [], ◌∷◌, Contains, length, get_or}
 use Rattle.std.specs.List.Sorted.{IsStrictlyIncreasing}
 use Rattle.std.proofs.lemmas.List.Kept.{AllPairs-from_increasing}
 use Rattle.plane_terms.specs.Lists.{Every}
@@ -28,7 +28,8 @@ all_above a (n ∷ ns) h = (h 0 (omega arith), all_above a ns (λ k l. h (suc k)
 
 rising_pairs : (ns : List ℕ) → ((i j : ℕ) (d : ℕ) → i < j → j < length ns → get_or ns i d < get_or ns j d) → IsRising ns
 rising_pairs [] h = tt
-rising_pairs (n ∷ ns) h = (all_above n ns (λ k l. h 0 (suc k) 0 (omega arith) (omega arith)), rising_pairs ns (λ i j d l m. h (suc i) (suc j) d (omega arith) (omega arith)))
+rising_pairs (n ∷ ns) h = (all_above n ns (λ k l. h 0 (suc k) 0 (omega arith) (omega arith)), rising_pairs ns
+    (λ i j d l m. h (suc i) (suc j) d (omega arith) (omega arith)))
 
 pub rising : (ns : List ℕ) → IsStrictlyIncreasing ns → IsRising ns
 rising ns u = rising_pairs ns (AllPairs-from_increasing ns u)

@@ -12,11 +12,14 @@ use Rattle.validation_laws.proofs.Viewed.{view_cut, view_fits}
 pub part_dead : (M : Meaning) (F : List Feature) (r : ℕ) (row : Row) (a : ℕ) → feature_at F a ≡ None → IsSubjectPart M F r row a []
 part_dead M F r row a n = record { live = λ f e. absurd cc; dead = λ e. refl }
 
-pub part_idle : (M : Meaning) → ViewLaws M → (F : List Feature) (r : ℕ) (row : Row) (a : ℕ) (f : Feature) → feature_at F a ≡ Some f → judged row f ≡ false → IsSubjectPart M F r row a []
+pub part_idle : (M : Meaning) → ViewLaws M → (F : List Feature) (r : ℕ) (row : Row) (a : ℕ) (f : Feature) → feature_at F a ≡ Some f
+    → judged row f ≡ false → IsSubjectPart M F r row a []
 part_idle M W F r row a f e t = record { live = λ g k. ([], W.idle row F a f e t, tt, tt); dead = λ n. refl }
 
-pub part_judged : (M : Meaning) → Laws M → ViewLaws M → (F V : List Feature) (r : ℕ) (row : Row) (a : ℕ) (f : Feature) (xs : List Finding) (es : List Entry)
-    → IsAscending F → M.Fits row F → feature_at F a ≡ Some f → IsView F f V → M.IsCutting row V a xs → AreInOrder xs → Paired (IsNewEntry r a f) xs es → IsSubjectPart M F r row a es
+pub part_judged : (M : Meaning) → Laws M → ViewLaws M → (F V : List Feature) (r : ℕ) (row : Row) (a : ℕ) (f : Feature) (xs : List Finding)
+    (es : List Entry)
+    → IsAscending F → M.Fits row F → feature_at F a ≡ Some f → IsView F f V → M.IsCutting row V a xs → AreInOrder xs
+        → Paired (IsNewEntry r a f) xs es → IsSubjectPart M F r row a es
 part_judged M L W F V r row a f xs es u fits e v cut order h = record {
   live = λ g k.
       let same : f ≡ g = (let l = e in cc) in

@@ -8,13 +8,15 @@ use Rattle.topology_terms.specs.Changes.{KeepsMark}
 use Rattle.validation_laws.specs.Replaced.{AreRemarked}
 
 -- a mark does not matter
-pub alike_remarked : (f : Feature) (x : Option Finding) (old fresh new : Option Entry) → AreAlike f x fresh → AreRemarked old fresh new → AreAlike f x new
+pub alike_remarked : (f : Feature) (x : Option Finding) (old fresh new : Option Entry) → AreAlike f x fresh → AreRemarked old fresh new
+    → AreAlike f x new
 alike_remarked f None old None None h k = tt
 alike_remarked f None old None (Some n) h k = absurd k
 alike_remarked f None old (Some e) n h k = absurd h
 alike_remarked f (Some x) old None n h k = absurd h
 alike_remarked f (Some x) old (Some e) None h k = absurd k
-alike_remarked f (Some x) old (Some e) (Some n) h k = rw k.same (record { whole = h.whole; cells = h.cells; frame = h.frame; envelope = h.envelope })
+alike_remarked f (Some x) old (Some e) (Some n) h k = rw k.same (record { whole = h.whole; cells = h.cells; frame = h.frame; envelope =
+    h.envelope })
 
 -- where nothing came nothing is
 pub none_remarked : (old fresh new : Option Entry) → fresh ≡ None → AreRemarked old fresh new → new ≡ None

@@ -1,10 +1,9 @@
 -- The subjects that are picked along the features and along the entries are the selected ones.
-use Rattle.std.proofs.Common.{◌≡◌, ◌↔◌, ◌⊎◌, inl, inr, ℕ, ◌<◌, ◌+◌, Bool, true, false, List, [], ◌∷◌, ◌++◌, Some, refl, sym, ◌∙◌, ap, arith, subst, take, length, get_or, Contains}
-use Rattle.std.specs.Prelude.{if◌then◌else◌, IsTrue, ◌==◌}
+use Rattle.std.proofs.Common.{◌≡◌, ◌↔◌, inl, inr, ℕ, ◌<◌, ◌+◌, Bool, true, false, List, [], ◌∷◌, ◌++◌, Some, refl, sym, ◌∙◌, ap, subst, take, length, get_or, Contains}
+use Rattle.std.specs.Prelude.{if◌then◌else◌, IsTrue}
 use Rattle.std.proofs.lemmas.List.{take_more}
 use Rattle.plane_terms.specs.Lists.{SomeOf}
-use Rattle.plane_terms.specs.Point.{Point}
-use Rattle.plane_terms.specs.Rectangle.{Rectangle, RectHolds}
+use Rattle.plane_terms.specs.Rectangle.{Rectangle}
 use Rattle.plane_terms.specs.Dirt.{MeetsPart}
 use Rattle.topology_terms.specs.Feature.{Feature, feature_at, env}
 use Rattle.topology_terms.specs.Feature as features
@@ -32,8 +31,10 @@ pub picked_none : {X : Type 0} (P : X → Type 0) (number : X → ℕ) (out : Li
 picked_none P number out a = ((λ h. inl h), (λ h. elim h [ inl k ↦ k | inr k ↦ absurd k ]))
 
 -- one element more
-pub picked_more : {X : Type 0} (P : X → Type 0) (number : X → ℕ) (xs : List X) (i : ℕ) (x : X) (before out new : List ℕ) (t : Bool) (h : ℕ) → i < length xs → x ≡ get_or xs i x
-    → (IsTrue t ↔ P x) → h ≡ number x → ArePicked P number (take i xs) before out → new ≡ out ++ (if t then h ∷ [] else []) → ArePicked P number (take (i + 1) xs) before new
+pub picked_more : {X : Type 0} (P : X → Type 0) (number : X → ℕ) (xs : List X) (i : ℕ) (x : X) (before out new : List ℕ) (t : Bool) (h : ℕ)
+    → i < length xs → x ≡ get_or xs i x
+    → (IsTrue t ↔ P x) → h ≡ number x → ArePicked P number (take i xs) before out → new ≡ out ++ (if t then h ∷ [] else [])
+        → ArePicked P number (take (i + 1) xs) before new
 picked_more {X} P number xs i x before out new t h l e decides is was grown a =
     let more : take (i + 1) xs ≡ take i xs ++ x ∷ [] = take_more xs i x l ∙ ap (λ y. take i xs ++ y ∷ []) (sym e) in
     let Q : X → Type 0 = λ y. (number y ≡ a) × P y in
@@ -47,35 +48,42 @@ picked_more {X} P number xs i x before out new t h l e decides is was grown a =
         | inl k ↦ SomeOf-append_left (λ (n : ℕ). a ≡ n) out last (among a out ((was a).1 (inl k)))
         | inr k ↦ elim (SomeOf-either Q (take i xs) (x ∷ []) k) [
           | inl m ↦ SomeOf-append_left (λ (n : ℕ). a ≡ n) out last (among a out ((was a).1 (inr m)))
-          | inr m ↦ elim m [ inl y ↦ SomeOf-append_right (λ (n : ℕ). a ≡ n) out last (choice_in a h t (decides.1 y.1) (sym y.0 ∙ sym is)) | inr y ↦ absurd y ]
+          | inr m ↦ elim m [ inl y ↦ SomeOf-append_right (λ (n : ℕ). a ≡ n) out last (choice_in a h t (decides.1 y.1) (sym y.0 ∙ sym is)) |
+              inr y ↦ absurd y ]
         ]
       ])),
     )
 
 -- ---- in look-ups
-pub some_feature : (P : Feature → Type 0) (F : List Feature) (a : ℕ) → features.IsAscending F → SomeOf (λ (f : Feature). (f.handle ≡ a) × P f) F → (f : Feature) × (feature_at F a ≡ Some f) × P f
+pub some_feature : (P : Feature → Type 0) (F : List Feature) (a : ℕ) → features.IsAscending F
+    → SomeOf (λ (f : Feature). (f.handle ≡ a) × P f) F → (f : Feature) × (feature_at F a ≡ Some f) × P f
 unfolding feature_at
 some_feature P F a u h =
     let y = some_found features.by_handle handles (λ (f : Feature). (f.handle ≡ a) × P f) F u h in
     (y.0, subst (λ n. feature_at F n ≡ Some y.0) y.2.0 y.1, y.2.1)
 
-pub feature_some : (P : Feature → Type 0) (F : List Feature) (a : ℕ) (f : Feature) → feature_at F a ≡ Some f → P f → SomeOf (λ (f : Feature). (f.handle ≡ a) × P f) F
+pub feature_some : (P : Feature → Type 0) (F : List Feature) (a : ℕ) (f : Feature) → feature_at F a ≡ Some f → P f
+    → SomeOf (λ (f : Feature). (f.handle ≡ a) × P f) F
 unfolding feature_at
 feature_some P F a f e p = found_some features.by_handle handles (λ (f : Feature). (f.handle ≡ a) × P f) F a f e (handle_of F a f e, p)
 
-pub some_entry : (P : Entry → Type 0) (es : List Entry) (a : ℕ) → entries.IsAscending es → SomeOf (λ (e : Entry). (e.subject ≡ a) × P e) es → (r b : ℕ) × (e : Entry) × (entry_at es r a b ≡ Some e) × P e
+pub some_entry : (P : Entry → Type 0) (es : List Entry) (a : ℕ) → entries.IsAscending es → SomeOf (λ (e : Entry). (e.subject ≡ a) × P e) es
+    → (r b : ℕ) × (e : Entry) × (entry_at es r a b ≡ Some e) × P e
 unfolding entry_at
 some_entry P es a u h =
     let y = some_found entries.by_key keys (λ (e : Entry). (e.subject ≡ a) × P e) es u h in
     (y.0.rule, y.0.other, y.0, subst (λ n. entry_at es y.0.rule n y.0.other ≡ Some y.0) y.2.0 y.1, y.2.1)
 
-pub entry_some : (P : Entry → Type 0) (es : List Entry) (r a b : ℕ) (e : Entry) → entry_at es r a b ≡ Some e → P e → SomeOf (λ (e : Entry). (e.subject ≡ a) × P e) es
+pub entry_some : (P : Entry → Type 0) (es : List Entry) (r a b : ℕ) (e : Entry) → entry_at es r a b ≡ Some e → P e
+    → SomeOf (λ (e : Entry). (e.subject ≡ a) × P e) es
 unfolding entry_at
-entry_some P es r a b e k p = found_some entries.by_key keys (λ (e : Entry). (e.subject ≡ a) × P e) es (r, a, b) e k ((entry_key es r a b e k).1, p)
+entry_some P es r a b e k p = found_some entries.by_key keys (λ (e : Entry). (e.subject ≡ a) × P e) es (r, a, b) e k
+    ((entry_key es r a b e k).1, p)
 
 -- ---- selected
 -- the features whose envelope is picked, then the subjects of the entries whose frame is
-pub selected_picked : (p : Project) (w : Rectangle) (early selected : List ℕ) → features.IsAscending p.features → entries.IsAscending p.entries
+pub selected_picked : (p : Project) (w : Rectangle) (early selected : List ℕ) → features.IsAscending p.features
+    → entries.IsAscending p.entries
     → ArePicked (λ (f : Feature). MeetsPart p.dirt w (env f)) (λ (f : Feature). f.handle) p.features [] early
     → ArePicked (λ (e : Entry). MeetsPart p.dirt w e.frame) (λ (e : Entry). e.subject) p.entries early selected
     → (a : ℕ) → Contains selected a ↔ IsSelected p w a

@@ -26,20 +26,25 @@ none_in es r a b e = rw e refl
 
 -- the entries of a selected subject are those of the cuttings
 anew : (M : Meaning) (old new : Project) (selected : List ℕ) (fresh : List Entry) (a : ℕ)
-    → AreAscending old.rules → IsRising selected → IsJudging M old.features old.rules selected fresh → IsReplaced selected old.entries fresh new.entries
+    → AreAscending old.rules → IsRising selected → IsJudging M old.features old.rules selected fresh
+        → IsReplaced selected old.entries fresh new.entries
     → Contains selected a → IsCutAnew M old new a
 anew M old new selected fresh a v u j k c = record {
   live = λ f e r row q.
       let part = judging_part M old.features selected old.rules fresh r row a v u j q (among a selected c) in
       let l = part.1.live f e in
-      (l.0, l.1, λ b. alike_remarked f (finding_at l.0 b) (entry_at old.entries r a b) (entry_at fresh r a b) (entry_at new.entries r a b) (rw (part.2 b) (found_alike r a f l.0 part.0 l.3 b)) (k.came r a b c));
-  dead = λ e r b. none_remarked (entry_at old.entries r a b) (entry_at fresh r a b) (entry_at new.entries r a b) (gone e r b) (k.came r a b c);
-  idle = λ r q b. none_remarked (entry_at old.entries r a b) (entry_at fresh r a b) (entry_at new.entries r a b) (judging_idle M old.features selected old.rules fresh r a b j q) (k.came r a b c);
+      (l.0, l.1, λ b. alike_remarked f (finding_at l.0 b) (entry_at old.entries r a b) (entry_at fresh r a b) (entry_at new.entries r a b)
+          (rw (part.2 b) (found_alike r a f l.0 part.0 l.3 b)) (k.came r a b c));
+  dead = λ e r b. none_remarked (entry_at old.entries r a b) (entry_at fresh r a b) (entry_at new.entries r a b) (gone e r b)
+      (k.came r a b c);
+  idle = λ r q b. none_remarked (entry_at old.entries r a b) (entry_at fresh r a b) (entry_at new.entries r a b)
+      (judging_idle M old.features selected old.rules fresh r a b j q) (k.came r a b c);
 }
   where
     gone : feature_at old.features a ≡ None → (r b : ℕ) → entry_at fresh r a b ≡ None
     gone e r b = elim (there_or_not (rule_at old.rules r)) [
-      | inl q ↦ let part = judging_part M old.features selected old.rules fresh r q.0 a v u j q.1 (among a selected c) in part.2 b ∙ none_in part.0 r a b (part.1.dead e)
+      | inl q ↦ let part = judging_part M old.features selected old.rules fresh r q.0 a v u j q.1 (among a selected c) in part.2 b
+          ∙ none_in part.0 r a b (part.1.dead e)
       | inr n ↦ judging_idle M old.features selected old.rules fresh r a b j n
     ]
 
@@ -66,7 +71,8 @@ validated_by_parts M w old new selected fresh v u rest made = record {
   next = rest.next;
   dirt = made.dirt;
   each = λ a. elim (among_or_not a selected) [
-    | inl i ↦ let c = contains_among selected a i in inl ((made.chosen a).0 c, anew M old new selected fresh a v u made.judging made.replaced c)
+    | inl i ↦ let c = contains_among selected a i in inl ((made.chosen a).0 c, anew M old new selected fresh a v u made.judging
+        made.replaced c)
     | inr n ↦ inr ((λ x. n (among a selected ((made.chosen a).1 x))), λ r b. made.replaced.kept r a b (λ c. n (among a selected c)))
   ];
   marks = λ r a b e s k.
@@ -75,11 +81,14 @@ validated_by_parts M w old new selected fresh v u rest made = record {
 }
 
 -- ---- what it keeps
-pub parts_kept_valid : (M : Meaning) → CutsRight M → (w : Rectangle) (old new : Project) → IsValidatedBy M w old new → IsProject M old → IsAscending old.features → IsProject M new
+pub parts_kept_valid : (M : Meaning) → CutsRight M → (w : Rectangle) (old new : Project) → IsValidatedBy M w old new → IsProject M old
+    → IsAscending old.features → IsProject M new
 parts_kept_valid M C w old new i v u = validated_state M w old new v (validated_by_cut M C w old new v u i)
 
-pub parts_kept_sound : (M : Meaning) → Laws M → CutsRight M → (w : Rectangle) (old new : Project) → IsValidatedBy M w old new → IsProject M old → IsAscending old.features → IsSoundUnder M old → IsSoundUnder M new
+pub parts_kept_sound : (M : Meaning) → Laws M → CutsRight M → (w : Rectangle) (old new : Project) → IsValidatedBy M w old new
+    → IsProject M old → IsAscending old.features → IsSoundUnder M old → IsSoundUnder M new
 parts_kept_sound M L C w old new i v u s = validated_sound M L w old new v (validated_by_cut M C w old new v u i) s
 
-pub parts_kept_settled : (M : Meaning) → Laws M → CutsRight M → (w : Rectangle) (old new : Project) → IsValidatedBy M w old new → IsProject M old → IsAscending old.features → IsSettledUnder M old → IsSettledUnder M new
+pub parts_kept_settled : (M : Meaning) → Laws M → CutsRight M → (w : Rectangle) (old new : Project) → IsValidatedBy M w old new
+    → IsProject M old → IsAscending old.features → IsSettledUnder M old → IsSettledUnder M new
 parts_kept_settled M L C w old new i v u s = validated_settled M L C w old new v u i s

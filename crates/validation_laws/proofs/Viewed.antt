@@ -22,7 +22,8 @@ around F V f p v k = record { forth = λ h g e m. (v.forth h g e).0; back = λ h
 pub subject_seen : (F V : List Feature) (a : ℕ) (f : Feature) → feature_at F a ≡ Some f → IsView F f V → feature_at V a ≡ Some f
 subject_seen F V a f e v = let held = holds_corner (env f) (envelope_proper f.shape) in v.back a f e (corner (env f), held, held)
 
-pub in_envelope : (M : Meaning) → Laws M → (row : Row) (F : List Feature) (a b : ℕ) (f : Feature) (p : Point) → M.Fits row F → feature_at F a ≡ Some f → M.BrokenAt row F a b p → RectHolds (env f) p
+pub in_envelope : (M : Meaning) → Laws M → (row : Row) (F : List Feature) (a b : ℕ) (f : Feature) (p : Point) → M.Fits row F
+    → feature_at F a ≡ Some f → M.BrokenAt row F a b p → RectHolds (env f) p
 in_envelope M L row F a b f p u e k =
     let y = L.inside row F a b p u k in
     let same : y.0 ≡ f = (let l = y.1 in cc) in
@@ -32,7 +33,8 @@ in_envelope M L row F a b f p u e k =
 pub view_fits : (M : Meaning) → ViewLaws M → (row : Row) (F V : List Feature) (f : Feature) → IsView F f V → M.Fits row F → M.Fits row V
 view_fits M W row F V f v u = W.fits row F V v.ascending (λ h g e. (v.forth h g e).0) u
 
-module _ (M : Meaning) (L : Laws M) (row : Row) (F V : List Feature) (a : ℕ) (f : Feature) (u : M.Fits row F) (w : M.Fits row V) (e : feature_at F a ≡ Some f) (v : IsView F f V) where
+module _ (M : Meaning) (L : Laws M) (row : Row) (F V : List Feature) (a : ℕ) (f : Feature) (u : M.Fits row F) (w : M.Fits row V)
+    (e : feature_at F a ≡ Some f) (v : IsView F f V) where
   -- broken at the same points, with the same partners
   pub view_at : (b : ℕ) (p : Point) → M.BrokenAt row V a b p ↔ M.BrokenAt row F a b p
   view_at b p = (
@@ -56,7 +58,8 @@ module _ (M : Meaning) (L : Laws M) (row : Row) (F V : List Feature) (a : ℕ) (
 passes : (test : Feature → Bool) (o : Option Feature) (g : Feature) → o ≡ Some g → test g ≡ true → passing test o ≡ Some g
 passes test o g e t = rw (e, t) refl
 
-pub view_filtered : (F V : List Feature) (f : Feature) → IsAscending F → V ≡ filter (λ (g : Feature). rects_meet (env f) (env g)) F → IsView F f V
+pub view_filtered : (F V : List Feature) (f : Feature) → IsAscending F → V ≡ filter (λ (g : Feature). rects_meet (env f) (env g)) F
+    → IsView F f V
 view_filtered F V f u e =
     let test : Feature → Bool = λ (g : Feature). rects_meet (env f) (env g) in
     record {

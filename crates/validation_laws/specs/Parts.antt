@@ -4,7 +4,8 @@
 -- AreInOrder xs        each finding's partner is above those before
 -- IsJoined P xs ys     ys is one part for each element of xs, in their order, and P holds of the element and its part
 -- IsNewEntry r a f x e     e is the entry of the finding x, of the rule r and the subject a: of that key, and without a mark
--- IsSubjectPart M F r row a es     the new entries of a rule and a subject: one for each finding of the cutting, or none where the subject is not live
+-- IsSubjectPart M F r row a es     the new entries of a rule and a subject: one for each finding of the cutting, or none where the subject
+--                                  is not live
 -- IsRulePart M F selected rule es      those of a rule and of the selected subjects, in order of subjects
 -- IsJudging M F rules selected es      those of all rules, in order of rules
 -- live_of F selected   the live features among the selected handles
@@ -37,7 +38,8 @@ pub record IsNewEntry (r a : ℕ) (f : Feature) (x : Finding) (e : Entry) : Type
   pub found : IsEntryOf f x e
 
 pub record IsSubjectPart (M : Meaning) (F : List Feature) (r : ℕ) (row : Row) (a : ℕ) (es : List Entry) : Type 0 where
-  pub live : (f : Feature) → feature_at F a ≡ Some f → (xs : List Finding) × M.IsCutting row F a xs × AreInOrder xs × Paired (IsNewEntry r a f) xs es
+  pub live : (f : Feature) → feature_at F a ≡ Some f → (xs : List Finding) × M.IsCutting row F a xs × AreInOrder xs
+      × Paired (IsNewEntry r a f) xs es
   pub dead : feature_at F a ≡ None → es ≡ []
 
 abbrev pub IsRulePart : Meaning → List Feature → List ℕ → InForce → List Entry → Type 0

@@ -2,11 +2,13 @@
 --
 -- IsBegun front             some geometry's spelling begins with these tokens
 -- IsFront front             the same, where the end of the text may be among them
--- StopsAt text at front t   these tokens stand first and begin a spelling, the token t follows at the place `at`, and with it they begin none;
+-- StopsAt text at front t   these tokens stand first and begin a spelling, the token t follows at the place `at`, and with it they begin
+--                           none;
 --                           the place is the number of bytes before it, of the end the length of the text
 -- Wants front t             some spelling goes on with t behind these tokens
 -- IsCause front t c         why t does not fit there:
---     IsUnsupported         it is the first token and a word, or a Modifier in the place of an opening bracket, or a third number of a position
+--     IsUnsupported         it is the first token and a word, or a Modifier in the place of an opening bracket, or a third number of a
+--                           position
 --     IsOffGrid             a number is wanted, and it has a fraction
 --     IsOutOfReach          a number is wanted, and it is whole and beyond the reach
 --     IsSyntax              none of these

@@ -14,7 +14,7 @@
 -- IsWkt text g    the text spells this geometry, and nothing follows
 --
 -- Source: the well-known text of OGC 06-103r4, of which these five kinds are taken, without Z and M, and without EMPTY.
-use Rattle.std.specs.Prelude.{ℕ, ◌≡◌, List, [], ◌∷◌, ◌++◌}
+use Rattle.std.specs.Prelude.{ℕ, List, [], ◌∷◌, ◌++◌}
 use Rattle.std.specs.List.{AllByRecursion}
 use Rattle.plane_terms.specs.Point.{Place}
 use Rattle.wkt_terms.specs.Numerals.{Whole}

@@ -55,7 +55,8 @@ abbrev pub within_reach : Bool → ℕ → Number
 within_reach negative n = if nat_le n 4194304 then Whole (signed negative n) else OutOfReach
 
 abbrev pub number_in : Bool → List ℕ → List ℕ → Number
-number_in negative whole fraction = if has_form whole fraction then (if is_on_grid fraction then within_reach negative (value_of whole) else OffGrid) else NoNumber
+number_in negative whole fraction = if has_form whole fraction then (if is_on_grid fraction then within_reach negative (value_of whole) else
+    OffGrid) else NoNumber
 
 abbrev pub number_of : List ℕ → Number
 number_of text = number_in (is_negative text) (front_of is_digit (unsigned text)) (behind is_digit (unsigned text))

@@ -1,6 +1,7 @@
 -- Why a text is not read.
 --
--- IsWktFault text e      the first token that does not fit, its cause and its place; where the text spells a geometry, its first ring that is
+-- IsWktFault text e      the first token that does not fit, its cause and its place; where the text spells a geometry, its first ring that
+--                        is
 --                        not closed; where its rings are closed, the first fault of its shape. Want of memory may come at any time.
 use Rattle.std.specs.Prelude.{ℕ, ◌≡◌, List}
 use Rattle.plane_terms.specs.ShapeFaults.{IsFault}

@@ -162,7 +162,8 @@ line_again parts h =
 
 -- ---- a polygon
 
-polygons_shape : (parts : List (List (List Place))) → shape_in (of_polygons parts) ≡ shape_of kind.Polygon (map (λ part. map closed part) parts)
+polygons_shape : (parts : List (List (List Place))) → shape_in (of_polygons parts) ≡ shape_of kind.Polygon
+    (map (λ part. map closed part) parts)
 polygons_shape [] = refl
 polygons_shape (rings ∷ []) = refl
 polygons_shape (rings ∷ more ∷ parts) = refl

@@ -1,4 +1,5 @@
--- Cuttings of the rules on lines, on small maps, as an independent program cuts them: they fix the order and the form of the findings' cells.
+-- Cuttings of the rules on lines, on small maps, as an independent program cuts them: they fix the order and the form of the findings'
+-- cells.
 use Rattle.std.proofs.Common.{◌≡◌, pos, List, [], ◌∷◌, refl}
 use Rattle.plane_terms.specs.Shape.{envelope_of}
 use Rattle.plane_terms.specs.Decide.{has_point, parts_allow, pair_allows, parts_of, shadow_of, flat_by, with_bound, pair_by, is_above}
@@ -205,7 +206,8 @@ map_line_must_not_intersect_or_touch_interior_1 =
     ∷ at (minus 3) (minus 3) ∷ []) ∷ [])
     ∷ []
 
-line_must_not_intersect_or_touch_interior_1 : cut rule.LineMustNotIntersectOrTouchInterior 1 0 map_line_must_not_intersect_or_touch_interior_1 1
+line_must_not_intersect_or_touch_interior_1 : cut rule.LineMustNotIntersectOrTouchInterior 1 0
+    map_line_must_not_intersect_or_touch_interior_1 1
     ≡ found 2 ((zero (minus 3) (pos 0) (minus 9) ∷ at_least (pos 1) (pos 0) (pos 3) ∷ at_least (minus 1) (pos 0) (minus 3)
     ∷ at_least (pos 0) (pos 1) (pos 3) ∷ at_least (pos 0) (minus 1) (pos 0) ∷ zero (minus 4) (pos 0) (minus 12)
     ∷ at_least (pos 0) (minus 1) (pos 1) ∷ zero (pos 1) (pos 0) (pos 3) ∷ over (pos 0) (pos 1) (pos 3) ∷ []) ∷ []) ∷ []
@@ -220,7 +222,8 @@ map_line_must_not_intersect_or_touch_interior_2 =
     ∷ line 3 1 ((at (minus 1) (pos 0) ∷ at (pos 1) (minus 2) ∷ at (minus 1) (minus 3) ∷ []) ∷ [])
     ∷ []
 
-line_must_not_intersect_or_touch_interior_2 : cut rule.LineMustNotIntersectOrTouchInterior 1 0 map_line_must_not_intersect_or_touch_interior_2 1
+line_must_not_intersect_or_touch_interior_2 : cut rule.LineMustNotIntersectOrTouchInterior 1 0
+    map_line_must_not_intersect_or_touch_interior_2 1
     ≡ found 2 ((zero (pos 3) (pos 1) (pos 1) ∷ at_least (pos 1) (pos 0) (pos 1) ∷ at_least (minus 1) (pos 0) (pos 0)
     ∷ at_least (pos 0) (pos 1) (pos 1) ∷ at_least (pos 0) (minus 1) (pos 2) ∷ zero (minus 2) (pos 3) (minus 6)
     ∷ at_least (pos 1) (pos 0) (pos 3) ∷ at_least (pos 0) (pos 1) (pos 0) ∷ []) ∷ []) ∷ found 3 ((zero (pos 3) (pos 1) (pos 1)
@@ -238,7 +241,8 @@ map_line_must_not_intersect_or_touch_interior_3 =
     ∷ line 2 1 ((at (minus 1) (pos 2) ∷ at (pos 1) (minus 2) ∷ at (minus 1) (minus 1) ∷ []) ∷ [])
     ∷ []
 
-line_must_not_intersect_or_touch_interior_3 : cut rule.LineMustNotIntersectOrTouchInterior 1 0 map_line_must_not_intersect_or_touch_interior_3 1
+line_must_not_intersect_or_touch_interior_3 : cut rule.LineMustNotIntersectOrTouchInterior 1 0
+    map_line_must_not_intersect_or_touch_interior_3 1
     ≡ found 2 ((zero (pos 4) (pos 2) (pos 0) ∷ at_least (pos 1) (pos 0) (pos 1) ∷ at_least (minus 1) (pos 0) (pos 1)
     ∷ at_least (pos 0) (pos 1) (pos 2) ∷ at_least (pos 0) (minus 1) (pos 2) ∷ over (pos 1) (pos 0) (pos 1) ∷ [])
     ∷ (zero (pos 4) (pos 2) (pos 0) ∷ at_least (pos 1) (pos 0) (pos 1) ∷ at_least (minus 1) (pos 0) (pos 1)
@@ -257,7 +261,8 @@ map_line_must_not_intersect_or_touch_interior_4 =
     line 1 1 ((at (minus 2) (minus 1) ∷ at (minus 1) (pos 2) ∷ []) ∷ [])
     ∷ []
 
-line_must_not_intersect_or_touch_interior_4 : cut rule.LineMustNotIntersectOrTouchInterior 1 0 map_line_must_not_intersect_or_touch_interior_4 1
+line_must_not_intersect_or_touch_interior_4 : cut rule.LineMustNotIntersectOrTouchInterior 1 0
+    map_line_must_not_intersect_or_touch_interior_4 1
     ≡ []
 unfolding feature_at envelope_of has_point parts_allow pair_allows parts_of shadow_of flat_by with_bound pair_by is_above
 line_must_not_intersect_or_touch_interior_4 = refl

@@ -24,7 +24,8 @@ abbrev pub point : ℕ → ℕ → Place → Feature
 point h c q = record { handle = h; class = c; shape = point_shape q }
 
 abbrev pub line : ℕ → ℕ → List (List Place) → Feature
-line h c parts = record { handle = h; class = c; shape = record { kind = shapes.Line; parts = map (λ (part : List Place). part ∷ []) parts } }
+line h c parts = record { handle = h; class = c; shape = record { kind = shapes.Line; parts = map (λ (part : List Place). part ∷ []) parts }
+    }
 
 abbrev pub polygon : ℕ → ℕ → List (List (List Place)) → Feature
 polygon h c parts = record { handle = h; class = c; shape = record { kind = shapes.Polygon; parts = parts } }

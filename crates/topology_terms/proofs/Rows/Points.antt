@@ -1,4 +1,5 @@
--- Cuttings of the rules on points, on small maps, as an independent program cuts them: they fix the order and the form of the findings' cells.
+-- Cuttings of the rules on points, on small maps, as an independent program cuts them: they fix the order and the form of the findings'
+-- cells.
 use Rattle.std.proofs.Common.{◌≡◌, pos, List, [], ◌∷◌, refl}
 use Rattle.plane_terms.specs.Shape.{envelope_of}
 use Rattle.plane_terms.specs.Decide.{has_point, parts_allow, pair_allows, parts_of, shadow_of, flat_by, with_bound, pair_by, is_above}

@@ -1,4 +1,5 @@
--- Cuttings of the rules on polygons, on small maps, as an independent program cuts them: they fix the order and the form of the findings' cells.
+-- Cuttings of the rules on polygons, on small maps, as an independent program cuts them: they fix the order and the form of the findings'
+-- cells.
 use Rattle.std.proofs.Common.{◌≡◌, pos, List, [], ◌∷◌, refl}
 use Rattle.plane_terms.specs.Shape.{envelope_of}
 use Rattle.plane_terms.specs.Decide.{has_point, parts_allow, pair_allows, parts_of, shadow_of, flat_by, with_bound, pair_by, is_above}
@@ -258,7 +259,8 @@ map_polygon_must_be_covered_by_feature_class_of_1 =
     polygon 1 1 (((at (pos 1) (pos 1) ∷ at (pos 0) (pos 1) ∷ at (pos 0) (pos 2) ∷ at (pos 1) (pos 2) ∷ []) ∷ []) ∷ [])
     ∷ []
 
-polygon_must_be_covered_by_feature_class_of_1 : cut rule.PolygonMustBeCoveredByFeatureClassOf 1 2 map_polygon_must_be_covered_by_feature_class_of_1 1
+polygon_must_be_covered_by_feature_class_of_1 : cut rule.PolygonMustBeCoveredByFeatureClassOf 1 2
+    map_polygon_must_be_covered_by_feature_class_of_1 1
     ≡ found 0 ((over (pos 1) (pos 0) (pos 0) ∷ over (minus 1) (pos 0) (pos 1) ∷ over (pos 0) (pos 1) (minus 1)
     ∷ over (pos 0) (minus 1) (pos 2) ∷ []) ∷ []) ∷ []
 unfolding feature_at envelope_of has_point parts_allow pair_allows parts_of shadow_of flat_by with_bound pair_by is_above
@@ -271,7 +273,8 @@ map_polygon_must_be_covered_by_feature_class_of_2 =
     ∷ (at (minus 2) (pos 2) ∷ at (minus 2) (pos 1) ∷ at (minus 1) (pos 0) ∷ []) ∷ []) ∷ [])
     ∷ []
 
-polygon_must_be_covered_by_feature_class_of_2 : cut rule.PolygonMustBeCoveredByFeatureClassOf 1 2 map_polygon_must_be_covered_by_feature_class_of_2 1
+polygon_must_be_covered_by_feature_class_of_2 : cut rule.PolygonMustBeCoveredByFeatureClassOf 1 2
+    map_polygon_must_be_covered_by_feature_class_of_2 1
     ≡ found 0 ((over (pos 1) (pos 0) (pos 2) ∷ over (minus 1) (pos 0) (minus 1) ∷ over (pos 1) (pos 1) (pos 1)
     ∷ over (minus 2) (minus 1) (minus 2) ∷ []) ∷ (over (pos 1) (pos 0) (pos 1) ∷ over (minus 1) (pos 0) (pos 0)
     ∷ over (minus 1) (pos 3) (pos 5) ∷ over (minus 1) (minus 1) (minus 1) ∷ []) ∷ (zero (pos 1) (pos 0) (pos 0)
@@ -292,7 +295,8 @@ map_polygon_must_be_covered_by_feature_class_of_3 =
     ∷ polygon 4 1 (((at (minus 1) (minus 2) ∷ at (pos 2) (pos 2) ∷ at (pos 0) (pos 2) ∷ []) ∷ []) ∷ [])
     ∷ []
 
-polygon_must_be_covered_by_feature_class_of_3 : cut rule.PolygonMustBeCoveredByFeatureClassOf 1 2 map_polygon_must_be_covered_by_feature_class_of_3 2
+polygon_must_be_covered_by_feature_class_of_3 : cut rule.PolygonMustBeCoveredByFeatureClassOf 1 2
+    map_polygon_must_be_covered_by_feature_class_of_3 2
     ≡ found 0 ((over (pos 1) (pos 0) (pos 0) ∷ over (minus 1) (pos 0) (pos 2) ∷ over (pos 0) (pos 2) (pos 4)
     ∷ over (pos 0) (minus 2) (minus 2) ∷ over (minus 1) (pos 0) (pos 1) ∷ over (pos 1) (minus 1) (minus 2) ∷ [])
     ∷ (over (pos 1) (pos 0) (pos 0) ∷ over (minus 1) (pos 0) (pos 2) ∷ over (pos 0) (pos 2) (pos 4) ∷ over (pos 0) (minus 2) (minus 2)
@@ -310,7 +314,8 @@ map_polygon_must_be_covered_by_feature_class_of_4 =
     polygon 1 1 (((at (minus 1) (pos 1) ∷ at (pos 2) (pos 1) ∷ at (pos 2) (minus 1) ∷ at (minus 1) (minus 1) ∷ []) ∷ []) ∷ [])
     ∷ []
 
-polygon_must_be_covered_by_feature_class_of_4 : cut rule.PolygonMustBeCoveredByFeatureClassOf 1 2 map_polygon_must_be_covered_by_feature_class_of_4 1
+polygon_must_be_covered_by_feature_class_of_4 : cut rule.PolygonMustBeCoveredByFeatureClassOf 1 2
+    map_polygon_must_be_covered_by_feature_class_of_4 1
     ≡ found 0 ((over (pos 1) (pos 0) (pos 1) ∷ over (minus 1) (pos 0) (pos 2) ∷ over (pos 0) (pos 3) (pos 3)
     ∷ over (pos 0) (minus 3) (pos 3) ∷ []) ∷ []) ∷ []
 unfolding feature_at envelope_of has_point parts_allow pair_allows parts_of shadow_of flat_by with_bound pair_by is_above
@@ -460,7 +465,8 @@ map_polygon_area_boundary_must_be_covered_by_boundary_of_1 =
     polygon 1 1 (((at (pos 1) (pos 2) ∷ at (pos 1) (minus 2) ∷ at (pos 0) (pos 0) ∷ []) ∷ []) ∷ [])
     ∷ []
 
-polygon_area_boundary_must_be_covered_by_boundary_of_1 : cut rule.PolygonAreaBoundaryMustBeCoveredByBoundaryOf 1 2 map_polygon_area_boundary_must_be_covered_by_boundary_of_1 1
+polygon_area_boundary_must_be_covered_by_boundary_of_1 : cut rule.PolygonAreaBoundaryMustBeCoveredByBoundaryOf 1 2
+    map_polygon_area_boundary_must_be_covered_by_boundary_of_1 1
     ≡ found 0 ((zero (minus 4) (pos 0) (pos 4) ∷ at_least (pos 1) (pos 0) (minus 1) ∷ at_least (minus 1) (pos 0) (pos 1)
     ∷ at_least (pos 0) (pos 1) (pos 2) ∷ at_least (pos 0) (minus 1) (pos 2) ∷ []) ∷ (zero (pos 2) (pos 1) (pos 0)
     ∷ at_least (pos 1) (pos 0) (pos 0) ∷ at_least (minus 1) (pos 0) (pos 1) ∷ at_least (pos 0) (pos 1) (pos 2)
@@ -479,7 +485,8 @@ map_polygon_area_boundary_must_be_covered_by_boundary_of_2 =
     ∷ polygon 3 2 (((at (pos 0) (pos 0) ∷ at (pos 0) (minus 2) ∷ at (pos 1) (pos 0) ∷ []) ∷ []) ∷ [])
     ∷ []
 
-polygon_area_boundary_must_be_covered_by_boundary_of_2 : cut rule.PolygonAreaBoundaryMustBeCoveredByBoundaryOf 1 2 map_polygon_area_boundary_must_be_covered_by_boundary_of_2 2
+polygon_area_boundary_must_be_covered_by_boundary_of_2 : cut rule.PolygonAreaBoundaryMustBeCoveredByBoundaryOf 1 2
+    map_polygon_area_boundary_must_be_covered_by_boundary_of_2 2
     ≡ found 0 ((zero (pos 0) (pos 4) (minus 8) ∷ at_least (pos 1) (pos 0) (pos 2) ∷ at_least (minus 1) (pos 0) (pos 2)
     ∷ at_least (pos 0) (pos 1) (minus 2) ∷ at_least (pos 0) (minus 1) (pos 2) ∷ []) ∷ (zero (minus 4) (pos 0) (pos 8)
     ∷ at_least (pos 1) (pos 0) (minus 2) ∷ at_least (minus 1) (pos 0) (pos 2) ∷ at_least (pos 0) (pos 1) (pos 2)
@@ -499,7 +506,8 @@ map_polygon_area_boundary_must_be_covered_by_boundary_of_3 =
     polygon 1 1 (((at (minus 2) (pos 2) ∷ at (pos 0) (pos 2) ∷ at (pos 0) (pos 0) ∷ at (minus 2) (pos 0) ∷ []) ∷ []) ∷ [])
     ∷ []
 
-polygon_area_boundary_must_be_covered_by_boundary_of_3 : cut rule.PolygonAreaBoundaryMustBeCoveredByBoundaryOf 1 2 map_polygon_area_boundary_must_be_covered_by_boundary_of_3 1
+polygon_area_boundary_must_be_covered_by_boundary_of_3 : cut rule.PolygonAreaBoundaryMustBeCoveredByBoundaryOf 1 2
+    map_polygon_area_boundary_must_be_covered_by_boundary_of_3 1
     ≡ found 0 ((zero (pos 0) (pos 2) (minus 4) ∷ at_least (pos 1) (pos 0) (pos 2) ∷ at_least (minus 1) (pos 0) (pos 0)
     ∷ at_least (pos 0) (pos 1) (minus 2) ∷ at_least (pos 0) (minus 1) (pos 2) ∷ []) ∷ (zero (minus 2) (pos 0) (pos 0)
     ∷ at_least (pos 1) (pos 0) (pos 0) ∷ at_least (minus 1) (pos 0) (pos 0) ∷ at_least (pos 0) (pos 1) (pos 0)
@@ -517,7 +525,8 @@ map_polygon_area_boundary_must_be_covered_by_boundary_of_4 =
     ∷ polygon 2 2 (((at (pos 1) (minus 1) ∷ at (minus 2) (minus 1) ∷ at (minus 2) (pos 2) ∷ at (pos 1) (pos 2) ∷ []) ∷ []) ∷ [])
     ∷ []
 
-polygon_area_boundary_must_be_covered_by_boundary_of_4 : cut rule.PolygonAreaBoundaryMustBeCoveredByBoundaryOf 1 2 map_polygon_area_boundary_must_be_covered_by_boundary_of_4 1
+polygon_area_boundary_must_be_covered_by_boundary_of_4 : cut rule.PolygonAreaBoundaryMustBeCoveredByBoundaryOf 1 2
+    map_polygon_area_boundary_must_be_covered_by_boundary_of_4 1
     ≡ found 0 ((zero (minus 2) (pos 0) (minus 2) ∷ at_least (pos 1) (pos 0) (pos 1) ∷ at_least (minus 1) (pos 0) (minus 1)
     ∷ at_least (pos 0) (pos 1) (pos 1) ∷ at_least (pos 0) (minus 1) (pos 1) ∷ over (pos 0) (pos 3) (pos 3) ∷ [])
     ∷ (zero (pos 0) (pos 2) (minus 2) ∷ at_least (pos 1) (pos 0) (pos 1) ∷ at_least (minus 1) (pos 0) (pos 1)

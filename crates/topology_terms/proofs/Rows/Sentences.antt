@@ -58,7 +58,8 @@ cut_3_4 = (well 1 (pos 3) (pos 4), refl, refl)
 
 -- ---- two squares that overlap
 abbrev lot : ℕ → ℤ → ℤ → Feature
-lot h a b = record { handle = h; class = 1; shape = record { kind = shapes.Polygon; parts = ((at a a ∷ at b a ∷ at b b ∷ at a b ∷ []) ∷ []) ∷ [] } }
+lot h a b = record { handle = h; class = 1; shape = record { kind = shapes.Polygon; parts =
+    ((at a a ∷ at b a ∷ at b b ∷ at a b ∷ []) ∷ []) ∷ [] } }
 
 abbrev lot_1 : Feature
 lot_1 = lot 1 (pos 0) (pos 10)
@@ -110,7 +111,8 @@ at_7_7 = record {
 
 -- at the first one's border it is not broken
 on_border : OnBoundary (sides lot_1) (point (pos 10) (pos 7))
-on_border = inr (inl (record { straight = refl; across = inl (omega (arith, ints), omega (arith, ints)); along = inl (omega (arith, ints), omega (arith, ints)) }))
+on_border = inr (inl (record { straight = refl; across = inl (omega (arith, ints), omega (arith, ints)); along =
+    inl (omega (arith, ints), omega (arith, ints)) }))
 
 not_at_10_7 : ¬ (BrokenAt overlap lots 1 2 (point (pos 10) (pos 7)))
 unfolding BrokenAt feature_at
@@ -145,7 +147,8 @@ cut_unjudged = (lot_1, refl, refl)
 
 -- ---- why the laws want features that fit: over a line an odd number of its segments runs below, so far above its envelope is 'inside'
 abbrev road : Feature
-road = record { handle = 1; class = 1; shape = record { kind = shapes.Line; parts = ((at (pos 0) (pos 0) ∷ at (pos 10) (pos 0) ∷ []) ∷ []) ∷ [] } }
+road = record { handle = 1; class = 1; shape = record { kind = shapes.Line; parts =
+    ((at (pos 0) (pos 0) ∷ at (pos 10) (pos 0) ∷ []) ∷ []) ∷ [] } }
 
 above_road : IsInside (sides road) (point (pos 5) (pos 100))
 above_road = record { clear = λ h. elim h [ inl o ↦ omega (arith, ints, o.straight) | inr h ↦ h ]; odd = refl }

@@ -10,10 +10,12 @@ own_subject k e h = ap (λ (j : Key). j.subject) h
 
 pub returns-then-not-has-clause-merges : goal.returns-then-not-has-clause-merges
 returns-then-not-has-clause-merges c = λ old0 fresh0 fresh o m.
-    rw c.push_reserved.ensures.items (puts_old c.args.selected.now old0 fresh0 c.args.out.now.items c.args.old.now.items c.pop_front.new.self.items fresh c.in-Some.e c.in-Some.ensures.items o
+    rw c.push_reserved.ensures.items (puts_old c.args.selected.now old0 fresh0 c.args.out.now.items c.args.old.now.items
+        c.pop_front.new.self.items fresh c.in-Some.e c.in-Some.ensures.items o
     (λ k. let t = c.has.ensures.1 (rw (own_subject c.key.result c.in-Some.e c.key.ensures) k) in cc) m)
 
 pub returns-else-not-has-clause-merges : goal.returns-else-not-has-clause-merges
 returns-else-not-has-clause-merges c = λ old0 fresh0 fresh o m.
-    drops_old c.args.selected.now old0 fresh0 c.args.out.now.items c.args.old.now.items c.pop_front.new.self.items fresh c.in-Some.e c.in-Some.ensures.items o
+    drops_old c.args.selected.now old0 fresh0 c.args.out.now.items c.args.old.now.items c.pop_front.new.self.items fresh c.in-Some.e
+        c.in-Some.ensures.items o
     (rw (own_subject c.key.result c.in-Some.e c.key.ensures) at (c.has.ensures.0 cc)) m

@@ -9,4 +9,6 @@ returns c =
     let t = c.args.handle in
     let F = c.args.features.now in
     let i = c.partition_point.result in
-    placed t F i c.partition_point.ensures.bound (IsPartitionPoint-from_clause (λ (f : Feature). ltb f.handle t) F i c.partition_point.ensures.partitioned (IsPartitionedBy-ltb (λ (f : Feature). f.handle) F t (rising F c.requires)) (λ a r f k. search rules))
+    placed t F i c.partition_point.ensures.bound (IsPartitionPoint-from_clause (λ (f : Feature). ltb f.handle t) F i
+        c.partition_point.ensures.partitioned (IsPartitionedBy-ltb (λ (f : Feature). f.handle) F t (rising F c.requires))
+        (λ a r f k. search rules))

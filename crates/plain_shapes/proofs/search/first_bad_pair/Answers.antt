@@ -4,7 +4,8 @@ use Rattle.plane_terms.specs.ShapeFaults.{AreBad, IsPair, IsFirstPair}
 use Rattle.shape.proofs.Best.{get_below}
 use Rattle.plain_shapes.proofs.search.first_bad_pair.Goals as goal
 
-first_so : (ss : List Segment) (i j : ℕ) → ((a b : ℕ) → a < i → ¬ (IsPair AreBad ss a b)) → IsPair AreBad ss i j → ((b : ℕ) → b < j → ¬ (IsPair AreBad ss i b)) → IsFirstPair AreBad ss i j
+first_so : (ss : List Segment) (i j : ℕ) → ((a b : ℕ) → a < i → ¬ (IsPair AreBad ss a b)) → IsPair AreBad ss i j
+    → ((b : ℕ) → b < j → ¬ (IsPair AreBad ss i b)) → IsFirstPair AreBad ss i j
 first_so ss i j f p g =
     record {
       pair = p;
@@ -14,12 +15,15 @@ first_so ss i j f p g =
 lower_or_same : (a i : ℕ) → a < i + 1 → (a < i) ⊎ (a ≡ i)
 lower_or_same a zero h = inr (omega (arith, h))
 lower_or_same zero (suc i) h = inl (omega arith)
-lower_or_same (suc a) (suc i) h = elim (lower_or_same a i (omega (arith, h))) [ inl l ↦ inl (omega (arith, l)) | inr e ↦ inr (omega (arith, e)) ]
+lower_or_same (suc a) (suc i) h = elim (lower_or_same a i (omega (arith, h))) [ inl l ↦ inl (omega (arith, l)) | inr e ↦ inr
+    (omega (arith, e)) ]
 
-none_more : (ss : List Segment) (i : ℕ) → ((a b : ℕ) → a < i → ¬ (IsPair AreBad ss a b)) → ((b : ℕ) → ¬ (IsPair AreBad ss i b)) → (a b : ℕ) → a < i + 1 → ¬ (IsPair AreBad ss a b)
+none_more : (ss : List Segment) (i : ℕ) → ((a b : ℕ) → a < i → ¬ (IsPair AreBad ss a b)) → ((b : ℕ) → ¬ (IsPair AreBad ss i b)) → (a b : ℕ)
+    → a < i + 1 → ¬ (IsPair AreBad ss a b)
 none_more ss i f g a b h q = elim (lower_or_same a i h) [ inl l ↦ f a b l q | inr e ↦ g b (subst (λ (n : ℕ). IsPair AreBad ss n b) e q) ]
 
-none_at_all : (ss : List Segment) (i : ℕ) → ((a b : ℕ) → a < i → ¬ (IsPair AreBad ss a b)) → length ss ≤ i → (a b : ℕ) → ¬ (IsPair AreBad ss a b)
+none_at_all : (ss : List Segment) (i : ℕ) → ((a b : ℕ) → a < i → ¬ (IsPair AreBad ss a b)) → length ss ≤ i → (a b : ℕ)
+    → ¬ (IsPair AreBad ss a b)
 none_at_all ss i f l a b q = f a b (omega (arith, l, get_below ss a q.s q.first)) q
 
 pub returns-in-Some : goal.returns-in-Some

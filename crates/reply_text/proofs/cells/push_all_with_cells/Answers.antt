@@ -5,4 +5,5 @@ use Rattle.reply_text.proofs.Listings.{said_more}
 use Rattle.reply_text.proofs.cells.push_all_with_cells.Goals as goal
 
 pub loop-entry-preserved : goal.loop-entry-preserved
-loop-entry-preserved c = said_more entry_lines _ _ _ _ _ _ (slice_get_read _ _ _ _ refl c.loop-entry-test.true c.entry-item.is) c.loop-entry.invariant c.in_ok-push_with_cells.ensures
+loop-entry-preserved c = said_more entry_lines _ _ _ _ _ _ (slice_get_read _ _ _ _ refl c.loop-entry-test.true c.entry-item.is)
+    c.loop-entry.invariant c.in_ok-push_with_cells.ensures

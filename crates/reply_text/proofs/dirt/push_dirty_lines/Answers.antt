@@ -5,4 +5,5 @@ use Rattle.reply_text.proofs.Listings.{said_more}
 use Rattle.reply_text.proofs.dirt.push_dirty_lines.Goals as goal
 
 pub loop-r-preserved : goal.loop-r-preserved
-loop-r-preserved c = said_more dirty_line _ _ _ _ _ _ (slice_get_read _ _ _ _ refl c.loop-r-test.true c.r-item.is) c.loop-r.invariant c.in_ok-push_dirty_line.ensures
+loop-r-preserved c = said_more dirty_line _ _ _ _ _ _ (slice_get_read _ _ _ _ refl c.loop-r-test.true c.r-item.is) c.loop-r.invariant
+    c.in_ok-push_dirty_line.ensures

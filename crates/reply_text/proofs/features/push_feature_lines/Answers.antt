@@ -5,4 +5,5 @@ use Rattle.reply_text.proofs.Listings.{said_more}
 use Rattle.reply_text.proofs.features.push_feature_lines.Goals as goal
 
 pub loop-feature-preserved : goal.loop-feature-preserved
-loop-feature-preserved c = said_more (feature_line c.args.store.now.classes) _ _ _ _ _ _ (slice_get_read _ _ _ _ refl c.loop-feature-test.true c.feature-item.is) c.loop-feature.invariant c.in_ok-push_feature_line.ensures
+loop-feature-preserved c = said_more (feature_line c.args.store.now.classes) _ _ _ _ _ _
+    (slice_get_read _ _ _ _ refl c.loop-feature-test.true c.feature-item.is) c.loop-feature.invariant c.in_ok-push_feature_line.ensures

@@ -4,4 +4,5 @@ use Rattle.wkt_text.proofs.Pushing.{as_number}
 use Rattle.reply_text.proofs.numbers.push_rect.Goals as goal
 
 pub returns : goal.returns
-returns c = grind (arith, common_steps, as_number _ _ c.x0.ensures.bound c.x0.ensures.value, as_number _ _ c.y0.ensures.bound c.y0.ensures.value, as_number _ _ c.x1.ensures.bound c.x1.ensures.value, as_number _ _ c.y1.ensures.bound c.y1.ensures.value)
+returns c = grind (arith, common_steps, as_number _ _ c.x0.ensures.bound c.x0.ensures.value, as_number _ _ c.y0.ensures.bound
+    c.y0.ensures.value, as_number _ _ c.x1.ensures.bound c.x1.ensures.value, as_number _ _ c.y1.ensures.bound c.y1.ensures.value)

@@ -1,4 +1,4 @@
-use Rattle.std.proofs.Common.{◌≡◌, true, false, sym, ◌∙◌, ap, refl, append-nil, vec_len}
+use Rattle.std.proofs.Common.{◌≡◌, true, false, sym, ◌∙◌, ap, refl, append-nil}
 use Rattle.plane_terms.specs.Shape.{ends_of}
 use Rattle.topology_terms.specs.Tests.{has_end_at}
 use Rattle.rule_loops.proofs.Once.{once_next}

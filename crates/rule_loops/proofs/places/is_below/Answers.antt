@@ -1,4 +1,4 @@
-use Rattle.std.proofs.Common.{◌≡◌, ◌≤ℤ◌, ◌<ℤ◌, pos, arith, sym, ap, ◌∙◌, to_z, of_z, w8}
+use Rattle.std.proofs.Common.{◌≡◌, pos, arith, sym, ap, ◌∙◌, to_z, of_z, w8}
 use Rattle.std.specs.Prelude.{int_lt}
 use Rattle.std.proofs.lemmas.Int.{ints}
 use Rattle.std.proofs.lemmas.Bool.{false≢true}

@@ -5,7 +5,8 @@ use Rattle.topo_run.proofs.replay.answer_all.Goals as goal
 
 pub loop-line-init : goal.loop-line-init
 loop-line-init g c = record {
-  far = rw (c.new-world.ensures, c.new-gathered.ensures.items) (begins empty_state _ _ (rw c.new-world.ensures at c.headline_law.ensures.invariant));
+  far = rw (c.new-world.ensures, c.new-gathered.ensures.items) (begins empty_state _ _
+      (rw c.new-world.ensures at c.headline_law.ensures.invariant));
   later = omega arith;
 }
 
@@ -15,18 +16,21 @@ returns-in_err-bad-clause-err g c = at_err c.from_residual.result (stops c.loop-
 pub returns-in_err-write_if_many-clause-err : goal.returns-in_err-write_if_many-clause-err
 returns-in_err-write_if_many-clause-err g c =
     let part = c.in_err-write_if_many.ensures.err in
-    at_err c.from_residual-in_err-write_if_many.result (stops (flushed part.0 (takes c.loop-line.invariant.far c.in-Some.ensures.0 c.in_ok-bad.ensures) part.1.1 part.2))
+    at_err c.from_residual-in_err-write_if_many.result
+        (stops (flushed part.0 (takes c.loop-line.invariant.far c.in-Some.ensures.0 c.in_ok-bad.ensures) part.1.1 part.2))
 
 pub loop-line-preserved : goal.loop-line-preserved
 loop-line-preserved g c = record {
-  far = rw c.either-refused.ensures (flushed c.in_ok-write_if_many.ensures.ok.0 (takes c.loop-line.invariant.far c.in-Some.ensures.0 c.in_ok-bad.ensures) c.in_ok-write_if_many.ensures.ok.1 c.in_ok-write_if_many.ensures.ok.2);
+  far = rw c.either-refused.ensures (flushed c.in_ok-write_if_many.ensures.ok.0 (takes c.loop-line.invariant.far c.in-Some.ensures.0
+      c.in_ok-bad.ensures) c.in_ok-write_if_many.ensures.ok.1 c.in_ok-write_if_many.ensures.ok.2);
   later = search rules;
 }
 
 pub returns-in_err-write_all-clause-err : goal.returns-in_err-write_all-clause-err
 returns-in_err-write_all-clause-err g c =
     let part = c.in_err-write_all.ensures.err in
-    at_err c.from_residual-in_err-write_all.result (stops (flushed part.0 c.loop-line.invariant.far (sym c.deref.ensures.value ∙ part.1.1) part.2))
+    at_err c.from_residual-in_err-write_all.result (stops (flushed part.0 c.loop-line.invariant.far (sym c.deref.ensures.value ∙ part.1.1)
+        part.2))
 
 pub returns-clause-ok : goal.returns-clause-ok
 returns-clause-ok g c = ends c.loop-line.invariant.far c.in_default.ensures c.deref.ensures.value c.in_ok-write_all.ensures.ok

@@ -6,7 +6,8 @@ use Rattle.topo_run.proofs.replay.answer_all.Given as goal
 
 abbrev pub invariant-loop-line : goal.invariant-loop-line
 invariant-loop-line g l = record {
-  far : SoFar empty_state (lines_of l.whole l.initial.rest) (lines_of l.whole l.rest) l.world (g.K.Sink.written l.initial.sink) (g.K.Sink.written l.sink) l.gathered.items l.refused;
+  far : SoFar empty_state (lines_of l.whole l.initial.rest) (lines_of l.whole l.rest) l.world (g.K.Sink.written l.initial.sink)
+      (g.K.Sink.written l.sink) l.gathered.items l.refused;
   later : g.K.Sink.faults l.initial.sink ≤ g.K.Sink.faults l.sink;
 }
 

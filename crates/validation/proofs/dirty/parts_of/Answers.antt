@@ -17,7 +17,8 @@ loop-r-preserved c =
           let s : Spot = record { env = w.in-Some.env; handle = 0 } in
           let after = w.push.new.self.items in
           rw w.parts-is (
-            parts_more before after s rs window r i c.loop-r-test.true c.r-item.is w.in-Some.ensures.meaning.points w.in_ok-push.ensures.items h.0,
+            parts_more before after s rs window r i c.loop-r-test.true c.r-item.is w.in-Some.ensures.meaning.points
+                w.in_ok-push.ensures.items h.0,
             grid_more before after s w.in_ok-push.ensures.items h.1 w.corner_law.ensures,
           )
       | in_default w ↦ rw w.parts-is (parts_same before rs window r i c.loop-r-test.true c.r-item.is w.in_default.ensures.meaning h.0, h.1)

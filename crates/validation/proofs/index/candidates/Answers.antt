@@ -5,8 +5,11 @@ use Rattle.validation.proofs.Spots.{between, upto_parted}
 use Rattle.validation.proofs.index.candidates.Goals as goal
 
 pub first_beyond-requires : goal.first_beyond-requires
-first_beyond-requires c = rw take_rest (upto_parted (to_z w32 (of_z w32 c.x1.result)) c.args.spots.now c.first_from.result c.requires.sorted)
+first_beyond-requires c = rw take_rest (upto_parted (to_z w32 (of_z w32 c.x1.result)) c.args.spots.now c.first_from.result
+    c.requires.sorted)
 
 pub returns : goal.returns
 returns c =
-    rw take_rest (between c.args.r.now c.args.widest _ _ c.args.spots.now c.first_from.result c.first_beyond.result c.first_from.ensures.parted (rw take_rest at c.first_beyond.ensures.parted) (omega (arith, ints)) (omega (arith, ints)) c.requires.enough c.first_from.ensures.bound)
+    rw take_rest (between c.args.r.now c.args.widest _ _ c.args.spots.now c.first_from.result c.first_beyond.result
+        c.first_from.ensures.parted (rw take_rest at c.first_beyond.ensures.parted) (omega (arith, ints)) (omega (arith, ints))
+        c.requires.enough c.first_from.ensures.bound)

@@ -4,4 +4,5 @@ use Rattle.validation.proofs.Spots.{is_upto}
 use Rattle.validation.proofs.index.first_beyond.Goals as goal
 
 pub returns-clause-parted : goal.returns-clause-parted
-returns-clause-parted c = IsPartitionPoint-from_clause (is_upto c.args.x) c.args.spots.now c.partition_point.result c.partition_point.ensures.partitioned c.requires (λ a r f k. search rules)
+returns-clause-parted c = IsPartitionPoint-from_clause (is_upto c.args.x) c.args.spots.now c.partition_point.result
+    c.partition_point.ensures.partitioned c.requires (λ a r f k. search rules)

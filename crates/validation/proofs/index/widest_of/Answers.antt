@@ -12,4 +12,5 @@ loop-s-preserved c =
     let v = to_z w32 c.loop-s.widest-bits in
     let d = to_z w32 (of_z w32 (to_z w32 (of_z w32 c.x1.result) -ℤ to_z w32 (of_z w32 c.x0.result))) in
     let kept : to_z w32 (of_z w32 w) ≡ w = omega (arith, ints) in
-    widest_more c.args.spots.now c.loop-s.s-index c.s-item.result v d (to_z w32 (of_z w32 w)) (kept ∙ c.max-widest.ensures) c.loop-s-test.true c.s-item.is c.loop-s.invariant (omega (arith, ints)) (omega (arith, ints))
+    widest_more c.args.spots.now c.loop-s.s-index c.s-item.result v d (to_z w32 (of_z w32 w)) (kept ∙ c.max-widest.ensures)
+        c.loop-s-test.true c.s-item.is c.loop-s.invariant (omega (arith, ints)) (omega (arith, ints))

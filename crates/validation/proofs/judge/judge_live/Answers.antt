@@ -12,8 +12,10 @@ use Rattle.validation.proofs.judge.judge_live.Goals as goal
 pub returns-then-not-judges-clause-part : goal.returns-then-not-judges-clause-part
 returns-then-not-judges-clause-part g c =
     let row = ap (λ (q : InForce). q.row) c.rule.view_is in
-    let t : judged c.args.rule.now.row c.args.f.now ≡ false = rw (← row) (sym (c.judges.ensures c.args.f.now (sym c.class.ensures)) ∙ c.if-not-judges.true) in
-    ([], sym (append-nil _), part_idle g.R.RuleSet.meaning g.met.R.RuleSet.views c.args.features.now c.args.rule.now.number c.args.rule.now.row c.args.f.now.handle c.args.f.now c.requires.live t)
+    let t : judged c.args.rule.now.row c.args.f.now ≡ false = rw (← row) (sym (c.judges.ensures c.args.f.now (sym c.class.ensures))
+        ∙ c.if-not-judges.true) in
+    ([], sym (append-nil _), part_idle g.R.RuleSet.meaning g.met.R.RuleSet.views c.args.features.now c.args.rule.now.number
+        c.args.rule.now.row c.args.f.now.handle c.args.f.now c.requires.live t)
 
 pub judge_row-requires-clause-shown : goal.judge_row-requires-clause-shown
 judge_row-requires-clause-shown g c =
@@ -30,7 +32,8 @@ judge_row-requires-clause-shown g c =
 pub judge_row-requires-clause-fits : goal.judge_row-requires-clause-fits
 judge_row-requires-clause-fits g c =
     let row = ap (λ (q : InForce). q.row) c.rule.view_is in
-    rw row (view_fits g.R.RuleSet.meaning g.met.R.RuleSet.views c.args.rule.now.row c.args.features.now c.in_ok-view.view c.args.f.now c.in_ok-view.ensures c.requires.fits)
+    rw row (view_fits g.R.RuleSet.meaning g.met.R.RuleSet.views c.args.rule.now.row c.args.features.now c.in_ok-view.view c.args.f.now
+        c.in_ok-view.ensures c.requires.fits)
 
 pub add_findings-requires : goal.add_findings-requires
 add_findings-requires g c =
@@ -44,7 +47,8 @@ add_findings-requires g c =
     let fits = view_fits M g.met.R.RuleSet.views c.args.rule.now.row F V f v c.requires.fits in
     let cut = rw (row, c.handle.ensures) at c.in_ok-findings.ensures.cut in
     let proper : IsRectangle (env f) = rw (c.env.ensures, c.shape.ensures) at c.corner_law.ensures in
-    rw c.into_list.ensures.list (framable M L g.met.R.RuleSet.right c.args.rule.now.row V f.handle f c.in_ok-findings.findings v.ascending fits (subject_seen F V f.handle f c.requires.live v) proper cut c.into_list.ensures.order)
+    rw c.into_list.ensures.list (framable M L g.met.R.RuleSet.right c.args.rule.now.row V f.handle f c.in_ok-findings.findings v.ascending
+        fits (subject_seen F V f.handle f c.requires.live v) proper cut c.into_list.ensures.order)
 
 pub returns-clause-part : goal.returns-clause-part
 returns-clause-part g c =
@@ -60,7 +64,8 @@ returns-clause-part g c =
     (λ h. (
       h.0,
       h.1,
-      part_judged M g.met.R.RuleSet.laws g.met.R.RuleSet.views F V r c.args.rule.now.row f.handle f c.in_ok-findings.findings h.0 c.requires.ascending c.requires.fits c.requires.live c.in_ok-view.ensures cut c.into_list.ensures.order
+      part_judged M g.met.R.RuleSet.laws g.met.R.RuleSet.views F V r c.args.rule.now.row f.handle f c.in_ok-findings.findings h.0
+          c.requires.ascending c.requires.fits c.requires.live c.in_ok-view.ensures cut c.into_list.ensures.order
           (rw (number, c.into_list.ensures.list) at h.2),
     ))
     c.add_findings.ensures

@@ -13,8 +13,10 @@ loop-i-preserved g c =
     let a = c.at.result in
     let l : i < length s = omega (arith, c.len-i-end.ensures.value, c.loop-i-test.true) in
     let e : a ≡ get_or s i a = c.at.ensures ∙ get_or_default s i 0 a l in (
-      part_more (IsSubjectPart g.R.RuleSet.meaning c.args.features.now c.args.rule.now.number c.args.rule.now.row) s i a c.args.out.now.items c.loop-i.out.items c.judge_subject.new.out.items l e c.loop-i.invariant.0 c.in_ok-judge_subject.ensures.part,
-      judged_more c.args.rule.now.row c.args.features.now s i a c.args.work.now c.loop-i.work c.judge_subject.new.work l e c.loop-i.invariant.1 c.in_ok-judge_subject.ensures.judged,
+      part_more (IsSubjectPart g.R.RuleSet.meaning c.args.features.now c.args.rule.now.number c.args.rule.now.row) s i a
+          c.args.out.now.items c.loop-i.out.items c.judge_subject.new.out.items l e c.loop-i.invariant.0 c.in_ok-judge_subject.ensures.part,
+      judged_more c.args.rule.now.row c.args.features.now s i a c.args.work.now c.loop-i.work c.judge_subject.new.work l e
+          c.loop-i.invariant.1 c.in_ok-judge_subject.ensures.judged,
     )
 
 pub returns-in_err-judge_subject-clause-stopped : goal.returns-in_err-judge_subject-clause-stopped
@@ -24,4 +26,5 @@ returns-in_err-judge_subject-clause-stopped g c =
     let a = c.at.result in
     let l : i < length s = omega (arith, c.len-i-end.ensures.value, c.loop-i-test.true) in
     let e : a ≡ get_or s i a = c.at.ensures ∙ get_or_default s i 0 a l in
-    on_err c.from_residual.result _ (judged_within c.args.rule.now.row c.args.features.now s i a c.args.work.now c.loop-i.work c.judge_subject.new.work l e c.loop-i.invariant.1 c.in_err-judge_subject.ensures.stopped)
+    on_err c.from_residual.result _ (judged_within c.args.rule.now.row c.args.features.now s i a c.args.work.now c.loop-i.work
+        c.judge_subject.new.work l e c.loop-i.invariant.1 c.in_err-judge_subject.ensures.stopped)

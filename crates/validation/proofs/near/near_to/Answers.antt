@@ -11,4 +11,5 @@ push-requires c =
     let F = c.args.features.now in
     let i = c.loop-g.g-index in
     let f = c.g-item.result in
-    rw c.loop-g.invariant (every_filter (λ (g : Feature). g.handle < f.handle) test (take i F) (every_before F i f c.requires c.loop-g-test.true c.g-item.is))
+    rw c.loop-g.invariant (every_filter (λ (g : Feature). g.handle < f.handle) test (take i F)
+        (every_before F i f c.requires c.loop-g-test.true c.g-item.is))

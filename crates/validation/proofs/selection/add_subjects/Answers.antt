@@ -9,8 +9,10 @@ use Rattle.validation.proofs.selection.add_subjects.Goals as goal
 pub loop-e-preserved : goal.loop-e-preserved
 loop-e-preserved c =
     let d = c.args.dirty.now in
-    picked_more (λ (e : Entry). MeetsDirt d e.frame) (λ (e : Entry). e.subject) c.args.entries.now c.loop-e.e-index c.e-item.result c.args.found.now.items c.loop-e.found.items c.push_if.new.found.items c.meets.result c.key.result.subject
-    c.loop-e-test.true c.e-item.is (rw c.frame.ensures at c.meets.ensures) (ap (λ (k : Key). k.subject) c.key.ensures) c.loop-e.invariant c.in_ok-push_if.ensures
+    picked_more (λ (e : Entry). MeetsDirt d e.frame) (λ (e : Entry). e.subject) c.args.entries.now c.loop-e.e-index c.e-item.result
+        c.args.found.now.items c.loop-e.found.items c.push_if.new.found.items c.meets.result c.key.result.subject
+    c.loop-e-test.true c.e-item.is (rw c.frame.ensures at c.meets.ensures) (ap (λ (k : Key). k.subject) c.key.ensures) c.loop-e.invariant
+        c.in_ok-push_if.ensures
 
 pub returns : goal.returns
 returns c = λ a. rw (take_all c.loop-e.e-index c.args.entries.now c.loop-e-test.false) at (c.loop-e.invariant a)

@@ -5,4 +5,5 @@ use Rattle.validation_laws.specs.Picked.{ArePicked}
 use Rattle.validation.proofs.selection.add_subjects.Given as goal
 
 abbrev pub invariant-loop-e : goal.invariant-loop-e
-invariant-loop-e l = ArePicked (λ (e : Entry). MeetsDirt l.dirty e.frame) (λ (e : Entry). e.subject) (take l.e-index l.entries) l.initial.found.items l.found.items
+invariant-loop-e l = ArePicked (λ (e : Entry). MeetsDirt l.dirty e.frame) (λ (e : Entry). e.subject) (take l.e-index l.entries)
+    l.initial.found.items l.found.items

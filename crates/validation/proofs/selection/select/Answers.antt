@@ -13,18 +13,25 @@ use Rattle.validation.proofs.Dirtied.{meets_parts, picked_as}
 use Rattle.validation.proofs.selection.select.Goals as goal
 
 pub returns-clause-rising : goal.returns-clause-rising
-returns-clause-rising c = IfOk-weaker c.handles_of.result _ IsRising (λ s h. subst IsRising (sym (h ∙ c.deref.ensures.value)) (rising c.once_each.new.found.items c.once_each.ensures.ascending)) c.handles_of.ensures
+returns-clause-rising c = IfOk-weaker c.handles_of.result _ IsRising (λ s h. subst IsRising (sym (h ∙ c.deref.ensures.value))
+    (rising c.once_each.new.found.items c.once_each.ensures.ascending)) c.handles_of.ensures
 
 pub returns-clause-chosen : goal.returns-clause-chosen
 returns-clause-chosen c = IfOk-weaker c.handles_of.result _
-    (λ s. (p : Project) → p.features ≡ c.args.features.now → p.dirt ≡ c.args.dirt.now → p.entries ≡ c.args.errors.now → (a : ℕ) → Contains s a ↔ IsSelected p c.args.window.now a)
+    (λ s. (p : Project) → p.features ≡ c.args.features.now → p.dirt ≡ c.args.dirt.now → p.entries ≡ c.args.errors.now → (a : ℕ)
+        → Contains s a ↔ IsSelected p c.args.window.now a)
     (λ s h p ef ed ee a.
     let w = c.args.window.now in
     let early = c.add_features.new.found.items in
     let late = c.add_subjects.new.found.items in
     let meets = meets_parts c.in_ok-dirty.dirty c.args.dirt.now w c.in_ok-dirty.ensures in
-    let first : ArePicked (λ (f : Feature). MeetsPart p.dirt w (env f)) (λ (f : Feature). f.handle) p.features [] early = rw (ef, ed) (picked_as _ (λ (f : Feature). MeetsPart c.args.dirt.now w (env f)) (λ (f : Feature). f.handle) c.args.features.now [] early (λ f. meets (env f)) (rw c.new-found.ensures.items at c.in_ok-add_features.ensures)) in
-    let second : ArePicked (λ (e : Entry). MeetsPart p.dirt w e.frame) (λ (e : Entry). e.subject) p.entries early late = rw (ee, ed) (picked_as _ (λ (e : Entry). MeetsPart c.args.dirt.now w e.frame) (λ (e : Entry). e.subject) c.args.errors.now early late (λ e. meets e.frame) (rw c.entries.ensures.value at c.in_ok-add_subjects.ensures)) in
+    let first : ArePicked (λ (f : Feature). MeetsPart p.dirt w (env f)) (λ (f : Feature). f.handle) p.features [] early =
+        rw (ef, ed) (picked_as _ (λ (f : Feature). MeetsPart c.args.dirt.now w (env f)) (λ (f : Feature). f.handle) c.args.features.now []
+        early (λ f. meets (env f)) (rw c.new-found.ensures.items at c.in_ok-add_features.ensures)) in
+    let second : ArePicked (λ (e : Entry). MeetsPart p.dirt w e.frame) (λ (e : Entry). e.subject) p.entries early late =
+        rw (ee, ed) (picked_as _ (λ (e : Entry). MeetsPart c.args.dirt.now w e.frame) (λ (e : Entry). e.subject) c.args.errors.now early
+        late (λ e. meets e.frame) (rw c.entries.ensures.value at c.in_ok-add_subjects.ensures)) in
     let chosen = selected_picked p w early late (rw ef c.requires) (rw ee c.entries.ensures.ascending) first second a in
     let once = c.once_each.ensures.same a in
-    subst (λ t. Contains t a ↔ IsSelected p w a) (sym (h ∙ c.deref.ensures.value)) ((λ k. chosen.0 (once.0 k)), (λ k. once.1 (chosen.1 k)))) c.handles_of.ensures
+    subst (λ t. Contains t a ↔ IsSelected p w a) (sym (h ∙ c.deref.ensures.value)) ((λ k. chosen.0 (once.0 k)), (λ k. once.1 (chosen.1 k))))
+        c.handles_of.ensures

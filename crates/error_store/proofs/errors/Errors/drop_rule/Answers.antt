@@ -5,7 +5,8 @@ use Rattle.error_store.proofs.Dropping.{is_other, none_left, others_left}
 use Rattle.error_store.proofs.errors.Errors.drop_rule.Goals as goal
 
 pub invariant_of-self : goal.invariant_of-self
-invariant_of-self c = rw c.drop_from.ensures (ascending_filter by_key keys (is_other c.args.rule) c.self.inside.entries.items c.self.invariant)
+invariant_of-self c = rw c.drop_from.ensures (ascending_filter by_key keys (is_other c.args.rule) c.self.inside.entries.items
+    c.self.invariant)
 
 pub returns-clause-gone : goal.returns-clause-gone
 returns-clause-gone c = λ a b. rw c.drop_from.ensures (none_left c.args.rule c.self.inside.entries.items a b)

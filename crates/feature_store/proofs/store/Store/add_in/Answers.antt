@@ -7,7 +7,8 @@ use Rattle.feature_store.proofs.store.Store.add_in.Goals as goal
 
 pub invariant_of-self : goal.invariant_of-self
 invariant_of-self c =
-    let may = subst (λ (s : Stored). add_cause s.classes s.next c.args.class c.args.shape.kind ≡ None) (sym c.self.view_is) c.requires.may in
+    let may = subst (λ (s : Stored). add_cause s.classes s.next c.args.class c.args.shape.kind ≡ None) (sym c.self.view_is) c.requires.may
+        in
     let fits = (fits_class c.self.inside.classes.items c.self.inside.next c.args.class c.args.shape.kind may).0 in
     rw c.push_reserved.ensures.items
     (feature_kept c.self.inside.classes.items c.self.inside.features.items c.self.inside.next c.new.result

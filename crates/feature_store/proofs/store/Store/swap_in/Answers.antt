@@ -6,4 +6,5 @@ pub returns-clause-own : goal.returns-clause-own
 returns-clause-own c = rw c.exchange.ensures.stood (live_own c.self.inside.features.items c.args.handle)
 
 pub returns-clause-fits : goal.returns-clause-fits
-returns-clause-fits c = rw c.exchange.ensures.stood (live_each (IsOfClass c.self.inside.classes.items) c.self.inside.features.items c.args.handle c.self.invariant.kinds)
+returns-clause-fits c = rw c.exchange.ensures.stood (live_each (IsOfClass c.self.inside.classes.items) c.self.inside.features.items
+    c.args.handle c.self.invariant.kinds)

@@ -11,20 +11,42 @@ use Rattle.topo_core.proofs.topology.Topology.add.Goals as goal
 
 pub returns-in_err-check_add-clause-refused : goal.returns-in_err-check_add-clause-refused
 returns-in_err-check_add-clause-refused g c =
-    told c.from_residual.result (change_fault c.in_err-check_add.field-0.0) (λ e. Tells (edit_cause e) (add_cause c.args.self.now.classes c.args.self.now.next c.args.class c.args.shape.kind)) c.from_residual.ensures.1
-    (subst (λ (q : Project). Tells (edit_cause (change_fault c.in_err-check_add.field-0.0)) (add_cause q.classes q.next c.args.class c.args.shape.kind)) c.self.view_is (told_add c.in_err-check_add.field-0.0 c.self.inside.store.classes c.self.inside.store.next c.args.class c.args.shape.kind c.in_err-check_add.ensures.refused))
+    told c.from_residual.result (change_fault c.in_err-check_add.field-0.0) (λ e. Tells (edit_cause e)
+        (add_cause c.args.self.now.classes c.args.self.now.next c.args.class c.args.shape.kind)) c.from_residual.ensures.1
+    (subst (λ (q : Project). Tells (edit_cause (change_fault c.in_err-check_add.field-0.0))
+        (add_cause q.classes q.next c.args.class c.args.shape.kind)) c.self.view_is
+        (told_add c.in_err-check_add.field-0.0 c.self.inside.store.classes c.self.inside.store.next c.args.class c.args.shape.kind
+        c.in_err-check_add.ensures.refused))
 
 pub invariant_of-self-2 : goal.invariant_of-self-2
-invariant_of-self-2 g c = edit_keeps c.add_in-handle.result _ _ _ c.self.invariant (added c.args.class c.args.shape c.add_in-handle.result c.self.inside.store c.room.new.self c.add_in-handle.new.self c.self.inside.rules.items c.self.inside.dirt c.add.new.self c.self.inside.entries c.self.invariant c.room.ensures.same c.add_in-handle.ensures.number (record { classes = c.add_in-handle.ensures.classes; features = c.add_in-handle.ensures.features; next_is = c.add_in-handle.ensures.next }) (rw c.env-env.ensures at c.in_ok-add.ensures.ok)).edit c.store_law.ensures (rw c.env-env.ensures at c.corner_law.ensures)
+invariant_of-self-2 g c = edit_keeps c.add_in-handle.result _ _ _ c.self.invariant
+    (added c.args.class c.args.shape c.add_in-handle.result c.self.inside.store c.room.new.self c.add_in-handle.new.self
+    c.self.inside.rules.items c.self.inside.dirt c.add.new.self c.self.inside.entries c.self.invariant c.room.ensures.same
+    c.add_in-handle.ensures.number (record { classes = c.add_in-handle.ensures.classes; features =
+    c.add_in-handle.ensures.features; next_is = c.add_in-handle.ensures.next }) (rw c.env-env.ensures at c.in_ok-add.ensures.ok)).edit
+    c.store_law.ensures (rw c.env-env.ensures at c.corner_law.ensures)
 
 pub returns-clause-ok : goal.returns-clause-ok
-returns-clause-ok g c = rw (← c.self.view_is) (added c.args.class c.args.shape c.add_in-handle.result c.self.inside.store c.room.new.self c.add_in-handle.new.self c.self.inside.rules.items c.self.inside.dirt c.add.new.self c.self.inside.entries c.self.invariant c.room.ensures.same c.add_in-handle.ensures.number (record { classes = c.add_in-handle.ensures.classes; features = c.add_in-handle.ensures.features; next_is = c.add_in-handle.ensures.next }) (rw c.env-env.ensures at c.in_ok-add.ensures.ok))
+returns-clause-ok g c = rw (← c.self.view_is) (added c.args.class c.args.shape c.add_in-handle.result c.self.inside.store c.room.new.self
+    c.add_in-handle.new.self c.self.inside.rules.items c.self.inside.dirt c.add.new.self c.self.inside.entries c.self.invariant
+    c.room.ensures.same c.add_in-handle.ensures.number (record { classes = c.add_in-handle.ensures.classes; features =
+    c.add_in-handle.ensures.features; next_is = c.add_in-handle.ensures.next }) (rw c.env-env.ensures at c.in_ok-add.ensures.ok))
 
 pub returns-clause-sound : goal.returns-clause-sound
-returns-clause-sound g c = λ k. edit_sound_kept g.R.RuleSet.meaning g.met.R.RuleSet.laws g.met.R.KindRules.kinds c.add_in-handle.result _ _ _ c.self.invariant (invariant_of-self-2 g c) (added c.args.class c.args.shape c.add_in-handle.result c.self.inside.store c.room.new.self c.add_in-handle.new.self c.self.inside.rules.items c.self.inside.dirt c.add.new.self c.self.inside.entries c.self.invariant c.room.ensures.same c.add_in-handle.ensures.number (record { classes = c.add_in-handle.ensures.classes; features = c.add_in-handle.ensures.features; next_is = c.add_in-handle.ensures.next }) (rw c.env-env.ensures at c.in_ok-add.ensures.ok)).edit (subst (IsSoundUnder g.R.RuleSet.meaning) (sym c.self.view_is) k)
+returns-clause-sound g c = λ k. edit_sound_kept g.R.RuleSet.meaning g.met.R.RuleSet.laws g.met.R.KindRules.kinds c.add_in-handle.result _ _
+    _ c.self.invariant (invariant_of-self-2 g c) (added c.args.class c.args.shape c.add_in-handle.result c.self.inside.store c.room.new.self
+    c.add_in-handle.new.self c.self.inside.rules.items c.self.inside.dirt c.add.new.self c.self.inside.entries c.self.invariant
+    c.room.ensures.same c.add_in-handle.ensures.number (record { classes = c.add_in-handle.ensures.classes; features =
+    c.add_in-handle.ensures.features; next_is = c.add_in-handle.ensures.next }) (rw c.env-env.ensures at c.in_ok-add.ensures.ok)).edit
+    (subst (IsSoundUnder g.R.RuleSet.meaning) (sym c.self.view_is) k)
 
 pub returns-clause-settled : goal.returns-clause-settled
-returns-clause-settled g c = λ k. edit_settled_kept g.R.RuleSet.meaning g.met.R.RuleSet.laws g.met.R.KindRules.kinds c.add_in-handle.result _ _ _ c.self.invariant (invariant_of-self-2 g c) (added c.args.class c.args.shape c.add_in-handle.result c.self.inside.store c.room.new.self c.add_in-handle.new.self c.self.inside.rules.items c.self.inside.dirt c.add.new.self c.self.inside.entries c.self.invariant c.room.ensures.same c.add_in-handle.ensures.number (record { classes = c.add_in-handle.ensures.classes; features = c.add_in-handle.ensures.features; next_is = c.add_in-handle.ensures.next }) (rw c.env-env.ensures at c.in_ok-add.ensures.ok)).edit (subst (IsSettledUnder g.R.RuleSet.meaning) (sym c.self.view_is) k)
+returns-clause-settled g c = λ k. edit_settled_kept g.R.RuleSet.meaning g.met.R.RuleSet.laws g.met.R.KindRules.kinds c.add_in-handle.result
+    _ _ _ c.self.invariant (invariant_of-self-2 g c) (added c.args.class c.args.shape c.add_in-handle.result c.self.inside.store
+    c.room.new.self c.add_in-handle.new.self c.self.inside.rules.items c.self.inside.dirt c.add.new.self c.self.inside.entries
+    c.self.invariant c.room.ensures.same c.add_in-handle.ensures.number (record { classes = c.add_in-handle.ensures.classes; features =
+    c.add_in-handle.ensures.features; next_is = c.add_in-handle.ensures.next }) (rw c.env-env.ensures at c.in_ok-add.ensures.ok)).edit
+    (subst (IsSettledUnder g.R.RuleSet.meaning) (sym c.self.view_is) k)
 
 pub returns-clause-ordered : goal.returns-clause-ordered
 returns-clause-ordered g c = ordered _ (invariant_of-self-2 g c)

@@ -5,4 +5,5 @@ pub invariant_of-result : goal.invariant_of-result
 invariant_of-result c = grid_moved c.in_ok-parts_of.field-0.items c.of-index.result c.of-index.ensures c.in_ok-parts_of.ensures.on_grid
 
 pub returns : goal.returns
-returns c = cover_moved c.in_ok-parts_of.field-0.items c.of-index.result c.args.dirt.now c.args.window.now c.of-index.ensures (rw c.rects.ensures.value at c.in_ok-parts_of.ensures.covers)
+returns c = cover_moved c.in_ok-parts_of.field-0.items c.of-index.result c.args.dirt.now c.args.window.now c.of-index.ensures
+    (rw c.rects.ensures.value at c.in_ok-parts_of.ensures.covers)

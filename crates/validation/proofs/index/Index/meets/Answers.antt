@@ -8,4 +8,5 @@ use Rattle.validation.proofs.index.Index.meets.Goals as goal
 pub returns : goal.returns
 returns c =
     let test = meets_spot c.args.r.now in
-    c.meets_any.ensures ∙ (any_filtered test c.candidates.result.now c.deref.result.now c.candidates.ensures ∙ ap (λ (ss : List Spot). list_any test ss) (c.deref.ensures.value ∙ c.self.view_is))
+    c.meets_any.ensures ∙ (any_filtered test c.candidates.result.now c.deref.result.now c.candidates.ensures
+        ∙ ap (λ (ss : List Spot). list_any test ss) (c.deref.ensures.value ∙ c.self.view_is))

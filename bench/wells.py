@@ -1,0 +1,83 @@
+#!/usr/bin/env python3
+"""How long points in polygons take under the rules on both: validated whole, and then after each of many edits.
+
+usage: bench/wells.py [--baseline WORDS] [--lines NAME ..] [--turns N] [--seconds N] [--program WORDS]
+
+  --lines NAME ..   the maps whose names begin with one of these; all where it is left out
+  the others        as in bench/run.py
+
+Parcels and municipalities are those of bench/borders.py: they lie in a square and share their borders, a parcel with a vertex between
+two corners, a municipality with 50 segments a side. Each parcel has a well in its middle and each municipality a hundred of them; of
+each twenty parcels, one has its well on a corner instead, and one has none. An edit moves a vertex of a polygon, or a well, and validates
+a window round it.
+"""
+import random
+import sys
+
+from borders import Country
+from programs import added, edits, point, polygon, print_maps, print_validated
+
+INSIDE, CONTAINS = 'point_must_be_properly_inside wells areas', 'polygon_contains_point areas wells'
+
+
+def head(rule):
+    return ['class areas polygon', 'class wells point', 'rule ' + rule, 'begin ann']
+
+
+def spot(places):
+    return point(places[0])
+
+
+def in_parcels(country, rings):
+    """A well for each parcel, but for one in twenty; another one in twenty stands on a corner."""
+    for number, ring in enumerate(rings):
+        row, column = divmod(number, country.size)
+        if number % 20 == 13:
+            yield [ring[0]]
+        elif number % 20 != 3:
+            yield [(column * country.width + country.width // 2, row * country.width + country.width // 2)]
+
+
+def in_towns(country, rings):
+    """A hundred wells for each municipality, anywhere; some lie in the next one."""
+    lot = random.Random(len(rings))
+    for number in range(len(rings)):
+        row, column = divmod(number, country.size)
+        for _ in range(100):
+            yield [(column * country.width + lot.randrange(country.width), row * country.width + lot.randrange(country.width))]
+
+
+def contained(country, rings, wells):
+    return head(CONTAINS) + added('areas', rings) + added('wells', wells, spot), edits(rings, 200 if len(rings) > 400 else 20)
+
+
+def inside(country, rings, wells):
+    return head(INSIDE) + added('wells', wells, spot) + added('areas', rings), edits(wells, 200, spot)
+
+
+def made(make, country, place):
+    rings = country.rings()
+    return make(country, rings, list(place(country, rings)))
+
+
+def maps():
+    """The name of each map, and a function that makes the lines that found it and its edits."""
+    for name, make in (('parcels contain', contained), ('wells inside', inside)):
+        for rows in (30, 60, 100):
+            yield '%s, %s parcels' % (name, format(rows ** 2, ',')), lambda make=make, rows=rows: made(make, Country(rows, 2), in_parcels)
+        for rows in (4, 8, 20):
+            title = '%s, %d municipalities of 200 vertices' % (name, rows ** 2)
+            yield title, lambda make=make, rows=rows: made(make, Country(rows), in_towns)
+
+
+def print_map(table, name, take, make):
+    founding, editing = make()
+    print_validated(table, name, take, founding, editing, take(founding))
+
+
+def main():
+    return print_maps(__doc__, 'map', maps, print_map)
+
+
+if __name__ == '__main__':
+    sys.exit(main())

@@ -1,0 +1,10 @@
+use Rattle.std.proofs.Common.{refl}
+use Rattle.std.proofs.lemmas.Option.{slice_get_read}
+use Rattle.project_text.specs.Pushed.{feature_text}
+use Rattle.project_text.proofs.Listings.{said_more}
+use Rattle.project_text.proofs.write.push_listed.Goals as goal
+
+pub loop-feature-preserved : goal.loop-feature-preserved
+loop-feature-preserved c =
+    said_more (feature_text c.args.store.now.classes) _ _ _ _ _ _ (slice_get_read _ _ _ _ refl c.loop-feature-test.true c.feature-item.is)
+    c.loop-feature.invariant c.in_ok-push_feature_line.ensures

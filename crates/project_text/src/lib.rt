@@ -1,0 +1,11 @@
+// The text of a project: what is saved of a topology, written and read.
+#![tactic(auto)]
+
+mod data;
+mod lines;
+mod push;
+mod write;
+
+pub use data::ProjectData;
+pub use project_terms::ProjectCause;
+pub use write::write_project;

@@ -1,0 +1,169 @@
+ghost use Rattle.std.specs.Prelude.{◌≡◌, ◌++◌, Some, OnOk};
+ghost use Rattle.line_terms.specs.Forms.{kind_word};
+ghost use Rattle.topology_terms.specs.Lookups.{class_at};
+ghost use Rattle.project_terms.specs.Written.{mark_word, extent_word};
+ghost use Rattle.project_text.specs.Pushed.{rect_text, name_text, sign_text, half_text, halves_text, class_text, rule_text, feature_text, dirty_text, key_text, error_text, cell_text};
+
+use crate::push::{push_end, push_field, push_number, push_text};
+use convex_cell::Cell;
+use error_store::Entry;
+use feature_store::Store;
+use grid_plane::{Half, NoMemory, Op, Rect};
+use rule_core::InForce;
+use shape::{Feature, Kind};
+use wkt_text::write_wkt;
+
+fn kind_bytes(kind: Kind) -> &'static [u8]
+    ensures { result.now ≡ kind_word kind }
+{
+    match kind {
+        Kind::Point => b"point",
+        Kind::Line => b"line",
+        Kind::Polygon => b"polygon",
+    }
+}
+
+fn sign_bytes(op: Op, more: bool) -> &'static [u8]
+    ensures { result.now ≡ sign_text op more }
+{
+    match (op, more) {
+        (Op::Over, false) => b">",
+        (Op::AtLeast, false) => b">=",
+        (Op::Zero, false) => b"=",
+        (Op::Over, true) => b">,",
+        (Op::AtLeast, true) => b">=,",
+        (Op::Zero, true) => b"=,",
+    }
+}
+
+fn mark_bytes(marked: bool) -> &'static [u8]
+    ensures { result.now ≡ mark_word marked }
+{
+    if marked { b"exception" } else { b"error" }
+}
+
+fn extent_bytes(whole: bool) -> &'static [u8]
+    ensures { result.now ≡ extent_word whole }
+{
+    if whole { b"whole" } else { b"cells" }
+}
+
+fn push_rect(out: &mut Vec<u8>, r: &Rect) -> Result<(), NoMemory>
+    ensures { OnOk result (out.new.items ≡ out.old.items ++ rect_text r.now) }
+{
+    push_number(out, r.x0())?;
+    push_number(out, r.y0())?;
+    push_number(out, r.x1())?;
+    push_number(out, r.y1())
+}
+
+// The name of the class of this number behind a space; nothing where there is none.
+fn push_class_name(out: &mut Vec<u8>, store: &Store, class: u16) -> Result<(), NoMemory>
+    ensures { OnOk result (out.new.items ≡ out.old.items ++ name_text (class_at store.now.classes class)) }
+{
+    match store.class_name(class) {
+        Some(name) => push_field(out, name.bytes()),
+        None => Ok(()),
+    }
+}
+
+fn push_named_class(out: &mut Vec<u8>, name: &[u8], kind: Kind) -> Result<(), NoMemory>
+    ensures { OnOk result (out.new.items ≡ out.old.items ++ class_text (Some (record { name = name.now; kind = kind }))) }
+{
+    push_text(out, b"class")?;
+    push_field(out, name)?;
+    push_field(out, kind_bytes(kind))?;
+    push_end(out)
+}
+
+/// Appends the line of the class of this number; nothing where there is none.
+pub fn push_class_line(out: &mut Vec<u8>, store: &Store, class: u16) -> Result<(), NoMemory>
+    ensures { OnOk result (out.new.items ≡ out.old.items ++ class_text (class_at store.now.classes class)) }
+{
+    match (store.class_name(class), store.class_kind(class)) {
+        (Some(name), Some(kind)) => push_named_class(out, name.bytes(), kind),
+        _ => Ok(()),
+    }
+}
+
+/// Appends the line of a rule in force.
+pub fn push_rule_line(out: &mut Vec<u8>, store: &Store, rule: &InForce) -> Result<(), NoMemory>
+    ensures { OnOk result (out.new.items ≡ out.old.items ++ rule_text store.now.classes rule.now) }
+{
+    push_text(out, b"rule")?;
+    push_number(out, rule.number)?;
+    push_field(out, rule.row.kind.word().as_bytes())?;
+    push_class_name(out, store, rule.row.origin)?;
+    push_class_name(out, store, rule.row.dest)?;
+    push_end(out)
+}
+
+/// Appends the line of a feature.
+pub fn push_feature_line(out: &mut Vec<u8>, store: &Store, feature: &Feature) -> Result<(), NoMemory>
+    ensures { OnOk result (out.new.items ≡ out.old.items ++ feature_text store.now.classes feature.now) }
+{
+    push_text(out, b"feature")?;
+    push_number(out, feature.handle())?;
+    push_class_name(out, store, feature.class())?;
+    push_text(out, b" ")?;
+    write_wkt(feature.shape(), out)?;
+    push_end(out)
+}
+
+/// Appends the line of a dirty rectangle.
+pub fn push_dirty_line(out: &mut Vec<u8>, r: &Rect) -> Result<(), NoMemory>
+    ensures { OnOk result (out.new.items ≡ out.old.items ++ dirty_text r.now) }
+{
+    push_text(out, b"dirty")?;
+    push_rect(out, r)?;
+    push_end(out)
+}
+
+// Rule, subject and partner.
+fn push_key(out: &mut Vec<u8>, entry: &Entry) -> Result<(), NoMemory>
+    ensures { OnOk result (out.new.items ≡ out.old.items ++ key_text entry.now) }
+{
+    let key = entry.key();
+    push_number(out, key.rule)?;
+    push_number(out, key.subject)?;
+    push_number(out, key.other)
+}
+
+/// Appends the line of an error, without those of its cells.
+pub fn push_error_line(out: &mut Vec<u8>, entry: &Entry) -> Result<(), NoMemory>
+    ensures { OnOk result (out.new.items ≡ out.old.items ++ error_text entry.now) }
+{
+    push_text(out, mark_bytes(entry.marked()))?;
+    push_key(out, entry)?;
+    push_field(out, extent_bytes(entry.whole()))?;
+    push_rect(out, &entry.frame())?;
+    push_end(out)
+}
+
+// The half-plane, with a comma behind it if more follow.
+fn push_half(out: &mut Vec<u8>, half: &Half, more: bool) -> Result<(), NoMemory>
+    ensures { OnOk result (out.new.items ≡ out.old.items ++ half_text half.now more) }
+{
+    push_number(out, half.a())?;
+    push_number(out, half.b())?;
+    push_number(out, half.c())?;
+    push_field(out, sign_bytes(half.op(), more))
+}
+
+fn push_halves(out: &mut Vec<u8>, cell: &Cell) -> Result<(), NoMemory>
+    ensures { OnOk result (out.new.items ≡ out.old.items ++ halves_text cell.now) }
+{
+    for i in 0..cell.len() {
+        push_half(out, &cell.half(i), i + 1 < cell.len())?;
+    }
+    Ok(())
+}
+
+/// Appends the line of a cell.
+pub fn push_cell_line(out: &mut Vec<u8>, cell: &Cell) -> Result<(), NoMemory>
+    ensures { OnOk result (out.new.items ≡ out.old.items ++ cell_text cell.now) }
+{
+    push_text(out, b"cell")?;
+    push_halves(out, cell)?;
+    push_end(out)
+}

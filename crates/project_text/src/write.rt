@@ -1,0 +1,126 @@
+ghost use Rattle.std.specs.Prelude.{◌≡◌, ◌++◌, flat_map, IfOk, OnOk};
+ghost use Rattle.plane_terms.specs.Cell as terms_cell;
+ghost use Rattle.project_text.specs.Pushed.{head_text, class_texts, rule_text, feature_text, dirty_text, cell_text, error_texts, text_of};
+ghost use Rattle.project_terms.specs.Written.{project_text};
+
+use crate::data::ProjectData;
+use crate::lines::{
+    push_cell_line, push_class_line, push_dirty_line, push_error_line, push_feature_line, push_rule_line,
+};
+use crate::push::{push_end, push_number, push_text};
+use convex_cell::Cells;
+use error_store::Entry;
+use feature_store::Store;
+use grid_plane::{NoMemory, Rect};
+use rule_core::InForce;
+use shape::Feature;
+use std::alloc::Global;
+
+fn push_head(out: &mut Vec<u8>, next: u32) -> Result<(), NoMemory>
+    ensures { OnOk result (out.new.items ≡ out.old.items ++ head_text next) }
+{
+    push_text(out, b"topology 1\nnext")?;
+    push_number(out, next)?;
+    push_end(out)
+}
+
+fn push_classes(out: &mut Vec<u8>, store: &Store) -> Result<(), NoMemory>
+    ensures { OnOk result (out.new.items ≡ out.old.items ++ class_texts store.now.classes) }
+{
+    for before in 0..store.class_count() {
+        push_class_line(out, store, before + 1)?;
+    }
+    Ok(())
+}
+
+fn push_rules(out: &mut Vec<u8>, store: &Store, rules: &[InForce]) -> Result<(), NoMemory>
+    ensures { OnOk result (out.new.items ≡ out.old.items ++ flat_map (rule_text store.now.classes) rules.now) }
+{
+    for rule in rules {
+        push_rule_line(out, store, rule)?;
+    }
+    Ok(())
+}
+
+fn push_features(out: &mut Vec<u8>, store: &Store) -> Result<(), NoMemory>
+    ensures { OnOk result (out.new.items ≡ out.old.items ++ flat_map (feature_text store.now.classes) store.now.features) }
+{
+    push_listed(out, store, store.features())
+}
+
+fn push_listed(out: &mut Vec<u8>, store: &Store, features: &[Feature]) -> Result<(), NoMemory>
+    ensures { OnOk result (out.new.items ≡ out.old.items ++ flat_map (feature_text store.now.classes) features.now) }
+{
+    for feature in features {
+        push_feature_line(out, store, feature)?;
+    }
+    Ok(())
+}
+
+fn push_dirt(out: &mut Vec<u8>, rects: &[Rect]) -> Result<(), NoMemory>
+    ensures { OnOk result (out.new.items ≡ out.old.items ++ flat_map dirty_text rects.now) }
+{
+    for r in rects {
+        push_dirty_line(out, r)?;
+    }
+    Ok(())
+}
+
+fn push_cells(out: &mut Vec<u8>, cells: &Cells) -> Result<(), NoMemory>
+    ensures { OnOk result (out.new.items ≡ out.old.items ++ flat_map {X = terms_cell.Cell} cell_text cells.now) }
+{
+    for i in 0..cells.len() {
+        push_cell_line(out, cells.cell(i))?;
+    }
+    Ok(())
+}
+
+fn push_error(out: &mut Vec<u8>, entry: &Entry) -> Result<(), NoMemory>
+    ensures { OnOk result (out.new.items ≡ out.old.items ++ error_texts entry.now) }
+{
+    push_error_line(out, entry)?;
+    push_cells(out, entry.cells())
+}
+
+fn push_errors(out: &mut Vec<u8>, entries: &[Entry]) -> Result<(), NoMemory>
+    ensures { OnOk result (out.new.items ≡ out.old.items ++ flat_map error_texts entries.now) }
+{
+    for entry in entries {
+        push_error(out, entry)?;
+    }
+    Ok(())
+}
+
+fn push_project(
+    out: &mut Vec<u8>,
+    store: &Store,
+    rules: &[InForce],
+    rects: &[Rect],
+    entries: &[Entry],
+) -> Result<(), NoMemory>
+    ensures { OnOk result (out.new.items ≡ out.old.items ++ text_of (record { classes = store.now.classes; rules = rules.now; features = store.now.features; next = store.now.next; dirt = rects.now; entries = entries.now })) }
+{
+    push_head(out, store.next_handle())?;
+    push_classes(out, store)?;
+    push_rules(out, store, rules)?;
+    push_features(out, store)?;
+    push_dirt(out, rects)?;
+    push_errors(out, entries)?;
+    push_text(out, b"end\n")?;
+    Ok(())
+}
+
+/// The text of a project, format 1: for each project one text. Reading it gives the project again.
+pub fn write_project(alloc: Global, project: &ProjectData) -> Result<Vec<u8>, NoMemory>
+    ensures { IfOk result (λ text. text.items ≡ project_text project.now) }
+{
+    let mut out = Vec::new(alloc);
+    push_project(
+        &mut out,
+        &project.store,
+        &project.rules,
+        project.dirt.rects(),
+        project.errors.entries(),
+    )?;
+    Ok(out)
+}

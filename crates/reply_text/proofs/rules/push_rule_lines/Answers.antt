@@ -1,0 +1,9 @@
+use Rattle.std.proofs.Common.{refl}
+use Rattle.std.proofs.lemmas.Option.{slice_get_read}
+use Rattle.script_terms.specs.Reply.{rule_line}
+use Rattle.reply_text.proofs.Listings.{said_more}
+use Rattle.reply_text.proofs.rules.push_rule_lines.Goals as goal
+
+pub loop-rule-preserved : goal.loop-rule-preserved
+loop-rule-preserved c = said_more (rule_line c.args.store.now.classes) _ _ _ _ _ _
+    (slice_get_read _ _ _ _ refl c.loop-rule-test.true c.rule-item.is) c.loop-rule.invariant c.in_ok-push_rule_line.ensures

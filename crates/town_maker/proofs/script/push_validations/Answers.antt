@@ -1,0 +1,5 @@
+use Rattle.town_maker.proofs.Pieces.{in_three}
+use Rattle.town_maker.proofs.script.push_validations.Goals as goal
+
+pub returns : goal.returns
+returns c = in_three _ _ _ _ _ _ _ _ c.in_ok-push_text.ensures c.in_ok-push_late_addresses.ensures c.push_window.ensures

@@ -1,0 +1,3 @@
+pub mod Words
+pub mod Town
+pub mod Summary

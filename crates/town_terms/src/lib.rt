@@ -1,0 +1,2 @@
+// The words of the made town: its script, and the lines of its summary.
+#![tactic(auto)]

@@ -1,0 +1,199 @@
+"""Random scripts over points, lines and polygons of a small grid, under all 27 rules.
+
+The vertices lie in a grid of 8 by 8 units, and half of them at few places of it, so that all the time polygons touch, share edges and
+corners, fill holes of one another but for a slit, and overlap; lines run along sides, along each other and back over themselves, close,
+have parts, and meet at ends; and points are at vertices, on sides and at one place. A script has two classes of each kind, some of the
+rules, features that are added, changed and deleted, rules that are dropped and put in force again, validations of the whole grid and of
+windows, and every listing.
+"""
+import random
+
+from .rules import KINDS_OF
+
+SIDE = 8
+NODES = [0, 2, 4, 8]
+NAMES = ['ann', 'bob', 'Zed', 'cat', 'dan', 'eve', 'fay', 'gus']
+
+
+def ring(places):
+    return '(%s)' % ', '.join('%d %d' % p for p in places + places[:1])
+
+
+def box(rng):
+    x0, x1 = sorted(rng.sample(range(SIDE + 1), 2))
+    y0, y1 = sorted(rng.sample(range(SIDE + 1), 2))
+    return x0, y0, x1, y1
+
+
+def corners(x0, y0, x1, y1):
+    return [(x0, y0), (x1, y0), (x1, y1), (x0, y1)]
+
+
+def rectangle(rng):
+    return [corners(*box(rng))]
+
+
+def triangle(rng):
+    return [[(rng.randint(0, SIDE), rng.randint(0, SIDE)) for _ in range(3)]]
+
+
+def bent(rng):
+    """An L: a rectangle without a corner."""
+    x0, y0, x1, y1 = box(rng)
+    x, y = rng.randint(x0, x1), rng.randint(y0, y1)
+    return [[(x0, y0), (x1, y0), (x1, y), (x, y), (x, y1), (x0, y1)]]
+
+
+def holed(rng):
+    """A rectangle with a hole, which may touch its boundary at a place."""
+    x0, y0, x1, y1 = 0, 0, rng.randint(3, SIDE), rng.randint(3, SIDE)
+    hole = [(rng.randint(x0, x1), rng.randint(y0, y1)) for _ in range(rng.choice([3, 4]))]
+    return [corners(x0, y0, x1, y1), hole]
+
+
+def filled(rng):
+    """What is in the middle of a large rectangle with a hole, or that rectangle: a hole that is filled but for a slit, or all of it."""
+    x0, y0 = rng.randint(1, 3), rng.randint(1, 3)
+    x1, y1 = rng.randint(5, 7), rng.randint(5, 7)
+    if rng.random() < 0.5:
+        return [corners(0, 0, SIDE, SIDE), corners(x0, y0, x1, y1)]
+    return [corners(x0, y0, x1 - rng.choice([0, 0, 1]), y1)]
+
+
+def any_ring(rng):
+    return [[(rng.randint(0, SIDE), rng.randint(0, SIDE)) for _ in range(rng.randint(3, 6))]]
+
+
+def polygon(rng):
+    rings = rng.choice([rectangle, rectangle, rectangle, triangle, bent, holed, filled, filled, any_ring])(rng)
+    if rng.random() < 0.3:
+        rings = [ring[::-1] for ring in rings]
+    return '(%s)' % ', '.join(ring(places) for places in rings)
+
+
+def area(rng):
+    if rng.random() < 0.15:
+        return 'MULTIPOLYGON (%s, %s)' % (polygon(rng), polygon(rng))
+    return 'POLYGON ' + polygon(rng)
+
+
+def place(rng):
+    """A place of the grid; every other one is one of a few, where ends meet."""
+    if rng.random() < 0.5:
+        return rng.choice(NODES), rng.choice(NODES)
+    return rng.randint(0, SIDE), rng.randint(0, SIDE)
+
+
+def along(rng):
+    """A way along some sides of a rectangle, in either direction; it may begin and end within a side."""
+    x0, y0, x1, y1 = box(rng)
+    places = [(rng.randint(x0, x1), y0)] + corners(x0, y0, x1, y1)[1:] + [(x0, rng.randint(y0, y1))]
+    places = places[:rng.randint(2, 5)]
+    return places if rng.random() < 0.5 else places[::-1]
+
+
+def loop(rng):
+    """A way that ends where it begins."""
+    places = rng.choice([corners(*box(rng)), [place(rng) for _ in range(3)]])
+    return places + places[:1]
+
+
+def back(rng):
+    """A way that goes back over its last segment, and perhaps farther."""
+    places = [place(rng) for _ in range(rng.randint(2, 3))]
+    (x0, y0), (x1, y1) = places[-2:]
+    return places + [rng.choice([(x0, y0), ((x0 + x1) // 2, (y0 + y1) // 2), place(rng), (x1, y0)])]
+
+
+def link(rng):
+    return [place(rng) for _ in range(2)]
+
+
+def winding(rng):
+    return [place(rng) for _ in range(rng.randint(3, 5))]
+
+
+def way(rng):
+    return rng.choice([along, along, along, link, link, loop, back, winding])(rng)
+
+
+def path(places):
+    return '(%s)' % ', '.join('%d %d' % p for p in places)
+
+
+def course(rng):
+    if rng.random() < 0.25:
+        parts = [way(rng) for _ in range(rng.choice([1, 2, 2, 3]))]
+        if len(parts) > 1 and rng.random() < 0.5:
+            parts[1][0] = parts[0][-1]
+        return 'MULTILINESTRING (%s)' % ', '.join(path(part) for part in parts)
+    return 'LINESTRING ' + path(way(rng))
+
+
+def spot(rng):
+    """A point; every other one at one of four places."""
+    return 'POINT (%d %d)' % ((rng.choice(NODES[::2]), rng.choice(NODES[::2])) if rng.random() < 0.5 else place(rng))
+
+
+def session_line(rng, editors):
+    """A line that begins a session, ends it, or undoes or redoes steps of it."""
+    return rng.choice(['begin %s', 'by %s undo', 'by %s undo', 'by %s undo', 'by %s redo', 'by %s redo', 'end %s', 'discard %s']) % rng.choice(editors)
+
+
+def line(rng, count, editors):
+    """One line of a script in which about so many features were added."""
+    if len(editors) > 1 and rng.random() < 0.5:
+        return session_line(rng, editors)
+    return edit(rng, count).replace('by ann', 'by ' + rng.choice(editors))
+
+
+def edit(rng, count):
+    """A line that edits, validates, lists, or changes the rules."""
+    handle = rng.randint(1, count + 1)
+    kind = rng.random()
+    if kind < 0.18:
+        return 'by ann add %s %s' % (rng.choice(['lots', 'lots', 'zones']), area(rng))
+    if kind < 0.35:
+        return 'by ann add %s %s' % (rng.choice(['roads', 'roads', 'paths']), course(rng))
+    if kind < 0.47:
+        return 'by ann add %s %s' % (rng.choice(['wells', 'wells', 'pumps']), spot(rng))
+    if kind < 0.61:
+        return 'by ann change %d %s' % (handle, rng.choice([area, area, course, course, spot])(rng))
+    if kind < 0.66:
+        return 'by ann delete %d' % handle
+    if kind < 0.76:
+        return 'validate all'
+    if kind < 0.90:
+        return 'validate %d %d %d %d' % box(rng)
+    if kind < 0.92:
+        return 'droprule %d' % rng.randint(1, 6)
+    if kind < 0.95:
+        return 'rule ' + rng.choice(RULES)
+    return rng.choice(['cells', 'cells', 'dirty', 'errors', 'features'])
+
+
+CLASSES = {'polygon': ('lots', 'zones'), 'line': ('roads', 'paths'), 'point': ('wells', 'pumps')}
+
+
+def rules():
+    """Each rule, over the classes most features are of, and the other way round."""
+    for word, (first, second) in KINDS_OF.items():
+        for turned in (False, True):
+            names = [CLASSES[first][turned]]
+            if second:
+                names.append(CLASSES[second][(second == first) != turned])
+            yield ' '.join([word] + names)
+
+
+RULES = list(rules())
+FIRST, SECOND = RULES[::2], RULES[1::2]
+
+
+def script(seed, editors):
+    rng = random.Random(seed)
+    lines = ['class %s %s' % (name, kind) for kind, names in CLASSES.items() for name in names]
+    lines += ['begin ' + name for name in editors]
+    lines += ['rule ' + rule for rule in rng.sample(FIRST, rng.randint(3, 9)) + rng.sample(SECOND, rng.randint(0, 3))]
+    for n in range(rng.randint(15, 55 * min(2, len(editors)))):
+        lines.append(line(rng, n, editors))
+    return '\n'.join(lines + ['cells', 'dirty', 'validate all', 'cells', 'features']) + '\n'
