@@ -2,7 +2,7 @@ ghost use Rattle.std.specs.Prelude.{◌≡◌, IfOk};
 ghost use Rattle.plane_terms.specs.Carve.{carve_of};
 ghost use Rattle.topology_terms.specs.Cells as terms;
 
-use convex_cell::Cells;
+use convex_cell::{BoundedCells, Cells};
 use grid_plane::NoMemory;
 use rule_core::Work;
 use rule_loops::{Common, inside_of};
@@ -14,7 +14,7 @@ use std::rc::Rc;
 /// The inside of a polygon, for what others have in common with it.
 #[derive(Drop)]
 pub struct Overlap {
-    inside: Rc<Cells>,
+    inside: Rc<BoundedCells>,
 }
 
 impl Model for Overlap {

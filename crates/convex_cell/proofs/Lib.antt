@@ -1,3 +1,4 @@
+mod Carves
 pub mod Loops
 pub mod Ranges
 pub mod PairCuts

@@ -6,7 +6,7 @@ ghost use Rattle.rule_core.specs.Kept.{cells_of, halves_in, made_of, size_of, ke
 
 use crate::kept::Kept;
 use crate::region::Region;
-use convex_cell::Cells;
+use convex_cell::{BoundedCells, Cells};
 use grid_plane::NoMemory;
 use lru::LruCache;
 use shape::Feature;
@@ -109,7 +109,7 @@ fn found_in(
     cache: &LruCache<u32, Kept>,
     region: Region,
     f: &Feature,
-) -> Result<Option<Rc<Cells>>, NoMemory>
+) -> Result<Option<Rc<BoundedCells>>, NoMemory>
     ensures { IfOk result (λ found. MatchOption found (lookup (nat_eq f.now.handle) cache.now.entries ≢ Some (made_of region f.now.shape)) (λ cells. (lookup (nat_eq f.now.handle) cache.now.entries ≡ Some (made_of region f.now.shape)) × (cells.value ≡ cells_of region f.now.shape))) }
 {
     match cache.peek(&f.handle()) {
@@ -158,7 +158,7 @@ impl Keeping {
         &mut self,
         region: Region,
         f: &Feature,
-    ) -> Result<Option<Rc<Cells>>, NoMemory>
+    ) -> Result<Option<Rc<BoundedCells>>, NoMemory>
         ensures found { IfOk result (λ found. MatchOption found (kept_at self.old f.now.handle ≢ Some (made_of region f.now.shape)) (λ cells. (kept_at self.old f.now.handle ≡ Some (made_of region f.now.shape)) × (cells.value ≡ cells_of region f.now.shape))) }
         ensures after { IfOk result (λ found. self.new ≡ looked (is_some found) self.old f.now.handle) }
         ensures err { OnErr result (self.new ≡ self.old) }
@@ -178,14 +178,14 @@ impl Keeping {
         alloc: Global,
         region: Region,
         f: &Feature,
-        cells: &Rc<Cells>,
+        cells: &Rc<BoundedCells>,
     ) -> Result<(), NoMemory>
         requires { cells.now.value ≡ cells_of region f.now.shape }
         ensures kept { OnOk result (size_of (made_of region f.now.shape) ≤ most_halves → kept_at self.new f.now.handle ≡ Some (made_of region f.now.shape)) }
         ensures recent { OnOk result (size_of (made_of region f.now.shape) ≤ most_halves → IsPut self.old.entries f.now.handle (made_of region f.now.shape) self.new.entries) }
         ensures hits { self.new.hits ≡ self.old.hits }
     {
-        let Some(halves) = count_halves(cells) else {
+        let Some(halves) = count_halves(cells.cells()) else {
             return Ok(());
         };
         let kept = Kept::of(region, f.shape().try_copy(alloc)?, cells.clone()?, halves);

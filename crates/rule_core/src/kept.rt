@@ -2,7 +2,7 @@ ghost use Rattle.std.specs.Prelude.{◌≡◌, ◌≢◌, ◌↔◌, IfOk, IsTru
 ghost use Rattle.rule_core.specs.Kept.{cells_of, halves_in, made_of, size_of};
 
 use crate::region::Region;
-use convex_cell::Cells;
+use convex_cell::BoundedCells;
 use grid_plane::NoMemory;
 use shape::Shape;
 use std::marker::Model;
@@ -13,7 +13,7 @@ use std::rc::Rc;
 pub(crate) struct Kept {
     region: Region,
     shape: Shape,
-    cells: Rc<Cells>,
+    cells: Rc<BoundedCells>,
     halves: usize,
 }
 
@@ -30,7 +30,7 @@ impl Model for Kept {
 
 impl Kept {
     /// Cells and the number of their half-planes, kept beside their shape.
-    pub(crate) fn of(region: Region, shape: Shape, cells: Rc<Cells>, halves: usize) -> Kept
+    pub(crate) fn of(region: Region, shape: Shape, cells: Rc<BoundedCells>, halves: usize) -> Kept
         requires cells { cells.value ≡ cells_of region shape }
         requires halves { halves ≡ halves_in cells.value }
         ensures { result ≡ made_of region shape }
@@ -57,7 +57,11 @@ impl Kept {
     }
 
     /// The cells, where they are of this region of an equal shape; out of memory where they have too many owners.
-    pub(crate) fn cells(&self, region: Region, shape: &Shape) -> Result<Option<Rc<Cells>>, NoMemory>
+    pub(crate) fn cells(
+        &self,
+        region: Region,
+        shape: &Shape,
+    ) -> Result<Option<Rc<BoundedCells>>, NoMemory>
         ensures { IfOk result (λ found. MatchOption found (self.now ≢ made_of region shape.now) (λ cells. (self.now ≡ made_of region shape.now) × (cells.value ≡ cells_of region shape.now))) }
     {
         if !self.is_of(region, shape) {

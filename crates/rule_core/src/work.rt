@@ -4,7 +4,7 @@ ghost use Rattle.rule_core.specs.Kept.{cells_of};
 
 use crate::keeping::Keeping;
 use crate::region::Region;
-use convex_cell::Cells;
+use convex_cell::BoundedCells;
 use grid_plane::NoMemory;
 use shape::Feature;
 use std::alloc::Global;
@@ -39,7 +39,7 @@ fn look_in(
     keeping: &mut Option<Keeping>,
     region: Region,
     f: &Feature,
-) -> Result<Option<Rc<Cells>>, NoMemory>
+) -> Result<Option<Rc<BoundedCells>>, NoMemory>
     ensures { IfOk result (λ found. IfSome found (λ cells. cells.value ≡ cells_of region f.now.shape)) }
 {
     match keeping {
@@ -53,7 +53,7 @@ fn keep_in(
     alloc: Global,
     region: Region,
     f: &Feature,
-    cells: &Rc<Cells>,
+    cells: &Rc<BoundedCells>,
 ) -> Result<(), NoMemory>
     requires { cells.now.value ≡ cells_of region f.now.shape }
 {
@@ -98,7 +98,11 @@ impl Work {
     }
 
     /// The cells of this region of the polygon, where they are kept: those of its shape, whatever shape its handle had before.
-    pub fn look(&mut self, region: Region, f: &Feature) -> Result<Option<Rc<Cells>>, NoMemory>
+    pub fn look(
+        &mut self,
+        region: Region,
+        f: &Feature,
+    ) -> Result<Option<Rc<BoundedCells>>, NoMemory>
         ensures cells { IfOk result (λ found. IfSome found (λ cells. cells.value ≡ cells_of region f.now.shape)) }
         ensures uncounted { self.new ≡ self.old }
     {
@@ -115,7 +119,7 @@ impl Work {
         alloc: Global,
         region: Region,
         f: &Feature,
-        cells: &Rc<Cells>,
+        cells: &Rc<BoundedCells>,
     ) -> Result<(), NoMemory>
         requires { cells.now.value ≡ cells_of region f.now.shape }
         ensures uncounted { self.new ≡ self.old }

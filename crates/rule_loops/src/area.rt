@@ -28,7 +28,7 @@ pub fn area_left(
         let other = view.feature(i);
         if other.class() == class {
             let outside = outside_of(alloc, other, work)?;
-            cells = cells.carve(alloc, &outside)?;
+            cells = cells.carve_by(alloc, &outside)?;
         }
     }
     Ok(cells)

@@ -37,7 +37,7 @@ fn ground_round(alloc: Global, subject: &Feature, work: &mut Work) -> Result<Cel
     let mut ground = Cells::new(alloc);
     ground.push(Cell::box_round(alloc, &subject.shape().env())?)?;
     let outside = outside_of(alloc, subject, work)?;
-    ground.carve(alloc, &outside)
+    ground.carve_by(alloc, &outside)
 }
 
 // What no polygon of the class that is shown covers round the subject. Stops where nothing is left.
@@ -59,7 +59,7 @@ fn open_ground(
         let other = view.feature(i);
         if is_other(class, subject, other) {
             let outside = outside_of(alloc, other, work)?;
-            ground = ground.carve(alloc, &outside)?;
+            ground = ground.carve_by(alloc, &outside)?;
         }
     }
     Ok(ground)

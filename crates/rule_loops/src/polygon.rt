@@ -12,7 +12,7 @@ ghost use Rattle.rule_laws.proofs.Families.{IsFit};
 ghost use Rattle.rule_loops.specs.Views.{is_out};
 
 use column_cut::{inside, outside};
-use convex_cell::{Cell, Cells};
+use convex_cell::{BoundedCells, Cell, Cells};
 use grid_plane::{NoMemory, Rect, Seg};
 use plane_terms::Kind;
 use rule_core::{Region, Work};
@@ -35,20 +35,25 @@ fn kept_or_made(
     region: Region,
     polygon: &Feature,
     work: &mut Work,
-) -> Result<Rc<Cells>, NoMemory>
+) -> Result<Rc<BoundedCells>, NoMemory>
     ensures cells { IfOk result (λ cells. cells.value ≡ cells_of region polygon.now.shape) }
     ensures uncounted { work.new ≡ work.old }
 {
     if let Some(cells) = work.look(region, polygon)? {
         return Ok(cells);
     }
-    let cells = Rc::new(alloc, made_anew(alloc, region, polygon)?)?;
+    let made = made_anew(alloc, region, polygon)?;
+    let cells = Rc::new(alloc, BoundedCells::of(alloc, made)?)?;
     let _ = work.keep(alloc, region, polygon, &cells);
     Ok(cells)
 }
 
 /// The cells of a polygon's inside. The work keeps them for the next call.
-pub fn inside_of(alloc: Global, polygon: &Feature, work: &mut Work) -> Result<Rc<Cells>, NoMemory>
+pub fn inside_of(
+    alloc: Global,
+    polygon: &Feature,
+    work: &mut Work,
+) -> Result<Rc<BoundedCells>, NoMemory>
     ensures cells { IfOk result (λ cells. cells.value ≡ terms.inside polygon.now) }
     ensures uncounted { work.new ≡ work.old }
 {
@@ -56,7 +61,11 @@ pub fn inside_of(alloc: Global, polygon: &Feature, work: &mut Work) -> Result<Rc
 }
 
 /// The cells of what is closed out of a polygon. The work keeps them for the next call.
-pub fn outside_of(alloc: Global, polygon: &Feature, work: &mut Work) -> Result<Rc<Cells>, NoMemory>
+pub fn outside_of(
+    alloc: Global,
+    polygon: &Feature,
+    work: &mut Work,
+) -> Result<Rc<BoundedCells>, NoMemory>
     ensures cells { IfOk result (λ cells. cells.value ≡ terms.outside polygon.now) }
     ensures uncounted { work.new ≡ work.old }
 {
@@ -69,7 +78,7 @@ pub fn own_inside(alloc: Global, polygon: &Feature, work: &mut Work) -> Result<C
     ensures uncounted { work.new ≡ work.old }
 {
     match work.look(Region::Inside, polygon)? {
-        Some(cells) => cells.try_copy(alloc),
+        Some(cells) => cells.cells().try_copy(alloc),
         None => made_anew(alloc, Region::Inside, polygon),
     }
 }
@@ -151,6 +160,6 @@ pub fn covers(
         return Ok(false);
     }
     let outside = outside_of(alloc, polygon, work)?;
-    let left = cells.carve(alloc, &outside)?;
+    let left = cells.carve_by(alloc, &outside)?;
     Ok(left.len() == 0)
 }

@@ -17,7 +17,7 @@ loop-i-preserved c =
     let i = c.loop-i.i in
     elim c.if-class.branch [
       | then-class+in_ok-outside+in_ok-cells-2 w ↦ record {
-        left = w.cells-is ∙ (w.in_ok-cells-2.ensures.value ∙ (ap (carve_of c.loop-i.cells) (w.deref.ensures ∙ w.in_ok-outside.ensures.cells)
+        left = w.cells-is ∙ (w.in_ok-cells-2.ensures ∙ (ap (carve_of c.loop-i.cells) (w.deref.ensures ∙ w.in_ok-outside.ensures.cells)
             ∙ left_more f n V i g c.loop-i.cells c.feature-other.ensures
             (class_is g.class c.class.result n c.class.ensures w.if-class.true) c.loop-i.invariant.left));
         uncounted = w.work-is ∙ (w.outside_of.ensures.uncounted ∙ c.loop-i.invariant.uncounted);

@@ -17,8 +17,7 @@ loop-i-preserved c =
     let i = c.loop-i.i in
     elim c.if-is_other.branch [
       | then-is_other+in_ok-outside+in_ok-ground-2 w ↦ record {
-        ground = w.ground-is ∙ (w.in_ok-ground-2.ensures.value ∙ (ap (carve_of c.loop-i.ground) (w.deref.ensures
-            ∙ w.in_ok-outside.ensures.cells)
+        ground = w.ground-is ∙ (w.in_ok-ground-2.ensures ∙ (ap (carve_of c.loop-i.ground) (w.deref.ensures ∙ w.in_ok-outside.ensures.cells)
             ∙ ground_more f n V i g c.loop-i.ground c.feature-other.ensures
             (sym c.is_other.ensures ∙ w.if-is_other.true) c.loop-i.invariant.ground));
         uncounted = w.work-is ∙ (w.outside_of.ensures.uncounted ∙ c.loop-i.invariant.uncounted);
