@@ -1,12 +1,16 @@
 -- A record of plain fields is its line, and each error's fields are plain.
-use Rattle.std.proofs.Common.{◌≡◌, ℕ, ◌≤◌, arith, List, [], ◌∷◌, ◌++◌, refl, ap, ◌∙◌, append-nil}
+use Rattle.std.proofs.Common.{◌≡◌, ℕ, ◌≤◌, ◌+◌, arith, List, [], ◌∷◌, ◌++◌, refl, ap, sym, subst, ◌∙◌, append-nil, take, Option, Some, None}
+use Rattle.std.specs.Prelude.{flat_map, slice_get}
+use Rattle.std.specs.Io.KnownBytes.{Appends}
 use Rattle.std.specs.List.{join_with_byte}
 use Rattle.plane_terms.specs.Lists.{Every}
 use Rattle.plane_terms.specs.Rectangle.{Rectangle}
 use Rattle.csv.specs.Writing.{default_writer, field_text, fields_text, is_blank, row_text}
+use Rattle.csv.proofs.WriteFacts.{appends-more}
 use Rattle.topology_terms.specs.Entry.{Entry}
 use Rattle.topology_terms.specs.Project.{InForce, rule_at}
 use Rattle.script_terms.specs.Report.{report_fields}
+use Rattle.reply_text.proofs.Listings.{said_more}
 use Rattle.report_text.specs.Tables.{IsPlain, IsPlainRow, line_of, header_fields, frame_fields}
 use Rattle.report_text.proofs.Plain.{plain_decimal, plain_signed, plain_word, plain_extent, plain_mark}
 
@@ -49,3 +53,14 @@ plain_report rules e = record {
     ),
   );
 }
+
+-- ---- what is written, a record more at a time
+pub none_more : (a : Option (List ℕ)) → Appends a a []
+none_more None = tt
+none_more (Some xs) = sym (append-nil xs)
+
+pub lines_more : {X : Type 0} (f : X → List ℕ) (xs : List X) (i : ℕ) (x : X) (start old new : Option (List ℕ)) → slice_get xs i ≡ Some x
+    → Appends start old (flat_map f (take i xs)) → Appends old new (f x) → Appends start new (flat_map f (take (i + 1) xs))
+lines_more f xs i x start old new at before more =
+    let lines = flat_map f (take i xs) in
+    subst (λ t. Appends start new t) (said_more f xs i x [] lines (lines ++ f x) at refl refl) (appends-more start old new lines (f x) before more)

@@ -25,14 +25,16 @@ glyph n = by (nat_lt n 10)
     by true = omega arith
     by false = omega arith
 
+plain_either : (t : Bool) (xs ys : List ℕ) → IsPlain xs → IsPlain ys → IsPlain (if t then xs else ys)
+plain_either true xs ys h k = h
+plain_either false xs ys h k = k
+
 onto : (k n : ℕ) (acc : List ℕ) → IsPlain acc → IsPlain (digits_onto k 10 false n acc)
 onto zero n acc h = h
-onto (suc k) n acc h = by (n / 10 == 0) (plain_cons (digit_glyph false (n % 10)) acc (glyph (n % 10)) h)
-  where
-    by : (t : Bool) → IsPlain (digit_glyph false (n % 10) ∷ acc)
-        → IsPlain (if t then digit_glyph false (n % 10) ∷ acc else digits_onto k 10 false (n / 10) (digit_glyph false (n % 10) ∷ acc))
-    by true h = h
-    by false h = onto k (n / 10) (digit_glyph false (n % 10) ∷ acc) h
+onto (suc k) n acc h =
+    let more = digit_glyph false (n % 10) ∷ acc in
+    let plain : IsPlain more = plain_cons (digit_glyph false (n % 10)) acc (glyph (n % 10)) h in
+    plain_either (n / 10 == 0) more (digits_onto k 10 false (n / 10) more) plain (onto k (n / 10) more plain)
 
 pub plain_decimal : (n : ℕ) → IsPlain (decimal n)
 unfolding digits

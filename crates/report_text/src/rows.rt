@@ -2,7 +2,7 @@ ghost use Rattle.std.specs.Prelude.{◌≡◌, ◌++◌, flat_map, IfOk, OnOk};
 ghost use Rattle.std.specs.Io.KnownBytes.{Appends};
 ghost use Rattle.csv.specs.Records.{fields_of};
 ghost use Rattle.csv.specs.Writing.{text_written};
-ghost use Rattle.script_terms.specs.Report.{report_line, report_of};
+ghost use Rattle.script_terms.specs.Report.{report_header, report_line, report_of};
 ghost use Rattle.report_text.specs.Tables.{IsReady, IsPlainRow, line_of, header_fields};
 
 use crate::fields::set_entry;
@@ -45,6 +45,16 @@ fn header(alloc: Global) -> Result<ByteRecord, NoMemory>
     Ok(ByteRecord::from_fields(alloc, &names)?)
 }
 
+fn write_header<W: Write + Drop>(writer: &mut Writer<W>, alloc: Global) -> Result<(), NoMemory>
+    requires { IsReady writer.old }
+    ensures ready { OnOk result (IsReady writer.new) }
+    ensures text { OnOk result (Appends (text_written W.contents writer.old) (text_written W.contents writer.new) report_header) }
+{
+    let names = header(alloc)?;
+    write_row(writer, &names)?;
+    Ok(())
+}
+
 // A record for each error.
 fn write_entries<W: Write + Drop>(
     writer: &mut Writer<W>,
@@ -73,6 +83,7 @@ pub fn write_report<W: Write + Drop>(
     requires { IsReady writer.old }
     ensures { OnOk result (Appends (text_written W.contents writer.old) (text_written W.contents writer.new) (report_of rules.now entries.now)) }
 {
-    write_row(writer, &header(alloc)?)?;
-    write_entries(writer, alloc, rules, entries)
+    write_header(writer, alloc)?;
+    write_entries(writer, alloc, rules, entries)?;
+    Ok(())
 }
