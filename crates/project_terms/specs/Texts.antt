@@ -12,7 +12,7 @@
 --                       within it; or the line is wrong, for the cause c
 -- IsFault t n c         the line n, counted from 1, is the first that is wrong, and c is its first cause
 --
--- IsProjectText waits for the call that reads a project. Source: own.
+-- `IsProjectText` waits for the reader of projects, which answers a project exactly of such a text. Source: own.
 use Rattle.std.specs.Prelude.{ℕ, ◌≡◌, ◌≢◌, ◌+◌, ◌<◌, ◌≤◌, ◌⊎◌, ◌==◌, Bool, true, not, List, [], ◌∷◌, ◌++◌, length, flat_map, Ok, Err, IfSome}
 use Rattle.std.specs.List.{list_all}
 use Rattle.plane_terms.specs.Lists.{Every}
