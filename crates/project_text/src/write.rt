@@ -111,7 +111,7 @@ fn push_project(
     Ok(())
 }
 
-/// The text of a project, format 1: for each project one text. Reading it gives the project again.
+/// The text of a project, format 1: for each project one text.
 pub fn write_project(alloc: Global, project: &ProjectData) -> Result<Vec<u8>, NoMemory>
     ensures { IfOk result (λ text. text.items ≡ project_text project.now) }
 {

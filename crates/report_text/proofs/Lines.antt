@@ -63,4 +63,5 @@ pub lines_more : {X : Type 0} (f : X → List ℕ) (xs : List X) (i : ℕ) (x : 
     → Appends start old (flat_map f (take i xs)) → Appends old new (f x) → Appends start new (flat_map f (take (i + 1) xs))
 lines_more f xs i x start old new at before more =
     let lines = flat_map f (take i xs) in
-    subst (λ t. Appends start new t) (said_more f xs i x [] lines (lines ++ f x) at refl refl) (appends-more start old new lines (f x) before more)
+    subst (λ t. Appends start new t) (said_more f xs i x [] lines (lines ++ f x) at refl refl)
+    (appends-more start old new lines (f x) before more)

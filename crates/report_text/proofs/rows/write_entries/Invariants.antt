@@ -9,5 +9,6 @@ use Rattle.report_text.proofs.rows.write_entries.Given as goal
 abbrev pub invariant-loop-entry : goal.invariant-loop-entry
 invariant-loop-entry g l = record {
   ready : IsReady l.writer;
-  text : Appends (text_written g.W.Write.contents l.initial.writer) (text_written g.W.Write.contents l.writer) (flat_map (report_line l.rules) (take l.entry-index l.entries));
+  text : Appends (text_written g.W.Write.contents l.initial.writer) (text_written g.W.Write.contents l.writer)
+      (flat_map (report_line l.rules) (take l.entry-index l.entries));
 }
