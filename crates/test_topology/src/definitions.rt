@@ -73,7 +73,9 @@ pub(crate) fn square(
     class: u16,
     x: i16,
     y: i16,
-) -> Result<Feature, Fail> {
+) -> Result<Feature, Fail>
+    ensures { IfOk result (λ f. (f.handle ≡ handle) × (f.class ≡ class)) }
+{
     let (left, low) = (i64::from(x), i64::from(y));
     let mut ring = Vec::new(alloc);
     ring.push(place(left, low)?)?;
