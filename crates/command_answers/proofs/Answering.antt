@@ -196,20 +196,20 @@ no_class s t k origin dest lacks same = by (is_nowhere s.project dest) refl lack
     by false e (inr l) = cc
 
 -- ---- a validation
--- a count from nothing stays far from its end
-exact : (n : ℕ) → n ≤ 1099511627776 → raised 0 n - 0 ≡ n
-exact n l = omega arith
+-- a count that begins low stays far from its end
+exact : (b n : ℕ) → b ≤ 1099511627776 → n ≤ 1099511627776 → raised b n - b ≡ n
+exact b n k l = omega arith
 
 handles_of : (next : ℕ) (F : List Feature) → Every (IsGiven next) F → Every (λ (f : Feature). 1 ≤ f.handle) F
     × Every (λ (f : Feature). f.handle < next) F
 handles_of next [] h = (tt, tt)
 handles_of next (f ∷ F) h = let rest = handles_of next F h.1 in ((h.0.from_1, rest.0), (h.0.before, rest.1))
 
-pub validated : (s t : State) (w : Rectangle) (judged errors dirty done_count : ℕ) → IsTopology s.project → s.project.next ≤ 4294967295
-    → IsValidatedBy poster w s.project t.project → IsCounted w s.project 0 done_count →
-    judged ≡ done_count - 0 → errors ≡ length t.project.entries → dirty ≡ length t.project.dirt → t.sessions ≡ s.sessions
+pub validated : (s t : State) (w : Rectangle) (judged errors dirty before after : ℕ) → IsTopology s.project → s.project.next ≤ 4294967295
+    → before ≤ 1099511627776 → IsValidatedBy poster w s.project t.project → IsCounted w s.project before after →
+    judged ≡ after - before → errors ≡ length t.project.entries → dirty ≡ length t.project.dirt → t.sessions ≡ s.sessions
     → Answers s (Validate w) (Judged judged errors dirty) t
-validated s t w judged errors dirty count law next v counted j e d same =
+validated s t w judged errors dirty before after law next low v counted j e d same =
     let F = s.project.features in
     let handles = handles_of s.project.next F law.store.given in
     let all = few_handles 1 s.project.next F law.store.from_1 law.store.ascending handles.0 handles.1 in
@@ -217,8 +217,8 @@ validated s t w judged errors dirty count law next v counted j e d same =
     let few : length counted.subjects ≤ 4294967296 = omega (arith, all, chosen, next) in
     let most = few_judged s.project.rules counted.subjects 4294967296 few in
     let bound : judged_of s.project.rules counted.subjects ≤ 1099511627776 = (let r = law.few in omega (arith, most, r)) in
-    let is : judged ≡ judged_of s.project.rules counted.subjects = (j ∙ (ap (λ n. n - 0) counted.count
-    ∙ exact (judged_of s.project.rules counted.subjects) bound)) in
+    let is : judged ≡ judged_of s.project.rules counted.subjects = (j ∙ (ap (λ n. n - before) counted.count
+    ∙ exact before (judged_of s.project.rules counted.subjects) low bound)) in
     done s t (Validate w) (Judged judged errors dirty) refl (
       judged,
       errors,

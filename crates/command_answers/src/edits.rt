@@ -1,4 +1,4 @@
-ghost use Rattle.std.specs.Prelude.{◌≡◌, IfOk, OnErr};
+ghost use Rattle.std.specs.Prelude.{◌≡◌, ◌≤◌, IfOk, OnErr};
 ghost use Rattle.line_terms.specs.Commands.{Add, Change, Delete, Validate};
 ghost use Rattle.script_terms.specs.Answer.{Answers};
 ghost use Rattle.reply_text.specs.Replies.{said_of};
@@ -11,6 +11,18 @@ use reply_text::{Refusal, Reply};
 use rule_core::Work;
 use shape::Shape;
 use topology_terms::Cause;
+
+// A work whose count is lower than this can count a whole validation.
+const COUNTED: u64 = 1 << 40;
+
+// A work with a high count gives way to a new one, and what it keeps goes.
+fn begin_count(work: &mut Work)
+    ensures { work.new ≤ 1099511627776 }
+{
+    if work.judged() > COUNTED {
+        *work = Work::new();
+    }
+}
 
 impl World {
     /// `by EDITOR add CLASS SHAPE`
@@ -79,9 +91,9 @@ impl World {
         ensures answers { IfOk result (λ r. Answers self.old (Validate window) (said_of self.new.project r) self.new) }
         ensures err { OnErr result (self.new ≡ self.old) }
     {
-        let mut work = Work::new();
         self.topology.topology_law();
         self.topology.store().next_handle();
-        Ok(Reply::Judged(self.topology.validate(window, &mut work)?))
+        begin_count(&mut self.work);
+        Ok(Reply::Judged(self.topology.validate(window, &mut self.work)?))
     }
 }

@@ -5,17 +5,20 @@ ghost use Rattle.script_terms.specs.Keeping.{IsKeeping};
 ghost use Rattle.script_terms.specs.Headline.{Invariant, IsExact};
 
 use edit_session::Sessions;
+use rule_core::Work;
 use rule_set::{PosterRules, poster_law};
 use std::alloc::Global;
 use std::marker::Model;
 use topo_core::Topology;
 
 /// The state of a run: the topology, and the open sessions. In every state the printed errors are exactly what is broken off the
-/// printed dirty areas, and are cut as the rules cut them; no handle has steps in two sessions, and each can be undone.
+/// printed dirty areas, and are cut as the rules cut them; no handle has steps in two sessions, and each can be undone. The cells
+/// that a validation keeps serve the next one.
 #[derive(Drop)]
 pub struct World {
     pub(crate) topology: Topology<PosterRules>,
     pub(crate) sessions: Sessions,
+    pub(crate) work: Work,
 }
 
 impl Model for World {
@@ -38,6 +41,7 @@ impl World {
         World {
             topology: Topology::new(alloc, PosterRules),
             sessions: Sessions::new(alloc),
+            work: Work::new(),
         }
     }
 
