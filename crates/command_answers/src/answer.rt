@@ -44,10 +44,18 @@ impl World {
             Command::Redo(editor) => self.answer_redo(&editor),
             Command::Validate(window) => self.answer_validate(window),
             Command::Mark(rule, subject, other) => {
-                Ok(self.answer_mark(Key { rule, subject, other }))
+                Ok(self.answer_mark(Key {
+                    rule,
+                    subject,
+                    other,
+                }))
             }
             Command::Unmark(rule, subject, other) => {
-                Ok(self.answer_unmark(Key { rule, subject, other }))
+                Ok(self.answer_unmark(Key {
+                    rule,
+                    subject,
+                    other,
+                }))
             }
             Command::Dirty => Ok(Reply::DirtyList),
             Command::Errors => Ok(Reply::ErrorList),

@@ -48,11 +48,7 @@ fn push_rule_lines(out: &mut Vec<u8>, store: &Store, rules: &[InForce]) -> Resul
 }
 
 /// Appends a line for each rule in force, in the order of their numbers, and how many there are. The classes are the store's.
-pub fn push_rule_list(
-    out: &mut Vec<u8>,
-    store: &Store,
-    rules: &[InForce],
-) -> Result<(), NoMemory>
+pub fn push_rule_list(out: &mut Vec<u8>, store: &Store, rules: &[InForce]) -> Result<(), NoMemory>
     ensures { OnOk result (out.new.items ≡ out.old.items ++ (flat_map (rule_line store.now.classes) rules.now ++ total_line (length rules.now))) }
 {
     push_rule_lines(out, store, rules)?;

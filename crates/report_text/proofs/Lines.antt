@@ -38,8 +38,19 @@ plain_frame r = (plain_signed r.x0, (plain_signed r.y0, (plain_signed r.x1, (pla
 pub plain_report : (rules : List InForce) (e : Entry) → IsPlainRow (report_fields rules e)
 plain_report rules e = record {
   some = omega arith;
-  each = (plain_decimal e.rule, (plain_word (rule_at rules e.rule), (plain_decimal e.subject, (plain_decimal e.other,
-  (plain_extent e.whole, (plain_mark e.marked, plain_frame e.frame))))));
+  each = (
+    plain_decimal e.rule,
+    (
+      plain_word (rule_at rules e.rule),
+      (
+        plain_decimal e.subject,
+        (
+          plain_decimal e.other,
+          (plain_extent e.whole, (plain_mark e.marked, plain_frame e.frame)),
+        ),
+      ),
+    ),
+  );
 }
 
 -- ---- what is written, a record more at a time

@@ -4,6 +4,11 @@ use Rattle.reply_text.proofs.Values.{coordinate}
 use Rattle.report_text.proofs.fields.push_frame.Goals as goal
 
 pub returns-clause-fields : goal.returns-clause-fields
-returns-clause-fields c = grind (arith, common_steps,
-  coordinate _ _ c.x0.ensures.bound c.x0.ensures.value, coordinate _ _ c.y0.ensures.bound c.y0.ensures.value,
-  coordinate _ _ c.x1.ensures.bound c.x1.ensures.value, coordinate _ _ c.y1.ensures.bound c.y1.ensures.value)
+returns-clause-fields c = grind (
+  arith,
+  common_steps,
+  coordinate _ _ c.x0.ensures.bound c.x0.ensures.value,
+  coordinate _ _ c.y0.ensures.bound c.y0.ensures.value,
+  coordinate _ _ c.x1.ensures.bound c.x1.ensures.value,
+  coordinate _ _ c.y1.ensures.bound c.y1.ensures.value,
+)

@@ -18,5 +18,5 @@ pub loop-entry-preserved : goal.loop-entry-preserved
 loop-entry-preserved g c = record {
   ready = c.in_ok-write_row.ensures.ready;
   text = lines_more (report_line c.args.rules.now) _ _ _ _ _ _ (slice_get_read _ _ _ _ refl c.loop-entry-test.true c.entry-item.is) c.loop-entry.invariant.text
-    (rw c.in_ok-set_entry.ensures at c.in_ok-write_row.ensures.text);
+      (rw c.in_ok-set_entry.ensures at c.in_ok-write_row.ensures.text);
 }

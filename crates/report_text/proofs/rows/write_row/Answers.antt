@@ -14,6 +14,6 @@ returns-clause-text g c =
     let plain : (writer_setup c.args.writer.now).style ≢ style.NonNumeric = rw ready.setup (λ e. cc e) in
     elim c.match-write_byte_record.branch [
       | in-Ok w ↦ rw w.result-is (subst (λ t. Appends (text_written g.W.Write.contents c.args.writer.now) (text_written g.W.Write.contents c.write_byte_record.new.self) t)
-        (ap (λ cfg. row_text cfg fields) ready.setup ∙ row_line fields c.requires.plain) (w.in-Ok.ensures.bytes ready.fields ready.wrote plain))
+          (ap (λ cfg. row_text cfg fields) ready.setup ∙ row_line fields c.requires.plain) (w.in-Ok.ensures.bytes ready.fields ready.wrote plain))
       | in-Err w ↦ rw w.result-is tt
     ]
