@@ -7,7 +7,7 @@ use shape::ShapeFault;
 use std::test::Fail;
 use topo_core::Topology;
 
-const REFUSALS: [Refusal; 26] = [
+const REFUSALS: [Refusal; 28] = [
     Refusal::Line(LineRefusal::NotALine),
     Refusal::Line(LineRefusal::TooLong),
     Refusal::Change(Cause::ClassTaken),
@@ -34,6 +34,8 @@ const REFUSALS: [Refusal; 26] = [
     Refusal::NothingToUndo,
     Refusal::NothingToRedo,
     Refusal::Line(LineRefusal::Reversed),
+    Refusal::Change(Cause::NoError),
+    Refusal::Change(Cause::AlreadySo),
 ];
 
 const TEXT: &[u8] = b"refused E01
@@ -62,6 +64,8 @@ refused E21
 refused E22
 refused E23
 refused E24
+refused E25
+refused E26
 ";
 
 #[test]
