@@ -1,14 +1,14 @@
 use Rattle.std.proofs.Common.{arith}
 use Rattle.std.proofs.lemmas.Grind.{common_steps}
-use Rattle.reply_text.proofs.Values.{coordinate}
+use Rattle.wkt_text.proofs.Pushing.{as_number}
 use Rattle.report_text.proofs.fields.push_frame.Goals as goal
 
 pub returns-clause-fields : goal.returns-clause-fields
 returns-clause-fields c = grind (
   arith,
   common_steps,
-  coordinate _ _ c.x0.ensures.bound c.x0.ensures.value,
-  coordinate _ _ c.y0.ensures.bound c.y0.ensures.value,
-  coordinate _ _ c.x1.ensures.bound c.x1.ensures.value,
-  coordinate _ _ c.y1.ensures.bound c.y1.ensures.value,
+  as_number _ _ c.x0.ensures.bound c.x0.ensures.value,
+  as_number _ _ c.y0.ensures.bound c.y0.ensures.value,
+  as_number _ _ c.x1.ensures.bound c.x1.ensures.value,
+  as_number _ _ c.y1.ensures.bound c.y1.ensures.value,
 )
