@@ -18,3 +18,4 @@ pub mod Envelope
 pub mod HalfPlanes
 pub mod SegmentCells
 pub mod AtPlaces
+pub mod Counted

@@ -26,12 +26,6 @@ more_said f xs i t start old new at before more =
     let e : flat_map f (take (suc i) xs) ≡ flat_map f (take i xs) ++ t = take_more f xs i ∙ ap (λ o. flat_map f (take i xs) ++ o) at in
     rw add-one (more ∙ (ap (λ u. u ++ t) before ∙ (append_assoc start (flat_map f (take i xs)) t ∙ ap (λ u. start ++ u) (sym e))))
 
--- one item more is said
-pub said_more : {X : Type 0} (f : X → List ℕ) (xs : List X) (i : ℕ) (x : X) (start old new : List ℕ) → slice_get xs i ≡ Some x
-    → old ≡ start ++ flat_map f (take i xs)
-    → new ≡ old ++ f x → new ≡ start ++ flat_map f (take (i + 1) xs)
-said_more f xs i x start old new at before more = more_said f xs i (f x) start old new (ap (said_of f) at) before more
-
 class_said : (o : Option Class) → said_of (λ (c : Class). class_text (Some c)) o ≡ class_text o
 class_said None = refl
 class_said (Some c) = refl

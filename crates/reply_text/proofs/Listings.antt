@@ -1,25 +1,9 @@
--- The lines of a listing, and half-planes with commas between them, one item more at a time.
-use Rattle.std.proofs.Common.{ℕ, zero, suc, ◌≡◌, ◌+◌, List, [], ◌∷◌, ◌++◌, take, drop, map, sym, ◌∙◌, ap, append_assoc, append-nil, add-one, Some}
-use Rattle.std.specs.Prelude.{flat_map, slice_get}
+-- Half-planes with commas between them, one item more at a time.
+use Rattle.std.proofs.Common.{ℕ, zero, suc, ◌≡◌, ◌+◌, List, [], ◌∷◌, ◌++◌, drop, map, sym, ◌∙◌, ap, append_assoc, add-one, Some}
+use Rattle.std.specs.Prelude.{slice_get}
 use Rattle.text_terms.specs.Wkt.{listed}
 use Rattle.wkt_laws.specs.Commas.{comma_texts}
 use Rattle.wkt_laws.proofs.Written.{listed_items}
-
--- ---- lines
-
-flat_map_take_more : {X : Type 0} (f : X → List ℕ) (xs : List X) (i : ℕ) (x : X) → slice_get xs i ≡ Some x
-    → flat_map f (take (suc i) xs) ≡ flat_map f (take i xs) ++ f x
-flat_map_take_more f [] i x at = cc
-flat_map_take_more f (y ∷ ys) zero x at = let e : y ≡ x = cc in append-nil (f y) ∙ ap f e
-flat_map_take_more f (y ∷ ys) (suc i) x at = ap (λ t. f y ++ t) (flat_map_take_more f ys i x at)
-    ∙ sym (append_assoc (f y) (flat_map f (take i ys)) (f x))
-
--- one item more is said
-pub said_more : {X : Type 0} (f : X → List ℕ) (xs : List X) (i : ℕ) (x : X) (start old new : List ℕ) → slice_get xs i ≡ Some x
-    → old ≡ start ++ flat_map f (take i xs) → new ≡ old ++ f x → new ≡ start ++ flat_map f (take (i + 1) xs)
-said_more f xs i x start old new at before more =
-    rw add-one (more ∙ (ap (λ t. t ++ f x) before ∙ (append_assoc start (flat_map f (take i xs)) (f x)
-    ∙ ap (λ t. start ++ t) (sym (flat_map_take_more f xs i x at)))))
 
 -- ---- commas
 

@@ -1,5 +1,5 @@
 -- A record of plain fields is its line, and each error's fields are plain.
-use Rattle.std.proofs.Common.{◌≡◌, ℕ, ◌≤◌, ◌+◌, arith, List, [], ◌∷◌, ◌++◌, refl, ap, sym, subst, ◌∙◌, append-nil, take, Option, Some, None}
+use Rattle.std.proofs.Common.{◌≡◌, ℕ, ◌+◌, arith, List, [], ◌∷◌, ◌++◌, refl, ap, sym, subst, ◌∙◌, append-nil, take, Option, Some, None}
 use Rattle.std.specs.Prelude.{flat_map, slice_get}
 use Rattle.std.specs.Io.KnownBytes.{Appends}
 use Rattle.std.specs.List.{join_with_byte}
@@ -10,7 +10,7 @@ use Rattle.csv.proofs.WriteFacts.{appends-more}
 use Rattle.topology_terms.specs.Entry.{Entry}
 use Rattle.topology_terms.specs.Project.{InForce, rule_at}
 use Rattle.script_terms.specs.Report.{report_fields}
-use Rattle.reply_text.proofs.Listings.{said_more}
+use Rattle.wkt_text.proofs.Said.{said_more}
 use Rattle.report_text.specs.Tables.{IsPlain, IsPlainRow, line_of, header_fields, frame_fields}
 use Rattle.report_text.proofs.Plain.{plain_decimal, plain_signed, plain_word, plain_extent, plain_mark}
 

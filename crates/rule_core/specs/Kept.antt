@@ -7,15 +7,14 @@
 -- size_of k         how many half-planes those cells have
 -- most_features     of so many features are cells kept, at most
 -- most_halves       and so many half-planes in all
--- Keeping           what is kept: the pairs of a handle and what was made of its shape, the most recently used first;
---                   and how often a look-up found what it sought, a count that stops at its greatest number
+-- Keeping           what is kept: the pairs of a handle and what was made of its shape, the most recently used first
 -- total es          how many half-planes all the pairs have
 -- IsWithin room es n    there is room for so many pairs as features are kept of, at most; the pairs have n half-planes, which are not too
 --                       many
 -- kept_at K h       what is kept for the handle h
 -- IsPut old h k new what is kept once k is put in for h: k goes first, and of the pairs that were most recently used some stay, in their
 -- order
--- looked b K h      after a look-up for the handle h: where it found what it sought, the pair went to the front and was counted
+-- looked b K h      after a look-up for the handle h: where it found what it sought, the pair went to the front
 use Rattle.std.specs.Prelude.{◌≡◌, ◌≤◌, ℕ, Bool, true, false, List, Option, nat_eq, length, take}
 use Rattle.std.specs.List.{sum_by}
 use Rattle.std.specs.Map.{lookup}
@@ -23,7 +22,6 @@ use Rattle.lru.specs.LruCache.{lru_cache, promoted, put_entries}
 use Rattle.plane_terms.specs.Cell.{Cell}
 use Rattle.plane_terms.specs.Shape.{Shape, segments_of}
 use Rattle.plane_terms.specs.Columns.{inside_cells, outside_cells}
-use Rattle.topology_terms.specs.Counts.{raised}
 use Rattle.rule_core.specs.declared.region.Region.{Region}
 use Rattle.rule_core.specs.declared.region.Region.TheVariants.{Inside, Outside}
 
@@ -52,7 +50,6 @@ most_halves = 1048576
 
 pub record Keeping : Type 0 where
   pub entries : List (ℕ × KeptShape)
-  pub hits : ℕ
 
 abbrev pub total : List (ℕ × KeptShape) → ℕ
 total es = sum_by (λ (e : ℕ × KeptShape). size_of e.1) es
@@ -70,5 +67,5 @@ pub record IsPut (old : List (ℕ × KeptShape)) (h : ℕ) (k : KeptShape) (new 
   pub put : new ≡ put_entries nat_eq (lru_cache (take left old) most_features) h k
 
 abbrev pub looked : Bool → Keeping → ℕ → Keeping
-looked true k h = record { entries = promoted (nat_eq h) k.entries; hits = raised k.hits 1 }
+looked true k h = record { entries = promoted (nat_eq h) k.entries }
 looked false k h = k

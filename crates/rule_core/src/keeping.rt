@@ -26,7 +26,6 @@ const MOST_HALVES: usize = 1_048_576;
 pub(crate) struct Keeping {
     cache: LruCache<u32, Kept>,
     halves: usize,
-    hits: u64,
 }
 
 impl Model for Keeping {
@@ -34,7 +33,7 @@ impl Model for Keeping {
 
     ghost Value = { terms.Keeping };
 
-    ghost view = { λ k. record { entries = k.cache.entries; hits = k.hits } };
+    ghost view = { λ k. record { entries = k.cache.entries } };
 
     ghost invariant = { λ k. terms.IsWithin k.cache.cap k.cache.entries k.halves };
 }
@@ -121,36 +120,12 @@ fn found_in(
 impl Keeping {
     /// Nothing is kept yet.
     pub(crate) fn new(alloc: Global) -> Result<Keeping, NoMemory>
-        ensures { IfOk result (λ k. k ≡ record { entries = []; hits = 0 }) }
+        ensures { IfOk result (λ k. k ≡ record { entries = [] }) }
     {
         Ok(Keeping {
             cache: LruCache::sparse(alloc, most_pairs())?,
             halves: 0,
-            hits: 0,
         })
-    }
-
-    /// How often a look-up found what it sought.
-    pub(crate) fn hits(&self) -> u64
-        ensures { result ≡ self.now.hits }
-    {
-        self.hits
-    }
-
-    /// The number of features of which cells are kept.
-    pub(crate) fn len(&self) -> usize
-        ensures value { result ≡ length self.now.entries }
-        ensures bound { result ≤ most_features }
-    {
-        self.cache.len()
-    }
-
-    /// The number of half-planes that are kept.
-    pub(crate) fn halves(&self) -> usize
-        ensures value { result ≡ total self.now.entries }
-        ensures bound { result ≤ most_halves }
-    {
-        self.halves
     }
 
     /// The cells of this region of the feature, where they are kept for its handle and were made of an equal shape.
@@ -166,7 +141,6 @@ impl Keeping {
         let found = found_in(&self.cache, region, f)?;
         if found.is_some() {
             self.cache.promote(&f.handle());
-            self.hits = self.hits.saturating_add(1);
         }
         Ok(found)
     }
@@ -183,7 +157,6 @@ impl Keeping {
         requires { cells.now.value ≡ cells_of region f.now.shape }
         ensures kept { OnOk result (size_of (made_of region f.now.shape) ≤ most_halves → kept_at self.new f.now.handle ≡ Some (made_of region f.now.shape)) }
         ensures recent { OnOk result (size_of (made_of region f.now.shape) ≤ most_halves → IsPut self.old.entries f.now.handle (made_of region f.now.shape) self.new.entries) }
-        ensures hits { self.new.hits ≡ self.old.hits }
     {
         let Some(halves) = count_halves(cells.cells()) else {
             return Ok(());

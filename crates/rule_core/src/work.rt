@@ -28,13 +28,6 @@ impl Model for Work {
     ghost view = { λ w. w.judged };
 }
 
-fn hits_of(keeping: &Option<Keeping>) -> u64 {
-    match keeping {
-        Some(keeping) => keeping.hits(),
-        None => 0,
-    }
-}
-
 fn look_in(
     keeping: &mut Option<Keeping>,
     region: Region,
@@ -83,11 +76,6 @@ impl Work {
         ensures { result ≡ self.now }
     {
         self.judged
-    }
-
-    /// How often `look` found cells: a count that stops at its greatest number.
-    pub fn hits(&self) -> u64 {
-        hits_of(&self.insides).saturating_add(hits_of(&self.outsides))
     }
 
     /// One judgement more.

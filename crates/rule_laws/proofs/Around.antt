@@ -4,6 +4,7 @@ use Rattle.std.specs.Prelude.{◌&&◌}
 use Rattle.std.specs.List.{filter}
 use Rattle.std.proofs.lemmas.Bool.Decides.{Decides-and}
 use Rattle.plane_terms.specs.Point.{Point}
+use Rattle.plane_terms.proofs.Truths.{both_parts}
 use Rattle.plane_terms.specs.Rectangle.{Rectangle, RectHolds, rects_meet, holds_point}
 use Rattle.topology_terms.specs.Feature.{Feature, Side, is_on_side, env, Agree, IsAscending}
 use Rattle.topology_terms.specs.Broken.{Row}
@@ -31,9 +32,6 @@ holds_test r p h =
 abbrev pub round : Point → List Feature → List Feature
 round p gs = filter (λ (g : Feature). holds_point (env g) p) gs
 
-second : (a b : Bool) → (a && b) ≡ true → b ≡ true
-second a b e = grind arith
-
 -- of two maps that agree round a point
 pub round_agree : (S : Side) (F G : List Feature) (p : Point) → IsAscending F → IsAscending G → Agree (λ f. RectHolds (env f) p) F G
     → round p (of_side S F) ≡ round p (of_side S G)
@@ -42,8 +40,8 @@ round_agree S F G p u v agree =
     let test : Feature → Bool = λ g. is_on_side S g && held g in
     kept_twice held (is_on_side S) F
     ∙ (filter_agree test F G u v
-    (λ h f e t. agree.forth h f e (holds_from (env f) p (second (is_on_side S f) (held f) t)))
-    (λ h f e t. agree.back h f e (holds_from (env f) p (second (is_on_side S f) (held f) t)))
+    (λ h f e t. agree.forth h f e (holds_from (env f) p (both_parts (is_on_side S f) (held f) t).1))
+    (λ h f e t. agree.back h f e (holds_from (env f) p (both_parts (is_on_side S f) (held f) t).1))
     ∙ sym (kept_twice held (is_on_side S) G))
 
 -- of those near a subject whose envelope holds the point

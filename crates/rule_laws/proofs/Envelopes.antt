@@ -13,7 +13,7 @@ use Rattle.cell_laws.proofs.Lists.{all_append}
 use Rattle.sound_laws.proofs.Planes.{within_self}
 use Rattle.validation_laws.proofs.Frames.{within_join_left, within_join_right}
 
-within_trans : (r s t : Rectangle) → IsWithin r s → IsWithin s t → IsWithin r t
+pub within_trans : (r s t : Rectangle) → IsWithin r s → IsWithin s t → IsWithin r t
 within_trans r s t i j =
     record {
       left = omega (arith, ints, i.left, j.left);

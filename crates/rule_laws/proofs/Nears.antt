@@ -4,6 +4,7 @@ use Rattle.std.specs.Prelude.{nat_lt, ◌==◌, ◌&&◌}
 use Rattle.std.specs.List.{filter}
 use Rattle.std.proofs.lemmas.Bool.Decides.{nat_tests}
 use Rattle.plane_terms.specs.Rectangle.{RectsMeet, rects_meet}
+use Rattle.plane_terms.proofs.Truths.{both_parts}
 use Rattle.topology_terms.specs.Feature.{Feature, Side, IsOf, is_on_side, feature_at, env, Agree, IsAscending}
 use Rattle.topology_terms.specs.Plans.{near, near_after}
 use Rattle.sound_laws.proofs.Dirts.{bool_cases}
@@ -45,11 +46,8 @@ passing_same test (Some f) q m n = elim (bool_cases (test f)) [
 
 near_meets : (A : Side) (f g : Feature) → is_near A f g ≡ true → RectsMeet (env f) (env g)
 near_meets A f g t =
-    let m : rects_meet (env f) (env g) ≡ true = second (is_on_side A g) (rects_meet (env f) (env g)) t in
+    let m : rects_meet (env f) (env g) ≡ true = (both_parts (is_on_side A g) (rects_meet (env f) (env g)) t).1 in
     meets_from_test (env f) (env g) (envelope_proper f.shape) (envelope_proper g.shape) m
-  where
-    second : (a b : Bool) → (a && b) ≡ true → b ≡ true
-    second a b e = grind arith
 
 -- features that agree on what meets the subject's envelope have the same near it
 pub near_same : (A : Side) (f : Feature) (F G : List Feature) → IsAscending F → IsAscending G → Agree (λ g. RectsMeet (env f) (env g)) F G

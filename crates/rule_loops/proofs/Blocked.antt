@@ -2,7 +2,6 @@
 use Rattle.std.proofs.Common.{◌≡◌, ℕ, ◌+◌, ◌<◌, ◌≤◌, Bool, true, false, List, [], ◌∷◌, ◌++◌, refl, sym, ◌∙◌, ap, take, drop, length, get_or, append_assoc, subst, arith}
 use Rattle.std.specs.Prelude.{flat_map}
 use Rattle.std.proofs.lemmas.Bool.{false≢true}
-use Rattle.std.proofs.lemmas.Int.{ints}
 use Rattle.std.proofs.lemmas.Grind.{flat_map-append}
 use Rattle.std.proofs.lemmas.List.{take-append-drop, take_more}
 use Rattle.plane_terms.specs.Rectangle.{Rectangle, IsWithin, rects_meet}
@@ -11,23 +10,16 @@ use Rattle.plane_terms.specs.Cell.{Cell}
 use Rattle.plane_terms.proofs.ListLemmas.{every_append, every_map}
 use Rattle.grid_plane.specs.Rectangles.{IsJoin}
 use Rattle.topology_terms.specs.Cells.{box_meets}
+use Rattle.rule_laws.proofs.Envelopes.{within_trans}
 use Rattle.rule_loops.specs.Blocks.{IsRound}
 use Rattle.rule_loops.proofs.Boxes.{meets_wider}
 
 -- ---- a rectangle round segments
-within : (r s t : Rectangle) → IsWithin r s → IsWithin s t → IsWithin r t
-within r s t a b = record {
-  left = omega (arith, ints);
-  right = omega (arith, ints);
-  below = omega (arith, ints);
-  above = omega (arith, ints);
-}
-
 pub round_more : (r j : Rectangle) (ts : List Segment) (i : ℕ) (t : Segment) → i < length ts → t ≡ get_or ts i t → IsSegment t
     → IsJoin j r (box_of t) → IsRound r (take i ts) → IsRound j (take (i + 1) ts)
 round_more r j ts i t l e g b h =
     let In : Rectangle → Segment → Type 0 = λ r t. IsSegment t × IsWithin (box_of t) r in
-    let before : IsRound j (take i ts) = every_map (In r) (In j) (λ u k. (k.0, within (box_of u) r j k.1 b.first)) (take i ts) h in
+    let before : IsRound j (take i ts) = every_map (In r) (In j) (λ u k. (k.0, within_trans (box_of u) r j k.1 b.first)) (take i ts) h in
     let more : take (i + 1) ts ≡ take i ts ++ t ∷ [] = take_more ts i t l ∙ ap (λ u. take i ts ++ u ∷ []) (sym e) in
     subst (IsRound j) (sym more) (every_append (In j) (take i ts) (t ∷ []) before ((g, b.second), tt))
 

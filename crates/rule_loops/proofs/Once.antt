@@ -9,7 +9,7 @@ use Rattle.std.proofs.lemmas.Option.{get_or_from_slice_get, slice_get_within}
 use Rattle.plane_terms.specs.Point.{Place, same_place}
 use Rattle.topology_terms.specs.Tests.{in_order_once, has_end_at}
 use Rattle.cell_laws.proofs.AtPlaces.{same_is, is_same}
-use Rattle.rule_loops.proofs.Spots.{same_by_truth}
+use Rattle.plane_terms.proofs.Truths.{same_by_truth}
 
 turned : (q r : Place) → same_place q r ≡ same_place r q
 turned q r = same_by_truth (same_place q r) (same_place r q) (λ t. is_same r q (sym (same_is q r t)))

@@ -22,12 +22,6 @@ closed_is : (p q : Place) (ps : List Place) → path (p ∷ ps ++ q ∷ []) ≡ 
 closed_is p q [] = refl
 closed_is p q (r ∷ ps) = ap (λ ss. segment_between p r ∷ ss) (closed_is r q ps)
 
-pub length-closed : (ps : List Place) → length (closed_path ps) ≡ length ps
-length-closed [] = refl
-length-closed (p ∷ ps) =
-    let last = segment_between (last_of p ps) p ∷ [] in
-    omega (arith, ap length (closed_is p p ps), length-append (path (p ∷ ps)) last, length-path (p ∷ ps))
-
 pub closed_taken : (ps : List Place) (n : ℕ) → n ≡ length ps - 1 → take n (closed_path ps) ≡ path ps
 closed_taken [] n e = rw e refl
 closed_taken (p ∷ ps) n e =

@@ -1,35 +1,15 @@
 -- A loop over a list: what is left of it, with one element less.
 use Rattle.std.proofs.Common.{◌≡◌, ℕ, ◌+◌, Bool, true, false, List, [], ◌∷◌, ◌++◌, refl, sym, ◌∙◌, ap, take, drop, append_assoc}
-use Rattle.std.specs.Prelude.{slice_get, Some, ◌||◌}
+use Rattle.std.specs.Prelude.{slice_get, Some}
 use Rattle.std.specs.List.{filter}
-use Rattle.std.proofs.lemmas.Bool.{false≢true}
 use Rattle.std.proofs.lemmas.List.{take_more, drop_more}
 use Rattle.std.proofs.lemmas.Option.{get_or_from_slice_get, slice_get_within}
-use Rattle.plane_terms.specs.Point.{Place, same_place}
-use Rattle.topology_terms.specs.Tests.{has_end_at}
 
 pub take_one : {A : Type 0} (xs : List A) (i : ℕ) (x : A) → slice_get xs i ≡ Some x → take (i + 1) xs ≡ take i xs ++ x ∷ []
 take_one xs i x e = take_more xs i x (slice_get_within xs i x e) ∙ ap (λ y. take i xs ++ y ∷ []) (get_or_from_slice_get xs i x x e)
 
 pub drop_one : {A : Type 0} (xs : List A) (i : ℕ) (x : A) → slice_get xs i ≡ Some x → drop i xs ≡ x ∷ drop (i + 1) xs
 drop_one xs i x e = drop_more xs i x (slice_get_within xs i x e) ∙ ap (λ y. y ∷ drop (i + 1) xs) (get_or_from_slice_get xs i x x e)
-
--- ---- the first that is equal
-or_true : (b c : Bool) → b ≡ true → true ≡ (b || c)
-or_true true c e = refl
-or_true false c e = absurd (false≢true e)
-
-or_false : (b c : Bool) → b ≡ false → c ≡ (b || c)
-or_false true c e = absurd (false≢true (sym e))
-or_false false c e = refl
-
-pub end_found : (q e : Place) (qs : List Place) (i : ℕ) → slice_get qs i ≡ Some e → same_place q e ≡ true → true ≡ has_end_at (drop i qs) q
-end_found q e qs i g t = or_true (same_place q e) (has_end_at (drop (i + 1) qs) q) t ∙ sym (ap (λ rs. has_end_at rs q) (drop_one qs i e g))
-
-pub end_passed : (q e : Place) (qs : List Place) (i : ℕ) → slice_get qs i ≡ Some e → same_place q e ≡ false
-    → has_end_at (drop (i + 1) qs) q ≡ has_end_at (drop i qs) q
-end_passed q e qs i g t = or_false (same_place q e) (has_end_at (drop (i + 1) qs) q) t
-    ∙ sym (ap (λ rs. has_end_at rs q) (drop_one qs i e g))
 
 -- ---- those that pass a test
 pub passing_more : {A : Type 0} (test : A → Bool) (xs done old new : List A) (i : ℕ) (x : A) → slice_get xs i ≡ Some x → test x ≡ true

@@ -23,7 +23,8 @@ use Rattle.cell_laws.proofs.AtPlaces.{same_is}
 use Rattle.rule_loops.specs.Views.{of_class, round_of, up_to_three}
 use Rattle.rule_loops.proofs.Boxes.{box_within}
 use Rattle.rule_loops.proofs.More.{class_more}
-use Rattle.rule_loops.proofs.Spots.{many_append}
+use Rattle.plane_terms.proofs.ListLemmas.{how_many_joined}
+use Rattle.plane_terms.proofs.Truths.{both_parts}
 
 -- ---- one that passes
 -- of those kept, one passes where one of all is kept and passes
@@ -67,7 +68,7 @@ module _ {A : Type 0} (test : A → Bool) (items : Feature → List A) (n : ℕ)
   all_with b t =
       ap (λ gs. how_many test (flat_map items gs)) (class_more n V i g b e t)
       ∙ (ap (how_many test) (flat_map-append items (of_class n (take i V)) (cond b (g ∷ []) []))
-      ∙ many_append test (flat_map items (of_class n (take i V))) (flat_map items (cond b (g ∷ []) [])))
+      ∙ how_many_joined test (flat_map items (of_class n (take i V))) (flat_map items (cond b (g ∷ []) [])))
 
   pub all_more : (g.class == n) ≡ true → how_many test (flat_map items (of_class n (take (i + 1) V)))
       ≡ how_many test (flat_map items (of_class n (take i V))) + how_many test (items g)
@@ -87,10 +88,6 @@ none_many test P m (x ∷ xs) u = rw (m x u.0) (none_many test P m xs u.1)
 held_wider : (q : Place) (c r : Rectangle) → IsWithin c r → box_holds c q ≡ true → is_within (rect_at q) r ≡ true
 held_wider q c r w h = grind (arith, ints)
 
-and_right : (a b : Bool) → (a && b) ≡ true → b ≡ true
-and_right true b e = e
-and_right false b e = absurd (false≢true e)
-
 not_from : (b c : Bool) → (b ≡ true → c ≡ true) → c ≡ false → b ≡ false
 not_from true c m e = sym (m refl) ∙ e
 not_from false c m e = refl
@@ -98,7 +95,7 @@ not_from false c m e = refl
 no_segment : (q : Place) (g : Feature) → is_within (rect_at q) (env g) ≡ false → how_many (λ t. holds_place t q) (sides g) ≡ 0
 no_segment q g n = none_many (λ (t : Segment). holds_place t q) (BothEnds (LiesIn (env g)))
     (λ t b. not_from (holds_place t q) (is_within (rect_at q) (env g))
-    (λ h. held_wider q (box_of t) (env g) (box_within t (env g) b) (and_right _ (box_holds (box_of t) q) h)) n) (sides g)
+    (λ h. held_wider q (box_of t) (env g) (box_within t (env g) b) (both_parts _ (box_holds (box_of t) q) h).1) n) (sides g)
     (segments_ends g.shape)
 
 no_end : (q : Place) (g : Feature) → is_within (rect_at q) (env g) ≡ false → how_many (same_place q) (ends g) ≡ 0

@@ -4,22 +4,13 @@ use Rattle.std.specs.List.{filter}
 use Rattle.std.proofs.lemmas.Bool.Decides.{same_from_decides}
 use Rattle.std.proofs.lemmas.Bool.{false≢true}
 use Rattle.plane_terms.specs.Point.{Place}
-use Rattle.plane_terms.specs.Segment.{Segment, IsSegment, OnSegment, Overlap, overlap}
-use Rattle.plane_terms.specs.Line.{holds_place}
+use Rattle.plane_terms.specs.Segment.{Segment, IsSegment, Overlap, overlap}
 use Rattle.plane_terms.specs.Cell.{Cell, out_of_place}
 use Rattle.plane_terms.specs.declared.share.Share.{Share}
 use Rattle.plane_terms.specs.declared.share.Share.TheVariants.{Nothing, Along, Cross, Touch}
-use Rattle.plane_terms.proofs.Points.{point_at}
-use Rattle.grid_plane.specs.Rectangles.{HoldsAt}
 use Rattle.topology_terms.specs.Cells.{uncovered, on_both}
-use Rattle.cell_laws.proofs.OnLine.{at_itself}
-use Rattle.rule_laws.proofs.Tests.{overlap_test, place_test, place_from}
+use Rattle.rule_laws.proofs.Tests.{overlap_test}
 use Rattle.rule_loops.specs.Apart.{uncovered-nil}
-
-pub place_held : (s : Segment) (q : Place) (r : Bool) → IsSegment s → (r ≡ true) ↔ HoldsAt q (OnSegment s) → r ≡ holds_place s q
-place_held s q r g h =
-    same_from_decides {P = HoldsAt q (OnSegment s)} r (holds_place s q) h
-    (λ e p a. place_from s q p a e, λ k. place_test s q (point_at q) g (at_itself q) (k (point_at q) (at_itself q)))
 
 overlap_found : (s t : Segment) (r : Bool) → IsSegment s → IsSegment t → (r ≡ true) ↔ Overlap s t → r ≡ overlap s t
 overlap_found s t r g h d = same_from_decides {P = Overlap s t} r (overlap s t) d (overlap_test s t g h)

@@ -1,11 +1,12 @@
 ghost use Rattle.std.specs.Prelude.{◌≡◌, ◌++◌, filter, IfOk, OnOk};
 ghost use Rattle.plane_terms.specs.Shape.{ends_of};
 ghost use Rattle.topology_terms.specs.Plans as plans;
-ghost use Rattle.topology_terms.specs.Tests.{has_end_at};
+ghost use Rattle.topology_terms.specs.Tests as tests;
 ghost use Rattle.topology_terms.specs.Together.{ends};
 
 use crate::off_places::OffPlaces;
 use crate::pairs::each_pair;
+use crate::places::has_end_at;
 use convex_cell::Cells;
 use grid_plane::{GridPoint, NoMemory};
 use shape::{Feature, Shape};
@@ -34,25 +35,14 @@ fn ends_of_both(
     Ok(places)
 }
 
-fn is_end(shape: &Shape, place: GridPoint) -> bool
-    ensures { result ≡ has_end_at (ends_of shape.now) place }
-{
-    for i in 0..shape.end_count() {
-        if place == shape.end(i) {
-            return true;
-        }
-    }
-    false
-}
-
 // The ends of the first that are ends of the second too.
 fn shared_ends(alloc: Global, first: &Shape, second: &Shape) -> Result<Vec<GridPoint>, NoMemory>
-    ensures { IfOk result (λ places. places.items ≡ filter (has_end_at (ends_of second.now)) (ends_of first.now)) }
+    ensures { IfOk result (λ places. places.items ≡ filter (tests.has_end_at (ends_of second.now)) (ends_of first.now)) }
 {
     let mut places = Vec::new(alloc);
     for i in 0..first.end_count() {
         let place = first.end(i);
-        if is_end(second, place) {
+        if has_end_at(second, place) {
             places.push(place)?;
         }
     }

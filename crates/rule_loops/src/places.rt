@@ -10,8 +10,8 @@ ghost use Rattle.topology_terms.specs.Tests as terms;
 use grid_plane::{GridPoint, Seg};
 use shape::Shape;
 
-// Whether the place is on the segment, its ends included. Its box is tried first.
-fn is_on(segment: &Seg, place: GridPoint) -> bool
+/// Whether the place is on the segment, its ends included. Its box is tried first.
+pub(crate) fn is_on(segment: &Seg, place: GridPoint) -> bool
     ensures { result ≡ holds_place segment.now place }
 {
     segment.env().holds_point(place) && segment.holds(place)

@@ -1,9 +1,9 @@
 ghost use Rattle.std.specs.Prelude.{◌≡◌, true, [], IfOk};
-ghost use Rattle.plane_terms.specs.Line as line;
 ghost use Rattle.plane_terms.specs.Segment.{IsSegment};
 ghost use Rattle.plane_terms.specs.Segment as segment;
 ghost use Rattle.topology_terms.specs.Cells as terms;
 
+use crate::places::is_on;
 use convex_cell::{Cell, Cells};
 use grid_plane::{GridPoint, NoMemory, Seg, Share};
 use std::alloc::Global;
@@ -13,14 +13,6 @@ fn segment_law(segment: &Seg)
     ensures { IsSegment segment.now }
 {
     segment.lo();
-}
-
-// Whether the place is on the segment, its ends included.
-fn is_on(segment: &Seg, place: GridPoint) -> bool
-    ensures { result ≡ line.holds_place segment.now place }
-{
-    segment_law(segment);
-    segment.holds(place)
 }
 
 fn is_on_both(first: &Seg, second: &Seg, place: GridPoint) -> bool

@@ -304,7 +304,7 @@ path_count : (p : Place) (ps : List Place) → length (path (p ∷ ps)) ≡ leng
 path_count p [] = refl
 path_count p (q ∷ qs) = omega (arith, path_count q qs)
 
-closed_count : (vs : List Place) → length (closed_path vs) ≡ length vs
+pub closed_count : (vs : List Place) → length (closed_path vs) ≡ length vs
 closed_count [] = refl
 closed_count (p ∷ ps) = omega (arith, path_count p (ps ++ p ∷ []), length-append ps (p ∷ []))
 

@@ -1,5 +1,5 @@
 -- The live features among selected handles, and how many of them rules judge.
-use Rattle.std.proofs.Common.{◌≡◌, ◌≢◌, ◌↔◌, ◌⊎◌, inl, inr, ℕ, ◌<◌, ◌≤◌, ◌+◌, suc, Bool, true, false, List, [], ◌∷◌, ◌++◌, Option, Some, None, refl, sym, ◌∙◌, ap, arith, drop, take, length, get_or, Contains, cond}
+use Rattle.std.proofs.Common.{◌≡◌, ◌≢◌, ◌↔◌, ◌⊎◌, inl, inr, ℕ, ◌<◌, ◌≤◌, ◌+◌, Bool, List, [], ◌∷◌, ◌++◌, Option, Some, None, refl, sym, ◌∙◌, ap, arith, drop, take, length, get_or, Contains}
 use Rattle.std.specs.Option.{option_to_list}
 use Rattle.std.specs.List.{sum_by}
 use Rattle.std.proofs.lemmas.Bool.Decides.{eqb_tells}
@@ -16,7 +16,7 @@ use Rattle.sound_laws.proofs.FeatureLists.{handles, at_handle, past_handle, none
 use Rattle.validation_laws.specs.Parts.{IsRising, live_of}
 use Rattle.topology_terms.specs.Counts.{raised, judged_of}
 use Rattle.validation_laws.proofs.Handles.{below_each, among, among_or_not}
-use Rattle.plane_terms.proofs.ListLemmas.{every_map, IsAmong, contains_among}
+use Rattle.plane_terms.proofs.ListLemmas.{every_map, IsAmong, contains_among, how_many_joined}
 
 -- ---- counts that stop
 pub raised_more : (n j k : ℕ) → raised (raised n j) k ≡ raised n (j + k)
@@ -26,15 +26,6 @@ pub raised_none : (n : ℕ) → raised n 0 ≡ n
 raised_none n = omega arith
 
 -- ---- counts along a list
-how_many_joined : {A : Type 0} (test : A → Bool) (xs ys : List A) → how_many test (xs ++ ys) ≡ how_many test xs + how_many test ys
-how_many_joined test [] ys = omega arith
-how_many_joined test (x ∷ xs) ys = one_more (test x) (how_many test (xs ++ ys)) (how_many test xs) (how_many test ys)
-    (how_many_joined test xs ys)
-  where
-    one_more : (t : Bool) (m j k : ℕ) → m ≡ j + k → cond t (suc m) m ≡ cond t (suc j) j + k
-    one_more true m j k e = omega arith
-    one_more false m j k e = e
-
 -- one subject more
 pub judged_more : (row : Row) (F : List Feature) (selected : List ℕ) (i a before work new : ℕ) → i < length selected
     → a ≡ get_or selected i a

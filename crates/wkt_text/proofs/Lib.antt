@@ -7,5 +7,7 @@ pub mod Writing
 pub mod Again
 pub mod Geometries
 pub mod Pushing
+pub mod Said
+pub mod Values
 pub mod OneShapeFault
 pub mod OneFault

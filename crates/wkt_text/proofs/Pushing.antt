@@ -3,14 +3,13 @@
 -- failed     what `?` hands on
 -- cut, then_cut     a piece that was cut short, at the front of a text or behind what was appended
 -- start, more, done, stopped     the same of a loop: before it, a piece more, at its end, and where a piece is cut short
-use Rattle.std.proofs.Common.{ℕ, ℤ, to_z, of_z, w32, suc, ◌≡◌, ◌<◌, ◌≤◌, ◌+◌, ◌-◌, List, [], ◌∷◌, ◌++◌, map, length, take, drop, get_or, Result, Ok, Err, refl, sym, ap, ◌∙◌, subst, append_assoc, append-nil, arith}
+use Rattle.std.proofs.Common.{ℕ, suc, ◌≡◌, ◌<◌, ◌≤◌, ◌+◌, ◌-◌, List, [], ◌∷◌, ◌++◌, map, length, take, drop, get_or, Result, Ok, Err, refl, sym, ap, ◌∙◌, subst, append_assoc, append-nil, arith}
 use Rattle.std.proofs.Math.Seq.{drop-cons}
 use Rattle.std.proofs.lemmas.Grind.{common_steps}
-use Rattle.std.proofs.lemmas.Int.{ints}
 use Rattle.std.specs.Fmt.{signed_decimal}
 use Rattle.std.specs.Prelude.{IsErr, Vec, codes}
 use Rattle.std.specs.Global.{Global}
-use Rattle.plane_terms.specs.Point.{Place, InReach}
+use Rattle.plane_terms.specs.Point.{Place}
 use Rattle.text_terms.specs.Wkt.{listed}
 use Rattle.wkt_terms.specs.Grammar.{APoint}
 use Rattle.wkt_terms.specs.Shapes.{closed, of_lines, of_polygons}
@@ -186,9 +185,6 @@ more_polygons (r ∷ []) other = absurd (other refl)
 more_polygons (r ∷ q ∷ parts) other = ap (λ t. codes "MULTIPOLYGON " ++ bracketed (listed t)) (closed_parts (parts_of (r ∷ q ∷ parts)))
 
 -- ---- places
-
-pub as_number : (x z : ℤ) → InReach x → x ≡ z → signed_decimal (to_z w32 (of_z w32 x)) ≡ signed_decimal z
-as_number x z h e = let k : to_z w32 (of_z w32 x) ≡ x = omega (arith, ints, h.low, h.high) in ap signed_decimal (k ∙ e)
 
 pub point_is : (q : Place) → written (APoint q) ≡ codes "POINT (" ++ (place_text q ++ 41 ∷ [])
 point_is q = ap (λ t. codes "POINT (" ++ t) (sym (append_assoc (signed_decimal q.x) (32 ∷ signed_decimal q.y) (41 ∷ [])))

@@ -1,9 +1,9 @@
-use Rattle.std.proofs.Common.{◌≡◌, ◌≤ℤ◌, ◌<ℤ◌, pos, arith, sym, ap, ◌∙◌, to_z, of_z, w8}
+use Rattle.std.proofs.Common.{◌≡◌, pos, arith, sym, ap, ◌∙◌, to_z, of_z, w8}
 use Rattle.std.specs.Prelude.{int_lt}
 use Rattle.std.proofs.lemmas.Int.{ints}
 use Rattle.std.proofs.lemmas.Bool.{false≢true}
 use Rattle.plane_terms.specs.Point.{Place}
-use Rattle.plain_shapes.proofs.Insides.{counted, not_counted}
+use Rattle.cell_laws.proofs.Counted.{counted, not_counted}
 use Rattle.plain_shapes.proofs.inside.counts.Goals as goal
 
 pub returns-then-is_from_to : goal.returns-then-is_from_to

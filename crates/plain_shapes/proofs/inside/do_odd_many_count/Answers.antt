@@ -5,7 +5,8 @@ use Rattle.std.proofs.lemmas.Iterator.Consumers.{YieldsList-from_filter, count_f
 use Rattle.plane_terms.specs.Lists.{is_odd}
 use Rattle.plane_terms.specs.Segment.{Segment}
 use Rattle.plane_terms.specs.Polygon.{counts}
-use Rattle.plain_shapes.proofs.Insides.{how_many-filter, odd_is}
+use Rattle.plane_terms.proofs.ListLemmas.{how_many-filter}
+use Rattle.plain_shapes.proofs.Insides.{odd_is}
 use Rattle.plain_shapes.proofs.inside.do_odd_many_count.Goals as goal
 
 pub returns : goal.returns

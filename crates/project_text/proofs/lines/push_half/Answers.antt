@@ -1,6 +1,6 @@
 use Rattle.std.proofs.Common.{arith}
 use Rattle.std.proofs.lemmas.Grind.{common_steps}
-use Rattle.project_text.proofs.Values.{x_factor, y_factor, constant}
+use Rattle.wkt_text.proofs.Values.{x_factor, y_factor, constant}
 use Rattle.project_text.proofs.lines.push_half.Goals as goal
 
 pub returns : goal.returns

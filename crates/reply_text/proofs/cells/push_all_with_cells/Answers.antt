@@ -1,7 +1,7 @@
 use Rattle.std.proofs.Common.{refl}
 use Rattle.std.proofs.lemmas.Option.{slice_get_read}
 use Rattle.script_terms.specs.Reply.{entry_lines}
-use Rattle.reply_text.proofs.Listings.{said_more}
+use Rattle.wkt_text.proofs.Said.{said_more}
 use Rattle.reply_text.proofs.cells.push_all_with_cells.Goals as goal
 
 pub loop-entry-preserved : goal.loop-entry-preserved

@@ -1,5 +1,5 @@
 use Rattle.script_terms.specs.Reply.{cell_line}
-use Rattle.reply_text.proofs.Listings.{said_more}
+use Rattle.wkt_text.proofs.Said.{said_more}
 use Rattle.reply_text.proofs.cells.push_cell_lines.Goals as goal
 
 pub loop-i-preserved : goal.loop-i-preserved

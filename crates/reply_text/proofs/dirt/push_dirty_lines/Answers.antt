@@ -1,7 +1,7 @@
 use Rattle.std.proofs.Common.{refl}
 use Rattle.std.proofs.lemmas.Option.{slice_get_read}
 use Rattle.script_terms.specs.Reply.{dirty_line}
-use Rattle.reply_text.proofs.Listings.{said_more}
+use Rattle.wkt_text.proofs.Said.{said_more}
 use Rattle.reply_text.proofs.dirt.push_dirty_lines.Goals as goal
 
 pub loop-r-preserved : goal.loop-r-preserved

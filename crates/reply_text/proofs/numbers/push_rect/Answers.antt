@@ -1,6 +1,6 @@
 use Rattle.std.proofs.Common.{arith}
 use Rattle.std.proofs.lemmas.Grind.{common_steps}
-use Rattle.wkt_text.proofs.Pushing.{as_number}
+use Rattle.wkt_text.proofs.Values.{as_number}
 use Rattle.reply_text.proofs.numbers.push_rect.Goals as goal
 
 pub returns : goal.returns

@@ -2,13 +2,14 @@ use Rattle.std.proofs.Common.{◌≡◌, ◌-◌, ◌∙◌, ap, take, length, a
 use Rattle.std.specs.Prelude.{flat_map}
 use Rattle.plane_terms.specs.Shape.{path, closed_path}
 use Rattle.shape.specs.Given.{rings_in}
-use Rattle.rule_loops.proofs.Parts.{length-closed, closed_taken, part_fits, own_taken, later_left, paths_more}
+use Rattle.shape.proofs.Made.{closed_count}
+use Rattle.rule_loops.proofs.Parts.{closed_taken, part_fits, own_taken, later_left, paths_more}
 use Rattle.rule_loops.proofs.own.open_paths.Goals as goal
 
 pub split_at-requires : goal.split_at-requires
 split_at-requires c =
     let r = c.ring-item.result in
-    let m : length (closed_path r.items) ≡ c.len.result = omega (arith, r.ok, length-closed r.items) in
+    let m : length (closed_path r.items) ≡ c.len.result = omega (arith, r.ok, closed_count r.items) in
     part_fits closed_path c.args.rings.now c.loop-ring.ring-index r c.loop-ring-test.true c.ring-item.is c.loop-ring.rest.now
     c.len.result c.loop-ring.invariant.rest m
 
@@ -21,7 +22,7 @@ loop-ring-preserved c =
     let e = c.ring-item.is in
     let rest = c.loop-ring.rest.now in
     let n = c.len.result in
-    let m : length (closed_path r.items) ≡ n = omega (arith, r.ok, length-closed r.items) in
+    let m : length (closed_path r.items) ≡ n = omega (arith, r.ok, closed_count r.items) in
     let h = c.loop-ring.invariant.rest in
     let own = c.split_at.ensures.front ∙ own_taken closed_path P k r l e rest n h m in
     let i = c.saturating_sub.result in

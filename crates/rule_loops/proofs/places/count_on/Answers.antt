@@ -4,7 +4,7 @@ use Rattle.std.proofs.lemmas.Iterator.{YieldsList-from_slice}
 use Rattle.std.proofs.lemmas.Iterator.Consumers.{YieldsList-from_filter, count_from_yields_List}
 use Rattle.plane_terms.specs.Line.{holds_place}
 use Rattle.plane_terms.specs.Segment.{Segment}
-use Rattle.rule_loops.proofs.Spots.{many_length}
+use Rattle.plane_terms.proofs.ListLemmas.{how_many-filter}
 use Rattle.rule_loops.proofs.places.count_on.Goals as goal
 
 pub returns : goal.returns
@@ -13,4 +13,4 @@ returns c =
     let n = count_from_yields_List c.filter.result c.count.result c.count.ensures.ran
     (YieldsList-from_filter _ (λ (t : Segment). holds_place t c.args.place) (YieldsList-from_slice ss cc) c.filter.ensures.closure
     (λ x b q k. search (rules, tests))) in
-    n ∙ sym (many_length (λ t. holds_place t c.args.place) ss)
+    n ∙ sym (how_many-filter (λ t. holds_place t c.args.place) ss)

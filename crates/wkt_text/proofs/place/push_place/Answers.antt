@@ -1,4 +1,5 @@
-use Rattle.wkt_text.proofs.Pushing.{cut, then_cut, failed, as_number, place_is, place_by}
+use Rattle.wkt_text.proofs.Pushing.{cut, then_cut, failed, place_is, place_by}
+use Rattle.wkt_text.proofs.Values.{as_number}
 use Rattle.wkt_text.proofs.place.push_place.Goals as goal
 
 pub returns-in_err-push_number : goal.returns-in_err-push_number
