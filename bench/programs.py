@@ -28,7 +28,7 @@ class Measure:
         if self.status is not None and (self.status < 0 or self.seconds > LONG):
             return
         report, written = os.path.join(folder, 'report'), os.path.join(folder, 'written')
-        words = [os.path.join(folder, 'measured'), report, str(limit)] + self.words + ['replay']
+        words = [os.path.join(folder, 'measured'), report, str(limit)] + self.words
         with open(os.path.join(folder, 'script'), 'rb') as source, open(written, 'wb') as out:
             subprocess.run(words, stdin=source, stdout=out, check=True)
         with open(report) as told:
@@ -95,9 +95,9 @@ def make_measured(folder):
     subprocess.run(['cc', '-O2', '-o', measured, os.path.join(HERE, 'measured.c')], check=True)
 
 
-def measure_script(folder, programs, given):
-    """Lets the programs take turns on the script in the folder; one measure for each."""
-    measures = [Measure(words) for words in programs]
+def measure_script(folder, programs, given, more=('replay',)):
+    """Lets the programs, called with more words, take turns on the script in the folder; one measure for each."""
+    measures = [Measure(words + list(more)) for words in programs]
     for _ in range(given.turns):
         for measure in measures:
             measure.take(folder, given.seconds)
@@ -109,6 +109,12 @@ def measure_lines(folder, lines, programs, given):
     with open(os.path.join(folder, 'script'), 'w') as out:
         out.writelines(line + '\n' for line in lines)
     return measure_script(folder, programs, given)
+
+
+def measure_words(folder, words, programs, given):
+    """The same of programs that are called with these words, over an empty script."""
+    with open(os.path.join(folder, 'script'), 'w'):
+        return measure_script(folder, programs, given, words)
 
 
 def has_ended(measures):
