@@ -120,9 +120,5 @@ def print_map(table, name, take, make):
     table.row(name, 'ms', [before, after], beyond(after, before, 1e3))
 
 
-def main():
-    return print_maps(__doc__, 'map', maps, print_map)
-
-
 if __name__ == '__main__':
-    sys.exit(main())
+    sys.exit(print_maps(__doc__, maps, print_map))

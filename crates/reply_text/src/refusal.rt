@@ -48,7 +48,7 @@ fn push_with_pair(out: &mut Vec<u8>, word: &[u8], i: u32, j: u32) -> Result<(), 
     push_number(out, j)
 }
 
-// What is wrong with a shape; want of memory is no line's fault.
+// What is wrong with a shape; out of memory is no line's fault.
 fn push_shape_fault(out: &mut Vec<u8>, fault: ShapeFault) -> Result<(), NoMemory>
     ensures { OnOk result (out.new.items ≡ out.old.items ++ shape_fault_text fault) }
 {

@@ -49,9 +49,9 @@ fn say_usage<K: Sink>(sink: &mut K) -> Status
 /// have the usage line written. The shelf is not touched yet.
 ///
 /// The clause `replay` says of each status what was read and written: the replies of a run over the lines read, in every state of
-/// which the topology is sound and settled, the headline holds, and with no dirt the errors are those of a validation from scratch.
-/// The clause `complete` says that with no fault counted nothing but want of memory stands between a script and its replies. The
-/// clauses `town` and `town_complete` say the same of the made town's script and its summary.
+/// which the topology is sound and settled, the headline holds, and with no dirt the errors are those of a validation from
+/// scratch. The clause `complete` says that with no fault counted nothing but running out of memory stands between a script and
+/// its replies. The clauses `town` and `town_complete` say the same of the made town's script and its summary.
 pub fn run<S: Source, K: Sink, H: Shelf>(
     alloc: Global,
     words: &Vec<String>,
