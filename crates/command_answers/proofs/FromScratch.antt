@@ -180,7 +180,7 @@ known_cut F row a f es r k z b =
 -- ---- what is cut of a project whose entries are those of the cuttings
 module _ (p : Project) (rules : AreAscending p.rules) (features : IsAscending p.features)
     (cut : (r : ℕ) (row : Row) → rule_at p.rules r ≡ Some row → (a : ℕ) (f : Feature) → feature_at p.features a ≡ Some f
-        → AreCut poster p.features row f p.entries r a) where
+    → AreCut poster p.features row f p.entries r a) where
   abbrev selected : List ℕ
   selected = map (λ (g : Feature). g.handle) p.features
 
@@ -201,7 +201,7 @@ module _ (p : Project) (rules : AreAscending p.rules) (features : IsAscending p.
       (λ b x at.
       let own : x.other ≡ b = keyed.key_found by_partner (numbers (λ (x : Finding). x.other)) xs b x at in
       let there : AreAlike f (Some x) (entry_at p.entries q.number f.handle b) = subst
-          (λ (o : Option Finding). AreAlike f o (entry_at p.entries q.number f.handle b)) at (alike b) in
+      (λ (o : Option Finding). AreAlike f o (entry_at p.entries q.number f.handle b)) at (alike b) in
       made_new f p.entries q.number f.handle x (entry_at p.entries q.number f.handle b)
       (ap (λ c. entry_at p.entries q.number f.handle c) own) there))
 
@@ -210,8 +210,7 @@ module _ (p : Project) (rules : AreAscending p.rules) (features : IsAscending p.
   unfolding IsCutting
   part_is q f e k = record {
     live = λ g m.
-        let same : f ≡ g = (let s = sym k ∙ m in cc) in
-        (
+        let same : f ≡ g = (let s = sym k ∙ m in cc) in (
           cutting_of q.row p.features f,
           (f, k, refl),
           cutting_rises q.row p.features f features,
@@ -260,7 +259,7 @@ module _ (p : Project) (rules : AreAscending p.rules) (features : IsAscending p.
     anew = λ a. record {
       live = λ f k r row e.
           let j = judging_part poster p.features selected p.rules fresh r row a rules (handles_rise p.features features) judging e
-              (among_live p.features a f k) in
+          (among_live p.features a f k) in
           let l = j.1.live f k in
           (l.0, l.1, λ b. rw (j.2 b) (found_alike r a f l.0 j.0 l.3 b));
       dead = λ n r b. none_dead r a b n;
@@ -313,9 +312,9 @@ pub scratch : (p : Project) → IsTopology p → IsSettled p → p.dirt ≡ [] �
 unfolding entry_at
 scratch p t k clean =
     let cut : (r : ℕ) (row : Row) → rule_at p.rules r ≡ Some row → (a : ℕ) (f : Feature) → feature_at p.features a ≡ Some f
-        → AreCut poster p.features row f p.entries r a = λ r row e a f live. k.cut r row e a f live (λ m. rw clean at m.1) in
+    → AreCut poster p.features row f p.entries r a = λ r row e a f live. k.cut r row e a f live (λ m. rw clean at m.1) in
     let same : map unmarked p.entries ≡ fresh p t.rules t.store.ascending cut = one_scratch bare bare_right p (map unmarked p.entries)
-        (fresh p t.rules t.store.ascending cut) (kept_scratch p t k clean) (fresh_scratch p t.rules t.store.ascending cut) in
+    (fresh p t.rules t.store.ascending cut) (kept_scratch p t k clean) (fresh_scratch p t.rules t.store.ascending cut) in
     record {
       listed = sym (unmarked_found p.entries) ∙ (ap (map found_of) same ∙ all_found p t.rules t.store.ascending cut p.rules);
       framed = keyed.each_found by_key keys (IsFrameOf p.features) p.entries t.order (λ j e at.

@@ -75,9 +75,10 @@ pub one_request : (words : List (List ℕ)) (seed n other m : ℕ) → IsTownReq
     → (seed ≡ other) × (n ≡ m)
 one_request words seed n other m h k =
     let e : h.seed_word ≡ k.seed_word = (let s = sym h.spelled ∙ k.spelled in cc) in
-    let f : h.rows_word ≡ k.rows_word = (let s = sym h.spelled ∙ k.spelled in cc) in
-    (one_number k.seed_word 0 18446744073709551615 seed other (rw e at h.says_seed) k.says_seed,
-    one_number k.rows_word 1 60 n m (rw f at h.says_rows) k.says_rows)
+    let f : h.rows_word ≡ k.rows_word = (let s = sym h.spelled ∙ k.spelled in cc) in (
+      one_number k.seed_word 0 18446744073709551615 seed other (rw e at h.says_seed) k.says_seed,
+      one_number k.rows_word 1 60 n m (rw f at h.says_rows) k.says_rows,
+    )
 
 pub town_completes : (seed n : ℕ) (k : Passage) (s : Status) → EndsAsTown seed n k s → IsTownComplete seed n k (code_of s)
 town_completes seed n k status.Done h = λ quiet. inl (refl, h)
