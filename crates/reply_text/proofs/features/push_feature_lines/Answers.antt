@@ -13,5 +13,5 @@ loop-feature-preserved c = said_more (feature_line c.args.store.now.classes) _ _
 pub returns-in_err-push_feature_line : goal.returns-in_err-push_feature_line
 returns-in_err-push_feature_line c =
     failed c.from_residual.result _ _ _ _ c.from_residual.ensures.0 refl
-    (line_cut (feature_line c.args.store.now.classes) _ _ _ _ _ _ (slice_get_read _ _ _ _ refl c.loop-feature-test.true c.feature-item.is) c.loop-feature.invariant
-    c.in_err-push_feature_line.ensures)
+    (line_cut (feature_line c.args.store.now.classes) _ _ _ _ _ _
+    (slice_get_read _ _ _ _ refl c.loop-feature-test.true c.feature-item.is) c.loop-feature.invariant c.in_err-push_feature_line.ensures)

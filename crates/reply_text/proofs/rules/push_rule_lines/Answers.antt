@@ -13,5 +13,5 @@ loop-rule-preserved c = said_more (rule_line c.args.store.now.classes) _ _ _ _ _
 pub returns-in_err-push_rule_line : goal.returns-in_err-push_rule_line
 returns-in_err-push_rule_line c =
     failed c.from_residual.result _ _ _ _ c.from_residual.ensures.0 refl
-    (line_cut (rule_line c.args.store.now.classes) _ _ _ _ _ _ (slice_get_read _ _ _ _ refl c.loop-rule-test.true c.rule-item.is) c.loop-rule.invariant
-    c.in_err-push_rule_line.ensures)
+    (line_cut (rule_line c.args.store.now.classes) _ _ _ _ _ _
+    (slice_get_read _ _ _ _ refl c.loop-rule-test.true c.rule-item.is) c.loop-rule.invariant c.in_err-push_rule_line.ensures)
