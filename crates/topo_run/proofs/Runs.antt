@@ -22,14 +22,14 @@ pub record SoFar (start : State) (all rest : List (List ℕ)) (now : State) (bef
   pub text : text_of course.outcomes ≡ front ++ pending
   pub appended : Appends before written front
 
-run_snoc : (s : State) (lines : List (List ℕ)) (os : List Outcome) (line : List ℕ) (o : Outcome) → Run s lines os
+pub run_snoc : (s : State) (lines : List (List ℕ)) (os : List Outcome) (line : List ℕ) (o : Outcome) → Run s lines os
     → Step (last_state s os) line o → Run s (lines ++ line ∷ []) (os ++ o ∷ [])
 run_snoc s [] [] line o run step = (step, tt)
 run_snoc s [] (p ∷ os) line o run step = absurd run
 run_snoc s (l ∷ lines) [] line o run step = absurd run
 run_snoc s (l ∷ lines) (p ∷ os) line o run step = (run.0, run_snoc p.after lines os line o run.1 step)
 
-last_snoc : (s : State) (os : List Outcome) (o : Outcome) → last_state s (os ++ o ∷ []) ≡ o.after
+pub last_snoc : (s : State) (os : List Outcome) (o : Outcome) → last_state s (os ++ o ∷ []) ≡ o.after
 last_snoc s [] o = refl
 last_snoc s (p ∷ os) o = last_snoc p.after os o
 
@@ -37,11 +37,11 @@ text_snoc : (os : List Outcome) (o : Outcome) → text_of (os ++ o ∷ []) ≡ t
 text_snoc [] o = append-nil o.text
 text_snoc (p ∷ os) o = ap (λ t. p.text ++ t) (text_snoc os o) ∙ sym (append_assoc p.text (text_of os) o.text)
 
-any_snoc : (os : List Outcome) (o : Outcome) → any_refused (os ++ o ∷ []) ≡ (any_refused os || o.refused)
+pub any_snoc : (os : List Outcome) (o : Outcome) → any_refused (os ++ o ∷ []) ≡ (any_refused os || o.refused)
 any_snoc [] o = search rules
 any_snoc (p ∷ os) o = grind (arith, any_snoc os o)
 
-invariant_snoc : (s : State) (os : List Outcome) (o : Outcome) → EachInvariant s os → Invariant o.after.project
+pub invariant_snoc : (s : State) (os : List Outcome) (o : Outcome) → EachInvariant s os → Invariant o.after.project
     → EachInvariant s (os ++ o ∷ [])
 invariant_snoc s [] o h k = (h, k)
 invariant_snoc s (p ∷ os) o h k = (h.0, invariant_snoc p.after os o h.1 k)

@@ -1,5 +1,5 @@
 -- The run over the lines of a made town's script, and the words that ask for it.
-use Rattle.std.proofs.Common.{ℕ, ◌≡◌, ◌≤◌, Bool, true, ◌||◌, List, [], ◌∷◌, ◌++◌, refl, sym, ◌∙◌, ap, subst, length, inl, inr, ⊥}
+use Rattle.std.proofs.Common.{ℕ, ◌≡◌, ◌≤◌, Bool, true, false, ◌||◌, List, [], ◌∷◌, ◌++◌, refl, sym, ◌∙◌, ap, subst, length, inl, inr}
 use Rattle.std.specs.Prelude.{sum}
 use Rattle.text_terms.specs.Lines.{lines_of}
 use Rattle.topology_terms.specs.Counts.{raised}
@@ -88,3 +88,15 @@ town_completes seed n k status.ReadFault h = absurd h
 town_completes seed n k status.WriteFault h = λ quiet. absurd (quiet h.0)
 town_completes seed n k status.NoMemory h = λ quiet. inr (inr refl)
 town_completes seed n k status.TooLong h = absurd h
+
+-- the words ask for one town alone, and what is said of it is said of the one that they ask for
+pub town_asked : (words : List (List ℕ)) (seed n other m : ℕ) (k : Passage) (s : Status) → IsTownRequest words seed n
+    → IsTownRequest words other m → EndsAsTown other m k s → EndsAsTown seed n k s
+town_asked words seed n other m k s asked made ends =
+    let one = one_request words seed n other m asked made in
+    rw (one.0, one.1) ends
+
+pub town_done : (words : List (List ℕ)) (seed n other m : ℕ) (k : Passage) (s : Status) (code : ℕ) → IsTownRequest words seed n
+    → IsTownRequest words other m → EndsAsTown other m k s → code ≡ code_of s → IsTownComplete seed n k code
+town_done words seed n other m k s code asked made ends is =
+    rw is (town_completes seed n k s (town_asked words seed n other m k s asked made ends))

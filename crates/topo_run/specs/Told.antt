@@ -5,7 +5,7 @@
 --                           that the line tries are those of which the reply tells
 -- Course start all rest now refused     a run over the lines that are done: these are left of all, this is the state, and some line was
 --                           refused, or none; the invariant held throughout
--- IsTold start all rest now judged refused     such a run, whose validations tried so many pairs
+-- IsTold start all rest now count refused     such a run, whose validations tried so many pairs
 use Rattle.std.specs.Prelude.{ℕ, ◌≡◌, Bool, List, ◌++◌}
 use Rattle.reply_text.specs.declared.reply.Reply.{Reply}
 use Rattle.reply_text.specs.declared.reply.Reply.TheVariants as reply
@@ -34,6 +34,6 @@ pub record Course (start : State) (all rest : List (List ℕ)) (now : State) (re
   pub any : any_refused outcomes ≡ refused
   pub invariant : EachInvariant start outcomes
 
-pub record IsTold (start : State) (all rest : List (List ℕ)) (now : State) (judged : ℕ) (refused : Bool) : Type 0 where
+pub record IsTold (start : State) (all rest : List (List ℕ)) (now : State) (count : ℕ) (refused : Bool) : Type 0 where
   pub course : Course start all rest now refused
-  pub judged : AreJudged 0 start course.done course.outcomes judged
+  pub judged : AreJudged 0 start course.done course.outcomes count

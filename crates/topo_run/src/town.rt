@@ -1,4 +1,4 @@
-ghost use Rattle.std.specs.Prelude.{◌≡◌, ◌≤◌, ◌++◌, ◌||◌, Bool, IfOk, OnOk, sum};
+ghost use Rattle.std.specs.Prelude.{◌≡◌, ◌≤◌, ◌||◌, true, [], IfOk, sum};
 ghost use Rattle.text_terms.specs.Lines.{lines_of};
 ghost use Rattle.topology_terms.specs.Counts.{raised};
 ghost use Rattle.topology_terms.specs.Project.{Project};

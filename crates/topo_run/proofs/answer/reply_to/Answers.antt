@@ -2,10 +2,10 @@ use Rattle.script_text.specs.Seen.{command_of}
 use Rattle.topo_run.proofs.Stepping.{answers, refuses, fault_of}
 use Rattle.topo_run.proofs.answer.reply_to.Goals as goal
 
-pub returns-in-Ok : goal.returns-in-Ok
-returns-in-Ok c =
-    answers c.args.world.now c.answer.new.self c.args.line.now (command_of c.in-Ok.command) c.in_ok-reply.reply c.in-Ok.ensures.found
-    c.in_ok-reply.ensures c.headline_law-in-Ok.ensures.ordered c.headline_law-in-Ok.ensures.invariant
+pub returns-in_ok-reply-in-Ok : goal.returns-in_ok-reply-in-Ok
+returns-in_ok-reply-in-Ok c =
+    answers c.args.world.now c.answer.new.self c.args.line.now (command_of c.in-Ok.command) c.in_ok-reply-in-Ok.reply c.in-Ok.ensures.found
+    c.in_ok-reply-in-Ok.ensures c.headline_law-in-Ok.ensures.ordered c.headline_law-in-Ok.ensures.invariant
 
 pub returns-in-Err-Refused : goal.returns-in-Err-Refused
 returns-in-Err-Refused c =
