@@ -6,7 +6,6 @@ mod frame;
 mod judge;
 mod lookup;
 mod near;
-mod once;
 mod selection;
 mod sorted;
 mod window;

@@ -13,10 +13,9 @@ ghost use Rattle.validation.specs.Placed.{ArePlaced};
 
 use crate::dirty::DirtyParts;
 use crate::lookup::find;
-use crate::once::once_each;
 use dirty_area::Dirt;
 use error_store::{Entry, Errors};
-use grid_index::Index;
+use grid_index::{Index, once_each};
 use grid_plane::{Handles, NoMemory, Rect};
 use shape::Feature;
 use std::alloc::Global;
