@@ -1,7 +1,8 @@
 -- Handles of met rectangles, added part by part.
 use Rattle.std.proofs.Common.{◌≡◌, ◌⊎◌, inl, inr, refl, sym, ap, ◌∙◌, subst, ℕ, ◌+◌, ◌<◌, Bool, true, false, cond, List, [], ◌∷◌, ◌++◌, Contains, take, length, get_or, arith}
+use Rattle.std.specs.Prelude.{◌↔◌}
 use Rattle.std.proofs.lemmas.Bool.{false≢true}
-use Rattle.std.proofs.lemmas.List.{take_more, take_all, append-nil}
+use Rattle.std.proofs.lemmas.List.{take_more, append-nil}
 use Rattle.std.proofs.lemmas.List.Elements.{Contains-append_left, Contains-push, Contains-push_cases}
 use Rattle.plane_terms.specs.Rectangle.{Rectangle, rects_meet}
 use Rattle.grid_index.specs.declared.placed.Placed.{Placed}
@@ -67,3 +68,11 @@ adds_more r ps i p ns ms ks l is so_far e =
 
 pub contains_none : {A : Type 0} (x : A) → Contains [] x → ⊥
 contains_none x h = absurd (omega (arith, h.1))
+
+-- what was added to nothing, once each
+pub once_near : (r : Rectangle) (ps : List Placed) (ns ms : List ℕ) → Adds r (Contains ps) [] ns
+    → ((a : ℕ) → Contains ms a ↔ Contains ns a) → (a : ℕ) → Contains ms a ↔ IsNear r ps a
+once_near r ps ns ms adds same = λ a. (
+  (λ h. elim ((adds a).0 ((same a).0 h)) [ inl k ↦ absurd (contains_none a k) | inr m ↦ m ]),
+  (λ h. (same a).1 ((adds a).1 (inr h))),
+)
