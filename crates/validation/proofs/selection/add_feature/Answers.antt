@@ -1,3 +1,4 @@
+use Rattle.std.proofs.Common.{refl}
 use Rattle.std.proofs.lemmas.Result.{on_ok_weaker}
 use Rattle.plane_terms.specs.Dirt.{MeetsDirt}
 use Rattle.topology_terms.specs.Feature.{Feature, feature_at, env}
@@ -11,5 +12,5 @@ returns-in-Some c = on_ok_weaker c.push_if.result (λ h. picked_one (λ (f : Fea
     c.push_if.ensures
 
 pub returns-in-None : goal.returns-in-None
-returns-in-None c = picked_nothing (λ (f : Feature). MeetsDirt c.args.dirty.now (env f)) (feature_at c.args.features.now c.args.handle) _ _
-    c.in-None.ensures refl
+returns-in-None c = picked_nothing (λ (f : Feature). MeetsDirt c.args.dirty.now (env f)) (feature_at c.args.features.now c.args.handle)
+    c.args.found.now.items c.args.found.now.items c.in-None.ensures refl

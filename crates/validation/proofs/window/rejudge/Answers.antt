@@ -19,5 +19,5 @@ pub returns-clause-judged : goal.returns-clause-judged
 returns-clause-judged g c = rw c.of-indexed.ensures at c.in_ok-judge_all.ensures.judged
 
 pub returns-in_err-judge_all-clause-stopped : goal.returns-in_err-judge_all-clause-stopped
-returns-in_err-judge_all-clause-stopped g c = on_err c.from_residual-in_err-judge_all.result _
+returns-in_err-judge_all-clause-stopped g c = on_err c.from_residual.result _
     (rw c.of-indexed.ensures at c.in_err-judge_all.ensures.stopped)
