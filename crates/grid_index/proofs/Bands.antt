@@ -1,13 +1,11 @@
 -- Where a rectangle of a level lies that another one meets: in a cell of the block.
-use Rattle.std.proofs.Common.{◌≡◌, ℕ, ◌+◌, ◌-◌, ◌*◌, ◌/◌, ◌^◌, ◌<◌, ◌≤◌, max, zero, arith, ℤ, pos, negsuc, ◌-ℤ◌, ◌≤ℤ◌, unsigned_abs, Bool, true, subst, refl, sym, ap, ◌∙◌}
-use Rattle.std.specs.Prelude.{int_le}
+use Rattle.std.proofs.Common.{◌≡◌, ℕ, ◌+◌, ◌-◌, ◌/◌, ◌^◌, ◌<◌, ◌≤◌, max, zero, arith, ℤ, pos, negsuc, ◌-ℤ◌, ◌≤ℤ◌, unsigned_abs, true, subst}
 use Rattle.std.specs.Int.{w32, leading_zeros}
 use Rattle.std.proofs.Math.Nat.{pow-le-pow_right, add-div_right, div-mul-le_self, le-max_left, le-max_right}
 use Rattle.std.proofs.lemmas.Int.{ints}
 use Rattle.std.proofs.lemmas.Nat.{pow_pos, le-div, leading_length}
-use Rattle.plane_terms.specs.Point.{InReach}
 use Rattle.plane_terms.specs.Rectangle.{Rectangle, IsRectangle, rects_meet}
-use Rattle.grid_index.specs.Cells.{level_of, band_of, cell_at, cell_of, IsBlock}
+use Rattle.grid_index.specs.Cells.{level_of, band_of, IsBlock}
 use Rattle.grid_index.specs.declared.block.Block.{Block}
 
 -- ---- the level of a rectangle

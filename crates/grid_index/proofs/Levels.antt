@@ -1,14 +1,16 @@
 -- What several levels hold, where one of them changes.
-use Rattle.std.proofs.Common.{◌≡◌, ◌≢◌, ◌⊎◌, inl, inr, refl, sym, ap, ◌∙◌, subst, ℕ, ◌+◌, ◌<◌, zero, suc, List, [], ◌∷◌, ◌++◌, Contains, length, take, drop, set, get_or, Some, arith}
-use Rattle.std.specs.Prelude.{◌↔◌, slice_get}
-use Rattle.std.specs.List.{flat_map}
+use Rattle.std.proofs.Common.{◌≡◌, inl, inr, refl, sym, ap, ◌∙◌, subst, ℕ, ◌+◌, ◌<◌, zero, suc, List, [], ◌∷◌, ◌++◌, Contains, length, take, set, get_or, Option, None, Some, Result, Ok, Err, arith}
+use Rattle.std.specs.Prelude.{slice_get, OnErr, IsSomeAnd}
+use Rattle.std.proofs.lemmas.Option.{slice_get_within}
 use Rattle.std.proofs.lemmas.List.{take_more, take_more_set, append-nil}
 use Rattle.std.proofs.lemmas.List.Concat.{flat_map-append}
 use Rattle.std.proofs.lemmas.List.Elements.{Contains-append_left, Contains-append_right, Contains-append_cases}
 use Rattle.grid_index.specs.declared.placed.Placed.{Placed}
-use Rattle.grid_index.specs.Near.{HoldsSame, Gains, Loses}
+use Rattle.plane_terms.specs.Rectangle.{Rectangle}
+use Rattle.grid_index.specs.Near.{HoldsSame, Gains, Loses, Adds}
 use Rattle.grid_index.specs.Cells.{LevelView, all_items}
 use Rattle.grid_index.proofs.Adding.{contains_none}
+use Rattle.grid_index.proofs.Walks.{listed_more}
 
 -- ---- two lists joined
 pub held_itself : (ps : List Placed) → HoldsSame ps ps
@@ -99,6 +101,13 @@ items_more_set ls i m h =
     ap all_items (take_more_set ls i m h) ∙ (flat_map-append (λ (l : LevelView). l.items) (take i ls) (m ∷ [])
     ∙ ap (λ ps. all_items (take i ls) ++ ps) (append-nil m.items))
 
+-- one level more is looked at
+pub levels_more : (r : Rectangle) (ls : List LevelView) (i : ℕ) (l : LevelView) (ns ms ks : List ℕ) → i < length ls → l ≡ get_or ls i l
+    → Adds r (Contains (all_items (take i ls))) ns ms → Adds r (Contains l.items) ms ks → Adds r (Contains (all_items (take (i + 1) ls))) ns ks
+levels_more r ls i l ns ms ks h is first second =
+    subst (λ (vs : List LevelView). Adds r (Contains (all_items vs)) ns ks) (sym (take_more ls i l h))
+    (listed_more (λ (v : LevelView). v.items) r (take i ls) (get_or ls i l) l.items ns ms ks (ap (λ (v : LevelView). v.items) is) first second)
+
 -- the levels before i have lost it, those from i on are as they were; now level i loses it
 pub lost_more : (ls ms : List LevelView) (i : ℕ) (d m : LevelView) (p : Placed) → i < length ls → i < length ms
     → Loses (all_items (take i ls)) (all_items (take i ms)) p → get_or ls i d ≡ get_or ms i d → Loses (get_or ms i d).items m.items p
@@ -110,3 +119,24 @@ lost_more ls ms i d m p h k so_far same now =
     (subst (λ qs. Loses (all_items (take i ls) ++ (get_or ls i d).items) qs p) (sym new)
     (lost_joined (all_items (take i ls)) (all_items (take i ms)) (get_or ls i d).items m.items p so_far
     (subst (λ (l : LevelView). Loses l.items m.items p) (sym same) now)))
+
+-- ---- one change after another
+pub gains_after : (ps qs ss : List Placed) (p : Placed) → HoldsSame ps qs → Gains qs ss p → Gains ps ss p
+gains_after ps qs ss p same gains = λ q. (
+  (λ h. elim ((gains q).0 h) [ inl k ↦ inl ((same q).0 k) | inr e ↦ inr e ]),
+  (λ h. elim h [ inl k ↦ (gains q).1 (inl ((same q).1 k)) | inr e ↦ (gains q).1 (inr e) ]),
+)
+
+pub same_after : (ps qs ss : List Placed) → HoldsSame ps qs → HoldsSame qs ss → HoldsSame ps ss
+same_after ps qs ss first second = λ q. ((λ h. (first q).0 ((second q).0 h)), (λ h. (second q).1 ((first q).1 h)))
+
+pub on_err : {A E : Type 0} (r : Result A E) (P : Type 0) → P → OnErr r P
+on_err (Ok x) P p = tt
+on_err (Err e) P p = p
+
+pub some_at : {A : Type 0} (xs : List A) (i : ℕ) (P : A → Type 0) → IsSomeAnd (slice_get xs i) P → i < length xs
+some_at {A} xs i P h = by (slice_get xs i) refl h
+  where
+    by : (o : Option A) → slice_get xs i ≡ o → IsSomeAnd o P → i < length xs
+    by None e k = absurd k
+    by (Some x) e k = slice_get_within xs i x e

@@ -1,6 +1,5 @@
 -- What a map of cells has in all its cells is what it has in the cell of each rectangle.
-use Rattle.std.proofs.Common.{◌≡◌, ◌≢◌, ◌⊎◌, inl, inr, refl, sym, ap, ◌∙◌, subst, ℕ, ◌<◌, ◌≤◌, Bool, true, List, [], ◌∷◌, ◌++◌, Contains, nat_eq, Vec, Option, Some, None, map}
-use Rattle.std.specs.Prelude.{◌↔◌}
+use Rattle.std.proofs.Common.{◌≡◌, ◌≢◌, ◌⊎◌, inl, inr, refl, sym, ap, ◌∙◌, subst, ℕ, true, List, [], ◌∷◌, Contains, nat_eq, Vec, Option, Some, None}
 use Rattle.std.specs.List.{flat_map}
 use Rattle.std.specs.Option.{option_map_or}
 use Rattle.std.specs.HashMap.{HashMap, get, values, IsUnique}
@@ -14,10 +13,10 @@ use Rattle.plane_terms.proofs.ListLemmas.{IsAmong, contains_among}
 use Rattle.grid_index.specs.declared.placed.Placed.{Placed}
 use Rattle.grid_index.specs.declared.block.Block.{Block}
 use Rattle.grid_index.specs.Near.{HoldsSame, Gains, Loses}
-use Rattle.grid_index.specs.Cells.{level_of, cell_of, cell_at, band_of, list_at, items_of, AreSeated, InColumn, InColumns, InBlock, IsPutIn, IsTakenFrom, IsSameIn, IsBlock}
+use Rattle.grid_index.specs.Cells.{level_of, cell_of, band_of, list_at, items_of, AreSeated, InBlock, IsPutIn, IsTakenFrom, IsSameIn, IsBlock}
 use Rattle.grid_index.proofs.Members.{among}
 use Rattle.grid_index.proofs.Adding.{contains_none}
-use Rattle.grid_index.proofs.Bands.{IsShort, shorter, in_bands, InBands}
+use Rattle.grid_index.proofs.Bands.{IsShort, shorter, in_bands}
 
 -- ---- lists joined
 flat_among : {X A : Type 0} (f : X → List A) (xs : List X) (y : A) → Contains (flat_map f xs) y → (x : X) × Contains xs x × Contains (f x) y

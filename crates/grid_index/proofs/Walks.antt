@@ -1,5 +1,5 @@
 -- The walks over cells: what one step adds, and what all have added at the end.
-use Rattle.std.proofs.Common.{◌≡◌, ◌≢◌, ◌⊎◌, inl, inr, refl, sym, ap, ◌∙◌, subst, ℕ, ◌+◌, ◌<◌, ◌≤◌, max, not, true, false, List, [], ◌∷◌, ◌++◌, Contains, nat_eq, Vec, map, Option, Some, None, IsSome, arith}
+use Rattle.std.proofs.Common.{◌≡◌, ◌≢◌, inl, inr, refl, sym, ap, ◌∙◌, subst, ℕ, ◌+◌, ◌≤◌, max, not, List, [], ◌∷◌, ◌++◌, Contains, nat_eq, Vec, map, Option, Some, None, IsSome, arith}
 use Rattle.std.specs.List.{filter, flat_map}
 use Rattle.std.specs.Option.{option_map_or}
 use Rattle.std.specs.HashMap.{HashMap, get, WritesThrough, UpdatesBy}

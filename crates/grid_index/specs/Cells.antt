@@ -14,7 +14,7 @@
 -- IsSameIn m n        n has in each cell what m has
 -- LevelView           what is seen of a level: its number, and what it holds
 -- all_items ls        what the levels hold
-use Rattle.std.specs.Prelude.{◌≡◌, ◌≢◌, ◌⊎◌, ◌↔◌, ℕ, ◌+◌, ◌-◌, ◌*◌, ◌/◌, ◌^◌, ◌<◌, ◌≤◌, max, ℤ, negsuc, ◌-ℤ◌, unsigned_abs, List, [], ◌∷◌, ◌++◌, Contains, nat_eq, Vec}
+use Rattle.std.specs.Prelude.{◌≡◌, ◌≢◌, ℕ, ◌+◌, ◌-◌, ◌*◌, ◌/◌, ◌^◌, ◌<◌, ◌≤◌, max, ℤ, negsuc, ◌-ℤ◌, unsigned_abs, List, [], ◌∷◌, ◌++◌, Contains, nat_eq, Vec}
 use Rattle.std.specs.Int.{w32, leading_zeros}
 use Rattle.std.specs.List.{flat_map}
 use Rattle.std.specs.Option.{option_map_or}

@@ -1,7 +1,7 @@
 ghost use Rattle.std.specs.Prelude.{◌≡◌, ◌↔◌, ◌<◌, ◌≤◌, ℕ, [], length, slice_get, Contains, IfOk, OnOk, OnErr, IsSomeAnd};
 ghost use Rattle.std.specs.List.Sorted.{IsStrictlyIncreasing};
 ghost use Rattle.grid_index.specs.Near.{HoldsSame, Gains, Loses, IsNear, Adds};
-ghost use Rattle.grid_index.specs.Cells.{all_items};
+ghost use Rattle.grid_index.specs.Cells.{all_items, level_of};
 
 use crate::cell::level_of;
 use crate::level::Level;
@@ -43,6 +43,31 @@ fn place_of(alloc: Global, levels: &mut Vec<Level>, number: u32) -> Result<usize
     }
 }
 
+fn put_at(levels: &mut Vec<Level>, i: usize, placed: Placed) -> Result<(), NoMemory>
+    requires { IsSomeAnd (slice_get levels.old.items i) (λ l. l.number ≡ level_of placed.rect) }
+    ensures ok { OnOk result (Gains (all_items levels.old.items) (all_items levels.new.items) placed) }
+    ensures err { OnErr result (HoldsSame (all_items levels.old.items) (all_items levels.new.items)) }
+{
+    levels[i].put(placed)
+}
+
+fn take_from_each(levels: &mut [Level], placed: &Placed)
+    ensures { Loses (all_items levels.old) (all_items levels.new) placed.now }
+{
+    for level in levels {
+        level.take(placed);
+    }
+}
+
+fn add_from_each(levels: &[Level], r: &Rect, found: &mut Vec<u32>) -> Result<(), NoMemory>
+    ensures { OnOk result (Adds r.now (Contains (all_items levels.now)) found.old.items found.new.items) }
+{
+    for level in levels {
+        level.add_near(r, found)?;
+    }
+    Ok(())
+}
+
 impl Index {
     /// Holds nothing.
     pub fn new(alloc: Global) -> Index
@@ -61,16 +86,14 @@ impl Index {
         ensures err { OnErr result (HoldsSame self.old self.new) }
     {
         let i = place_of(self.alloc, &mut self.levels, level_of(&placed.rect))?;
-        self.levels[i].put(placed)
+        put_at(&mut self.levels, i, placed)
     }
 
     /// Takes the rectangle out from under its handle; nothing changes where it is not there. Takes no memory.
     pub fn take(&mut self, placed: &Placed)
         ensures { Loses self.old self.new placed.now }
     {
-        for level in self.levels.iter_mut() {
-            level.take(placed);
-        }
+        take_from_each(&mut self.levels, placed);
     }
 
     /// The handles of the rectangles that meet this one, once each, ascending; touching is meeting. At each level that holds
@@ -80,9 +103,7 @@ impl Index {
         ensures near { IfOk result (λ v. (a : ℕ) → Contains v.items a ↔ IsNear r.now self.now a) }
     {
         let mut found = Vec::new(alloc);
-        for level in &self.levels {
-            level.add_near(r, &mut found)?;
-        }
+        add_from_each(&self.levels, r, &mut found)?;
         once_each(&mut found);
         Ok(found)
     }

@@ -1,4 +1,4 @@
-use Rattle.std.proofs.Common.{Contains, map}
+use Rattle.std.proofs.Common.{Contains}
 use Rattle.std.specs.List.{flat_map}
 use Rattle.grid_index.specs.Near.{Adds}
 use Rattle.grid_index.proofs.cells.add_all.Given as goal

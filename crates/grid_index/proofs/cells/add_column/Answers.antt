@@ -1,4 +1,4 @@
-use Rattle.std.proofs.Common.{Contains, arith}
+use Rattle.std.proofs.Common.{arith}
 use Rattle.grid_index.proofs.Walks.{column_none, column_more, column_all}
 use Rattle.grid_index.proofs.cells.add_column.Goals as goal
 

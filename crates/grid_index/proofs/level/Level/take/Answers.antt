@@ -1,6 +1,6 @@
-use Rattle.std.proofs.Common.{◌≡◌, subst, sym, ◌∙◌, arith}
+use Rattle.std.proofs.Common.{subst, ◌∙◌}
 use Rattle.grid_index.specs.Near.{Loses}
-use Rattle.grid_index.specs.Cells.{LevelView, items_of, IsTakenFrom, cell_of}
+use Rattle.grid_index.specs.Cells.{LevelView, items_of}
 use Rattle.grid_index.proofs.Seats.{seated_taken, lost_in, lost_elsewhere}
 use Rattle.grid_index.proofs.level.Level.take.Goals as goal
 
