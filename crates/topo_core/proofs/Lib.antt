@@ -2,7 +2,7 @@ mod Whole
 mod Kept
 mod Marking
 mod Exchanges
-mod Places
+mod Standing
 mod RuleLists
 mod Rows
 mod RulesMore

@@ -7,7 +7,7 @@ use Rattle.topo_core.specs.Faults.{change_fault, edit_cause}
 use Rattle.topo_core.proofs.Whole.{ordered}
 use Rattle.topo_core.proofs.Kept.{edit_keeps, edit_sound_kept, edit_settled_kept}
 use Rattle.topo_core.proofs.Exchanges.{added, told_add, told}
-use Rattle.topo_core.proofs.Places.{next_placed}
+use Rattle.topo_core.proofs.Standing.{next_placed}
 use Rattle.topo_core.proofs.topology.Topology.add.Goals as goal
 
 pub returns-in_err-check_add-clause-refused : goal.returns-in_err-check_add-clause-refused

@@ -4,7 +4,7 @@ use Rattle.topology_terms.specs.Settled.{IsSettledUnder}
 use Rattle.topo_core.specs.Topologies.{IsTopology}
 use Rattle.topo_core.proofs.Whole.{empty_topology, empty_sound, empty_settled}
 use Rattle.topo_core.proofs.Exchanges.{nothing}
-use Rattle.topo_core.proofs.Places.{none_placed}
+use Rattle.topo_core.proofs.Standing.{none_placed}
 use Rattle.topo_core.proofs.topology.Topology.new.Goals as goal
 
 pub invariant_of-result : goal.invariant_of-result

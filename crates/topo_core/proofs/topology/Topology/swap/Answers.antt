@@ -5,7 +5,7 @@ use Rattle.topology_terms.specs.Settled.{IsSettledUnder}
 use Rattle.topo_core.proofs.Whole.{ordered}
 use Rattle.topo_core.proofs.Kept.{edit_keeps, edit_sound_kept, edit_settled_kept}
 use Rattle.topo_core.proofs.Exchanges.{exchanged}
-use Rattle.topo_core.proofs.Places.{placed_set}
+use Rattle.topo_core.proofs.Standing.{placed_set}
 use Rattle.topo_core.proofs.topology.Topology.swap.Goals as goal
 
 pub invariant_of-self-2 : goal.invariant_of-self-2
