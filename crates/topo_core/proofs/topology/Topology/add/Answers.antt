@@ -7,7 +7,7 @@ use Rattle.topo_core.specs.Faults.{change_fault, edit_cause}
 use Rattle.topo_core.proofs.Whole.{ordered}
 use Rattle.topo_core.proofs.Kept.{edit_keeps, edit_sound_kept, edit_settled_kept}
 use Rattle.topo_core.proofs.Exchanges.{added, told_add, told}
-use Rattle.topo_core.proofs.Standing.{next_placed}
+use Rattle.topo_core.proofs.Standing.{next_placed, same_indexed}
 use Rattle.topo_core.proofs.topology.Topology.add.Goals as goal
 
 pub returns-in_err-check_add-clause-refused : goal.returns-in_err-check_add-clause-refused
@@ -18,6 +18,14 @@ returns-in_err-check_add-clause-refused g c =
     (add_cause q.classes q.next c.args.class c.args.shape.kind)) c.self.view_is
     (told_add c.in_err-check_add.field-0.0 c.self.inside.store.classes c.self.inside.store.next c.args.class c.args.shape.kind
     c.in_err-check_add.ensures.refused))
+
+pub invariant_of-self-in_err-dirty_next : goal.invariant_of-self-in_err-dirty_next
+invariant_of-self-in_err-dirty_next g c = same_indexed c.self.inside.store c.room.new.self c.self.inside.rules.items c.self.inside.dirt
+    c.dirty_next.new.dirt c.self.inside.entries c.self.inside.index c.dirty_next.new.index c.room.ensures.same
+    c.in_err-dirty_next.ensures.err c.in_err-dirty_next.ensures.placed c.self.invariant
+
+pub returns-in_err-dirty_next-clause-ordered : goal.returns-in_err-dirty_next-clause-ordered
+returns-in_err-dirty_next-clause-ordered g c = ordered _ (invariant_of-self-in_err-dirty_next g c).topology
 
 pub invariant_of-self-2 : goal.invariant_of-self-2
 invariant_of-self-2 g c =

@@ -9,15 +9,15 @@ use Rattle.topo_core.proofs.topology.Topology.add_class.Goals as goal
 pub invariant_of-self-2 : goal.invariant_of-self-2
 invariant_of-self-2 g c = record {
   topology = class_keeps c.args.name c.args.kind _ _ c.self.invariant.topology
-    (record {
-      classes = c.in_ok-number.ensures.added;
-      rules = refl;
-      features = c.add_class.ensures.features;
-      next =
-          c.add_class.ensures.next;
-      dirt = refl;
-      entries = refl;
-    }) c.store_law.ensures;
+      (record {
+        classes = c.in_ok-number.ensures.added;
+        rules = refl;
+        features = c.add_class.ensures.features;
+        next =
+            c.add_class.ensures.next;
+        dirt = refl;
+        entries = refl;
+      }) c.store_law.ensures;
   placed = subst (ArePlaced c.self.inside.index) (sym c.add_class.ensures.features) c.self.invariant.placed;
 }
 

@@ -11,9 +11,9 @@ invariant_of-self-2 g c =
     let few : length c.deref-2.result.now < 256 = search rules in
     record {
       topology = rule_keeps c.free_number-number.result c.args.row c.self.inside.store c.self.inside.rules.items c.put_rule.new.rules.items
-    c.self.inside.dirt c.add.new.self c.self.inside.entries (rw c.deref-2.ensures.value at c.free_number-number.ensures.free)
-    (rw c.deref-2.ensures.value at few) (rw c.reserve.ensures.items at c.put_rule.ensures) c.self.invariant.topology
-    (has_kinds _ c.args.row c.in_ok-fit.ensures.ok);
+          c.self.inside.dirt c.add.new.self c.self.inside.entries (rw c.deref-2.ensures.value at c.free_number-number.ensures.free)
+          (rw c.deref-2.ensures.value at few) (rw c.reserve.ensures.items at c.put_rule.ensures) c.self.invariant.topology
+          (has_kinds _ c.args.row c.in_ok-fit.ensures.ok);
       placed = c.self.invariant.placed;
     }
 

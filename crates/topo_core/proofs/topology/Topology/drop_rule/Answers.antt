@@ -10,8 +10,8 @@ use Rattle.topo_core.proofs.topology.Topology.drop_rule.Goals as goal
 pub invariant_of-self : goal.invariant_of-self
 invariant_of-self g c = record {
   topology = rule_leaves c.args.number c.self.inside.store c.self.inside.rules.items c.drop_from.new.rules.items
-    c.self.inside.dirt c.self.inside.entries c.drop_rule.new.self c.drop_from.ensures
-    (record { gone = c.drop_rule.ensures.gone; kept = c.drop_rule.ensures.kept }) c.drop_rule.ensures.ascending c.self.invariant.topology;
+      c.self.inside.dirt c.self.inside.entries c.drop_rule.new.self c.drop_from.ensures
+      (record { gone = c.drop_rule.ensures.gone; kept = c.drop_rule.ensures.kept }) c.drop_rule.ensures.ascending c.self.invariant.topology;
   placed = c.self.invariant.placed;
 }
 
