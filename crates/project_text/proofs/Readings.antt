@@ -1,20 +1,19 @@
 -- What comes of the text of a shape is one thing, and so is the verdict on a line.
-use Rattle.std.proofs.Common.{ℕ, ◌≡◌, ◌≢◌, ◌<◌, ◌≤◌, ◌⊎◌, inl, inr, Bool, true, false, List, [], ◌∷◌, length, Option, Some, None, Result, Ok, Err, if◌then◌else◌, refl, sym, ap, subst, ◌∙◌, arith}
+use Rattle.std.proofs.Common.{ℕ, ◌≡◌, inl, inr, List, [], ◌∷◌, Option, Some, None, Ok, Err, refl, sym, ap, subst, ◌∙◌, arith}
 use Rattle.std.specs.Prelude.{codes, bytes_eq, IfSome}
 use Rattle.std.proofs.lemmas.Bool.{cases_Bool}
 use Rattle.plane_terms.specs.Shape.{Shape}
-use Rattle.wkt_terms.specs.Shapes.{IsShapeText, shape_text}
+use Rattle.wkt_terms.specs.Shapes.{IsShapeText}
 use Rattle.wkt_terms.specs.WktFaults.{IsWktFault}
 use Rattle.wkt_terms.specs.declared.wkt_fault.WktFault.{WktFault}
 use Rattle.wkt_terms.specs.declared.wkt_fault.WktFault.TheVariants as text
 use Rattle.wkt_text.proofs.OneFault.{one_fault}
 use Rattle.wkt_text.proofs.Results.{only}
 use Rattle.project_terms.specs.declared.stage.Stage.TheVariants as stage
-use Rattle.project_terms.specs.declared.project_cause.ProjectCause.TheVariants as cause
 use Rattle.project_terms.specs.Lines.{fields}
 use Rattle.project_terms.specs.Drafts.{Draft, is_open}
-use Rattle.project_terms.specs.Verdicts.{Verdict, WktReading, Unwritten, Refused, Written, FeatureForm, feature_of, feature_verdict, at, judged, wkt_in, wkt_of, line_verdict}
-use Rattle.project_terms.specs.Texts.{IsWritten, IsUnwritten, IsRefusal, IsRefused, IsReading, IsVerdict}
+use Rattle.project_terms.specs.Verdicts.{Verdict, WktReading, Unwritten, Refused, Written, FeatureForm, feature_of, at, wkt_in, wkt_of, line_verdict}
+use Rattle.project_terms.specs.Texts.{IsUnwritten, IsRefusal, IsRefused, IsReading, IsVerdict}
 
 -- ---- readings
 no_memory : (f : WktFault) → IsRefusal f → f ≡ text.NoMemory → ⊥
