@@ -8,6 +8,7 @@ use Rattle.std.proofs.lemmas.List.{take_more, take_all, nil_from_length}
 use Rattle.std.proofs.lemmas.Option.{get_or_from_slice_get, slice_get_within}
 use Rattle.plane_terms.specs.Lists.{Every, SomeOf}
 use Rattle.plane_terms.specs.Point.{Point}
+use Rattle.plane_terms.proofs.ListLemmas.{some_or_none}
 use Rattle.plane_terms.specs.Rectangle.{Rectangle}
 use Rattle.plane_terms.specs.HalfPlane.{Holds, Says, value_at}
 use Rattle.plane_terms.specs.declared.op.Op.{Op}
@@ -110,11 +111,7 @@ in_or_not (h ∷ hs) p = elim (says_or_not h.op (value_at h p)) [
 ]
 
 in_cells_stable : (cs : List Cell) (p : Point) → ¬ (¬ (InCells cs p)) → InCells cs p
-in_cells_stable [] p n = n (λ h. h)
-in_cells_stable (c ∷ cs) p n = elim (in_or_not c p) [
-  | inl a ↦ inl a
-  | inr k ↦ inr (in_cells_stable cs p (λ m. n (λ h. elim h [ inl a ↦ k a | inr b ↦ m b ])))
-]
+in_cells_stable cs p n = elim (some_or_none (λ c. InCell c p) (λ c. in_or_not c p) cs) [ inl h ↦ h | inr k ↦ absurd (n k) ]
 
 -- ---- within
 pub within_test : (d : List Rectangle) (cs ds off rest : List Cell) (n : ℕ) → IsRest (λ p. ¬ (InCells ds p)) cs off
