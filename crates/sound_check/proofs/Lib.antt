@@ -1,2 +1,4 @@
 pub mod Rests
 pub mod Sides
+pub mod Pairs
+pub mod Exact
