@@ -25,11 +25,11 @@ pub exact_dead : (M : Meaning) → Laws M → (F : List Feature) (row : Row) (fr
     → ((b : ℕ) → entry_at fresh r a b ≡ None) → AreExact M F row fresh r a
 exact_dead M L F row fresh r a u n none = record {
   points = λ b q. (
-    λ h. absurd (none-some h.0 (sym (none b) ∙ h.1.0)),
-    λ h. let f = L.inside row F a b q u h in absurd (none-some f.0 (sym n ∙ f.1.0)),
+    λ h. absurd (none-some h.0 (sym (none b) ∙ h.1)),
+    λ h. let f = L.inside row F a b q u h in absurd (none-some f.0 (sym n ∙ f.1)),
   );
   whole = (
-    λ h. absurd (none-some h.0 (sym (none 0) ∙ h.1.0)),
+    λ h. absurd (none-some h.0 (sym (none 0) ∙ h.1)),
     λ h. let f = L.live row F a h in absurd (none-some f.0 (sym n ∙ f.1)),
   );
 }
@@ -54,10 +54,10 @@ in_live F a r s e w = elim (there_or_not (feature_at F a)) [
 module _ (M : Meaning) (p : Project) (row : Row) (fresh stored : List Entry) (r a : ℕ) (exact : AreExact M p.features row fresh r a)
     (same : (b : ℕ) → entry_at stored r a b ≡ entry_at p.entries r a b) where
   to_all : (b : ℕ) (q : Point) → HasCellsAt stored r a b q → HasCellsAt p.entries r a b q
-  to_all b q h = (h.0, sym (same b) ∙ h.1.0, h.1.1)
+  to_all b q h = (h.0, sym (same b) ∙ h.1, h.2)
 
   from_all : (b : ℕ) (q : Point) → HasCellsAt p.entries r a b q → HasCellsAt stored r a b q
-  from_all b q h = (h.0, same b ∙ h.1.0, h.1.1)
+  from_all b q h = (h.0, same b ∙ h.1, h.2)
 
   pub sound_at : IsSoundPair p.dirt (envelope_at p.features a) fresh stored r a → IsSoundAt M p r row a
   sound_at s = record {
@@ -66,11 +66,11 @@ module _ (M : Meaning) (p : Project) (row : Row) (fresh stored : List Entry) (r 
       λ h. to_all b q ((s.points q n b).1 ((exact.points b q).1 h)),
     );
     whole = λ f e n. let w = s.whole (env f) (envelope_is p.features a f e) n in (
-      λ h. exact.whole.0 (w.0 (h.0, same 0 ∙ h.1.0, h.1.1)),
-      λ h. let k = w.1 (exact.whole.1 h) in (k.0, sym (same 0) ∙ k.1.0, k.1.1),
+      λ h. exact.whole.0 (w.0 (h.0, same 0 ∙ h.1, h.2)),
+      λ h. let k = w.1 (exact.whole.1 h) in (k.0, sym (same 0) ∙ k.1, k.2),
     );
     cells = λ b e at. s.cells b e (same b ∙ at);
-    frames = λ b e at. elim (s.frames b e (same b ∙ at)) [ inl m ↦ inl m | inr w ↦ inr (in_live p.features a e.frame w.0 w.1.0 w.1.1) ];
+    frames = λ b e at. elim (s.frames b e (same b ∙ at)) [ inl m ↦ inl m | inr w ↦ inr (in_live p.features a e.frame w.0 w.1 w.2) ];
   }
 
   pub sound_pair : IsSoundAt M p r row a → IsSoundPair p.dirt (envelope_at p.features a) fresh stored r a
@@ -83,14 +83,14 @@ module _ (M : Meaning) (p : Project) (row : Row) (fresh stored : List Entry) (r 
       | inl f ↦
           let equal : t ≡ env f.0 = same_Some t (env f.0) (sym e ∙ envelope_is p.features a f.0 f.1) in
           let w = s.whole f.0 f.1 (rw equal at n) in (
-            λ h. exact.whole.1 (w.0 (h.0, sym (same 0) ∙ h.1.0, h.1.1)),
-            λ h. let k = w.1 (exact.whole.0 h) in (k.0, same 0 ∙ k.1.0, k.1.1),
+            λ h. exact.whole.1 (w.0 (h.0, sym (same 0) ∙ h.1, h.2)),
+            λ h. let k = w.1 (exact.whole.0 h) in (k.0, same 0 ∙ k.1, k.2),
           )
       | inr none ↦ absurd (none-some t (sym (ap (option_map env) none) ∙ e))
     ];
     cells = λ b e at. s.cells b e (sym (same b) ∙ at);
     frames = λ b e at. elim (s.frames b e (sym (same b) ∙ at)) [
       | inl m ↦ inl m
-      | inr w ↦ inr (env w.0, envelope_is p.features a w.0 w.1.0, w.1.1)
+      | inr w ↦ inr (env w.0, envelope_is p.features a w.0 w.1, w.2)
     ];
   }

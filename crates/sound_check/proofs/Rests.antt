@@ -36,7 +36,7 @@ rest_as P Q cs made e r = record {
 }
 
 -- ---- the steps of a list
-pub take_one : {A : Type 0} (xs : List A) (i : ℕ) (x : A) → slice_get xs i ≡ Some x → take (i + 1) xs ≡ take i xs ++ x ∷ []
+take_one : {A : Type 0} (xs : List A) (i : ℕ) (x : A) → slice_get xs i ≡ Some x → take (i + 1) xs ≡ take i xs ++ x ∷ []
 take_one xs i x e = take_more xs i x (slice_get_within xs i x e) ∙ ap (λ y. take i xs ++ y ∷ []) (get_or_from_slice_get xs i x x e)
 
 some_taken : {A : Type 0} (P : A → Type 0) (xs : List A) (i : ℕ) → SomeOf P (take i xs) → SomeOf P xs

@@ -20,8 +20,9 @@ pub fn have_points(cells: &Cells) -> bool
     true
 }
 
-/// Whether each point of the cells that is not dirty is in the other list: the cells are carved by the outsides of the others,
-/// then by those of the dirty rectangles, until nothing is left. An `Err` is want of memory.
+/// Whether each point of the cells that is not dirty is in the other list. Where the lists are equal nothing is carved; else the
+/// cells are carved by the outsides of the others, then by those of the dirty rectangles, until nothing is left. An `Err` is want
+/// of memory.
 pub fn is_within(
     alloc: Global,
     cells: &Cells,
@@ -30,12 +31,15 @@ pub fn is_within(
 ) -> Result<bool, NoMemory>
     ensures { IfOk result (λ yes. IsTrue yes ↔ IsWithinOff dirt.now cells.now others.now) }
 {
+    if cells.same(others) {
+        return Ok(true);
+    }
     let off_others = rest_off_cells(alloc, cells, others)?;
     let rest = rest_off_dirt(alloc, &off_others, dirt)?;
     Ok(rest.len() == 0)
 }
 
-/// Whether both lists hold the same points off the dirt. Where they are equal nothing is carved. An `Err` is want of memory.
+/// Whether both lists hold the same points off the dirt. An `Err` is want of memory.
 pub fn are_same_off(
     alloc: Global,
     first: &Cells,
@@ -44,9 +48,6 @@ pub fn are_same_off(
 ) -> Result<bool, NoMemory>
     ensures { IfOk result (λ yes. IsTrue yes ↔ AreSameOff dirt.now first.now second.now) }
 {
-    if first.same(second) {
-        return Ok(true);
-    }
     if !is_within(alloc, first, second, dirt)? {
         return Ok(false);
     }
