@@ -1,5 +1,5 @@
 -- Beside fresh entries that say exactly what is broken, a rule and a subject are sound exactly if the project is sound there.
-use Rattle.std.proofs.Common.{◌≡◌, ◌↔◌, ◌∙◌, ℕ, List, Option, Some, None, inl, inr, sym, ap}
+use Rattle.std.proofs.Common.{◌≡◌, ◌∙◌, ℕ, List, Option, Some, None, inl, inr, sym, ap}
 use Rattle.std.specs.Option.{option_map}
 use Rattle.std.proofs.lemmas.Option.{same_Some, none-some}
 use Rattle.plane_terms.specs.Point.{Point}
@@ -8,12 +8,11 @@ use Rattle.plane_terms.proofs.Truths.{there_or_not}
 use Rattle.topology_terms.specs.Feature.{Feature, feature_at, env}
 use Rattle.topology_terms.specs.Broken.{Row}
 use Rattle.topology_terms.specs.Meaning.{Meaning, Laws}
-use Rattle.topology_terms.specs.Entry.{Entry, entry_at, HasCellsAt, HasWhole}
+use Rattle.topology_terms.specs.Entry.{Entry, entry_at, HasCellsAt}
 use Rattle.topology_terms.specs.Project.{Project}
 use Rattle.topology_terms.specs.Changes.{IsJudged}
 use Rattle.topology_terms.specs.Sound.{IsSoundAt}
 use Rattle.sound_laws.proofs.Validations.{fresh_points, fresh_whole}
-use Rattle.sound_check.specs.Frames.{Stands}
 use Rattle.sound_check.specs.Pairs.{IsSoundPair, AreExact}
 
 -- ---- fresh entries are exact

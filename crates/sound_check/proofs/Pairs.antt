@@ -1,23 +1,21 @@
 -- The entries of a rule and a subject, stored and fresh.
-use Rattle.std.proofs.Common.{◌≡◌, ◌≢◌, ◌↔◌, ◌⊎◌, ◌∙◌, ℕ, ◌+◌, ◌<◌, length, get_or, Bool, true, false, IsTrue, List, [], ◌∷◌, ◌++◌, take, Option, Some, None, inl, inr, refl, sym, subst, ap}
+use Rattle.std.proofs.Common.{◌≡◌, ◌↔◌, ◌∙◌, ℕ, ◌+◌, ◌<◌, length, get_or, true, List, [], ◌∷◌, take, Option, Some, None, refl, sym, subst}
 use Rattle.std.specs.Prelude.{MatchOption}
 use Rattle.std.specs.List.{find}
 use Rattle.std.specs.Option.{option_map}
-use Rattle.std.proofs.lemmas.Bool.{false≢true}
 use Rattle.std.proofs.lemmas.List.{take_more}
 use Rattle.std.proofs.lemmas.Option.{same_Some, none-some}
 use Rattle.plane_terms.specs.Lists.{Every}
 use Rattle.plane_terms.proofs.ListLemmas.{every_append, every_map, every_at}
 use Rattle.plane_terms.specs.Point.{Point}
 use Rattle.plane_terms.specs.Rectangle.{Rectangle}
-use Rattle.plane_terms.specs.Cell.{InCells, HavePoints, IsLeastFrame}
-use Rattle.plane_terms.specs.Dirt.{Covers, MeetsDirt}
-use Rattle.topology_terms.specs.Entry.{Entry, by_key, has_key, entry_at, HasCellsAt, HasWhole, IsFramed, IsAscending}
+use Rattle.plane_terms.specs.Cell.{InCells}
+use Rattle.plane_terms.specs.Dirt.{Covers}
+use Rattle.topology_terms.specs.Entry.{Entry, by_key, has_key, entry_at, HasCellsAt, HasWhole, IsAscending}
 use Rattle.sound_laws.proofs.Keyed as keyed
 use Rattle.sound_laws.proofs.Lists.{keys, entry_key, every_found}
 use Rattle.sound_check.specs.Rest.{IsWithinOff}
-use Rattle.sound_check.specs.Frames.{Stands}
-use Rattle.sound_check.specs.Pairs.{IsOf, LiesIn, IsFramedOrWhole, IsEntrySound, WholesAgree, IsSoundPair}
+use Rattle.sound_check.specs.Pairs.{IsOf, LiesIn, IsEntrySound, WholesAgree, IsSoundPair}
 
 -- ---- lists
 pub every_more : {A : Type 0} (P : A → Type 0) (xs : List A) (i : ℕ) (x : A) → i < length xs → x ≡ get_or xs i x → Every P (take i xs)

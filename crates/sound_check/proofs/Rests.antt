@@ -1,16 +1,16 @@
 -- What is left of cells, carved step by step.
-use Rattle.std.proofs.Common.{◌≡◌, ◌↔◌, ◌⊎◌, ◌∙◌, ℕ, zero, suc, ◌+◌, ◌≤◌, nat_eq, Bool, true, false, not, IsTrue, List, [], ◌∷◌, ◌++◌, length, take, inl, inr, refl, sym, subst, ap, arith, ℤ, pos}
+use Rattle.std.proofs.Common.{◌≡◌, ◌↔◌, ◌⊎◌, ◌∙◌, ℕ, zero, suc, ◌+◌, ◌≤◌, nat_eq, false, not, IsTrue, List, [], ◌∷◌, ◌++◌, length, take, inl, inr, refl, sym, subst, ap, arith, ℤ, pos}
 use Rattle.std.specs.Prelude.{slice_get, Some}
 use Rattle.std.proofs.Math.Dec.{eqb-suc-zero}
 use Rattle.std.proofs.lemmas.Bool.{false≢true}
 use Rattle.std.proofs.lemmas.Int.{ints}
 use Rattle.std.proofs.lemmas.List.{take_more, take_all, nil_from_length}
 use Rattle.std.proofs.lemmas.Option.{get_or_from_slice_get, slice_get_within}
-use Rattle.plane_terms.specs.Lists.{Every, SomeOf}
+use Rattle.plane_terms.specs.Lists.{SomeOf}
 use Rattle.plane_terms.specs.Point.{Point}
 use Rattle.plane_terms.proofs.ListLemmas.{some_or_none}
 use Rattle.plane_terms.specs.Rectangle.{Rectangle}
-use Rattle.plane_terms.specs.HalfPlane.{Holds, Says, value_at}
+use Rattle.plane_terms.specs.HalfPlane.{Says, value_at}
 use Rattle.plane_terms.specs.declared.op.Op.{Op}
 use Rattle.plane_terms.specs.declared.op.Op.TheVariants.{Over, AtLeast, Zero}
 use Rattle.plane_terms.specs.Cell.{Cell, InCell, InCells, HavePoints}

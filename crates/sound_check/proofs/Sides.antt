@@ -1,9 +1,9 @@
 -- The least frame of cells, from what they reach.
-use Rattle.std.proofs.Common.{◌≡◌, ◌↔◌, ◌∙◌, ℕ, nat_eq, Bool, true, false, not, IsTrue, List, [], ◌∷◌, length, inl, inr, refl, sym, subst, arith, ℤ, pos, ◌+ℤ◌, ◌-ℤ◌, ◌*ℤ◌, ◌≤ℤ◌, ◌<ℤ◌}
+use Rattle.std.proofs.Common.{◌≡◌, ◌↔◌, ℕ, nat_eq, Bool, true, false, not, IsTrue, List, [], ◌∷◌, length, inl, inr, refl, sym, subst, arith, ℤ, pos, ◌+ℤ◌, ◌-ℤ◌, ◌*ℤ◌, ◌≤ℤ◌, ◌<ℤ◌}
 use Rattle.std.proofs.lemmas.Bool.{false≢true}
 use Rattle.std.proofs.lemmas.Int.{ints}
 use Rattle.plane_terms.specs.Point.{Point}
-use Rattle.plane_terms.specs.Rectangle.{Rectangle, RectHolds, IsWithin}
+use Rattle.plane_terms.specs.Rectangle.{Rectangle, RectHolds}
 use Rattle.plane_terms.specs.HalfPlane.{HalfPlane, Holds, x_over, x_under, y_over, y_under}
 use Rattle.plane_terms.specs.Cell.{Cell, InCells, IsLeastFrame}
 use Rattle.number_laws.proofs.Order.{cases_order_ℤ, scaled_le}

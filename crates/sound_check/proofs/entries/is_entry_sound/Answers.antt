@@ -1,4 +1,4 @@
-use Rattle.std.proofs.Common.{◌≡◌, ◌↔◌, ◌∙◌, IsTrue, sym, subst}
+use Rattle.std.proofs.Common.{◌↔◌, ◌∙◌, IsTrue, sym, subst}
 use Rattle.std.proofs.lemmas.Bool.{false≢true}
 use Rattle.convex_cell.proofs.Results.{if_ok}
 use Rattle.sound_check.specs.Frames.{Stands}

@@ -1,5 +1,4 @@
-use Rattle.std.proofs.Common.{◌↔◌, ◌∙◌, ◌≡◌, [], IsTrue, sym, subst, Some, None}
-use Rattle.plane_terms.specs.Cell.{Cell}
+use Rattle.std.proofs.Common.{◌↔◌, ◌≡◌, IsTrue, Some, None}
 use Rattle.topology_terms.specs.Entry.{entry_at}
 use Rattle.convex_cell.proofs.Results.{if_ok}
 use Rattle.sound_check.specs.Rest.{IsWithinOff}

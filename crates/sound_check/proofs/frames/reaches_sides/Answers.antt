@@ -1,7 +1,7 @@
 use Rattle.std.proofs.Common.{◌≡◌, ◌↔◌, ◌∙◌, IsTrue, pos, ◌+ℤ◌, ◌-ℤ◌, ap, sym, subst, arith}
 use Rattle.std.proofs.lemmas.Bool.{false≢true}
 use Rattle.std.proofs.lemmas.Int.{ints}
-use Rattle.plane_terms.specs.HalfPlane.{HalfPlane, x_over, x_under, y_over, y_under}
+use Rattle.plane_terms.specs.HalfPlane.{x_over, x_under, y_over, y_under}
 use Rattle.convex_cell.proofs.Results.{if_ok}
 use Rattle.sound_check.specs.Frames.{Reaches, ReachesSides}
 use Rattle.sound_check.proofs.frames.reaches_sides.Goals as goal

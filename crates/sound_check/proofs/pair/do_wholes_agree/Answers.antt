@@ -1,4 +1,4 @@
-use Rattle.std.proofs.Common.{◌≡◌, Some, refl, sym, subst, ◌∙◌}
+use Rattle.std.proofs.Common.{refl, sym, subst, ◌∙◌}
 use Rattle.std.proofs.lemmas.Option.{same_Some}
 use Rattle.plane_terms.specs.Dirt.{MeetsDirt}
 use Rattle.sound_check.proofs.pair.do_wholes_agree.Goals as goal
