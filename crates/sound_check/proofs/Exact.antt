@@ -1,27 +1,34 @@
 -- Beside fresh entries that say exactly what is broken, a rule and a subject are sound exactly if the project is sound there.
-use Rattle.std.proofs.Common.{◌≡◌, ◌∙◌, ℕ, List, Option, Some, None, inl, inr, sym, ap}
+use Rattle.std.proofs.Common.{◌≡◌, ◌∙◌, ℕ, List, [], ◌∷◌, Option, Some, None, inl, inr, sym, ap}
 use Rattle.std.specs.Option.{option_map}
 use Rattle.std.proofs.lemmas.Option.{same_Some, none-some}
+use Rattle.plane_terms.specs.Lists.{Every, Paired}
 use Rattle.plane_terms.specs.Point.{Point}
 use Rattle.plane_terms.specs.Rectangle.{Rectangle, IsWithin}
 use Rattle.plane_terms.proofs.Truths.{there_or_not}
-use Rattle.topology_terms.specs.Feature.{Feature, feature_at, env}
+use Rattle.topology_terms.specs.Feature.{Feature, feature_at, env, IsAscending}
 use Rattle.topology_terms.specs.Broken.{Row}
-use Rattle.topology_terms.specs.Meaning.{Meaning, Laws}
+use Rattle.topology_terms.specs.Meaning.{Meaning, Laws, CutsRight, Finding}
 use Rattle.topology_terms.specs.Entry.{Entry, entry_at, HasCellsAt}
 use Rattle.topology_terms.specs.Project.{Project}
 use Rattle.topology_terms.specs.Changes.{IsJudged}
 use Rattle.topology_terms.specs.Sound.{IsSoundAt}
+use Rattle.validation_laws.specs.Parts.{IsNewEntry, IsSubjectPart}
+use Rattle.sound_laws.proofs.Lists.{none_at}
+use Rattle.sound_laws.proofs.Settling.{judged_by_cut}
 use Rattle.sound_laws.proofs.Validations.{fresh_points, fresh_whole}
-use Rattle.sound_check.specs.Pairs.{IsSoundPair, AreExact}
+use Rattle.sound_check.specs.Pairs.{IsOf, IsSoundPair, AreExact}
 
 -- ---- fresh entries are exact
-pub exact_live : (M : Meaning) (F : List Feature) (row : Row) (fresh : List Entry) (r a : ℕ) (f : Feature) → IsJudged M F fresh r row f a
-    → AreExact M F row fresh r a
-exact_live M F row fresh r a f j = record { points = λ b q. fresh_points M F fresh r row f a j b q; whole = fresh_whole M F fresh r row f a j }
+pub exact_live : (M : Meaning) (F : List Feature) (row : Row) (fresh : List Entry) (r a : ℕ) (f : Feature)
+    → IsJudged M F fresh r row f a → AreExact M F row fresh r a
+exact_live M F row fresh r a f j = record {
+  points = λ b q. fresh_points M F fresh r row f a j b q;
+  whole = fresh_whole M F fresh r row f a j;
+}
 
-pub exact_dead : (M : Meaning) → Laws M → (F : List Feature) (row : Row) (fresh : List Entry) (r a : ℕ) → M.Fits row F → feature_at F a ≡ None
-    → ((b : ℕ) → entry_at fresh r a b ≡ None) → AreExact M F row fresh r a
+pub exact_dead : (M : Meaning) → Laws M → (F : List Feature) (row : Row) (fresh : List Entry) (r a : ℕ) → M.Fits row F
+    → feature_at F a ≡ None → ((b : ℕ) → entry_at fresh r a b ≡ None) → AreExact M F row fresh r a
 exact_dead M L F row fresh r a u n none = record {
   points = λ b q. (
     λ h. absurd (none-some h.0 (sym (none b) ∙ h.1)),
@@ -32,6 +39,30 @@ exact_dead M L F row fresh r a u n none = record {
     λ h. let f = L.live row F a h in absurd (none-some f.0 (sym n ∙ f.1)),
   );
 }
+
+-- what a validation would put for a rule and a subject is exact, and theirs
+pub part_exact : (M : Meaning) → Laws M → CutsRight M → (F : List Feature) (row : Row) (fresh : List Entry) (r a : ℕ) → IsAscending F
+    → M.Fits row F → IsSubjectPart M F r row a fresh → AreExact M F row fresh r a
+part_exact M L C F row fresh r a v u h = elim (there_or_not (feature_at F a)) [
+  | inl f ↦
+      let l = h.live f.0 f.1 in
+      let right = C.right row F a f.0 v u f.1 l.0 l.1 in
+      exact_live M F row fresh r a f.0 (judged_by_cut M F fresh r row f.0 a l.0 right (found_alike r a f.0 l.0 fresh l.3))
+  | inr n ↦ exact_dead M L F row fresh r a u n (λ b. rw (h.dead n) (none_at [] r a b tt))
+]
+
+found_own : (r a : ℕ) (f : Feature) (xs : List Finding) (es : List Entry) → Paired (IsNewEntry r a f) xs es → Every (IsOf r a) es
+found_own r a f [] [] h = tt
+found_own r a f [] (e ∷ es) h = absurd h
+found_own r a f (x ∷ xs) [] h = absurd h
+found_own r a f (x ∷ xs) (e ∷ es) h = (record { rule = h.0.rule; subject = h.0.subject }, found_own r a f xs es h.1)
+
+pub part_own : (M : Meaning) (F : List Feature) (row : Row) (fresh : List Entry) (r a : ℕ) → IsSubjectPart M F r row a fresh
+    → Every (IsOf r a) fresh
+part_own M F row fresh r a h = elim (there_or_not (feature_at F a)) [
+  | inl f ↦ let l = h.live f.0 f.1 in found_own r a f.0 l.0 fresh l.3
+  | inr n ↦ rw (h.dead n) tt
+]
 
 -- ---- a frame stands
 abbrev envelope_at : List Feature → ℕ → Option Rectangle

@@ -2,3 +2,4 @@ pub mod Rests
 pub mod Sides
 pub mod Pairs
 pub mod Exact
+mod Rows

@@ -26,7 +26,8 @@ every_more P xs i x l e h k =
 pub every_there : {A : Type 0} (P : A → Type 0) (xs : List A) (i : ℕ) (x : A) → Every P xs → i < length xs → x ≡ get_or xs i x → P x
 every_there P xs i x h l e = subst P (sym e) (every_at P xs i x h l)
 
-each_entry : (P : Entry → Type 0) (es : List Entry) → IsAscending es → ((r a b : ℕ) (e : Entry) → entry_at es r a b ≡ Some e → P e) → Every P es
+each_entry : (P : Entry → Type 0) (es : List Entry) → IsAscending es
+    → ((r a b : ℕ) (e : Entry) → entry_at es r a b ≡ Some e → P e) → Every P es
 unfolding entry_at
 each_entry P es u h = keyed.each_found by_key keys P es u (λ k e at. h k.0 k.1 k.2 e at)
 

@@ -75,7 +75,8 @@ pub rest_all : {A : Type 0} (P : A → Point → Type 0) (xs : List A) (i : ℕ)
     → IsRest (Outside P (take i xs)) cs rest → IsRest (Outside P xs) cs rest
 rest_all P xs i cs rest l r = subst (λ ys. IsRest (Outside P ys) cs rest) (take_all i xs l) r
 
-pub rest_first : {A : Type 0} (P : A → Point → Type 0) (cs rest : List Cell) → IsRest (InCells ([] ∷ [])) cs rest → IsRest (Outside P []) cs rest
+pub rest_first : {A : Type 0} (P : A → Point → Type 0) (cs rest : List Cell) → IsRest (InCells ([] ∷ [])) cs rest
+    → IsRest (Outside P []) cs rest
 rest_first P cs rest r = rest_as (InCells ([] ∷ [])) (Outside P []) cs rest (λ p. (λ m h. h, λ n. inl tt)) r
 
 pub have_more : (cs : List Cell) (i : ℕ) (c : Cell) → slice_get cs i ≡ Some c → HavePoints (take i cs) → HavePoints (c ∷ [])
