@@ -17,6 +17,7 @@ use Rattle.validation_laws.specs.Parts.{IsNewEntry, IsSubjectPart}
 use Rattle.sound_laws.proofs.Lists.{none_at}
 use Rattle.sound_laws.proofs.Settling.{judged_by_cut}
 use Rattle.sound_laws.proofs.Validations.{fresh_points, fresh_whole}
+use Rattle.validation_laws.proofs.Judging.{found_alike}
 use Rattle.sound_check.specs.Pairs.{IsOf, IsSoundPair, AreExact}
 
 -- ---- fresh entries are exact
