@@ -1,0 +1,5 @@
+pub mod Rests
+pub mod Sides
+pub mod Pairs
+pub mod Exact
+mod Rows

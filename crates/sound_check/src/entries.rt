@@ -1,0 +1,125 @@
+ghost use Rattle.std.specs.Prelude.{◌≡◌, ◌↔◌, IsTrue, IfOk, None, Some, MatchOption};
+ghost use Rattle.plane_terms.specs.Lists.{Every};
+ghost use Rattle.topology_terms.specs.Entry.{entry_at, has_key, HasWhole, IsFramed};
+ghost use Rattle.sound_check.specs.Pairs.{LiesIn, IsFramedOrWhole, IsEntrySound};
+
+use crate::frames::{frame_stands, is_least_frame};
+use crate::within::{have_points, is_within};
+use convex_cell::Cells;
+use dirty_area::Dirt;
+use error_store::{Entry, Key};
+use grid_plane::{NoMemory, Rect};
+use std::alloc::Global;
+
+fn is_at(e: &Entry, key: Key) -> bool
+    ensures { result ≡ has_key e.now key.rule key.subject key.other }
+{
+    let own = e.key();
+    own.rule == key.rule && own.subject == key.subject && own.other == key.other
+}
+
+// The entry of the key: the lists are short.
+fn find_at(entries: &[Entry], key: Key) -> Option<&Entry>
+    ensures { MatchOption result (entry_at entries.now key.rule key.subject key.other ≡ None) (λ e. entry_at entries.now key.rule key.subject key.other ≡ Some e.now) }
+{
+    entries.iter().find(|e| is_at(e, key))
+}
+
+/// Whether there is a whole entry of the rule and the subject.
+pub fn has_whole(entries: &[Entry], rule: u16, subject: u32) -> bool
+    ensures { IsTrue result ↔ HasWhole entries.now rule subject }
+{
+    let key = Key {
+        rule,
+        subject,
+        other: 0,
+    };
+    match find_at(entries, key) {
+        Some(e) => e.whole(),
+        None => false,
+    }
+}
+
+fn lies_in(alloc: Global, e: &Entry, others: &[Entry], dirt: &Dirt) -> Result<bool, NoMemory>
+    ensures { IfOk result (λ yes. IsTrue yes ↔ LiesIn dirt.now others.now e.now) }
+{
+    match find_at(others, e.key()) {
+        Some(other) => is_within(alloc, e.cells(), other.cells(), dirt),
+        None => is_within(alloc, e.cells(), &Cells::new(alloc), dirt),
+    }
+}
+
+fn is_framed(alloc: Global, e: &Entry) -> Result<bool, NoMemory>
+    ensures { IfOk result (λ yes. IsTrue yes ↔ IsFramed e.now) }
+{
+    if e.cells().len() == 0 {
+        return Ok(false);
+    }
+    if !have_points(e.cells()) {
+        return Ok(false);
+    }
+    is_least_frame(alloc, &e.frame(), e.cells())
+}
+
+fn is_framed_or_whole(alloc: Global, e: &Entry) -> Result<bool, NoMemory>
+    ensures { IfOk result (λ yes. IsTrue yes ↔ IsFramedOrWhole e.now) }
+{
+    if e.whole() {
+        return Ok(true);
+    }
+    is_framed(alloc, e)
+}
+
+fn is_entry_sound(
+    alloc: Global,
+    e: &Entry,
+    envelope: Option<Rect>,
+    fresh: &[Entry],
+    dirt: &Dirt,
+) -> Result<bool, NoMemory>
+    ensures { IfOk result (λ yes. IsTrue yes ↔ IsEntrySound dirt.now envelope fresh.now e.now) }
+{
+    if !frame_stands(&e.frame(), envelope, dirt) {
+        return Ok(false);
+    }
+    if !is_framed_or_whole(alloc, e)? {
+        return Ok(false);
+    }
+    lies_in(alloc, e, fresh, dirt)
+}
+
+/// Whether each stored entry has only points of its fresh one off the dirt, a frame that stands, and the least one unless it is
+/// whole.
+pub fn are_entries_sound(
+    alloc: Global,
+    stored: &[Entry],
+    envelope: Option<Rect>,
+    fresh: &[Entry],
+    dirt: &Dirt,
+) -> Result<bool, NoMemory>
+    ensures { IfOk result (λ yes. IsTrue yes ↔ Every (IsEntrySound dirt.now envelope fresh.now) stored.now) }
+{
+    for i in 0..stored.len() {
+        if !is_entry_sound(alloc, &stored[i], envelope, fresh, dirt)? {
+            return Ok(false);
+        }
+    }
+    Ok(true)
+}
+
+/// Whether off the dirt each point of each entry is in the entry of its key among the others.
+pub fn all_lie_in(
+    alloc: Global,
+    entries: &[Entry],
+    others: &[Entry],
+    dirt: &Dirt,
+) -> Result<bool, NoMemory>
+    ensures { IfOk result (λ yes. IsTrue yes ↔ Every (LiesIn dirt.now others.now) entries.now) }
+{
+    for i in 0..entries.len() {
+        if !lies_in(alloc, &entries[i], others, dirt)? {
+            return Ok(false);
+        }
+    }
+    Ok(true)
+}
