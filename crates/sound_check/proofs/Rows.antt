@@ -1,7 +1,7 @@
 -- Worked rows, from the definitions.
 use Rattle.std.proofs.Common.{ℤ, pos, ◌+ℤ◌, [], ◌∷◌, inl, inr, arith, lit<}
 use Rattle.std.proofs.lemmas.Int.{ints}
-use Rattle.plane_terms.specs.Point.{Place, Point}
+use Rattle.plane_terms.specs.Point.{Point}
 use Rattle.plane_terms.specs.Rectangle.{Rectangle, rect_of}
 use Rattle.plane_terms.specs.HalfPlane.{weak, x_over}
 use Rattle.plane_terms.specs.Cell.{IsLeastFrame, at_place}
