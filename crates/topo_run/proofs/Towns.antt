@@ -1,6 +1,7 @@
 -- The run over the lines of a made town's script, and the words that ask for it.
-use Rattle.std.proofs.Common.{ℕ, ◌≡◌, ◌≤◌, Bool, true, false, ◌||◌, List, [], ◌∷◌, ◌++◌, refl, sym, ◌∙◌, ap, subst, length, inl, inr}
+use Rattle.std.proofs.Common.{ℕ, ◌≡◌, Bool, true, false, ◌||◌, List, [], ◌∷◌, ◌++◌, refl, sym, ◌∙◌, ap, subst, length, inl, inr}
 use Rattle.std.specs.Prelude.{sum}
+use Rattle.std.specs.Io.KnownBytes.{Appends}
 use Rattle.text_terms.specs.Lines.{lines_of}
 use Rattle.topology_terms.specs.Counts.{raised}
 use Rattle.outside_terms.specs.Reads.{Passage}
@@ -11,14 +12,14 @@ use Rattle.reply_text.specs.declared.reply.Reply.{Reply}
 use Rattle.reply_text.specs.Replies.{said_of}
 use Rattle.script_terms.specs.State.{State, empty_state}
 use Rattle.script_terms.specs.Headline.{Invariant}
-use Rattle.script_terms.specs.Run.{Outcome, Run, Step, last_state, is_refusal}
+use Rattle.script_terms.specs.Run.{Outcome, Run, last_state, is_refusal, IsPrefix}
 use Rattle.script_terms.proofs.Runs.{run_keeps, empty_keeps}
 use Rattle.script_text.proofs.Numbers.{one_number}
-use Rattle.town_terms.specs.Ends.{IsJudgedBy, AreJudged, IsTownRun, EndsAsTown, IsTownComplete, listings}
+use Rattle.town_terms.specs.Ends.{IsJudgedBy, AreJudged, IsTownRun, WritesSummary, WritesSomeSummary, EndsAsTown, IsTownComplete, listings}
 use Rattle.town_terms.specs.Request.{IsTownRequest}
-use Rattle.town_terms.specs.Summary.{TownCounts}
+use Rattle.town_terms.specs.Summary.{TownCounts, summary_text}
 use Rattle.town_terms.specs.Town.{town_text}
-use Rattle.topo_run.specs.Told.{Course, IsReplyTo, IsTold, judged_in}
+use Rattle.topo_run.specs.Told.{IsReplyTo, IsTold, judged_in}
 use Rattle.topo_run.proofs.Runs.{course_begins, course_goes_on, course_ends, empty_ordered}
 
 -- ---- one line more
@@ -29,8 +30,10 @@ judged_snoc m s [] (p ∷ os) n line o j e h = absurd e
 judged_snoc m s (l ∷ lines) [] n line o j e h = absurd e
 judged_snoc m s (l ∷ lines) (p ∷ os) n line o j e h = (e.0, e.1, judged_snoc (raised m e.0) p.after lines os n line o j e.2 h)
 
-pub told_begins : (start : State) (all : List (List ℕ)) → Invariant start.project → IsTold start all all start 0 false
-told_begins start all invariant = record { course = course_begins start all invariant; judged = refl }
+pub told_begins : (start now : State) (all : List (List ℕ)) → now ≡ start → Invariant now.project → IsTold start all all now 0 false
+told_begins start now all is invariant =
+    let there : Invariant start.project = subst (λ (s : State). Invariant s.project) is invariant in
+    subst (λ (s : State). IsTold start all all s 0 false) (sym is) (record { course = course_begins start all there; judged = refl })
 
 pub told_more : {start now next : State} {all lines : List (List ℕ)} {line : List ℕ} {rest : List (List ℕ)} {judged more : ℕ}
     {refused bad : Bool} (r : Reply) → IsTold start all lines now judged refused → lines ≡ line ∷ rest → IsReplyTo now line r next
@@ -56,7 +59,8 @@ pub summed : (seed n : ℕ) (c : TownCounts) (now : State) (refused : Bool)
 summed seed n c now refused told features errors dirty text =
     let all = lines_of true (town_text seed n) in
     let is : all ≡ told.course.done = course_ends told.course refl in
-    let run : Run empty_state all told.course.outcomes = rw is told.course.run in
+    let run : Run empty_state all told.course.outcomes = subst (λ (ls : List (List ℕ)). Run empty_state ls told.course.outcomes) (sym is)
+    told.course.run in
     record {
       outcomes = told.course.outcomes;
       run = run;
@@ -64,11 +68,34 @@ summed seed n c now refused told features errors dirty text =
       invariant = told.course.invariant;
       keeping = run_keeps empty_state all told.course.outcomes empty_keeps empty_ordered run;
       features = rw told.course.last features;
-      judged = rw is told.judged;
+      judged = subst (λ (ls : List (List ℕ)). AreJudged 0 empty_state ls told.course.outcomes c.judged) (sym is) told.judged;
       errors = rw told.course.last errors;
       dirty = rw told.course.last dirty;
       text = rw told.course.last text;
     }
+
+-- ---- the summary
+pub whole_summary : {seed n : ℕ} {k : Passage} {c : TownCounts} {refused is : Bool} {text bytes : List ℕ} → IsTownRun seed n c refused
+    → refused ≡ is → text ≡ summary_text c → bytes ≡ text → Appends k.old k.new bytes → WritesSummary seed n k is
+whole_summary {seed} {n} {k} {c} {refused} {is} {text} {bytes} run told made same written = record {
+  counts = c;
+  run = subst (λ (b : Bool). IsTownRun seed n c b) told run;
+  written = subst (λ (t : List ℕ). Appends k.old k.new t) (same ∙ made) written;
+}
+
+pub some_summary : {seed n : ℕ} {k : Passage} {c : TownCounts} {refused : Bool} {text bytes : List ℕ} → IsTownRun seed n c refused
+    → text ≡ summary_text c → bytes ≡ text → (front : List ℕ) × IsPrefix front bytes × Appends k.old k.new front
+    → WritesSomeSummary seed n k
+some_summary {seed} {n} {k} {c} {refused} {text} {bytes} run made same part = record {
+  counts = c;
+  refused = refused;
+  run = run;
+  text = part.0;
+  is_prefix = subst (λ (t : List ℕ). IsPrefix part.0 t) (same ∙ made) part.1;
+  written = part.2;
+}
+
+pub ruleset summaries = (whole_summary, some_summary)
 
 -- ---- the words
 pub one_request : (words : List (List ℕ)) (seed n other m : ℕ) → IsTownRequest words seed n → IsTownRequest words other m

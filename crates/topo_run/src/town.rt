@@ -119,6 +119,7 @@ fn summary_of(alloc: Global, counts: &TownCounts) -> Result<Vec<u8>, NoMemory>
 }
 
 /// Runs the script of the made town, and writes the five lines of its summary.
+#[tactic(auto, using(crate::proofs::Towns::summaries))]
 pub fn town<K: Sink>(alloc: Global, request: TownRequest, sink: &mut K) -> Status
     requires some { 1 ≤ request.rows }
     requires few { request.rows ≤ 60 }

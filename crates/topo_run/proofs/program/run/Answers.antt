@@ -1,5 +1,6 @@
 use Rattle.outside_terms.specs.Reads.{Passage}
 use Rattle.topo_run.proofs.Endings.{completes}
+use Rattle.topo_run.proofs.Towns.{town_asked, town_done}
 use Rattle.topo_run.proofs.program.run.Goals as goal
 
 pub returns-then-is_replay-clause-complete : goal.returns-then-is_replay-clause-complete
@@ -25,3 +26,16 @@ returns-in_default-clause-town g c = λ seed n asked. absurd (c.in_default.ensur
 
 pub returns-in_default-clause-town_complete : goal.returns-in_default-clause-town_complete
 returns-in_default-clause-town_complete g c = λ seed n asked. absurd (c.in_default.ensures seed n asked)
+
+pub returns-in-Some-clause-town : goal.returns-in-Some-clause-town
+returns-in-Some-clause-town g c = λ seed n asked. (
+  c.town.result,
+  c.code_of-in-Some.ensures,
+  town_asked _ seed n c.in-Some.request.seed c.in-Some.request.rows _ c.town.result asked
+      c.in-Some.ensures c.town.ensures.ends,
+)
+
+pub returns-in-Some-clause-town_complete : goal.returns-in-Some-clause-town_complete
+returns-in-Some-clause-town_complete g c = λ seed n asked.
+    town_done _ seed n c.in-Some.request.seed c.in-Some.request.rows _ c.town.result c.code_of-in-Some.result asked c.in-Some.ensures
+    c.town.ensures.ends c.code_of-in-Some.ensures
