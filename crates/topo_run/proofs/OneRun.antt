@@ -3,10 +3,9 @@ use Rattle.std.proofs.Common.{◌≡◌, ℕ, Bool, List, [], ◌∷◌, refl, s
 use Rattle.topology_terms.specs.Meaning.{CutsRight}
 use Rattle.topology_terms.specs.Poster.{poster}
 use Rattle.line_terms.specs.Commands.{Command}
-use Rattle.line_terms.specs.Lines.{IsCommandLine}
 use Rattle.script_text.proofs.OneCommand.{one_command}
 use Rattle.script_text.proofs.OneFault.{one_line_fault}
-use Rattle.script_terms.specs.Refusal.{Refusal, Line}
+use Rattle.script_terms.specs.Refusal.{Line}
 use Rattle.script_terms.specs.Reply.{Reply, Refused, reply_text}
 use Rattle.script_terms.specs.State.{State}
 use Rattle.script_terms.specs.Run.{Reading, Reads, Faulty, Outcome, Step, Run, ComesOf, ReadsAs, is_refusal}

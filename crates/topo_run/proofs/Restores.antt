@@ -1,5 +1,5 @@
 -- In a run an undo and a discard bring back what stood before the steps.
-use Rattle.std.proofs.Common.{◌≡◌, ℕ, Bool, true, false, List, Option, Some, None, refl, sym, ◌∙◌, ap, subst}
+use Rattle.std.proofs.Common.{◌≡◌, ℕ, true, false, List, Option, Some, None, sym, ◌∙◌, ap, subst}
 use Rattle.line_terms.specs.Commands.{Command, Undo, Discard}
 use Rattle.line_terms.specs.Lines.{IsCommandLine}
 use Rattle.script_text.proofs.OneCommand.{one_command}

@@ -1,5 +1,5 @@
 -- A line that is read and answered is a step, and tries the pairs of which its reply tells.
-use Rattle.std.proofs.Common.{◌≡◌, ℕ, Bool, List, ◌++◌, refl, sym, ◌∙◌, ap, Option, Some, None}
+use Rattle.std.proofs.Common.{◌≡◌, ℕ, Bool, List, ◌++◌, refl, ◌∙◌, ap, Option, Some, None}
 use Rattle.topology_terms.specs.Project.{Project, IsOrdered}
 use Rattle.line_terms.specs.Commands.{Command, Blank, Class, Rule, DropRule, Begin, End, Discard, Add, Change, Delete, Undo, Redo, Validate, Mark, Unmark, Dirty, Errors, Cells, Features, Rules}
 use Rattle.line_terms.specs.Lines.{IsCommandLine, IsLineFault}
@@ -7,9 +7,9 @@ use Rattle.script_text.specs.Faults.{IsFault}
 use Rattle.script_text.specs.declared.fault.LineFault.{LineFault}
 use Rattle.script_text.specs.declared.fault.LineFault.TheVariants as fault
 use Rattle.line_terms.specs.declared.line_refusal.LineRefusal.{LineRefusal}
-use Rattle.script_terms.specs.Refusal.{Refusal, Line}
+use Rattle.script_terms.specs.Refusal.{Refusal}
 use Rattle.script_terms.specs.Refusing.{refusal_of}
-use Rattle.script_terms.specs.Reply.{Judged, Refused, reply_text}
+use Rattle.script_terms.specs.Reply.{Judged, reply_text}
 use Rattle.script_terms.specs.Reply as replies
 use Rattle.script_terms.specs.State.{State}
 use Rattle.script_terms.specs.Answer.{Answers, IsDone, answers_by}
