@@ -1,7 +1,7 @@
 -- Lines, verdicts and a whole text, computed from the definitions.
 --
 -- two_lots      two squares that overlap, their rule, and the error between them: the worked project
-use Rattle.std.proofs.Common.{◌≡◌, ℕ, ℤ, pos, negsuc, false, List, [], ◌∷◌, refl}
+use Rattle.std.proofs.Common.{◌≡◌, ℕ, ℤ, pos, negsuc, false, List, [], ◌∷◌, ◌++◌, refl}
 use Rattle.std.specs.Prelude.{codes, Some, None, flat_map, Ok, Err}
 use Rattle.std.specs.Fmt.{digits}
 use Rattle.plane_terms.specs.Point.{Place}
@@ -18,7 +18,7 @@ use Rattle.project_terms.specs.declared.project_cause.ProjectCause.TheVariants a
 use Rattle.project_terms.specs.Lines.{fields, number}
 use Rattle.project_terms.specs.Written.{project_text}
 use Rattle.project_terms.specs.Drafts.{Draft, start}
-use Rattle.project_terms.specs.Verdicts.{Unwritten, line_verdict}
+use Rattle.project_terms.specs.Verdicts.{Unwritten, Written, line_verdict}
 use Rattle.project_terms.specs.Texts.{ended}
 
 -- ---- fields and numbers
@@ -149,3 +149,29 @@ end_too_soon : line_verdict Unwritten (record {
 }) (fields (codes "end"))
     ≡ Err cause.Form
 end_too_soon = refl
+
+-- nothing stands behind the end: no cell either, though the last error is of cells
+cell_too_late : line_verdict Unwritten (record { stage = stage.End; project = two_lots }) (fields (codes "cell 1 0 0 >")) ≡ Err cause.Form
+cell_too_late = refl
+
+-- each cause but `Shape`, which is the shape's, and `Short`, which is the text's
+again : line_verdict Unwritten behind_features (fields (codes "dirty 1 1 2 2")) ≡ Ok (record behind_features {
+  stage = stage.Dirt;
+  project = record two_lots { entries = []; dirt = rect_of (pos 1) (pos 1) (pos 2) (pos 2) ∷ [] };
+})
+again = refl
+
+nested : line_verdict Unwritten (record {
+  stage = stage.Dirt;
+  project = record two_lots { entries = []; dirt = rect_of (pos 1) (pos 1) (pos 2) (pos 2) ∷ [] };
+}) (fields (codes "dirty 0 0 2 2")) ≡ Err cause.Order
+nested = refl
+
+two_spaces : line_verdict Unwritten behind_features (fields (codes "dirty 1  1 2 2")) ≡ Err cause.Form
+two_spaces = refl
+
+carriage_return : line_verdict Unwritten behind_features (fields (codes "end" ++ 13 ∷ [])) ≡ Err cause.Form
+carriage_return = refl
+
+handle_not_given : line_verdict (Written (square (pos 0) (pos 10))) behind_features (fields (codes "feature 3 lot POINT (0 0)")) ≡ Err cause.Range
+handle_not_given = refl

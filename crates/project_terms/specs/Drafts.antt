@@ -8,6 +8,7 @@
 -- takes_cell es     the last error is of cells, so that a cell of it may follow
 -- wants_cell es     and it has none yet, so that one must follow
 -- is_open s d       a line of the stage s may come next
+-- is_cell_open d    a cell may come next: the last error is of cells, and the end is not read
 -- with_cell es c    the last error has this cell more
 -- last_in f xs      the number of the last element; 0 of none
 -- is_before j k     the key j stands before k
@@ -63,6 +64,9 @@ wants_cell (e ∷ f ∷ es) = wants_cell (f ∷ es)
 
 abbrev pub is_open : Stage → Draft → Bool
 is_open s d = may_follow d.stage s && not (wants_cell d.project.entries)
+
+abbrev pub is_cell_open : Draft → Bool
+is_cell_open d = may_follow d.stage stage.Errors && takes_cell d.project.entries
 
 abbrev pub with_cell : List Entry → Cell → List Entry
 with_cell [] c = []

@@ -38,7 +38,7 @@ use Rattle.project_terms.specs.declared.stage.Stage.TheVariants as stage
 use Rattle.project_terms.specs.declared.project_cause.ProjectCause.{ProjectCause}
 use Rattle.project_terms.specs.declared.project_cause.ProjectCause.TheVariants as cause
 use Rattle.project_terms.specs.Lines.{joined, number, natural}
-use Rattle.project_terms.specs.Drafts.{Draft, is_open, takes_cell, with_cell, last_in, is_last_key, is_rectangle, is_half}
+use Rattle.project_terms.specs.Drafts.{Draft, is_open, is_cell_open, with_cell, last_in, is_last_key, is_rectangle, is_half}
 
 abbrev pub Verdict : Type 0
 Verdict = Result Draft ProjectCause
@@ -265,7 +265,7 @@ line_verdict reading d (w ∷ fs) =
     (if bytes_eq w (codes "dirty") then at stage.Dirt d (judged (dirty_verdict d) (rect_of fs)) else
     (if bytes_eq w (codes "error") then at stage.Errors d (judged (error_verdict false d) (error_of fs)) else
     (if bytes_eq w (codes "exception") then at stage.Errors d (judged (error_verdict true d) (error_of fs)) else
-    (if bytes_eq w (codes "cell") then (if takes_cell d.project.entries then judged (cell_verdict d) (cell_of fs) else Err cause.Form) else
+    (if bytes_eq w (codes "cell") then (if is_cell_open d then judged (cell_verdict d) (cell_of fs) else Err cause.Form) else
     (if bytes_eq w (codes "end") then at stage.End d (said stage.End d (is_none fs)) else Err cause.Form)))))))))
 
 abbrev pub wkt_in : Option FeatureForm → Option (List ℕ)

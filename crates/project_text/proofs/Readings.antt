@@ -1,0 +1,72 @@
+-- What comes of the text of a shape is one thing, and so is the verdict on a line.
+use Rattle.std.proofs.Common.{ℕ, ◌≡◌, ◌≢◌, ◌<◌, ◌≤◌, ◌⊎◌, inl, inr, Bool, true, false, List, [], ◌∷◌, length, Option, Some, None, Result, Ok, Err, if◌then◌else◌, refl, sym, ap, subst, ◌∙◌, arith}
+use Rattle.std.specs.Prelude.{codes, bytes_eq, IfSome, MatchResult}
+use Rattle.std.proofs.lemmas.Bool.{cases_Bool}
+use Rattle.plane_terms.specs.Shape.{Shape}
+use Rattle.wkt_terms.specs.Shapes.{IsShapeText, shape_text}
+use Rattle.wkt_terms.specs.WktFaults.{IsWktFault}
+use Rattle.wkt_terms.specs.declared.wkt_fault.WktFault.{WktFault}
+use Rattle.wkt_terms.specs.declared.wkt_fault.WktFault.TheVariants as text
+use Rattle.wkt_text.proofs.OneFault.{one_fault}
+use Rattle.wkt_text.proofs.Results.{only}
+use Rattle.project_terms.specs.declared.stage.Stage.TheVariants as stage
+use Rattle.project_terms.specs.declared.project_cause.ProjectCause.TheVariants as cause
+use Rattle.project_terms.specs.Lines.{fields}
+use Rattle.project_terms.specs.Drafts.{Draft, is_open}
+use Rattle.project_terms.specs.Verdicts.{Verdict, WktReading, Unwritten, Refused, Written, FeatureForm, feature_of, feature_verdict, at, judged, wkt_in, wkt_of, line_verdict}
+use Rattle.project_terms.specs.Texts.{IsWritten, IsUnwritten, IsRefusal, IsRefused, IsReading, IsVerdict}
+
+-- ---- readings
+no_memory : (f : WktFault) → IsRefusal f → f ≡ text.NoMemory → ⊥
+no_memory f h e = let P : WktFault → Type 0 = λ g. IsRefusal g in subst P e h
+
+no_syntax : (f : WktFault) (at : ℕ) → IsRefusal f → text.Syntax at ≡ f → ⊥
+no_syntax f at h e = let P : WktFault → Type 0 = λ g. IsRefusal g in subst P (sym e) h
+
+-- a shape's text has no fault
+pub no_fault : (t : List ℕ) (s : Shape) (f : WktFault) → IsShapeText t s → IsWktFault t f → f ≡ text.NoMemory
+no_fault t s f h w = only t (Err f) w s h
+
+pub one_shape : (t : List ℕ) (s u : Shape) → IsShapeText t s → IsShapeText t u → s ≡ u
+one_shape t s u h k = only t (Ok s) h u k
+
+not_both : (t : List ℕ) → IsUnwritten t → IsRefused t → ⊥
+not_both t (inl long) r = omega (arith, r.0)
+not_both t (inr (inl (at, syntax))) (short, (fault, is, refusal)) =
+    no_syntax fault at refusal (one_fault t (text.Syntax at) fault (λ e. cc) (no_memory fault refusal) syntax is)
+not_both t (inr (inr (s, says, other))) (short, (fault, is, refusal)) = no_memory fault refusal (no_fault t s fault says is)
+
+pub one_reading : (t : List ℕ) (r q : WktReading) → IsReading t r → IsReading t q → r ≡ q
+one_reading t Unwritten Unwritten h k = refl
+one_reading t Unwritten Refused h k = absurd (not_both t h.0 k.0)
+one_reading t Unwritten (Written s) h k = absurd (h.1 s k.0)
+one_reading t Refused Unwritten h k = absurd (not_both t k.0 h.0)
+one_reading t Refused Refused h k = refl
+one_reading t Refused (Written s) h k = absurd (h.1 s k.0)
+one_reading t (Written s) Unwritten h k = absurd (k.1 s h.0)
+one_reading t (Written s) Refused h k = absurd (k.1 s h.0)
+one_reading t (Written s) (Written u) h k = ap Written (k.1 s h.0.says)
+
+-- ---- verdicts
+no_form : (o : Option FeatureForm) → wkt_in o ≡ None → o ≡ None
+no_form None e = refl
+no_form (Some f) e = cc
+
+-- where no shape's text is looked at, what comes of it does not count
+unread : (d : Draft) (fs : List (List ℕ)) (r q : WktReading) → wkt_of d fs ≡ None → line_verdict r d fs ≡ line_verdict q d fs
+unread d [] r q e = refl
+unread d (w ∷ fs) r q e = elim (cases_Bool (bytes_eq w (codes "feature"))) [
+  | inr other ↦ rw other refl
+  | inl is ↦ elim (cases_Bool (is_open stage.Features d)) [
+    | inr shut ↦ let e' = rw (is, shut) at e in rw (is, shut) refl
+    | inl open ↦ let none : feature_of fs ≡ None = no_form (feature_of fs) (rw (is, open) at e) in rw (is, open, none) refl
+  ]
+]
+
+pub one_verdict : (d : Draft) (l : List ℕ) (v w : Verdict) → IsVerdict d l v → IsVerdict d l w → v ≡ w
+one_verdict d l v w (r, h, e) (q, k, f) = e ∙ (by (wkt_of d (fields l)) refl h k ∙ sym f)
+  where
+    by : (o : Option (List ℕ)) → wkt_of d (fields l) ≡ o → IfSome o (λ t. IsReading t r) → IfSome o (λ t. IsReading t q)
+        → line_verdict r d (fields l) ≡ line_verdict q d (fields l)
+    by None o a b = unread d (fields l) r q o
+    by (Some t) o a b = ap (λ x. line_verdict x d (fields l)) (one_reading t r q a b)
