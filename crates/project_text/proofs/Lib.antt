@@ -6,3 +6,6 @@ pub mod Lasts
 pub mod LineCases
 pub mod Readings
 pub mod OneText
+pub mod Sound
+pub mod Dirty
+pub mod Features
