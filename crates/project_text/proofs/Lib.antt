@@ -1,7 +1,7 @@
 pub mod Listings
 pub mod Sections
-pub mod Fields
-pub mod Forms
+pub mod Spaces
+pub mod FieldForms
 pub mod Lasts
 pub mod LineCases
 pub mod Readings
@@ -9,3 +9,4 @@ pub mod OneText
 pub mod Sound
 pub mod Dirty
 pub mod Features
+pub mod Steps

@@ -110,7 +110,7 @@ one_stop (l ∷ ls) (m ∷ ms) t u d c e f rest more same first il im ht hu (n, 
     let v1 : IsVerdict c l (Ok n) = subst (λ (x : Draft). IsVerdict x l (Ok n)) first v in
     let v2 : IsVerdict c m (Ok n) = subst (λ (x : List ℕ). IsVerdict c x (Ok n)) cut.0 v1 in
     let next : Ok n ≡ Ok k = one_verdict c m (Ok n) (Ok k) v2 w in
-    let i = one_stop ls ms (flat_map ended ls ++ rest) (flat_map ended ms ++ more) n k e f rest more cut.1 cc il.1 im.1 refl refl rl rm sl
+    let i = one_stop ls ms (flat_map ended ls ++ rest) (flat_map ended ms ++ more) n k e f rest more cut.1 (cc) il.1 im.1 refl refl rl rm sl
     sm in
     record { lines = ap (λ x. x ∷ ls) cut.0 ∙ ap (λ x. m ∷ x) i.lines; draft = i.draft; left = i.left }
 

@@ -59,7 +59,7 @@ unread d (w ∷ fs) r q e = elim (cases_Bool (bytes_eq w (codes "feature"))) [
   | inr other ↦ rw other refl
   | inl is ↦ elim (cases_Bool (is_open stage.Features d)) [
     | inr shut ↦ let e' = rw (is, shut) at e in rw (is, shut) refl
-    | inl open ↦ let none : feature_of fs ≡ None = no_form (feature_of fs) (rw (is, open) at e) in rw (is, open, none) refl
+    | inl may ↦ let none : feature_of fs ≡ None = no_form (feature_of fs) (rw (is, may) at e) in rw (is, may, none) refl
   ]
 ]
 

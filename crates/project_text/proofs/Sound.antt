@@ -1,5 +1,5 @@
 -- What each draft keeps: until a line says another, the next handle is 1; errors ascend by their keys.
-use Rattle.std.proofs.Common.{ℕ, ℤ, ◌≡◌, ◌<◌, ◌⊎◌, inl, inr, ◌==◌, ◌+◌, Bool, true, false, ◌&&◌, ◌||◌, not, ltb, List, [], ◌∷◌, ◌++◌, length, Option, Some, None, Ok, Err, refl, sym, ap, subst, ◌∙◌, arith}
+use Rattle.std.proofs.Common.{ℕ, ℤ, ◌≡◌, ◌<◌, ◌⊎◌, inl, inr, ◌==◌, ◌+◌, ◌-◌, Bool, true, false, ◌&&◌, ◌||◌, not, ltb, List, [], ◌∷◌, ◌++◌, length, Option, Some, None, Ok, Err, refl, sym, ap, subst, ◌∙◌, arith}
 use Rattle.std.specs.Prelude.{codes, IfOk, is_some}
 use Rattle.std.specs.List.{list_all, list_any}
 use Rattle.std.proofs.lemmas.Bool.Decides.{nat_tests}
@@ -109,8 +109,11 @@ rule_sound d h q = numbered (natural 1 256 q.number)
   where
     in_force : (n : ℕ) (o : Option Row) → IfOk (rule_in d n o) IsSound
     in_force n None = tt
-    in_force n (Some r) = if_ok _ (Err cause.Order) _ IsSound (λ e. tt)
-        (λ e. record { early = λ e. cc; titled = λ e. cc; ascending = h.ascending })
+    in_force n (Some r) =
+        let m : Draft = record { stage = stage.Rules; project = record d.project { rules = d.project.rules ++ record { number = n; row = r } ∷ [] } } in
+        let s : IsSound m = record { early = λ e. cc; titled = λ e. cc; ascending = h.ascending } in
+        if_ok (not (ltb (last_in (λ (q : InForce). q.number) d.project.rules) n) || is_there d.project.rules r) (Err cause.Order) (Ok m) IsSound
+        (λ e. tt) (λ e. s)
     numbered : (o : Option ℕ) → IfOk (rule_numbered d q o) IsSound
     numbered None = tt
     numbered (Some n) = in_force n (row_of d.project.classes q)

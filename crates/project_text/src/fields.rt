@@ -1,7 +1,14 @@
-ghost use Rattle.std.specs.Prelude.{◌≡◌, ◌<◌, ◌≤◌, false, [], ◌∷◌, length, take, drop, slice_index, MatchOption};
+ghost use Rattle.std.specs.Prelude.{◌≡◌, ◌<◌, ◌≤◌, bytes_eq, false, [], ◌∷◌, length, take, drop, slice_index, MatchOption};
 ghost use Rattle.project_terms.specs.Lines.{fields, fields_from, joined};
 ghost use Rattle.project_terms.specs.Verdicts.{is_none};
 ghost use Rattle.project_text.specs.Reading.{left, is_single, has_four};
+
+/// Whether the field is this word.
+pub fn is_word(field: &[u8], word: &[u8]) -> bool
+    ensures { result ≡ bytes_eq field.now word.now }
+{
+    field == word
+}
 
 // The number of bytes before the first space, or all.
 fn space_in(text: &[u8]) -> usize

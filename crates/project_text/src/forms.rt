@@ -2,13 +2,14 @@ ghost use Rattle.std.specs.Prelude.{◌≡◌, ◌<◌, length, MatchOption};
 ghost use Rattle.project_terms.specs.Verdicts.{is_one, number_of, kind_of_word, class_of, second_of, rule_of, feature_of, rect_of, extent_of, error_of, op_of};
 ghost use Rattle.project_text.specs.Reading.{left, rule_said, feature_said, rect_said, error_said, IsNoHalf, IsHalfForm};
 
-use crate::fields::{is_over, last_field, next_field, rest_of};
+use crate::fields::{is_over, is_word, last_field, next_field, rest_of};
 use crate::numbers::read_number;
 use grid_plane::{Name, Op};
 use rule_words::RuleKind;
 use shape::Kind;
 
 /// Four numbers, as a line spells them.
+#[derive(Drop)]
 pub struct RectForm {
     pub x0: i64,
     pub y0: i64,
@@ -34,6 +35,7 @@ pub struct FeatureForm<'a> {
 }
 
 /// What the line of an error says.
+#[derive(Drop)]
 pub struct ErrorForm {
     pub rule: i64,
     pub subject: i64,
@@ -43,6 +45,7 @@ pub struct ErrorForm {
 }
 
 /// A half-plane as a line spells it, whether more follow, and what follows it.
+#[derive(Drop)]
 pub struct HalfForm<'a> {
     pub a: i64,
     pub b: i64,
@@ -57,7 +60,7 @@ pub fn is_one(rest: &[u8]) -> bool
     ensures { result ≡ is_one (left rest.now) }
 {
     match last_field(rest) {
-        Some(field) => field == b"1",
+        Some(field) => is_word(field, b"1"),
         None => false,
     }
 }
@@ -72,13 +75,13 @@ pub fn number_form(rest: &[u8]) -> Option<i64>
 fn kind_of(word: &[u8]) -> Option<Kind>
     ensures { result ≡ kind_of_word word.now }
 {
-    if word == b"point" {
+    if is_word(word, b"point") {
         return Some(Kind::Point);
     }
-    if word == b"line" {
+    if is_word(word, b"line") {
         return Some(Kind::Line);
     }
-    if word == b"polygon" {
+    if is_word(word, b"polygon") {
         return Some(Kind::Polygon);
     }
     None
@@ -152,10 +155,10 @@ pub fn rect_form(rest: &[u8]) -> Option<RectForm>
 fn extent_of(word: &[u8]) -> Option<bool>
     ensures { result ≡ extent_of word.now }
 {
-    if word == b"cells" {
+    if is_word(word, b"cells") {
         return Some(false);
     }
-    if word == b"whole" {
+    if is_word(word, b"whole") {
         return Some(true);
     }
     None
@@ -181,22 +184,22 @@ pub fn error_form(rest: &[u8]) -> Option<ErrorForm>
 fn op_of(word: &[u8]) -> Option<(Op, bool)>
     ensures { result ≡ op_of word.now }
 {
-    if word == b">" {
+    if is_word(word, b">") {
         return Some((Op::Over, false));
     }
-    if word == b">=" {
+    if is_word(word, b">=") {
         return Some((Op::AtLeast, false));
     }
-    if word == b"=" {
+    if is_word(word, b"=") {
         return Some((Op::Zero, false));
     }
-    if word == b">," {
+    if is_word(word, b">,") {
         return Some((Op::Over, true));
     }
-    if word == b">=," {
+    if is_word(word, b">=,") {
         return Some((Op::AtLeast, true));
     }
-    if word == b"=," {
+    if is_word(word, b"=,") {
         return Some((Op::Zero, true));
     }
     None

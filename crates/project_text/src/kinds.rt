@@ -7,7 +7,7 @@ ghost use Rattle.project_text.specs.Reading.{left, Gives, Says, IsFeatureVerdict
 use crate::cells::read_cell;
 use crate::draft::Draft;
 use crate::fault::LineFault;
-use crate::fields::{is_over, split_field};
+use crate::fields::{is_over, is_word, split_field};
 use crate::forms::{class_form, error_form, feature_form, is_one, number_form, rect_form, rule_form};
 use crate::shapes::{Reading, read_shape};
 use project_terms::{ProjectCause, Stage};
@@ -136,34 +136,34 @@ impl Draft {
         ensures { Gives result (IsVerdict self.old line.now) self.new }
     {
         let (word, rest) = split_field(line);
-        if word == b"topology" {
+        if is_word(word, b"topology") {
             return self.read_title(rest);
         }
-        if word == b"next" {
+        if is_word(word, b"next") {
             return self.read_next(rest);
         }
-        if word == b"class" {
+        if is_word(word, b"class") {
             return self.read_class(rest);
         }
-        if word == b"rule" {
+        if is_word(word, b"rule") {
             return self.read_rule(rest);
         }
-        if word == b"feature" {
+        if is_word(word, b"feature") {
             return self.read_feature(alloc, rest);
         }
-        if word == b"dirty" {
+        if is_word(word, b"dirty") {
             return self.read_dirty(rest);
         }
-        if word == b"error" {
+        if is_word(word, b"error") {
             return self.read_error(alloc, false, rest);
         }
-        if word == b"exception" {
+        if is_word(word, b"exception") {
             return self.read_error(alloc, true, rest);
         }
-        if word == b"cell" {
+        if is_word(word, b"cell") {
             return self.read_cell(alloc, rest);
         }
-        if word == b"end" {
+        if is_word(word, b"end") {
             return self.read_end(rest);
         }
         Err(LineFault::Wrong(ProjectCause::Form))

@@ -3,6 +3,7 @@ ghost use Rattle.std.specs.List.{list_all};
 ghost use Rattle.text_terms.specs.Fields.{is_digit};
 ghost use Rattle.project_terms.specs.Lines.{is_positive, spelled, counted, positive, negative, number, natural};
 
+use crate::fields::is_word;
 use text_fields::{are_digits, value_up_to};
 
 // What a number beyond all limits of a project counts as.
@@ -22,7 +23,7 @@ fn is_positive(digits: &[u8]) -> bool
 fn is_spelled(digits: &[u8]) -> bool
     ensures { result ≡ spelled digits.now }
 {
-    digits == b"0" || is_positive(digits)
+    is_word(digits, b"0") || is_positive(digits)
 }
 
 // The value of digits, at most `BEYOND`.
