@@ -1,7 +1,7 @@
 ghost use Rattle.std.specs.Prelude.{◌≡◌, ◌<◌, ◌≤◌, bytes_eq, false, [], ◌∷◌, length, take, drop, slice_index, MatchOption};
 ghost use Rattle.project_terms.specs.Lines.{fields, fields_from, joined};
 ghost use Rattle.project_terms.specs.Verdicts.{is_none};
-ghost use Rattle.project_text.specs.Reading.{left, is_single, has_four};
+ghost use Rattle.project_text.specs.Reading.{left, is_single};
 
 /// Whether the field is this word.
 pub fn is_word(field: &[u8], word: &[u8]) -> bool
