@@ -1,6 +1,8 @@
 -- What fields say, field by field.
-use Rattle.std.proofs.Common.{ℕ, ℤ, ◌≡◌, ◌==◌, Bool, true, false, List, [], ◌∷◌, ◌++◌, append-nil, append_assoc, Option, Some, None, if◌then◌else◌, refl, sym, ap, ◌∙◌, arith}
+use Rattle.std.proofs.Common.{ℕ, ℤ, pos, to_z, of_z, w64, subst, ◌≡◌, ◌≤◌, ◌==◌, nat_le, Bool, true, false, List, [], ◌∷◌, ◌++◌, append-nil, append_assoc, Option, Some, None, if◌then◌else◌, refl, sym, ap, ◌∙◌, arith}
+use Rattle.std.specs.Prelude.{neg_ℤ, unsigned_abs, IfSome}
 use Rattle.std.specs.Option.{option_map}
+use Rattle.std.proofs.lemmas.Int.{ints}
 use Rattle.std.proofs.lemmas.Bool.Decides.{nat_tests}
 use Rattle.plane_terms.specs.Rectangle.{Rectangle, rect_of as rectangle}
 use Rattle.plane_terms.specs.HalfPlane.{HalfPlane}
@@ -8,8 +10,10 @@ use Rattle.plane_terms.specs.declared.kind.Kind.{Kind}
 use Rattle.plane_terms.specs.declared.op.Op.{Op}
 use Rattle.text_terms.specs.Fields.{is_name}
 use Rattle.rule_words.specs.declared.rule_kind.RuleKind.{RuleKind}
-use Rattle.rule_words.specs.Table.{first_of_word, all_rules}
-use Rattle.project_terms.specs.Lines.{number, joined, fields, fields_from}
+use Rattle.rule_words.specs.Table.{word_of, first_of_word, all_rules}
+use Rattle.rule_words.proofs.OneWord.{has_word}
+use Rattle.wkt_terms.specs.Numerals.{value_of}
+use Rattle.project_terms.specs.Lines.{number, positive, negative, spelled, is_positive, counted, joined, fields, fields_from}
 use Rattle.project_terms.specs.Verdicts.{RuleForm, FeatureForm, ErrorForm, HalfForm, bind, is_none, is_one, number_of, kind_of_word, class_of, second_of, rule_of, feature_of, rect_of, extent_of, error_of, op_of, half_of, halves_behind}
 use Rattle.project_text.specs.Reading.{is_single, left}
 
@@ -217,3 +221,60 @@ pub error_found : (r a b w : List ℕ) (fs : List (List ℕ)) (x y z : ℤ) (e :
     → number b ≡ Some z → extent_of w ≡ Some e → rect_of fs ≡ Some f
     → error_of (r ∷ a ∷ b ∷ w ∷ fs) ≡ Some (record { rule = x; subject = y; other = z; whole = e; frame = f })
 error_found r a b w fs x y z e f h i j k l = rw (h, i, j, k, l) refl
+
+-- ---- numbers fit
+counted_small : (digits : List ℕ) → counted digits ≤ 1125899906842624
+counted_small digits = by (nat_le (value_of digits) 1125899906842624) refl
+  where
+    by : (y : Bool) → nat_le (value_of digits) 1125899906842624 ≡ y → (if y then value_of digits else 1125899906842624) ≤ 1125899906842624
+    by true e = grind (arith, nat_tests)
+    by false e = omega arith
+
+neg_small : (n : ℕ) → n ≤ 1125899906842624 → unsigned_abs (neg_ℤ (pos n)) ≤ 1125899906842624
+neg_small n h = omega (arith, ints)
+
+at_some : (b : Bool) (x z : ℤ) → Some z ≡ (if b then Some x else None) → unsigned_abs x ≤ 1125899906842624 → unsigned_abs z ≤ 1125899906842624
+at_some true x z e h = let s : x ≡ z = cc in subst (λ (y : ℤ). unsigned_abs y ≤ 1125899906842624) s h
+at_some false x z e h = absurd cc
+
+number_small : (f : List ℕ) (z : ℤ) → Some z ≡ number f → unsigned_abs z ≤ 1125899906842624
+number_small [] z e = absurd cc
+number_small (b ∷ bs) z e = by (b == 45) e
+  where
+    by : (y : Bool) → Some z ≡ (if y then negative bs else positive (b ∷ bs)) → unsigned_abs z ≤ 1125899906842624
+    by true k = at_some (is_positive bs) (neg_ℤ (pos (counted bs))) z k (neg_small (counted bs) (counted_small bs))
+    by false k = at_some (spelled (b ∷ bs)) (pos (counted (b ∷ bs))) z k (counted_small (b ∷ bs))
+
+pub fits : (f : List ℕ) (z : ℤ) → Some z ≡ number f → to_z w64 (of_z w64 z) ≡ z
+fits f z e = omega (arith, ints, number_small f z e)
+
+-- ---- what is left, field by field
+pub feature_said_at : (ls ms fs : List (List ℕ)) (h n t : List ℕ) (z : ℤ) → ls ≡ h ∷ ms → ms ≡ n ∷ fs → fs ≡ fields t → Some z ≡ number h
+    → is_name n ≡ true → feature_of ls ≡ Some (record { handle = z; class = n; wkt = t })
+feature_said_at ls ms fs h n t z a b e k m = ap feature_of (a ∙ ap (λ x. h ∷ x) b) ∙ feature_found h n t fs z e (sym k) m
+
+pub feature_unnamed_at : (ls ms fs : List (List ℕ)) (h n : List ℕ) → ls ≡ h ∷ ms → ms ≡ n ∷ fs → is_name n ≡ false → feature_of ls ≡ None
+feature_unnamed_at ls ms fs h n a b m = ap feature_of (a ∙ ap (λ x. h ∷ x) b) ∙ feature_unnamed h n fs m
+
+pub rect_short_at : (ls ms ns fs : List (List ℕ)) (a b c : List ℕ) → ls ≡ a ∷ ms → ms ≡ b ∷ ns → ns ≡ c ∷ fs → is_single fs ≡ false
+    → rect_of ls ≡ None
+rect_short_at ls ms ns fs a b c h i j k = ap rect_of (h ∙ ap (λ x. a ∷ x) (i ∙ ap (λ x. b ∷ x) j)) ∙ rect_short fs a b c k
+
+no_rule : (w : List ℕ) → ((k : RuleKind) → word_of k ≡ w → None ≡ Some k) → first_of_word w all_rules ≡ None
+no_rule w h = by (first_of_word w all_rules) (has_word w all_rules)
+  where
+    by : (o : Option RuleKind) → IfSome o (λ k. word_of k ≡ w) → o ≡ None
+    by None k = refl
+    by (Some r) k = sym (h r k)
+
+pub rule_unworded_at : (ls ms ns fs : List (List ℕ)) (f w n : List ℕ) (z : ℤ) → ls ≡ f ∷ ms → ms ≡ w ∷ ns → ns ≡ n ∷ fs → Some z ≡ number f
+    → ((k : RuleKind) → word_of k ≡ w → None ≡ Some k) → rule_of ls ≡ None
+rule_unworded_at ls ms ns fs f w n z h i j k l = ap rule_of (h ∙ ap (λ x. f ∷ x) (i ∙ ap (λ x. w ∷ x) j)) ∙ rule_unworded f w n fs z (sym k) (no_rule w l)
+
+pub half_said_at : (ls ms ns os fs : List (List ℕ)) (a b c w : List ℕ) (x y z : ℤ) (o : Op) (m : Bool) → ls ≡ a ∷ ms → ms ≡ b ∷ ns → ns ≡ c ∷ os
+    → os ≡ w ∷ fs → Some x ≡ number a → Some y ≡ number b → Some z ≡ number c → Some (o, m) ≡ op_of w → (hs : List HalfPlane)
+    → halves_behind hs true ls ≡ halves_behind (hs ++ record { a = x; b = y; c = z; op = o } ∷ []) m fs
+half_said_at ls ms ns os fs a b c w x y z o m h i j k p q r s hs =
+    ap (halves_behind hs true) (h ∙ ap (λ t. a ∷ t) (i ∙ ap (λ t. b ∷ t) (j ∙ ap (λ t. c ∷ t) k)))
+    ∙ half_right a b c w fs (record { half = record { a = x; b = y; c = z; op = o }; more = m })
+    (half_said a b c w x y z o m (sym p) (sym q) (sym r) (sym s)) hs

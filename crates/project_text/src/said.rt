@@ -2,10 +2,10 @@ ghost use Rattle.std.specs.Prelude.{◌≡◌, ◌≤◌, ◌<◌, ◌-◌, ◌=
 ghost use Rattle.std.specs.List.{list_any};
 ghost use Rattle.rule_words.specs.Table.{dest_of};
 ghost use Rattle.topology_terms.specs.Causes.{fits_dest, is_fit, is_row, is_there};
-ghost use Rattle.topology_terms.specs.Feature as features;
+ghost use Rattle.topology_terms.specs.Feature as feature_terms;
 ghost use Rattle.topology_terms.specs.Lookups.{kind_of_class};
 ghost use Rattle.topology_terms.specs.Project.{rule_at};
-ghost use Rattle.topology_terms.specs.Project as projects;
+ghost use Rattle.topology_terms.specs.Project as project_terms;
 ghost use Rattle.project_terms.specs.Lines.{natural};
 ghost use Rattle.project_terms.specs.Drafts.{is_rectangle, last_in, is_last_key, is_before, takes_cell, with_cell};
 ghost use Rattle.project_terms.specs.Verdicts.{class_verdict, row_of, dest_in, with_rule, rule_verdict, are_nested, dirty_verdict, with_feature, feature_numbered, with_error, error_verdict, next_verdict};
@@ -88,7 +88,7 @@ fn row_of(store: &Store, form: &RuleForm) -> Option<RuleRow>
 }
 
 fn last_number(rules: &[InForce]) -> u16
-    ensures { result ≡ last_in (λ (q : projects.InForce). q.number) rules.now }
+    ensures { result ≡ last_in (λ (q : project_terms.InForce). q.number) rules.now }
 {
     match rules.last() {
         Some(rule) => rule.number,
@@ -97,7 +97,7 @@ fn last_number(rules: &[InForce]) -> u16
 }
 
 fn last_handle(features: &[Feature]) -> u32
-    ensures { result ≡ last_in (λ (f : features.Feature). f.handle) features.now }
+    ensures { result ≡ last_in (λ (f : feature_terms.Feature). f.handle) features.now }
 {
     match features.last() {
         Some(feature) => feature.handle(),
