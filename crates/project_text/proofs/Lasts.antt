@@ -1,5 +1,5 @@
 -- The last element of a list, and lists that go on by one.
-use Rattle.std.proofs.Common.{ℕ, zero, suc, ◌≡◌, ◌<◌, ◌+◌, ◌-◌, Bool, true, false, ◌&&◌, ◌||◌, not, ltb, List, [], ◌∷◌, ◌++◌, length, Some, refl, sym, ap, ◌∙◌, inl, inr, arith}
+use Rattle.std.proofs.Common.{ℕ, zero, suc, ◌≡◌, ◌<◌, ◌+◌, ◌-◌, Bool, true, false, ◌&&◌, ◌||◌, not, ltb, List, [], ◌∷◌, ◌++◌, length, set, Some, None, refl, sym, ap, ◌∙◌, inl, inr, arith}
 use Rattle.std.specs.Prelude.{slice_get}
 use Rattle.plane_terms.specs.Cell.{Cell}
 use Rattle.topology_terms.specs.Entry.{Entry, Key, key_of}
@@ -29,3 +29,34 @@ last_entry (f ∷ []) (suc k) e n h = absurd (omega arith)
 last_entry (f ∷ g ∷ es) zero e n h = absurd (omega arith)
 last_entry (f ∷ g ∷ es) (suc k) e n h = let i = last_entry (g ∷ es) k e (omega arith) h in
     record { takes = i.takes; wants = i.wants; key = i.key }
+
+-- ---- as `last` answers
+got : {A : Type 0} (y : A) (ys : List A) (k : ℕ) → k < length (y ∷ ys) → slice_get (y ∷ ys) k ≡ None → ⊥
+got y ys zero l e = cc
+got y [] (suc k) l e = omega arith
+got y (z ∷ ys) (suc k) l e = got z ys k (omega arith) e
+
+pub none_last : {A : Type 0} (xs : List A) → slice_get xs (length xs - 1) ≡ None → xs ≡ []
+none_last [] h = refl
+none_last (x ∷ xs) h = absurd (got x xs (length (x ∷ xs) - 1) (omega arith) h)
+
+pub last_number_at : {A : Type 0} (number : A → ℕ) (xs : List A) (x : A) → slice_get xs (length xs - 1) ≡ Some x → last_in number xs ≡ number x
+last_number_at number [] x h = absurd cc
+last_number_at number (y ∷ xs) x h = last_number number (y ∷ xs) (length (y ∷ xs) - 1) x (omega arith) h
+
+pub last_entry_at : (es : List Entry) (e : Entry) → slice_get es (length es - 1) ≡ Some e → IsLastEntry es e
+last_entry_at [] e h = absurd cc
+last_entry_at (f ∷ es) e h = last_entry (f ∷ es) (length (f ∷ es) - 1) e (omega arith) h
+
+-- a cell put to the last error
+pub cell_set : (es : List Entry) (k : ℕ) (e : Entry) (c : Cell) → k + 1 ≡ length es → slice_get es k ≡ Some e
+    → set es k (record e { cells = e.cells ++ c ∷ [] }) ≡ with_cell es c
+cell_set [] k e c n h = absurd (omega arith)
+cell_set (f ∷ []) zero e c n h = let s : f ≡ e = cc in ap (λ (x : Entry). record x { cells = x.cells ++ c ∷ [] } ∷ []) (sym s)
+cell_set (f ∷ []) (suc k) e c n h = absurd (omega arith)
+cell_set (f ∷ g ∷ es) zero e c n h = absurd (omega arith)
+cell_set (f ∷ g ∷ es) (suc k) e c n h = ap (λ t. f ∷ t) (cell_set (g ∷ es) k e c (omega arith) h)
+
+pub some_entry : (es : List Entry) → takes_cell es ≡ true → 0 < length es
+some_entry [] h = absurd cc
+some_entry (e ∷ es) h = omega arith

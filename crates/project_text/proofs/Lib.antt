@@ -10,3 +10,5 @@ pub mod Sound
 pub mod Dirty
 pub mod Features
 pub mod Steps
+pub mod Found
+pub mod Numerals

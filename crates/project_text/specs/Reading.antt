@@ -12,6 +12,7 @@
 -- IsFaulty f r        r is what comes of a text with the fault f
 -- cell_line_verdict d fs, IsFeatureVerdict d fs v     the verdict on the line of a cell; on the line of a feature
 -- IsProjectFault t e  the line of this number is the first that is wrong, and this is its first cause; want of memory says nothing
+-- IsFaultAt n c e     the fault is this line and this cause, or want of memory
 use Rattle.std.specs.Prelude.{ℕ, ◌≡◌, Bool, true, false, List, [], ◌∷◌, ◌++◌, Option, Some, None, Result, Ok, Err, IfSome, ◌⊎◌, if◌then◌else◌}
 use Rattle.std.specs.List.{list_all}
 use Rattle.plane_terms.specs.Rectangle.{Rectangle, rect_of as rectangle}
@@ -19,6 +20,7 @@ use Rattle.plane_terms.specs.HalfPlane.{HalfPlane}
 use Rattle.plane_terms.specs.Cell.{Cell}
 use Rattle.wkt_terms.specs.declared.wkt_fault.WktFault.{WktFault}
 use Rattle.wkt_terms.specs.declared.wkt_fault.WktFault.TheVariants as text
+use Rattle.project_terms.specs.declared.project_cause.ProjectCause.{ProjectCause}
 use Rattle.project_terms.specs.declared.project_cause.ProjectCause.TheVariants as cause
 use Rattle.project_terms.specs.declared.stage.Stage.TheVariants as stage
 use Rattle.project_terms.specs.Lines.{fields}
@@ -100,3 +102,7 @@ IsFeatureVerdict d fs v = (r : WktReading) × (is_open stage.Features d ≡ true
 abbrev pub IsProjectFault : List ℕ → ProjectFault → Type 0
 IsProjectFault t (fault.Wrong n c) = IsFault t n c
 IsProjectFault t fault.NoMemory = Unit {0}
+
+abbrev pub IsFaultAt : ℕ → ProjectCause → ProjectFault → Type 0
+IsFaultAt n c (fault.Wrong m b) = (m ≡ n) × (b ≡ c)
+IsFaultAt n c fault.NoMemory = Unit {0}

@@ -2,6 +2,7 @@
 #![tactic(auto)]
 
 mod cells;
+mod cut;
 mod data;
 mod draft;
 mod fault;

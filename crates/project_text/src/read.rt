@@ -1,41 +1,19 @@
-ghost use Rattle.std.specs.Prelude.{◌≡◌, ◌<◌, ◌≤◌, ◌++◌, length, take, slice_index, MatchOption, MatchResult};
-ghost use Rattle.project_terms.specs.Texts.{IsInner, IsRead, ended};
-ghost use Rattle.project_text.specs.Reading.{IsProjectFault};
+ghost use Rattle.std.specs.Prelude.{◌≡◌, ℕ, MatchResult};
+ghost use Rattle.topology_terms.specs.Project.{Project};
+ghost use Rattle.project_terms.specs.Texts.{IsRead, IsFault};
+ghost use Rattle.project_terms.specs.declared.project_cause.ProjectCause as terms;
+ghost use Rattle.project_text.specs.Reading.{IsProjectFault, IsFaultAt};
 
+use crate::cut::split_line;
 use crate::data::ProjectData;
 use crate::draft::Draft;
 use crate::fault::{LineFault, ProjectFault};
 use project_terms::ProjectCause;
 use std::alloc::Global;
 
-// The number of bytes before the first LF, or all.
-fn line_end(text: &[u8]) -> usize
-    ensures bound { result ≤ length text.now }
-    ensures inner { IsInner (take result text.now) }
-    ensures found { result < length text.now → slice_index text.now result ≡ 10 }
-{
-    let mut end = 0;
-    while end < text.len() && text[end] != b'\n' {
-        end += 1;
-    }
-    end
-}
-
-// The first line of a text, without its LF, and what follows it; `None` exactly where the text has no LF.
-fn split_line(text: &[u8]) -> Option<(&[u8], &[u8])>
-    ensures { MatchOption result (IsInner text.now) (λ x. IsInner x.0.now × (text.now ≡ ended x.0.now ++ x.1.now)) }
-{
-    let end = line_end(text);
-    if end < text.len() {
-        Some((&text[..end], &text[end + 1..]))
-    } else {
-        None
-    }
-}
-
-/// What is saved of a topology, from its text. `Wrong` names the first line, from 1, that is wrong, and its first cause.
-pub fn read_project(alloc: Global, text: &[u8]) -> Result<ProjectData, ProjectFault>
-    ensures found { MatchResult result (λ p. IsRead text.now p) (λ e. IsProjectFault text.now e) }
+// The project that the lines say, read one by one.
+fn read_lines(alloc: Global, text: &[u8]) -> Result<ProjectData, ProjectFault>
+    ensures { MatchResult result (λ p. IsRead text.now p) (λ e. IsProjectFault text.now e) }
 {
     let mut draft = Draft::new(alloc);
     let mut rest = text;
@@ -62,4 +40,14 @@ pub fn read_project(alloc: Global, text: &[u8]) -> Result<ProjectData, ProjectFa
         });
     }
     Ok(draft.into_project())
+}
+
+/// What is saved of a topology, from its text. `Wrong` names the first line, from 1, that is wrong, and its first cause. Takes steps
+/// for each byte of the text, and for each two dirty rectangles.
+pub fn read_project(alloc: Global, text: &[u8]) -> Result<ProjectData, ProjectFault>
+    ensures found { MatchResult result (λ p. IsRead text.now p) (λ e. IsProjectFault text.now e) }
+    ensures only { (p : Project) → IsRead text.now p → MatchResult result (λ q. q ≡ p) (λ e. e ≡ ProjectFault.NoMemory) }
+    ensures first { (n : ℕ) (c : terms.ProjectCause) → IsFault text.now n c → MatchResult result (λ _. ⊥) (λ e. IsFaultAt n c e) }
+{
+    read_lines(alloc, text)
 }

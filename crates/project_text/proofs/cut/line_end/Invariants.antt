@@ -1,6 +1,6 @@
 use Rattle.std.proofs.Common.{◌≡◌, ◌≤◌, ◌-◌, length, take}
 use Rattle.project_terms.specs.Texts.{IsInner}
-use Rattle.project_text.proofs.read.line_end.Given as goal
+use Rattle.project_text.proofs.cut.line_end.Given as goal
 
 abbrev pub invariant-loop-end : goal.invariant-loop-end
 invariant-loop-end l = record {

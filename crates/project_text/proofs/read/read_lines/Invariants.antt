@@ -1,6 +1,6 @@
 use Rattle.std.proofs.Common.{◌≤◌, ◌+◌, length}
 use Rattle.project_text.proofs.Steps.{IsBegun}
-use Rattle.project_text.proofs.read.read_project.Given as goal
+use Rattle.project_text.proofs.read.read_lines.Given as goal
 
 abbrev pub invariant-loop-draft : goal.invariant-loop-draft
 invariant-loop-draft l = record {
