@@ -1,6 +1,7 @@
 -- The last element of a list, and lists that go on by one.
-use Rattle.std.proofs.Common.{ℕ, zero, suc, ◌≡◌, ◌<◌, ◌+◌, ◌-◌, Bool, true, false, ◌&&◌, ◌||◌, not, ltb, List, [], ◌∷◌, ◌++◌, length, set, Some, None, refl, sym, ap, ◌∙◌, inl, inr, arith}
+use Rattle.std.proofs.Common.{ℕ, zero, suc, ◌≡◌, ◌<◌, ◌+◌, ◌-◌, ◌==◌, Bool, true, false, ◌&&◌, ◌||◌, not, ltb, List, [], ◌∷◌, ◌++◌, length, set, Some, None, refl, sym, ap, ◌∙◌, inl, inr, arith}
 use Rattle.std.specs.Prelude.{slice_get}
+use Rattle.std.proofs.lemmas.Bool.Decides.{nat_tests}
 use Rattle.plane_terms.specs.Cell.{Cell}
 use Rattle.topology_terms.specs.Entry.{Entry, Key, key_of}
 use Rattle.project_terms.specs.Drafts.{takes_cell, wants_cell, with_cell, is_bare, last_in, is_last_key, is_before}
@@ -60,3 +61,16 @@ cell_set (f ∷ g ∷ es) (suc k) e c n h = ap (λ t. f ∷ t) (cell_set (g ∷ 
 pub some_entry : (es : List Entry) → takes_cell es ≡ true → 0 < length es
 some_entry [] h = absurd cc
 some_entry (e ∷ es) h = omega arith
+
+bare : (cs : List Cell) → (length cs == 0) ≡ is_bare cs
+bare [] = refl
+bare (c ∷ cs) = grind (arith, nat_tests)
+
+-- the last error is of cells, and has so many
+pub wants_by : (es : List Entry) (e : Entry) → slice_get es (length es - 1) ≡ Some e → (n : ℕ) → n ≡ length e.cells → e.whole ≡ false → (n == 0) ≡ wants_cell es
+wants_by es e h n k w =
+    let i = last_entry_at es e h in
+    ap (λ m. m == 0) k ∙ (bare e.cells ∙ (sym (ap (λ b. not b && is_bare e.cells) w) ∙ sym i.wants))
+
+pub wants_none : (es : List Entry) (e : Entry) → slice_get es (length es - 1) ≡ Some e → e.whole ≡ true → false ≡ wants_cell es
+wants_none es e h w = let i = last_entry_at es e h in sym (i.wants ∙ ap (λ b. not b && is_bare e.cells) w)

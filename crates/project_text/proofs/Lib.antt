@@ -12,3 +12,4 @@ pub mod Features
 pub mod Steps
 pub mod Found
 pub mod Numerals
+pub mod Rects
