@@ -1,0 +1,20 @@
+ghost use Rattle.std.specs.Prelude.{◌≡◌, ◌<◌, ◌≤◌, ◌^◌, ℕ, ℤ, List, Some, unsigned_abs};
+ghost use Rattle.std.specs.Fmt.{signed_decimal};
+ghost use Rattle.topology_terms.specs.Project.{Project};
+ghost use Rattle.project_terms.specs.declared.project_cause.ProjectCause as terms;
+ghost use Rattle.project_terms.specs.Lines.{number};
+ghost use Rattle.project_terms.specs.Texts.{IsRead, IsFault};
+
+/// The law of texts: a text says one project at most; where it says one, no line of it is wrong; and else one line is the first that
+/// is wrong, of one cause.
+pub fn one_text_law()
+    ensures project { (t : List ℕ) (p q : Project) → IsRead t p → IsRead t q → p ≡ q }
+    ensures either { (t : List ℕ) (p : Project) (n : ℕ) (c : terms.ProjectCause) → IsRead t p → ¬ (IsFault t n c) }
+    ensures fault { (t : List ℕ) (m n : ℕ) (b c : terms.ProjectCause) → IsFault t m b → IsFault t n c → (m ≡ n) × (b ≡ c) }
+{}
+
+/// The law of numbers: what is written of a number within the limits of a project is read as it, and nothing else is.
+pub fn one_number_law()
+    ensures again { (z : ℤ) → unsigned_abs z ≤ 2 ^ 50 → number (signed_decimal z) ≡ Some z }
+    ensures only { (f : List ℕ) (z : ℤ) → number f ≡ Some z → unsigned_abs z < 2 ^ 50 → signed_decimal z ≡ f }
+{}
