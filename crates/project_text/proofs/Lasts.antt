@@ -66,11 +66,11 @@ bare : (cs : List Cell) → (length cs == 0) ≡ is_bare cs
 bare [] = refl
 bare (c ∷ cs) = grind (arith, nat_tests)
 
--- the last error is of cells, and has so many
-pub wants_by : (es : List Entry) (e : Entry) → slice_get es (length es - 1) ≡ Some e → (n : ℕ) → n ≡ length e.cells → e.whole ≡ false → (n == 0) ≡ wants_cell es
-wants_by es e h n k w =
-    let i = last_entry_at es e h in
-    ap (λ m. m == 0) k ∙ (bare e.cells ∙ (sym (ap (λ b. not b && is_bare e.cells) w) ∙ sym i.wants))
+pub wants_else : (es : List Entry) (e : Entry) → slice_get es (length es - 1) ≡ Some e → (w : Bool) → w ≡ e.whole → not w ≡ false → not w ≡ wants_cell es
+wants_else es e h w k n = let i = last_entry_at es e h in n ∙ sym (i.wants ∙ ap (λ b. b && is_bare e.cells) (sym (ap not k) ∙ n))
 
-pub wants_none : (es : List Entry) (e : Entry) → slice_get es (length es - 1) ≡ Some e → e.whole ≡ true → false ≡ wants_cell es
-wants_none es e h w = let i = last_entry_at es e h in sym (i.wants ∙ ap (λ b. not b && is_bare e.cells) w)
+pub wants_then : (es : List Entry) (e : Entry) → slice_get es (length es - 1) ≡ Some e → (w : Bool) → w ≡ e.whole → not w ≡ true → (n : ℕ) → n ≡ length e.cells
+    → (n == 0) ≡ wants_cell es
+wants_then es e h w k t n m =
+    let i = last_entry_at es e h in
+    ap (λ j. j == 0) m ∙ (bare e.cells ∙ sym (i.wants ∙ ap (λ b. b && is_bare e.cells) (sym (ap not k) ∙ t)))

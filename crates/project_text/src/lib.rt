@@ -9,6 +9,7 @@ mod fault;
 mod fields;
 mod forms;
 mod kinds;
+mod law;
 mod lines;
 mod numbers;
 mod push;
@@ -19,6 +20,7 @@ mod write;
 
 pub use data::ProjectData;
 pub use fault::ProjectFault;
+pub use law::{one_number_law, one_text_law};
 pub use project_terms::ProjectCause;
 pub use read::read_project;
 pub use write::write_project;
