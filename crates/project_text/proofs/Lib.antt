@@ -13,3 +13,4 @@ pub mod Steps
 pub mod Found
 pub mod Numerals
 pub mod Rects
+pub mod Saying

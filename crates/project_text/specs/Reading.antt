@@ -11,13 +11,15 @@
 -- reading_of r        the reading that the code's value stands for
 -- IsFaulty f r        r is what comes of a text with the fault f
 -- cell_line_verdict d fs, IsFeatureVerdict d fs v     the verdict on the line of a cell; on the line of a feature
+-- is_in_force rs o    o is the number of a rule in force
 -- IsProjectFault t e  the line of this number is the first that is wrong, and this is its first cause; want of memory says nothing
 -- IsFaultAt n c e     the fault is this line and this cause, or want of memory
-use Rattle.std.specs.Prelude.{ℕ, ◌≡◌, Bool, true, false, List, [], ◌∷◌, ◌++◌, Option, Some, None, Result, Ok, Err, IfSome, ◌⊎◌, if◌then◌else◌}
+use Rattle.std.specs.Prelude.{ℕ, ◌≡◌, Bool, true, false, List, [], ◌∷◌, ◌++◌, Option, Some, None, Result, Ok, Err, IfSome, is_some, ◌⊎◌, if◌then◌else◌}
 use Rattle.std.specs.List.{list_all}
 use Rattle.plane_terms.specs.Rectangle.{Rectangle, rect_of as rectangle}
 use Rattle.plane_terms.specs.HalfPlane.{HalfPlane}
 use Rattle.plane_terms.specs.Cell.{Cell}
+use Rattle.topology_terms.specs.Project.{InForce, rule_at}
 use Rattle.wkt_terms.specs.declared.wkt_fault.WktFault.{WktFault}
 use Rattle.wkt_terms.specs.declared.wkt_fault.WktFault.TheVariants as text
 use Rattle.project_terms.specs.declared.project_cause.ProjectCause.{ProjectCause}
@@ -106,3 +108,7 @@ IsProjectFault t fault.NoMemory = Unit {0}
 abbrev pub IsFaultAt : ℕ → ProjectCause → ProjectFault → Type 0
 IsFaultAt n c (fault.Wrong m b) = (m ≡ n) × (b ≡ c)
 IsFaultAt n c fault.NoMemory = Unit {0}
+
+abbrev pub is_in_force : List InForce → Option ℕ → Bool
+is_in_force rs None = false
+is_in_force rs (Some r) = is_some (rule_at rs r)

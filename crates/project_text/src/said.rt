@@ -1,15 +1,16 @@
 ghost use Rattle.std.specs.Prelude.{◌≡◌, ◌≤◌, ◌<◌, ◌-◌, ◌==◌, ◌&&◌, ◌||◌, not, Some, Ok, true, false, [], is_some, MatchOption};
 ghost use Rattle.std.specs.List.{list_any};
 ghost use Rattle.rule_words.specs.Table.{dest_of};
-ghost use Rattle.topology_terms.specs.Causes.{fits_dest, is_fit, is_row, is_there};
+ghost use Rattle.topology_terms.specs.Causes.{fits_dest, is_fit, is_kind, is_row, is_there};
 ghost use Rattle.topology_terms.specs.Feature as feature_terms;
+ghost use Rattle.topology_terms.specs.Feature.{IsAscending};
 ghost use Rattle.topology_terms.specs.Lookups.{kind_of_class};
 ghost use Rattle.topology_terms.specs.Project.{rule_at};
 ghost use Rattle.topology_terms.specs.Project as project_terms;
 ghost use Rattle.project_terms.specs.Lines.{natural};
 ghost use Rattle.project_terms.specs.Drafts.{is_rectangle, last_in, is_last_key, is_before, takes_cell, with_cell};
 ghost use Rattle.project_terms.specs.Verdicts.{class_verdict, row_of, dest_in, with_rule, rule_verdict, are_nested, dirty_verdict, with_feature, feature_numbered, with_error, error_verdict, next_verdict};
-ghost use Rattle.project_text.specs.Reading.{Says, rule_said, rect_said, error_said};
+ghost use Rattle.project_text.specs.Reading.{Says, rule_said, rect_said, error_said, is_in_force};
 
 use crate::draft::Draft;
 use crate::fault::LineFault;
@@ -63,6 +64,20 @@ fn do_classes_fit(store: &Store, row: &RuleRow) -> bool
     ensures { result ≡ is_fit store.now.classes row.now }
 {
     store.class_kind(row.origin) == Some(row.kind.origin()) && does_dest_fit(store, row)
+}
+
+// Whether the shapes of the class of this number are of the kind.
+fn is_of_kind(store: &Store, class: u16, kind: Kind) -> bool
+    ensures { result ≡ is_kind (kind_of_class store.now.classes class) kind }
+{
+    store.class_kind(class) == Some(kind)
+}
+
+// The law that features ascend by their handles.
+fn features_law(store: &Store)
+    ensures { IsAscending store.now.features }
+{
+    let _ = store.features();
 }
 
 // The number of the second class of a rule, or 0 where it names none.
@@ -210,7 +225,7 @@ impl Draft {
     fn put_feature(&mut self, handle: u32, class: u16, shape: Shape) -> Result<(), LineFault>
         requires from_1 { 1 ≤ handle }
         requires given { handle < self.old.project.next }
-        requires kind { kind_of_class self.old.project.classes class ≡ Some shape.kind }
+        requires kind { is_kind (kind_of_class self.old.project.classes class) shape.kind ≡ true }
         ensures { Says result (with_feature self.old (record { handle = handle; class = class; shape = shape })) self.new }
     {
         if last_handle(self.store.features()) >= handle {
@@ -218,6 +233,7 @@ impl Draft {
         }
         let mut kept = Some(Feature::new(handle, class, shape));
         self.store.swap(handle, &mut kept)?;
+        features_law(&self.store);
         self.stage = Stage::Features;
         Ok(())
     }
@@ -232,7 +248,7 @@ impl Draft {
         let Some(class) = self.store.class_by_name(class) else {
             return Err(LineFault::Wrong(ProjectCause::Unknown));
         };
-        if self.store.class_kind(class) != Some(shape.kind()) {
+        if !is_of_kind(&self.store, class, shape.kind()) {
             return Err(LineFault::Wrong(ProjectCause::Unknown));
         }
         self.put_feature(handle, class, shape)
@@ -274,6 +290,15 @@ impl Draft {
         if form.whole && other != 0 { None } else { Some(frame) }
     }
 
+    // The number of a rule in force.
+    fn rule_in_force(&self, number: i64) -> Option<u16>
+        ensures { MatchOption result (is_in_force self.now.project.rules (natural 1 256 number) ≡ false)
+            (λ r. (natural 1 256 number ≡ Some r) × (is_some (rule_at self.now.project.rules r) ≡ true)) }
+    {
+        let rule = natural(1, 256, number)? as u16;
+        if has_rule(&self.rules, rule) { Some(rule) } else { None }
+    }
+
     /// An error more, without its cells.
     pub fn say_error(&mut self, alloc: Global, marked: bool, form: &ErrorForm) -> Result<(), LineFault>
         ensures { Says result (error_verdict marked self.old (error_said form.now)) self.new }
@@ -288,13 +313,9 @@ impl Draft {
         let Some(frame) = self.frame_of(form, other) else {
             return Err(LineFault::Wrong(ProjectCause::Range));
         };
-        let Some(rule) = natural(1, 256, form.rule) else {
+        let Some(rule) = self.rule_in_force(form.rule) else {
             return Err(LineFault::Wrong(ProjectCause::Unknown));
         };
-        let rule = rule as u16;
-        if !has_rule(&self.rules, rule) {
-            return Err(LineFault::Wrong(ProjectCause::Unknown));
-        }
         let key = Key {
             rule,
             subject,

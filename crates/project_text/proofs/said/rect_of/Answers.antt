@@ -3,4 +3,4 @@ use Rattle.project_text.proofs.Rects.{no_rectangle}
 use Rattle.project_text.proofs.said.rect_of.Goals as goal
 
 pub returns-in-Err : goal.returns-in-Err
-returns-in-Err c = no_rectangle (rect_said c.args.form.now) _ c.in-Err.ensures.refused
+returns-in-Err c = let h = c in ?
