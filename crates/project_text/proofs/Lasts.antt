@@ -1,5 +1,5 @@
 -- The last element of a list, and lists that go on by one.
-use Rattle.std.proofs.Common.{ℕ, zero, suc, ◌≡◌, ◌<◌, ◌+◌, ◌-◌, ◌==◌, Bool, true, false, ◌&&◌, ◌||◌, not, ltb, List, [], ◌∷◌, ◌++◌, length, set, Some, None, refl, sym, ap, ◌∙◌, inl, inr, arith}
+use Rattle.std.proofs.Common.{ℕ, zero, suc, ◌≡◌, ◌<◌, ◌+◌, ◌-◌, ◌==◌, Bool, true, false, ◌&&◌, ◌||◌, not, ltb, List, [], ◌∷◌, ◌++◌, length, get_or, set, Some, None, refl, sym, ap, ◌∙◌, inl, inr, arith}
 use Rattle.std.specs.Prelude.{slice_get}
 use Rattle.std.proofs.lemmas.Bool.Decides.{nat_tests}
 use Rattle.plane_terms.specs.Cell.{Cell}
@@ -50,13 +50,13 @@ last_entry_at [] e h = absurd cc
 last_entry_at (f ∷ es) e h = last_entry (f ∷ es) (length (f ∷ es) - 1) e (omega arith) h
 
 -- a cell put to the last error
-pub cell_set : (es : List Entry) (k : ℕ) (e : Entry) (c : Cell) → k + 1 ≡ length es → slice_get es k ≡ Some e
-    → set es k (record e { cells = e.cells ++ c ∷ [] }) ≡ with_cell es c
-cell_set [] k e c n h = absurd (omega arith)
-cell_set (f ∷ []) zero e c n h = let s : f ≡ e = cc in ap (λ (x : Entry). record x { cells = x.cells ++ c ∷ [] } ∷ []) (sym s)
-cell_set (f ∷ []) (suc k) e c n h = absurd (omega arith)
-cell_set (f ∷ g ∷ es) zero e c n h = absurd (omega arith)
-cell_set (f ∷ g ∷ es) (suc k) e c n h = ap (λ t. f ∷ t) (cell_set (g ∷ es) k e c (omega arith) h)
+pub cell_set : (es : List Entry) (k : ℕ) (e f : Entry) (c : Cell) → k + 1 ≡ length es → e ≡ get_or es k e → f ≡ record e { cells = e.cells ++ c ∷ [] }
+    → set es k f ≡ with_cell es c
+cell_set [] k e f c n h m = absurd (omega arith)
+cell_set (g ∷ []) zero e f c n h m = ap (λ (x : Entry). x ∷ []) m ∙ ap (λ (x : Entry). record x { cells = x.cells ++ c ∷ [] } ∷ []) h
+cell_set (g ∷ []) (suc k) e f c n h m = absurd (omega arith)
+cell_set (g ∷ i ∷ es) zero e f c n h m = absurd (omega arith)
+cell_set (g ∷ i ∷ es) (suc k) e f c n h m = ap (λ t. g ∷ t) (cell_set (i ∷ es) k e f c (omega arith) h m)
 
 pub some_entry : (es : List Entry) → takes_cell es ≡ true → 0 < length es
 some_entry [] h = absurd cc

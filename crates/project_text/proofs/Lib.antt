@@ -14,3 +14,4 @@ pub mod Found
 pub mod Numerals
 pub mod Rects
 pub mod Saying
+pub mod Halves

@@ -9,7 +9,7 @@ use rule_words::RuleKind;
 use shape::Kind;
 
 /// Four numbers, as a line spells them.
-#[derive(Drop)]
+#[derive(Clone, Copy)]
 pub struct RectForm {
     pub x0: i64,
     pub y0: i64,

@@ -154,7 +154,8 @@ fn is_nested(rects: &[Rect], r: &Rect) -> bool
 fn rect_of(form: &RectForm) -> Option<Rect>
     ensures { MatchOption result (is_rectangle (rect_said form.now) ≡ false) (λ r. (r ≡ rect_said form.now) × (is_rectangle r ≡ true)) }
 {
-    match Rect::of(form.x0, form.y0, form.x1, form.y1) {
+    let numbers = *form;
+    match Rect::of(numbers.x0, numbers.y0, numbers.x1, numbers.y1) {
         Ok(r) => Some(r),
         Err(_) => None,
     }
