@@ -42,18 +42,20 @@ both false b h = absurd cc
 
 is_valid : (h : HalfPlane) → is_half h ≡ true → IsHalfPlane h
 is_valid h t =
-    let p = both _ _ t in
-    let q = both _ _ p.1 in
-    let r = both _ _ q.1 in
-    record {
-      a_fits = let k = p.0 in grind (arith, nat_tests);
-      b_fits = let k = q.0 in grind (arith, nat_tests);
-      c_fits = let k = r.0 in grind (arith, nat_tests);
-      slanted = let k = r.1 in grind (arith, nat_tests);
-    }
+    let d = ltb 0 (unsigned_abs h.a + unsigned_abs h.b) in
+    let c = nat_le (unsigned_abs h.c) 70368744177664 && d in
+    let b = nat_le (unsigned_abs h.b) 8388608 && c in
+    let p = both (nat_le (unsigned_abs h.a) 8388608) b t in
+    let q = both (nat_le (unsigned_abs h.b) 8388608) c p.1 in
+    let r = both (nat_le (unsigned_abs h.c) 70368744177664) d q.1 in
+    let x : unsigned_abs h.a ≤ 2 ^ 23 = grind (arith, nat_tests, p.0) in
+    let y : unsigned_abs h.b ≤ 2 ^ 23 = grind (arith, nat_tests, q.0) in
+    let z : unsigned_abs h.c ≤ 2 ^ 46 = grind (arith, nat_tests, r.0) in
+    let w : 0 < unsigned_abs h.a + unsigned_abs h.b = grind (arith, nat_tests, r.1) in
+    record { a_fits = x; b_fits = y; c_fits = z; slanted = w }
 
 is_false : (h : HalfPlane) → (IsHalfPlane h → ⊥) → is_half h ≡ false
-is_false h no = elim (cases_Bool (is_half h)) [ inl t ↦ absurd (no (is_valid h t)) | inr f ↦ f ]
+is_false h outside = elim (cases_Bool (is_half h)) [ inl t ↦ absurd (outside (is_valid h t)) | inr f ↦ f ]
 
 -- ---- a half-plane more
 put_true : (hs : List HalfPlane) (h : HalfPlane) → list_all is_half hs ≡ true → is_half h ≡ true → list_all is_half (hs ++ h ∷ []) ≡ true
@@ -81,17 +83,17 @@ one_more fs halves made within rest f h r form same valid put = record {
 
 pub one_wrong : (fs : List (List ℕ)) (halves : List HalfPlane) (within : Bool) (rest : List ℕ) (f : HalfForm) → HalvesRead fs halves within true rest
     → IsHalfForm (left rest) f → (IsHalfPlane (half_said f) → ⊥) → HalvesRead fs halves false f.more f.rest.now
-one_wrong fs halves within rest f r form no = record {
+one_wrong fs halves within rest f r form outside = record {
   all = r.all ++ half_said f ∷ [];
   behind = r.behind ∙ form r.all;
   right = λ t. absurd cc;
-  wrong = λ t. put_wrong r.all (half_said f) (is_false (half_said f) no);
+  wrong = λ t. put_wrong r.all (half_said f) (is_false (half_said f) outside);
 }
 
 -- ---- the end
 pub none_more : (fs : List (List ℕ)) (halves : List HalfPlane) (within : Bool) (rest : List ℕ) → HalvesRead fs halves within true rest → IsNoHalf (left rest)
     → cell_of fs ≡ None
-none_more fs halves within rest r no = r.behind ∙ no r.all
+none_more fs halves within rest r lacks = r.behind ∙ lacks r.all
 
 too_many : (hs : List HalfPlane) (fs : List (List ℕ)) → is_none fs ≡ false → halves_behind hs false fs ≡ None
 too_many hs [] h = absurd cc

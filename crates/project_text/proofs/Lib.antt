@@ -15,3 +15,4 @@ pub mod Numerals
 pub mod Rects
 pub mod Saying
 pub mod Halves
+pub mod FeatureLines
