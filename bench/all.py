@@ -9,18 +9,17 @@ usage: bench/all.py [--baseline WORDS] [--commands NAME,..] [--turns N] [--secon
 Run it on an idle machine, in a clean clone. The output is Markdown, as it stands in docs/testing.md. The status is 1 where a
 command failed; those whose timing program is not built are named and left out.
 """
-import argparse
 import datetime
 import os
 import shlex
 import subprocess
 import sys
 
-from programs import HERE, ROOT, add_program_words
+from programs import HERE, ROOT, parser_of, timing_path
 
 COMMANDS = [
-    'run.py', 'features.py', 'late.py', 'moved.py', 'together.py', 'town.py', 'borders.py', 'coverings.py', 'roads.py', 'wells.py',
-    'shapes.py', 'columns.py', 'cells.py',
+    'run.py', 'features.py', 'late.py', 'moved.py', 'together.py', 'town.py', 'town_words.py', 'borders.py', 'coverings.py',
+    'roads.py', 'wells.py', 'shapes.py', 'columns.py', 'cells.py',
 ]
 TIMING = {'shapes.py': 'bench_shapes', 'columns.py': 'bench_columns', 'cells.py': 'bench_cells'}
 WITHOUT_BASELINE = {'cells.py'}
@@ -41,8 +40,7 @@ def heading():
 
 
 def is_built(command):
-    name = TIMING.get(command)
-    return name is None or os.path.isfile(os.path.join(ROOT, 'crates', name, 'out', name))
+    return command not in TIMING or os.path.isfile(timing_path(TIMING[command]))
 
 
 def words_for(command, given):
@@ -62,8 +60,7 @@ def run(command, given):
 
 
 def main():
-    parser = argparse.ArgumentParser(usage=__doc__.split('\n\n')[1][7:])
-    add_program_words(parser)
+    parser = parser_of(__doc__)
     parser.add_argument('--commands', default=','.join(COMMANDS))
     given = parser.parse_args()
     commands = given.commands.split(',')

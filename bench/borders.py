@@ -8,8 +8,8 @@ usage: bench/borders.py [--baseline WORDS] [--lines NAME ..] [--turns N] [--seco
 
 A jagged border goes from side to side between two lines, a winding one wanders; `north` and `turned` are the same map with
 x and y exchanged. Municipalities lie in a square, with winding common borders of 50 segments a side. The lake has 2,000
-vertices and covers parcels in rows, or has lots along its shore. A strip is one row of parcels. Each line is one ratio: the
-time of a validation of everything, less the time of the same script without it.
+vertices and covers parcels in rows, or has lots along its shore. A strip is one row of parcels. Each map has two rows: the
+time of a validation of everything, less the time of the same script without it, and the peak of memory of the script with it.
 """
 import random
 import sys
@@ -118,11 +118,8 @@ def print_map(table, name, take, make):
     lines = make()
     before, after = take(lines), take(lines + ['validate all'])
     table.row(name, 'ms', [before, after], beyond(after, before, 1e3))
-
-
-def main():
-    return print_maps(__doc__, 'map', maps, print_map)
+    table.row(name + ': memory', 'MiB', [after], lambda i: after[i].kilobytes / 1024)
 
 
 if __name__ == '__main__':
-    sys.exit(main())
+    sys.exit(print_maps(__doc__, maps, print_map))

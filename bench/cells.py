@@ -11,11 +11,11 @@ import math
 import os
 import random
 import subprocess
-import sys
 import tempfile
 import time
 
-HERE = os.path.dirname(os.path.abspath(__file__))
+from programs import HERE, timing_program
+
 SIZES = (4, 8, 12, 16, 32)
 CELLS = 400
 
@@ -53,9 +53,7 @@ def main():
     parser = argparse.ArgumentParser()
     parser.add_argument('--times', type=int, default=400)
     times = parser.parse_args().times
-    mine = os.path.join(HERE, '..', 'crates', 'bench_cells', 'out', 'bench_cells')
-    if not os.path.isfile(mine):
-        sys.exit('build crates/bench_cells first: `rt run -- 1 < stdin` in its folder')
+    mine = timing_program('bench_cells')
     plain = os.path.join(tempfile.mkdtemp(), 'plain_cells')
     subprocess.run(['cc', '-O2', '-o', plain, os.path.join(HERE, 'plain_cells.c')], check=True)
     print('| cells | half-planes | ns a call | in C: ns a call | ratio | equal answers |')

@@ -12,15 +12,13 @@ that one class covers another, validated; the same script without that line is t
 """
 import argparse
 import os
-import shlex
 import subprocess
 import sys
 import tempfile
 
 from polygons import comb, ring, spiral, zigzag
+from programs import make_measured, program_of, timing_program
 
-HERE = os.path.dirname(os.path.abspath(__file__))
-PROGRAM = os.path.join(HERE, '..', 'crates', 'bench_columns', 'out', 'bench_columns')
 SCRIPT = """class zones polygon
 class covers polygon
 rule polygon_must_be_covered_by_feature_class_of zones covers
@@ -47,9 +45,9 @@ def added(name, vertices):
 class Meter:
     """Runs programs three times each, and takes the least time in s and the least peak of memory in MiB."""
 
-    def __init__(self, folder):
-        self.tool, self.report = os.path.join(folder, 'measured'), os.path.join(folder, 'report')
-        subprocess.run(['cc', '-O2', '-o', self.tool, os.path.join(HERE, 'measured.c')], check=True)
+    def __init__(self, folder, program):
+        self.tool, self.report, self.program = os.path.join(folder, 'measured'), os.path.join(folder, 'report'), program
+        make_measured(folder)
 
     def run(self, words, text):
         runs = []
@@ -63,7 +61,7 @@ class Meter:
         return min(r[0] for r in runs), min(r[1] for r in runs), done.stdout
 
     def made(self, wanted, text):
-        seconds, memory, told = self.run([PROGRAM, '1', wanted], text)
+        seconds, memory, told = self.run([self.program, '1', wanted], text)
         return seconds, memory, int(told.split()[2])
 
     def validated(self, words, lines):
@@ -86,17 +84,16 @@ def row(meter, baseline, name, vertices):
 def main():
     parser = argparse.ArgumentParser()
     parser.add_argument('--sizes', default='100,500,2000')
-    parser.add_argument('--baseline', type=shlex.split)
+    parser.add_argument('--baseline', type=program_of)
     options = parser.parse_args()
-    if not os.path.isfile(PROGRAM):
-        sys.exit('build crates/bench_columns first: `rt run -- 1 < stdin` in its folder')
+    program = timing_program('bench_columns')
     heads = ['polygon', 'vertices', 'inside', 'outside', 'carved by outside']
     if options.baseline:
         options.baseline += ['replay']
         heads += ['the other: inside', 'the other: carved by outside']
     print('| ' + ' | '.join(heads) + ' |\n' + '|---' * len(heads) + '|')
     with tempfile.TemporaryDirectory() as folder:
-        meter = Meter(folder)
+        meter = Meter(folder, program)
         for name, make in (('ring', ring), ('comb', comb), ('spiral', spiral), ('zigzag', zigzag)):
             for n in map(int, options.sizes.split(',')):
                 row(meter, options.baseline, name, make(n))

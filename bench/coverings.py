@@ -15,7 +15,7 @@ parcel, of a municipality, of an area or of a path, and validates a window round
 import sys
 
 from borders import Country
-from programs import added, edits, line, polygon, print_maps, print_validated
+from programs import added, edits, line, print_edited_maps
 
 ACROSS = 20
 
@@ -90,14 +90,5 @@ def maps():
         yield name % ('paths', ACROSS * rows), lambda rows=rows: along_paths(rows)
 
 
-def print_map(table, name, take, make):
-    founding, editing = make()
-    print_validated(table, name, take, founding, editing, take(founding))
-
-
-def main():
-    return print_maps(__doc__, 'map', maps, print_map)
-
-
 if __name__ == '__main__':
-    sys.exit(main())
+    sys.exit(print_edited_maps(__doc__, maps))

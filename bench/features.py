@@ -12,13 +12,10 @@ lines: one ends there, one changes a tenth of the features, one deletes as many;
 given, in no plain order. The time of a change and of a deletion is what these take beyond the first. A fourth script has the
 same lines as the first as remarks, so that no feature is made; the memory of a feature is what the first takes beyond that.
 """
-import argparse
 import sys
-import tempfile
 
-from programs import Table, add_program_words, beyond, make_measured, measure_lines, point, polygon, programs_of, spread
+from programs import add_kinds, beyond, measure_lines, parser_of, point, polygon, print_table, spread
 
-KINDS = ['points', 'polygons']
 OCTAGON = [(2, 0), (4, 0), (6, 2), (6, 4), (4, 6), (2, 6), (0, 4), (0, 2)]
 HEADS = {
     'points': ['class wells point', 'rule point_must_be_disjoint wells', 'begin ann'],
@@ -65,20 +62,16 @@ def print_kind(table, folder, kind, programs, given):
 
 
 def main():
-    parser = argparse.ArgumentParser(usage=__doc__.split('\n\n')[1][7:])
-    add_program_words(parser)
+    parser = parser_of(__doc__)
     parser.add_argument('--count', type=int, default=100000)
-    parser.add_argument('--kinds', default=','.join(KINDS))
+    add_kinds(parser, HEADS)
     given = parser.parse_args()
-    if not set(given.kinds.split(',')) <= set(KINDS):
-        parser.error('the kinds are ' + ', '.join(KINDS))
-    programs = programs_of(given)
-    table = Table('features', len(programs) == 2)
-    with tempfile.TemporaryDirectory() as folder:
-        make_measured(folder)
-        for kind in given.kinds.split(','):
+
+    def print_rows(table, folder, programs):
+        for kind in given.kinds:
             print_kind(table, folder, kind, programs, given)
-    return 0 if table.good else 1
+
+    return print_table('features', given, print_rows)
 
 
 if __name__ == '__main__':

@@ -13,7 +13,7 @@ the late features; and the dirty rectangles are listed. Each figure is what a sc
 """
 import sys
 
-from programs import added, beyond, measure_lines, point, polygon, print_sizes, spread
+from programs import add_kinds, added, beyond, measure_lines, point, polygon, print_sizes, spread
 
 SIDE, WIDTH = 200, 7
 LISTINGS = 20
@@ -67,12 +67,12 @@ def print_kind(table, take, kind, count):
 
 
 def print_size(table, folder, count, programs, given):
-    for kind in given.kinds.split(','):
+    for kind in given.kinds:
         print_kind(table, lambda lines: measure_lines(folder, lines, programs, given), kind, count)
 
 
 def main():
-    add_words = lambda parser: parser.add_argument('--kinds', default=','.join(HEADS))
+    add_words = lambda parser: add_kinds(parser, HEADS)
     return print_sizes(__doc__, 'late features', '--sizes', '3000,10000,30000', print_size, add_words)
 
 

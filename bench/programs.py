@@ -7,6 +7,7 @@ import random
 import shlex
 import shutil
 import subprocess
+import sys
 import tempfile
 
 HERE = os.path.dirname(os.path.abspath(__file__))
@@ -27,7 +28,7 @@ class Measure:
         if self.status is not None and (self.status < 0 or self.seconds > LONG):
             return
         report, written = os.path.join(folder, 'report'), os.path.join(folder, 'written')
-        words = [os.path.join(folder, 'measured'), report, str(limit)] + self.words + ['replay']
+        words = [os.path.join(folder, 'measured'), report, str(limit)] + self.words
         with open(os.path.join(folder, 'script'), 'rb') as source, open(written, 'wb') as out:
             subprocess.run(words, stdin=source, stdout=out, check=True)
         with open(report) as told:
@@ -54,12 +55,38 @@ def programs_of(given):
     return [own] + ([program_of(given.baseline)] if given.baseline else [])
 
 
-def add_program_words(parser):
-    """The words that each of these commands takes."""
+def parser_of(usage):
+    """A parser of the words that each of these commands takes; the command may add its own."""
+    parser = argparse.ArgumentParser(usage=usage.split('\n\n')[1][7:])
     parser.add_argument('--baseline')
     parser.add_argument('--program')
     parser.add_argument('--turns', type=int, default=3)
     parser.add_argument('--seconds', type=int, default=600)
+    return parser
+
+
+def add_kinds(parser, kinds):
+    """The word `--kinds`: some of these, with commas between them, and all of them where it is left out."""
+
+    def chosen(text):
+        if not set(text.split(',')) <= set(kinds):
+            raise argparse.ArgumentTypeError('the kinds are ' + ', '.join(kinds))
+        return text.split(',')
+
+    parser.add_argument('--kinds', type=chosen, default=list(kinds))
+
+
+def timing_path(name):
+    """Where the timing program of this crate stands once it is built."""
+    return os.path.join(ROOT, 'crates', name, 'out', name)
+
+
+def timing_program(name):
+    """The timing program of this crate; the command ends where it is not built."""
+    path = timing_path(name)
+    if not os.path.isfile(path):
+        sys.exit('build crates/%s first: `rt run -- 1 < stdin` in its folder' % name)
+    return path
 
 
 def make_measured(folder):
@@ -68,9 +95,9 @@ def make_measured(folder):
     subprocess.run(['cc', '-O2', '-o', measured, os.path.join(HERE, 'measured.c')], check=True)
 
 
-def measure_script(folder, programs, given):
-    """Lets the programs take turns on the script in the folder; one measure for each."""
-    measures = [Measure(words) for words in programs]
+def measure_script(folder, programs, given, more=('replay',)):
+    """Lets the programs, called with more words, take turns on the script in the folder; one measure for each."""
+    measures = [Measure(words + list(more)) for words in programs]
     for _ in range(given.turns):
         for measure in measures:
             measure.take(folder, given.seconds)
@@ -82,6 +109,12 @@ def measure_lines(folder, lines, programs, given):
     with open(os.path.join(folder, 'script'), 'w') as out:
         out.writelines(line + '\n' for line in lines)
     return measure_script(folder, programs, given)
+
+
+def measure_words(folder, words, programs, given):
+    """The same of programs that are called with these words, over an empty script."""
+    with open(os.path.join(folder, 'script'), 'w'):
+        return measure_script(folder, programs, given, words)
 
 
 def has_ended(measures):
@@ -181,34 +214,50 @@ def print_validated(table, name, take, founding, editing, before):
     return validated
 
 
-def print_maps(usage, title, maps, print_one):
-    """The whole of a command that has maps by their names: reads its words, and has each map print its rows. Answers the status."""
-    parser = argparse.ArgumentParser(usage=usage.split('\n\n')[1][7:])
-    add_program_words(parser)
-    parser.add_argument('--lines', nargs='+', default=[''])
-    given = parser.parse_args()
+def print_table(title, given, print_rows):
+    """A table, whose rows `print_rows` prints of the programs, with a folder for their scripts. Answers the status."""
     programs = programs_of(given)
     table = Table(title, len(programs) == 2)
     with tempfile.TemporaryDirectory() as folder:
         make_measured(folder)
+        print_rows(table, folder, programs)
+    return 0 if table.good else 1
+
+
+def print_maps(usage, maps, print_one):
+    """The whole of a command that has maps by their names: reads its words, and has each map print its rows. Answers the status."""
+    parser = parser_of(usage)
+    parser.add_argument('--lines', nargs='+', default=[''])
+    given = parser.parse_args()
+
+    def print_rows(table, folder, programs):
         take = lambda lines: measure_lines(folder, lines, programs, given)
         for name, make in maps():
             if name.startswith(tuple(given.lines)):
                 print_one(table, name, take, make)
-    return 0 if table.good else 1
+
+    return print_table('map', given, print_rows)
+
+
+def print_edited_maps(usage, maps):
+    """The same where each map makes the lines that found it, and its edits: validated whole, and then after each edit."""
+
+    def print_map(table, name, take, make):
+        founding, editing = make()
+        print_validated(table, name, take, founding, editing, take(founding))
+
+    return print_maps(usage, maps, print_map)
 
 
 def print_sizes(usage, title, option, sizes, print_one, add_words=lambda parser: None):
     """The whole of a command that takes sizes: reads its words, and has each size print its rows. Answers the status."""
-    parser = argparse.ArgumentParser(usage=usage.split('\n\n')[1][7:])
-    add_program_words(parser)
+    parser = parser_of(usage)
     parser.add_argument(option, dest='sizes', default=sizes)
     add_words(parser)
     given = parser.parse_args()
-    programs = programs_of(given)
-    table = Table(title, len(programs) == 2)
-    with tempfile.TemporaryDirectory() as folder:
-        make_measured(folder)
+
+    def print_rows(table, folder, programs):
         for size in map(int, given.sizes.split(',')):
             print_one(table, folder, size, programs, given)
-    return 0 if table.good else 1
+
+    return print_table(title, given, print_rows)

@@ -15,7 +15,7 @@ validates a window round it.
 import random
 import sys
 
-from programs import added, edits, line, print_maps, print_validated
+from programs import added, edits, line, print_edited_maps
 
 STEP, PARTS = 1000, 5
 RULES = {'dangles': 'line_must_not_have_dangles', 'crossings': 'line_must_not_intersect', 'overlaps': 'line_must_not_overlap'}
@@ -87,14 +87,5 @@ def maps():
         yield '%s, a line of 2,000 vertices and 1,000 short ones' % name, lambda rule=rule: long_line(rule)
 
 
-def print_map(table, name, take, make):
-    founding, editing = make()
-    print_validated(table, name, take, founding, editing, take(founding))
-
-
-def main():
-    return print_maps(__doc__, 'map', maps, print_map)
-
-
 if __name__ == '__main__':
-    sys.exit(main())
+    sys.exit(print_edited_maps(__doc__, maps))

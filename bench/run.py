@@ -17,12 +17,11 @@ Both programs take turns on each input. Time is processor time, user and system 
 memory; the system tells both when the process has ended (measured.c). The outputs and the statuses of the two must be
 equal: where they are not, the row says so and the status is 1.
 """
-import argparse
 import os
 import sys
 import tempfile
 
-from programs import add_program_words, are_same, make_measured, measure_script, programs_of, stride_of
+from programs import add_kinds, are_same, make_measured, measure_script, parser_of, programs_of, stride_of
 
 KINDS = ['apart', 'shared', 'windows', 'tiles', 'small-tiles']
 ROWS_OF_WINDOWS = {'windows': 10, 'tiles': 50, 'small-tiles': 100}
@@ -98,14 +97,10 @@ def measure_input(folder, count, kind, programs, given):
 
 
 def given_words():
-    parser = argparse.ArgumentParser(usage=__doc__.split('\n\n')[1][7:])
-    add_program_words(parser)
+    parser = parser_of(__doc__)
     parser.add_argument('--sizes', default='1000,10000,100000')
-    parser.add_argument('--kinds', default=','.join(KINDS))
-    given = parser.parse_args()
-    if not set(given.kinds.split(',')) <= set(KINDS):
-        parser.error('the kinds are ' + ', '.join(KINDS))
-    return given
+    add_kinds(parser, KINDS)
+    return parser.parse_args()
 
 
 def main():
@@ -115,7 +110,7 @@ def main():
     with tempfile.TemporaryDirectory() as folder:
         make_measured(folder)
         print(head(len(programs) == 2))
-        for kind in given.kinds.split(','):
+        for kind in given.kinds:
             for count in map(int, given.sizes.split(',')):
                 own, other = measure_input(folder, count, kind, programs, given)
                 good = good and own.status == 0 and (other is None or are_same([own, other]))

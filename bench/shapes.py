@@ -14,16 +14,13 @@ single line; so its time holds the reading of the text too.
 import argparse
 import math
 import os
-import shlex
-import shutil
 import subprocess
 import sys
 import tempfile
 
 from polygons import comb, ring, spiral
+from programs import make_measured, program_of, timing_program
 
-HERE = os.path.dirname(os.path.abspath(__file__))
-PROGRAM = os.path.join(HERE, '..', 'crates', 'bench_shapes', 'out', 'bench_shapes')
 TURNS = 3
 
 
@@ -56,10 +53,10 @@ def timed(folder, words, text):
     return best, done.stdout
 
 
-def own_time(folder, vertices, times):
+def own_time(folder, program, vertices, times):
     text = ''.join('%d %d\n' % v for v in vertices)
-    once, _ = timed(folder, [PROGRAM, '1'], text)
-    many, said = timed(folder, [PROGRAM, str(times + 1)], text)
+    once, _ = timed(folder, [program, '1'], text)
+    many, said = timed(folder, [program, str(times + 1)], text)
     return (many - once) / times, said.split(', ', 1)[1].strip()
 
 
@@ -76,21 +73,17 @@ def main():
     parser = argparse.ArgumentParser()
     parser.add_argument('--sizes', default='100,500,2000')
     parser.add_argument('--times', type=int, default=50)
-    parser.add_argument('--baseline')
+    parser.add_argument('--baseline', type=program_of)
     given = parser.parse_args()
-    if not os.path.isfile(PROGRAM):
-        sys.exit('build crates/bench_shapes first: `rt run -- 1 < stdin` in its folder')
-    other = shlex.split(given.baseline) if given.baseline else None
-    if other:
-        other[0] = os.path.abspath(shutil.which(other[0]) or other[0])
+    program, other = timing_program('bench_shapes'), given.baseline
     head = ['polygon', 'vertices', 'what came', 'time in ms'] + (['baseline: what came', 'baseline: time in ms, with its text'] if other else [])
     print('| ' + ' | '.join(head) + ' |\n|' + '---|' * len(head))
     with tempfile.TemporaryDirectory() as folder:
-        subprocess.run(['cc', '-O2', '-o', os.path.join(folder, 'measured'), os.path.join(HERE, 'measured.c')], check=True)
+        make_measured(folder)
         for make in (ring, comb, spiral, star, rosette):
             for n in map(int, given.sizes.split(',')):
                 vertices = make(n)
-                seconds, came = own_time(folder, vertices, given.times)
+                seconds, came = own_time(folder, program, vertices, given.times)
                 cells = [make.__name__, str(len(vertices)), came, '%.3f' % (seconds * 1000)]
                 if other:
                     theirs, said = baseline_time(folder, other, vertices, given.times)

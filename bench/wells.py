@@ -15,7 +15,7 @@ import random
 import sys
 
 from borders import Country
-from programs import added, edits, point, polygon, print_maps, print_validated
+from programs import added, edits, point, print_edited_maps
 
 INSIDE, CONTAINS = 'point_must_be_properly_inside wells areas', 'polygon_contains_point areas wells'
 
@@ -70,14 +70,5 @@ def maps():
             yield title, lambda make=make, rows=rows: made(make, Country(rows), in_towns)
 
 
-def print_map(table, name, take, make):
-    founding, editing = make()
-    print_validated(table, name, take, founding, editing, take(founding))
-
-
-def main():
-    return print_maps(__doc__, 'map', maps, print_map)
-
-
 if __name__ == '__main__':
-    sys.exit(main())
+    sys.exit(print_edited_maps(__doc__, maps))

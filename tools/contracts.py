@@ -19,6 +19,8 @@ import os
 import re
 import sys
 
+from lib.crates import dependencies
+
 ROOT = os.path.dirname(os.path.dirname(os.path.abspath(__file__)))
 CRATES = os.path.join(ROOT, 'crates')
 HEAD = re.compile(r'^# aimed at: (\w+)((?:::\w+)+), (\w+)$')
@@ -48,12 +50,6 @@ WHYS = [
     ('another clause of the function has one', lambda f, clause: False),
     ('not yet: a caller above could not be proved with another value', lambda f, clause: True),
 ]
-
-
-def crates():
-    """The crates that crates.txt lists, in its order."""
-    with open(os.path.join(ROOT, 'crates.txt'), encoding='utf-8') as file:
-        return [line.split(':')[0].split()[0] for line in file if ':' in line and not line.startswith('#')]
 
 
 def text_of(path):
@@ -100,7 +96,7 @@ def body_of(text, start):
 def handed_out_traits():
     """The traits that some crate hands out."""
     traits = set()
-    for crate in crates():
+    for crate in dependencies():
         texts = map(text_of, glob.glob(os.path.join(CRATES, crate, 'src', '**', '*.rt'), recursive=True))
         traits |= handed_out(crate) & {name for text in texts for name in re.findall(r'^pub trait (\w+)', text, re.M)}
     return traits
@@ -132,7 +128,7 @@ def functions_of(crate, traits):
 def all_functions():
     """The public functions of all crates with their clauses, those of the trait where a method has none."""
     traits = handed_out_traits()
-    found = [function for crate in crates() for function in functions_of(crate, traits)]
+    found = [function for crate in dependencies() for function in functions_of(crate, traits)]
     of_traits = {(f.owner, f.name): f.clauses for f in found if f.is_declared}
     return [f._replace(clauses=f.clauses or of_traits.get((f.trait, f.name), [])) for f in found]
 

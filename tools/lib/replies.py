@@ -106,13 +106,24 @@ def errors_of(lines: list[str]) -> list[Error]:
     return errors
 
 
+def rule_of(words: list[str]) -> Rule:
+    """A rule by its word and its classes."""
+    return Rule(words[0], words[1], words[2] if len(words) > 2 else '')
+
+
+def rules_of(lines: list[str]) -> dict[int, Rule]:
+    """The rules of a listing by their numbers, without its total."""
+    return {int(number): rule_of(words) for _, number, *words in map(str.split, lines)}
+
+
 @dataclass
 class Listing:
-    """The lines of a listing, the number of its line, and how many lines before it changed something."""
+    """The lines of a listing, the number of its line, how many lines before it changed something, and the rules in force there."""
 
     lines: list[str]
     number: int
     changes: int
+    rules: dict[int, Rule]
 
 
 @dataclass
@@ -146,14 +157,16 @@ class Ending:
     def done(self, words: list[str], answer: Answer) -> None:
         """Takes a line that was done."""
         last = answer.reply[-1].split()
+        if words[0] == 'rules':
+            self.rules = rules_of(answer.reply[:-1])
         if words[0] in LISTINGS:
-            self.listings[words[0]] = Listing(answer.reply[:-1], answer.number, self.changes)
+            self.listings[words[0]] = Listing(answer.reply[:-1], answer.number, self.changes, dict(self.rules))
             return
         self.changes += 1
         if words[0] == 'class':
             self.classes[words[1]] = words[2]
         elif words[0] == 'rule':
-            self.rules[int(last[1])] = Rule(words[1], words[2], words[3] if len(words) > 3 else '')
+            self.rules[int(last[1])] = rule_of(words[1:])
         elif words[0] == 'droprule':
             self.rules.pop(int(words[1]), None)
         elif words[0] == 'by' and words[2] == 'add':
@@ -176,9 +189,9 @@ class Ending:
 
 
 def ending_of(script: str, replies: str) -> Ending:
-    """What stands at the end of a script, by the files of its lines and of its replies."""
+    """What stands at the end of a script, by the files of its lines and of its replies; `-` is standard input."""
     ending = Ending()
-    with open(script, 'rb') as lines, open(replies, 'rb') as said:
+    with open(script, 'rb') as lines, open(0 if replies == '-' else replies, 'rb') as said:
         for answer in answers_of(lines, said):
             ending.take(answer)
     return ending

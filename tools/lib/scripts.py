@@ -7,6 +7,7 @@ import re
 from fractions import Fraction
 from typing import Iterator, NamedTuple, Optional
 
+from .bodies import common
 from .grid import REACH, Grid, Place, decimal_text
 from .ogr import KINDS, Feature, Geometry, Layer, features_of, geometry_of, number_of
 from .shapes import Shape, fault_of, kept, segments_of, shape_text
@@ -111,18 +112,7 @@ class Converter:
         i, j = map(int, numbers)
         s, t = segments_of(shape.parts)[i], segments_of(shape.parts)[j]
         how = 'cross' if word == 'cross' else 'run along each other'
-        return 'its segments %d and %d %s at %s' % (i, j, how, self.point_text(meeting(s, t)))
-
-
-def meeting(s: tuple[Place, Place], t: tuple[Place, Place]) -> tuple[Fraction, Fraction]:
-    """A point of both segments, which clash."""
-    (a, b), (c, d) = s, t
-    dx, dy, ex, ey = b[0] - a[0], b[1] - a[1], d[0] - c[0], d[1] - c[1]
-    across = dx * ey - dy * ex
-    if across == 0:
-        return tuple(map(Fraction, max(min(s), min(t))))
-    along = Fraction((c[0] - a[0]) * ey - (c[1] - a[1]) * ex, across)
-    return a[0] + along * dx, a[1] + along * dy
+        return 'its segments %d and %d %s at %s' % (i, j, how, self.point_text(common(s, t)[0]))
 
 
 def remark_of(feature: Feature) -> str:

@@ -4,6 +4,7 @@ from __future__ import annotations
 from typing import Iterator, NamedTuple, Optional
 
 from .grid import Place
+from .outlines import turn
 
 MOST_VERTICES = 2000
 
@@ -30,11 +31,6 @@ def kept(vertices: List, is_ring: bool) -> List:
 def segments_of(parts: list[Part]) -> list[Segment]:
     """The segments of a polygon, ring by ring."""
     return [pair for part in parts for ring in part for pair in zip(ring, ring[1:] + ring[:1])]
-
-
-def turn(p: Place, q: Place, r: Place) -> int:
-    """Over 0 where r lies left of the way from p to q, 0 where it lies on their line."""
-    return (q[0] - p[0]) * (r[1] - p[1]) - (q[1] - p[1]) * (r[0] - p[0])
 
 
 def clash_of(s: Segment, t: Segment) -> Optional[str]:

@@ -22,7 +22,7 @@ class Installed(Case):
     def used(self, root: str) -> None:
         """Goes from a GeoPackage to layers with what is installed below the root."""
         lib, share = os.path.join(root, 'usr/lib/topo'), os.path.join(root, 'usr/share')
-        words = {name: os.path.join(lib, name) for name in ('from-ogr', 'to-gis', 'answers', 'draw', 'tiles')}
+        words = {name: os.path.join(lib, name) for name in ('from-ogr', 'to-gis', 'answers', 'draw', 'report', 'tiles')}
         self.assertEqual(self.run_words([os.path.join(share, 'doc/topo/examples/make_parcels'), 'p.gpkg']).status, 0)
         script = self.run_words([words['from-ogr'], 'p.gpkg', '--grid', '0.001', '--rule', 'polygon_must_not_overlap', 'parcels']).out
         replies = self.run_words([os.path.join(root, 'usr/bin/topo'), 'replay'], script.encode()).out
@@ -31,6 +31,7 @@ class Installed(Case):
                 out.write(text)
         self.assertIn('3 errors', self.run_words([words['to-gis'], 'p.topo', 'p.replies', 'e.gpkg']).told)
         self.assertEqual(self.run_words([words['answers'], 'p.topo', 'p.replies']).status, 0)
+        self.assertEqual(self.run_words([words['report'], 'p.topo', 'p.replies']).out.count(',error,'), 3)
         self.assertEqual(self.run_words([words['draw'], '--html', os.path.join(root, 'usr/bin/topo'), 'p.topo', 'p.html']).status, 0)
         self.assertEqual(self.run_words([words['tiles'], 'merge', '.']).status, 0)
         for name in words:

@@ -1,16 +1,15 @@
 -- What every topology of the rules keeps is the invariant of a run's states; and with no dirt it is told exactly everywhere.
-use Rattle.std.proofs.Common.{◌≡◌, List, [], map, sym, subst, ap, ◌∙◌}
-use Rattle.topology_terms.specs.Meaning.{Meaning, Laws}
+use Rattle.std.proofs.Common.{◌≡◌, List, [], sym, subst, ap, ◌∙◌}
+use Rattle.topology_terms.specs.Meaning.{Laws}
 use Rattle.topology_terms.specs.Poster.{poster}
 use Rattle.topology_terms.specs.Project.{Project, empty_project}
-use Rattle.topology_terms.specs.Scratch.{unmarked, IsFromScratch}
 use Rattle.topology_terms.specs.Settled.{IsSettled}
 use Rattle.topology_terms.specs.Sound.{IsSound}
-use Rattle.sound_laws.proofs.Scratch.{settled_scratch}
 use Rattle.sound_laws.proofs.Settling.{clean_points, clean_live, clean_whole}
 use Rattle.topo_core.specs.Topologies.{IsTopology}
 use Rattle.script_terms.specs.Headline.{Headline, Invariant, IsExact}
 use Rattle.script_terms.proofs.Runs.{empty_keeps}
+use Rattle.command_answers.proofs.FromScratch.{scratch}
 use Rattle.session_terms.specs.Kept.{KeptSession}
 use Rattle.command_answers.specs.Worlds.{state_of, IsWorld}
 use Rattle.script_terms.specs.State.{empty_state}
@@ -27,22 +26,6 @@ headline p t s = record {
   ruled = t.made.ruled;
   by_key = t.order;
 }
-
--- the rules by their cuttings alone, whatever the features
-abbrev by_cuttings : Meaning
-by_cuttings = record {
-  Fits = λ row F. Unit {0};
-  BrokenAt = poster.BrokenAt;
-  BrokenWhole = poster.BrokenWhole;
-  IsCutting =
-      poster.IsCutting;
-}
-
-scratch : (p : Project) → IsTopology p → IsSettled p → p.dirt ≡ [] → IsFromScratch poster p (map unmarked p.entries)
-scratch p t k clean =
-    let s = settled_scratch by_cuttings p (record { fits = λ n row e. tt; made = t.made }) (record { cut = k.cut; frames = k.frames })
-    t.order clean in
-    record { ascending = s.ascending; bare = s.bare; anew = s.anew }
 
 pub invariant : (p : Project) → IsTopology p → IsSound p → IsSettled p → Invariant p
 invariant p t s k = record { sound = s; settled = k; headline = headline p t s; scratch = scratch p t k }

@@ -4,6 +4,7 @@ pub mod Sessions
 pub mod Noting
 pub mod Answering
 pub mod SessionLines
+pub mod FromScratch
 pub mod Headlines
 pub mod OneAnswer
 pub mod Replying

@@ -24,8 +24,8 @@ pub fn one_answer_law()
 }
 
 impl World {
-    /// Does what the command asks for, and answers what the reply says; a listing lists the state as it is then. After want
-    /// of memory nothing has changed, but that of a discard the last steps may be undone, and its session is open.
+    /// Does what the command asks for, and answers what the reply says; a listing lists the state as it is then. If memory
+    /// runs out, nothing has changed, except that the last steps of a discard may be undone, and its session stays open.
     pub fn answer(&mut self, command: Command) -> Result<Reply, NoMemory>
         ensures { IfOk result (λ r. Answers self.old (command_of command) (said_of self.new.project r) self.new) }
     {

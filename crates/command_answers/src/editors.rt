@@ -75,7 +75,7 @@ impl World {
         reply_to_session(self.sessions.end(editor))
     }
 
-    /// `discard EDITOR`. After want of memory the session's last steps are undone, and it is open.
+    /// `discard EDITOR`. If memory runs out, the session's last steps may be undone, and it stays open.
     pub(crate) fn answer_discard(&mut self, editor: &Name) -> Result<Reply, NoMemory>
         ensures { IfOk result (λ r. Answers self.old (Discard editor.now) (said_of self.new.project r) self.new) }
     {

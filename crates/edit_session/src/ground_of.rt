@@ -18,7 +18,7 @@ pub trait Ground {
 
     ghost same: { Self → Self → Type 0 };
 
-    /// Exchanges the live feature of this handle, or its absence, with the kept one. After a refusal, want of memory,
+    /// Exchanges the live feature of this handle, or its absence, with the kept one. The one refusal is out of memory, and then
     /// nothing has changed.
     fn swap(&mut self, handle: u32, kept: &mut Option<Feature>) -> Result<(), NoMemory>
         requires may { may_stand self.old handle kept.old }

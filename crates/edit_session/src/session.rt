@@ -116,7 +116,7 @@ impl Session {
         Ok(())
     }
 
-    /// Undoes the last done step on the ground. After a refusal, want of memory, nothing has changed.
+    /// Undoes the last done step on the ground. If memory runs out, nothing has changed.
     pub fn undo<G: Ground>(&mut self, ground: &mut G) -> Result<(), NoMemory>
         requires some { self.old.done ≢ [] }
         requires may { MayAll (G.may_stand ground.old) self.old }
@@ -142,7 +142,7 @@ impl Session {
         Ok(())
     }
 
-    /// Does the first undone step again on the ground. After a refusal, want of memory, nothing has changed.
+    /// Does the first undone step again on the ground. If memory runs out, nothing has changed.
     pub fn redo<G: Ground>(&mut self, ground: &mut G) -> Result<(), NoMemory>
         requires some { self.old.undone ≢ [] }
         requires may { MayAll (G.may_stand ground.old) self.old }
@@ -155,7 +155,7 @@ impl Session {
         Ok(())
     }
 
-    /// Undoes all done steps on the ground, the last one first. After a refusal, want of memory, the last ones are undone.
+    /// Undoes all done steps on the ground, the last one first. If memory runs out, the last ones may be undone.
     pub fn undo_all<G: Ground>(&mut self, ground: &mut G) -> Result<(), NoMemory>
         requires may { MayAll (G.may_stand ground.old) self.old }
         ensures done { OnOk result (AreUndoneOn G.swapped self.old.done self.old self.new ground.old ground.new) }

@@ -137,7 +137,7 @@ impl Sessions {
     }
 
     /// Undoes the done steps of the session of this editor on the ground, the last one first, and ends it. Refused where
-    /// there is no such session. After want of memory the last ones are undone, and the session is open.
+    /// there is no such session. If memory runs out, the last ones may be undone, and the session stays open.
     pub fn discard<G: Ground>(&mut self, name: &Name, ground: &mut G) -> Result<(), SessionFault>
         requires may { MayNamed (G.may_stand ground.old) name.now self.old }
         ensures done { OnOk result (IsDiscarded G.swapped name.now self.old self.new ground.old ground.new) }

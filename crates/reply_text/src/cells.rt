@@ -1,8 +1,9 @@
-ghost use Rattle.std.specs.Prelude.{◌≡◌, ◌≤◌, ◌<◌, ◌++◌, map, flat_map, length, drop, OnOk};
+ghost use Rattle.std.specs.Prelude.{◌≡◌, ◌≤◌, ◌<◌, ◌++◌, map, flat_map, length, drop};
 ghost use Rattle.plane_terms.specs.HalfPlane.{HalfPlane};
 ghost use Rattle.text_terms.specs.Wkt.{listed};
 ghost use Rattle.wkt_laws.specs.Commas.{comma_texts};
 ghost use Rattle.script_terms.specs.Reply.{half_text, op_text, cell_line, entry_lines, total_line};
+ghost use Rattle.wkt_text.specs.Appended.{Appends};
 
 use crate::errors::push_entry_line;
 use crate::numbers::{push_number, push_text, push_total};
@@ -21,7 +22,7 @@ fn op_word(op: Op) -> &'static [u8]
 }
 
 fn push_half(out: &mut Vec<u8>, half: &Half) -> Result<(), NoMemory>
-    ensures { OnOk result (out.new.items ≡ out.old.items ++ half_text half.now) }
+    ensures { Appends result out.old.items out.new.items (half_text half.now) }
 {
     push_number(out, half.a())?;
     push_text(out, b" ")?;
@@ -29,12 +30,13 @@ fn push_half(out: &mut Vec<u8>, half: &Half) -> Result<(), NoMemory>
     push_text(out, b" ")?;
     push_number(out, half.c())?;
     push_text(out, b" ")?;
-    push_text(out, op_word(half.op()))
+    push_text(out, op_word(half.op()))?;
+    Ok(())
 }
 
 // The half-planes behind the first, each behind a comma.
 fn push_more_halves(out: &mut Vec<u8>, cell: &Cell) -> Result<(), NoMemory>
-    ensures { OnOk result (out.new.items ≡ out.old.items ++ comma_texts half_text (drop 1 cell.now)) }
+    ensures { Appends result out.old.items out.new.items (comma_texts half_text (drop 1 cell.now)) }
 {
     for i in 1..cell.len() {
         push_text(out, b", ")?;
@@ -45,25 +47,27 @@ fn push_more_halves(out: &mut Vec<u8>, cell: &Cell) -> Result<(), NoMemory>
 
 // The half-planes with commas between them.
 fn push_halves(out: &mut Vec<u8>, cell: &Cell) -> Result<(), NoMemory>
-    ensures { OnOk result (out.new.items ≡ out.old.items ++ listed (map {A = HalfPlane} half_text cell.now)) }
+    ensures { Appends result out.old.items out.new.items (listed (map {A = HalfPlane} half_text cell.now)) }
 {
     if cell.len() == 0 {
         return Ok(());
     }
     push_half(out, &cell.half(0))?;
-    push_more_halves(out, cell)
+    push_more_halves(out, cell)?;
+    Ok(())
 }
 
 fn push_cell_line(out: &mut Vec<u8>, cell: &Cell) -> Result<(), NoMemory>
-    ensures { OnOk result (out.new.items ≡ out.old.items ++ cell_line cell.now) }
+    ensures { Appends result out.old.items out.new.items (cell_line cell.now) }
 {
     push_text(out, b"cell ")?;
     push_halves(out, cell)?;
-    push_text(out, b"\n")
+    push_text(out, b"\n")?;
+    Ok(())
 }
 
 fn push_cell_lines(out: &mut Vec<u8>, cells: &Cells) -> Result<(), NoMemory>
-    ensures { OnOk result (out.new.items ≡ out.old.items ++ flat_map cell_line cells.now) }
+    ensures { Appends result out.old.items out.new.items (flat_map cell_line cells.now) }
 {
     for i in 0..cells.len() {
         push_cell_line(out, cells.cell(i))?;
@@ -73,14 +77,15 @@ fn push_cell_lines(out: &mut Vec<u8>, cells: &Cells) -> Result<(), NoMemory>
 
 // The line of an error and those of its cells.
 pub fn push_with_cells(out: &mut Vec<u8>, entry: &Entry) -> Result<(), NoMemory>
-    ensures { OnOk result (out.new.items ≡ out.old.items ++ entry_lines entry.now) }
+    ensures { Appends result out.old.items out.new.items (entry_lines entry.now) }
 {
     push_entry_line(out, entry)?;
-    push_cell_lines(out, entry.cells())
+    push_cell_lines(out, entry.cells())?;
+    Ok(())
 }
 
 fn push_all_with_cells(out: &mut Vec<u8>, entries: &[Entry]) -> Result<(), NoMemory>
-    ensures { OnOk result (out.new.items ≡ out.old.items ++ flat_map entry_lines entries.now) }
+    ensures { Appends result out.old.items out.new.items (flat_map entry_lines entries.now) }
 {
     for entry in entries {
         push_with_cells(out, entry)?;
@@ -90,8 +95,9 @@ fn push_all_with_cells(out: &mut Vec<u8>, entries: &[Entry]) -> Result<(), NoMem
 
 /// Appends the line of each error, in the order of their keys, and behind it those of its cells; then the number of errors.
 pub fn push_cell_list(out: &mut Vec<u8>, errors: &Errors) -> Result<(), NoMemory>
-    ensures { OnOk result (out.new.items ≡ out.old.items ++ (flat_map entry_lines errors.now ++ total_line (length errors.now))) }
+    ensures { Appends result out.old.items out.new.items (flat_map entry_lines errors.now ++ total_line (length errors.now)) }
 {
     push_all_with_cells(out, errors.entries())?;
-    push_total(out, errors.len())
+    push_total(out, errors.len())?;
+    Ok(())
 }

@@ -1,5 +1,6 @@
-ghost use Rattle.std.specs.Prelude.{◌≡◌, ◌++◌, flat_map, length, OnOk};
+ghost use Rattle.std.specs.Prelude.{◌≡◌, ◌++◌, flat_map, length};
 ghost use Rattle.script_terms.specs.Reply.{mark_text, key_text, extent_text, entry_line, total_line};
+ghost use Rattle.wkt_text.specs.Appended.{Appends};
 
 use crate::numbers::{push_number, push_rect, push_text, push_total};
 use error_store::{Entry, Errors};
@@ -19,29 +20,31 @@ fn extent_word(whole: bool) -> &'static [u8]
 
 // Rule, subject and partner.
 fn push_key(out: &mut Vec<u8>, entry: &Entry) -> Result<(), NoMemory>
-    ensures { OnOk result (out.new.items ≡ out.old.items ++ key_text entry.now) }
+    ensures { Appends result out.old.items out.new.items (key_text entry.now) }
 {
     let key = entry.key();
     push_number(out, key.rule)?;
     push_text(out, b" ")?;
     push_number(out, key.subject)?;
     push_text(out, b" ")?;
-    push_number(out, key.other)
+    push_number(out, key.other)?;
+    Ok(())
 }
 
 /// Appends the line of an error: its mark, its key, its extent and its frame.
 pub fn push_entry_line(out: &mut Vec<u8>, entry: &Entry) -> Result<(), NoMemory>
-    ensures { OnOk result (out.new.items ≡ out.old.items ++ entry_line entry.now) }
+    ensures { Appends result out.old.items out.new.items (entry_line entry.now) }
 {
     push_text(out, mark_word(entry.marked()))?;
     push_key(out, entry)?;
     push_text(out, extent_word(entry.whole()))?;
     push_rect(out, &entry.frame())?;
-    push_text(out, b"\n")
+    push_text(out, b"\n")?;
+    Ok(())
 }
 
 fn push_entry_lines(out: &mut Vec<u8>, entries: &[Entry]) -> Result<(), NoMemory>
-    ensures { OnOk result (out.new.items ≡ out.old.items ++ flat_map entry_line entries.now) }
+    ensures { Appends result out.old.items out.new.items (flat_map entry_line entries.now) }
 {
     for entry in entries {
         push_entry_line(out, entry)?;
@@ -51,8 +54,9 @@ fn push_entry_lines(out: &mut Vec<u8>, entries: &[Entry]) -> Result<(), NoMemory
 
 /// Appends a line for each error, in the order of their keys, and their number.
 pub fn push_error_list(out: &mut Vec<u8>, errors: &Errors) -> Result<(), NoMemory>
-    ensures { OnOk result (out.new.items ≡ out.old.items ++ (flat_map entry_line errors.now ++ total_line (length errors.now))) }
+    ensures { Appends result out.old.items out.new.items (flat_map entry_line errors.now ++ total_line (length errors.now)) }
 {
     push_entry_lines(out, errors.entries())?;
-    push_total(out, errors.len())
+    push_total(out, errors.len())?;
+    Ok(())
 }

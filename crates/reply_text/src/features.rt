@@ -1,5 +1,6 @@
-ghost use Rattle.std.specs.Prelude.{◌≡◌, ◌++◌, flat_map, length, OnOk};
+ghost use Rattle.std.specs.Prelude.{◌++◌, flat_map, length};
 ghost use Rattle.script_terms.specs.Reply.{class_name, feature_line, total_line};
+ghost use Rattle.wkt_text.specs.Appended.{Appends};
 
 use crate::numbers::{push_number, push_text, push_total};
 use feature_store::Store;
@@ -9,7 +10,7 @@ use wkt_text::write_wkt;
 
 /// Appends the name of the class of this number; nothing where there is none.
 pub fn push_class_name(out: &mut Vec<u8>, store: &Store, class: u16) -> Result<(), NoMemory>
-    ensures { OnOk result (out.new.items ≡ out.old.items ++ class_name store.now.classes class) }
+    ensures { Appends result out.old.items out.new.items (class_name store.now.classes class) }
 {
     match store.class_name(class) {
         Some(name) => push_text(out, name.bytes()),
@@ -18,7 +19,7 @@ pub fn push_class_name(out: &mut Vec<u8>, store: &Store, class: u16) -> Result<(
 }
 
 fn push_feature_line(out: &mut Vec<u8>, store: &Store, feature: &Feature) -> Result<(), NoMemory>
-    ensures { OnOk result (out.new.items ≡ out.old.items ++ feature_line store.now.classes feature.now) }
+    ensures { Appends result out.old.items out.new.items (feature_line store.now.classes feature.now) }
 {
     push_text(out, b"feature ")?;
     push_number(out, feature.handle())?;
@@ -26,7 +27,8 @@ fn push_feature_line(out: &mut Vec<u8>, store: &Store, feature: &Feature) -> Res
     push_class_name(out, store, feature.class())?;
     push_text(out, b" ")?;
     write_wkt(feature.shape(), out)?;
-    push_text(out, b"\n")
+    push_text(out, b"\n")?;
+    Ok(())
 }
 
 fn push_feature_lines(
@@ -34,7 +36,7 @@ fn push_feature_lines(
     store: &Store,
     features: &[Feature],
 ) -> Result<(), NoMemory>
-    ensures { OnOk result (out.new.items ≡ out.old.items ++ flat_map (feature_line store.now.classes) features.now) }
+    ensures { Appends result out.old.items out.new.items (flat_map (feature_line store.now.classes) features.now) }
 {
     for feature in features {
         push_feature_line(out, store, feature)?;
@@ -44,8 +46,9 @@ fn push_feature_lines(
 
 /// Appends a line for each live feature, in the order of their handles, and their number.
 pub fn push_feature_list(out: &mut Vec<u8>, store: &Store) -> Result<(), NoMemory>
-    ensures { OnOk result (out.new.items ≡ out.old.items ++ (flat_map (feature_line store.now.classes) store.now.features ++ total_line (length store.now.features))) }
+    ensures { Appends result out.old.items out.new.items (flat_map (feature_line store.now.classes) store.now.features ++ total_line (length store.now.features)) }
 {
     push_feature_lines(out, store, store.features())?;
-    push_total(out, store.len())
+    push_total(out, store.len())?;
+    Ok(())
 }

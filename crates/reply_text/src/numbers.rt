@@ -1,12 +1,12 @@
-ghost use Rattle.std.specs.Prelude.{◌≡◌, ◌++◌, OnOk};
 ghost use Rattle.script_terms.specs.Reply.{rect_text, total_line};
+ghost use Rattle.wkt_text.specs.Appended.{Appends};
 
 use grid_plane::{NoMemory, Rect};
 use itoa::{Buffer, Integer};
 
 /// Appends these bytes.
 pub fn push_text(out: &mut Vec<u8>, text: &[u8]) -> Result<(), NoMemory>
-    ensures { OnOk result (out.new.items ≡ out.old.items ++ text.now) }
+    ensures { Appends result out.old.items out.new.items text.now }
 {
     out.extend_from_slice(text)?;
     Ok(())
@@ -14,15 +14,16 @@ pub fn push_text(out: &mut Vec<u8>, text: &[u8]) -> Result<(), NoMemory>
 
 /// Appends the number as a decimal, behind `-` where it is negative.
 pub fn push_number<N: Integer>(out: &mut Vec<u8>, number: N) -> Result<(), NoMemory>
-    ensures { OnOk result (out.new.items ≡ out.old.items ++ N.text number) }
+    ensures { Appends result out.old.items out.new.items (N.text number) }
 {
     let mut buffer = Buffer::new();
-    push_text(out, buffer.format(number).as_bytes())
+    push_text(out, buffer.format(number).as_bytes())?;
+    Ok(())
 }
 
 /// Appends the rectangle: least corner, then greatest corner, in grid units.
 pub fn push_rect(out: &mut Vec<u8>, r: &Rect) -> Result<(), NoMemory>
-    ensures { OnOk result (out.new.items ≡ out.old.items ++ rect_text r.now) }
+    ensures { Appends result out.old.items out.new.items (rect_text r.now) }
 {
     push_number(out, r.x0())?;
     push_text(out, b" ")?;
@@ -30,14 +31,16 @@ pub fn push_rect(out: &mut Vec<u8>, r: &Rect) -> Result<(), NoMemory>
     push_text(out, b" ")?;
     push_number(out, r.x1())?;
     push_text(out, b" ")?;
-    push_number(out, r.y1())
+    push_number(out, r.y1())?;
+    Ok(())
 }
 
 /// Appends the last line of a listing.
 pub fn push_total(out: &mut Vec<u8>, total: usize) -> Result<(), NoMemory>
-    ensures { OnOk result (out.new.items ≡ out.old.items ++ total_line total) }
+    ensures { Appends result out.old.items out.new.items (total_line total) }
 {
     push_text(out, b"total ")?;
     push_number(out, total)?;
-    push_text(out, b"\n")
+    push_text(out, b"\n")?;
+    Ok(())
 }

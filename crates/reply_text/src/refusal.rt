@@ -1,7 +1,7 @@
-ghost use Rattle.std.specs.Prelude.{◌≡◌, ◌++◌, OnOk};
 ghost use Rattle.script_terms.specs.Refusal.{HeldBy, refusal_text, cause_code, line_refusal_text, shape_fault_text, with_number, with_pair};
 ghost use Rattle.line_terms.specs.declared.line_refusal.LineRefusal.TheVariants.{Invalid};
 ghost use Rattle.reply_text.specs.Replies.{refusal_of};
+ghost use Rattle.wkt_text.specs.Appended.{Appends};
 
 use crate::numbers::{push_number, push_text};
 use grid_plane::{Name, NoMemory};
@@ -31,26 +31,28 @@ pub enum Refusal {
 }
 
 fn push_with_number(out: &mut Vec<u8>, word: &[u8], number: u32) -> Result<(), NoMemory>
-    ensures { OnOk result (out.new.items ≡ out.old.items ++ with_number word.now number) }
+    ensures { Appends result out.old.items out.new.items (with_number word.now number) }
 {
     push_text(out, word)?;
     push_text(out, b" ")?;
-    push_number(out, number)
+    push_number(out, number)?;
+    Ok(())
 }
 
 fn push_with_pair(out: &mut Vec<u8>, word: &[u8], i: u32, j: u32) -> Result<(), NoMemory>
-    ensures { OnOk result (out.new.items ≡ out.old.items ++ with_pair word.now i j) }
+    ensures { Appends result out.old.items out.new.items (with_pair word.now i j) }
 {
     push_text(out, word)?;
     push_text(out, b" ")?;
     push_number(out, i)?;
     push_text(out, b" ")?;
-    push_number(out, j)
+    push_number(out, j)?;
+    Ok(())
 }
 
-// What is wrong with a shape; want of memory is no line's fault.
+// What is wrong with a shape; out of memory is no line's fault.
 fn push_shape_fault(out: &mut Vec<u8>, fault: ShapeFault) -> Result<(), NoMemory>
-    ensures { OnOk result (out.new.items ≡ out.old.items ++ shape_fault_text fault) }
+    ensures { Appends result out.old.items out.new.items (shape_fault_text fault) }
 {
     match fault {
         ShapeFault::TooFew { part } => push_with_number(out, b"few", part),
@@ -62,14 +64,15 @@ fn push_shape_fault(out: &mut Vec<u8>, fault: ShapeFault) -> Result<(), NoMemory
 }
 
 fn push_invalid(out: &mut Vec<u8>, fault: ShapeFault) -> Result<(), NoMemory>
-    ensures { OnOk result (out.new.items ≡ out.old.items ++ line_refusal_text (Invalid fault)) }
+    ensures { Appends result out.old.items out.new.items (line_refusal_text (Invalid fault)) }
 {
     push_text(out, b"E18 ")?;
-    push_shape_fault(out, fault)
+    push_shape_fault(out, fault)?;
+    Ok(())
 }
 
 fn push_line_refusal(out: &mut Vec<u8>, refusal: LineRefusal) -> Result<(), NoMemory>
-    ensures { OnOk result (out.new.items ≡ out.old.items ++ line_refusal_text refusal) }
+    ensures { Appends result out.old.items out.new.items (line_refusal_text refusal) }
 {
     match refusal {
         LineRefusal::NotALine => push_text(out, b"E01"),
@@ -84,7 +87,7 @@ fn push_line_refusal(out: &mut Vec<u8>, refusal: LineRefusal) -> Result<(), NoMe
 }
 
 fn push_cause(out: &mut Vec<u8>, cause: Cause) -> Result<(), NoMemory>
-    ensures { OnOk result (out.new.items ≡ out.old.items ++ cause_code cause) }
+    ensures { Appends result out.old.items out.new.items (cause_code cause) }
 {
     match cause {
         Cause::ClassTaken => push_text(out, b"E03"),
@@ -103,15 +106,16 @@ fn push_cause(out: &mut Vec<u8>, cause: Cause) -> Result<(), NoMemory>
 }
 
 fn push_held_by(out: &mut Vec<u8>, name: &Name) -> Result<(), NoMemory>
-    ensures { OnOk result (out.new.items ≡ out.old.items ++ refusal_text (HeldBy name.now)) }
+    ensures { Appends result out.old.items out.new.items (refusal_text (HeldBy name.now)) }
 {
     push_text(out, b"E20 ")?;
-    push_text(out, name.bytes())
+    push_text(out, name.bytes())?;
+    Ok(())
 }
 
 /// Appends the code of the refusal and what stands behind it: the place of a number, the parts of a shape, the name of an editor.
 pub fn push_refusal(out: &mut Vec<u8>, refusal: &Refusal) -> Result<(), NoMemory>
-    ensures { OnOk result (out.new.items ≡ out.old.items ++ refusal_text (refusal_of refusal.now)) }
+    ensures { Appends result out.old.items out.new.items (refusal_text (refusal_of refusal.now)) }
 {
     match refusal {
         Refusal::Line(refusal) => push_line_refusal(out, *refusal),

@@ -1,6 +1,6 @@
-ghost use Rattle.std.specs.Prelude.{◌≡◌, ◌++◌, OnOk};
 ghost use Rattle.script_terms.specs.Reply.{Number, Judged, Refused, reply_text};
 ghost use Rattle.reply_text.specs.Replies.{refusal_of, said_of};
+ghost use Rattle.wkt_text.specs.Appended.{Appends};
 
 use crate::cells::push_cell_list;
 use crate::dirt::push_dirty_list;
@@ -38,15 +38,16 @@ pub enum Reply {
 }
 
 pub fn push_given(out: &mut Vec<u8>, number: u32) -> Result<(), NoMemory>
-    ensures { OnOk result (out.new.items ≡ out.old.items ++ reply_text (Number number)) }
+    ensures { Appends result out.old.items out.new.items (reply_text (Number number)) }
 {
     push_text(out, b"ok ")?;
     push_number(out, number)?;
-    push_text(out, b"\n")
+    push_text(out, b"\n")?;
+    Ok(())
 }
 
 pub fn push_judged(out: &mut Vec<u8>, summary: Summary) -> Result<(), NoMemory>
-    ensures { OnOk result (out.new.items ≡ out.old.items ++ reply_text (Judged summary.judged summary.errors summary.dirty)) }
+    ensures { Appends result out.old.items out.new.items (reply_text (Judged summary.judged summary.errors summary.dirty)) }
 {
     push_text(out, b"ok judged ")?;
     push_number(out, summary.judged)?;
@@ -54,25 +55,27 @@ pub fn push_judged(out: &mut Vec<u8>, summary: Summary) -> Result<(), NoMemory>
     push_number(out, summary.errors)?;
     push_text(out, b" dirty ")?;
     push_number(out, summary.dirty)?;
-    push_text(out, b"\n")
+    push_text(out, b"\n")?;
+    Ok(())
 }
 
 pub fn push_refused(out: &mut Vec<u8>, refusal: &Refusal) -> Result<(), NoMemory>
-    ensures { OnOk result (out.new.items ≡ out.old.items ++ reply_text (Refused (refusal_of refusal.now))) }
+    ensures { Appends result out.old.items out.new.items (reply_text (Refused (refusal_of refusal.now))) }
 {
     push_text(out, b"refused ")?;
     push_refusal(out, refusal)?;
-    push_text(out, b"\n")
+    push_text(out, b"\n")?;
+    Ok(())
 }
 
 /// Appends the text of a reply, each line with one LF at its end; a listing lists this topology. `NoMemory` comes where memory
-/// runs out: what then stands behind the old text is not specified.
+/// runs out: a front of the text is appended then, and the old text stays.
 pub fn push_reply<R: KindRules>(
     out: &mut Vec<u8>,
     topology: &Topology<R>,
     reply: &Reply,
 ) -> Result<(), NoMemory>
-    ensures { OnOk result (out.new.items ≡ out.old.items ++ reply_text (said_of topology.now reply.now)) }
+    ensures { Appends result out.old.items out.new.items (reply_text (said_of topology.now reply.now)) }
 {
     match reply {
         Reply::Nothing => Ok(()),

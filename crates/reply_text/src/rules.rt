@@ -1,5 +1,6 @@
-ghost use Rattle.std.specs.Prelude.{◌≡◌, ◌++◌, flat_map, length, OnOk};
+ghost use Rattle.std.specs.Prelude.{◌++◌, flat_map, length};
 ghost use Rattle.script_terms.specs.Reply.{dest_text, row_text, rule_line, total_line};
+ghost use Rattle.wkt_text.specs.Appended.{Appends};
 
 use crate::features::push_class_name;
 use crate::numbers::{push_number, push_text, push_total};
@@ -9,37 +10,40 @@ use rule_core::{InForce, RuleRow};
 
 // The name of the class that is second in a rule, behind a blank; nothing where the rule has none.
 fn push_dest(out: &mut Vec<u8>, store: &Store, dest: u16) -> Result<(), NoMemory>
-    ensures { OnOk result (out.new.items ≡ out.old.items ++ dest_text store.now.classes dest) }
+    ensures { Appends result out.old.items out.new.items (dest_text store.now.classes dest) }
 {
     if dest == 0 {
         return Ok(());
     }
     push_text(out, b" ")?;
-    push_class_name(out, store, dest)
+    push_class_name(out, store, dest)?;
+    Ok(())
 }
 
 // The word of the rule, and the names of its classes.
 fn push_row(out: &mut Vec<u8>, store: &Store, row: &RuleRow) -> Result<(), NoMemory>
-    ensures { OnOk result (out.new.items ≡ out.old.items ++ row_text store.now.classes row.now) }
+    ensures { Appends result out.old.items out.new.items (row_text store.now.classes row.now) }
 {
     push_text(out, row.kind.word().as_bytes())?;
     push_text(out, b" ")?;
     push_class_name(out, store, row.origin)?;
-    push_dest(out, store, row.dest)
+    push_dest(out, store, row.dest)?;
+    Ok(())
 }
 
 fn push_rule_line(out: &mut Vec<u8>, store: &Store, rule: &InForce) -> Result<(), NoMemory>
-    ensures { OnOk result (out.new.items ≡ out.old.items ++ rule_line store.now.classes rule.now) }
+    ensures { Appends result out.old.items out.new.items (rule_line store.now.classes rule.now) }
 {
     push_text(out, b"rule ")?;
     push_number(out, rule.number)?;
     push_text(out, b" ")?;
     push_row(out, store, &rule.row)?;
-    push_text(out, b"\n")
+    push_text(out, b"\n")?;
+    Ok(())
 }
 
 fn push_rule_lines(out: &mut Vec<u8>, store: &Store, rules: &[InForce]) -> Result<(), NoMemory>
-    ensures { OnOk result (out.new.items ≡ out.old.items ++ flat_map (rule_line store.now.classes) rules.now) }
+    ensures { Appends result out.old.items out.new.items (flat_map (rule_line store.now.classes) rules.now) }
 {
     for rule in rules {
         push_rule_line(out, store, rule)?;
@@ -49,8 +53,9 @@ fn push_rule_lines(out: &mut Vec<u8>, store: &Store, rules: &[InForce]) -> Resul
 
 /// Appends a line for each rule in force, in the order of their numbers, and how many there are. The classes are the store's.
 pub fn push_rule_list(out: &mut Vec<u8>, store: &Store, rules: &[InForce]) -> Result<(), NoMemory>
-    ensures { OnOk result (out.new.items ≡ out.old.items ++ (flat_map (rule_line store.now.classes) rules.now ++ total_line (length rules.now))) }
+    ensures { Appends result out.old.items out.new.items (flat_map (rule_line store.now.classes) rules.now ++ total_line (length rules.now)) }
 {
     push_rule_lines(out, store, rules)?;
-    push_total(out, rules.len())
+    push_total(out, rules.len())?;
+    Ok(())
 }

@@ -22,7 +22,7 @@ fn report_bytes(alloc: Global, rules: &[InForce], entries: &[Entry]) -> Result<V
 }
 
 /// Appends the report of the errors: the header, and one record an error in the order of their keys, each with one LF at its
-/// end. The rules give each error the word of its rule. After an `Err`, want of memory, nothing is appended.
+/// end. The rules give each error the word of its rule. If memory runs out, nothing is appended.
 pub fn push_report(
     alloc: Global,
     out: &mut Vec<u8>,

@@ -13,7 +13,7 @@ use rule_core::InForce;
 use std::alloc::Global;
 use std::io::Write;
 
-// A record of fields that need no quotes. The one refusal that a writer into memory has left is want of memory.
+// A record of fields that need no quotes. The one refusal that a writer into memory has left is out of memory.
 fn write_row<W: Write + Drop>(writer: &mut Writer<W>, row: &ByteRecord) -> Result<(), NoMemory>
     requires ready { IsReady writer.old }
     requires plain { IsPlainRow (fields_of row.now) }

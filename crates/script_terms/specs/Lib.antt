@@ -4,6 +4,7 @@ pub mod Report
 pub mod State
 pub mod Refusing
 pub mod Answer
+pub mod Scratch
 pub mod Headline
 pub mod Keeping
 pub mod Restored

@@ -1,4 +1,4 @@
-// Tests of the plane's crates, by what they hand out: cells, columns, dirt, shapes.
+// Tests of the plane's crates, by what they hand out: cells, columns, dirt, the index, shapes.
 #![tactic(auto)]
 
 #[cfg(test)]
@@ -9,5 +9,7 @@ mod columns;
 mod dirt;
 #[cfg(test)]
 mod given;
+#[cfg(test)]
+mod index;
 #[cfg(test)]
 mod shapes;

@@ -2,6 +2,7 @@ mod Whole
 mod Kept
 mod Marking
 mod Exchanges
+mod Standing
 mod RuleLists
 mod Rows
 mod RulesMore

@@ -1,11 +1,17 @@
-ghost use Rattle.std.specs.Prelude.{◌≡◌, ◌≢◌, true, false, IfSome, OnOk, OnErr};
+ghost use Rattle.std.specs.Prelude.{◌≡◌, ◌≢◌, ◌↔◌, ◌⊎◌, true, false, Some, Contains, IfSome, OnOk, OnErr};
 ghost use Rattle.std.specs.Option.{option_map};
 ghost use Rattle.plane_terms.specs.Rectangle.{IsRectangle};
+ghost use Rattle.plane_terms.specs.Dirt.{add_dirt};
 ghost use Rattle.topology_terms.specs.Feature.{env, feature_at};
 ghost use Rattle.topology_terms.specs.Changes as changes;
+ghost use Rattle.feature_store.specs.Keeps.{IsStore};
+ghost use Rattle.grid_index.specs.declared.placed.Placed as terms;
+ghost use Rattle.validation.specs.Placed.{placed_of, ArePlaced};
 
+use crate::places::{kept_place, live_place, put_place, take_place};
 use dirty_area::Dirt;
 use feature_store::Store;
+use grid_index::{Index, Placed};
 use grid_plane::{NoMemory, Rect};
 use shape::{Feature, Shape};
 
@@ -28,17 +34,65 @@ fn kept_env(kept: &Option<Feature>) -> Option<Rect>
     }
 }
 
-/// Makes the envelope of what stands at the handle dirty, then that of what comes. After an `Err`, nothing has changed.
+/// Puts the place of what comes into the index, and makes the envelope of what stands at the handle dirty, then that of what
+/// comes. After an `Err`, want of memory, the dirt is as it was, and each live feature that stood in the index stands there.
 pub fn dirty_both(
     dirt: &mut Dirt,
+    index: &mut Index,
     store: &Store,
     handle: u32,
     kept: &Option<Feature>,
 ) -> Result<(), NoMemory>
+    requires { IfSome kept.now (λ f. f.handle ≡ handle) }
     ensures ok { OnOk result (dirt.new ≡ changes.add_envelope (changes.add_envelope dirt.old (feature_at store.now.features handle)) kept.now) }
+    ensures put { OnOk result ((q : terms.Placed) → Contains index.new q ↔ (Contains index.old q ⊎ (option_map placed_of kept.now ≡ Some q))) }
     ensures err { OnErr result (dirt.new ≡ dirt.old) }
+    ensures placed { OnErr result (ArePlaced index.old store.now.features → ArePlaced index.new store.now.features) }
 {
-    dirt.add_two(live_env(store, handle), kept_env(kept))
+    let comes = kept_place(kept);
+    put_place(index, &comes)?;
+    match dirt.add_two(live_env(store, handle), kept_env(kept)) {
+        Ok(()) => Ok(()),
+        Err(e) => {
+            take_place(index, &comes, &live_place(store, handle));
+            Err(e)
+        }
+    }
+}
+
+/// Puts the rectangle into the index under the next handle, and makes it dirty. After an `Err`, want of memory, the dirt is as
+/// it was, and each live feature that stood in the index stands there.
+pub fn dirty_next(
+    dirt: &mut Dirt,
+    index: &mut Index,
+    store: &Store,
+    env: Rect,
+) -> Result<(), NoMemory>
+    ensures ok { OnOk result (dirt.new ≡ add_dirt dirt.old env) }
+    ensures put { OnOk result ((q : terms.Placed) → Contains index.new q ↔ (Contains index.old q ⊎ (q ≡ record { rect = env; handle = store.now.next }))) }
+    ensures err { OnErr result (dirt.new ≡ dirt.old) }
+    ensures placed { OnErr result (ArePlaced index.old store.now.features → ArePlaced index.new store.now.features) }
+{
+    let place = Placed {
+        rect: env,
+        handle: store.next_handle(),
+    };
+    index.put(place)?;
+    match dirt.add(env) {
+        Ok(()) => Ok(()),
+        Err(e) => {
+            store_law(store);
+            index.take(&place);
+            Err(e)
+        }
+    }
+}
+
+/// The law of what a store keeps.
+pub fn store_law(store: &Store)
+    ensures { IsStore store.now.classes store.now.features store.now.next }
+{
+    store.features();
 }
 
 /// Whether the shape is of another kind than the feature's.

@@ -6,6 +6,7 @@ mod fitting;
 mod growth;
 mod kinds;
 mod no_rule;
+mod places;
 mod rule_fault;
 mod rules;
 mod topology;

@@ -7,7 +7,7 @@ ghost use Rattle.topology_terms.specs.Causes.{Tells, class_cause, add_cause, cha
 ghost use Rattle.topology_terms.specs.declared.cause.Cause.TheVariants as cause;
 ghost use Rattle.topology_terms.specs.Changes.{IsClassAdded, IsFeatureAdded, IsFeatureSet, IsRuleAdded, IsRuleDropped, IsMarked, reshaped};
 ghost use Rattle.error_store.specs.Marking.{fault_cause};
-ghost use Rattle.feature_store.specs.Keeps.{IsOfClass, IsStore};
+ghost use Rattle.feature_store.specs.Keeps.{IsOfClass};
 ghost use Rattle.feature_store.specs.Faults.{store_cause};
 ghost use Rattle.topo_core.specs.Faults.{edit_cause, row_cause, IsThereAt};
 ghost use Rattle.topo_core.specs.Topologies.{IsTopology};
@@ -15,14 +15,16 @@ ghost use Rattle.topo_core.specs.Steps.{IsCounted, IsCountWithin};
 
 use crate::fault::ChangeFault;
 use crate::fitting::fit;
-use crate::growth::{dirty_both, envelope_law, has_other_kind};
+use crate::growth::{dirty_both, dirty_next, envelope_law, has_other_kind, store_law};
 use crate::kinds::KindRules;
 use crate::no_rule::NoRule;
+use crate::places::{kept_place, live_place, take_place};
 use crate::rule_fault::RuleFault;
 use crate::rules::{drop_from, free_number, has_number, number_of_row, put_rule};
 use dirty_area::Dirt;
 use error_store::{Errors, Key, MarkFault};
 use feature_store::{Store, StoreFault};
+use grid_index::Index;
 use grid_plane::{Name, NoMemory, Rect};
 use rule_core::{InForce, RuleRow, Work};
 use shape::{Feature, Kind, Shape};
@@ -41,7 +43,8 @@ pub struct Summary {
     pub dirty: u64,
 }
 
-/// A topology: classes and features, rules in force, what is dirty, and the errors that were found.
+/// A topology: classes and features, rules in force, what is dirty, and the errors that were found. It keeps an index of where
+/// its features lie, which nothing shows.
 ///
 /// A call that answers an error leaves everything as it was. `NoMemory` may come of any call that may answer it.
 #[derive(Drop)]
@@ -49,6 +52,7 @@ pub struct Topology<R> {
     alloc: Global,
     judging: R,
     store: Store,
+    index: Index,
     rules: Vec<InForce>,
     dirt: Dirt,
     entries: Errors,
@@ -56,20 +60,13 @@ pub struct Topology<R> {
 
 impl<R> Model for Topology<R> {
     ghost use Rattle.topology_terms.specs.Project.{Project};
-    ghost use Rattle.topo_core.specs.Topologies.{project_of, IsTopology};
+    ghost use Rattle.topo_core.specs.Topologies.{project_of, IsIndexed};
 
     ghost Value = { Project };
 
     ghost view = { λ t. project_of t.store t.rules.items t.dirt t.entries };
 
-    ghost invariant = { λ t. IsTopology (project_of t.store t.rules.items t.dirt t.entries) };
-}
-
-// The law of what a store keeps.
-fn store_law(store: &Store)
-    ensures { IsStore store.now.classes store.now.features store.now.next }
-{
-    store.features();
+    ghost invariant = { λ t. IsIndexed (project_of t.store t.rules.items t.dirt t.entries) t.index };
 }
 
 impl<R: KindRules> Topology<R> {
@@ -83,6 +80,7 @@ impl<R: KindRules> Topology<R> {
             alloc,
             judging,
             store: Store::new(alloc),
+            index: Index::new(alloc),
             rules: Vec::new(alloc),
             dirt: Dirt::new(alloc),
             entries: Errors::new(alloc),
@@ -136,7 +134,7 @@ impl<R: KindRules> Topology<R> {
         env.corner_law();
         self.store.check_add(class, &shape)?;
         self.store.room()?;
-        self.dirt.add(env)?;
+        dirty_next(&mut self.dirt, &mut self.index, &self.store, env)?;
         let handle = self.store.add_in(class, shape);
         store_law(&self.store);
         Ok(handle)
@@ -221,9 +219,12 @@ impl<R: KindRules> Topology<R> {
         ensures same { OnErr result (kept.new ≡ kept.old) }
     {
         envelope_law(kept);
+        let stood = live_place(&self.store, handle);
+        let comes = kept_place(kept);
         self.store.room()?;
-        dirty_both(&mut self.dirt, &self.store, handle, kept)?;
+        dirty_both(&mut self.dirt, &mut self.index, &self.store, handle, kept)?;
         self.store.swap_in(handle, kept);
+        take_place(&mut self.index, &stood, &comes);
         store_law(&self.store);
         Ok(())
     }
@@ -290,6 +291,7 @@ impl<R: KindRules> Topology<R> {
             self.alloc,
             &self.rules,
             self.store.features(),
+            &self.index,
             &mut self.entries,
             &mut self.dirt,
             &window,

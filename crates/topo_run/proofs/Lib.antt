@@ -5,3 +5,4 @@ pub mod Texts
 pub mod Words
 pub mod OneRun
 pub mod Restores
+pub mod Towns

@@ -1,6 +1,6 @@
 -- A run goes on by one line, and ends.
 --
--- SoFar ..      a run over the lines that are done: the state it comes to, what of its text was written and what is pending
+-- SoFar ..      a run over the lines that are done: what of its text was written and what is pending
 -- begins, takes, flushed, ends, stops     what the loop needs of it, turn by turn
 use Rattle.std.proofs.Common.{ℕ, ◌≡◌, Bool, false, ◌||◌, List, [], ◌∷◌, ◌++◌, Option, refl, sym, ◌∙◌, ap, subst, append_assoc, append-nil, length, take, drop, ◌-◌, arith, rules}
 use Rattle.std.proofs.lemmas.List.{take-append-drop, take_all, length-drop}
@@ -12,29 +12,24 @@ use Rattle.script_terms.specs.Run.{Outcome, Step, Run, text_of, any_refused, las
 use Rattle.script_terms.specs.Headline.{Invariant}
 use Rattle.script_terms.proofs.Runs.{run_keeps, empty_keeps}
 use Rattle.topology_terms.specs.Project.{IsOrdered, empty_project}
+use Rattle.topo_run.specs.Told.{Course}
 use Rattle.topo_run.proofs.Stepping.{Takes}
 
 pub record SoFar (start : State) (all rest : List (List ℕ)) (now : State) (before written : Option (List ℕ)) (pending : List ℕ)
     (refused : Bool) : Type 0 where
-  pub done : List (List ℕ)
-  pub split : all ≡ done ++ rest
-  pub outcomes : List Outcome
-  pub run : Run start done outcomes
-  pub last : last_state start outcomes ≡ now
+  pub course : Course start all rest now refused
   pub front : List ℕ
-  pub text : text_of outcomes ≡ front ++ pending
+  pub text : text_of course.outcomes ≡ front ++ pending
   pub appended : Appends before written front
-  pub any : any_refused outcomes ≡ refused
-  pub invariant : EachInvariant start outcomes
 
-run_snoc : (s : State) (lines : List (List ℕ)) (os : List Outcome) (line : List ℕ) (o : Outcome) → Run s lines os
+pub run_snoc : (s : State) (lines : List (List ℕ)) (os : List Outcome) (line : List ℕ) (o : Outcome) → Run s lines os
     → Step (last_state s os) line o → Run s (lines ++ line ∷ []) (os ++ o ∷ [])
 run_snoc s [] [] line o run step = (step, tt)
 run_snoc s [] (p ∷ os) line o run step = absurd run
 run_snoc s (l ∷ lines) [] line o run step = absurd run
 run_snoc s (l ∷ lines) (p ∷ os) line o run step = (run.0, run_snoc p.after lines os line o run.1 step)
 
-last_snoc : (s : State) (os : List Outcome) (o : Outcome) → last_state s (os ++ o ∷ []) ≡ o.after
+pub last_snoc : (s : State) (os : List Outcome) (o : Outcome) → last_state s (os ++ o ∷ []) ≡ o.after
 last_snoc s [] o = refl
 last_snoc s (p ∷ os) o = last_snoc p.after os o
 
@@ -42,30 +37,51 @@ text_snoc : (os : List Outcome) (o : Outcome) → text_of (os ++ o ∷ []) ≡ t
 text_snoc [] o = append-nil o.text
 text_snoc (p ∷ os) o = ap (λ t. p.text ++ t) (text_snoc os o) ∙ sym (append_assoc p.text (text_of os) o.text)
 
-any_snoc : (os : List Outcome) (o : Outcome) → any_refused (os ++ o ∷ []) ≡ (any_refused os || o.refused)
+pub any_snoc : (os : List Outcome) (o : Outcome) → any_refused (os ++ o ∷ []) ≡ (any_refused os || o.refused)
 any_snoc [] o = search rules
 any_snoc (p ∷ os) o = grind (arith, any_snoc os o)
 
-invariant_snoc : (s : State) (os : List Outcome) (o : Outcome) → EachInvariant s os → Invariant o.after.project
+pub invariant_snoc : (s : State) (os : List Outcome) (o : Outcome) → EachInvariant s os → Invariant o.after.project
     → EachInvariant s (os ++ o ∷ [])
 invariant_snoc s [] o h k = (h, k)
 invariant_snoc s (p ∷ os) o h k = (h.0, invariant_snoc p.after os o h.1 k)
 
-pub begins : (start : State) (all : List (List ℕ)) (before : Option (List ℕ)) → Invariant start.project
-    → SoFar start all all start before before [] false
-begins start all before invariant = record {
+-- ---- the course of a run
+abbrev pub course_begins : (start : State) (all : List (List ℕ)) → Invariant start.project → Course start all all start false
+course_begins start all invariant = record {
   done = [];
   split = refl;
   outcomes = [];
   run = tt;
   last = refl;
-  front = [];
-  text =
-      refl;
-  appended = Appends-nil before;
   any = refl;
   invariant = invariant;
 }
+
+-- one line more was answered
+abbrev pub course_goes_on : {start now : State} {all : List (List ℕ)} {line : List ℕ} {rest : List (List ℕ)} {refused : Bool} {o : Outcome}
+    → Course start all (line ∷ rest) now refused → Step now line o → Invariant o.after.project
+    → Course start all rest o.after (refused || o.refused)
+course_goes_on {start} {now} {all} {line} {rest} {refused} {o} far step invariant = record {
+  done = far.done ++ line ∷ [];
+  split = far.split ∙ sym (append_assoc far.done (line ∷ []) rest);
+  outcomes = far.outcomes ++ o ∷ [];
+  run = run_snoc start far.done far.outcomes line o far.run (rw far.last step);
+  last = last_snoc start far.outcomes o;
+  any = rw (any_snoc far.outcomes o, far.any) refl;
+  invariant = invariant_snoc start far.outcomes o far.invariant invariant;
+}
+
+-- no line is left
+pub course_ends : {start now : State} {all lines : List (List ℕ)} {refused : Bool} (far : Course start all lines now refused) → lines ≡ []
+    → all ≡ far.done
+course_ends far none = rw (far.split, none, append-nil far.done) refl
+
+-- ---- what of its text was written
+pub begins : (start : State) (all : List (List ℕ)) (before : Option (List ℕ)) → Invariant start.project
+    → SoFar start all all start before before [] false
+begins start all before invariant =
+    record { course = course_begins start all invariant; front = []; text = refl; appended = Appends-nil before }
 
 -- a line was answered, and its reply is pending
 pub goes_on : {start now : State} {all : List (List ℕ)} {line : List ℕ} {rest : List (List ℕ)} {before written : Option (List ℕ)}
@@ -73,17 +89,11 @@ pub goes_on : {start now : State} {all : List (List ℕ)} {line : List ℕ} {res
     SoFar start all (line ∷ rest) now before written pending refused → Step now line o → Invariant o.after.project
     → more ≡ pending ++ o.text → SoFar start all rest o.after before written more (refused || o.refused)
 goes_on {start} {now} {all} {line} {rest} {before} {written} {pending} {more} {refused} {o} far step invariant grown = record {
-  done = far.done ++ line ∷ [];
-  split = far.split ∙ sym (append_assoc far.done (line ∷ []) rest);
-  outcomes = far.outcomes ++ o ∷ [];
-  run = run_snoc start far.done far.outcomes line o far.run (rw far.last step);
-  last = last_snoc start far.outcomes o;
+  course = course_goes_on {o = o} far.course step invariant;
   front = far.front;
-  text = text_snoc far.outcomes o ∙ (ap (λ t. t ++ o.text) far.text ∙ (append_assoc far.front pending o.text
+  text = text_snoc far.course.outcomes o ∙ (ap (λ t. t ++ o.text) far.text ∙ (append_assoc far.front pending o.text
       ∙ ap (λ t. far.front ++ t) (sym grown)));
   appended = far.appended;
-  any = rw (any_snoc far.outcomes o, far.any) refl;
-  invariant = invariant_snoc start far.outcomes o far.invariant invariant;
 }
 
 -- the first of what was pending was written, and this is pending still
@@ -92,16 +102,10 @@ pub flushed : {start now : State} {all rest : List (List ℕ)} {before written m
     SoFar start all rest now before written pending refused → pending ≡ part ++ left → Appends written mid part
     → SoFar start all rest now before mid left refused
 flushed {start} {now} {all} {rest} {before} {written} {mid} {pending} {left} {refused} part far split more = record {
-  done = far.done;
-  split = far.split;
-  outcomes = far.outcomes;
-  run = far.run;
-  last = far.last;
+  course = far.course;
   front = far.front ++ part;
   text = far.text ∙ (ap (λ t. far.front ++ t) split ∙ sym (append_assoc far.front part left));
   appended = Appends-trans before written mid far.front part far.appended more;
-  any = far.any;
-  invariant = far.invariant;
 }
 
 -- the same for a line and a reply as the calls tell them
@@ -121,30 +125,30 @@ pub ends : {now : State} {all lines : List (List ℕ)} {before written after : O
     SoFar empty_state all lines now before written pending refused → lines ≡ [] → bytes ≡ pending → Appends written after bytes
     → WritesRun empty_state all before after refused
 ends {now} {all} {lines} {before} {written} {after} {pending} {bytes} {refused} far none same more =
-    let run : Run empty_state all far.outcomes = rw (far.split, none, append-nil far.done) far.run in
+    let run : Run empty_state all far.course.outcomes = rw (course_ends far.course none) far.course.run in
     record {
-      outcomes = far.outcomes;
+      outcomes = far.course.outcomes;
       run = run;
       written = rw far.text (Appends-trans before written after far.front pending far.appended
           (subst (λ (t : List ℕ). Appends written after t) same more));
-      any = far.any;
-      invariant = far.invariant;
-      keeping = run_keeps empty_state all far.outcomes empty_keeps empty_ordered run;
+      any = far.course.any;
+      invariant = far.course.invariant;
+      keeping = run_keeps empty_state all far.course.outcomes empty_keeps empty_ordered run;
     }
 
 -- what was written so far is a prefix
 pub stops : {now : State} {all rest : List (List ℕ)} {before written : Option (List ℕ)} {pending : List ℕ} {refused : Bool}
     → SoFar empty_state all rest now before written pending refused → WritesPrefix empty_state all before written
 stops {now} {all} {rest} {before} {written} {pending} {refused} far = record {
-  first = far.done;
-  is_first = (rest, far.split);
-  outcomes = far.outcomes;
-  run = far.run;
+  first = far.course.done;
+  is_first = (rest, far.course.split);
+  outcomes = far.course.outcomes;
+  run = far.course.run;
   text = far.front;
   is_prefix = (pending, far.text);
   written = far.appended;
-  invariant = far.invariant;
-  keeping = run_keeps empty_state far.done far.outcomes empty_keeps empty_ordered far.run;
+  invariant = far.course.invariant;
+  keeping = run_keeps empty_state far.course.done far.course.outcomes empty_keeps empty_ordered far.course.run;
 }
 
 -- what holds anyway

@@ -1,56 +1,114 @@
--- A line that is read and answered is a step.
-use Rattle.std.proofs.Common.{◌≡◌, ℕ, Bool, true, List, ◌++◌, refl}
-use Rattle.topology_terms.specs.Project.{IsOrdered}
-use Rattle.line_terms.specs.Commands.{Command}
+-- A line that is read and answered is a step, and tries the pairs of which its reply tells.
+use Rattle.std.proofs.Common.{◌≡◌, ℕ, Bool, List, ◌++◌, refl, sym, ◌∙◌, ap, Option, Some, None}
+use Rattle.topology_terms.specs.Project.{Project, IsOrdered}
+use Rattle.line_terms.specs.Commands.{Command, Blank, Class, Rule, DropRule, Begin, End, Discard, Add, Change, Delete, Undo, Redo, Validate, Mark, Unmark, Dirty, Errors, Cells, Features, Rules}
 use Rattle.line_terms.specs.Lines.{IsCommandLine, IsLineFault}
 use Rattle.script_text.specs.Faults.{IsFault}
 use Rattle.script_text.specs.declared.fault.LineFault.{LineFault}
 use Rattle.script_text.specs.declared.fault.LineFault.TheVariants as fault
 use Rattle.line_terms.specs.declared.line_refusal.LineRefusal.{LineRefusal}
-use Rattle.script_terms.specs.Refusal.{Line}
-use Rattle.script_terms.specs.Reply.{Reply, Refused, reply_text}
+use Rattle.script_terms.specs.Refusal.{Refusal, Line}
+use Rattle.script_terms.specs.Refusing.{refusal_of}
+use Rattle.script_terms.specs.Reply.{Judged, Refused, reply_text}
+use Rattle.script_terms.specs.Reply as replies
 use Rattle.script_terms.specs.State.{State}
-use Rattle.script_terms.specs.Answer.{Answers}
+use Rattle.script_terms.specs.Answer.{Answers, IsDone, answers_by}
 use Rattle.script_terms.specs.Headline.{Invariant}
 use Rattle.script_terms.specs.Run.{Reads, Faulty, Step, is_refusal}
+use Rattle.reply_text.specs.declared.reply.Reply.{Reply}
+use Rattle.reply_text.specs.declared.reply.Reply.TheVariants as reply
+use Rattle.reply_text.specs.declared.refusal.Refusal.TheVariants as refusal
+use Rattle.reply_text.specs.Replies.{said_of}
+use Rattle.town_terms.specs.Ends.{Judges}
+use Rattle.topo_run.specs.Told.{IsReplyTo, judged_in}
 
 -- what a line does to what is gathered, and to the state
 abbrev pub Takes : State → List ℕ → List ℕ → List ℕ → Bool → State → Type 0
 Takes s line old new refused t = (text : List ℕ) × (new ≡ old ++ text) × Step s line (record { text = text; after = t; refused = refused })
     × Invariant t.project
 
-pub answers : (s t : State) (line old new : List ℕ) (c : Command) (reply : Reply) (refused : Bool) → IsCommandLine line c
-    → Answers s c reply t → IsOrdered t.project → Invariant t.project → new ≡ old ++ reply_text reply → refused ≡ is_refusal reply
-    → Takes s line old new refused t
-answers s t line old new c reply refused reads answer ordered invariant grown is = (
-  reply_text reply,
-  grown,
-  record {
+-- ---- how many pairs a command tries
+abbrev pub judged_said : replies.Reply → ℕ
+judged_said (Judged j e d) = j
+judged_said other = 0
+
+said_judged : (p : Project) (r : Reply) → judged_said (said_of p r) ≡ judged_in r
+said_judged p reply.Nothing = refl
+said_judged p reply.Done = refl
+said_judged p (reply.Number n) = refl
+said_judged p (reply.Judged s) = refl
+said_judged p (reply.Refused r) = refl
+said_judged p reply.DirtyList = refl
+said_judged p reply.ErrorList = refl
+said_judged p reply.CellList = refl
+said_judged p reply.FeatureList = refl
+said_judged p reply.RuleList = refl
+
+none_tried : (o : Option Refusal) (s t : State) (c : Command) (r : replies.Reply) → (IsDone s c r t → judged_said r ≡ 0) → answers_by o s c r t
+    → judged_said r ≡ 0
+none_tried (Some x) s t c r done h = ap judged_said h.0
+none_tried None s t c r done h = done h
+
+tried : (s t : State) (c : Command) (r : replies.Reply) → Answers s c r t → Judges s c (judged_said r)
+tried s t (Validate w) r h =
+    let v = h.4.project in
+    (v.selected, v.those, ap judged_said h.3 ∙ v.judged_is)
+tried s t Blank r h = none_tried (refusal_of s Blank) s t Blank r (λ d. ap judged_said d.0) h
+tried s t (Class name k) r h = none_tried (refusal_of s (Class name k)) s t (Class name k) r (λ d. ap judged_said d.0) h
+tried s t (Rule k o d) r h = none_tried (refusal_of s (Rule k o d)) s t (Rule k o d) r (λ e. ap judged_said e.1) h
+tried s t (DropRule n) r h = none_tried (refusal_of s (DropRule n)) s t (DropRule n) r (λ d. ap judged_said d.0) h
+tried s t (Begin e) r h = none_tried (refusal_of s (Begin e)) s t (Begin e) r (λ d. ap judged_said d.0) h
+tried s t (End e) r h = none_tried (refusal_of s (End e)) s t (End e) r (λ d. ap judged_said d.0) h
+tried s t (Discard e) r h = none_tried (refusal_of s (Discard e)) s t (Discard e) r (λ d. ap judged_said d.0) h
+tried s t (Add e c f) r h = none_tried (refusal_of s (Add e c f)) s t (Add e c f) r (λ d. ap judged_said d.1) h
+tried s t (Change e a f) r h = none_tried (refusal_of s (Change e a f)) s t (Change e a f) r (λ d. ap judged_said d.0) h
+tried s t (Delete e a) r h = none_tried (refusal_of s (Delete e a)) s t (Delete e a) r (λ d. ap judged_said d.0) h
+tried s t (Undo e) r h = none_tried (refusal_of s (Undo e)) s t (Undo e) r (λ d. ap judged_said d.0) h
+tried s t (Redo e) r h = none_tried (refusal_of s (Redo e)) s t (Redo e) r (λ d. ap judged_said d.0) h
+tried s t (Mark n a b) r h = none_tried (refusal_of s (Mark n a b)) s t (Mark n a b) r (λ d. ap judged_said d.0) h
+tried s t (Unmark n a b) r h = none_tried (refusal_of s (Unmark n a b)) s t (Unmark n a b) r (λ d. ap judged_said d.0) h
+tried s t Dirty r h = none_tried (refusal_of s Dirty) s t Dirty r (λ d. ap judged_said d.0) h
+tried s t Errors r h = none_tried (refusal_of s Errors) s t Errors r (λ d. ap judged_said d.0) h
+tried s t Cells r h = none_tried (refusal_of s Cells) s t Cells r (λ d. ap judged_said d.0) h
+tried s t Features r h = none_tried (refusal_of s Features) s t Features r (λ d. ap judged_said d.0) h
+tried s t Rules r h = none_tried (refusal_of s Rules) s t Rules r (λ d. ap judged_said d.0) h
+
+-- ---- the answer to a line
+pub answers : (s t : State) (line : List ℕ) (c : Command) (r : Reply) → IsCommandLine line c → Answers s c (said_of t.project r) t
+    → IsOrdered t.project → Invariant t.project → IsReplyTo s line r t
+answers s t line c r reads answer ordered invariant = record {
+  step = record {
     reading = Reads c;
     reads = reads;
-    comes =
-        (reply, answer, record { text = refl; refused = is });
+    comes = (said_of t.project r, answer, record { text = refl; refused = refl });
     ordered = ordered;
-  },
-  invariant,
-)
+  };
+  invariant = invariant;
+  judged = record {
+    reading = Reads c;
+    reads = reads;
+    judges = rw (said_judged t.project r) at (tried s t c (said_of t.project r) answer);
+  };
+}
 
-pub refuses : (s : State) (line old new : List ℕ) (r : LineRefusal) → IsOrdered s.project → Invariant s.project
-    → ((c : Command) → ¬ (IsCommandLine line c)) → IsLineFault line r → new ≡ old ++ reply_text (Refused (Line r))
-    → Takes s line old new true s
-refuses s line old new r ordered invariant none fault grown = (
-  reply_text (Refused (Line r)),
-  grown,
-  record {
+pub refuses : (s : State) (line : List ℕ) (r : LineRefusal) → IsOrdered s.project → Invariant s.project
+    → ((c : Command) → ¬ (IsCommandLine line c)) → IsLineFault line r → IsReplyTo s line (reply.Refused (refusal.Line r)) s
+refuses s line r ordered invariant none fault = record {
+  step = record {
     reading = Faulty r;
     reads = (none, fault);
-    comes =
-        (refl, record { text = refl; refused = refl });
+    comes = (refl, record { text = refl; refused = refl });
     ordered = ordered;
-  },
-  invariant,
-)
+  };
+  invariant = invariant;
+  judged = record { reading = Faulty r; reads = (none, fault); judges = refl };
+}
+
+-- its text is gathered
+pub gathers : (s t : State) (line old new : List ℕ) (r : Reply) (refused : Bool) → IsReplyTo s line r t
+    → new ≡ old ++ reply_text (said_of t.project r) → refused ≡ is_refusal (said_of t.project r) → Takes s line old new refused t
+gathers s t line old new r refused h grown is = (reply_text (said_of t.project r), grown, rw is h.step, h.invariant)
 
 -- the fault of a line that is refused
-pub refusal_of : (line : List ℕ) (e : LineFault) (r : LineRefusal) → e ≡ fault.Refused r → IsFault line e → IsLineFault line r
-refusal_of line e r is h = rw is at h
+pub fault_of : (line : List ℕ) (e : LineFault) (r : LineRefusal) → e ≡ fault.Refused r → IsFault line e → IsLineFault line r
+fault_of line e r is h = rw is at h

@@ -8,6 +8,7 @@ mod program;
 mod read;
 mod replay;
 mod status;
+mod town;
 mod write;
 
 pub use law::{exact_undo_law, one_run_law};

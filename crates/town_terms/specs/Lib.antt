@@ -2,3 +2,4 @@ pub mod Words
 pub mod Town
 pub mod Summary
 pub mod Request
+pub mod Ends

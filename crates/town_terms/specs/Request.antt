@@ -3,7 +3,7 @@
 -- IsTownRequest words seed n     they are `town SEED N`: SEED is digits of the value seed, below 2 ^ 64, and N digits of the value n,
 --                                from 1 to 60; zeros in front are free
 --
--- Source: own. Nothing of `run` speaks of it yet: it waits for the words `town SEED N`.
+-- Source: own.
 use Rattle.std.specs.Prelude.{ℕ, ◌≡◌, List, [], ◌∷◌, codes}
 use Rattle.text_terms.specs.Numbers.{IsWithinText}
 

@@ -6,7 +6,7 @@
 -- count_line word n   a line of a word and a number
 -- summary_text c      a line for each, in this order
 --
--- Source: own. Nothing of `run` speaks of it yet: it waits for the words `town SEED N`.
+-- Source: own.
 use Rattle.std.specs.Prelude.{ℕ, List, [], ◌∷◌, codes, decimal}
 use Rattle.text_terms.specs.Wkt.{◌⧺◌}
 

@@ -19,7 +19,7 @@
 -- window_line n         the lower half of the rows, rounded down, is validated once more
 -- town_text seed n      the whole script
 --
--- Source: own. Nothing of `run` speaks of it yet: it waits for the words `town SEED N`.
+-- Source: own.
 use Rattle.std.specs.Prelude.{ℕ, zero, suc, pos, ◌+◌, ◌-◌, ◌*◌, ◌/◌, ◌%◌, ◌==◌, nat_lt, List, [], ◌∷◌, ◌++◌, codes, decimal, if◌then◌else◌}
 use Rattle.plane_terms.specs.Point.{Place}
 use Rattle.plane_terms.specs.Shape.{Shape, point_shape}

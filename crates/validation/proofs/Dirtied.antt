@@ -6,15 +6,14 @@ use Rattle.std.specs.List.Sorted.{IsPermutation}
 use Rattle.std.proofs.lemmas.Int.{ints}
 use Rattle.std.proofs.lemmas.List.{take_more}
 use Rattle.std.proofs.lemmas.List.Elements.{All-from_recursion, recursion_from_All}
-use Rattle.std.proofs.lemmas.List.Sorted.{All-permutation, IsPermutation-map, IsPermutation-sym}
+use Rattle.std.proofs.lemmas.List.Sorted.{All-permutation, IsPermutation-sym}
 use Rattle.plane_terms.specs.Lists.{Every, SomeOf}
+use Rattle.plane_terms.proofs.ListLemmas.{every_append}
 use Rattle.plane_terms.specs.Point.{Point}
 use Rattle.plane_terms.specs.Rectangle.{Rectangle, IsRectangle, RectHolds, RectsMeet, rects_meet}
 use Rattle.plane_terms.specs.Dirt.{Covers, MeetsDirt, MeetsPart}
 use Rattle.dirty_area.proofs.Calls.{meets_dirt}
 use Rattle.validation_laws.specs.Picked.{ArePicked}
-use Rattle.validation.specs.Index.{envs_of, meets_spot}
-use Rattle.validation.specs.declared.index.Spot.{Spot}
 use Rattle.validation.proofs.Nearby.{some_moved}
 
 -- ---- one rectangle more
@@ -26,24 +25,20 @@ covers_last (a ∷ A) m p =
       (λ h. elim h [ inl k ↦ elim k [ inl l ↦ inl l | inr l ↦ inr (rest.1 (inl l)) ] | inr k ↦ inr (rest.1 (inr k)) ]),
     )
 
-envs_last : (ss : List Spot) (s : Spot) → envs_of (ss ++ s ∷ []) ≡ envs_of ss ++ s.env ∷ []
-envs_last [] s = refl
-envs_last (t ∷ ss) s = ap (λ l. t.env ∷ l) (envs_last ss s)
-
--- the rectangles of these spots cover what the window and the rectangles have in common
-abbrev pub CoverParts : List Spot → List Rectangle → Rectangle → Type 0
-CoverParts ss rs w = (p : Point) → Covers (envs_of ss) p ↔ (Covers rs p × RectHolds w p)
+-- these rectangles cover what the window and the others have in common
+abbrev pub CoverParts : List Rectangle → List Rectangle → Rectangle → Type 0
+CoverParts ss rs w = (p : Point) → Covers ss p ↔ (Covers rs p × RectHolds w p)
 
 front_more : (rs : List Rectangle) (i : ℕ) (r : Rectangle) → i < length rs → r ≡ get_or rs i r → take (i + 1) rs ≡ take i rs ++ r ∷ []
 front_more rs i r l e = take_more rs i r l ∙ ap (λ y. take i rs ++ y ∷ []) (sym e)
 
-pub parts_more : (ss new : List Spot) (s : Spot) (rs : List Rectangle) (w r : Rectangle) (i : ℕ) → i < length rs → r ≡ get_or rs i r
-    → ((p : Point) → RectHolds s.env p ↔ (RectHolds r p × RectHolds w p))
+pub parts_more : (ss new : List Rectangle) (s : Rectangle) (rs : List Rectangle) (w r : Rectangle) (i : ℕ) → i < length rs
+    → r ≡ get_or rs i r → ((p : Point) → RectHolds s p ↔ (RectHolds r p × RectHolds w p))
     → new ≡ ss ++ s ∷ [] → CoverParts ss (take i rs) w → CoverParts new (take (i + 1) rs) w
 parts_more ss new s rs w r i l e part grown was p =
-    let mine = covers_last (envs_of ss) s.env p in
+    let mine = covers_last ss s p in
     let theirs = covers_last (take i rs) r p in
-    rw (grown, envs_last ss s, front_more rs i r l e) (
+    rw (grown, front_more rs i r l e) (
       (λ h. elim (mine.0 h) [
         | inl k ↦ let y = (was p).0 k in (theirs.1 (inl y.0), y.1)
         | inr k ↦ let y = (part p).0 k in (theirs.1 (inr y.0), y.1)
@@ -51,8 +46,8 @@ parts_more ss new s rs w r i l e part grown was p =
       (λ h. mine.1 (elim (theirs.0 h.0) [ inl k ↦ inl ((was p).1 (k, h.1)) | inr k ↦ inr ((part p).1 (k, h.1)) ])),
     )
 
-pub parts_same : (ss : List Spot) (rs : List Rectangle) (w r : Rectangle) (i : ℕ) → i < length rs → r ≡ get_or rs i r → ¬ (RectsMeet r w)
-    → CoverParts ss (take i rs) w → CoverParts ss (take (i + 1) rs) w
+pub parts_same : (ss : List Rectangle) (rs : List Rectangle) (w r : Rectangle) (i : ℕ) → i < length rs → r ≡ get_or rs i r
+    → ¬ (RectsMeet r w) → CoverParts ss (take i rs) w → CoverParts ss (take (i + 1) rs) w
 parts_same ss rs w r i l e apart was p =
     let theirs = covers_last (take i rs) r p in
     rw (front_more rs i r l e) (
@@ -60,42 +55,33 @@ parts_same ss rs w r i l e apart was p =
       (λ h. elim (theirs.0 h.0) [ inl k ↦ (was p).1 (k, h.1) | inr k ↦ absurd (apart (p, k, h.1)) ]),
     )
 
-every_last : (A : List Rectangle) (m : Rectangle) → Every IsRectangle A → IsRectangle m → Every IsRectangle (A ++ m ∷ [])
-every_last [] m h k = (k, tt)
-every_last (a ∷ A) m h k = (h.0, every_last A m h.1 k)
-
-pub grid_more : (ss new : List Spot) (s : Spot) → new ≡ ss ++ s ∷ [] → Every IsRectangle (envs_of ss) → IsRectangle s.env
-    → Every IsRectangle (envs_of new)
-grid_more ss new s grown h k = rw (grown, envs_last ss s) (every_last (envs_of ss) s.env h k)
+pub grid_more : (ss new : List Rectangle) (s : Rectangle) → new ≡ ss ++ s ∷ [] → Every IsRectangle ss → IsRectangle s
+    → Every IsRectangle new
+grid_more ss new s grown h k = rw grown (every_append IsRectangle ss (s ∷ []) h (k, tt))
 
 -- ---- in another order
-pub covers_moved : (ss new : List Spot) (p : Point) → IsPermutation ss new → Covers (envs_of ss) p ↔ Covers (envs_of new) p
-covers_moved ss new p m =
-    let moved = IsPermutation-map (λ (s : Spot). s.env) ss new m in (
-      (λ h. some_moved (λ r. RectHolds r p) (envs_of ss) (envs_of new) moved h),
-      (λ h. some_moved (λ r. RectHolds r p) (envs_of new) (envs_of ss) (IsPermutation-sym (envs_of ss) (envs_of new) moved) h),
-    )
-
-pub grid_moved : (ss new : List Spot) → IsPermutation ss new → Every IsRectangle (envs_of ss) → Every IsRectangle (envs_of new)
+pub grid_moved : (ss new : List Rectangle) → IsPermutation ss new → Every IsRectangle ss → Every IsRectangle new
 grid_moved ss new m h =
-    recursion_from_All IsRectangle (envs_of new) (All-permutation IsRectangle (envs_of ss) (envs_of new)
-    (IsPermutation-map (λ (s : Spot). s.env) ss new m) (All-from_recursion IsRectangle (envs_of ss) h))
+    recursion_from_All IsRectangle new (All-permutation IsRectangle ss new m (All-from_recursion IsRectangle ss h))
+
+pub cover_moved : (ss new : List Rectangle) (rs : List Rectangle) (w : Rectangle) → IsPermutation ss new → CoverParts ss rs w
+    → CoverParts new rs w
+cover_moved ss new rs w m h p = (
+  (λ k. (h p).0 (some_moved (λ r. RectHolds r p) new ss (IsPermutation-sym ss new m) k)),
+  (λ k. some_moved (λ r. RectHolds r p) ss new m ((h p).1 k)),
+)
 
 -- ---- the question
 meets_back : (r s : Rectangle) → rects_meet r s ≡ rects_meet s r
 meets_back r s = grind (arith, ints)
 
-any_env : (r : Rectangle) (ss : List Spot) → list_any (meets_spot r) ss ≡ list_any (λ s. rects_meet s r) (envs_of ss)
-any_env r [] = refl
-any_env r (s ∷ ss) = rw (meets_back r s.env, any_env r ss) refl
+any_back : (r : Rectangle) (ss : List Rectangle) → list_any (rects_meet r) ss ≡ list_any (λ s. rects_meet s r) ss
+any_back r [] = refl
+any_back r (s ∷ ss) = rw (meets_back r s, any_back r ss) refl
 
-pub parts_met : (r : Rectangle) (ss : List Spot) (t : Bool) → Every IsRectangle (envs_of ss) → IsRectangle r
-    → t ≡ list_any (meets_spot r) ss → IsTrue t ↔ MeetsDirt (envs_of ss) r
-parts_met r ss t h i e = meets_dirt (envs_of ss) r t h i (e ∙ any_env r ss)
-
-pub cover_moved : (ss new : List Spot) (rs : List Rectangle) (w : Rectangle) → IsPermutation ss new → CoverParts ss rs w
-    → CoverParts new rs w
-cover_moved ss new rs w m h p = let same = covers_moved ss new p m in ((λ k. (h p).0 (same.1 k)), (λ k. same.0 ((h p).1 k)))
+pub parts_met : (r : Rectangle) (ss : List Rectangle) (t : Bool) → Every IsRectangle ss → IsRectangle r
+    → t ≡ list_any (rects_meet r) ss → IsTrue t ↔ MeetsDirt ss r
+parts_met r ss t h i e = meets_dirt ss r t h i (e ∙ any_back r ss)
 
 -- ---- what meets the parts
 pub meets_parts : (parts d : List Rectangle) (w : Rectangle) → ((p : Point) → Covers parts p ↔ (Covers d p × RectHolds w p))

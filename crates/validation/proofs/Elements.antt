@@ -7,7 +7,6 @@ use Rattle.std.proofs.lemmas.List.Elements.{All-from_get_or}
 use Rattle.std.proofs.lemmas.List.Kept.{AllPairs-from_increasing}
 use Rattle.std.proofs.lemmas.Option.{get_or_from_slice_get}
 use Rattle.plane_terms.specs.Lists.{Every}
-use Rattle.topology_terms.specs.Feature.{Feature, IsAscending}
 
 pub every_at : {A : Type 0} (P : A → Type 0) (xs : List A) (i : ℕ) (x : A) → Every P xs → i < length xs → x ≡ get_or xs i x → P x
 every_at P [] i x h l e = absurd (omega arith)
@@ -23,14 +22,3 @@ all_before xs i x u l e = All-from_get_or (λ h. h < x) (take i xs) x (λ k m.
     let short : k < i = (let n = length-take i xs in omega arith) in
     let p : get_or xs k x < get_or xs i x = AllPairs-from_increasing xs u k i x short l in
     subst (λ n. n < x) (sym (get_or-take i xs k x short)) (subst (λ n. get_or xs k x < n) (sym e) p))
-
--- the features before one of an ascending list have lower handles
-pub every_before : (F : List Feature) (i : ℕ) (f : Feature) → IsAscending F → i < length F → f ≡ get_or F i f
-    → Every (λ (g : Feature). g.handle < f.handle) (take i F)
-every_before [] i f u l e = absurd (omega arith)
-every_before (g ∷ F) zero f u l e = tt
-every_before (g ∷ F) (suc i) f u l e = (
-  every_at (λ (x : Feature). g.handle < x.handle) F i f u.0 (omega arith) e,
-  every_before F i f u.1
-      (omega arith) e,
-)

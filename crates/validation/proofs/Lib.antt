@@ -1,7 +1,8 @@
 mod Elements
 mod Filters
-mod Spots
+mod TooFar
 mod Nearby
+mod Picking
 mod Dirtied
 mod CellFrames
 pub mod Settled

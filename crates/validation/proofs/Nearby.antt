@@ -1,72 +1,29 @@
--- The features whose handles an index gives for a rectangle are those whose envelope meets it.
-use Rattle.std.proofs.Common.{◌≡◌, ◌↔◌, ◌⊎◌, inl, inr, ℕ, ◌<◌, ◌+◌, zero, suc, Bool, true, false, List, [], ◌∷◌, ◌++◌, ℤ, Option, Some, None, cond, map, refl, sym, ◌∙◌, ap, subst, arith, take, length, get_or, Contains}
-use Rattle.std.specs.Prelude.{int_le}
-use Rattle.std.specs.Int.{int_min, int_max}
+-- The features whose handles an index gives for rectangles, and which of them meet one.
+use Rattle.std.proofs.Common.{◌≡◌, ◌↔◌, inl, inr, ℕ, ◌<◌, ◌+◌, zero, suc, Bool, true, false, List, [], ◌∷◌, ◌++◌, Option, Some, None, cond, refl, sym, ◌∙◌, ap, subst, arith, take, length, get_or, Contains}
 use Rattle.std.specs.Option.{option_to_list}
 use Rattle.std.specs.List.{filter}
 use Rattle.std.specs.List.Sorted.{IsPermutation, IsStrictlyIncreasing}
 use Rattle.std.proofs.lemmas.Bool.{cases_Bool}
 use Rattle.std.proofs.lemmas.Int.{ints}
-use Rattle.std.proofs.lemmas.List.{take_more}
-use Rattle.std.proofs.lemmas.List.Elements.{recursion_from_All}
-use Rattle.std.proofs.lemmas.List.Sorted.{Contains-permutation, IsPermutation-sym}
+use Rattle.std.proofs.lemmas.List.{take_more, append-nil}
+use Rattle.std.proofs.lemmas.List.Elements.{recursion_from_All, filter-append, Contains-append_left, Contains-append_right}
+use Rattle.std.proofs.lemmas.List.Sorted.{Contains-permutation}
 use Rattle.std.proofs.lemmas.Grind.{flat_map-append}
 use Rattle.plane_terms.specs.Lists.{Every, SomeOf, IsThose}
-use Rattle.plane_terms.specs.Rectangle.{Rectangle, rects_meet, is_within, join_of}
+use Rattle.plane_terms.proofs.ListLemmas.{SomeOf-either, every_append, every_map, every_filter}
+use Rattle.plane_terms.specs.Rectangle.{Rectangle, IsWithin, rects_meet}
 use Rattle.topology_terms.specs.Feature.{Feature, feature_at, env, IsAscending}
 use Rattle.sound_laws.proofs.FeatureLists.{each_live, handle_of}
 use Rattle.validation_laws.specs.Parts.{live_of}
 use Rattle.validation_laws.specs.Views.{IsView}
-use Rattle.validation_laws.proofs.Handles.{among, rising}
-use Rattle.plane_terms.proofs.ListLemmas.{IsAmong, contains_among}
-use Rattle.validation_laws.proofs.Selecting.{some_feature, feature_some}
+use Rattle.validation_laws.proofs.Handles.{rising}
 use Rattle.validation_laws.proofs.Counting.{live_those}
 use Rattle.validation_laws.proofs.Viewed.{view_filtered}
-use Rattle.validation.specs.Index.{spot_of, meets_spot, IsNear}
-use Rattle.validation.specs.declared.index.Spot.{Spot}
+use Rattle.grid_plane.specs.Rectangles.{IsJoin}
+use Rattle.grid_index.specs.Near.{IsNear}
+use Rattle.grid_index.specs.declared.placed.Placed.{Placed}
+use Rattle.validation.specs.Placed.{placed_of, ArePlaced, HasNear}
 use Rattle.validation.proofs.Elements.{all_before}
-use Rattle.plane_terms.proofs.Truths.{all_four}
-
--- ---- the handles that are found
-picked_among : (t : Bool) (s : Spot) (rest : List Spot) (a : ℕ) → IsAmong a (map (λ (s : Spot). s.handle) (cond t (s ∷ rest) rest))
-    → ((t ≡ true) × (s.handle ≡ a)) ⊎ IsAmong a (map (λ (s : Spot). s.handle) rest)
-picked_among true s rest a h = elim h [ inl e ↦ inl (refl, sym e) | inr k ↦ inr k ]
-picked_among false s rest a h = inr h
-
-picked_here : (t : Bool) (s : Spot) (rest : List Spot) (a : ℕ) → t ≡ true → s.handle ≡ a
-    → IsAmong a (map (λ (s : Spot). s.handle) (cond t (s ∷ rest) rest))
-picked_here true s rest a t e = inl (sym e)
-picked_here false s rest a t e = cc
-
-picked_later : (t : Bool) (s : Spot) (rest : List Spot) (a : ℕ) → IsAmong a (map (λ (s : Spot). s.handle) rest)
-    → IsAmong a (map (λ (s : Spot). s.handle) (cond t (s ∷ rest) rest))
-picked_later true s rest a k = inr k
-picked_later false s rest a k = k
-
-near_found : (r : Rectangle) (ss : List Spot) (a : ℕ) → IsAmong a (map (λ (s : Spot). s.handle) (filter (meets_spot r) ss)) → IsNear r ss a
-near_found r [] a h = absurd h
-near_found r (s ∷ ss) a h = elim (picked_among (meets_spot r s) s (filter (meets_spot r) ss) a h) [
-  | inl k ↦ inl (k.1, k.0)
-  | inr k ↦ inr (near_found r ss a k)
-]
-
-found_near : (r : Rectangle) (ss : List Spot) (a : ℕ) → IsNear r ss a → IsAmong a (map (λ (s : Spot). s.handle) (filter (meets_spot r) ss))
-found_near r [] a h = absurd h
-found_near r (s ∷ ss) a h = elim h [
-  | inl k ↦ picked_here (meets_spot r s) s (filter (meets_spot r) ss) a k.1 k.0
-  | inr k ↦ picked_later (meets_spot r s) s (filter (meets_spot r) ss) a (found_near r ss a k)
-]
-
--- the handles of the candidates that meet the rectangle
-pub handles_near : (r : Rectangle) (some all : List Spot) (handles : List ℕ) → filter (meets_spot r) some ≡ filter (meets_spot r) all
-    → handles ≡ map (λ (s : Spot). s.handle) (filter (meets_spot r) some)
-    → (a : ℕ) → Contains handles a ↔ IsNear r all a
-handles_near r some all handles same is a =
-    let e : handles ≡ map (λ (s : Spot). s.handle) (filter (meets_spot r) all) = is
-    ∙ ap (λ (ss : List Spot). map (λ (s : Spot). s.handle) ss) same in (
-      (λ h. near_found r all a (rw e at (among a handles h))),
-      (λ h. contains_among handles a (rw e (found_near r all a h))),
-    )
 
 -- ---- in another order
 some_place : {X : Type 0} (P : X → Type 0) (xs : List X) → SomeOf P xs → (x : X) × Contains xs x × P x
@@ -87,128 +44,90 @@ some_moved P xs ys m h =
     let c = Contains-permutation xs ys y.0 m y.1 in
     place_some P ys y.0 c.0 c.1 c.2 y.2
 
--- ---- of features
-MeetsAt : Rectangle → ℕ → Feature → Type 0
-MeetsAt r a f = (f.handle ≡ a) × (rects_meet r (env f) ≡ true)
+-- ---- what an index gives
+-- the handles are those of the placed rectangles that meet r
+abbrev pub AreNear : List ℕ → Rectangle → List Placed → Type 0
+AreNear ns r ps = (a : ℕ) → Contains ns a ↔ IsNear r ps a
 
-spot_feature : (r : Rectangle) (F : List Feature) (a : ℕ) → IsNear r (map spot_of F) a → SomeOf (MeetsAt r a) F
-unfolding MeetsAt
-spot_feature r [] a h = absurd h
-spot_feature r (f ∷ F) a h = elim h [ inl k ↦ inl k | inr k ↦ inr (spot_feature r F a k) ]
+given : (ns : List ℕ) (r : Rectangle) (ps : List Placed) (q : Placed) → AreNear ns r ps → Contains ps q → rects_meet r q.rect ≡ true
+    → Contains ns q.handle
+given ns r ps q near c m = (near q.handle).1 (q, c, refl, m)
 
-feature_spot : (r : Rectangle) (F : List Feature) (a : ℕ) → SomeOf (MeetsAt r a) F → IsNear r (map spot_of F) a
-unfolding MeetsAt
-feature_spot r [] a h = absurd h
-feature_spot r (f ∷ F) a h = elim h [ inl k ↦ inl k | inr k ↦ inr (feature_spot r F a k) ]
+-- one rectangle more
+pub near_more : (ps : List Placed) (rs : List Rectangle) (i : ℕ) (r : Rectangle) (out v new : List ℕ) → i < length rs → r ≡ get_or rs i r
+    → HasNear out ps (take i rs) → AreNear v r ps → new ≡ out ++ v → HasNear new ps (take (i + 1) rs)
+near_more ps rs i r out v new l e was near grown q c m =
+    let more : take (i + 1) rs ≡ take i rs ++ r ∷ [] = take_more rs i r l ∙ ap (λ y. take i rs ++ y ∷ []) (sym e) in
+    let P : Rectangle → Type 0 = λ (s : Rectangle). rects_meet s q.rect ≡ true in
+    rw grown (elim (SomeOf-either P (take i rs) (r ∷ []) (subst (SomeOf P) more m)) [
+      | inl k ↦ Contains-append_left out v q.handle (was q c k)
+      | inr k ↦ elim k [ inl t ↦ Contains-append_right out v q.handle (given v r ps q near c t) | inr t ↦ absurd t ]
+    ])
 
--- each feature of an ascending list is looked up under its own handle
-found_own : (F : List Feature) → IsAscending F → Every (λ (f : Feature). feature_at F f.handle ≡ Some f) F
-found_own F u = each_live (λ (f : Feature). feature_at F f.handle ≡ Some f) F u (λ h f e. subst (λ n. feature_at F n ≡ Some f)
-    (sym (handle_of F h f e)) e)
+-- ---- of the rectangle that holds them all
+wider : (r j e : Rectangle) → IsWithin r j → rects_meet r e ≡ true → rects_meet j e ≡ true
+wider r j e w m = grind (arith, ints)
 
-those_passing : (Q : Feature → Type 0) (test : Feature → Bool) (xs V : List Feature) → Every (λ (f : Feature). Q f ↔ (test f ≡ true)) xs
-    → IsThose Q xs V → V ≡ filter test xs
-those_passing Q test [] V u h = h
-those_passing Q test (x ∷ xs) V u h = elim h [
-  | inl k ↦ k.1.1 ∙ (ap (λ l. x ∷ l) (those_passing Q test xs k.1.0 u.1 k.1.2) ∙ sym (taken (test x) x (filter test xs) (u.0.0 k.0)))
-  | inr k ↦ those_passing Q test xs V u.1 k.1 ∙ sym (passed (test x) x (filter test xs)
-      (elim (cases_Bool (test x)) [ inl t ↦ absurd (k.0 (u.0.1 t)) | inr t ↦ t ]))
+wider_some : (rs : List Rectangle) (j e : Rectangle) → Every (λ (r : Rectangle). IsWithin r j) rs
+    → SomeOf (λ (r : Rectangle). rects_meet r e ≡ true) rs → rects_meet j e ≡ true
+wider_some [] j e all m = absurd m
+wider_some (r ∷ rs) j e all m = elim m [ inl k ↦ wider r j e all.0 k | inr k ↦ wider_some rs j e all.1 k ]
+
+pub near_joined : (ps : List Placed) (rs : List Rectangle) (j : Rectangle) (ns : List ℕ) → Every (λ (r : Rectangle). IsWithin r j) rs
+    → AreNear ns j ps → HasNear ns ps rs
+near_joined ps rs j ns all near q c m = given ns j ps q near c (wider_some rs j q.rect all m)
+
+pub near_none : (ps : List Placed) (rs : List Rectangle) (ns : List ℕ) → rs ≡ [] → HasNear ns ps rs
+near_none ps rs ns e q c m =
+    let none = subst (SomeOf (λ (r : Rectangle). rects_meet r q.rect ≡ true)) e m in
+    absurd none
+
+within_both : (r j k : Rectangle) → IsWithin r j → IsWithin j k → IsWithin r k
+within_both r j k h l = omega (arith, ints)
+
+pub joined_more : (rs : List Rectangle) (i : ℕ) (r j k : Rectangle) → i < length rs → r ≡ get_or rs i r → IsJoin k j r
+    → Every (λ (s : Rectangle). IsWithin s j) (take i rs) → Every (λ (s : Rectangle). IsWithin s k) (take (i + 1) rs)
+joined_more rs i r j k l e join all =
+    let more : take (i + 1) rs ≡ take i rs ++ r ∷ [] = take_more rs i r l ∙ ap (λ y. take i rs ++ y ∷ []) (sym e) in
+    let P : Rectangle → Type 0 = λ (s : Rectangle). IsWithin s k in
+    subst (Every P) (sym more) (every_append P (take i rs) (r ∷ [])
+    (every_map (λ (s : Rectangle). IsWithin s j) P (λ s w. within_both s j k w join.first) (take i rs) all) (join.second, tt))
+
+-- ---- a view
+passed_over : (t : Bool) (x : Feature) (xs : List Feature) → t ≡ false → cond t (x ∷ xs) xs ≡ xs
+passed_over t x xs e = rw e refl
+
+-- a filter that passes none but those is a filter of those
+those_kept : (Q : Feature → Type 0) (test : Feature → Bool) (xs V : List Feature) → Every (λ (f : Feature). test f ≡ true → Q f) xs
+    → IsThose Q xs V → filter test V ≡ filter test xs
+those_kept Q test [] V u h = ap (filter test) h
+those_kept Q test (x ∷ xs) V u h = elim h [
+  | inl k ↦ ap (filter test) k.1.1 ∙ ap (λ l. cond (test x) (x ∷ l) l) (those_kept Q test xs k.1.0 u.1 k.1.2)
+  | inr k ↦ those_kept Q test xs V u.1 k.1 ∙ sym (passed_over (test x) x (filter test xs)
+      (elim (cases_Bool (test x)) [ inl t ↦ absurd (k.0 (u.0 t)) | inr t ↦ t ]))
 ]
-  where
-    taken : (b : Bool) (x : Feature) (ys : List Feature) → b ≡ true → cond b (x ∷ ys) ys ≡ x ∷ ys
-    taken b x ys e = rw e refl
 
-    passed : (b : Bool) (x : Feature) (ys : List Feature) → b ≡ false → cond b (x ∷ ys) ys ≡ ys
-    passed b x ys e = rw e refl
+pub view_near : (F V : List Feature) (f : Feature) (ps : List Placed) (ns : List ℕ) → IsAscending F → ArePlaced ps F
+    → IsStrictlyIncreasing ns → AreNear ns (env f) ps → V ≡ filter (λ (g : Feature). rects_meet (env f) (env g)) (live_of F ns)
+    → IsView F f V
+view_near F V f ps ns u placed v near is =
+    let test : Feature → Bool = λ (g : Feature). rects_meet (env f) (env g) in
+    let Q : Feature → Type 0 = λ (g : Feature). Contains ns g.handle in
+    let those : IsThose Q F (live_of F ns) = live_those (λ (a : ℕ). Contains ns a) F ns u (rising ns v) (λ a. ((λ h. h), (λ h. h))) in
+    let found : Every (λ (g : Feature). test g ≡ true → Q g) F =
+    each_live (λ (g : Feature). test g ≡ true → Q g) F u (λ h g e t. given ns (env f) ps (placed_of g) near (placed h g e) t) in
+    view_filtered F V f u (is ∙ those_kept Q test F (live_of F ns) found those)
 
-told_by : (r : Rectangle) (F xs : List Feature) → IsAscending F → Every (λ (f : Feature). feature_at F f.handle ≡ Some f) xs
-    → Every (λ (f : Feature). SomeOf (MeetsAt r f.handle) F ↔ (rects_meet r (env f) ≡ true)) xs
-unfolding MeetsAt
-told_by r F [] u v = tt
-told_by r F (f ∷ xs) u v = (
-  (forth, λ t. feature_some (λ (g : Feature). rects_meet r (env g) ≡ true) F f.handle f v.0 t),
-  told_by r F xs u
-      v.1,
-)
-  where
-    forth : SomeOf (λ (g : Feature). (g.handle ≡ f.handle) × (rects_meet r (env g) ≡ true)) F → rects_meet r (env f) ≡ true
-    forth h =
-        let y = some_feature (λ (g : Feature). rects_meet r (env g) ≡ true) F f.handle u h in
-        let l : Some y.0 ≡ Some f = sym y.1 ∙ v.0 in
-        let same : y.0 ≡ f = cc in
-        subst (λ (g : Feature). rects_meet r (env g) ≡ true) same y.2
+pub one_near : (test : Feature → Bool) (o : Option Feature) (f : Feature) → o ≡ Some f → test f ≡ true
+    → filter test (option_to_list o) ≡ f ∷ []
+one_near test o f e t = rw (e, t) refl
 
--- what meets a part meets the whole
-wider : (r box e : Rectangle) → is_within r box ≡ true → rects_meet r e ≡ true → rects_meet box e ≡ true
-wider r box e w m = grind (arith, ints)
+pub one_far : (test : Feature → Bool) (o : Option Feature) (f : Feature) → o ≡ Some f → test f ≡ false
+    → filter test (option_to_list o) ≡ []
+one_far test o f e t = rw (e, t) refl
 
--- among the features that meet the reach are those that meet a part of it
-kept_in : (box r : Rectangle) (F : List Feature) (a : ℕ) → is_within r box ≡ true → SomeOf (MeetsAt r a) F
-    → SomeOf (MeetsAt r a) (filter (λ (g : Feature). rects_meet box (env g)) F)
-unfolding MeetsAt
-kept_in box r [] a w h = absurd h
-kept_in box r (f ∷ F) a w h = elim h [
-  | inl k ↦ taken (rects_meet box (env f)) (wider r box (env f) w k.1) k
-  | inr k ↦ later (rects_meet box (env f)) (kept_in box r F a w k)
-]
-  where
-    Rest : List Feature
-    Rest = filter (λ (g : Feature). rects_meet box (env g)) F
-
-    taken : (t : Bool) → t ≡ true → MeetsAt r a f → SomeOf (MeetsAt r a) (cond t (f ∷ Rest) Rest)
-    taken true e k = inl k
-    taken false e k = absurd cc
-
-    later : (t : Bool) → SomeOf (MeetsAt r a) Rest → SomeOf (MeetsAt r a) (cond t (f ∷ Rest) Rest)
-    later true k = inr k
-    later false k = k
-
-kept_from : (box r : Rectangle) (F : List Feature) (a : ℕ) → SomeOf (MeetsAt r a) (filter (λ (g : Feature). rects_meet box (env g)) F)
-    → SomeOf (MeetsAt r a) F
-kept_from box r [] a h = absurd h
-kept_from box r (f ∷ F) a h = by (rects_meet box (env f)) h (kept_from box r F a)
-  where
-    Rest : List Feature
-    Rest = filter (λ (g : Feature). rects_meet box (env g)) F
-
-    by : (t : Bool) → SomeOf (MeetsAt r a) (cond t (f ∷ Rest) Rest) → (SomeOf (MeetsAt r a) Rest → SomeOf (MeetsAt r a) F)
-        → SomeOf (MeetsAt r a) (f ∷ F)
-    by true (inl k) rest = inl k
-    by true (inr k) rest = inr (rest k)
-    by false k rest = inr (rest k)
-
-pub view_near : (F V : List Feature) (f : Feature) (box : Rectangle) (ss : List Spot) (handles : List ℕ) → IsAscending F
-    → IsPermutation (map spot_of (filter (λ (g : Feature). rects_meet box (env g)) F)) ss → is_within (env f) box ≡ true
-    → IsStrictlyIncreasing handles
-    → ((a : ℕ) → Contains handles a ↔ IsNear (env f) ss a) → V ≡ live_of F handles → IsView F f V
-view_near F V f box ss handles u moved w v near is =
-    let r = env f in
-    let G = filter (λ (g : Feature). rects_meet box (env g)) F in
-    let P : ℕ → Type 0 = λ a. SomeOf (MeetsAt r a) F in
-    let test : Feature → Bool = λ (g : Feature). rects_meet r (env g) in
-    let those : IsThose (λ (g : Feature). P g.handle) F (live_of F handles) = live_those P F handles u (rising handles v) (λ a. (
-      (λ h. kept_from box r F a (spot_feature r G a (some_moved (λ (s : Spot). (s.handle ≡ a) × (meets_spot r s ≡ true)) ss (map spot_of G)
-          (IsPermutation-sym (map spot_of G) ss moved) ((near a).0 h)))),
-      (λ h. (near a).1 (some_moved (λ (s : Spot). (s.handle ≡ a) × (meets_spot r s ≡ true)) (map spot_of G) ss moved
-          (feature_spot r G a (kept_in box r F a w h)))),
-    )) in
-    view_filtered F V f u (is ∙ those_passing (λ (g : Feature). P g.handle) test F (live_of F handles) (told_by r F F u (found_own F u))
-    those)
-
--- ---- the reach
-pub own_part : (r : Rectangle) → is_within r r ≡ true
-own_part r = grind (arith, ints)
-
-lower : (a b x : ℤ) → int_le a x ≡ true → int_le (int_min a b) x ≡ true
-lower a b x h = grind (arith, ints)
-
-upper : (a b x : ℤ) → int_le x a ≡ true → int_le x (int_max a b) ≡ true
-upper a b x h = grind (arith, ints)
-
-pub wider_join : (w r e : Rectangle) → is_within w r ≡ true → is_within w (join_of r e) ≡ true
-wider_join w r e h =
-    let four = all_four (int_le r.x0 w.x0) (int_le w.x1 r.x1) (int_le r.y0 w.y0) (int_le w.y1 r.y1) h in
-    rw (lower r.x0 e.x0 w.x0 four.0, upper r.x1 e.x1 w.x1 four.1, lower r.y0 e.y0 w.y0 four.2, upper r.y1 e.y1 w.y1 four.3) refl
+pub none_there : (test : Feature → Bool) (o : Option Feature) → o ≡ None → filter test (option_to_list o) ≡ []
+none_there test o e = rw e refl
 
 -- ---- put together one handle after another
 pub live_more : (F : List Feature) (ns : List ℕ) (i a : ℕ) (o : Option Feature) → i < length ns → a ≡ get_or ns i a → feature_at F a ≡ o
@@ -216,11 +135,16 @@ pub live_more : (F : List Feature) (ns : List ℕ) (i a : ℕ) (o : Option Featu
 live_more F ns i a o l e k =
     let one : ℕ → List Feature = λ n. option_to_list (feature_at F n) in
     let more : take (i + 1) ns ≡ take i ns ++ a ∷ [] = take_more ns i a l ∙ ap (λ y. take i ns ++ y ∷ []) (sym e) in
-    rw (more, flat_map-append one (take i ns) (a ∷ []), k) (ap (λ l. live_of F (take i ns) ++ l) (alone o))
-  where
-    alone : (o : Option Feature) → option_to_list o ++ [] ≡ option_to_list o
-    alone None = refl
-    alone (Some f) = refl
+    rw (more, flat_map-append one (take i ns) (a ∷ []), k) (ap (λ l. live_of F (take i ns) ++ l) (append-nil (option_to_list o)))
+
+-- those that pass, one handle more
+pub seen_more : (test : Feature → Bool) (F V new : List Feature) (ns : List ℕ) (i a : ℕ) (more : List Feature) → i < length ns
+    → a ≡ get_or ns i a → V ≡ filter test (live_of F (take i ns)) → filter test (option_to_list (feature_at F a)) ≡ more
+    → new ≡ V ++ more → new ≡ filter test (live_of F (take (i + 1) ns))
+seen_more test F V new ns i a more l e is last grown =
+    grown ∙ (ap (λ xs. xs ++ more) is ∙ (ap (λ xs. filter test (live_of F (take i ns)) ++ xs) (sym last)
+    ∙ sym (ap (filter test) (live_more F ns i a (feature_at F a) l e refl)
+    ∙ filter-append test (live_of F (take i ns)) (option_to_list (feature_at F a)))))
 
 one_below : (o : Option Feature) (rest : List Feature) (n x : ℕ) → ((f : Feature) → o ≡ Some f → f.handle ≡ n) → n < x
     → Every (λ (g : Feature). g.handle < x) rest → Every (λ (g : Feature). g.handle < x) (option_to_list o ++ rest)
@@ -232,7 +156,13 @@ live_below F [] x u = tt
 live_below F (n ∷ ns) x u = one_below (feature_at F n) (live_of F ns) n x (λ f e. handle_of F n f e) u.0 (live_below F ns x u.1)
 
 -- the features of the handles before this one stand below it
-pub below_next : (F : List Feature) (ns : List ℕ) (i a : ℕ) (f : Feature) → IsStrictlyIncreasing ns → i < length ns → a ≡ get_or ns i a
+below_next : (F : List Feature) (ns : List ℕ) (i a : ℕ) (f : Feature) → IsStrictlyIncreasing ns → i < length ns → a ≡ get_or ns i a
     → feature_at F a ≡ Some f → Every (λ (g : Feature). g.handle < f.handle) (live_of F (take i ns))
 below_next F ns i a f u l e k = rw (handle_of F a f k) (live_below F (take i ns) a
     (recursion_from_All (λ (n : ℕ). n < a) (take i ns) (all_before ns i a u l e)))
+
+pub seen_below : (test : Feature → Bool) (F V : List Feature) (ns : List ℕ) (i a : ℕ) (f : Feature) → IsStrictlyIncreasing ns
+    → i < length ns → a ≡ get_or ns i a → feature_at F a ≡ Some f → V ≡ filter test (live_of F (take i ns))
+    → Every (λ (g : Feature). g.handle < f.handle) V
+seen_below test F V ns i a f u l e k is = rw is (every_filter (λ (g : Feature). g.handle < f.handle) test (live_of F (take i ns))
+    (below_next F ns i a f u l e k))

@@ -1,48 +1,84 @@
-ghost use Rattle.std.specs.Prelude.{◌≡◌, ◌↔◌, IsTrue, IfOk};
+ghost use Rattle.std.specs.Prelude.{◌≡◌, ◌↔◌, [], IsTrue, IfOk, MatchOption};
 ghost use Rattle.plane_terms.specs.Lists.{Every};
 ghost use Rattle.plane_terms.specs.Point.{Point};
-ghost use Rattle.plane_terms.specs.Rectangle.{IsRectangle, RectHolds};
+ghost use Rattle.plane_terms.specs.Rectangle.{Rectangle, IsRectangle, IsWithin, RectHolds};
 ghost use Rattle.plane_terms.specs.Dirt.{Covers, MeetsDirt};
-ghost use Rattle.validation.specs.Index.{envs_of};
+ghost use Rattle.validation.specs.Placed.{HasNear};
 
-use crate::index::{Index, Spot};
+use crate::sorted::SortedRects;
 use dirty_area::Dirt;
+use grid_index::Index;
 use grid_plane::{NoMemory, Rect};
 use std::alloc::Global;
 use std::marker::Model;
 
-/// What is dirty of a window, with an index of where it lies.
+// The most parts for which an index is asked one by one.
+const PART_LIMIT: usize = 64;
+
+/// What is dirty of a window: the parts of the dirty rectangles that lie in it, from west to east.
 #[derive(Drop)]
 pub struct DirtyParts {
-    index: Index,
+    parts: SortedRects,
 }
 
 impl Model for DirtyParts {
     ghost use Rattle.std.specs.Prelude.{List};
     ghost use Rattle.plane_terms.specs.Lists.{Every};
     ghost use Rattle.plane_terms.specs.Rectangle.{Rectangle, IsRectangle};
-    ghost use Rattle.validation.specs.Index.{envs_of};
 
     ghost Value = { List Rectangle };
 
-    ghost view = { λ x. envs_of x.index };
+    ghost view = { λ x. x.parts };
 
-    ghost invariant = { λ x. Every IsRectangle (envs_of x.index) };
+    ghost invariant = { λ x. Every IsRectangle x.parts };
 }
 
-// What the window and each rectangle have in common, of those that meet it. No feature has these parts.
-fn parts_of(alloc: Global, rects: &[Rect], window: &Rect) -> Result<Vec<Spot>, NoMemory>
-    ensures covers { IfOk result (λ v. (p : Point) → Covers (envs_of v.items) p ↔ (Covers rects.now p × RectHolds window.now p)) }
-    ensures on_grid { IfOk result (λ v. Every IsRectangle (envs_of v.items)) }
+// What the window and each rectangle have in common, of those that meet it.
+fn parts_of(alloc: Global, rects: &[Rect], window: &Rect) -> Result<Vec<Rect>, NoMemory>
+    ensures covers { IfOk result (λ v. (p : Point) → Covers v.items p ↔ (Covers rects.now p × RectHolds window.now p)) }
+    ensures on_grid { IfOk result (λ v. Every IsRectangle v.items) }
 {
     let mut parts = Vec::new(alloc);
     for r in rects {
-        if let Some(env) = r.part(window) {
-            env.corner_law();
-            parts.push(Spot { env, handle: 0 })?;
+        if let Some(part) = r.part(window) {
+            part.corner_law();
+            parts.push(part)?;
         }
     }
     Ok(parts)
+}
+
+// The least rectangle that holds them all; none where there are none.
+fn join_of_all(rects: &[Rect]) -> Option<Rect>
+    ensures { MatchOption result (rects.now ≡ []) (λ j. Every (λ (r : Rectangle). IsWithin r j) rects.now) }
+{
+    let mut joined = *rects.first()?;
+    for r in rects {
+        joined = joined.join(r);
+    }
+    Some(joined)
+}
+
+// The handles of the placed rectangles that meet one of these, one after another: a handle may come twice.
+fn near_each(alloc: Global, index: &Index, rects: &[Rect]) -> Result<Vec<u32>, NoMemory>
+    ensures { IfOk result (λ v. HasNear v.items index.now rects.now) }
+{
+    let mut found = Vec::new(alloc);
+    for r in rects {
+        let mut near = index.query(alloc, r)?;
+        found.append(&mut near)?;
+    }
+    Ok(found)
+}
+
+// The handles of the placed rectangles that meet the least rectangle that holds these.
+fn near_join(alloc: Global, index: &Index, rects: &[Rect]) -> Result<Vec<u32>, NoMemory>
+    ensures { IfOk result (λ v. HasNear v.items index.now rects.now) }
+{
+    match join_of_all(rects) {
+        Some(joined) => index.query(alloc, &joined),
+        None => Ok(Vec::new(alloc)),
+    }
 }
 
 impl DirtyParts {
@@ -50,8 +86,8 @@ impl DirtyParts {
     pub fn of(alloc: Global, dirt: &Dirt, window: &Rect) -> Result<DirtyParts, NoMemory>
         ensures { IfOk result (λ x. (p : Point) → Covers x p ↔ (Covers dirt.now p × RectHolds window.now p)) }
     {
-        let index = Index::of(parts_of(alloc, dirt.rects(), window)?);
-        Ok(DirtyParts { index })
+        let parts = SortedRects::of(parts_of(alloc, dirt.rects(), window)?);
+        Ok(DirtyParts { parts })
     }
 
     /// Whether some point of the rectangle is dirty and in the window; touching is meeting.
@@ -59,6 +95,18 @@ impl DirtyParts {
         ensures { IsTrue result ↔ MeetsDirt self.now r.now }
     {
         r.corner_law();
-        self.index.meets(r)
+        self.parts.meets(r)
+    }
+
+    /// The handles of the placed rectangles that meet a part, and it may be of others; a handle may come twice. Asks the
+    /// index for each part where there are at most 64, else once, for the least rectangle that holds them all.
+    pub fn near(&self, alloc: Global, index: &Index) -> Result<Vec<u32>, NoMemory>
+        ensures { IfOk result (λ v. HasNear v.items index.now self.now) }
+    {
+        let parts = self.parts.rects();
+        if parts.len() <= PART_LIMIT {
+            return near_each(alloc, index, parts);
+        }
+        near_join(alloc, index, parts)
     }
 }

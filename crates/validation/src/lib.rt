@@ -3,12 +3,11 @@
 
 mod dirty;
 mod frame;
-mod index;
 mod judge;
 mod lookup;
 mod near;
-mod once;
 mod selection;
+mod sorted;
 mod window;
 
 pub use window::validate;

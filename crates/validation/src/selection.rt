@@ -1,18 +1,21 @@
 ghost use Rattle.std.specs.Prelude.{◌≡◌, ◌↔◌, ℕ, [], ◌∷◌, ◌++◌, if◌then◌else◌, Contains, IfOk, OnOk};
+ghost use Rattle.std.specs.Option.{option_to_list};
 ghost use Rattle.std.specs.List.Sorted.{IsStrictlyIncreasing};
-ghost use Rattle.topology_terms.specs.Feature.{env};
+ghost use Rattle.topology_terms.specs.Feature.{env, feature_at};
 ghost use Rattle.topology_terms.specs.Feature as features_of;
 ghost use Rattle.topology_terms.specs.Entry as entries_of;
 ghost use Rattle.topology_terms.specs.Project.{Project};
 ghost use Rattle.topology_terms.specs.Changes.{IsSelected};
 ghost use Rattle.plane_terms.specs.Dirt.{MeetsDirt};
-ghost use Rattle.validation_laws.specs.Parts.{IsRising};
+ghost use Rattle.validation_laws.specs.Parts.{IsRising, live_of};
 ghost use Rattle.validation_laws.specs.Picked.{ArePicked};
+ghost use Rattle.validation.specs.Placed.{ArePlaced};
 
 use crate::dirty::DirtyParts;
-use crate::once::once_each;
+use crate::lookup::find;
 use dirty_area::Dirt;
 use error_store::{Entry, Errors};
+use grid_index::{Index, once_each};
 use grid_plane::{Handles, NoMemory, Rect};
 use shape::Feature;
 use std::alloc::Global;
@@ -26,16 +29,34 @@ fn push_if(found: &mut Vec<u32>, test: bool, handle: u32) -> Result<(), NoMemory
     Ok(())
 }
 
-// The features whose envelope meets what is dirty of the window.
-fn add_features(
+// The live feature of this handle, if its envelope meets what is dirty of the window.
+fn add_feature(
     features: &[Feature],
+    handle: u32,
     dirty: &DirtyParts,
     found: &mut Vec<u32>,
 ) -> Result<(), NoMemory>
-    ensures { OnOk result (ArePicked (λ (f : features_of.Feature). MeetsDirt dirty.now (env f)) (λ (f : features_of.Feature). f.handle) features.now found.old.items found.new.items) }
+    requires { features_of.IsAscending features.now }
+    ensures { OnOk result (ArePicked (λ (f : features_of.Feature). MeetsDirt dirty.now (env f)) (λ (f : features_of.Feature). f.handle) (option_to_list (feature_at features.now handle)) found.old.items found.new.items) }
 {
-    for f in features {
-        push_if(found, dirty.meets(&f.shape().env()), f.handle())?;
+    match find(features, handle) {
+        Some(f) => push_if(found, dirty.meets(&f.shape().env()), f.handle()),
+        None => Ok(()),
+    }
+}
+
+// The live features of these handles whose envelope meets what is dirty of the window.
+fn add_features(
+    features: &[Feature],
+    handles: &[u32],
+    dirty: &DirtyParts,
+    found: &mut Vec<u32>,
+) -> Result<(), NoMemory>
+    requires { features_of.IsAscending features.now }
+    ensures { OnOk result (ArePicked (λ (f : features_of.Feature). MeetsDirt dirty.now (env f)) (λ (f : features_of.Feature). f.handle) (live_of features.now handles.now) found.old.items found.new.items) }
+{
+    for handle in handles {
+        add_feature(features, *handle, dirty, found)?;
     }
     Ok(())
 }
@@ -63,21 +84,25 @@ fn handles_of(alloc: Global, found: &[u32]) -> Result<Handles, NoMemory>
 }
 
 /// The handles that the window and the dirt select: of live features by their envelope, and of subjects of errors by the
-/// error's frame.
+/// error's frame. The index says where to look for features; what else stands in it changes nothing.
 pub fn select(
     alloc: Global,
     features: &[Feature],
+    index: &Index,
     errors: &Errors,
     dirt: &Dirt,
     window: &Rect,
 ) -> Result<Handles, NoMemory>
-    requires { features_of.IsAscending features.now }
+    requires ascending { features_of.IsAscending features.now }
+    requires placed { ArePlaced index.now features.now }
     ensures rising { IfOk result IsRising }
     ensures chosen { IfOk result (λ s. (p : Project) → p.features ≡ features.now → p.dirt ≡ dirt.now → p.entries ≡ errors.now → (a : ℕ) → Contains s a ↔ IsSelected p window.now a) }
 {
     let dirty = DirtyParts::of(alloc, dirt, window)?;
+    let mut near = dirty.near(alloc, index)?;
+    once_each(&mut near);
     let mut found = Vec::new(alloc);
-    add_features(features, &dirty, &mut found)?;
+    add_features(features, &near, &dirty, &mut found)?;
     add_subjects(errors.entries(), &dirty, &mut found)?;
     once_each(&mut found);
     handles_of(alloc, &found)

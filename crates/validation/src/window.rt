@@ -10,13 +10,15 @@ ghost use Rattle.topology_terms.specs.Settled.{IsSettledUnder, IsValidatedBy};
 ghost use Rattle.topology_terms.specs.Changes.{IsSelected};
 ghost use Rattle.validation_laws.specs.Parts.{IsRising, IsJudging, live_of};
 ghost use Rattle.topology_terms.specs.Counts.{raised, judged_of};
+ghost use Rattle.validation.specs.Placed.{ArePlaced};
 ghost use Rattle.validation.specs.Projects.{HasParts, with_parts};
 
 use crate::judge::judge_all;
-use crate::near::{FeatureIndex, reach_of};
+use crate::near::FeatureIndex;
 use crate::selection::select;
 use dirty_area::Dirt;
 use error_store::{Entry, Errors};
+use grid_index::Index;
 use grid_plane::{Handles, NoMemory, Rect};
 use rule_core::{InForce, RuleSet, Work};
 use shape::Feature;
@@ -28,28 +30,29 @@ fn rejudge<R: RuleSet>(
     alloc: Global,
     in_force: &[InForce],
     features: &[Feature],
+    index: &Index,
     selected: &Handles,
-    window: &Rect,
     work: &mut Work,
 ) -> Result<Vec<Entry>, NoMemory>
     requires rules { AreAscending in_force.now }
     requires features { IsAscending features.now }
     requires fits { (n : ℕ) (row : Row) → rule_at in_force.now n ≡ Some row → R.meaning.Fits row features.now }
     requires selected { IsRising selected.now }
+    requires placed { ArePlaced index.now features.now }
     ensures judging { IfOk result (λ es. IsJudging R.meaning features.now in_force.now selected.now es.items) }
     ensures ascending { IfOk result (λ es. entries_of.IsAscending es.items) }
     ensures judged { IfOk result (λ _. work.new ≡ raised work.old (judged_of in_force.now (live_of features.now selected.now))) }
     ensures stopped { OnErr result (work.new ≤ raised work.old (judged_of in_force.now (live_of features.now selected.now))) }
 {
-    let reach = reach_of(features, selected, window);
-    let indexed = FeatureIndex::of(alloc, features, reach)?;
+    let indexed = FeatureIndex::of(features, index);
     let mut found = Vec::new(alloc);
     judge_all(rules, alloc, in_force, &indexed, selected, &mut found, work)?;
     Ok(found)
 }
 
 /// Validates the window: every rule in force judges each live feature of its subjects that the window and the dirt select;
-/// the entries of the selected subjects give way to the findings, and the window is cut out of the dirt.
+/// the entries of the selected subjects give way to the findings, and the window is cut out of the dirt. Each live feature
+/// stands in the index, which says where to look for features; other pairs that stand there change nothing.
 ///
 /// The count of judgements rises by exactly the number of pairs of a rule in force and a selected feature that it judges.
 /// After an `Err`, out of memory, it has risen by no more, and errors and dirt are as they were: all growth comes before the
@@ -59,6 +62,7 @@ pub fn validate<R: RuleSet>(
     alloc: Global,
     in_force: &[InForce],
     features: &[Feature],
+    index: &Index,
     errors: &mut Errors,
     dirt: &mut Dirt,
     window: &Rect,
@@ -67,6 +71,7 @@ pub fn validate<R: RuleSet>(
     requires rules { AreAscending in_force.now }
     requires features { IsAscending features.now }
     requires fits { (n : ℕ) (row : Row) → rule_at in_force.now n ≡ Some row → R.meaning.Fits row features.now }
+    requires placed { ArePlaced index.now features.now }
     ensures step { OnOk result ((p : Project) → HasParts p in_force.now features.now dirt.old errors.old → IsValidatedBy R.meaning window.now p (with_parts p dirt.new errors.new)) }
     ensures valid { OnOk result ((p : Project) → HasParts p in_force.now features.now dirt.old errors.old → IsProject R.meaning p → IsProject R.meaning (with_parts p dirt.new errors.new)) }
     ensures sound { OnOk result ((p : Project) → HasParts p in_force.now features.now dirt.old errors.old → IsProject R.meaning p → IsSoundUnder R.meaning p → IsSoundUnder R.meaning (with_parts p dirt.new errors.new)) }
@@ -77,8 +82,8 @@ pub fn validate<R: RuleSet>(
     ensures errors_kept { OnErr result (errors.new ≡ errors.old) }
     ensures dirt_kept { OnErr result (dirt.new ≡ dirt.old) }
 {
-    let selected = select(alloc, features, errors, dirt, window)?;
-    let fresh = rejudge(rules, alloc, in_force, features, &selected, window, work)?;
+    let selected = select(alloc, features, index, errors, dirt, window)?;
+    let fresh = rejudge(rules, alloc, in_force, features, index, &selected, work)?;
     let left = dirt.cut(alloc, window)?;
     errors.replace(alloc, &selected, fresh)?;
     *dirt = left;

@@ -1,7 +1,9 @@
-use Rattle.std.proofs.Common.{◌≡◌, ◌++◌, drop}
+use Rattle.std.proofs.Common.{drop}
 use Rattle.wkt_laws.specs.Commas.{comma_texts}
 use Rattle.script_terms.specs.Reply.{half_text}
+use Rattle.wkt_text.specs.Appended.{Pushed}
 use Rattle.reply_text.proofs.cells.push_more_halves.Given as goal
 
 abbrev pub invariant-loop-i : goal.invariant-loop-i
-invariant-loop-i l = l.out.items ++ comma_texts half_text (drop l.i l.cell) ≡ l.initial.out.items ++ comma_texts half_text (drop 1 l.cell)
+invariant-loop-i l =
+    Pushed l.initial.out.items l.out.items (comma_texts half_text (drop 1 l.cell)) (comma_texts half_text (drop l.i l.cell))

@@ -1,15 +1,72 @@
-use Rattle.std.proofs.Common.{arith}
+use Rattle.std.proofs.Common.{arith, refl}
 use Rattle.std.proofs.lemmas.Grind.{common_steps}
+use Rattle.wkt_text.proofs.Pushing.{failed}
+use Rattle.reply_text.proofs.Fronts.{first_cut, last_cut, next_cut}
 use Rattle.wkt_text.proofs.Values.{as_number}
 use Rattle.reply_text.proofs.numbers.push_rect.Goals as goal
+
+pub returns-in_err-push_number : goal.returns-in_err-push_number
+returns-in_err-push_number c =
+    failed c.from_residual.result _ _ _ _ c.from_residual.ensures.0 refl
+    (first_cut _ _ _ _ _ (as_number _ _ c.x0.ensures.bound c.x0.ensures.value) c.in_err-push_number.ensures)
+
+pub returns-in_err-push_text : goal.returns-in_err-push_text
+returns-in_err-push_text c =
+    failed c.from_residual-in_err-push_text.result _ _ _ _ c.from_residual-in_err-push_text.ensures.0 refl
+    (next_cut _ _ _ _ _ _ (as_number _ _ c.x0.ensures.bound c.x0.ensures.value) c.in_ok-push_number.ensures
+    (first_cut _ _ _ _ _ refl c.in_err-push_text.ensures))
+
+pub returns-in_err-push_number-2 : goal.returns-in_err-push_number-2
+returns-in_err-push_number-2 c =
+    failed c.from_residual-in_err-push_number-2.result _ _ _ _ c.from_residual-in_err-push_number-2.ensures.0 refl
+    (next_cut _ _ _ _ _ _ (as_number _ _ c.x0.ensures.bound c.x0.ensures.value) c.in_ok-push_number.ensures
+    (next_cut _ _ _ _ _ _ refl c.in_ok-push_text.ensures (first_cut _ _ _ _ _
+    (as_number _ _ c.y0.ensures.bound c.y0.ensures.value) c.in_err-push_number-2.ensures)))
+
+pub returns-in_err-push_text-2 : goal.returns-in_err-push_text-2
+returns-in_err-push_text-2 c =
+    failed c.from_residual-in_err-push_text-2.result _ _ _ _ c.from_residual-in_err-push_text-2.ensures.0 refl
+    (next_cut _ _ _ _ _ _ (as_number _ _ c.x0.ensures.bound c.x0.ensures.value) c.in_ok-push_number.ensures
+    (next_cut _ _ _ _ _ _ refl c.in_ok-push_text.ensures (next_cut _ _ _ _ _ _
+    (as_number _ _ c.y0.ensures.bound c.y0.ensures.value) c.in_ok-push_number-2.ensures
+    (first_cut _ _ _ _ _ refl c.in_err-push_text-2.ensures))))
+
+pub returns-in_err-push_number-3 : goal.returns-in_err-push_number-3
+returns-in_err-push_number-3 c =
+    failed c.from_residual-in_err-push_number-3.result _ _ _ _ c.from_residual-in_err-push_number-3.ensures.0 refl
+    (next_cut _ _ _ _ _ _ (as_number _ _ c.x0.ensures.bound c.x0.ensures.value) c.in_ok-push_number.ensures
+    (next_cut _ _ _ _ _ _ refl c.in_ok-push_text.ensures (next_cut _ _ _ _ _ _
+    (as_number _ _ c.y0.ensures.bound c.y0.ensures.value) c.in_ok-push_number-2.ensures
+    (next_cut _ _ _ _ _ _ refl c.in_ok-push_text-2.ensures (first_cut _ _ _ _ _
+    (as_number _ _ c.x1.ensures.bound c.x1.ensures.value) c.in_err-push_number-3.ensures)))))
+
+pub returns-in_err-push_text-3 : goal.returns-in_err-push_text-3
+returns-in_err-push_text-3 c =
+    failed c.from_residual-in_err-push_text-3.result _ _ _ _ c.from_residual-in_err-push_text-3.ensures.0 refl
+    (next_cut _ _ _ _ _ _ (as_number _ _ c.x0.ensures.bound c.x0.ensures.value) c.in_ok-push_number.ensures
+    (next_cut _ _ _ _ _ _ refl c.in_ok-push_text.ensures (next_cut _ _ _ _ _ _
+    (as_number _ _ c.y0.ensures.bound c.y0.ensures.value) c.in_ok-push_number-2.ensures
+    (next_cut _ _ _ _ _ _ refl c.in_ok-push_text-2.ensures (next_cut _ _ _ _ _ _
+    (as_number _ _ c.x1.ensures.bound c.x1.ensures.value) c.in_ok-push_number-3.ensures
+    (first_cut _ _ _ _ _ refl c.in_err-push_text-3.ensures))))))
+
+pub returns-in_err-push_number-4 : goal.returns-in_err-push_number-4
+returns-in_err-push_number-4 c =
+    failed c.from_residual-in_err-push_number-4.result _ _ _ _ c.from_residual-in_err-push_number-4.ensures.0 refl
+    (next_cut _ _ _ _ _ _ (as_number _ _ c.x0.ensures.bound c.x0.ensures.value) c.in_ok-push_number.ensures
+    (next_cut _ _ _ _ _ _ refl c.in_ok-push_text.ensures (next_cut _ _ _ _ _ _
+    (as_number _ _ c.y0.ensures.bound c.y0.ensures.value) c.in_ok-push_number-2.ensures
+    (next_cut _ _ _ _ _ _ refl c.in_ok-push_text-2.ensures (next_cut _ _ _ _ _ _
+    (as_number _ _ c.x1.ensures.bound c.x1.ensures.value) c.in_ok-push_number-3.ensures
+    (next_cut _ _ _ _ _ _ refl c.in_ok-push_text-3.ensures (last_cut _ _ _ _
+    (as_number _ _ c.y1.ensures.bound c.y1.ensures.value) c.in_err-push_number-4.ensures)))))))
 
 pub returns : goal.returns
 returns c = grind (
   arith,
   common_steps,
   as_number _ _ c.x0.ensures.bound c.x0.ensures.value,
-  as_number _ _ c.y0.ensures.bound
-      c.y0.ensures.value,
+  as_number _ _ c.y0.ensures.bound c.y0.ensures.value,
   as_number _ _ c.x1.ensures.bound c.x1.ensures.value,
   as_number _ _ c.y1.ensures.bound c.y1.ensures.value,
 )

@@ -19,3 +19,9 @@ returns-then-is_replay-clause-complete g c =
       now = g.K.Sink.faults c.replay.new.sink;
     } in
     rw c.code_of.ensures (λ words. completes s k c.replay.result c.replay.ensures.ends)
+
+pub returns-in_default-clause-town : goal.returns-in_default-clause-town
+returns-in_default-clause-town g c = λ seed n asked. absurd (c.in_default.ensures seed n asked)
+
+pub returns-in_default-clause-town_complete : goal.returns-in_default-clause-town_complete
+returns-in_default-clause-town_complete g c = λ seed n asked. absurd (c.in_default.ensures seed n asked)

@@ -1,5 +1,4 @@
 use Rattle.std.proofs.lemmas.List.{take_all}
-use Rattle.validation.specs.declared.index.Spot.{Spot}
 use Rattle.validation.proofs.Dirtied.{parts_more, parts_same, grid_more}
 use Rattle.validation.proofs.dirty.parts_of.Goals as goal
 use Rattle.validation.proofs.dirty.parts_of.Goals.{in-Some+in_ok-push, in_default}
@@ -14,7 +13,7 @@ loop-r-preserved c =
     let h = c.loop-r.invariant in
     elim c.match-part.branch [
       | in-Some+in_ok-push w ↦
-          let s : Spot = record { env = w.in-Some.env; handle = 0 } in
+          let s = w.in-Some.part in
           let after = w.push.new.self.items in
           rw w.parts-is (
             parts_more before after s rs window r i c.loop-r-test.true c.r-item.is w.in-Some.ensures.meaning.points

@@ -1,12 +1,15 @@
 use Rattle.std.proofs.Common.{get_or}
 use Rattle.std.proofs.lemmas.List.{get_or_default}
-use Rattle.validation.proofs.Nearby.{below_next}
+use Rattle.plane_terms.specs.Rectangle.{rects_meet}
+use Rattle.topology_terms.specs.Feature.{Feature, env}
+use Rattle.validation.proofs.Nearby.{seen_below}
 use Rattle.validation.proofs.near.view_among.Goals as goal
 
 pub push-requires : goal.push-requires
 push-requires c =
-    let hs = c.args.handles.now in
+    let ns = c.args.handles.now in
     let i = c.loop-handle.handle-index in
-    let h = get_or hs i 0 in
-    rw c.loop-handle.invariant (below_next c.args.features.now hs i h c.in-Some.f.now c.requires.handles c.loop-handle-test.true
-    (get_or_default hs i 0 h c.loop-handle-test.true) c.in-Some.ensures)
+    let a = get_or ns i 0 in
+    seen_below (λ (g : Feature). rects_meet c.args.r.now (env g)) c.args.features.now c.loop-handle.view ns i a c.in-Some.f.now
+    c.requires.handles c.loop-handle-test.true (get_or_default ns i 0 a c.loop-handle-test.true) c.in-Some.ensures.live
+    c.loop-handle.invariant

@@ -1,16 +1,22 @@
-use Rattle.std.proofs.lemmas.List.{take_all}
+use Rattle.std.proofs.Common.{get_or}
+use Rattle.std.proofs.lemmas.List.{take_all, get_or_default}
 use Rattle.topology_terms.specs.Feature.{Feature, env}
 use Rattle.plane_terms.specs.Dirt.{MeetsDirt}
-use Rattle.validation_laws.proofs.Selecting.{picked_more}
+use Rattle.validation_laws.proofs.Selecting.{picked_none}
+use Rattle.validation.proofs.Picking.{picked_live}
 use Rattle.validation.proofs.selection.add_features.Goals as goal
 
-pub loop-f-preserved : goal.loop-f-preserved
-loop-f-preserved c =
-    let d = c.args.dirty.now in
-    picked_more (λ (f : Feature). MeetsDirt d (env f)) (λ (f : Feature). f.handle) c.args.features.now c.loop-f.f-index c.f-item.result
-    c.args.found.now.items c.loop-f.found.items c.push_if.new.found.items c.meets.result c.handle.result
-    c.loop-f-test.true c.f-item.is (rw (c.env.ensures, c.shape.ensures) at c.meets.ensures) c.handle.ensures c.loop-f.invariant
-    c.in_ok-push_if.ensures
+pub loop-handle-init : goal.loop-handle-init
+loop-handle-init c = picked_none (λ (f : Feature). MeetsDirt c.args.dirty.now (env f)) (λ (f : Feature). f.handle) c.args.found.now.items
+
+pub loop-handle-preserved : goal.loop-handle-preserved
+loop-handle-preserved c =
+    let ns = c.args.handles.now in
+    let i = c.loop-handle.handle-index in
+    let a = get_or ns i 0 in
+    picked_live (λ (f : Feature). MeetsDirt c.args.dirty.now (env f)) c.args.features.now ns i a
+    c.args.found.now.items c.loop-handle.found.items c.add_feature.new.found.items c.loop-handle-test.true
+    (get_or_default ns i 0 a c.loop-handle-test.true) c.loop-handle.invariant c.in_ok-add_feature.ensures
 
 pub returns : goal.returns
-returns c = λ a. rw (take_all c.loop-f.f-index c.args.features.now c.loop-f-test.false) at (c.loop-f.invariant a)
+returns c = λ a. rw (take_all c.loop-handle.handle-index c.args.handles.now c.loop-handle-test.false) at (c.loop-handle.invariant a)

@@ -4,17 +4,18 @@ use Rattle.topology_terms.specs.Feature.{Feature, env}
 use Rattle.topology_terms.specs.Entry.{Entry}
 use Rattle.topology_terms.specs.Project.{Project}
 use Rattle.topology_terms.specs.Changes.{IsSelected}
-use Rattle.plane_terms.specs.Dirt.{MeetsPart}
-use Rattle.validation_laws.specs.Parts.{IsRising}
+use Rattle.plane_terms.specs.Dirt.{MeetsDirt, MeetsPart}
+use Rattle.validation_laws.specs.Parts.{IsRising, live_of}
 use Rattle.validation_laws.specs.Picked.{ArePicked}
 use Rattle.validation_laws.proofs.Handles.{rising}
 use Rattle.validation_laws.proofs.Selecting.{selected_picked}
 use Rattle.validation.proofs.Dirtied.{meets_parts, picked_as}
+use Rattle.validation.proofs.Picking.{picked_near, dirty_near}
 use Rattle.validation.proofs.selection.select.Goals as goal
 
 pub returns-clause-rising : goal.returns-clause-rising
-returns-clause-rising c = IfOk-weaker c.handles_of.result _ IsRising (λ s h. subst IsRising (sym (h ∙ c.deref.ensures.value))
-    (rising c.once_each.new.found.items c.once_each.ensures.ascending)) c.handles_of.ensures
+returns-clause-rising c = IfOk-weaker c.handles_of.result _ IsRising (λ s h. subst IsRising (sym (h ∙ c.deref-2.ensures.value))
+    (rising c.once_each-2.new.found.items c.once_each-2.ensures.ascending)) c.handles_of.ensures
 
 pub returns-clause-chosen : goal.returns-clause-chosen
 returns-clause-chosen c = IfOk-weaker c.handles_of.result _
@@ -25,13 +26,19 @@ returns-clause-chosen c = IfOk-weaker c.handles_of.result _
     let early = c.add_features.new.found.items in
     let late = c.add_subjects.new.found.items in
     let meets = meets_parts c.in_ok-dirty.dirty c.args.dirt.now w c.in_ok-dirty.ensures in
+    let dirty : Feature → Type 0 = λ (f : Feature). MeetsDirt c.in_ok-dirty.dirty (env f) in
+    let F = c.args.features.now in
+    let enough = dirty_near c.args.index.now F c.in_ok-dirty.dirty c.in_ok-near.near.items c.once_each.new.found.items c.requires.placed
+    c.in_ok-near.ensures c.once_each.ensures.same in
+    let among : ArePicked dirty (λ (f : Feature). f.handle) (live_of F c.once_each.new.found.items) [] early =
+    rw (c.new-found.ensures.items, c.deref.ensures.value) at c.in_ok-add_features.ensures in
     let first : ArePicked (λ (f : Feature). MeetsPart p.dirt w (env f)) (λ (f : Feature). f.handle) p.features [] early =
-    rw (ef, ed) (picked_as _ (λ (f : Feature). MeetsPart c.args.dirt.now w (env f)) (λ (f : Feature). f.handle) c.args.features.now []
-    early (λ f. meets (env f)) (rw c.new-found.ensures.items at c.in_ok-add_features.ensures)) in
+    rw (ef, ed) (picked_as dirty (λ (f : Feature). MeetsPart c.args.dirt.now w (env f)) (λ (f : Feature). f.handle) F [] early
+    (λ f. meets (env f)) (picked_near dirty F c.once_each.new.found.items [] early c.requires.ascending enough among)) in
     let second : ArePicked (λ (e : Entry). MeetsPart p.dirt w e.frame) (λ (e : Entry). e.subject) p.entries early late =
     rw (ee, ed) (picked_as _ (λ (e : Entry). MeetsPart c.args.dirt.now w e.frame) (λ (e : Entry). e.subject) c.args.errors.now early
     late (λ e. meets e.frame) (rw c.entries.ensures.value at c.in_ok-add_subjects.ensures)) in
-    let chosen = selected_picked p w early late (rw ef c.requires) (rw ee c.entries.ensures.ascending) first second a in
-    let once = c.once_each.ensures.same a in
-    subst (λ t. Contains t a ↔ IsSelected p w a) (sym (h ∙ c.deref.ensures.value)) ((λ k. chosen.0 (once.0 k)), (λ k. once.1 (chosen.1 k))))
+    let chosen = selected_picked p w early late (rw ef c.requires.ascending) (rw ee c.entries.ensures.ascending) first second a in
+    let once = c.once_each-2.ensures.same a in
+    subst (λ t. Contains t a ↔ IsSelected p w a) (sym (h ∙ c.deref-2.ensures.value)) ((λ k. chosen.0 (once.0 k)), (λ k. once.1 (chosen.1 k))))
     c.handles_of.ensures

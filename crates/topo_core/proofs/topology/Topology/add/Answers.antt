@@ -1,4 +1,4 @@
-use Rattle.std.proofs.Common.{subst, sym}
+use Rattle.std.proofs.Common.{refl, subst, sym}
 use Rattle.topology_terms.specs.Project.{Project}
 use Rattle.topology_terms.specs.Causes.{Tells, add_cause}
 use Rattle.topology_terms.specs.Sound.{IsSoundUnder}
@@ -7,6 +7,7 @@ use Rattle.topo_core.specs.Faults.{change_fault, edit_cause}
 use Rattle.topo_core.proofs.Whole.{ordered}
 use Rattle.topo_core.proofs.Kept.{edit_keeps, edit_sound_kept, edit_settled_kept}
 use Rattle.topo_core.proofs.Exchanges.{added, told_add, told}
+use Rattle.topo_core.proofs.Standing.{next_placed, same_indexed}
 use Rattle.topo_core.proofs.topology.Topology.add.Goals as goal
 
 pub returns-in_err-check_add-clause-refused : goal.returns-in_err-check_add-clause-refused
@@ -18,51 +19,65 @@ returns-in_err-check_add-clause-refused g c =
     (told_add c.in_err-check_add.field-0.0 c.self.inside.store.classes c.self.inside.store.next c.args.class c.args.shape.kind
     c.in_err-check_add.ensures.refused))
 
+pub invariant_of-self-in_err-dirty_next : goal.invariant_of-self-in_err-dirty_next
+invariant_of-self-in_err-dirty_next g c = same_indexed c.self.inside.store c.room.new.self c.self.inside.rules.items c.self.inside.dirt
+    c.dirty_next.new.dirt c.self.inside.entries c.self.inside.index c.dirty_next.new.index c.room.ensures.same
+    c.in_err-dirty_next.ensures.err c.in_err-dirty_next.ensures.placed c.self.invariant
+
+pub returns-in_err-dirty_next-clause-ordered : goal.returns-in_err-dirty_next-clause-ordered
+returns-in_err-dirty_next-clause-ordered g c = ordered _ (invariant_of-self-in_err-dirty_next g c).topology
+
 pub invariant_of-self-2 : goal.invariant_of-self-2
-invariant_of-self-2 g c = edit_keeps c.add_in-handle.result _ _ _ c.self.invariant
-    (added c.args.class c.args.shape c.add_in-handle.result c.self.inside.store c.room.new.self c.add_in-handle.new.self
-    c.self.inside.rules.items c.self.inside.dirt c.add.new.self c.self.inside.entries c.self.invariant c.room.ensures.same
+invariant_of-self-2 g c =
+    let edit = (added c.args.class c.args.shape c.add_in-handle.result c.self.inside.store c.room.new.self c.add_in-handle.new.self
+    c.self.inside.rules.items c.self.inside.dirt c.dirty_next.new.dirt c.self.inside.entries c.self.invariant.topology c.room.ensures.same
     c.add_in-handle.ensures.number (record {
       classes = c.add_in-handle.ensures.classes;
       features =
           c.add_in-handle.ensures.features;
       next_is = c.add_in-handle.ensures.next;
-    }) (rw c.env-env.ensures at c.in_ok-add.ensures.ok)).edit
-    c.store_law.ensures (rw c.env-env.ensures at c.corner_law.ensures)
+    }) (rw c.env-env.ensures at c.in_ok-dirty_next.ensures.ok)).edit in
+    record {
+      topology = edit_keeps c.add_in-handle.result _ _ _ c.self.invariant.topology edit c.store_law.ensures
+          (rw c.env-env.ensures at c.corner_law.ensures);
+      placed = next_placed c.add_in-handle.result (record { handle = c.add_in-handle.result; class = c.args.class; shape = c.args.shape })
+          c.self.inside.store.features c.add_in-handle.new.self.features c.self.inside.index c.dirty_next.new.index refl edit.features
+          (rw (c.env-env.ensures, ← c.add_in-handle.ensures.number) at c.in_ok-dirty_next.ensures.put) c.self.invariant.placed;
+    }
 
 pub returns-clause-ok : goal.returns-clause-ok
 returns-clause-ok g c = rw (← c.self.view_is) (added c.args.class c.args.shape c.add_in-handle.result c.self.inside.store c.room.new.self
-    c.add_in-handle.new.self c.self.inside.rules.items c.self.inside.dirt c.add.new.self c.self.inside.entries c.self.invariant
+    c.add_in-handle.new.self c.self.inside.rules.items c.self.inside.dirt c.dirty_next.new.dirt c.self.inside.entries c.self.invariant.topology
     c.room.ensures.same c.add_in-handle.ensures.number (record {
       classes = c.add_in-handle.ensures.classes;
       features =
           c.add_in-handle.ensures.features;
       next_is = c.add_in-handle.ensures.next;
-    }) (rw c.env-env.ensures at c.in_ok-add.ensures.ok))
+    }) (rw c.env-env.ensures at c.in_ok-dirty_next.ensures.ok))
 
 pub returns-clause-sound : goal.returns-clause-sound
 returns-clause-sound g c = λ k. edit_sound_kept g.R.RuleSet.meaning g.met.R.RuleSet.laws g.met.R.KindRules.kinds c.add_in-handle.result _ _
-    _ c.self.invariant (invariant_of-self-2 g c) (added c.args.class c.args.shape c.add_in-handle.result c.self.inside.store c.room.new.self
-    c.add_in-handle.new.self c.self.inside.rules.items c.self.inside.dirt c.add.new.self c.self.inside.entries c.self.invariant
+    _ c.self.invariant.topology (invariant_of-self-2 g c).topology (added c.args.class c.args.shape c.add_in-handle.result c.self.inside.store c.room.new.self
+    c.add_in-handle.new.self c.self.inside.rules.items c.self.inside.dirt c.dirty_next.new.dirt c.self.inside.entries c.self.invariant.topology
     c.room.ensures.same c.add_in-handle.ensures.number (record {
       classes = c.add_in-handle.ensures.classes;
       features =
           c.add_in-handle.ensures.features;
       next_is = c.add_in-handle.ensures.next;
-    }) (rw c.env-env.ensures at c.in_ok-add.ensures.ok)).edit
+    }) (rw c.env-env.ensures at c.in_ok-dirty_next.ensures.ok)).edit
     (subst (IsSoundUnder g.R.RuleSet.meaning) (sym c.self.view_is) k)
 
 pub returns-clause-settled : goal.returns-clause-settled
 returns-clause-settled g c = λ k. edit_settled_kept g.R.RuleSet.meaning g.met.R.RuleSet.laws g.met.R.KindRules.kinds c.add_in-handle.result
-    _ _ _ c.self.invariant (invariant_of-self-2 g c) (added c.args.class c.args.shape c.add_in-handle.result c.self.inside.store
-    c.room.new.self c.add_in-handle.new.self c.self.inside.rules.items c.self.inside.dirt c.add.new.self c.self.inside.entries
-    c.self.invariant c.room.ensures.same c.add_in-handle.ensures.number (record {
+    _ _ _ c.self.invariant.topology (invariant_of-self-2 g c).topology (added c.args.class c.args.shape c.add_in-handle.result c.self.inside.store
+    c.room.new.self c.add_in-handle.new.self c.self.inside.rules.items c.self.inside.dirt c.dirty_next.new.dirt c.self.inside.entries
+    c.self.invariant.topology c.room.ensures.same c.add_in-handle.ensures.number (record {
       classes = c.add_in-handle.ensures.classes;
       features =
           c.add_in-handle.ensures.features;
       next_is = c.add_in-handle.ensures.next;
-    }) (rw c.env-env.ensures at c.in_ok-add.ensures.ok)).edit
+    }) (rw c.env-env.ensures at c.in_ok-dirty_next.ensures.ok)).edit
     (subst (IsSettledUnder g.R.RuleSet.meaning) (sym c.self.view_is) k)
 
 pub returns-clause-ordered : goal.returns-clause-ordered
-returns-clause-ordered g c = ordered _ (invariant_of-self-2 g c)
+returns-clause-ordered g c = ordered _ (invariant_of-self-2 g c).topology

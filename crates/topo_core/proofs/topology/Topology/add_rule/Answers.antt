@@ -9,10 +9,13 @@ use Rattle.topo_core.proofs.topology.Topology.add_rule.Goals as goal
 pub invariant_of-self-2 : goal.invariant_of-self-2
 invariant_of-self-2 g c =
     let few : length c.deref-2.result.now < 256 = search rules in
-    rule_keeps c.free_number-number.result c.args.row c.self.inside.store c.self.inside.rules.items c.put_rule.new.rules.items
-    c.self.inside.dirt c.add.new.self c.self.inside.entries (rw c.deref-2.ensures.value at c.free_number-number.ensures.free)
-    (rw c.deref-2.ensures.value at few) (rw c.reserve.ensures.items at c.put_rule.ensures) c.self.invariant
-    (has_kinds _ c.args.row c.in_ok-fit.ensures.ok)
+    record {
+      topology = rule_keeps c.free_number-number.result c.args.row c.self.inside.store c.self.inside.rules.items c.put_rule.new.rules.items
+          c.self.inside.dirt c.add.new.self c.self.inside.entries (rw c.deref-2.ensures.value at c.free_number-number.ensures.free)
+          (rw c.deref-2.ensures.value at few) (rw c.reserve.ensures.items at c.put_rule.ensures) c.self.invariant.topology
+          (has_kinds _ c.args.row c.in_ok-fit.ensures.ok);
+      placed = c.self.invariant.placed;
+    }
 
 pub returns-clause-ok : goal.returns-clause-ok
 returns-clause-ok g c =
@@ -37,7 +40,7 @@ returns-clause-sound g c =
       least = c.free_number-number.ensures.least;
     }) in
     λ k. rule_sound g.R.RuleSet.meaning g.met.R.RuleSet.laws g.met.R.KindRules.kinds c.free_number-number.result c.args.row _ _
-    c.self.invariant (invariant_of-self-2 g c) (rule_added c.free_number-number.result c.args.row c.self.inside.store
+    c.self.invariant.topology (invariant_of-self-2 g c).topology (rule_added c.free_number-number.result c.args.row c.self.inside.store
     c.self.inside.rules.items c.put_rule.new.rules.items c.self.inside.dirt c.add.new.self c.self.inside.entries least
     (rw c.reserve.ensures.items at c.put_rule.ensures) (rw c.whole.ensures at c.in_ok-add.ensures.ok))
     (subst (IsSoundUnder g.R.RuleSet.meaning) (sym c.self.view_is) k)
@@ -51,10 +54,10 @@ returns-clause-settled g c =
           c.free_number-number.ensures.free;
       least = c.free_number-number.ensures.least;
     }) in
-    λ k. rule_settled g.R.RuleSet.meaning g.met.R.KindRules.kinds c.free_number-number.result c.args.row _ _ c.self.invariant
+    λ k. rule_settled g.R.RuleSet.meaning g.met.R.KindRules.kinds c.free_number-number.result c.args.row _ _ c.self.invariant.topology
     (rule_added c.free_number-number.result c.args.row c.self.inside.store c.self.inside.rules.items c.put_rule.new.rules.items
     c.self.inside.dirt c.add.new.self c.self.inside.entries least (rw c.reserve.ensures.items at c.put_rule.ensures)
     (rw c.whole.ensures at c.in_ok-add.ensures.ok)) (subst (IsSettledUnder g.R.RuleSet.meaning) (sym c.self.view_is) k)
 
 pub returns-clause-ordered : goal.returns-clause-ordered
-returns-clause-ordered g c = ordered _ (invariant_of-self-2 g c)
+returns-clause-ordered g c = ordered _ (invariant_of-self-2 g c).topology

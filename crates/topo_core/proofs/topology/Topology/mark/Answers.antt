@@ -12,7 +12,10 @@ invariant_of-self-2 g c =
     let m = c.in_ok-set_mark.ensures in
     let k = c.args.key in
     let i = marked k.rule k.subject k.other c.args.on t.store t.rules.items t.dirt t.entries c.set_mark.new.self m.set in
-    mark_keeps _ _ c.self.invariant i.marking m.ascending
+    record {
+      topology = mark_keeps _ _ c.self.invariant.topology i.marking m.ascending;
+      placed = c.self.invariant.placed;
+    }
 
 pub returns-clause-ok : goal.returns-clause-ok
 returns-clause-ok g c =
@@ -38,4 +41,4 @@ returns-clause-settled g c = λ s.
     mark_settled g.R.RuleSet.meaning _ _ i.marking (subst (IsSettledUnder g.R.RuleSet.meaning) (sym c.self.view_is) s)
 
 pub returns-clause-ordered : goal.returns-clause-ordered
-returns-clause-ordered g c = ordered _ (invariant_of-self-2 g c)
+returns-clause-ordered g c = ordered _ (invariant_of-self-2 g c).topology

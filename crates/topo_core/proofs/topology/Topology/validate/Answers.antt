@@ -13,18 +13,21 @@ use Rattle.topo_core.proofs.topology.Topology.validate.Goals as goal
 
 pub validate-requires-clause-fits : goal.validate-requires-clause-fits
 validate-requires-clause-fits g c = λ n row e. rw c.features.ensures.value (fitting g.R.RuleSet.meaning g.met.R.KindRules.kinds _
-    c.self.invariant n row (rw c.deref.ensures.value at e))
+    c.self.invariant.topology n row (rw c.deref.ensures.value at e))
 
 pub returns-in_err-validate-clause-ordered : goal.returns-in_err-validate-clause-ordered
 returns-in_err-validate-clause-ordered g c = rw (c.in_err-validate.ensures.errors_kept, c.in_err-validate.ensures.dirt_kept)
-    (ordered _ c.self.invariant)
+    (ordered _ c.self.invariant.topology)
 
 pub invariant_of-self-2 : goal.invariant_of-self-2
-invariant_of-self-2 g c = validated_keeps g.R.RuleSet.meaning g.met.R.RuleSet.right g.met.R.KindRules.kinds c.args.window
-    (project_of c.self.inside.store c.self.inside.rules.items c.self.inside.dirt c.self.inside.entries) _ c.self.invariant
-    (c.in_ok-validate.ensures.step (project_of c.self.inside.store c.self.inside.rules.items c.self.inside.dirt c.self.inside.entries)
-    (record { rules = sym c.deref.ensures.value; features = sym c.features.ensures.value; dirt = refl; entries = refl }))
-    c.in_ok-validate.ensures.ordered
+invariant_of-self-2 g c = record {
+  topology = validated_keeps g.R.RuleSet.meaning g.met.R.RuleSet.right g.met.R.KindRules.kinds c.args.window
+      (project_of c.self.inside.store c.self.inside.rules.items c.self.inside.dirt c.self.inside.entries) _ c.self.invariant.topology
+      (c.in_ok-validate.ensures.step (project_of c.self.inside.store c.self.inside.rules.items c.self.inside.dirt c.self.inside.entries)
+      (record { rules = sym c.deref.ensures.value; features = sym c.features.ensures.value; dirt = refl; entries = refl }))
+      c.in_ok-validate.ensures.ordered;
+  placed = c.self.invariant.placed;
+}
 
 pub returns-clause-ok : goal.returns-clause-ok
 returns-clause-ok g c = rw (← c.self.view_is) (c.in_ok-validate.ensures.step (project_of c.self.inside.store c.self.inside.rules.items
@@ -57,7 +60,7 @@ returns-clause-judged g c =
 
 pub returns-clause-sound : goal.returns-clause-sound
 returns-clause-sound g c = λ k. validated_sound_kept g.R.RuleSet.meaning g.met.R.RuleSet.laws g.met.R.RuleSet.right g.met.R.KindRules.kinds
-    c.args.window (project_of c.self.inside.store c.self.inside.rules.items c.self.inside.dirt c.self.inside.entries) _ c.self.invariant
+    c.args.window (project_of c.self.inside.store c.self.inside.rules.items c.self.inside.dirt c.self.inside.entries) _ c.self.invariant.topology
     (c.in_ok-validate.ensures.step (project_of c.self.inside.store c.self.inside.rules.items c.self.inside.dirt c.self.inside.entries)
     (record { rules = sym c.deref.ensures.value; features = sym c.features.ensures.value; dirt = refl; entries = refl }))
     (subst (IsSoundUnder g.R.RuleSet.meaning) (sym c.self.view_is) k)
@@ -65,7 +68,7 @@ returns-clause-sound g c = λ k. validated_sound_kept g.R.RuleSet.meaning g.met.
 pub returns-clause-settled : goal.returns-clause-settled
 returns-clause-settled g c = λ k. validated_settled_kept g.R.RuleSet.meaning g.met.R.RuleSet.laws g.met.R.RuleSet.right
     g.met.R.KindRules.kinds c.args.window (project_of c.self.inside.store c.self.inside.rules.items c.self.inside.dirt
-    c.self.inside.entries) _ c.self.invariant (c.in_ok-validate.ensures.step (project_of c.self.inside.store c.self.inside.rules.items
+    c.self.inside.entries) _ c.self.invariant.topology (c.in_ok-validate.ensures.step (project_of c.self.inside.store c.self.inside.rules.items
     c.self.inside.dirt c.self.inside.entries) (record {
       rules = sym c.deref.ensures.value;
       features = sym c.features.ensures.value;
@@ -76,7 +79,7 @@ returns-clause-settled g c = λ k. validated_settled_kept g.R.RuleSet.meaning g.
 
 pub returns-clause-ordered : goal.returns-clause-ordered
 returns-clause-ordered g c = ordered _ (validated_keeps g.R.RuleSet.meaning g.met.R.RuleSet.right g.met.R.KindRules.kinds c.args.window
-    (project_of c.self.inside.store c.self.inside.rules.items c.self.inside.dirt c.self.inside.entries) _ c.self.invariant
+    (project_of c.self.inside.store c.self.inside.rules.items c.self.inside.dirt c.self.inside.entries) _ c.self.invariant.topology
     (c.in_ok-validate.ensures.step (project_of c.self.inside.store c.self.inside.rules.items c.self.inside.dirt c.self.inside.entries)
     (record { rules = sym c.deref.ensures.value; features = sym c.features.ensures.value; dirt = refl; entries = refl }))
     c.in_ok-validate.ensures.ordered)

@@ -1,0 +1,62 @@
+ghost use Rattle.std.specs.Prelude.{◌≡◌, [], ◌∷◌, ◌++◌, if◌then◌else◌, not, filter, Contains, OnOk};
+ghost use Rattle.grid_index.specs.Near.{is_placed, Adds};
+
+use grid_plane::{NoMemory, Rect};
+
+/// A rectangle, in grid units, and the handle under which it lies there.
+#[derive(Clone, Copy)]
+pub struct Placed {
+    pub rect: Rect,
+    pub handle: u32,
+}
+
+// Whether the other is this rectangle under this handle.
+fn is_same(p: &Placed, q: &Placed) -> bool
+    ensures { result ≡ is_placed p.now q.now }
+{
+    if p.handle != q.handle {
+        return false;
+    }
+    if p.rect.x0() != q.rect.x0() {
+        return false;
+    }
+    if p.rect.y0() != q.rect.y0() {
+        return false;
+    }
+    if p.rect.x1() != q.rect.x1() {
+        return false;
+    }
+    p.rect.y1() == q.rect.y1()
+}
+
+fn is_other(p: &Placed, q: &Placed) -> bool
+    ensures { result ≡ not (is_placed p.now q.now) }
+{
+    !is_same(p, q)
+}
+
+/// Takes the placed rectangle out of the list, as often as it stands there.
+pub(crate) fn drop_placed(list: &mut Vec<Placed>, placed: &Placed)
+    ensures { list.new.items ≡ filter (λ q. not (is_placed placed.now q)) list.old.items }
+{
+    list.retain(|q| is_other(placed, q));
+}
+
+fn push_if(found: &mut Vec<u32>, test: bool, handle: u32) -> Result<(), NoMemory>
+    ensures { OnOk result (found.new.items ≡ found.old.items ++ (if test then handle ∷ [] else [])) }
+{
+    if test {
+        found.push(handle)?;
+    }
+    Ok(())
+}
+
+/// Puts the handles of those of the list that the rectangle meets last.
+pub(crate) fn add_met(list: &[Placed], r: &Rect, found: &mut Vec<u32>) -> Result<(), NoMemory>
+    ensures { OnOk result (Adds r.now (Contains list.now) found.old.items found.new.items) }
+{
+    for placed in list {
+        push_if(found, r.meets(&placed.rect), placed.handle)?;
+    }
+    Ok(())
+}

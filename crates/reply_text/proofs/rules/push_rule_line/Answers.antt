@@ -1,0 +1,42 @@
+use Rattle.std.proofs.Common.{ap, refl}
+use Rattle.std.specs.Prelude.{decimal}
+use Rattle.topology_terms.specs.Project.{InForce}
+use Rattle.script_terms.specs.Reply.{row_text}
+use Rattle.wkt_text.proofs.Pushing.{failed}
+use Rattle.reply_text.proofs.Fronts.{first_cut, next_cut}
+use Rattle.reply_text.proofs.rules.push_rule_line.Goals as goal
+
+pub returns-in_err-push_text : goal.returns-in_err-push_text
+returns-in_err-push_text c =
+    failed c.from_residual.result _ _ _ _ c.from_residual.ensures.0 refl
+    (first_cut _ _ _ _ _ refl c.in_err-push_text.ensures)
+
+pub returns-in_err-push_number : goal.returns-in_err-push_number
+returns-in_err-push_number c =
+    failed c.from_residual-in_err-push_number.result _ _ _ _ c.from_residual-in_err-push_number.ensures.0 refl
+    (next_cut _ _ _ _ _ _ refl c.in_ok-push_text.ensures (first_cut _ _ _ _ _ (ap (λ
+    (rule : InForce). decimal rule.number) c.rule.view_is) c.in_err-push_number.ensures))
+
+pub returns-in_err-push_text-2 : goal.returns-in_err-push_text-2
+returns-in_err-push_text-2 c =
+    failed c.from_residual-in_err-push_text-2.result _ _ _ _ c.from_residual-in_err-push_text-2.ensures.0 refl
+    (next_cut _ _ _ _ _ _ refl c.in_ok-push_text.ensures (next_cut _ _ _ _ _ _ (ap (λ
+    (rule : InForce). decimal rule.number) c.rule.view_is) c.in_ok-push_number.ensures
+    (first_cut _ _ _ _ _ refl c.in_err-push_text-2.ensures)))
+
+pub returns-in_err-push_row : goal.returns-in_err-push_row
+returns-in_err-push_row c =
+    failed c.from_residual-in_err-push_row.result _ _ _ _ c.from_residual-in_err-push_row.ensures.0 refl
+    (next_cut _ _ _ _ _ _ refl c.in_ok-push_text.ensures (next_cut _ _ _ _ _ _ (ap (λ
+    (rule : InForce). decimal rule.number) c.rule.view_is) c.in_ok-push_number.ensures
+    (next_cut _ _ _ _ _ _ refl c.in_ok-push_text-2.ensures (first_cut _ _ _ _ _ (ap (λ
+    (rule : InForce). row_text c.args.store.now.classes rule.row) c.rule.view_is) c.in_err-push_row.ensures))))
+
+pub returns-in_err-push_text-3 : goal.returns-in_err-push_text-3
+returns-in_err-push_text-3 c =
+    failed c.from_residual-in_err-push_text-3.result _ _ _ _ c.from_residual-in_err-push_text-3.ensures.0 refl
+    (next_cut _ _ _ _ _ _ refl c.in_ok-push_text.ensures (next_cut _ _ _ _ _ _ (ap (λ
+    (rule : InForce). decimal rule.number) c.rule.view_is) c.in_ok-push_number.ensures
+    (next_cut _ _ _ _ _ _ refl c.in_ok-push_text-2.ensures (next_cut _ _ _ _ _ _ (ap (λ
+    (rule : InForce). row_text c.args.store.now.classes rule.row) c.rule.view_is) c.in_ok-push_row.ensures
+    c.in_err-push_text-3.ensures))))

@@ -1,0 +1,79 @@
+ghost use Rattle.std.specs.Prelude.{◌≡◌, ◌↔◌, ◌⊎◌, Some, Contains, IsTrue, OnOk, OnErr};
+ghost use Rattle.std.specs.Option.{option_map};
+ghost use Rattle.topology_terms.specs.Feature.{feature_at};
+ghost use Rattle.grid_index.specs.declared.placed.Placed as terms;
+ghost use Rattle.validation.specs.Placed.{placed_of};
+
+use feature_store::Store;
+use grid_index::{Index, Placed};
+use grid_plane::NoMemory;
+use shape::Feature;
+
+// Where a feature lies, and its handle.
+fn place_of(feature: &Feature) -> Placed
+    ensures { result ≡ placed_of feature.now }
+{
+    Placed {
+        rect: feature.shape().env(),
+        handle: feature.handle(),
+    }
+}
+
+/// Where the live feature of this handle lies, and the handle.
+pub fn live_place(store: &Store, handle: u32) -> Option<Placed>
+    ensures { result ≡ option_map placed_of (feature_at store.now.features handle) }
+{
+    match store.get(handle) {
+        Some(feature) => Some(place_of(feature)),
+        None => None,
+    }
+}
+
+/// Where the kept feature lies, and its handle.
+pub fn kept_place(kept: &Option<Feature>) -> Option<Placed>
+    ensures { result ≡ option_map placed_of kept.now }
+{
+    match kept {
+        Some(feature) => Some(place_of(feature)),
+        None => None,
+    }
+}
+
+// Whether the two are one pair.
+fn is_same(a: &Placed, b: &Placed) -> bool
+    ensures { IsTrue result ↔ (a.now ≡ b.now) }
+{
+    a.handle == b.handle && a.rect.holds_rect(&b.rect) && b.rect.holds_rect(&a.rect)
+}
+
+// Whether the pair is there, and this one.
+fn is_this(some: &Option<Placed>, p: &Placed) -> bool
+    ensures { IsTrue result ↔ (some.now ≡ Some p.now) }
+{
+    match some {
+        Some(q) => is_same(q, p),
+        None => false,
+    }
+}
+
+/// Puts the pair into the index, where it is there; after an `Err`, want of memory, the same pairs stand in it.
+pub fn put_place(index: &mut Index, comes: &Option<Placed>) -> Result<(), NoMemory>
+    ensures ok { OnOk result ((q : terms.Placed) → Contains index.new q ↔ (Contains index.old q ⊎ (comes.now ≡ Some q))) }
+    ensures err { OnErr result ((q : terms.Placed) → Contains index.new q ↔ Contains index.old q) }
+{
+    match comes {
+        Some(p) => index.put(*p),
+        None => Ok(()),
+    }
+}
+
+/// Takes the pair that is gone out of the index, where it is there, unless it is the one that stays.
+pub fn take_place(index: &mut Index, gone: &Option<Placed>, stays: &Option<Placed>)
+    ensures { (q : terms.Placed) → Contains index.new q ↔ (Contains index.old q × (gone.now ≡ Some q → stays.now ≡ Some q)) }
+{
+    if let Some(p) = gone {
+        if !is_this(stays, p) {
+            index.take(p);
+        }
+    }
+}

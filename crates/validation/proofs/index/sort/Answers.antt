@@ -1,7 +1,0 @@
-use Rattle.std.proofs.Common.{rules}
-use Rattle.std.proofs.lemmas.List.Sorted.{answers_always}
-use Rattle.validation.specs.Index.{west}
-use Rattle.validation.proofs.index.sort.Goals as goal
-
-pub returns-clause-sorted : goal.returns-clause-sorted
-returns-clause-sorted c = c.sort_unstable_by_key.ensures.sorted west (answers_always _ _ _ (λ f a r g k. search rules))

@@ -1,0 +1,116 @@
+"""tools/report: tables typed by hand, for an example and for a script with exceptions and numbers given twice; and where there is none."""
+import os
+import unittest
+
+from working import PROGRAM, TOOLS, Case, by_lines
+
+ROOT = os.path.dirname(TOOLS)
+HEADER = 'rule,kind,subject,other,extent,mark,x0,y0,x1,y1\n'
+
+# Of examples/roads.topo: the first listing, with two of its errors marked; then the last one.
+ROADS = HEADER + """\
+1,line_must_not_have_dangles,2,0,cells,error,6,8,6,8
+1,line_must_not_have_dangles,4,0,cells,error,16,4,20,4
+1,line_must_not_have_dangles,5,0,cells,error,11,12,11,12
+2,line_must_not_have_pseudo_nodes,1,0,cells,exception,0,0,0,0
+3,line_must_not_intersect,1,5,cells,error,8,9,11,9
+3,line_must_not_intersect,2,3,cells,error,6,6,6,7
+4,line_must_not_overlap,1,5,cells,error,8,9,11,9
+5,line_must_not_self_intersect,5,0,cells,error,12,10,13,11
+6,line_must_be_single_part,4,0,whole,exception,12,4,20,4
+7,line_endpoint_must_be_covered_by,2,0,cells,error,6,0,6,0
+7,line_endpoint_must_be_covered_by,3,0,cells,error,0,5,12,8
+7,line_endpoint_must_be_covered_by,4,0,cells,error,12,4,20,4
+7,line_endpoint_must_be_covered_by,5,0,cells,error,8,9,11,12
+8,point_must_be_covered_by_line,8,0,cells,error,7,7,7,7
+"""
+MENDED = HEADER + """\
+1,line_must_not_have_dangles,4,0,cells,error,20,4,20,4
+1,line_must_not_have_dangles,5,0,cells,error,14,13,14,13
+2,line_must_not_have_pseudo_nodes,1,0,cells,error,0,0,0,0
+3,line_must_not_intersect,2,3,cells,error,6,6,6,7
+7,line_endpoint_must_be_covered_by,2,0,cells,error,6,0,6,9
+7,line_endpoint_must_be_covered_by,3,0,cells,error,0,5,12,8
+7,line_endpoint_must_be_covered_by,4,0,cells,error,12,4,20,4
+7,line_endpoint_must_be_covered_by,5,0,cells,error,12,9,14,13
+8,point_must_be_covered_by_line,8,0,cells,error,7,7,7,7
+"""
+
+# A quarter of the grid, twice; two wells at one place; then rule 1 is another rule.
+LOT = 'by ann add lots POLYGON ((-4194304 -4194304, 0 -4194304, 0 0, -4194304 0, -4194304 -4194304))'
+LOTS = ['class lots polygon', 'class wells point', 'rule polygon_must_not_overlap lots', 'rule point_must_be_disjoint wells', 'begin ann',
+        LOT, LOT, 'by ann add wells POINT (-3 4)', 'by ann add wells POINT (-3 4)', 'validate all', 'mark 2 3 4', 'errors']
+ANEW = ['droprule 1', 'rule polygon_contains_point lots wells', 'validate all', 'rules', 'cells', 'dirty']
+OVERLAP = HEADER + """\
+1,polygon_must_not_overlap,1,2,cells,error,-4194304,-4194304,0,0
+2,point_must_be_disjoint,3,4,cells,exception,-3,4,-3,4
+"""
+WITHOUT = HEADER + """\
+1,polygon_contains_point,1,0,whole,error,-4194304,-4194304,0,0
+1,polygon_contains_point,2,0,whole,error,-4194304,-4194304,0,0
+2,point_must_be_disjoint,3,4,cells,exception,-3,4,-3,4
+"""
+
+
+def roads() -> str:
+    with open(os.path.join(ROOT, 'examples', 'roads.topo'), encoding='utf-8') as script:
+        return script.read()
+
+
+class Tables(Case):
+    def report(self, script: str, said: str = '') -> str:
+        """What the tool writes of a script and its replies."""
+        done = self.tool('report', *self.replayed('s', script))
+        self.assertEqual((done.status, done.told), (0, said))
+        return done.out
+
+    def test_an_example(self):
+        first = roads().split('\nerrors\n')[0]
+        self.assertEqual(self.report(first + '\nmark 2 1 0\nmark 6 4 0\nerrors\n'), ROADS)
+        self.assertEqual(self.report(roads()), MENDED)
+
+    def test_exceptions_far_places_and_numbers_given_twice(self):
+        self.assertEqual(self.report(by_lines(*LOTS)), OVERLAP)
+        self.assertEqual(self.report(by_lines(*LOTS, *ANEW)), WITHOUT)
+
+    def test_a_kind_is_that_of_the_listing(self):
+        said = 'report: the errors are those of line 12; lines behind it may have changed them\n'
+        self.assertEqual(self.report(by_lines(*LOTS, *ANEW[:2]), said), OVERLAP)
+
+    def test_no_errors(self):
+        self.assertEqual(self.report('class lots polygon\nerrors\n'), HEADER)
+
+    def test_replies_from_standard_input(self):
+        script, _ = self.replayed('s', by_lines(*LOTS))
+        replies = self.run_words(PROGRAM + ['replay'], by_lines(*LOTS).encode()).out
+        self.assertEqual(self.run_words([os.path.join(TOOLS, 'report'), script, '-'], replies.encode()).out, OVERLAP)
+
+
+class Replies(Case):
+    def report(self, script: str, replies: str) -> tuple[int, str, str]:
+        for name, text in (('s.topo', script), ('s.replies', replies)):
+            with open(self.path(name), 'w', encoding='utf-8') as out:
+                out.write(text)
+        done = self.tool('report', 's.topo', 's.replies')
+        return done.status, done.out, done.told
+
+    def test_words_from_a_listing_of_rules(self):
+        replies = 'rule 3 line_must_be_single_part roads\ntotal 1\nerror 3 4 0 whole 12 4 20 4\ntotal 1\n'
+        self.assertEqual(self.report('rules\nerrors\n', replies), (0, HEADER + '3,line_must_be_single_part,4,0,whole,error,12,4,20,4\n', ''))
+        said = 'report: line 1 lists an error of rule 3, and no line before it says the word of that rule\n'
+        self.assertEqual(self.report('errors\n', ''.join(replies.splitlines(True)[2:])), (2, '', said))
+
+    def test_no_listing_and_other_replies(self):
+        self.assertEqual(self.report('class a point\n', 'ok 1\n'), (2, '', 'report: the script lists no errors: end it with the line `errors`\n'))
+        self.assertEqual(self.report('class a point\nerrors\n', 'ok 1\n'), (2, '', 'report: line 2 has no reply: the replay ended before it\n'))
+        self.assertEqual(self.report('errors\n', 'total 0\nok 1\n'), (2, '', 'report: there are more replies than lines\n'))
+
+
+class Definition(unittest.TestCase):
+    def test_the_header_is_that_of_the_definition(self):
+        with open(os.path.join(ROOT, 'crates', 'script_terms', 'specs', 'Report.antt'), encoding='utf-8') as definition:
+            self.assertIn('report_header = codes "%s" ++ 10 ∷ []\n' % HEADER.strip(), definition.read())
+
+
+if __name__ == '__main__':
+    unittest.main()
