@@ -1,8 +1,8 @@
 -- The half-planes of a cell are read one by one.
-use Rattle.std.proofs.Common.{ℕ, ℤ, ◌≡◌, ◌≢◌, ◌<◌, ◌≤◌, ◌+◌, ◌^◌, ◌↔◌, Bool, true, false, ◌&&◌, nat_le, ltb, List, [], ◌∷◌, ◌++◌, Option, Some, None, Result, Ok, Err, refl, sym, ap, subst, ◌∙◌, inl, inr, arith}
+use Rattle.std.proofs.Common.{ℕ, ℤ, ◌≡◌, ◌≢◌, ◌<◌, ◌≤◌, ◌+◌, ◌^◌, ◌↔◌, Bool, true, false, ◌&&◌, ◌==◌, nat_le, ltb, List, [], ◌∷◌, ◌++◌, length, Option, Some, None, Result, Ok, Err, refl, sym, ap, subst, ◌∙◌, inl, inr, arith}
 use Rattle.std.specs.Prelude.{unsigned_abs}
 use Rattle.std.specs.List.{list_all}
-use Rattle.std.proofs.lemmas.Bool.{cases_Bool}
+use Rattle.std.proofs.lemmas.Bool.{cases_Bool, false≢true}
 use Rattle.std.proofs.lemmas.Bool.Decides.{nat_tests}
 use Rattle.std.proofs.lemmas.List.Folds.{list_all-append}
 use Rattle.plane_terms.specs.HalfPlane.{HalfPlane, IsHalfPlane}
@@ -105,6 +105,10 @@ too_many hs (a ∷ b ∷ c ∷ d ∷ fs) h = refl
 left_some : (rest : List ℕ) → rest ≢ [] → is_none (left rest) ≡ false
 left_some [] h = absurd (h refl)
 left_some (b ∷ bs) h = some_fields [] bs
+
+pub not_empty : (rest : List ℕ) (b : Bool) → b ≡ (length rest == 0) → b ≡ false → rest ≢ []
+not_empty [] b h g e = false≢true (sym g ∙ h)
+not_empty (x ∷ xs) b h g e = absurd cc
 
 pub longer : (fs : List (List ℕ)) (halves : List HalfPlane) (within : Bool) (rest : List ℕ) → HalvesRead fs halves within false rest → rest ≢ []
     → cell_of fs ≡ None

@@ -1,5 +1,5 @@
 -- A text is read line by line: what a line more gives, and where the reading ends.
-use Rattle.std.proofs.Common.{ℕ, ◌≡◌, ◌≢◌, ◌+◌, ◌<◌, List, [], ◌∷◌, ◌++◌, append_assoc, append-nil, length, length-append, Ok, Err, refl, sym, ap, subst, ◌∙◌, inl, inr, arith}
+use Rattle.std.proofs.Common.{ℕ, ◌≡◌, ◌≢◌, ◌+◌, ◌<◌, ◌≤◌, List, [], ◌∷◌, ◌++◌, append_assoc, append-nil, length, length-append, Result, Ok, Err, refl, sym, ap, subst, ◌∙◌, inl, inr, arith}
 use Rattle.std.specs.Prelude.{flat_map}
 use Rattle.plane_terms.specs.Lists.{Every}
 use Rattle.plane_terms.proofs.ListLemmas.{every_append}
@@ -9,6 +9,10 @@ use Rattle.project_terms.specs.declared.project_cause.ProjectCause.{ProjectCause
 use Rattle.project_terms.specs.declared.project_cause.ProjectCause.TheVariants as cause
 use Rattle.project_terms.specs.Drafts.{Draft, start}
 use Rattle.project_terms.specs.Texts.{IsVerdict, IsInner, ended, AreRead, Begins, IsRead, IsFault}
+use Rattle.project_text.specs.Reading.{Gives, IsProjectFault, at_line}
+use Rattle.project_text.specs.declared.fault.LineFault.{LineFault}
+use Rattle.project_text.specs.declared.fault.LineFault.TheVariants as line
+use Rattle.project_text.specs.declared.fault.ProjectFault.{ProjectFault}
 use Rattle.project_text.proofs.Sound.{IsSound, read_sound, start_sound}
 
 read_more : (d e m : Draft) (ls : List (List ℕ)) (l : List ℕ) → AreRead d ls e → IsVerdict e l (Ok m) → AreRead d (ls ++ l ∷ []) m
@@ -79,3 +83,23 @@ pub all_read : (t : List ℕ) (d : Draft) (rest : List ℕ) (n : ℕ) → IsBegu
 all_read t d rest n b over none =
     (b.lines, d, record { inner = b.begins.inner; text = b.begins.text ∙ ap (λ r. flat_map ended b.lines ++ r) none; read = b.begins.read }, over,
     refl)
+
+-- ---- what the code knows of a line
+pub right : {X : Type 0} (r : Result X LineFault) (x : X) (d m : Draft) (l : List ℕ) → Gives r (IsVerdict d l) m → r ≡ Ok x → IsVerdict d l (Ok m)
+right r x d m l h e = subst (λ y. Gives y (IsVerdict d l) m) e h
+
+wrong_by : {X : Type 0} (r : Result X LineFault) (f : LineFault) (t : List ℕ) (d m : Draft) (rest l more : List ℕ) (n : ℕ) → IsBegun t d rest n
+    → d.stage ≢ stage.End → IsInner l → rest ≡ ended l ++ more → Gives r (IsVerdict d l) m → r ≡ Err f → IsProjectFault t (at_line n f)
+wrong_by r (line.Wrong c) t d m rest l more n b on inner cut h e = wrong t d rest l more n c b on inner cut (subst (λ y. Gives y (IsVerdict d l) m) e h)
+wrong_by r line.NoMemory t d m rest l more n b on inner cut h e = tt
+
+pub wrong_line : {X : Type 0} (r : Result X LineFault) (f : LineFault) (g : ProjectFault) (t : List ℕ) (d m : Draft) (rest l more : List ℕ) (n : ℕ)
+    → IsBegun t d rest n → d.stage ≢ stage.End → IsInner l → rest ≡ ended l ++ more → Gives r (IsVerdict d l) m → r ≡ Err f → g ≡ at_line n f
+    → IsProjectFault t g
+wrong_line r f g t d m rest l more n b on inner cut h e same =
+    subst (λ (k : ProjectFault). IsProjectFault t k) (sym same) (wrong_by r f t d m rest l more n b on inner cut h e)
+
+pub few_more : (n a : ℕ) (rest l more : List ℕ) → n + length rest ≤ a → rest ≡ ended l ++ more → n + 1 + length more ≤ a
+few_more n a rest l more h cut =
+    let e : length rest ≡ length (ended l) + length more = ap (λ (t : List ℕ). length t) cut ∙ length-append (ended l) more in
+    let f : length (ended l) ≡ length l + 1 = length-append l (10 ∷ []) in omega (arith, h, e, f)

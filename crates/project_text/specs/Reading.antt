@@ -13,6 +13,7 @@
 -- cell_line_verdict d fs, IsFeatureVerdict d fs v     the verdict on the line of a cell; on the line of a feature
 -- is_in_force rs o    o is the number of a rule in force
 -- IsProjectFault t e  the line of this number is the first that is wrong, and this is its first cause; want of memory says nothing
+-- at_line n f         the fault of a text whose line n has the fault f
 -- IsFaultAt n c e     the fault is this line and this cause, or want of memory
 use Rattle.std.specs.Prelude.{ℕ, ◌≡◌, Bool, true, false, List, [], ◌∷◌, ◌++◌, Option, Some, None, Result, Ok, Err, IfSome, is_some, ◌⊎◌, if◌then◌else◌}
 use Rattle.std.specs.List.{list_all}
@@ -104,6 +105,10 @@ IsFeatureVerdict d fs v = (r : WktReading) × (is_open stage.Features d ≡ true
 abbrev pub IsProjectFault : List ℕ → ProjectFault → Type 0
 IsProjectFault t (fault.Wrong n c) = IsFault t n c
 IsProjectFault t fault.NoMemory = Unit {0}
+
+abbrev pub at_line : ℕ → LineFault → ProjectFault
+at_line n (line.Wrong c) = fault.Wrong n c
+at_line n line.NoMemory = fault.NoMemory
 
 abbrev pub IsFaultAt : ℕ → ProjectCause → ProjectFault → Type 0
 IsFaultAt n c (fault.Wrong m b) = (m ≡ n) × (b ≡ c)

@@ -2,7 +2,7 @@ ghost use Rattle.std.specs.Prelude.{◌≡◌, ℕ, MatchResult};
 ghost use Rattle.topology_terms.specs.Project.{Project};
 ghost use Rattle.project_terms.specs.Texts.{IsRead, IsFault};
 ghost use Rattle.project_terms.specs.declared.project_cause.ProjectCause as terms;
-ghost use Rattle.project_text.specs.Reading.{IsProjectFault, IsFaultAt};
+ghost use Rattle.project_text.specs.Reading.{IsProjectFault, IsFaultAt, at_line};
 
 use crate::cut::split_line;
 use crate::data::ProjectData;
@@ -10,6 +10,16 @@ use crate::draft::Draft;
 use crate::fault::{LineFault, ProjectFault};
 use project_terms::ProjectCause;
 use std::alloc::Global;
+
+// The fault of a text whose line of this number has the fault.
+fn at_line(line: usize, fault: LineFault) -> ProjectFault
+    ensures { result ≡ at_line line fault }
+{
+    match fault {
+        LineFault::Wrong(cause) => ProjectFault::Wrong { line, cause },
+        LineFault::NoMemory => ProjectFault::NoMemory,
+    }
+}
 
 // The project that the lines say, read one by one.
 fn read_lines(alloc: Global, text: &[u8]) -> Result<ProjectData, ProjectFault>
@@ -27,8 +37,7 @@ fn read_lines(alloc: Global, text: &[u8]) -> Result<ProjectData, ProjectFault>
         };
         match draft.read_line(alloc, first) {
             Ok(()) => {}
-            Err(LineFault::Wrong(cause)) => return Err(ProjectFault::Wrong { line, cause }),
-            Err(LineFault::NoMemory) => return Err(ProjectFault::NoMemory),
+            Err(fault) => return Err(at_line(line, fault)),
         }
         rest = more;
         line += 1;
