@@ -1,12 +1,12 @@
 -- The verdict on the line of a feature, from what its shape's text reads as.
-use Rattle.std.proofs.Common.{ℕ, ℤ, ◌≡◌, ◌-◌, Bool, true, false, if◌then◌else◌, List, [], ◌∷◌, Option, Some, None, Result, Ok, Err, refl, sym, ap, subst, ◌∙◌}
+use Rattle.std.proofs.Common.{ℕ, ◌≡◌, ◌-◌, Bool, true, false, if◌then◌else◌, List, [], ◌∷◌, Option, Some, None, Result, Ok, Err, refl, sym, ap, subst, ◌∙◌}
 use Rattle.std.specs.Prelude.{IfSome, codes, bytes_eq}
 use Rattle.std.proofs.lemmas.Slice.Eq.{bytes_eq-Decides}
 use Rattle.plane_terms.specs.Shape.{Shape}
 use Rattle.project_terms.specs.declared.stage.Stage.TheVariants as stage
 use Rattle.project_terms.specs.Lines.{fields, natural}
 use Rattle.project_terms.specs.Drafts.{Draft, is_open}
-use Rattle.project_terms.specs.Verdicts.{Verdict, WktReading, Written, FeatureForm, at, judged, wkt_in, wkt_of, line_verdict, feature_of, feature_verdict, feature_numbered}
+use Rattle.project_terms.specs.Verdicts.{Verdict, WktReading, Written, FeatureForm, wkt_in, wkt_of, line_verdict, feature_of, feature_numbered}
 use Rattle.project_terms.specs.Texts.{IsReading, IsVerdict}
 use Rattle.project_text.specs.Reading.{Gives, Says, IsFeatureVerdict}
 use Rattle.project_text.specs.declared.fault.LineFault.{LineFault}

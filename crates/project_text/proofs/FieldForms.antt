@@ -14,8 +14,8 @@ use Rattle.rule_words.specs.Table.{word_of, first_of_word, all_rules}
 use Rattle.rule_words.proofs.OneWord.{has_word}
 use Rattle.wkt_terms.specs.Numerals.{value_of}
 use Rattle.project_terms.specs.Lines.{number, positive, negative, spelled, is_positive, counted, joined, fields, fields_from}
-use Rattle.project_terms.specs.Verdicts.{RuleForm, FeatureForm, ErrorForm, HalfForm, bind, is_none, is_one, number_of, kind_of_word, class_of, second_of, rule_of, feature_of, rect_of, extent_of, error_of, op_of, half_of, halves_behind}
-use Rattle.project_text.specs.Reading.{is_single, left}
+use Rattle.project_terms.specs.Verdicts.{FeatureForm, HalfForm, bind, is_none, is_one, number_of, kind_of_word, class_of, second_of, rule_of, feature_of, rect_of, extent_of, error_of, op_of, half_of, halves_behind}
+use Rattle.project_text.specs.Reading.{is_single}
 
 pub not_one : (fs : List (List ℕ)) → is_single fs ≡ false → is_one fs ≡ false
 not_one [] h = refl

@@ -1,5 +1,5 @@
 -- What is found of a text is all that there is to find.
-use Rattle.std.proofs.Common.{ℕ, ◌≡◌, List, Result, Ok, Err, refl, sym}
+use Rattle.std.proofs.Common.{ℕ, ◌≡◌, List, Result, Ok, Err, refl}
 use Rattle.std.specs.Prelude.{MatchResult}
 use Rattle.topology_terms.specs.Project.{Project}
 use Rattle.project_terms.specs.declared.project_cause.ProjectCause.{ProjectCause}

@@ -1,5 +1,5 @@
 -- The half-planes of a cell are read one by one.
-use Rattle.std.proofs.Common.{ℕ, ℤ, ◌≡◌, ◌≢◌, ◌<◌, ◌≤◌, ◌+◌, ◌^◌, ◌↔◌, Bool, true, false, ◌&&◌, ◌==◌, nat_le, ltb, List, [], ◌∷◌, ◌++◌, length, Option, Some, None, Result, Ok, Err, refl, sym, ap, subst, ◌∙◌, inl, inr, arith}
+use Rattle.std.proofs.Common.{ℕ, ◌≡◌, ◌≢◌, ◌<◌, ◌≤◌, ◌+◌, ◌^◌, Bool, true, false, ◌&&◌, ◌==◌, nat_le, ltb, List, [], ◌∷◌, ◌++◌, length, Some, None, refl, sym, ap, subst, ◌∙◌, inl, inr, arith}
 use Rattle.std.specs.Prelude.{unsigned_abs}
 use Rattle.std.specs.List.{list_all}
 use Rattle.std.proofs.lemmas.Bool.{cases_Bool, false≢true}
@@ -7,14 +7,10 @@ use Rattle.std.proofs.lemmas.Bool.Decides.{nat_tests}
 use Rattle.std.proofs.lemmas.List.Folds.{list_all-append}
 use Rattle.plane_terms.specs.HalfPlane.{HalfPlane, IsHalfPlane}
 use Rattle.plane_terms.specs.Cell.{Cell}
-use Rattle.project_terms.specs.declared.project_cause.ProjectCause.TheVariants as cause
-use Rattle.project_terms.specs.Lines.{fields}
 use Rattle.project_terms.specs.Drafts.{is_half}
 use Rattle.project_terms.specs.Verdicts.{is_none, cell_of, halves_behind}
-use Rattle.project_text.specs.Reading.{left, half_said, IsNoHalf, IsHalfForm, IsCell}
+use Rattle.project_text.specs.Reading.{left, half_said, IsNoHalf, IsHalfForm}
 use Rattle.project_text.specs.declared.forms.HalfForm.{HalfForm}
-use Rattle.project_text.specs.declared.fault.LineFault.{LineFault}
-use Rattle.project_text.specs.declared.fault.LineFault.TheVariants as line
 use Rattle.project_text.proofs.FieldForms.{some_fields}
 
 pub record HalvesRead (fs : List (List ℕ)) (halves : List HalfPlane) (within more : Bool) (rest : List ℕ) : Type 0 where
@@ -76,8 +72,10 @@ pub one_more : (fs : List (List ℕ)) (halves made : List HalfPlane) (within : B
 one_more fs halves made within rest f h r form same valid put = record {
   all = r.all ++ half_said f ∷ [];
   behind = r.behind ∙ form r.all;
-  right = λ t. (put ∙ (ap (λ (x : HalfPlane). halves ++ x ∷ []) same ∙ ap (λ (hs : List HalfPlane). hs ++ half_said f ∷ []) (r.right t).0),
-      put_true r.all (half_said f) (r.right t).1 (is_true (half_said f) valid));
+  right = λ t. (
+    put ∙ (ap (λ (x : HalfPlane). halves ++ x ∷ []) same ∙ ap (λ (hs : List HalfPlane). hs ++ half_said f ∷ []) (r.right t).0),
+    put_true r.all (half_said f) (r.right t).1 (is_true (half_said f) valid),
+  );
   wrong = λ t. put_behind r.all (half_said f) (r.wrong t);
 }
 

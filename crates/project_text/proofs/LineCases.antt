@@ -1,5 +1,5 @@
 -- The verdict on a line, by its first word.
-use Rattle.std.proofs.Common.{ℕ, ◌≡◌, Bool, true, false, List, [], ◌∷◌, Option, Some, None, Ok, Err, if◌then◌else◌, refl, sym, ap, ◌∙◌}
+use Rattle.std.proofs.Common.{ℕ, ◌≡◌, Bool, true, false, List, ◌∷◌, Option, Some, None, Err, if◌then◌else◌, refl}
 use Rattle.std.specs.Prelude.{codes, bytes_eq, IfOk}
 use Rattle.std.proofs.lemmas.Slice.Eq.{bytes_eq-Decides}
 use Rattle.project_terms.specs.declared.stage.Stage.{Stage}

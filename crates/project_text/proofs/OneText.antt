@@ -1,5 +1,5 @@
 -- A text says one project, or has one first wrong line with one cause.
-use Rattle.std.proofs.Common.{ℕ, ◌≡◌, ◌≢◌, ◌+◌, ◌==◌, ◌⊎◌, inl, inr, Bool, true, false, not, ◌&&◌, List, [], ◌∷◌, ◌++◌, append_assoc, length, Ok, Err, refl, sym, ap, subst, ◌∙◌, arith}
+use Rattle.std.proofs.Common.{ℕ, ◌≡◌, ◌+◌, ◌==◌, ◌⊎◌, inl, inr, Bool, true, false, not, ◌&&◌, List, [], ◌∷◌, ◌++◌, append_assoc, length, Ok, Err, refl, sym, ap, subst, ◌∙◌, arith}
 use Rattle.std.specs.Prelude.{flat_map, IfOk}
 use Rattle.std.specs.List.{list_all}
 use Rattle.std.proofs.lemmas.Bool.Decides.{nat_tests}
@@ -10,9 +10,9 @@ use Rattle.project_terms.specs.declared.stage.Stage.TheVariants as stage
 use Rattle.project_terms.specs.declared.project_cause.ProjectCause.{ProjectCause}
 use Rattle.project_terms.specs.declared.project_cause.ProjectCause.TheVariants as cause
 use Rattle.project_terms.specs.Lines.{fields}
-use Rattle.project_terms.specs.Drafts.{Draft, start, is_open, is_cell_open, may_follow, wants_cell}
+use Rattle.project_terms.specs.Drafts.{Draft, start, is_open, is_cell_open}
 use Rattle.project_terms.specs.Verdicts.{WktReading, Verdict, line_verdict}
-use Rattle.project_terms.specs.Texts.{IsVerdict, IsInner, is_inner, ended, AreRead, Begins, IsRead, IsWrong, IsWrongLine, IsFault}
+use Rattle.project_terms.specs.Texts.{IsVerdict, IsInner, is_inner, ended, AreRead, IsRead, IsWrong, IsFault}
 use Rattle.project_text.proofs.LineCases.{line_by, at_ok, if_ok}
 use Rattle.project_text.proofs.Readings.{one_verdict}
 

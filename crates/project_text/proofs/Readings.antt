@@ -1,6 +1,6 @@
 -- What comes of the text of a shape is one thing, and so is the verdict on a line.
-use Rattle.std.proofs.Common.{ℕ, ◌≡◌, ◌≢◌, ◌<◌, ◌≤◌, ◌⊎◌, inl, inr, Bool, true, false, List, [], ◌∷◌, length, Option, Some, None, Result, Ok, Err, if◌then◌else◌, refl, sym, ap, subst, ◌∙◌, arith}
-use Rattle.std.specs.Prelude.{codes, bytes_eq, IfSome, IfOk, MatchResult}
+use Rattle.std.proofs.Common.{ℕ, ◌≡◌, ◌≤◌, inl, inr, Bool, true, false, List, [], ◌∷◌, length, Option, Some, None, Result, Ok, Err, refl, sym, ap, subst, ◌∙◌, arith}
+use Rattle.std.specs.Prelude.{codes, bytes_eq, IfSome, IfOk}
 use Rattle.std.proofs.lemmas.Slice.Eq.{bytes_eq-Decides}
 use Rattle.std.proofs.lemmas.Bool.{cases_Bool}
 use Rattle.plane_terms.specs.Shape.{Shape}
@@ -11,10 +11,9 @@ use Rattle.wkt_terms.specs.declared.wkt_fault.WktFault.TheVariants as text
 use Rattle.wkt_text.proofs.OneFault.{one_fault}
 use Rattle.wkt_text.proofs.Results.{only}
 use Rattle.project_terms.specs.declared.stage.Stage.TheVariants as stage
-use Rattle.project_terms.specs.declared.project_cause.ProjectCause.TheVariants as cause
 use Rattle.project_terms.specs.Lines.{fields}
 use Rattle.project_terms.specs.Drafts.{Draft, is_open}
-use Rattle.project_terms.specs.Verdicts.{Verdict, WktReading, Unwritten, Refused, Written, FeatureForm, feature_of, feature_verdict, at, judged, wkt_in, wkt_of, line_verdict}
+use Rattle.project_terms.specs.Verdicts.{Verdict, WktReading, Unwritten, Refused, Written, FeatureForm, feature_of, at, wkt_in, wkt_of, line_verdict}
 use Rattle.project_terms.specs.Texts.{IsWritten, IsUnwritten, IsRefusal, IsRefused, IsReading, IsVerdict}
 use Rattle.project_text.specs.Reading.{IsFaulty}
 
@@ -93,6 +92,7 @@ faulty t f r short is h = reading f is h (no_written t f r is h)
   where
     refused : (g : WktFault) → IsWktFault t g → IsRefusal g → r ≡ Refused → ((s : Shape) → IsWritten t s → ⊥) → IsReading t r
     refused g is refusal e none = subst (IsReading t) (sym e) ((short, (g, is, refusal)), none)
+
     reading : (g : WktFault) → IsWktFault t g → IsFaulty g r → ((s : Shape) → IsWritten t s → ⊥) → IsReading t r
     reading (text.Syntax at) is e none = subst (IsReading t) (sym e) (inr (inl (at, is)), none)
     reading (text.OffGrid at) is e none = refused (text.OffGrid at) is tt e none

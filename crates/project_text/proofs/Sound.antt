@@ -1,12 +1,11 @@
 -- What each draft keeps: until a line says another, the next handle is 1; errors ascend by their keys.
-use Rattle.std.proofs.Common.{ℕ, ℤ, ◌≡◌, ◌<◌, ◌⊎◌, inl, inr, ◌==◌, ◌+◌, ◌-◌, Bool, true, false, ◌&&◌, ◌||◌, not, ltb, List, [], ◌∷◌, ◌++◌, length, Option, Some, None, Ok, Err, refl, sym, ap, subst, ◌∙◌, arith}
-use Rattle.std.specs.Prelude.{codes, IfOk, is_some}
+use Rattle.std.proofs.Common.{ℕ, ◌≡◌, ◌==◌, ◌-◌, Bool, true, false, ◌&&◌, ◌||◌, not, ltb, List, [], ◌∷◌, ◌++◌, length, Option, Some, None, Ok, Err, refl, sym, subst, arith}
+use Rattle.std.specs.Prelude.{IfOk, is_some}
 use Rattle.std.specs.List.{list_all, list_any}
 use Rattle.std.proofs.lemmas.Bool.Decides.{nat_tests}
-use Rattle.plane_terms.specs.Lists.{Every, EveryPair}
+use Rattle.plane_terms.specs.Lists.{Every}
 use Rattle.plane_terms.specs.Rectangle.{Rectangle}
 use Rattle.plane_terms.specs.Cell.{Cell}
-use Rattle.plane_terms.specs.Shape.{Shape}
 use Rattle.topology_terms.specs.Broken.{Row}
 use Rattle.topology_terms.specs.Feature.{Class, Feature}
 use Rattle.topology_terms.specs.Entry.{Entry, Key, key_of, by_key, IsBefore, IsKeyBelow}
@@ -20,8 +19,8 @@ use Rattle.project_terms.specs.declared.stage.Stage.{Stage}
 use Rattle.project_terms.specs.declared.stage.Stage.TheVariants as stage
 use Rattle.project_terms.specs.declared.project_cause.ProjectCause.TheVariants as cause
 use Rattle.project_terms.specs.Lines.{fields, natural}
-use Rattle.project_terms.specs.Drafts.{Draft, start, may_follow, is_open, is_cell_open, wants_cell, takes_cell, with_cell, last_in, is_before, is_last_key, is_rectangle, is_half}
-use Rattle.project_terms.specs.Verdicts.{Verdict, WktReading, Unwritten, Refused, Written, RuleForm, FeatureForm, ErrorForm, at, said, judged, is_one, is_none, number_of, class_of, rule_of, row_of, feature_of, rect_of, error_of, cell_of, next_verdict, next_numbered, class_verdict, rule_verdict, rule_numbered, rule_in, with_rule, feature_verdict, feature_numbered, feature_in, with_feature, are_nested, dirty_verdict, error_verdict, error_in, error_ruled, with_error, cell_verdict, line_verdict}
+use Rattle.project_terms.specs.Drafts.{Draft, start, may_follow, is_open, is_cell_open, with_cell, last_in, is_before, is_last_key, is_rectangle, is_half}
+use Rattle.project_terms.specs.Verdicts.{Verdict, WktReading, Unwritten, Refused, Written, RuleForm, FeatureForm, ErrorForm, is_one, is_none, number_of, class_of, rule_of, row_of, feature_of, rect_of, error_of, cell_of, next_verdict, next_numbered, class_verdict, rule_verdict, rule_numbered, rule_in, feature_verdict, feature_numbered, feature_in, are_nested, dirty_verdict, error_verdict, error_in, error_ruled, with_error, cell_verdict, line_verdict}
 use Rattle.project_terms.specs.Texts.{AreRead, IsVerdict}
 use Rattle.project_text.proofs.LineCases.{line_by, at_ok, judged_ok, said_ok, if_ok}
 
@@ -114,6 +113,7 @@ rule_sound d h q = numbered (natural 1 256 q.number)
         let s : IsSound m = record { early = λ e. cc; titled = λ e. cc; ascending = h.ascending } in
         if_ok (not (ltb (last_in (λ (q : InForce). q.number) d.project.rules) n) || is_there d.project.rules r) (Err cause.Order) (Ok m) IsSound
         (λ e. tt) (λ e. s)
+
     numbered : (o : Option ℕ) → IfOk (rule_numbered d q o) IsSound
     numbered None = tt
     numbered (Some n) = in_force n (row_of d.project.classes q)
@@ -128,6 +128,7 @@ feature_sound d h (Written s) f = numbered (natural 1 (d.project.next - 1) f.han
     of_class n (Some c) = if_ok (is_kind (kind_of_class d.project.classes c) s.kind) _ (Err cause.Unknown) IsSound
         (λ e. if_ok (ltb (last_in (λ (g : Feature). g.handle) d.project.features) n) _ (Err cause.Order) IsSound
         (λ k. record { early = λ e. cc; titled = λ e. cc; ascending = h.ascending }) (λ k. tt)) (λ e. tt)
+
     numbered : (o : Option ℕ) → IfOk (feature_numbered d f s o) IsSound
     numbered None = tt
     numbered (Some n) = of_class n (number_from 1 d.project.classes f.class)
@@ -143,9 +144,11 @@ error_sound d h marked e = handled (natural 1 (d.project.next - 1) e.subject) (n
     put : (x : Entry) → IfOk (with_error d x) IsSound
     put x = if_ok (is_last_key d.project.entries (x.rule, x.subject, x.other)) _ (Err cause.Order) IsSound
         (λ k. record { early = λ e. cc; titled = λ e. cc; ascending = put_last d.project.entries x h.ascending k }) (λ k. tt)
+
     ruled : (a b : ℕ) (o : Option ℕ) → IfOk (error_ruled d marked e a b o) IsSound
     ruled a b None = tt
     ruled a b (Some r) = if_ok (is_some (rule_at d.project.rules r)) _ (Err cause.Unknown) IsSound (λ k. put _) (λ k. tt)
+
     handled : (o p : Option ℕ) → IfOk (error_in d marked e o p) IsSound
     handled None p = tt
     handled (Some a) None = tt

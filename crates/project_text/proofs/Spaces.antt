@@ -1,5 +1,5 @@
 -- A line is cut into fields at its spaces, and a text into lines at its LFs.
-use Rattle.std.proofs.Common.{ℕ, ◌≡◌, ◌≢◌, ◌<◌, ◌≤◌, ◌+◌, ◌==◌, Bool, true, false, List, [], ◌∷◌, ◌++◌, length, get_or, take, drop, append_assoc, refl, sym, ap, ◌∙◌, inl, inr, arith}
+use Rattle.std.proofs.Common.{ℕ, ◌≡◌, ◌≢◌, ◌<◌, ◌≤◌, ◌+◌, true, false, List, [], ◌∷◌, ◌++◌, length, get_or, take, drop, append_assoc, refl, sym, ap, ◌∙◌, inl, inr, arith}
 use Rattle.std.proofs.lemmas.Bool.{cases_lt}
 use Rattle.std.proofs.lemmas.Bool.Decides.{nat_tests}
 use Rattle.std.proofs.lemmas.List.{drop_more, drop_all, take_more, take-append-drop}
@@ -23,8 +23,8 @@ pub split : (t : List ℕ) (n : ℕ) → n ≤ length t → (n < length t → ge
     → fields t ≡ take n t ∷ left (drop n t)
 split t n le space same = elim (cases_lt n (length t)) [
   | inl lt ↦ let more = drop_more t n 0 lt in
-    same ∙ (ap (fields_from (take n t)) more ∙ (at_space (take n t) (drop (n + 1) t) (get_or t n 0) (space lt)
-    ∙ sym (ap (λ r. take n t ∷ left r) more)))
+      same ∙ (ap (fields_from (take n t)) more ∙ (at_space (take n t) (drop (n + 1) t) (get_or t n 0) (space lt)
+      ∙ sym (ap (λ r. take n t ∷ left r) more)))
   | inr ge ↦ let none = drop_all n t ge in same ∙ (ap (fields_from (take n t)) none ∙ sym (ap (λ r. take n t ∷ left r) none))
 ]
 

@@ -1,9 +1,7 @@
 -- A text is read line by line: what a line more gives, and where the reading ends.
-use Rattle.std.proofs.Common.{ℕ, ◌≡◌, ◌≢◌, ◌+◌, ◌<◌, ◌≤◌, List, [], ◌∷◌, ◌++◌, append_assoc, append-nil, length, length-append, Result, Ok, Err, refl, sym, ap, subst, ◌∙◌, inl, inr, arith}
+use Rattle.std.proofs.Common.{ℕ, ◌≡◌, ◌≢◌, ◌+◌, ◌≤◌, List, [], ◌∷◌, ◌++◌, append_assoc, append-nil, length, length-append, Result, Ok, Err, refl, sym, ap, subst, ◌∙◌, inl, inr, arith}
 use Rattle.std.specs.Prelude.{flat_map}
-use Rattle.plane_terms.specs.Lists.{Every}
 use Rattle.plane_terms.proofs.ListLemmas.{every_append}
-use Rattle.topology_terms.specs.Entry.{IsAscending}
 use Rattle.project_terms.specs.declared.stage.Stage.TheVariants as stage
 use Rattle.project_terms.specs.declared.project_cause.ProjectCause.{ProjectCause}
 use Rattle.project_terms.specs.declared.project_cause.ProjectCause.TheVariants as cause
@@ -80,9 +78,13 @@ behind t d rest n b over some = record {
 }
 
 pub all_read : (t : List ℕ) (d : Draft) (rest : List ℕ) (n : ℕ) → IsBegun t d rest n → d.stage ≡ stage.End → rest ≡ [] → IsRead t d.project
-all_read t d rest n b over none =
-    (b.lines, d, record { inner = b.begins.inner; text = b.begins.text ∙ ap (λ r. flat_map ended b.lines ++ r) none; read = b.begins.read }, over,
-    refl)
+all_read t d rest n b over none = (
+  b.lines,
+  d,
+  record { inner = b.begins.inner; text = b.begins.text ∙ ap (λ r. flat_map ended b.lines ++ r) none; read = b.begins.read },
+  over,
+  refl,
+)
 
 -- ---- what the code knows of a line
 pub right : {X : Type 0} (r : Result X LineFault) (x : X) (d m : Draft) (l : List ℕ) → Gives r (IsVerdict d l) m → r ≡ Ok x → IsVerdict d l (Ok m)

@@ -8,7 +8,9 @@ use crate::cells::read_cell;
 use crate::draft::Draft;
 use crate::fault::LineFault;
 use crate::fields::{is_over, is_word, split_field};
-use crate::forms::{class_form, error_form, feature_form, is_one, number_form, rect_form, rule_form};
+use crate::forms::{
+    class_form, error_form, feature_form, is_one, number_form, rect_form, rule_form,
+};
 use crate::shapes::{Reading, read_shape};
 use project_terms::{ProjectCause, Stage};
 use std::alloc::Global;

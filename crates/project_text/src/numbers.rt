@@ -37,13 +37,21 @@ fn count(digits: &[u8]) -> i64
 fn positive(digits: &[u8]) -> Option<i64>
     ensures { result ≡ positive digits.now }
 {
-    if is_spelled(digits) { Some(count(digits)) } else { None }
+    if is_spelled(digits) {
+        Some(count(digits))
+    } else {
+        None
+    }
 }
 
 fn negative(digits: &[u8]) -> Option<i64>
     ensures { result ≡ negative digits.now }
 {
-    if is_positive(digits) { Some(-count(digits)) } else { None }
+    if is_positive(digits) {
+        Some(-count(digits))
+    } else {
+        None
+    }
 }
 
 /// The number that a field writes in the one way that there is; one beyond all limits of a project counts as 2^50 or -2^50.

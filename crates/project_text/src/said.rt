@@ -99,7 +99,11 @@ fn row_of(store: &Store, form: &RuleForm) -> Option<RuleRow>
         origin: store.class_by_name(&form.origin)?,
         dest: dest_in(store, &form.dest)?,
     };
-    if do_classes_fit(store, &row) { Some(row) } else { None }
+    if do_classes_fit(store, &row) {
+        Some(row)
+    } else {
+        None
+    }
 }
 
 fn last_number(rules: &[InForce]) -> u16
@@ -288,7 +292,11 @@ impl Draft {
             (λ r. (r ≡ rect_said form.now.frame) × ((not (is_rectangle (rect_said form.now.frame)) || (form.now.whole && not (other == 0))) ≡ false)) }
     {
         let frame = rect_of(&form.frame)?;
-        if form.whole && other != 0 { None } else { Some(frame) }
+        if form.whole && other != 0 {
+            None
+        } else {
+            Some(frame)
+        }
     }
 
     // The number of a rule in force.
@@ -297,11 +305,20 @@ impl Draft {
             (λ r. (natural 1 256 number ≡ Some r) × (is_some (rule_at self.now.project.rules r) ≡ true)) }
     {
         let rule = natural(1, 256, number)? as u16;
-        if has_rule(&self.rules, rule) { Some(rule) } else { None }
+        if has_rule(&self.rules, rule) {
+            Some(rule)
+        } else {
+            None
+        }
     }
 
     /// An error more, without its cells.
-    pub fn say_error(&mut self, alloc: Global, marked: bool, form: &ErrorForm) -> Result<(), LineFault>
+    pub fn say_error(
+        &mut self,
+        alloc: Global,
+        marked: bool,
+        form: &ErrorForm,
+    ) -> Result<(), LineFault>
         ensures { Says result (error_verdict marked self.old (error_said form.now)) self.new }
     {
         let last = self.store.next_handle() - 1;

@@ -1,4 +1,4 @@
-use Rattle.std.proofs.Common.{◌≤◌, length}
+use Rattle.std.proofs.Common.{length}
 use Rattle.project_text.specs.Reading.{left}
 use Rattle.project_text.proofs.Halves.{HalvesRead}
 use Rattle.project_text.proofs.cells.read_cell.Given as goal

@@ -1,4 +1,4 @@
-use Rattle.std.proofs.Common.{◌≡◌, ◌≤◌, ◌-◌, length, take}
+use Rattle.std.proofs.Common.{◌≤◌, ◌-◌, length, take}
 use Rattle.project_terms.specs.Texts.{IsInner}
 use Rattle.project_text.proofs.cut.line_end.Given as goal
 
