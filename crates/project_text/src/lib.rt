@@ -1,13 +1,26 @@
 // The text of a project: what is saved of a topology, written and read.
 #![tactic(auto)]
 
+mod cells;
+mod cut;
 mod data;
+mod draft;
+mod fault;
+mod fields;
+mod forms;
+mod kinds;
 mod law;
 mod lines;
+mod numbers;
 mod push;
+mod read;
+mod said;
+mod shapes;
 mod write;
 
 pub use data::ProjectData;
+pub use fault::ProjectFault;
 pub use law::{one_number_law, one_text_law};
 pub use project_terms::ProjectCause;
+pub use read::read_project;
 pub use write::write_project;

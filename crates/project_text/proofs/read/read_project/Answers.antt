@@ -1,0 +1,8 @@
+use Rattle.project_text.proofs.Found.{only, first}
+use Rattle.project_text.proofs.read.read_project.Goals as goal
+
+pub returns-clause-only : goal.returns-clause-only
+returns-clause-only c = only c.args.text.now c.read_lines.result c.read_lines.ensures
+
+pub returns-clause-first : goal.returns-clause-first
+returns-clause-first c = first c.args.text.now c.read_lines.result c.read_lines.ensures
