@@ -1,8 +1,8 @@
-// The cells that a work keeps: they are found again, and never for another shape of their handle.
+// The cells that a work keeps serve the next judgement, and never for another shape of their handle.
 use crate::definitions::square;
 use feature_store::{Kind, Name, Shape};
 use grid_plane::Rect;
-use rule_core::{Region, RuleRow, Work};
+use rule_core::{RuleRow, Work};
 use rule_set::PosterRules;
 use rule_words::RuleKind;
 use std::alloc::Global;
@@ -27,12 +27,6 @@ fn two_lots(alloc: Global) -> Result<Topology<PosterRules>, Fail> {
     Ok(town)
 }
 
-// Whether the cells of this lot's inside are kept for its handle.
-fn keeps(alloc: Global, work: &mut Work, handle: u32, x: i16, y: i16) -> Result<bool, Fail> {
-    let lot = square(alloc, handle, 1, x, y)?;
-    Ok(work.look(Region::Inside, &lot)?.is_some())
-}
-
 #[test]
 fn a_changed_lot_is_judged_as_it_is(rt: HostRuntime) -> Result<(), Fail> {
     let alloc = rt.alloc();
@@ -40,11 +34,11 @@ fn a_changed_lot_is_judged_as_it_is(rt: HostRuntime) -> Result<(), Fail> {
     let mut work = Work::new();
     town.validate(Rect::whole(), &mut work)?;
     assert_eq!(rt; (town.errors().len(), work.judged()), (1, 2));
-    assert!(rt; keeps(alloc, &mut work, 2, 5, 5)?);
     town.change(2, lot(alloc, 10, 5)?)?;
-    assert!(rt; !keeps(alloc, &mut work, 2, 10, 5)?);
     town.validate(Rect::whole(), &mut work)?;
     assert_eq!(rt; (town.errors().len(), work.judged()), (0, 4));
-    assert!(rt; keeps(alloc, &mut work, 2, 10, 5)?);
+    town.change(2, lot(alloc, 5, 5)?)?;
+    town.validate(Rect::whole(), &mut work)?;
+    assert_eq!(rt; (town.errors().len(), work.judged()), (1, 6));
     Ok(())
 }
