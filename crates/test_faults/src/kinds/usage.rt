@@ -21,7 +21,7 @@ const OTHERS: [&[&str]; 12] = [
     &["replay", ""],
     &["check", "wells"],
     &["report", "wells"],
-    &["town", "1", "2"],
+    &["town", "1", "61"],
     &["--help"],
 ];
 
