@@ -1,7 +1,6 @@
 use Rattle.std.proofs.Common.{◌≡◌, ap}
 use Rattle.topology_terms.specs.Entry.{Entry}
-use Rattle.error_store.specs.Keys.{key_of}
-use Rattle.error_store.specs.declared.key.Key.{Key}
+use Rattle.error_store.specs.Keys.{Key, key_of}
 use Rattle.error_store.proofs.Steps.{puts_old, drops_old}
 use Rattle.error_store.proofs.merge.put_old.Goals as goal
 
