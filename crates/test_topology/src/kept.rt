@@ -19,7 +19,7 @@ fn add_lots(alloc: Global, town: &mut Topology<PosterRules>) -> Result<(), Fail>
     town.add_rule(RuleRow {
         kind: RuleKind::PolygonMustNotOverlap,
         origin: 1,
-        dest: 0,
+        dest: None,
     })?;
     town.add(1, lot(alloc, 0, 0)?)?;
     town.add(1, lot(alloc, 5, 5)?)?;

@@ -36,7 +36,7 @@ fn change_and_delete(
     town.add_rule(RuleRow {
         kind: RuleKind::PointMustBeDisjoint,
         origin: 1,
-        dest: 0,
+        dest: None,
     })?;
     town.add(1, well(5)?)?;
     town.add(1, well(6)?)?;

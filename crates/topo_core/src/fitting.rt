@@ -16,10 +16,11 @@ fn does_dest_fit(store: &Store, row: &RuleRow) -> Result<bool, RuleFault>
     ensures err { IfErr result (λ e. e ≡ fault.NoClass) }
 {
     let Some(kind) = row.kind.dest() else {
-        return Ok(row.dest == 0);
+        return Ok(row.dest.is_none());
     };
-    let dest = store.class_kind(row.dest).ok_or(RuleFault::NoClass)?;
-    Ok(dest == kind && row.dest != row.origin)
+    let number = row.dest_number();
+    let dest = store.class_kind(number).ok_or(RuleFault::NoClass)?;
+    Ok(dest == kind && number != row.origin)
 }
 
 /// Whether the classes are there and fit the rule.

@@ -2,7 +2,7 @@ use Rattle.std.proofs.Common.{ap}
 use Rattle.std.proofs.lemmas.List.{take_all}
 use Rattle.topology_terms.specs.Entry.{Entry}
 use Rattle.plane_terms.specs.Dirt.{MeetsDirt}
-use Rattle.error_store.specs.declared.key.Key.{Key}
+use Rattle.error_store.specs.Keys.{Key}
 use Rattle.validation_laws.proofs.Selecting.{picked_more}
 use Rattle.validation.proofs.selection.add_subjects.Goals as goal
 
