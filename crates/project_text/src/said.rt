@@ -56,6 +56,7 @@ fn has_rule(rules: &[InForce], number: u16) -> bool
 }
 
 // Whether the second class serves the rule; or, where the rule takes none, whether none is given.
+#[tactic(auto, using(rule_core::proofs::Seconds::none_at_0))]
 fn does_dest_fit(store: &Store, row: &RuleRow) -> bool
     ensures { result ≡ fits_dest store.now.classes row.now (dest_of row.now.kind) }
 {

@@ -62,10 +62,11 @@ impl<K: Kinded> Rule for Of<K> {
         subject: u32,
         work: &mut Work,
     ) -> Result<Findings, NoMemory> {
+        let dest = self.row().dest_number();
         K::cut(
             alloc,
             self.origin,
-            self.row().dest_number(),
+            dest,
             view.subject(subject),
             view,
             work,

@@ -9,6 +9,7 @@ use feature_store::Store;
 use rule_core::RuleRow;
 
 // Whether the second class serves the rule; or, where the rule takes none, whether none is given.
+#[tactic(auto, using(rule_core::proofs::Seconds::none_at_0))]
 fn does_dest_fit(store: &Store, row: &RuleRow) -> Result<bool, RuleFault>
     ensures fit { IfOk result (λ b. b ≡ fits_dest store.now.classes row.now (dest_of row.now.kind)) }
     ensures there { OnOk result (lacks_dest store.now.classes row.now (dest_of row.now.kind) ≡ false) }
