@@ -31,28 +31,32 @@ fn index_of(alloc: Global, features: &[Feature]) -> Result<Index, NoMemory>
 
 impl<R: KindRules> Topology<R> {
     /// The topology of what was saved, judged by these rules.
-    pub fn from_data(alloc: Global, judging: R, data: ProjectData) -> Result<Topology<R>, NoMemory>
+    pub fn from_data(
+        alloc: Global,
+        judging: R,
+        saved: ProjectData,
+    ) -> Result<Topology<R>, NoMemory>
     where
         R: Drop,
-        requires { IsRecord data }
-        ensures { IfOk result (λ t. t ≡ data) }
+        requires { IsRecord saved }
+        ensures { IfOk result (λ t. t ≡ saved) }
     {
-        store_law(&data.store);
-        let index = index_of(alloc, data.store.features())?;
+        store_law(&saved.store);
+        let index = index_of(alloc, saved.store.features())?;
         Ok(Topology {
             alloc,
             judging,
-            store: data.store,
+            store: saved.store,
             index,
-            rules: data.rules,
-            dirt: data.dirt,
-            entries: data.errors,
+            rules: saved.rules,
+            dirt: saved.dirt,
+            entries: saved.errors,
         })
     }
 
     /// What is saved of the topology: a copy, which a later change of the topology leaves as it is.
     pub fn to_data(&self) -> Result<ProjectData, NoMemory>
-        ensures data { IfOk result (λ d. d ≡ self.now) }
+        ensures same { IfOk result (λ d. d ≡ self.now) }
     {
         Ok(ProjectData {
             store: self.store.try_copy(self.alloc)?,
