@@ -79,7 +79,7 @@ says_or_not Zero v = elim (cases_order_ℤ (pos 0) v) [
   | inr h ↦ elim (cases_order_ℤ v (pos 0)) [ inl i ↦ inr (λ k. omega (arith, ints)) | inr i ↦ inl (omega (arith, ints)) ]
 ]
 
-in_or_not : (c : Cell) (p : Point) → InCell c p ⊎ ¬ (InCell c p)
+pub in_or_not : (c : Cell) (p : Point) → InCell c p ⊎ ¬ (InCell c p)
 in_or_not [] p = inl tt
 in_or_not (h ∷ hs) p = elim (says_or_not h.op (value_at h p)) [
   | inl a ↦ elim (in_or_not hs p) [ inl b ↦ inl (a, b) | inr n ↦ inr (λ k. n k.1) ]

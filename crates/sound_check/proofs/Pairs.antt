@@ -1,16 +1,18 @@
 -- The entries of a rule and a subject, stored and fresh.
-use Rattle.std.proofs.Common.{◌≡◌, ◌↔◌, ◌∙◌, ℕ, ◌+◌, ◌<◌, length, get_or, true, List, [], ◌∷◌, take, Option, Some, None, refl, sym, subst}
+use Rattle.std.proofs.Common.{◌≡◌, ◌↔◌, ◌∙◌, ℕ, ◌+◌, ◌<◌, length, get_or, Bool, true, false, IsTrue, List, [], ◌∷◌, take, Option, Some, None, refl, sym, subst}
 use Rattle.std.specs.Prelude.{MatchOption}
 use Rattle.std.specs.List.{find}
 use Rattle.std.specs.Option.{option_map}
+use Rattle.std.proofs.lemmas.Bool.{false≢true}
 use Rattle.std.proofs.lemmas.List.{take_more}
 use Rattle.std.proofs.lemmas.Option.{same_Some, none-some}
 use Rattle.plane_terms.specs.Lists.{Every}
 use Rattle.plane_terms.proofs.ListLemmas.{every_append, every_map, every_at}
+use Rattle.plane_terms.proofs.Truths.{same_by_truth}
 use Rattle.plane_terms.specs.Point.{Point}
 use Rattle.plane_terms.specs.Rectangle.{Rectangle}
 use Rattle.plane_terms.specs.Cell.{InCells}
-use Rattle.plane_terms.specs.Dirt.{Covers}
+use Rattle.plane_terms.specs.Dirt.{Covers, MeetsDirt}
 use Rattle.topology_terms.specs.Entry.{Entry, by_key, has_key, entry_at, HasCellsAt, HasWhole, IsAscending}
 use Rattle.sound_laws.proofs.Keyed as keyed
 use Rattle.sound_laws.proofs.Lists.{keys, entry_key, every_found}
@@ -63,6 +65,21 @@ whole_there es r a x at = (
 
 pub whole_nowhere : (es : List Entry) (r a : ℕ) → entry_at es r a 0 ≡ None → ¬ (HasWhole es r a)
 whole_nowhere es r a at h = none-some h.0 (sym at ∙ h.1)
+
+-- where one list alone has a whole entry, both agree exactly if the envelope meets the dirt
+pub wholes_apart : (d : List Rectangle) (o : Option Rectangle) (s : Rectangle) (fresh stored : List Entry) (r a : ℕ) (t u m : Bool)
+    → o ≡ Some s → IsTrue t ↔ HasWhole stored r a → IsTrue u ↔ HasWhole fresh r a → ¬ (t ≡ u) → IsTrue m ↔ MeetsDirt d s
+    → IsTrue m ↔ WholesAgree d o fresh stored r a
+wholes_apart d o s fresh stored r a t u true is h k n meets = (
+  λ yes x e clear. absurd (clear (subst (MeetsDirt d) (same_Some s x (sym is ∙ e)) (meets.0 refl))),
+  λ w. refl,
+)
+wholes_apart d o s fresh stored r a t u false is h k n meets = (
+  λ yes. absurd (false≢true yes),
+  λ w.
+      let both = w s is (λ x. false≢true (meets.1 x)) in
+      absurd (n (same_by_truth t u (λ x. k.1 (both.0 (h.0 x))) (λ x. h.1 (both.1 (k.0 x))))),
+)
 
 -- ---- a rule and a subject
 module _ (d : List Rectangle) (o : Option Rectangle) (fresh stored : List Entry) (r a : ℕ) where

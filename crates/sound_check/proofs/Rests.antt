@@ -1,24 +1,20 @@
 -- What is left of cells, carved step by step.
-use Rattle.std.proofs.Common.{◌≡◌, ◌↔◌, ◌⊎◌, ◌∙◌, ℕ, zero, suc, ◌+◌, ◌≤◌, nat_eq, false, not, IsTrue, List, [], ◌∷◌, ◌++◌, length, take, inl, inr, refl, sym, subst, ap, arith, ℤ, pos}
+use Rattle.std.proofs.Common.{◌≡◌, ◌↔◌, ◌∙◌, ℕ, zero, suc, ◌+◌, ◌≤◌, nat_eq, false, not, IsTrue, List, [], ◌∷◌, length, take, inl, inr, refl, sym, subst, ap}
 use Rattle.std.specs.Prelude.{slice_get, Some}
 use Rattle.std.proofs.Math.Dec.{eqb-suc-zero}
 use Rattle.std.proofs.lemmas.Bool.{false≢true}
-use Rattle.std.proofs.lemmas.Int.{ints}
-use Rattle.std.proofs.lemmas.List.{take_more, take_all, nil_from_length}
-use Rattle.std.proofs.lemmas.Option.{get_or_from_slice_get, slice_get_within}
+use Rattle.std.proofs.lemmas.List.{take_all, nil_from_length}
 use Rattle.plane_terms.specs.Lists.{SomeOf}
 use Rattle.plane_terms.specs.Point.{Point}
 use Rattle.plane_terms.proofs.ListLemmas.{some_or_none}
 use Rattle.plane_terms.specs.Rectangle.{Rectangle}
-use Rattle.plane_terms.specs.HalfPlane.{Says, value_at}
-use Rattle.plane_terms.specs.declared.op.Op.{Op}
-use Rattle.plane_terms.specs.declared.op.Op.TheVariants.{Over, AtLeast, Zero}
 use Rattle.plane_terms.specs.Cell.{Cell, InCell, InCells, HavePoints}
 use Rattle.plane_terms.specs.Carve.{carve_of}
 use Rattle.plane_terms.specs.Dirt.{Covers}
-use Rattle.number_laws.proofs.Order.{cases_order_ℤ}
 use Rattle.cell_laws.proofs.Lists.{all_append, some_append}
 use Rattle.cell_laws.proofs.Meets.{carve_points, kept_have_points}
+use Rattle.validation_laws.proofs.Joining.{take_one}
+use Rattle.rule_laws.proofs.Covered.{in_or_not}
 use Rattle.sound_check.specs.Rest.{IsRest, IsWithinOff}
 
 -- ---- one step
@@ -36,9 +32,6 @@ rest_as P Q cs made e r = record {
 }
 
 -- ---- the steps of a list
-take_one : {A : Type 0} (xs : List A) (i : ℕ) (x : A) → slice_get xs i ≡ Some x → take (i + 1) xs ≡ take i xs ++ x ∷ []
-take_one xs i x e = take_more xs i x (slice_get_within xs i x e) ∙ ap (λ y. take i xs ++ y ∷ []) (get_or_from_slice_get xs i x x e)
-
 some_taken : {A : Type 0} (P : A → Type 0) (xs : List A) (i : ℕ) → SomeOf P (take i xs) → SomeOf P xs
 some_taken P [] zero h = h
 some_taken P [] (suc i) h = h
@@ -96,21 +89,6 @@ some_test [] n h e = rw e (λ t. absurd (false≢true t), λ k. absurd k.1)
 some_test (c ∷ cs) n h e = rw (not_zero c cs n e) (λ t. (h.0.0, inl h.0.1), λ k. refl)
 
 -- ---- a list holds a point or not
-says_or_not : (o : Op) (v : ℤ) → Says o v ⊎ ¬ (Says o v)
-says_or_not Over v = elim (cases_order_ℤ (pos 0) v) [ inl h ↦ inl h | inr h ↦ inr (λ k. omega (arith, ints)) ]
-says_or_not AtLeast v = elim (cases_order_ℤ v (pos 0)) [ inl h ↦ inr (λ k. omega (arith, ints)) | inr h ↦ inl h ]
-says_or_not Zero v = elim (cases_order_ℤ (pos 0) v) [
-  | inl h ↦ inr (λ k. omega (arith, ints))
-  | inr h ↦ elim (cases_order_ℤ v (pos 0)) [ inl i ↦ inr (λ k. omega (arith, ints)) | inr i ↦ inl (omega (arith, ints)) ]
-]
-
-in_or_not : (c : Cell) (p : Point) → InCell c p ⊎ ¬ (InCell c p)
-in_or_not [] p = inl tt
-in_or_not (h ∷ hs) p = elim (says_or_not h.op (value_at h p)) [
-  | inl a ↦ elim (in_or_not hs p) [ inl b ↦ inl (a, b) | inr n ↦ inr (λ k. n k.1) ]
-  | inr n ↦ inr (λ k. n k.0)
-]
-
 in_cells_stable : (cs : List Cell) (p : Point) → ¬ (¬ (InCells cs p)) → InCells cs p
 in_cells_stable cs p n = elim (some_or_none (λ c. InCell c p) (λ c. in_or_not c p) cs) [ inl h ↦ h | inr k ↦ absurd (n k) ]
 

@@ -1,5 +1,6 @@
-ghost use Rattle.std.specs.Prelude.{◌≡◌, ◌↔◌, ◌≤◌, ◌+ℤ◌, ◌-ℤ◌, pos, IsTrue, IfOk, unsigned_abs};
+ghost use Rattle.std.specs.Prelude.{◌≡◌, ◌↔◌, ◌≤◌, ◌+ℤ◌, ◌-ℤ◌, pos, Some, IsTrue, IfOk, unsigned_abs};
 ghost use Rattle.plane_terms.specs.Point.{InReach};
+ghost use Rattle.plane_terms.specs.Rectangle.{Rectangle, IsWithin};
 ghost use Rattle.plane_terms.specs.Cell.{IsLeastFrame};
 ghost use Rattle.sound_check.specs.Frames.{Reaches, HoldsAll, ReachesSides, Stands};
 
@@ -67,16 +68,19 @@ pub fn is_least_frame(alloc: Global, frame: &Rect, cells: &Cells) -> Result<bool
     reaches_sides(alloc, frame, cells)
 }
 
-/// Whether a frame may stand: it meets the dirt, touching is meeting, or it lies in the envelope of its subject, which is there
-/// where the subject is live.
-pub fn frame_stands(frame: &Rect, envelope: Option<Rect>, dirt: &Dirt) -> bool
-    ensures { IsTrue result ↔ Stands dirt.now envelope frame.now }
+fn lies_in_envelope(frame: &Rect, envelope: Option<Rect>) -> bool
+    ensures { IsTrue result ↔ ((s : Rectangle) × (envelope ≡ Some s) × IsWithin frame.now s) }
 {
-    if dirt.meets(frame) {
-        return true;
-    }
     match envelope {
         Some(envelope) => envelope.holds_rect(frame),
         None => false,
     }
+}
+
+/// Whether a frame may stand: it meets the dirt, touching is meeting, or it lies in the envelope of its subject, which is there
+/// where the subject is live. Looks at the dirt only where it does not lie in the envelope.
+pub fn frame_stands(frame: &Rect, envelope: Option<Rect>, dirt: &Dirt) -> bool
+    ensures { IsTrue result ↔ Stands dirt.now envelope frame.now }
+{
+    lies_in_envelope(frame, envelope) || dirt.meets(frame)
 }

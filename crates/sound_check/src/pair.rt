@@ -19,13 +19,13 @@ fn do_wholes_agree(
 ) -> bool
     ensures { IsTrue result ↔ WholesAgree dirt.now envelope fresh.now stored.now rule subject }
 {
-    let Some(envelope) = envelope else {
-        return true;
-    };
-    if dirt.meets(&envelope) {
+    if has_whole(stored, rule, subject) == has_whole(fresh, rule, subject) {
         return true;
     }
-    has_whole(stored, rule, subject) == has_whole(fresh, rule, subject)
+    match envelope {
+        Some(envelope) => dirt.meets(&envelope),
+        None => true,
+    }
 }
 
 /// Whether the stored entries of a rule and a subject are sound beside those that are found afresh: off the dirt both have the

@@ -17,6 +17,7 @@ pub use fault::ChangeFault;
 pub use feature_store::{Feature, Kind, Name, NoMemory, Shape, StoreFault};
 pub use kinds::KindRules;
 pub use no_rule::NoRule;
+pub use project_check::Unsound;
 pub use rule_core::RuleRow;
 pub use rule_fault::RuleFault;
 pub use topology::{Summary, Topology};

@@ -9,6 +9,7 @@ ghost use Rattle.topology_terms.specs.Changes.{IsClassAdded, IsFeatureAdded, IsF
 ghost use Rattle.error_store.specs.Marking.{fault_cause};
 ghost use Rattle.feature_store.specs.Keeps.{IsOfClass};
 ghost use Rattle.feature_store.specs.Faults.{store_cause};
+ghost use Rattle.project_check.specs.Checked.{IsChecked};
 ghost use Rattle.topo_core.specs.Faults.{edit_cause, row_cause, IsThereAt};
 ghost use Rattle.topo_core.specs.Topologies.{IsTopology};
 ghost use Rattle.topo_core.specs.Steps.{IsCounted, IsCountWithin};
@@ -26,6 +27,7 @@ use error_store::{Errors, Key, MarkFault};
 use feature_store::{Store, StoreFault};
 use grid_index::Index;
 use grid_plane::{Name, NoMemory, Rect};
+use project_check::{Unsound, check_project};
 use rule_core::{InForce, RuleRow, Work};
 use shape::{Feature, Kind, Shape};
 use std::alloc::Global;
@@ -302,6 +304,23 @@ impl<R: KindRules> Topology<R> {
             errors: self.entries.len() as u64,
             dirty: self.dirt.len() as u64,
         })
+    }
+
+    /// `None` where the topology is sound: off the dirt its errors say exactly what is broken. Else the first rule in force and
+    /// subject at which it is not, in order of rules, then of subjects; a subject is live, or has an error. Judges each live
+    /// feature by each rule anew, and changes nothing. An `Err` is want of memory.
+    pub fn check(&self) -> Result<Option<Unsound>, NoMemory>
+        ensures { IfOk result (IsChecked R.meaning self.now) }
+    {
+        check_project(
+            &self.judging,
+            self.alloc,
+            &self.rules,
+            self.store.features(),
+            &self.index,
+            &self.entries,
+            &self.dirt,
+        )
     }
 
     /// The classes and the live features.

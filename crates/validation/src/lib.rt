@@ -10,4 +10,6 @@ mod selection;
 mod sorted;
 mod window;
 
+pub use judge::judge_subject;
+pub use near::FeatureIndex;
 pub use window::validate;

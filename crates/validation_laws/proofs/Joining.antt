@@ -1,12 +1,18 @@
 -- Lists put together part by part.
-use Rattle.std.proofs.Common.{◌≡◌, ◌≢◌, inl, inr, ℕ, ◌<◌, ◌+◌, List, [], ◌∷◌, ◌++◌, refl, sym, ◌∙◌, append_assoc, append-nil, take, length, get_or, ap}
+use Rattle.std.proofs.Common.{◌≡◌, ◌≢◌, Some, inl, inr, ℕ, ◌<◌, ◌+◌, List, [], ◌∷◌, ◌++◌, refl, sym, ◌∙◌, append_assoc, append-nil, take, length, get_or, ap}
+use Rattle.std.specs.Prelude.{slice_get}
 use Rattle.std.proofs.lemmas.Bool.{cases_Bool}
 use Rattle.std.proofs.lemmas.List.{take_more}
+use Rattle.std.proofs.lemmas.Option.{get_or_from_slice_get, slice_get_within}
 use Rattle.plane_terms.specs.Lists.{Every, Paired}
 use Rattle.plane_terms.proofs.ListLemmas.{every_append}
 use Rattle.topology_terms.specs.Entry.{Entry, has_key}
 use Rattle.sound_laws.proofs.Lists.{Lacks, has_parts}
 use Rattle.validation_laws.specs.Parts.{IsJoined}
+
+-- one element more
+pub take_one : {A : Type 0} (xs : List A) (i : ℕ) (x : A) → slice_get xs i ≡ Some x → take (i + 1) xs ≡ take i xs ++ x ∷ []
+take_one xs i x e = take_more xs i x (slice_get_within xs i x e) ∙ ap (λ y. take i xs ++ y ∷ []) (get_or_from_slice_get xs i x x e)
 
 -- one part more
 pub joined_more : {A B : Type 0} (P : A → List B → Type 0) (xs : List A) (ys : List B) (x : A) (part : List B) → IsJoined P xs ys → P x part

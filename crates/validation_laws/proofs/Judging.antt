@@ -75,7 +75,7 @@ subject_of M F r row a es h = elim (there_or_not (feature_at F a)) [
   | inr n ↦ rw (h.dead n) tt
 ]
 
-subject_ascends : (M : Meaning) (F : List Feature) (r : ℕ) (row : Row) (a : ℕ) (es : List Entry) → IsSubjectPart M F r row a es
+pub subject_ascends : (M : Meaning) (F : List Feature) (r : ℕ) (row : Row) (a : ℕ) (es : List Entry) → IsSubjectPart M F r row a es
     → IsAscending es
 subject_ascends M F r row a es h = elim (there_or_not (feature_at F a)) [
   | inl f ↦ let l = h.live f.0 f.1 in found_ascend r a f.0 l.0 es l.2 l.3

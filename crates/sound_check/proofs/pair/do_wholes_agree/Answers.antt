@@ -1,11 +1,10 @@
-use Rattle.std.proofs.Common.{refl, sym, subst, ◌∙◌}
-use Rattle.std.proofs.lemmas.Option.{same_Some}
-use Rattle.plane_terms.specs.Dirt.{MeetsDirt}
+use Rattle.std.proofs.Common.{sym, ◌∙◌}
+use Rattle.std.specs.Cmp.{booleans_Decides}
+use Rattle.std.proofs.lemmas.Bool.{false≢true}
+use Rattle.sound_check.proofs.Pairs.{wholes_apart}
 use Rattle.sound_check.proofs.pair.do_wholes_agree.Goals as goal
 
-pub returns-then-meets : goal.returns-then-meets
-returns-then-meets c = (
-  λ k s e n. absurd (n (subst (MeetsDirt c.args.dirt.now) (same_Some c.in-Some.envelope s (sym c.in-Some.is ∙ e))
-      (c.meets.ensures.meaning.0 c.if-meets.true))),
-  λ w. refl,
-)
+pub returns-in-Some : goal.returns-in-Some
+returns-in-Some c = wholes_apart c.args.dirt.now c.args.envelope c.in-Some.envelope c.args.fresh.now c.args.stored.now c.args.rule
+    c.args.subject c.has_whole.result c.has_whole-2.result c.meets.result c.in-Some.is c.has_whole.ensures c.has_whole-2.ensures
+    (λ e. false≢true (sym c.if-has_whole.false ∙ (booleans_Decides c.has_whole.result c.has_whole-2.result).1 e)) c.meets.ensures.meaning

@@ -1,0 +1,5 @@
+mod Places
+mod Runs
+mod EachSubject
+mod Judged
+mod Sound

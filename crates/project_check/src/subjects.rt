@@ -1,0 +1,46 @@
+ghost use Rattle.std.specs.Prelude.{◌≡◌, ◌++◌, map, IfOk, OnOk};
+ghost use Rattle.topology_terms.specs.Feature as features_of;
+ghost use Rattle.topology_terms.specs.Entry as entries_of;
+ghost use Rattle.validation_laws.specs.Parts.{IsRising};
+ghost use Rattle.project_check.specs.Subjects.{HasSubjects};
+
+use error_store::Entry;
+use grid_index::once_each;
+use grid_plane::NoMemory;
+use shape::Feature;
+use std::alloc::Global;
+
+fn add_handles(features: &[Feature], subjects: &mut Vec<u32>) -> Result<(), NoMemory>
+    ensures { OnOk result (subjects.new.items ≡ subjects.old.items ++ map (λ (f : features_of.Feature). f.handle) features.now) }
+{
+    for f in features {
+        subjects.push(f.handle())?;
+    }
+    Ok(())
+}
+
+fn add_subjects(entries: &[Entry], subjects: &mut Vec<u32>) -> Result<(), NoMemory>
+    ensures { OnOk result (subjects.new.items ≡ subjects.old.items ++ map (λ (e : entries_of.Entry). e.subject) entries.now) }
+{
+    for e in entries {
+        subjects.push(e.key().subject)?;
+    }
+    Ok(())
+}
+
+/// The numbers at which a project may be unsound, once each, ascending: the handles of its live features, and the subjects of
+/// its entries, live or not. Goes over both lists once.
+pub fn subjects_of(
+    alloc: Global,
+    features: &[Feature],
+    entries: &[Entry],
+) -> Result<Vec<u32>, NoMemory>
+    ensures rising { IfOk result (λ v. IsRising v.items) }
+    ensures all { IfOk result (λ v. HasSubjects features.now entries.now v.items) }
+{
+    let mut subjects = Vec::new(alloc);
+    add_handles(features, &mut subjects)?;
+    add_subjects(entries, &mut subjects)?;
+    once_each(&mut subjects);
+    Ok(subjects)
+}
