@@ -20,3 +20,4 @@ pub mod Ends
 pub mod Spelled
 pub mod Named
 pub mod Kept
+pub mod OneSpelling

@@ -5,12 +5,14 @@ ghost use Rattle.project_terms.specs.declared.project_cause.ProjectCause as term
 ghost use Rattle.project_terms.specs.Lines.{number};
 ghost use Rattle.project_terms.specs.Records.{IsRecord};
 ghost use Rattle.project_terms.specs.Texts.{IsRead, IsFault};
+ghost use Rattle.project_terms.specs.Written.{project_text};
 
-/// The law of texts: a text says one project at most, and one that a text can say; where it says one, no line of it is wrong; and
-/// else one line is the first that is wrong, of one cause.
+/// The law of texts: a text says one project at most, one that a text can say, and is the text that is written of it; where it says
+/// one, no line of it is wrong; and else one line is the first that is wrong, of one cause.
 pub fn one_text_law()
     ensures project { (t : List ℕ) (p q : Project) → IsRead t p → IsRead t q → p ≡ q }
     ensures valid { (t : List ℕ) (p : Project) → IsRead t p → IsRecord p }
+    ensures spelled { (t : List ℕ) (p : Project) → IsRead t p → t ≡ project_text p }
     ensures either { (t : List ℕ) (p : Project) (n : ℕ) (c : terms.ProjectCause) → IsRead t p → ¬ (IsFault t n c) }
     ensures fault { (t : List ℕ) (m n : ℕ) (b c : terms.ProjectCause) → IsFault t m b → IsFault t n c → (m ≡ n) × (b ≡ c) }
 {}
