@@ -15,6 +15,7 @@ use Rattle.validation_laws.specs.Parts.{IsRising}
 use Rattle.validation_laws.proofs.Handles.{among, among_or_not}
 use Rattle.sound_laws.proofs.Keyed.{found_contained, key_found, every_found, contained_found}
 use Rattle.sound_laws.proofs.RuleLists.{rule_numbers, found_rule, rule_found}
+use Rattle.validation.specs.Projects.{HasParts}
 use Rattle.project_check.specs.Subjects.{HasSubjects}
 use Rattle.project_check.specs.Checked.{HasLists, IsFirstNot, IsFirstUnsound}
 use Rattle.project_check.proofs.Places.{holds_below}
@@ -61,6 +62,10 @@ first_not P ns i x other u l e h n = record {
 }
 
 -- ---- rules in force
+pub lists_of : (p : Project) (rules : List InForce) (F G : List Feature) (d : List Rectangle) (es fs : List Entry) → HasParts p rules F d es
+    → G ≡ F → fs ≡ es → HasLists p G d fs
+lists_of p rules F G d es fs h e k = record { features = h.features ∙ sym e; dirt = h.dirt; entries = h.entries ∙ sym k }
+
 abbrev pub IsSoundBy : Meaning → Project → InForce → Type 0
 IsSoundBy M p q = (a : ℕ) → IsSoundAt M p q.number q.row a
 

@@ -42,8 +42,10 @@ fn a_change_a_deletion_and_a_validation(rt: HostRuntime) -> Result<(), Fail> {
     town.validate(Rect::whole(), &mut Work::new())?;
     assert_eq!(rt; town.errors().len(), 0);
     town.change(2, well(5)?)?;
+    assert!(rt; town.check()?.is_none());
     town.validate(Rect::whole(), &mut Work::new())?;
     assert_eq!(rt; town.errors().len(), 1);
+    assert!(rt; town.check()?.is_none());
     town.delete(1)?;
     let summary = town.validate(Rect::whole(), &mut Work::new())?;
     assert_eq!(rt; (summary.errors, summary.dirty), (0, 0));
