@@ -1,7 +1,5 @@
 -- The handles of the features and the subjects of the entries are enough to check.
-use Rattle.std.proofs.Common.{◌≡◌, ◌↔◌, ℕ, ◌<◌, ◌+◌, zero, suc, List, [], ◌∷◌, ◌++◌, Some, sym, subst, ◌∙◌, ap, arith, take, length, get_or, map, Contains, append_assoc}
-use Rattle.std.specs.List.Sorted.{IsStrictlyIncreasing}
-use Rattle.std.proofs.lemmas.List.{take_more, map-append}
+use Rattle.std.proofs.Common.{◌≡◌, ◌↔◌, ℕ, ◌<◌, zero, suc, List, [], ◌∷◌, ◌++◌, sym, subst, ap, arith, length, get_or, map, Contains}
 use Rattle.std.proofs.lemmas.List.Elements.{Contains-append_left, Contains-append_right}
 use Rattle.topology_terms.specs.Feature.{Feature, by_handle, feature_at}
 use Rattle.topology_terms.specs.Entry.{Entry, by_key, entry_at}

@@ -1,5 +1,5 @@
 -- Of a subject that is judged afresh and its stored entries: the test of the pair is that of the project.
-use Rattle.std.proofs.Common.{◌≡◌, ◌↔◌, ℕ, Bool, IsTrue, List, Option, sym, subst, ◌∙◌}
+use Rattle.std.proofs.Common.{◌≡◌, ◌↔◌, ℕ, Bool, IsTrue, List, sym, subst}
 use Rattle.std.specs.Option.{option_map}
 use Rattle.plane_terms.specs.Rectangle.{Rectangle}
 use Rattle.topology_terms.specs.Feature.{Feature, feature_at, env, IsAscending}
@@ -19,9 +19,9 @@ pub pair_at : (M : Meaning) → Laws M → CutsRight M → (p : Project) (F : Li
     → IsTrue ok ↔ IsSoundPair d (option_map env (feature_at F a)) fresh stored r a → IsTrue ok ↔ IsSoundAt M p r row a
 pair_at M L C p F d es r row a fresh stored ok h u fits part same t =
     let exact : AreExact M p.features row fresh r a = subst (λ G. AreExact M G row fresh r a) (sym h.features)
-        (part_exact M L C F row fresh r a u fits part) in
+    (part_exact M L C F row fresh r a u fits part) in
     let own : (b : ℕ) → entry_at stored r a b ≡ entry_at p.entries r a b = λ b.
-        subst (λ xs. entry_at stored r a b ≡ entry_at xs r a b) (sym h.entries) (same b) in
+    subst (λ xs. entry_at stored r a b ≡ entry_at xs r a b) (sym h.entries) (same b) in
     let pair : IsTrue ok ↔ IsSoundPair p.dirt (option_map env (feature_at p.features a)) fresh stored r a = rw (h.dirt, h.features) t in (
       λ k. sound_at M p row fresh stored r a exact own (pair.0 k),
       λ s. pair.1 (sound_pair M p row fresh stored r a exact own s),

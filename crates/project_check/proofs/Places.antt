@@ -1,5 +1,5 @@
 -- Elements of lists, by place: of the front, of the rest, and before one of an increasing list.
-use Rattle.std.proofs.Common.{◌≡◌, ℕ, ◌<◌, ◌≤◌, ◌+◌, zero, suc, List, [], ◌∷◌, inl, inr, sym, subst, arith, take, drop, length, get_or}
+use Rattle.std.proofs.Common.{◌≡◌, ℕ, ◌<◌, ◌+◌, zero, suc, List, [], ◌∷◌, inl, inr, sym, subst, arith, take, drop, length, get_or}
 use Rattle.std.specs.List.{AllWithin}
 use Rattle.std.proofs.lemmas.List.{get_or-take, get_or-drop, length-take, length-drop}
 use Rattle.plane_terms.specs.Lists.{Every, EveryPair}

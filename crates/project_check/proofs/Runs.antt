@@ -1,11 +1,11 @@
 -- The entries of a rule and a subject in a list that ascends by key.
-use Rattle.std.proofs.Common.{◌≡◌, ℕ, ◌<◌, ◌≤◌, zero, suc, Bool, true, false, List, [], ◌∷◌, ◌++◌, sym, ◌∙◌, ap, subst, arith, take, drop, length, get_or}
+use Rattle.std.proofs.Common.{◌≡◌, ℕ, zero, suc, Bool, true, false, List, [], ◌∷◌, sym, ◌∙◌, ap, subst, arith, take, drop, get_or}
 use Rattle.std.specs.List.Sorted.{IsPartitionPoint, IsPartitionedBy}
 use Rattle.std.proofs.lemmas.Bool.Decides.{nat_tests}
 use Rattle.std.proofs.lemmas.List.{take-append-drop}
 use Rattle.plane_terms.specs.Lists.{Every}
 use Rattle.plane_terms.proofs.ListLemmas.{every_at, every_by_index, every_map, every_left}
-use Rattle.topology_terms.specs.Entry.{Entry, by_key, has_key, entry_at, IsKeyBelow, IsAscending}
+use Rattle.topology_terms.specs.Entry.{Entry, by_key, entry_at, IsKeyBelow, IsAscending}
 use Rattle.sound_laws.proofs.Keyed.{ascending_left, ascending_right}
 use Rattle.sound_laws.proofs.Lists.{keys, Lacks, past_front, before_back}
 use Rattle.sound_check.specs.Pairs.{IsOf}
@@ -71,7 +71,7 @@ run_between r a es i k u p q =
     let upto = every_front (λ e. is_upto r a e ≡ true) rest k q.0 in
     let beyond = every_rest (λ e. is_upto r a e ≡ false) rest k q.1 in
     let not_before = every_left (λ e. is_before r a e ≡ false) (take k rest) (drop k rest)
-        (subst (Every (λ e. is_before r a e ≡ false)) (sym (take-append-drop k rest)) behind) in
+    (subst (Every (λ e. is_before r a e ≡ false)) (sym (take-append-drop k rest)) behind) in
     record {
       ascending = ascending_front rest k (ascending_rest es i u);
       own = every_by_index (IsOf r a) (take k rest) (λ j d l. of_pair r a (get_or (take k rest) j d)

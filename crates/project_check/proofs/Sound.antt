@@ -1,5 +1,5 @@
 -- A project is sound at a rule and a subject, at a rule, and under all.
-use Rattle.std.proofs.Common.{◌≡◌, ◌⊎◌, inl, inr, ◌∙◌, ℕ, ◌<◌, List, [], ◌∷◌, Option, Some, None, sym, subst, ap, arith, take, length, get_or}
+use Rattle.std.proofs.Common.{◌≡◌, inl, inr, ◌∙◌, ℕ, ◌<◌, List, Some, None, sym, subst, take, length, get_or}
 use Rattle.std.proofs.lemmas.Option.{none-some}
 use Rattle.plane_terms.specs.Lists.{Every}
 use Rattle.plane_terms.specs.Rectangle.{Rectangle}
@@ -15,8 +15,9 @@ use Rattle.validation_laws.specs.Parts.{IsRising}
 use Rattle.validation_laws.proofs.Handles.{among, among_or_not}
 use Rattle.sound_laws.proofs.Keyed.{found_contained, key_found, every_found, contained_found}
 use Rattle.sound_laws.proofs.RuleLists.{rule_numbers, found_rule, rule_found}
+use Rattle.validation.specs.Projects.{HasParts}
 use Rattle.project_check.specs.Subjects.{HasSubjects}
-use Rattle.project_check.specs.Checked.{HasLists, IsFirstNot, IsEarlier, IsFirstUnsound}
+use Rattle.project_check.specs.Checked.{HasLists, IsFirstNot, IsFirstUnsound}
 use Rattle.project_check.proofs.Places.{holds_below}
 
 -- ---- where there is nobody
@@ -61,6 +62,10 @@ first_not P ns i x other u l e h n = record {
 }
 
 -- ---- rules in force
+pub lists_of : (p : Project) (rules : List InForce) (F G : List Feature) (d : List Rectangle) (es fs : List Entry) → HasParts p rules F d es
+    → G ≡ F → fs ≡ es → HasLists p G d fs
+lists_of p rules F G d es fs h e k = record { features = h.features ∙ sym e; dirt = h.dirt; entries = h.entries ∙ sym k }
+
 abbrev pub IsSoundBy : Meaning → Project → InForce → Type 0
 IsSoundBy M p q = (a : ℕ) → IsSoundAt M p q.number q.row a
 
@@ -90,7 +95,7 @@ first_unsound M p rules i q a is u l e h first = record {
             subst (λ y. IsSoundAt M p s y b) x.row_is (subst (λ n. IsSoundAt M p n x.rule.row b) own k)
         | inr same ↦
             let both : Some q.row ≡ Some other = sym here ∙ subst (λ n. rule_at rules n ≡ Some other) same.0
-                (subst (λ rs. rule_at rs s ≡ Some other) is at) in
+            (subst (λ rs. rule_at rs s ≡ Some other) is at) in
             let row : q.row ≡ other = cc in
             subst (λ y. IsSoundAt M p s y b) row (subst (λ n. IsSoundAt M p n q.row b) (sym same.0) (first.before b same.1))
       ];

@@ -79,7 +79,9 @@ pub fn check_project<R: RuleSet>(
     let indexed = FeatureIndex::of(features, index);
     let mut work = Work::new();
     for rule in in_force {
-        let found = first_subject(rules, alloc, rule, &indexed, entries, dirt, &subjects, &mut work)?;
+        let found = first_subject(
+            rules, alloc, rule, &indexed, entries, dirt, &subjects, &mut work,
+        )?;
         if let Some(subject) = found {
             return Ok(Some(Unsound {
                 rule: rule.number,

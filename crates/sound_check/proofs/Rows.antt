@@ -1,5 +1,5 @@
 -- Worked rows, from the definitions.
-use Rattle.std.proofs.Common.{ℤ, pos, ◌+ℤ◌, [], ◌∷◌, inl, inr, arith, lit<}
+use Rattle.std.proofs.Common.{pos, ◌+ℤ◌, [], ◌∷◌, inl, inr, arith, lit<}
 use Rattle.std.proofs.lemmas.Int.{ints}
 use Rattle.plane_terms.specs.Point.{Point}
 use Rattle.plane_terms.specs.Rectangle.{Rectangle, rect_of}

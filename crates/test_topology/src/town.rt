@@ -43,8 +43,10 @@ fn change_and_delete(
     town.validate(Rect::whole(), work)?;
     assert_eq!(rt; town.errors().len(), 0);
     town.change(2, well(5)?)?;
+    assert!(rt; town.check()?.is_none());
     town.validate(Rect::whole(), work)?;
     assert_eq!(rt; town.errors().len(), 1);
+    assert!(rt; town.check()?.is_none());
     town.delete(1)?;
     let summary = town.validate(Rect::whole(), work)?;
     assert_eq!(rt; (summary.errors, summary.dirty), (0, 0));

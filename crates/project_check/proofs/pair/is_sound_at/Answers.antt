@@ -1,11 +1,8 @@
-use Rattle.std.proofs.Common.{◌≡◌, ◌∙◌, ◌↔◌, IsTrue, refl, sym, ap, subst}
+use Rattle.std.proofs.Common.{◌≡◌, ◌∙◌, ap}
 use Rattle.std.proofs.lemmas.Result.{IfOk-weaker}
-use Rattle.topology_terms.specs.Project.{Project, InForce}
-use Rattle.topology_terms.specs.Sound.{IsSoundAt}
+use Rattle.topology_terms.specs.Project.{InForce}
 use Rattle.validation_laws.proofs.Judging.{subject_ascends}
-use Rattle.sound_check.specs.Pairs.{IsSoundPair}
 use Rattle.sound_check.proofs.Exact.{part_own}
-use Rattle.project_check.specs.Checked.{HasLists}
 use Rattle.project_check.proofs.Judged.{pair_at}
 use Rattle.project_check.proofs.pair.is_sound_at.Goals as goal
 
