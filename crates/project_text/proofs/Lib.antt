@@ -22,3 +22,4 @@ pub mod Named
 pub mod Kept
 pub mod OneSpelling
 pub mod Bytes
+pub mod Again
