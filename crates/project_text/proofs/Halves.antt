@@ -23,7 +23,7 @@ pub begun : (rest : List ℕ) (halves : List HalfPlane) → halves ≡ [] → Ha
 begun rest halves e = record { all = []; behind = refl; right = λ t. (e, refl); wrong = λ t. absurd cc }
 
 -- ---- half-planes within their limits
-is_true : (h : HalfPlane) → IsHalfPlane h → is_half h ≡ true
+pub is_true : (h : HalfPlane) → IsHalfPlane h → is_half h ≡ true
 is_true h v =
     let a : nat_le (unsigned_abs h.a) 8388608 ≡ true = grind (arith, nat_tests, v.a_fits) in
     let b : nat_le (unsigned_abs h.b) 8388608 ≡ true = grind (arith, nat_tests, v.b_fits) in

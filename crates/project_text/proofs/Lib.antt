@@ -21,3 +21,5 @@ pub mod Spelled
 pub mod Named
 pub mod Kept
 pub mod OneSpelling
+pub mod Bytes
+pub mod Again

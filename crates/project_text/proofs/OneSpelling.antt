@@ -138,7 +138,7 @@ second_written : (cs : List Class) (o : Option (List ℕ)) (k : ℕ) → dest_in
 second_written cs None k e = let none : 0 ≡ k = cc in subst (λ n. name_at cs n ≡ []) none refl
 second_written cs (Some name) k e = name_written cs name k e
 
-near : (v : ℤ) → InReach v → unsigned_abs v < 1125899906842624
+pub near : (v : ℤ) → InReach v → unsigned_abs v < 1125899906842624
 near v h = omega (arith, ints, h.low, h.high)
 
 rect_written : (fs : List (List ℕ)) (r : Rectangle) → IsRectLine fs r → is_rectangle r ≡ true → fs ≡ rect_fields r
