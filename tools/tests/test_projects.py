@@ -33,6 +33,34 @@ REFUSED = {
     'topology 1/next 1/end/cell 1 0 0 =/': 'line 4 form',
 }
 
+# The lines between the first and the last, at a limit and beyond it. Where a cell is accepted, its error is not sound.
+RULED = 'next 2/class a line/rule %d line_must_not_overlap a'
+CELL = RULED % 1 + '/error 1 1 0 cells 0 0 0 0/cell %s >'
+CLASSES = '/'.join('class c%d line' % number for number in range(1, 65))
+LIMITS = {
+    'next 1': 'sound',
+    'next 0': 'line 2 range',
+    'next 4294967295': 'sound',
+    'next 4294967296': 'line 2 range',
+    'next 1/' + CLASSES: 'sound',
+    'next 1/' + CLASSES + '/class c65 line': 'line 67 range',
+    RULED % 1: 'sound',
+    RULED % 0: 'line 4 range',
+    RULED % 256: 'sound',
+    RULED % 257: 'line 4 range',
+    'next 1/dirty -4194304 -4194304 4194304 4194304': 'sound',
+    'next 1/dirty -4194305 0 0 0': 'line 3 range',
+    'next 1/dirty 0 0 0 4194305': 'line 3 range',
+    CELL % '8388608 -8388608 0': 'unsound 1 1',
+    CELL % '8388609 0 0': 'line 6 range',
+    CELL % '0 -8388609 0': 'line 6 range',
+    CELL % '1 0 -70368744177664': 'unsound 1 1',
+    CELL % '1 0 70368744177664': 'unsound 1 1',
+    CELL % '1 0 70368744177665': 'line 6 range',
+    CELL % '1 0 -70368744177665': 'line 6 range',
+    CELL % '0 0 1': 'line 6 range',
+}
+
 LOTS = by_lines('class lots polygon', 'rule polygon_must_not_overlap lots', 'begin ann',
                 'by ann add lots POLYGON ((0 0, 10 0, 10 10, 0 10, 0 0))',
                 'by ann add lots POLYGON ((5 5, 15 5, 15 15, 5 15, 5 5))', 'validate all')
@@ -147,6 +175,12 @@ class Refused(Kept):
                     self.assertEqual(self.topo(*words, script=LOTS), (6, 'project refused %s\n' % said, ''))
         self.assertEqual(os.listdir(self.folder), ['a.project'])
 
+    def test_limits_of_a_text(self):
+        for text, said in LIMITS.items():
+            with self.subTest(text=text):
+                name = self.keep('a.project', by_lines('topology 1', *text.split('/'), 'end'))
+                self.assertIn(self.topo('check', name).out, (said + '\n', 'project refused %s\n' % said))
+
     def test_each_part_that_stops_early_is_short(self):
         for project in NAMES:
             text = text_of(project)
@@ -177,6 +211,12 @@ class Words(Kept):
         done = self.topo('replay', 'town', 'next', script=again)
         self.assertEqual((done.status, done.out.splitlines()), (1, replies))
         self.assertIn('next 5\n', self.kept('next'))
+
+    def test_the_last_handle(self):
+        name = self.keep('town', by_lines('topology 1', 'next 4294967294', 'class wells point', 'end'))
+        add = 'by ann add wells POINT (0 0)'
+        done = self.topo('replay', name, script=by_lines('begin ann', add, add, 'by ann undo', add))
+        self.assertEqual((done.status, done.out.splitlines()), (1, ['ok', 'ok 4294967294', 'refused E21', 'ok', 'refused E21']))
 
     def test_dash_is_the_empty_project_of_replay_alone(self):
         self.assertEqual(self.topo('replay', '-', '-', script=LOTS).status, 0)
