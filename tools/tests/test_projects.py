@@ -3,6 +3,7 @@ from __future__ import annotations
 
 import os
 import re
+import shlex
 import unittest
 from typing import Iterator, NamedTuple
 
@@ -246,9 +247,43 @@ class Words(Kept):
         self.assertEqual(self.kept('town'), SAVED)
 
     def test_the_arguments_of_no_form(self):
-        for words in (['replay', ''], ['replay', '-', ''], ['replay', 'a', 'b', 'c'], ['check'], ['check', 'a', 'b'], ['report'], ['report', 'a', 'b']):
-            done = self.topo(*words, script=LOTS)
+        for words in 'replay ', 'replay - ', 'replay a b c', 'check', 'check a b', 'report', 'report a b':
+            done = self.topo(*words.split(' '), script=LOTS)
             self.assertEqual((done.status, done.out[:12]), (2, 'usage: topo '), words)
+
+
+class Tools(Kept):
+    """The tools on scripts that begin with a saved project, of which they know what the script lists."""
+
+    def begun(self, *lines: str) -> tuple[str, str]:
+        """A script on the project of wells, and its replies, as files."""
+        self.keep('wells.project', text_of('wells'))
+        script = self.keep('s.topo', by_lines(*lines))
+        return script, self.keep('s.replies', self.topo('replay', 'wells.project', script=by_lines(*lines)).out)
+
+    def test_the_table_of_errors_is_that_of_the_program(self):
+        table = self.tool('report', *self.begun('rules', 'errors'))
+        self.assertEqual((table.status, table.told), (0, ''))
+        self.assertEqual(table.out, self.topo('report', 'wells.project').out)
+
+    def told(self, *lines: str) -> list[str]:
+        """The sentences on the refused lines of such a script."""
+        told = self.tool('answers', *self.begun(*lines), '--refused').out.splitlines()
+        return [line.strip() for line in told[2::3]]
+
+    def test_refusals_told_with_and_without_a_listing(self):
+        add, change, rule = 'by ann add lots POINT (0 0)', 'by ann change 1 POINT (0 0)', 'rule point_must_be_disjoint lots'
+        shape, fit = 'the shape is a point, and ', 'the rule takes a class of points, and '
+        self.assertEqual(self.told('begin ann', add, change, rule),
+                         [shape + 'the class `lots` is of another kind', shape + 'feature 1 is of another kind', fit + '`lots` is of another kind'])
+        self.assertEqual(self.told('features', 'begin ann', add, change, rule),
+                         [shape + 'the class `lots` is of polygons', shape + 'the class `lots` is of polygons', fit + '`lots` is of polygons'])
+
+    def test_a_page_of_a_project(self):
+        program = shlex.join(['sh', '-c', shlex.join(PROGRAM) + ' replay wells.project'])
+        done = self.tool('draw', '--html', program, self.begun('rules')[0], 'wells.html')
+        self.assertEqual((done.status, done.told), (0, ''))
+        self.assertIn('2 point_must_be_disjoint', self.kept('wells.html'))
 
 
 if __name__ == '__main__':
