@@ -32,6 +32,17 @@ REFUSED = {
     'topology 1/next 2/class a line/rule 1 line_must_be_single_part a/error 1 1 0 whole 0 0 0 0/cell 1 0 0 =/end/': 'line 6 form',
     'topology 1/next 2/class a line/rule 1 line_must_be_single_part a/error 1 1 0 cells 0 0 0 0/cell 0 0 1 =/end/': 'line 6 range',
     'topology 1/next 1/end/cell 1 0 0 =/': 'line 4 form',
+    'topology 1/next 1/class a line/class b line/rule 1 line_must_be_single_part a b/end/': 'line 5 unknown',
+    'topology 1/next 1/class a line/rule 1 line_must_not_overlap_with a/end/': 'line 4 unknown',
+    'topology 1/next -1/end/': 'line 2 range',
+    'topology 1/next -0/end/': 'line 2 form',
+    'topology 1/next 2/class a line/rule 1 line_must_be_single_part a/error 1 -1 0 whole 0 0 0 0/end/': 'line 5 range',
+    'topology 1/next 2/class a line/rule 1 line_must_be_single_part a/error -1 1 0 whole 0 0 0 0/end/': 'line 5 unknown',
+    'topology 1/next 2/class a line/rule 1 line_must_be_single_part a/error 1 1 0 cells 0 0 0 0/': 'line 6 short',
+    'topology 1/next 2/feature 9 a POINT (1  0)/end/': 'line 3 form',
+    'topology 1/next 2/feature 9 a POINT (.5 0)/end/': 'line 3 shape',
+    'topology 1/next 2/feature 9 a POINT (1 0)/end/': 'line 3 range',
+    'topology 1/next 10/feature 9 a POINT (1 0)/end/': 'line 3 unknown',
 }
 
 # The lines between the first and the last, at a limit and beyond it. Where a cell is accepted, its error is not sound.
