@@ -4,11 +4,11 @@
 -- in_classes p cs, in_rules p rs, in_features p F, in_dirt p D, in_errors p es      the project p as far as so much of a section
 -- IsThere cs k                   the class of the number k, and its name
 -- IsWrittenRow cs r              the names of a row's classes
-use Rattle.std.proofs.Common.{ℕ, ℤ, pos, ◌≡◌, ◌≢◌, ◌<◌, ◌≤◌, ◌+◌, ◌-◌, ◌==◌, ltb, nat_le, Bool, true, false, ◌&&◌, ◌||◌, not, zero, suc, List, [], ◌∷◌, ◌++◌, map, append-nil, append_assoc, length, length-append, Option, Some, None, Ok, Err, if◌then◌else◌, refl, sym, ap, subst, ◌∙◌, inl, inr, arith}
-use Rattle.std.specs.Prelude.{IfSome, is_some, codes, flat_map, unsigned_abs, decimal, bytes_eq, slice_get, int_le}
+use Rattle.std.proofs.Common.{ℕ, ℤ, pos, ◌≡◌, ◌≢◌, ◌<◌, ◌≤◌, ◌+◌, ◌-◌, ◌==◌, ltb, nat_le, Bool, true, false, ◌&&◌, not, zero, suc, List, [], ◌∷◌, ◌++◌, map, append-nil, append_assoc, length, length-append, Option, Some, None, Ok, Err, if◌then◌else◌, refl, sym, ap, subst, ◌∙◌, arith}
+use Rattle.std.specs.Prelude.{IfSome, is_some, codes, flat_map, unsigned_abs, decimal, bytes_eq, slice_get}
 use Rattle.std.specs.Fmt.{signed_decimal}
 use Rattle.std.specs.List.{list_all, list_any}
-use Rattle.std.proofs.lemmas.Bool.{cases_Bool, and_parts, and_from, or_from, false_from_ne_true}
+use Rattle.std.proofs.lemmas.Bool.{and_parts, and_from, or_from, false_from_ne_true}
 use Rattle.std.proofs.lemmas.Bool.Decides.{nat_tests}
 use Rattle.std.proofs.lemmas.Slice.Eq.{bytes_eq-Decides}
 use Rattle.std.proofs.lemmas.List.Folds.{flat_map-map}
@@ -26,7 +26,6 @@ use Rattle.plane_terms.specs.declared.op.Op.TheVariants.{Over, AtLeast, Zero}
 use Rattle.text_terms.specs.Fields.{is_name}
 use Rattle.wkt_terms.specs.Shapes.{IsShapeText, shape_text}
 use Rattle.wkt_text.proofs.Again.{again}
-use Rattle.rule_words.specs.declared.rule_kind.RuleKind.{RuleKind}
 use Rattle.rule_words.specs.Table.{word_of, origin_of, dest_of}
 use Rattle.rule_words.proofs.OneWord.{found}
 use Rattle.line_terms.specs.Forms.{kind_word}
@@ -42,9 +41,9 @@ use Rattle.project_terms.specs.declared.stage.Stage.TheVariants as stage
 use Rattle.project_terms.specs.declared.project_cause.ProjectCause.TheVariants as cause
 use Rattle.project_terms.specs.Lines.{joined, fields, number, natural}
 use Rattle.project_terms.specs.Records.{IsNumbered, IsPlaced, IsError, IsRecord}
-use Rattle.project_terms.specs.Written.{name_at, name_in, op_word, mark_word, extent_word, rect_fields, cell_fields, title, next_line, class_line, rule_line, feature_line, dirty_line, error_line, cell_line, last_line, error_lines, lines_of, line_text, project_text}
+use Rattle.project_terms.specs.Written.{name_at, name_in, mark_word, extent_word, rect_fields, cell_fields, next_line, class_line, rule_line, feature_line, dirty_line, error_line, cell_line, last_line, error_lines, lines_of, project_text}
 use Rattle.project_terms.specs.Drafts.{Draft, start, rank, may_follow, is_open, is_cell_open, is_bare, takes_cell, wants_cell, with_cell, last_in, is_before, is_last_key, is_rectangle, is_half}
-use Rattle.project_terms.specs.Verdicts.{Verdict, WktReading, Unwritten, Written, RuleForm, FeatureForm, ErrorForm, HalfForm, at, judged, kind_of_word, class_of, second_of, rule_of, feature_of, rect_of, extent_of, error_of, op_of, half_of, halves_behind, cell_of, dest_in, row, row_of, class_verdict, rule_verdict, rule_numbered, rule_in, feature_verdict, feature_numbered, feature_in, are_nested, dirty_verdict, error_verdict, error_in, error_ruled, cell_verdict, next_verdict, next_numbered, number_of, line_verdict, wkt_of}
+use Rattle.project_terms.specs.Verdicts.{Verdict, WktReading, Unwritten, Written, RuleForm, FeatureForm, ErrorForm, at, judged, kind_of_word, class_of, second_of, feature_of, rect_of, extent_of, error_of, op_of, half_of, halves_behind, cell_of, dest_in, row, row_of, class_verdict, rule_verdict, rule_numbered, rule_in, feature_verdict, feature_numbered, feature_in, are_nested, dirty_verdict, error_verdict, error_in, error_ruled, cell_verdict, next_verdict, next_numbered, line_verdict, wkt_of}
 use Rattle.project_terms.specs.Texts.{IsLineVerdict, IsVerdict, IsReading, IsInner, ended, AreRead, IsRead}
 use Rattle.project_text.specs.Pushed.{sign_text}
 use Rattle.project_text.proofs.FieldForms.{rule_found, feature_found, rect_found, error_found, half_right, half_said}

@@ -5,7 +5,7 @@
 -- AreClasses, AreRules, AreFeatures, AreDirt, AreErrors     what holds of each section
 -- IsStarted p e      what holds of an error whose cells are to come; AreFilled es: only the last lacks them
 -- IsKept d           the draft keeps all that
-use Rattle.std.proofs.Common.{ℕ, ℤ, ◌≡◌, ◌≢◌, ◌<◌, ◌≤◌, ◌-◌, ◌==◌, ltb, nat_le, Bool, true, false, ◌&&◌, ◌||◌, not, List, [], ◌∷◌, ◌++◌, length, Option, Some, None, Ok, Err, refl, sym, ap, subst, ◌∙◌, arith}
+use Rattle.std.proofs.Common.{ℕ, ℤ, ◌≡◌, ◌≢◌, ◌<◌, ◌≤◌, ◌-◌, ◌==◌, ltb, nat_le, Bool, true, false, ◌&&◌, ◌||◌, not, List, [], ◌∷◌, ◌++◌, length, Option, Some, None, Ok, Err, refl, sym, ap, subst, arith}
 use Rattle.std.specs.Prelude.{IfOk, IfSome, is_some, codes}
 use Rattle.std.specs.List.{list_all, list_any}
 use Rattle.std.proofs.lemmas.Bool.{not-true, not-false, and_parts, or_parts}
@@ -16,7 +16,6 @@ use Rattle.plane_terms.specs.Rectangle.{Rectangle, IsRectangle, is_within}
 use Rattle.plane_terms.specs.HalfPlane.{IsHalfPlane}
 use Rattle.plane_terms.specs.Cell.{Cell}
 use Rattle.plane_terms.specs.Dirt.{IsLoose, AreLoose}
-use Rattle.plane_terms.specs.Shape.{Shape}
 use Rattle.text_terms.specs.Fields.{is_name}
 use Rattle.wkt_terms.specs.Shapes.{shape_text}
 use Rattle.topology_terms.specs.Broken.{Row}
@@ -39,7 +38,7 @@ use Rattle.project_terms.specs.Drafts.{Draft, start, rank, may_follow, is_open, 
 use Rattle.project_terms.specs.Verdicts.{Verdict, WktReading, Unwritten, Refused, Written, RuleForm, FeatureForm, ErrorForm, is_one, is_none, number_of, class_of, rule_of, row_of, feature_of, rect_of, error_of, cell_of, next_verdict, next_numbered, class_verdict, rule_verdict, rule_numbered, rule_in, feature_verdict, feature_numbered, feature_in, are_nested, dirty_verdict, error_verdict, error_in, error_ruled, with_error, cell_verdict, line_verdict, wkt_of}
 use Rattle.project_terms.specs.Texts.{AreRead, IsVerdict, IsReading, IsRead}
 use Rattle.project_text.proofs.Ends.{every_end, pairs_end, none_pass, ascending_end}
-use Rattle.project_text.proofs.Spelled.{class_said, IsCellLine, cell_said}
+use Rattle.project_text.proofs.Spelled.{class_said, cell_said}
 use Rattle.project_text.proofs.Named.{natural_said, kind_there, row_said}
 use Rattle.project_text.proofs.Halves.{is_valid}
 use Rattle.project_text.proofs.Rects.{rectangle_there}
