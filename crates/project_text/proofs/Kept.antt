@@ -1,25 +1,23 @@
 -- What is read is a record: each line keeps what a draft keeps of it.
-use Rattle.std.proofs.Common.{ℕ, ℤ, ◌≡◌, ◌≢◌, ◌<◌, ◌≤◌, ◌-◌, ◌==◌, ltb, nat_le, Bool, true, false, ◌&&◌, ◌||◌, not, List, [], ◌∷◌, ◌++◌, length, Option, Some, None, Ok, Err, refl, sym, ap, subst, arith}
+use Rattle.std.proofs.Common.{ℕ, ℤ, ◌≡◌, ◌≢◌, ◌<◌, ◌≤◌, ◌-◌, ◌==◌, ltb, Bool, true, false, ◌&&◌, ◌||◌, not, List, [], ◌∷◌, ◌++◌, length, Option, Some, None, Ok, Err, refl, sym, ap, subst, arith}
 use Rattle.std.specs.Prelude.{IfOk, IfSome, is_some, codes}
 use Rattle.std.specs.List.{list_all, list_any}
 use Rattle.std.proofs.lemmas.Bool.{not-true, not-false, and_parts, or_parts}
 use Rattle.std.proofs.lemmas.Bool.Decides.{nat_tests}
 use Rattle.plane_terms.proofs.ListLemmas.{every_map}
-use Rattle.plane_terms.specs.Lists.{Every, EveryPair}
+use Rattle.plane_terms.specs.Lists.{Every}
 use Rattle.plane_terms.specs.Rectangle.{Rectangle, IsRectangle, is_within}
 use Rattle.plane_terms.specs.HalfPlane.{IsHalfPlane}
 use Rattle.plane_terms.specs.Cell.{Cell}
-use Rattle.plane_terms.specs.Dirt.{IsLoose, AreLoose}
+use Rattle.plane_terms.specs.Dirt.{AreLoose}
 use Rattle.text_terms.specs.Fields.{is_name}
 use Rattle.wkt_terms.specs.Shapes.{shape_text}
 use Rattle.topology_terms.specs.Broken.{Row}
 use Rattle.topology_terms.specs.Feature.{Class, Feature}
-use Rattle.topology_terms.specs.Feature as features
 use Rattle.topology_terms.specs.Entry.{Entry, key_of}
-use Rattle.topology_terms.specs.Entry as entries
 use Rattle.topology_terms.specs.Lookups.{number_from, kind_of_class}
 use Rattle.topology_terms.specs.Causes.{is_kind, is_fit, is_row, is_there}
-use Rattle.topology_terms.specs.Project.{Project, InForce, rule_at, AreAscending, empty_project}
+use Rattle.topology_terms.specs.Project.{Project, InForce, rule_at}
 use Rattle.feature_store.specs.Keeps.{IsStore}
 use Rattle.feature_store.proofs.Keeping.{none_of}
 use Rattle.feature_store.proofs.Keeping as store
@@ -39,7 +37,7 @@ use Rattle.project_text.proofs.Rects.{rectangle_there}
 use Rattle.project_text.proofs.LineCases.{line_by, at_ok, judged_ok, said_ok, if_ok}
 use Rattle.project_text.proofs.Sound.{open_next}
 use Rattle.project_text.proofs.Sound as sound
-use Rattle.project_text.proofs.Staged.{MayStand, in_section, may_stand, opened, AreStaged, restaged, AreClasses, AreRules, AreFeatures, AreDirt, IsStarted, HasCells, AreFilled, AreErrors, head_of, IsKept, no_rules, no_features, no_errors, start_kept}
+use Rattle.project_text.proofs.Staged.{may_stand, opened, restaged, AreClasses, AreRules, IsStarted, HasCells, AreFilled, AreErrors, head_of, IsKept, no_rules, no_features, no_errors, start_kept}
 
 -- ---- lines that say nothing else
 said_kept : (s : Stage) (d : Draft) → IsKept d → is_open s d ≡ true → rank s ≢ 2 → IsKept (record d { stage = s })

@@ -1,42 +1,18 @@
 -- The lines of a project as far as a stage, and a line more.
 --
 -- lines_to s p         the lines of the project p as far as the stage s
-use Rattle.std.proofs.Common.{ℕ, ℤ, pos, ◌≡◌, ◌<◌, ◌≤◌, ◌-◌, ◌==◌, ltb, Bool, true, false, ◌&&◌, ◌||◌, not, List, [], ◌∷◌, ◌++◌, map, append-nil, append_assoc, length, Option, Some, None, Ok, Err, refl, sym, ap, subst, ◌∙◌, arith}
-use Rattle.std.specs.Prelude.{IfOk, IfSome, is_some, codes, flat_map, unsigned_abs, decimal}
-use Rattle.std.specs.List.{list_all, list_any}
-use Rattle.std.proofs.lemmas.Bool.{and_parts, or_parts, not-false}
+use Rattle.std.proofs.Common.{ℕ, ◌≡◌, ◌≤◌, true, List, [], ◌∷◌, ◌++◌, map, append_assoc, refl, sym, ap, ◌∙◌, arith}
+use Rattle.std.specs.Prelude.{flat_map}
 use Rattle.std.proofs.lemmas.Grind.{flat_map-append}
-use Rattle.std.proofs.lemmas.Int.{ints}
-use Rattle.std.proofs.lemmas.List.Folds.{flat_map-map}
-use Rattle.plane_terms.specs.Point.{InReach}
 use Rattle.plane_terms.specs.Rectangle.{Rectangle}
 use Rattle.plane_terms.specs.Cell.{Cell}
-use Rattle.wkt_terms.specs.Shapes.{shape_text}
-use Rattle.rule_words.specs.Table.{word_of}
-use Rattle.line_terms.specs.Forms.{kind_word}
-use Rattle.topology_terms.specs.Broken.{Row}
 use Rattle.topology_terms.specs.Feature.{Class, Feature}
 use Rattle.topology_terms.specs.Entry.{Entry}
-use Rattle.topology_terms.specs.Lookups.{number_from, kind_of_class}
-use Rattle.topology_terms.specs.Causes.{is_kind, is_there}
-use Rattle.topology_terms.specs.Project.{Project, InForce, rule_at}
+use Rattle.topology_terms.specs.Project.{Project, InForce}
 use Rattle.project_terms.specs.declared.stage.Stage.{Stage}
 use Rattle.project_terms.specs.declared.stage.Stage.TheVariants as stage
-use Rattle.project_terms.specs.declared.project_cause.ProjectCause.TheVariants as cause
-use Rattle.project_terms.specs.Lines.{number, fields, joined, natural}
-use Rattle.project_terms.specs.Written.{name_at, mark_word, extent_word, rect_fields, cell_fields, title, next_line, class_line, rule_line, feature_line, dirty_line, error_line, cell_line, last_line, error_lines, lines_of, line_text, project_text}
-use Rattle.project_terms.specs.Drafts.{Draft, start, rank, may_follow, is_open, is_cell_open, takes_cell, with_cell, last_in, is_last_key, is_rectangle, is_half}
-use Rattle.project_terms.specs.Verdicts.{Verdict, WktReading, Unwritten, Refused, Written, RuleForm, FeatureForm, ErrorForm, is_one, is_none, number_of, class_of, dest_in, rule_of, row_of, feature_of, rect_of, error_of, cell_of, next_verdict, next_numbered, class_verdict, rule_verdict, rule_numbered, rule_in, feature_verdict, feature_numbered, feature_in, are_nested, dirty_verdict, error_verdict, error_in, error_ruled, cell_verdict, line_verdict, wkt_of}
-use Rattle.project_terms.specs.Texts.{AreRead, IsVerdict, IsReading, IsRead, ended}
-use Rattle.project_text.proofs.FieldForms.{joined_fields}
-use Rattle.project_text.proofs.Numerals.{number_written}
-use Rattle.project_text.proofs.Rects.{sides}
-use Rattle.project_text.proofs.Spelled.{four, one_said, none_said, number_said, class_said, second, rule_said, feature_said, IsRectLine, rect_said, error_said, cell_said}
-use Rattle.project_text.proofs.Named.{natural_said, named_class, row_said}
-use Rattle.project_text.proofs.Staged.{MayStand, may_stand, opened, IsKept, start_kept}
-use Rattle.project_text.proofs.Kept.{shape_read, verdict_kept}
-use Rattle.project_text.proofs.LineCases.{line_by, at_ok, judged_ok, said_ok, if_ok}
-use Rattle.project_text.proofs.Sound.{before_title, open_next}
+use Rattle.project_terms.specs.Written.{title, next_line, class_line, rule_line, feature_line, dirty_line, error_line, cell_line, last_line, error_lines, lines_of}
+use Rattle.project_terms.specs.Drafts.{rank, takes_cell, with_cell}
 
 -- ---- the lines as far as a stage
 abbrev pub body_of : List Class → List InForce → List Feature → List Rectangle → List Entry → List (List (List ℕ))

@@ -5,7 +5,6 @@ use Rattle.std.proofs.Common.{ℕ, ℤ, pos, ◌≡◌, ◌<◌, ◌≤◌, ◌-
 use Rattle.std.specs.Prelude.{IfOk, IfSome, is_some, codes, flat_map, unsigned_abs, decimal}
 use Rattle.std.specs.List.{list_all, list_any}
 use Rattle.std.proofs.lemmas.Bool.{and_parts, or_parts, not-false}
-use Rattle.std.proofs.lemmas.Grind.{flat_map-append}
 use Rattle.std.proofs.lemmas.Int.{ints}
 use Rattle.std.proofs.lemmas.List.Folds.{flat_map-map}
 use Rattle.plane_terms.specs.Point.{InReach}
@@ -16,15 +15,13 @@ use Rattle.rule_words.specs.Table.{word_of}
 use Rattle.line_terms.specs.Forms.{kind_word}
 use Rattle.topology_terms.specs.Broken.{Row}
 use Rattle.topology_terms.specs.Feature.{Class, Feature}
-use Rattle.topology_terms.specs.Entry.{Entry}
 use Rattle.topology_terms.specs.Lookups.{number_from, kind_of_class}
 use Rattle.topology_terms.specs.Causes.{is_kind, is_there}
 use Rattle.topology_terms.specs.Project.{Project, InForce, rule_at}
-use Rattle.project_terms.specs.declared.stage.Stage.{Stage}
 use Rattle.project_terms.specs.declared.stage.Stage.TheVariants as stage
 use Rattle.project_terms.specs.declared.project_cause.ProjectCause.TheVariants as cause
 use Rattle.project_terms.specs.Lines.{number, fields, joined, natural}
-use Rattle.project_terms.specs.Written.{name_at, mark_word, extent_word, rect_fields, cell_fields, title, next_line, class_line, rule_line, feature_line, dirty_line, error_line, cell_line, last_line, error_lines, lines_of, line_text, project_text}
+use Rattle.project_terms.specs.Written.{name_at, mark_word, extent_word, rect_fields, cell_fields, title, next_line, class_line, rule_line, feature_line, dirty_line, error_line, cell_line, last_line, lines_of, line_text, project_text}
 use Rattle.project_terms.specs.Drafts.{Draft, start, rank, may_follow, is_open, is_cell_open, takes_cell, with_cell, last_in, is_last_key, is_rectangle, is_half}
 use Rattle.project_terms.specs.Verdicts.{Verdict, WktReading, Unwritten, Refused, Written, RuleForm, FeatureForm, ErrorForm, is_one, is_none, number_of, class_of, dest_in, rule_of, row_of, feature_of, rect_of, error_of, cell_of, next_verdict, next_numbered, class_verdict, rule_verdict, rule_numbered, rule_in, feature_verdict, feature_numbered, feature_in, are_nested, dirty_verdict, error_verdict, error_in, error_ruled, cell_verdict, line_verdict, wkt_of}
 use Rattle.project_terms.specs.Texts.{AreRead, IsVerdict, IsReading, IsRead, ended}
@@ -37,7 +34,7 @@ use Rattle.project_text.proofs.Staged.{MayStand, may_stand, opened, IsKept, star
 use Rattle.project_text.proofs.Kept.{shape_read, verdict_kept}
 use Rattle.project_text.proofs.LineCases.{line_by, at_ok, judged_ok, said_ok, if_ok}
 use Rattle.project_text.proofs.Sound.{before_title, open_next}
-use Rattle.project_text.proofs.LinesTo.{body_of, body, lines_to, lines_in, lines_all, deeper, section_end, none_said_yet, class_more, rule_more, feature_more, dirty_more, errors_more, error_more, cell_more}
+use Rattle.project_text.proofs.LinesTo.{body, lines_to, lines_in, lines_all, none_said_yet, class_more, rule_more, feature_more, dirty_more, errors_more, error_more, cell_more}
 
 -- ---- names and numbers
 natural_written : (f : List ℕ) (z : ℤ) (n : ℕ) → number f ≡ Some z → z ≡ pos n → n < 1125899906842624 → f ≡ decimal n

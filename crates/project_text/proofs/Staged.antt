@@ -5,46 +5,26 @@
 -- AreClasses, AreRules, AreFeatures, AreDirt, AreErrors     what holds of each section
 -- IsStarted p e      what holds of an error whose cells are to come; AreFilled es: only the last lacks them
 -- IsKept d           the draft keeps all that
-use Rattle.std.proofs.Common.{ℕ, ℤ, ◌≡◌, ◌≢◌, ◌<◌, ◌≤◌, ◌-◌, ◌==◌, ltb, nat_le, Bool, true, false, ◌&&◌, ◌||◌, not, List, [], ◌∷◌, ◌++◌, length, Option, Some, None, Ok, Err, refl, sym, ap, subst, arith}
-use Rattle.std.specs.Prelude.{IfOk, IfSome, is_some, codes}
-use Rattle.std.specs.List.{list_all, list_any}
-use Rattle.std.proofs.lemmas.Bool.{not-true, not-false, and_parts, or_parts}
+use Rattle.std.proofs.Common.{◌≡◌, ◌≢◌, ◌<◌, ◌≤◌, nat_le, true, false, ◌&&◌, not, List, [], ◌∷◌, length, Some, refl, sym, subst, arith}
+use Rattle.std.proofs.lemmas.Bool.{not-true, and_parts}
 use Rattle.std.proofs.lemmas.Bool.Decides.{nat_tests}
-use Rattle.plane_terms.proofs.ListLemmas.{every_map}
 use Rattle.plane_terms.specs.Lists.{Every, EveryPair}
-use Rattle.plane_terms.specs.Rectangle.{Rectangle, IsRectangle, is_within}
+use Rattle.plane_terms.specs.Rectangle.{Rectangle, IsRectangle}
 use Rattle.plane_terms.specs.HalfPlane.{IsHalfPlane}
 use Rattle.plane_terms.specs.Cell.{Cell}
-use Rattle.plane_terms.specs.Dirt.{IsLoose, AreLoose}
+use Rattle.plane_terms.specs.Dirt.{IsLoose}
 use Rattle.text_terms.specs.Fields.{is_name}
-use Rattle.wkt_terms.specs.Shapes.{shape_text}
 use Rattle.topology_terms.specs.Broken.{Row}
 use Rattle.topology_terms.specs.Feature.{Class, Feature}
 use Rattle.topology_terms.specs.Feature as features
 use Rattle.topology_terms.specs.Entry.{Entry, key_of}
 use Rattle.topology_terms.specs.Entry as entries
-use Rattle.topology_terms.specs.Lookups.{number_from, kind_of_class}
-use Rattle.topology_terms.specs.Causes.{is_kind, is_fit, is_row, is_there}
+use Rattle.topology_terms.specs.Causes.{is_fit, is_row}
 use Rattle.topology_terms.specs.Project.{Project, InForce, rule_at, AreAscending, empty_project}
-use Rattle.feature_store.specs.Keeps.{IsStore}
-use Rattle.feature_store.proofs.Keeping.{none_of}
-use Rattle.feature_store.proofs.Keeping as store
 use Rattle.project_terms.specs.declared.stage.Stage.{Stage}
 use Rattle.project_terms.specs.declared.stage.Stage.TheVariants as stage
-use Rattle.project_terms.specs.declared.project_cause.ProjectCause.TheVariants as cause
-use Rattle.project_terms.specs.Lines.{fields, natural}
-use Rattle.project_terms.specs.Records.{IsNumbered, IsPlaced, IsError, IsRecord}
-use Rattle.project_terms.specs.Drafts.{Draft, start, rank, may_follow, is_open, is_cell_open, is_bare, takes_cell, wants_cell, with_cell, last_in, is_last_key, is_rectangle, is_half}
-use Rattle.project_terms.specs.Verdicts.{Verdict, WktReading, Unwritten, Refused, Written, RuleForm, FeatureForm, ErrorForm, is_one, is_none, number_of, class_of, rule_of, row_of, feature_of, rect_of, error_of, cell_of, next_verdict, next_numbered, class_verdict, rule_verdict, rule_numbered, rule_in, feature_verdict, feature_numbered, feature_in, are_nested, dirty_verdict, error_verdict, error_in, error_ruled, with_error, cell_verdict, line_verdict, wkt_of}
-use Rattle.project_terms.specs.Texts.{AreRead, IsVerdict, IsReading, IsRead}
-use Rattle.project_text.proofs.Ends.{every_end, pairs_end, none_pass, ascending_end}
-use Rattle.project_text.proofs.Spelled.{class_said, cell_said}
-use Rattle.project_text.proofs.Named.{natural_said, kind_there, row_said}
-use Rattle.project_text.proofs.Halves.{is_valid}
-use Rattle.project_text.proofs.Rects.{rectangle_there}
-use Rattle.project_text.proofs.LineCases.{line_by, at_ok, judged_ok, said_ok, if_ok}
-use Rattle.project_text.proofs.Sound.{open_next}
-use Rattle.project_text.proofs.Sound as sound
+use Rattle.project_terms.specs.Records.{IsNumbered, IsPlaced}
+use Rattle.project_terms.specs.Drafts.{Draft, start, rank, may_follow, is_open, wants_cell}
 
 -- ---- stages
 pub record MayStand (a s : Stage) : Type 0 where
