@@ -31,3 +31,4 @@ pub mod ErrorsAgain
 pub mod InLine
 pub mod Again
 pub mod Grammar
+pub mod Short
