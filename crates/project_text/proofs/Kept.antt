@@ -11,7 +11,6 @@ use Rattle.plane_terms.specs.HalfPlane.{IsHalfPlane}
 use Rattle.plane_terms.specs.Cell.{Cell}
 use Rattle.plane_terms.specs.Dirt.{AreLoose}
 use Rattle.text_terms.specs.Fields.{is_name}
-use Rattle.wkt_terms.specs.Shapes.{shape_text}
 use Rattle.topology_terms.specs.Broken.{Row}
 use Rattle.topology_terms.specs.Feature.{Class, Feature}
 use Rattle.topology_terms.specs.Entry.{Entry, key_of}
@@ -211,9 +210,6 @@ feature_kept d h o (Written s) f reading = numbered (natural 1 (d.project.next -
           over = λ n. absurd (omega (arith, n));
         }
 
-    short : length (shape_text s) ≤ 1048576
-    short = subst (λ (t : List ℕ). length t ≤ 1048576) reading.0.written reading.0.short
-
     of_class : (n : ℕ) → (1 ≤ n) × (n ≤ d.project.next - 1) → (c : Option ℕ) → IfOk (feature_in d n s c) IsKept
     of_class n b None = tt
     of_class n b (Some c) = if_ok (is_kind (kind_of_class d.project.classes c) s.kind) _ (Err cause.Unknown) IsKept
@@ -223,7 +219,6 @@ feature_kept d h o (Written s) f reading = numbered (natural 1 (d.project.next -
           given = omega (arith, b.0, b.1);
           kind = kind_there (kind_of_class d.project.classes c) s.kind e;
           shape = reading.0.says.valid;
-          short = short;
         }) k) (λ k. tt)) (λ e. tt)
 
     numbered : (n : Option ℕ) → natural 1 (d.project.next - 1) f.handle ≡ n → IfOk (feature_numbered d f s n) IsKept
@@ -445,7 +440,7 @@ read_kept (l ∷ ls) d e h (m, v, r) = read_kept ls m e (verdict_kept d m l h v)
 -- ---- the end
 all_placed : (p : Project) (F : List Feature) → Every (IsPlaced (head_of p)) F → Every (IsPlaced p) F
 all_placed p F h = every_map (IsPlaced (head_of p)) (IsPlaced p)
-    (λ f g. record { from_1 = g.from_1; given = g.given; kind = g.kind; shape = g.shape; short = g.short }) F h
+    (λ f g. record { from_1 = g.from_1; given = g.given; kind = g.kind; shape = g.shape }) F h
 
 all_errors : (p : Project) (es : List Entry) → Every (IsStarted (head_of p)) es → Every HasCells es → Every (IsError p) es
 all_errors p [] h k = tt

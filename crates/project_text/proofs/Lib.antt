@@ -24,6 +24,7 @@ pub mod Kept
 pub mod LinesTo
 pub mod OneSpelling
 pub mod Bytes
+pub mod Short
 pub mod Standing
 pub mod ByName
 pub mod SectionsAgain
@@ -31,4 +32,3 @@ pub mod ErrorsAgain
 pub mod InLine
 pub mod Again
 pub mod Grammar
-pub mod Short

@@ -43,6 +43,7 @@ use Rattle.project_text.proofs.Spelled.{second}
 use Rattle.project_text.proofs.Named.{kind_there}
 use Rattle.project_text.proofs.OneSpelling.{near}
 use Rattle.project_text.proofs.Bytes.{IsPlain, plain_decimal, plain_signed, plain_name, plain_kind, plain_rule, fields_back}
+use Rattle.project_text.proofs.Short.{shape_short}
 use Rattle.project_text.proofs.Standing.{every_mid, between, below, other, natural_back, at_stage, open_here, at_true, plain_verdict, in_classes, in_rules, in_features, in_dirt}
 use Rattle.project_text.proofs.ByName.{IsThere, HasName, unlike_names, kind_class}
 
@@ -240,7 +241,7 @@ feature_step p h done f fs same s some up =
     let line = shape_verdict d m f.shape (codes "feature" ∷ decimal f.handle ∷ c.class.name ∷ [])
     (decimal f.handle ∷ c.class.name ∷ fields t)
     form (refl, (plain_decimal f.handle, (plain_name c.class.name c.name, tt))) refl o read refl
-    (written f.shape (again f.shape g.shape) g.short)
+    (written f.shape (again f.shape g.shape) (shape_short f.shape g.shape))
     (feature_put d form f.shape f.handle f.class (natural_back 1 (p.next - 1) f.handle g.from_1 (omega (arith, g.given))) c.number kinds
     less) in
     subst (λ (ns : List (List ℕ)). IsVerdict d (joined (codes "feature" ∷ decimal f.handle ∷ (ns ++ t ∷ []))) (Ok m))

@@ -1,5 +1,5 @@
 -- The written form of a shape is short: far below the limit of a line's shape.
-use Rattle.std.proofs.Common.{ℕ, ℤ, pos, negsuc, suc, ◌≡◌, ◌≤◌, ◌<◌, ◌+◌, ◌*◌, ◌^◌, List, [], ◌∷◌, ◌++◌, map, length, length-append, refl, sym, ap, subst, arith}
+use Rattle.std.proofs.Common.{ℕ, ℤ, pos, negsuc, suc, ◌≡◌, ◌≤◌, ◌+◌, ◌*◌, List, [], ◌∷◌, ◌++◌, map, length, length-append, ap, arith}
 use Rattle.std.specs.Prelude.{codes, flat_map, decimal}
 use Rattle.std.specs.Fmt.{signed_decimal}
 use Rattle.std.proofs.lemmas.Fmt.{length-decimal-le}
@@ -8,7 +8,7 @@ use Rattle.std.proofs.lemmas.Int.{ints}
 use Rattle.plane_terms.specs.Lists.{Every}
 use Rattle.plane_terms.proofs.ListLemmas.{every_append, every_left, every_right, every_map}
 use Rattle.plane_terms.specs.Point.{Place, InReach, IsInReach}
-use Rattle.plane_terms.specs.Shape.{Shape, IsShape, IsPart, IsRing, rings_of, vertices_of, place_of}
+use Rattle.plane_terms.specs.Shape.{Shape, IsShape, IsPart, IsRing, place_of}
 use Rattle.plane_terms.specs.declared.kind.Kind.{Kind}
 use Rattle.plane_terms.specs.declared.kind.Kind.TheVariants as kind
 use Rattle.text_terms.specs.Wkt.{listed, point_text}
