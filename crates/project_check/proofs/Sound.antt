@@ -17,7 +17,8 @@ use Rattle.sound_laws.proofs.Keyed.{found_contained, key_found, every_found, con
 use Rattle.sound_laws.proofs.RuleLists.{rule_numbers, found_rule, rule_found}
 use Rattle.validation.specs.Projects.{HasParts}
 use Rattle.project_check.specs.Subjects.{HasSubjects}
-use Rattle.project_check.specs.Checked.{HasLists, IsFirstNot, IsFirstUnsound}
+use Rattle.topology_terms.specs.Unsound.{IsFirstUnsound}
+use Rattle.project_check.specs.Checked.{HasLists, IsFirstNot}
 use Rattle.project_check.proofs.Places.{holds_below}
 
 -- ---- where there is nobody
