@@ -36,6 +36,7 @@ use Rattle.topology_terms.specs.Entry.{Entry, Key, key_of, IsBefore, IsKeyBelow}
 use Rattle.topology_terms.specs.Lookups.{class_at, number_from, kind_of_class}
 use Rattle.topology_terms.specs.Causes.{same_kind, is_kind, is_fit, fits_dest, is_row, is_there}
 use Rattle.topology_terms.specs.Project.{Project, InForce, rule_at, empty_project}
+use Rattle.feature_store.specs.Keeps.{AreUnlike}
 use Rattle.project_terms.specs.declared.stage.Stage.{Stage}
 use Rattle.project_terms.specs.declared.stage.Stage.TheVariants as stage
 use Rattle.project_terms.specs.declared.project_cause.ProjectCause.TheVariants as cause
@@ -44,7 +45,7 @@ use Rattle.project_terms.specs.Records.{IsNumbered, IsPlaced, IsError, IsRecord}
 use Rattle.project_terms.specs.Written.{name_at, name_in, op_word, mark_word, extent_word, rect_fields, cell_fields, title, next_line, class_line, rule_line, feature_line, dirty_line, error_line, cell_line, last_line, error_lines, lines_of, line_text, project_text}
 use Rattle.project_terms.specs.Drafts.{Draft, start, rank, may_follow, is_open, is_cell_open, is_bare, takes_cell, wants_cell, with_cell, last_in, is_before, is_last_key, is_rectangle, is_half}
 use Rattle.project_terms.specs.Verdicts.{Verdict, WktReading, Unwritten, Written, RuleForm, FeatureForm, ErrorForm, HalfForm, at, judged, kind_of_word, class_of, second_of, rule_of, feature_of, rect_of, extent_of, error_of, op_of, half_of, halves_behind, cell_of, dest_in, row, row_of, class_verdict, rule_verdict, rule_numbered, rule_in, feature_verdict, feature_numbered, feature_in, are_nested, dirty_verdict, error_verdict, error_in, error_ruled, cell_verdict, next_verdict, next_numbered, number_of, line_verdict, wkt_of}
-use Rattle.project_terms.specs.Texts.{IsVerdict, IsReading, IsInner, ended, AreRead, IsRead}
+use Rattle.project_terms.specs.Texts.{IsLineVerdict, IsVerdict, IsReading, IsInner, ended, AreRead, IsRead}
 use Rattle.project_text.specs.Pushed.{sign_text}
 use Rattle.project_text.proofs.FieldForms.{rule_found, feature_found, rect_found, error_found, half_right, half_said}
 use Rattle.project_text.proofs.Numerals.{natural_read, signed_read}
@@ -110,7 +111,7 @@ at_true s d v o = rw o refl
 plain_verdict : (d m : Draft) (w : List ℕ) (fs : List (List ℕ)) → Every IsPlain (w ∷ fs) → wkt_of d (w ∷ fs) ≡ None
     → line_verdict Unwritten d (w ∷ fs) ≡ Ok m → IsVerdict d (joined (w ∷ fs)) (Ok m)
 plain_verdict d m w fs p none e =
-    subst (λ (gs : List (List ℕ)). (r : WktReading) × IfSome (wkt_of d gs) (λ t. IsReading t r) × (Ok m ≡ line_verdict r d gs))
+    subst (λ (gs : List (List ℕ)). IsLineVerdict d gs (Ok m))
     (sym (all_back w fs p))
     (Unwritten, subst (λ (o : Option (List ℕ)). IfSome o (λ t. IsReading t Unwritten)) (sym none) tt, sym e)
 
@@ -121,16 +122,14 @@ pub record IsThere (cs : List Class) (k : ℕ) : Type 0 where
   pub number : number_from 1 cs class.name ≡ Some k
   pub name : is_name class.name ≡ true
 
-abbrev AreUnlike : Class → Class → Type 0
-AreUnlike c d = c.name ≢ d.name
-
 abbrev HasName : Class → Type 0
 HasName c = is_name c.name ≡ true
 
 unlike_names : (a b : List ℕ) → a ≢ b → bytes_eq a b ≡ false
 unlike_names a b n = false_from_ne_true (bytes_eq a b) (λ t. n ((bytes_eq-Decides a b).0 t))
 
-number_at : (n : ℕ) (cs : List Class) (i : ℕ) (c : Class) → EveryPair AreUnlike cs → slice_get cs i ≡ Some c → number_from n cs c.name ≡ Some (n + i)
+number_at : (n : ℕ) (cs : List Class) (i : ℕ) (c : Class) → EveryPair AreUnlike cs → slice_get cs i ≡ Some c
+    → number_from n cs c.name ≡ Some (n + i)
 number_at n [] i c h e = absurd cc
 number_at n (d ∷ cs) zero c h e =
     let same : d ≡ c = cc in
@@ -272,7 +271,8 @@ row_back cs q o d a b c = rw (a, b, c) refl
 
 rule_put : (d : Draft) (q : RuleForm) (n : ℕ) (r : Row) → natural 1 256 q.number ≡ Some n → row_of d.project.classes q ≡ Some r
     → ltb (last_in (λ (x : InForce). x.number) d.project.rules) n ≡ true → is_there d.project.rules r ≡ false
-    → rule_verdict d q ≡ Ok (record { stage = stage.Rules; project = record d.project { rules = d.project.rules ++ record { number = n; row = r } ∷ [] } })
+    → rule_verdict d q ≡
+    Ok (record { stage = stage.Rules; project = record d.project { rules = d.project.rules ++ record { number = n; row = r } ∷ [] } })
 rule_put d q n r a b c e = ap (rule_numbered d q) a ∙ (ap (rule_in d n) b ∙ rw (c, e) refl)
 
 rule_step : (p : Project) → IsRecord p → (done : List InForce) (q : InForce) (qs : List InForce) → done ++ q ∷ qs ≡ p.rules → (s : Stage)
@@ -299,7 +299,8 @@ rule_step p h done q qs same s some up =
     ∙ (ap (judged (rule_verdict d)) read ∙ rule_put d form q.number q.row (natural_back 1 256 q.number n.0 n.1)
     (row_back p.classes form q.row.origin.class q.row.dest.class w.from_origin w.from_dest fit) less
     (none_any (λ (x : InForce). is_row x.row q.row) done apart))) in
-    subst (λ (ns : List (List ℕ)). IsVerdict d (joined (codes "rule" ∷ decimal q.number ∷ word_of q.row.kind ∷ ns)) (Ok m)) (sym w.names) line
+    subst (λ (ns : List (List ℕ)). IsVerdict d (joined (codes "rule" ∷ decimal q.number ∷ word_of q.row.kind ∷ ns)) (Ok m))
+    (sym w.names) line
 
 rules_read : (p : Project) → IsRecord p → (rest : List (List (List ℕ))) (e : Draft)
     → ((s : Stage) → 2 ≤ rank s → rank s ≤ 4 → AreRead (at_stage s (in_rules p p.rules)) (map joined rest) e)
@@ -326,7 +327,10 @@ feature_put : (d : Draft) (f : FeatureForm) (s : Shape) (n c : ℕ) → natural 
     → number_from 1 d.project.classes f.class ≡ Some c → is_kind (kind_of_class d.project.classes c) s.kind ≡ true
     → ltb (last_in (λ (g : Feature). g.handle) d.project.features) n ≡ true
     → feature_verdict (Written s) d f ≡
-    Ok (record { stage = stage.Features; project = record d.project { features = d.project.features ++ record { handle = n; class = c; shape = s } ∷ [] } })
+    Ok (record {
+      stage = stage.Features;
+      project = record d.project { features = d.project.features ++ record { handle = n; class = c; shape = s } ∷ [] };
+    })
 feature_put d f s n c a b i j = ap (feature_numbered d f s) a ∙ (ap (feature_in d n s) b ∙ rw (i, j) refl)
 
 -- a line with a shape's text that is read
@@ -335,15 +339,15 @@ shape_verdict : (d m : Draft) (s : Shape) (front : List (List ℕ)) (fs : List (
     → f.wkt ≡ shape_text s → IsReading (shape_text s) (Written s) → feature_verdict (Written s) d f ≡ Ok m
     → IsVerdict d (joined (front ++ shape_text s ∷ [])) (Ok m)
 shape_verdict d m s front fs f plain cut o form same reading verdict =
-    subst (λ (gs : List (List ℕ)). (r : WktReading) × IfSome (wkt_of d gs) (λ t. IsReading t r) × (Ok m ≡ line_verdict r d gs))
-    (sym (fields_back front (shape_text s) plain ∙ cut))
-    (
+    subst (λ (gs : List (List ℕ)). IsLineVerdict d gs (Ok m))
+    (sym (fields_back front (shape_text s) plain ∙ cut)) (
       Written s,
       rw (o, form) (subst (λ (t : List ℕ). IsReading t (Written s)) (sym same) reading),
       sym (at_true stage.Features d _ o ∙ (ap (judged (feature_verdict (Written s) d)) form ∙ verdict)),
     )
 
-feature_step : (p : Project) → IsRecord p → (done : List Feature) (f : Feature) (fs : List Feature) → done ++ f ∷ fs ≡ p.features → (s : Stage)
+feature_step : (p : Project) → IsRecord p → (done : List Feature) (f : Feature) (fs : List Feature) → done ++ f ∷ fs ≡ p.features
+    → (s : Stage)
     → 2 ≤ rank s → rank s ≤ 5 → IsVerdict (at_stage s (in_features p done)) (joined (feature_line p.classes f))
     (Ok (at_stage stage.Features (in_features p (done ++ f ∷ []))))
 feature_step p h done f fs same s some up =
@@ -361,10 +365,14 @@ feature_step p h done f fs same s some up =
     (natural_read f.handle (omega (arith, g.given, top))) c.name in
     let kinds : is_kind (kind_of_class p.classes f.class) f.shape.kind ≡ true = rw g.kind (kind_own f.shape.kind) in
     let less = below _ _ (last_below (λ (x : Feature). x.handle) done f.handle (omega (arith, g.from_1)) rising) in
-    let line = shape_verdict d m f.shape (codes "feature" ∷ decimal f.handle ∷ c.class.name ∷ []) (decimal f.handle ∷ c.class.name ∷ fields t)
-    form (refl, (plain_decimal f.handle, (plain_name c.class.name c.name, tt))) refl o read refl (written f.shape (again f.shape g.shape) g.short)
-    (feature_put d form f.shape f.handle f.class (natural_back 1 (p.next - 1) f.handle g.from_1 (omega (arith, g.given))) c.number kinds less) in
-    subst (λ (ns : List (List ℕ)). IsVerdict d (joined (codes "feature" ∷ decimal f.handle ∷ (ns ++ t ∷ []))) (Ok m)) (sym (ap name_in c.place)) line
+    let line = shape_verdict d m f.shape (codes "feature" ∷ decimal f.handle ∷ c.class.name ∷ [])
+    (decimal f.handle ∷ c.class.name ∷ fields t)
+    form (refl, (plain_decimal f.handle, (plain_name c.class.name c.name, tt))) refl o read refl
+    (written f.shape (again f.shape g.shape) g.short)
+    (feature_put d form f.shape f.handle f.class (natural_back 1 (p.next - 1) f.handle g.from_1 (omega (arith, g.given))) c.number kinds
+    less) in
+    subst (λ (ns : List (List ℕ)). IsVerdict d (joined (codes "feature" ∷ decimal f.handle ∷ (ns ++ t ∷ []))) (Ok m))
+    (sym (ap name_in c.place)) line
 
 features_read : (p : Project) → IsRecord p → (rest : List (List (List ℕ))) (e : Draft)
     → ((s : Stage) → 2 ≤ rank s → rank s ≤ 5 → AreRead (at_stage s (in_features p p.features)) (map joined rest) e)
@@ -395,7 +403,8 @@ dirty_put : (d : Draft) (r : Rectangle) → is_rectangle r ≡ true → list_any
     → dirty_verdict d r ≡ Ok (record { stage = stage.Dirt; project = record d.project { dirt = d.project.dirt ++ r ∷ [] } })
 dirty_put d r a b = rw (a, b) refl
 
-dirty_step : (p : Project) → IsRecord p → (done : List Rectangle) (r : Rectangle) (rs : List Rectangle) → done ++ r ∷ rs ≡ p.dirt → (s : Stage)
+dirty_step : (p : Project) → IsRecord p → (done : List Rectangle) (r : Rectangle) (rs : List Rectangle) → done ++ r ∷ rs ≡ p.dirt
+    → (s : Stage)
     → 2 ≤ rank s → rank s ≤ 6
     → IsVerdict (at_stage s (in_dirt p done)) (joined (dirty_line r)) (Ok (at_stage stage.Dirt (in_dirt p (done ++ r ∷ []))))
 dirty_step p h done r rs same s some up =
@@ -406,7 +415,8 @@ dirty_step p h done r rs same s some up =
     (λ x l. or_from (is_within r x) (is_within x r) l.right l.left) done loose in
     plain_verdict d _ (codes "dirty") (rect_fields r) (refl, plain_sides r) refl
     (at_true stage.Dirt d _ (open_here s stage.Dirt (in_dirt p done) some (omega (arith, up)) (omega arith) up refl)
-    ∙ (ap (judged (dirty_verdict d)) (rect_back r rectangle) ∙ dirty_put d r (rectangle_true r rectangle) (none_any (are_nested r) done free)))
+    ∙ (ap (judged (dirty_verdict d)) (rect_back r rectangle)
+    ∙ dirty_put d r (rectangle_true r rectangle) (none_any (are_nested r) done free)))
 
 dirt_read : (p : Project) → IsRecord p → (rest : List (List (List ℕ))) (e : Draft)
     → ((s : Stage) → 2 ≤ rank s → rank s ≤ 6 → AreRead (at_stage s (in_dirt p p.dirt)) (map joined rest) e)
@@ -442,14 +452,14 @@ last_key [] e h = refl
 last_key (x ∷ []) e h = key_before (key_of x) (key_of e) h.0
 last_key (x ∷ y ∷ es) e h = last_key (y ∷ es) e h.1
 
-not_bare : (w : Bool) (cs : List Cell) → (w ≡ false → cs ≢ []) → (not w && is_bare cs) ≡ false
-not_bare true cs h = refl
-not_bare false [] h = absurd (h refl refl)
-not_bare false (c ∷ cs) h = refl
+none_wanted : (w : Bool) (cs : List Cell) → (w ≡ false → cs ≢ []) → (not w && is_bare cs) ≡ false
+none_wanted true cs h = refl
+none_wanted false [] h = absurd (h refl refl)
+none_wanted false (c ∷ cs) h = refl
 
 no_wants : (es : List Entry) → Every HasCells es → wants_cell es ≡ false
 no_wants [] h = refl
-no_wants (e ∷ []) h = not_bare e.whole e.cells h.0
+no_wants (e ∷ []) h = none_wanted e.whole e.cells h.0
 no_wants (e ∷ f ∷ es) h = no_wants (f ∷ es) h.1
 
 all_cells : (p : Project) → IsRecord p → Every HasCells p.entries
@@ -493,14 +503,21 @@ error_step p h done e es same s some up =
     (rect_back e.frame g.frame) in
     let rule : is_some (rule_at p.rules e.rule) ≡ true = ap is_some g.rule.1 in
     let fs : List (List ℕ) = decimal e.rule ∷ decimal e.subject ∷ decimal e.other ∷ extent_word e.whole ∷ rect_fields e.frame in
-    plain_verdict d _ (mark_word e.marked) fs
-    (plain_mark e.marked, (plain_decimal e.rule, (plain_decimal e.subject, (plain_decimal e.other, (plain_extent e.whole, plain_sides e.frame)))))
+    plain_verdict d _ (mark_word e.marked) fs (
+      plain_mark e.marked,
+      (
+        plain_decimal e.rule,
+        (plain_decimal e.subject, (plain_decimal e.other, (plain_extent e.whole, plain_sides e.frame))),
+      ),
+    )
     (mark_shape e.marked d fs)
-    (mark_line e.marked Unwritten d fs ∙ (at_true stage.Errors d _ (open_here s stage.Errors (in_errors p done) some up (omega arith) up full)
+    (mark_line e.marked Unwritten d fs
+    ∙ (at_true stage.Errors d _ (open_here s stage.Errors (in_errors p done) some up (omega arith) up full)
     ∙ (ap (judged (error_verdict e.marked d)) read
     ∙ error_put d e (natural_back 1 (p.next - 1) e.subject g.from_1 (omega (arith, g.given)))
     (natural_back 0 (p.next - 1) e.other (omega arith) (omega (arith, g.partner))) (rectangle_true e.frame g.frame)
-    (fits_partner e.whole e.other (λ w. (g.whole w).0)) (natural_back 1 256 e.rule g.numbered.0 g.numbered.1) rule (last_key done e rising))))
+    (fits_partner e.whole e.other (λ w. (g.whole w).0)) (natural_back 1 256 e.rule g.numbered.0 g.numbered.1) rule
+    (last_key done e rising))))
 
 -- ---- cells
 sign_back : (o : Op) (more : Bool) → op_of (sign_text o more) ≡ Some (o, more)
@@ -573,7 +590,8 @@ part_of_cells false done c cs all same h = refl
 cells_read : (p : Project) (before : List Entry) (x : Entry) → IsError p x → (rest : List (List (List ℕ))) (e : Draft)
     → AreRead (at_stage stage.Errors (in_errors p (before ++ x ∷ []))) (map joined rest) e
     → (todo done : List Cell) → done ++ todo ≡ x.cells
-    → AreRead (at_stage stage.Errors (in_errors p (before ++ record x { cells = done } ∷ []))) (map joined (map {A = Cell} cell_line todo ++ rest)) e
+    → AreRead (at_stage stage.Errors (in_errors p (before ++ record x { cells = done } ∷ [])))
+    (map joined (map {A = Cell} cell_line todo ++ rest)) e
 cells_read p before x g rest e k [] done same =
     subst (λ (cs : List Cell). AreRead (at_stage stage.Errors (in_errors p (before ++ record x { cells = cs } ∷ []))) (map joined rest) e)
     (sym same ∙ append-nil done) k
@@ -594,9 +612,9 @@ errors_read p h rest e k [] done same s some up =
 errors_read p h rest e k (x ∷ xs) done same s some up =
     let g = every_mid (IsError p) done x xs (subst (Every (IsError p)) (sym same) h.errors) in
     let m : Draft = at_stage stage.Errors (in_errors p (done ++ bare x ∷ [])) in
-    let more = errors_read p h rest e k xs (done ++ x ∷ []) (append_assoc done (x ∷ []) xs ∙ same) stage.Errors (omega arith) (omega arith) in
-    let cells = cells_read p done x g (flat_map error_lines xs ++ rest) e more x.cells [] refl in
-    (
+    let more = errors_read p h rest e k xs (done ++ x ∷ []) (append_assoc done (x ∷ []) xs ∙ same) stage.Errors (omega arith)
+    (omega arith) in
+    let cells = cells_read p done x g (flat_map error_lines xs ++ rest) e more x.cells [] refl in (
       m,
       error_step p h done x xs same s some up,
       subst (λ (ls : List (List (List ℕ))). AreRead m (map joined ls) e)
@@ -620,12 +638,12 @@ next_step : (p : Project) → IsRecord p
 next_step p h =
     let d : Draft = at_stage stage.Title empty_project in
     plain_verdict d _ (codes "next") (decimal p.next ∷ []) (refl, (plain_decimal p.next, tt)) refl
-    (ap (judged (next_verdict d)) (natural_read p.next (omega (arith, h.next.1))) ∙ next_put d p.next (natural_back 1 4294967295 p.next h.next.0 h.next.1))
+    (ap (judged (next_verdict d)) (natural_read p.next (omega (arith, h.next.1)))
+    ∙ next_put d p.next (natural_back 1 4294967295 p.next h.next.0 h.next.1))
 
 lines_read : (p : Project) → IsRecord p → AreRead start (map joined (lines_of p)) (at_stage stage.End p)
 lines_read p h =
-    let e : Draft = at_stage stage.End p in
-    (
+    let e : Draft = at_stage stage.End p in (
       at_stage stage.Title empty_project,
       plain_verdict start _ (codes "topology") (codes "1" ∷ []) (refl, (refl, tt)) refl refl,
       (
@@ -667,20 +685,39 @@ plain_at cs k h = by (k == 0)
 
 rule_inner : (cs : List Class) (q : InForce) → Every HasName cs → IsInLine (rule_line cs q)
 rule_inner cs q h =
-    plain_line (rule_line cs q) (refl, (plain_decimal q.number, (plain_rule q.row.kind,
-    every_append IsPlain (name_at cs q.row.origin.class) (name_at cs q.row.dest.class) (plain_at cs q.row.origin.class h)
-    (plain_at cs q.row.dest.class h))))
+    plain_line (rule_line cs q) (
+      refl,
+      (
+        plain_decimal q.number,
+        (
+          plain_rule q.row.kind,
+          every_append IsPlain (name_at cs q.row.origin.class) (name_at cs q.row.dest.class) (plain_at cs q.row.origin.class h)
+              (plain_at cs q.row.dest.class h),
+        ),
+      ),
+    )
 
 feature_inner : (cs : List Class) (f : Feature) → Every HasName cs → IsInLine (feature_line cs f)
 feature_inner cs f h =
-    inner_joined (feature_line cs f) (refl, (plain_inner (decimal f.handle) (plain_decimal f.handle),
-    every_append IsInner (name_at cs f.class) (shape_text f.shape ∷ []) (every_map IsPlain IsInner plain_inner (name_at cs f.class) (plain_at cs f.class h))
-    (inner_shape f.shape, tt)))
+    inner_joined (feature_line cs f) (
+      refl,
+      (
+        plain_inner (decimal f.handle) (plain_decimal f.handle),
+        every_append IsInner (name_at cs f.class) (shape_text f.shape ∷ [])
+            (every_map IsPlain IsInner plain_inner (name_at cs f.class) (plain_at cs f.class h))
+            (inner_shape f.shape, tt),
+      ),
+    )
 
 error_inner : (e : Entry) → Every IsInLine (error_lines e)
 error_inner e = (
-  plain_line (error_line e)
-      (plain_mark e.marked, (plain_decimal e.rule, (plain_decimal e.subject, (plain_decimal e.other, (plain_extent e.whole, plain_sides e.frame))))),
+  plain_line (error_line e) (
+    plain_mark e.marked,
+    (
+      plain_decimal e.rule,
+      (plain_decimal e.subject, (plain_decimal e.other, (plain_extent e.whole, plain_sides e.frame))),
+    ),
+  ),
   any_line {A = Cell} cell_line (λ (c : Cell). plain_line (cell_line c) (refl, plain_halves c)) e.cells,
 )
 
@@ -690,17 +727,22 @@ errors_inner (e ∷ es) = every_append IsInLine (error_lines e) (flat_map error_
 
 lines_inner : (p : Project) → IsRecord p → Every IsInLine (lines_of p)
 lines_inner p h =
-    let classes = each_line class_line HasName (λ (c : Class) n. plain_line (class_line c) (refl, (plain_name c.name n, (plain_kind c.kind, tt))))
+    let classes = each_line class_line HasName
+    (λ (c : Class) n. plain_line (class_line c) (refl, (plain_name c.name n, (plain_kind c.kind, tt))))
     p.classes h.names in
     let rules = any_line (rule_line p.classes) (λ (q : InForce). rule_inner p.classes q h.names) p.rules in
     let features = any_line (feature_line p.classes) (λ (f : Feature). feature_inner p.classes f h.names) p.features in
     let dirt = any_line dirty_line (λ (r : Rectangle). plain_line (dirty_line r) (refl, plain_sides r)) p.dirt in
-    let last = every_append IsInLine (flat_map error_lines p.entries) (last_line ∷ []) (errors_inner p.entries) (refl, tt) in
-    (refl, (plain_line (next_line p.next) (refl, (plain_decimal p.next, tt)),
-    every_append IsInLine (map class_line p.classes) _ classes
-    (every_append IsInLine (map (rule_line p.classes) p.rules) _ rules
-    (every_append IsInLine (map (feature_line p.classes) p.features) _ features
-    (every_append IsInLine (map dirty_line p.dirt) _ dirt last)))))
+    let last = every_append IsInLine (flat_map error_lines p.entries) (last_line ∷ []) (errors_inner p.entries) (refl, tt) in (
+      refl,
+      (
+        plain_line (next_line p.next) (refl, (plain_decimal p.next, tt)),
+        every_append IsInLine (map class_line p.classes) _ classes
+            (every_append IsInLine (map (rule_line p.classes) p.rules) _ rules
+            (every_append IsInLine (map (feature_line p.classes) p.features) _ features
+            (every_append IsInLine (map dirty_line p.dirt) _ dirt last))),
+      ),
+    )
 
 inner_map : (ls : List (List (List ℕ))) → Every IsInLine ls → Every IsInner (map joined ls)
 inner_map [] h = tt

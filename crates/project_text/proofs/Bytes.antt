@@ -54,7 +54,8 @@ plain_onto (suc k) n acc h =
     let first : IsPlain (digit_glyph false (n % 10) ∷ acc) = rw (plain_glyph (n % 10)) h in
     by (n / 10 == 0) first (plain_onto k (n / 10) (digit_glyph false (n % 10) ∷ acc) first)
   where
-    by : (b : Bool) → IsPlain (digit_glyph false (n % 10) ∷ acc) → IsPlain (digits_onto k 10 false (n / 10) (digit_glyph false (n % 10) ∷ acc))
+    by : (b : Bool) → IsPlain (digit_glyph false (n % 10) ∷ acc)
+        → IsPlain (digits_onto k 10 false (n / 10) (digit_glyph false (n % 10) ∷ acc))
         → IsPlain (if b then digit_glyph false (n % 10) ∷ acc else digits_onto k 10 false (n / 10) (digit_glyph false (n % 10) ∷ acc))
     by true here more = here
     by false here more = more

@@ -227,7 +227,8 @@ next_kept d h o z = by (natural 1 4294967295 z) refl
         }
 
 -- ---- a class
-class_put : (cs : List Class) (c : Class) → AreClasses cs → is_name c.name ≡ true → (length cs == 64) ≡ false → number_from 1 cs c.name ≡ None
+class_put : (cs : List Class) (c : Class) → AreClasses cs → is_name c.name ≡ true → (length cs == 64) ≡ false
+    → number_from 1 cs c.name ≡ None
     → AreClasses (cs ++ c ∷ [])
 class_put cs c h name few free =
     let before : IsStore cs [] 1 = record {
@@ -278,7 +279,8 @@ rule_put cs rs q h n fit free =
       numbers = every_end IsNumbered rs q h.numbers n;
       ascending = ascending_end (λ (r : InForce). r.number) rs q h.ascending less;
       fit = every_end (λ (r : InForce). is_fit cs r.row ≡ true) rs q h.fit fit;
-      apart = pairs_end (λ (r s : InForce). is_row r.row s.row ≡ false) rs q h.apart (none_pass (λ (r : InForce). is_row r.row q.row) rs b.1);
+      apart = pairs_end (λ (r s : InForce). is_row r.row s.row ≡ false) rs q h.apart
+          (none_pass (λ (r : InForce). is_row r.row q.row) rs b.1);
     }
 
 rule_kept : (d : Draft) → IsKept d → is_open stage.Rules d ≡ true → (q : RuleForm) → IfOk (rule_verdict d q) IsKept
@@ -434,7 +436,8 @@ is_zero : (w : Bool) (n : ℕ) → (w && not (n == 0)) ≡ false → w ≡ true 
 is_zero true n h e = grind (arith, nat_tests, not-false (n == 0) h)
 is_zero false n h e = absurd cc
 
-error_kept : (d : Draft) → IsKept d → is_open stage.Errors d ≡ true → (marked : Bool) (e : ErrorForm) → IfOk (error_verdict marked d e) IsKept
+error_kept : (d : Draft) → IsKept d → is_open stage.Errors d ≡ true → (marked : Bool) (e : ErrorForm)
+    → IfOk (error_verdict marked d e) IsKept
 error_kept d h o marked e =
     handled (natural 1 (d.project.next - 1) e.subject) refl (natural 0 (d.project.next - 1) e.other) refl
   where

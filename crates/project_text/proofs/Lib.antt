@@ -23,3 +23,4 @@ pub mod Kept
 pub mod OneSpelling
 pub mod Bytes
 pub mod Again
+pub mod Grammar

@@ -43,7 +43,8 @@ use Rattle.project_text.proofs.Sound.{before_title, open_next}
 
 -- ---- the lines as far as a stage
 abbrev pub body_of : List Class → List InForce → List Feature → List Rectangle → List Entry → List (List (List ℕ))
-body_of cs rs F D es = map class_line cs ++ (map (rule_line cs) rs ++ (map (feature_line cs) F ++ (map dirty_line D ++ flat_map error_lines es)))
+body_of cs rs F D es = map class_line
+    cs ++ (map (rule_line cs) rs ++ (map (feature_line cs) F ++ (map dirty_line D ++ flat_map error_lines es)))
 
 abbrev pub body : Project → List (List (List ℕ))
 body p = body_of p.classes p.rules p.features p.dirt p.entries
@@ -81,23 +82,28 @@ lines_all p =
 deeper : {A : Type 0} (a b c x : List A) → b ≡ c ++ x → a ++ b ≡ (a ++ c) ++ x
 deeper a b c x e = ap (λ t. a ++ t) e ∙ sym (append_assoc a c x)
 
-section_end : {A B : Type 0} (f : A → B) (xs : List A) (x : A) (rest : List B) → rest ≡ [] → map f (xs ++ x ∷ []) ++ rest ≡ (map f xs ++ rest) ++ f x ∷ []
+section_end : {A B : Type 0} (f : A → B) (xs : List A) (x : A) (rest : List B) → rest ≡ []
+    → map f (xs ++ x ∷ []) ++ rest ≡ (map f xs ++ rest) ++ f x ∷ []
 section_end f [] x rest e = rw e refl
 section_end f (y ∷ xs) x rest e = ap (λ t. f y ∷ t) (section_end f xs x rest e)
 
-none_said_yet : (cs : List Class) (rs : List InForce) (F : List Feature) (D : List Rectangle) (es : List Entry) → cs ≡ [] → rs ≡ [] → F ≡ [] → D ≡ [] → es ≡ []
+none_said_yet : (cs : List Class) (rs : List InForce) (F : List Feature) (D : List Rectangle) (es : List Entry) → cs ≡ [] → rs ≡ []
+    → F ≡ [] → D ≡ [] → es ≡ []
     → body_of cs rs F D es ≡ []
 none_said_yet cs rs F D es a b c d e = rw (a, b, c, d, e) refl
 
-class_more : (cs : List Class) (c : Class) (rs : List InForce) (F : List Feature) (D : List Rectangle) (es : List Entry) → rs ≡ [] → F ≡ [] → D ≡ [] → es ≡ []
+class_more : (cs : List Class) (c : Class) (rs : List InForce) (F : List Feature) (D : List Rectangle) (es : List Entry) → rs ≡ [] → F ≡ []
+    → D ≡ [] → es ≡ []
     → body_of (cs ++ c ∷ []) rs F D es ≡ body_of cs rs F D es ++ class_line c ∷ []
 class_more cs c rs F D es a b d e = rw (a, b, d, e) (section_end class_line cs c [] refl)
 
-rule_more : (cs : List Class) (rs : List InForce) (q : InForce) (F : List Feature) (D : List Rectangle) (es : List Entry) → F ≡ [] → D ≡ [] → es ≡ []
+rule_more : (cs : List Class) (rs : List InForce) (q : InForce) (F : List Feature) (D : List Rectangle) (es : List Entry) → F ≡ [] → D ≡ []
+    → es ≡ []
     → body_of cs (rs ++ q ∷ []) F D es ≡ body_of cs rs F D es ++ rule_line cs q ∷ []
 rule_more cs rs q F D es b d e = rw (b, d, e) (deeper (map class_line cs) _ _ _ (section_end (rule_line cs) rs q [] refl))
 
-feature_more : (cs : List Class) (rs : List InForce) (F : List Feature) (f : Feature) (D : List Rectangle) (es : List Entry) → D ≡ [] → es ≡ []
+feature_more : (cs : List Class) (rs : List InForce) (F : List Feature) (f : Feature) (D : List Rectangle) (es : List Entry) → D ≡ []
+    → es ≡ []
     → body_of cs rs (F ++ f ∷ []) D es ≡ body_of cs rs F D es ++ feature_line cs f ∷ []
 feature_more cs rs F f D es d e =
     rw (d, e) (deeper (map class_line cs) _ _ _ (deeper (map (rule_line cs) rs) _ _ _ (section_end (feature_line cs) F f [] refl)))
@@ -114,9 +120,11 @@ errors_more cs rs F D es fs line e =
     deeper (map class_line cs) _ _ _ (deeper (map (rule_line cs) rs) _ _ _ (deeper (map (feature_line cs) F) _ _ _
     (deeper (map dirty_line D) _ _ _ e)))
 
-error_more : (es : List Entry) (e : Entry) → e.cells ≡ [] → flat_map error_lines (es ++ e ∷ []) ≡ flat_map error_lines es ++ error_line e ∷ []
+error_more : (es : List Entry) (e : Entry) → e.cells ≡ []
+    → flat_map error_lines (es ++ e ∷ []) ≡ flat_map error_lines es ++ error_line e ∷ []
 error_more es e bare =
-    flat_map-append error_lines es (e ∷ []) ∙ ap (λ (cs : List Cell). flat_map error_lines es ++ (error_line e ∷ map cell_line cs ++ [])) bare
+    flat_map-append error_lines es (e ∷ [])
+    ∙ ap (λ (cs : List Cell). flat_map error_lines es ++ (error_line e ∷ map cell_line cs ++ [])) bare
 
 cell_more : (es : List Entry) (c : Cell) → takes_cell es ≡ true
     → flat_map error_lines (with_cell es c) ≡ flat_map error_lines es ++ cell_line c ∷ []
@@ -182,7 +190,8 @@ title_next d w fs k o b =
       last = ap (λ s. lines_to s d.project ++ title ∷ []) (sym at);
     }
 
-next_next : (d : Draft) (w : List ℕ) (fs : List (List ℕ)) (z : ℤ) → IsKept d → w ≡ codes "next" → is_open stage.Next d ≡ true → number_of fs ≡ Some z
+next_next : (d : Draft) (w : List ℕ) (fs : List (List ℕ)) (z : ℤ) → IsKept d → w ≡ codes "next" → is_open stage.Next d ≡ true
+    → number_of fs ≡ Some z
     → IfOk (next_verdict d z) (IsNextLine d (joined (w ∷ fs)))
 next_next d w fs z h k o e = by (natural 1 4294967295 z) refl
   where
@@ -281,7 +290,8 @@ feature_next d w fs (Written s) f h k o e reading = numbered (natural 1 (d.proje
     of_class n i None j = tt
     of_class n i (Some c) j =
         if_ok (is_kind (kind_of_class d.project.classes c) s.kind) _ (Err cause.Unknown) (IsNextLine d (joined (w ∷ fs)))
-        (λ t. if_ok (ltb (last_in (λ (g : Feature). g.handle) d.project.features) n) _ (Err cause.Order) (IsNextLine d (joined (w ∷ fs))) (λ v.
+        (λ t. if_ok (ltb (last_in (λ (g : Feature). g.handle) d.project.features) n) _ (Err cause.Order) (IsNextLine d (joined (w ∷ fs)))
+        (λ v.
         let m = (opened stage.Features d o).0 in
         let u = m.up in
         put d _ (joined (w ∷ fs)) (feature_line d.project.classes (record { handle = n; class = c; shape = s })) m (omega arith)
@@ -316,7 +326,8 @@ error_next d w fs marked f h k o e =
 
     spelled : (r a b : ℕ) → natural 1 256 f.rule ≡ Some r → natural 1 (d.project.next - 1) f.subject ≡ Some a
         → natural 0 (d.project.next - 1) f.other ≡ Some b → is_rectangle f.frame ≡ true
-        → joined (w ∷ fs) ≡ joined (error_line (record { rule = r; subject = a; other = b; whole = f.whole; marked = marked; frame = f.frame; cells = [] }))
+        → joined (w ∷ fs) ≡ joined (error_line
+        (record { rule = r; subject = a; other = b; whole = f.whole; marked = marked; frame = f.frame; cells = [] }))
     spelled r a b i j l t =
         let x = natural_said 1 256 f.rule r i in
         let y = natural_said 1 (d.project.next - 1) f.subject a j in
@@ -338,7 +349,8 @@ error_next d w fs marked f h k o e =
         (λ v. if_ok (is_last_key d.project.entries (r, a, b)) _ (Err cause.Order) (IsNextLine d (joined (w ∷ fs))) (λ v.
         put d _ (joined (w ∷ fs)) _ (opened stage.Errors d o).0 (omega arith) (omega arith) refl (spelled r a b l i j t)
         (errors_more d.project.classes d.project.rules d.project.features d.project.dirt d.project.entries _ _
-        (error_more d.project.entries (record { rule = r; subject = a; other = b; whole = f.whole; marked = marked; frame = f.frame; cells = [] }) refl)))
+        (error_more d.project.entries (record
+        { rule = r; subject = a; other = b; whole = f.whole; marked = marked; frame = f.frame; cells = [] }) refl)))
         (λ v. tt)) (λ v. tt)
 
     handled : (a : Option ℕ) → natural 1 (d.project.next - 1) f.subject ≡ a → (b : Option ℕ) → natural 0 (d.project.next - 1) f.other ≡ b
@@ -350,7 +362,8 @@ error_next d w fs marked f h k o e =
         (λ t. ruled a b i j (not-false (is_rectangle f.frame) (or_parts (not (is_rectangle f.frame)) (f.whole && not (b == 0)) t).0)
         (natural 1 256 f.rule) refl)
 
-cell_next : (d : Draft) (w : List ℕ) (fs : List (List ℕ)) (c : Cell) → IsKept d → w ≡ codes "cell" → is_cell_open d ≡ true → cell_of fs ≡ Some c
+cell_next : (d : Draft) (w : List ℕ) (fs : List (List ℕ)) (c : Cell) → IsKept d → w ≡ codes "cell" → is_cell_open d ≡ true
+    → cell_of fs ≡ Some c
     → IfOk (cell_verdict d c) (IsNextLine d (joined (w ∷ fs)))
 cell_next d w fs c h k o e = if_ok (list_all is_half c) _ (Err cause.Range) (IsNextLine d (joined (w ∷ fs))) (λ t.
     let b = and_parts (may_follow d.stage stage.Errors) (takes_cell d.project.entries) o in

@@ -239,7 +239,8 @@ half_said a b c w h e =
     let s = mapped (λ (o : Op × Bool). record { half = record { a = x.0; b = y.0; c = z.0; op = o.0 }; more = o.1 }) (op_of w) h z.2 in
     subst (IsHalfLine a b c w) s.2 (record { of_a = x.1; of_b = y.1; of_c = z.1; sign = sign_spelled w s.0 s.1 })
 
-pub four : {A : Type 0} (a b c d e f g h : A) (xs ys : List A) → a ≡ e → b ≡ f → c ≡ g → d ≡ h → xs ≡ ys → a ∷ b ∷ c ∷ d ∷ xs ≡ e ∷ f ∷ g ∷ h ∷ ys
+pub four : {A : Type 0} (a b c d e f g h : A) (xs ys : List A) → a ≡ e → b ≡ f → c ≡ g → d ≡ h → xs ≡ ys
+    → a ∷ b ∷ c ∷ d ∷ xs ≡ e ∷ f ∷ g ∷ h ∷ ys
 four a b c d e f g h xs ys i j k l m = cc
 
 -- a half-plane within its limits, and those behind it
