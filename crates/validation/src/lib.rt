@@ -6,8 +6,10 @@ mod frame;
 mod judge;
 mod lookup;
 mod near;
+mod ruled;
 mod selection;
 mod sorted;
 mod window;
 
+pub use ruled::RuledFeatures;
 pub use window::validate;
