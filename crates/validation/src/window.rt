@@ -58,7 +58,7 @@ pub fn validate<R: RuleSet>(
     window: &Rect,
     work: &mut Work,
 ) -> Result<(), NoMemory>
-    requires fits { (n : ℕ) (row : Row) → rule_at ruled.now.in_force n ≡ Some row → R.meaning.Fits row ruled.now.features }
+    requires { (n : ℕ) (row : Row) → rule_at ruled.now.in_force n ≡ Some row → R.meaning.Fits row ruled.now.features }
     ensures step { OnOk result ((p : Project) → HasParts p ruled.now dirt.old errors.old → IsValidatedBy R.meaning window.now p (with_parts p dirt.new errors.new)) }
     ensures valid { OnOk result ((p : Project) → HasParts p ruled.now dirt.old errors.old → IsProject R.meaning p → IsProject R.meaning (with_parts p dirt.new errors.new)) }
     ensures sound { OnOk result ((p : Project) → HasParts p ruled.now dirt.old errors.old → IsProject R.meaning p → IsSoundUnder R.meaning p → IsSoundUnder R.meaning (with_parts p dirt.new errors.new)) }

@@ -11,8 +11,8 @@ use Rattle.topo_core.proofs.Kept.{parts_of, validated_keeps, validated_sound_kep
 use Rattle.validation.proofs.Settled.{on_err}
 use Rattle.topo_core.proofs.topology.Topology.validate.Goals as goal
 
-pub validate-requires-clause-fits : goal.validate-requires-clause-fits
-validate-requires-clause-fits g c = rw c.of-ruled.ensures (λ n row e. rw c.features.ensures.value (fitting g.R.RuleSet.meaning
+pub validate-requires : goal.validate-requires
+validate-requires g c = rw c.of-ruled.ensures (λ n row e. rw c.features.ensures.value (fitting g.R.RuleSet.meaning
     g.met.R.KindRules.kinds _ c.self.invariant.topology n row (rw c.deref.ensures.value at e)))
 
 pub returns-in_err-validate-clause-ordered : goal.returns-in_err-validate-clause-ordered
