@@ -15,7 +15,9 @@ fn is_at(e: &Entry, key: Key) -> bool
     ensures { result ≡ has_key e.now key.rule key.subject key.other }
 {
     let own = e.key();
-    own.rule == key.rule && own.subject == key.subject && own.partner_number() == key.partner_number()
+    own.rule == key.rule
+        && own.subject == key.subject
+        && own.partner_number() == key.partner_number()
 }
 
 // The entry of the key: the lists are short.

@@ -8,8 +8,8 @@ use Rattle.validation.proofs.Settled.{validated, selected_live, judged_upto, le_
 use Rattle.validation.proofs.window.validate.Goals as goal
 
 pub replace-requires-clause-new : goal.replace-requires-clause-new
-replace-requires-clause-new g c = judging_fresh g.R.RuleSet.meaning c.args.ruled.now.features c.in_ok-selected.selected c.args.ruled.now.in_force
-    c.in_ok-fresh.fresh.items c.in_ok-fresh.ensures.judging
+replace-requires-clause-new g c = judging_fresh g.R.RuleSet.meaning c.args.ruled.now.features c.in_ok-selected.selected
+    c.args.ruled.now.in_force c.in_ok-fresh.fresh.items c.in_ok-fresh.ensures.judging
 
 pub returns-clause-step : goal.returns-clause-step
 returns-clause-step g c = λ p h.
@@ -33,7 +33,8 @@ returns-clause-settled g c = λ p h v s. parts_kept_settled g.R.RuleSet.meaning 
 pub returns-clause-judged : goal.returns-clause-judged
 returns-clause-judged g c = λ p h. (
   live_of c.args.ruled.now.features c.in_ok-selected.selected,
-  selected_live c.args.window.now p c.args.ruled.now.features c.in_ok-selected.selected c.order_law.ensures.features c.in_ok-selected.ensures.rising
+  selected_live c.args.window.now p c.args.ruled.now.features c.in_ok-selected.selected c.order_law.ensures.features
+      c.in_ok-selected.ensures.rising
       (λ a. c.in_ok-selected.ensures.chosen p h.features h.dirt h.entries a),
   c.in_ok-fresh.ensures.judged,
 )
@@ -44,18 +45,18 @@ returns-in_err-selected-clause-stopped g c = on_err c.from_residual.result _ (λ
 
 pub returns-in_err-fresh-clause-stopped : goal.returns-in_err-fresh-clause-stopped
 returns-in_err-fresh-clause-stopped g c = on_err c.from_residual-in_err-fresh.result _ (λ p h fs those.
-    judged_upto c.args.window.now p c.args.ruled.now.in_force c.args.ruled.now.features c.in_ok-selected.selected c.args.work.now _ c.order_law.ensures.features
-    c.in_ok-selected.ensures.rising (λ a. c.in_ok-selected.ensures.chosen p h.features h.dirt h.entries a)
+    judged_upto c.args.window.now p c.args.ruled.now.in_force c.args.ruled.now.features c.in_ok-selected.selected c.args.work.now _
+    c.order_law.ensures.features c.in_ok-selected.ensures.rising (λ a. c.in_ok-selected.ensures.chosen p h.features h.dirt h.entries a)
     c.in_err-fresh.ensures.stopped fs those)
 
 pub returns-in_err-left-clause-stopped : goal.returns-in_err-left-clause-stopped
 returns-in_err-left-clause-stopped g c = on_err c.from_residual-in_err-left.result _ (λ p h fs those.
-    judged_upto c.args.window.now p c.args.ruled.now.in_force c.args.ruled.now.features c.in_ok-selected.selected c.args.work.now _ c.order_law.ensures.features
-    c.in_ok-selected.ensures.rising (λ a. c.in_ok-selected.ensures.chosen p h.features h.dirt h.entries a)
+    judged_upto c.args.window.now p c.args.ruled.now.in_force c.args.ruled.now.features c.in_ok-selected.selected c.args.work.now _
+    c.order_law.ensures.features c.in_ok-selected.ensures.rising (λ a. c.in_ok-selected.ensures.chosen p h.features h.dirt h.entries a)
     (le_of_eq _ _ c.in_ok-fresh.ensures.judged) fs those)
 
 pub returns-in_err-replace-clause-stopped : goal.returns-in_err-replace-clause-stopped
 returns-in_err-replace-clause-stopped g c = on_err c.from_residual-in_err-replace.result _ (λ p h fs those.
-    judged_upto c.args.window.now p c.args.ruled.now.in_force c.args.ruled.now.features c.in_ok-selected.selected c.args.work.now _ c.order_law.ensures.features
-    c.in_ok-selected.ensures.rising (λ a. c.in_ok-selected.ensures.chosen p h.features h.dirt h.entries a)
+    judged_upto c.args.window.now p c.args.ruled.now.in_force c.args.ruled.now.features c.in_ok-selected.selected c.args.work.now _
+    c.order_law.ensures.features c.in_ok-selected.ensures.rising (λ a. c.in_ok-selected.ensures.chosen p h.features h.dirt h.entries a)
     (le_of_eq _ _ c.in_ok-fresh.ensures.judged) fs those)
