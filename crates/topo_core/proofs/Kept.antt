@@ -1,5 +1,5 @@
 -- Each change keeps what every topology keeps, and what it keeps of the rules' meaning.
-use Rattle.std.proofs.Common.{◌≡◌, inl, inr, ℕ, List, [], ◌∷◌, ◌++◌, Option, Some, None, sym, ◌∙◌}
+use Rattle.std.proofs.Common.{◌≡◌, inl, inr, ℕ, List, [], ◌∷◌, ◌++◌, Option, Some, None, refl, sym, ap, ◌∙◌}
 use Rattle.std.specs.Option.{IfSome}
 use Rattle.plane_terms.specs.Lists.{Every}
 use Rattle.plane_terms.proofs.ListLemmas.{every_map}
@@ -22,6 +22,17 @@ use Rattle.feature_store.proofs.Keeping.{kind_end}
 use Rattle.topo_core.specs.Kinds.{HasKinds, TakesKinds}
 use Rattle.topo_core.specs.Topologies.{IsTopology}
 use Rattle.topo_core.proofs.Whole.{valid}
+use Rattle.validation.specs.Projects.{RuledFeatures, HasParts}
+
+-- ---- what a validation reads of the project
+pub parts_of : (p : Project) (r : RuledFeatures) (rules : List InForce) (F : List Feature) → r ≡ record { in_force = rules; features = F }
+    → rules ≡ p.rules → F ≡ p.features → HasParts p r p.dirt p.entries
+parts_of p r rules F e q f = record {
+  rules = sym (ap (λ (x : RuledFeatures). x.in_force) e ∙ q);
+  features = sym (ap (λ (x : RuledFeatures). x.features) e ∙ f);
+  dirt = refl;
+  entries = refl;
+}
 
 -- ---- an edit
 pub edit_keeps : (h : ℕ) (after : Option Feature) (old new : Project) → IsTopology old → IsEdit h after old new
