@@ -16,8 +16,8 @@ use Rattle.validation_laws.proofs.Handles.{among, among_or_not}
 use Rattle.sound_laws.proofs.Keyed.{found_contained, key_found, every_found, contained_found}
 use Rattle.sound_laws.proofs.RuleLists.{rule_numbers, found_rule, rule_found}
 use Rattle.validation.specs.Projects.{HasParts}
-use Rattle.project_check.specs.Subjects.{HasSubjects}
-use Rattle.project_check.specs.Checked.{HasLists, IsFirstNot, IsFirstUnsound}
+use Rattle.project_check.specs.Subjects.{HasLists, HasSubjects, IsFirstNot}
+use Rattle.project_check.specs.Checked.{IsFirstUnsound}
 use Rattle.project_check.proofs.Places.{holds_below}
 
 -- ---- where there is nobody
