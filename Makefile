@@ -34,7 +34,7 @@ install: program
 	install -m 644 docs/rules/*.md docs/rules/*.svg "$(DESTDIR)$(doc)/docs/rules"
 	install -m 644 docs/figures/*.svg "$(DESTDIR)$(doc)/docs/figures"
 	install -m 644 tools/README.md "$(DESTDIR)$(doc)/tools"
-	install -m 644 examples/*.topo examples/Snakefile "$(DESTDIR)$(doc)/examples"
+	install -m 644 examples/*.topo examples/*.project examples/Snakefile "$(DESTDIR)$(doc)/examples"
 	install -m 755 examples/make_parcels "$(DESTDIR)$(doc)/examples"
 
 uninstall:

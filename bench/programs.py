@@ -35,8 +35,28 @@ class Measure:
             self.status, microseconds, kilobytes = map(int, told.read().split())
         self.seconds = min(self.seconds, microseconds / 1e6)
         self.kilobytes = min(self.kilobytes, kilobytes)
-        with open(written, 'rb') as out:
-            self.digest = hashlib.sha256(out.read()).digest()
+        self.digest = self.digest_of(written)
+
+    def digest_of(self, written):
+        """What stands for the output of a run in a comparison."""
+        return digest_of_file(written)
+
+
+class SavingMeasure(Measure):
+    """The same of runs that save a project: its text is a part of the output."""
+
+    def __init__(self, words, target):
+        super().__init__(words + [target])
+        self.target = target
+
+    def digest_of(self, written):
+        saved = digest_of_file(self.target) if os.path.exists(self.target) else b''
+        return super().digest_of(written) + saved
+
+
+def digest_of_file(path):
+    with open(path, 'rb') as file:
+        return hashlib.sha256(file.read()).digest()
 
 
 def program_of(text):
@@ -95,20 +115,36 @@ def make_measured(folder):
     subprocess.run(['cc', '-O2', '-o', measured, os.path.join(HERE, 'measured.c')], check=True)
 
 
-def measure_script(folder, programs, given, more=('replay',)):
-    """Lets the programs, called with more words, take turns on the script in the folder; one measure for each."""
-    measures = [Measure(words + list(more)) for words in programs]
+def take_turns(measures, folder, given):
+    """Lets these take turns on the script in the folder, and answers them."""
     for _ in range(given.turns):
         for measure in measures:
             measure.take(folder, given.seconds)
     return measures
 
 
-def measure_lines(folder, lines, programs, given):
-    """The same on a script of these lines."""
+def measure_script(folder, programs, given, more=('replay',)):
+    """Lets the programs, called with more words, take turns on the script in the folder; one measure for each."""
+    return take_turns([Measure(words + list(more)) for words in programs], folder, given)
+
+
+def write_lines(folder, lines):
+    """Makes these lines the script in the folder."""
     with open(os.path.join(folder, 'script'), 'w') as out:
         out.writelines(line + '\n' for line in lines)
+
+
+def measure_lines(folder, lines, programs, given):
+    """The same on a script of these lines."""
+    write_lines(folder, lines)
     return measure_script(folder, programs, given)
+
+
+def measure_saved(folder, name, lines, more, programs, given):
+    """The same of programs that are called with more words and save a project, each under this name with its number behind it."""
+    write_lines(folder, lines)
+    targets = [os.path.join(folder, '%s-%d' % (name, number)) for number in range(len(programs))]
+    return take_turns([SavingMeasure(words + list(more), target) for words, target in zip(programs, targets)], folder, given)
 
 
 def measure_words(folder, words, programs, given):

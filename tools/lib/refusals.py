@@ -169,19 +169,26 @@ def no_class(of: Refused) -> str:
     return 'there is no class `%s`%s' % (gone, nearest(gone, of.before.classes))
 
 
+def kind_in(of: Refused, name: str) -> str:
+    """The kind of a class in the plural; the script does not tell it of a class of the project that it began with."""
+    return of.before.classes[name] + 's' if name in of.before.classes else 'another kind'
+
+
 def unfit_rule(of: Refused) -> str:
     kinds, named = KINDS_OF[of.words[1]], of.words[2:4]
     if len(set(named)) < len(named):
         return 'the rule takes two different classes'
     wanted = next((pair for pair in zip(named, kinds) if of.before.classes.get(pair[0]) != pair[1]), (named[0], kinds[0]))
-    return 'the rule takes a class of %ss, and `%s` is of %ss' % (wanted[1], wanted[0], of.before.classes.get(wanted[0], '?'))
+    return 'the rule takes a class of %ss, and `%s` is of %s' % (wanted[1], wanted[0], kind_in(of, wanted[0]))
 
 
 def unfit_shape(of: Refused) -> str:
     kind = KINDS.get(of.shape.split('(')[0].strip(' \t').upper(), 'shape')
     origin = of.before.origins.get(int(of.words[3])) if of.words[2] == 'change' else None
-    name = of.words[3] if of.words[2] == 'add' else origin.of_class if origin else '?'
-    return 'the shape is a %s, and the class `%s` is of %ss' % (kind, name, of.before.classes.get(name, '?'))
+    if of.words[2] == 'change' and origin is None:
+        return 'the shape is a %s, and feature %s is of another kind' % (kind, of.words[3])
+    name = origin.of_class if origin else of.words[3]
+    return 'the shape is a %s, and the class `%s` is of %s' % (kind, name, kind_in(of, name))
 
 
 SENTENCES: dict[str, Callable[[Refused], str]] = {

@@ -6,6 +6,7 @@ from dataclasses import dataclass, field
 from typing import BinaryIO, Iterator, NamedTuple, Optional
 
 from .grid import Grid, grid_of
+from .texts import KINDS
 
 MOST_BYTES = 1048576
 LISTINGS = ('errors', 'cells', 'dirty', 'features', 'rules')
@@ -154,11 +155,20 @@ class Ending:
         elif fields[:1] == ['#'] and fields[1:2] in (['subject'], ['neighbour']) and len(fields) == 3:
             self.waiting.update(handle=int(fields[2]), is_subject=fields[1] == 'subject')
 
+    def listed(self, lines: list[str]) -> None:
+        """Takes the features of a listing: where the script began with a saved project, they tell of its classes."""
+        for line in lines:
+            _, handle, name, wkt = line.split(' ', 3)
+            self.classes.setdefault(name, KINDS[wkt.split(' ', 1)[0]])
+            self.origins.setdefault(int(handle), Origin(name))
+
     def done(self, words: list[str], answer: Answer) -> None:
         """Takes a line that was done."""
         last = answer.reply[-1].split()
         if words[0] == 'rules':
             self.rules = rules_of(answer.reply[:-1])
+        if words[0] == 'features':
+            self.listed(answer.reply[:-1])
         if words[0] in LISTINGS:
             self.listings[words[0]] = Listing(answer.reply[:-1], answer.number, self.changes, dict(self.rules))
             return

@@ -1,4 +1,4 @@
-ghost use Rattle.std.specs.Prelude.{◌≡◌, ◌+◌, ◌-◌, ◌≤◌, ◌^◌};
+ghost use Rattle.std.specs.Prelude.{◌≡◌, ◌+◌, ◌-◌, ◌*◌, ◌≤◌, ◌^◌, min};
 ghost use Rattle.grid_index.specs.Cells.{band_of, IsBlock};
 
 use crate::cell::band_of;
@@ -27,7 +27,9 @@ pub(crate) fn block_of(r: &Rect, level: u32) -> Block
 }
 
 /// How many cells the block has; the greatest number where it has more.
-pub(crate) fn count_of(block: &Block) -> u64 {
+pub(crate) fn count_of(block: &Block) -> u64
+    ensures { result ≡ min ((block.now.east - block.now.west) * (block.now.north - block.now.south)) (2 ^ 64 - 1) }
+{
     let columns = block.east.saturating_sub(block.west);
     columns.saturating_mul(block.north.saturating_sub(block.south))
 }

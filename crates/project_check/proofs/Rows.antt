@@ -2,7 +2,8 @@
 use Rattle.std.proofs.Common.{◌≡◌, ◌⊎◌, inl, inr, ℕ, Option, Some, None, refl, ap, arith}
 use Rattle.topology_terms.specs.Meaning.{Meaning}
 use Rattle.topology_terms.specs.Project.{Project, rule_at, empty_project}
-use Rattle.project_check.specs.Checked.{IsEarlier, IsFirstUnsound, IsChecked}
+use Rattle.topology_terms.specs.Unsound.{IsEarlier, IsFirstUnsound}
+use Rattle.project_check.specs.Checked.{IsChecked}
 use Rattle.project_check.specs.declared.check.Unsound.{Unsound}
 
 nothing_is_sound : (M : Meaning) → IsChecked M empty_project None

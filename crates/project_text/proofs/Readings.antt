@@ -9,7 +9,7 @@ use Rattle.wkt_terms.specs.WktFaults.{IsWktFault}
 use Rattle.wkt_terms.specs.declared.wkt_fault.WktFault.{WktFault}
 use Rattle.wkt_terms.specs.declared.wkt_fault.WktFault.TheVariants as text
 use Rattle.wkt_text.proofs.OneFault.{one_fault}
-use Rattle.wkt_text.proofs.Results.{only}
+use Rattle.wkt_text.proofs.Results.{one_shape, no_text_fault}
 use Rattle.project_terms.specs.declared.stage.Stage.TheVariants as stage
 use Rattle.project_terms.specs.Lines.{fields}
 use Rattle.project_terms.specs.Drafts.{Draft, is_open}
@@ -24,18 +24,11 @@ no_memory f h e = let P : WktFault → Type 0 = λ g. IsRefusal g in subst P e h
 no_syntax : (f : WktFault) (at : ℕ) → IsRefusal f → text.Syntax at ≡ f → ⊥
 no_syntax f at h e = let P : WktFault → Type 0 = λ g. IsRefusal g in subst P (sym e) h
 
--- a shape's text has no fault
-pub no_fault : (t : List ℕ) (s : Shape) (f : WktFault) → IsShapeText t s → IsWktFault t f → f ≡ text.NoMemory
-no_fault t s f h w = only t (Err f) w s h
-
-pub one_shape : (t : List ℕ) (s u : Shape) → IsShapeText t s → IsShapeText t u → s ≡ u
-one_shape t s u h k = only t (Ok s) h u k
-
 not_both : (t : List ℕ) → IsUnwritten t → IsRefused t → ⊥
 not_both t (inl long) r = omega (arith, r.0)
 not_both t (inr (inl (at, syntax))) (short, (fault, is, refusal)) =
     no_syntax fault at refusal (one_fault t (text.Syntax at) fault (λ e. cc) (no_memory fault refusal) syntax is)
-not_both t (inr (inr (s, says, other))) (short, (fault, is, refusal)) = no_memory fault refusal (no_fault t s fault says is)
+not_both t (inr (inr (s, says, other))) (short, (fault, is, refusal)) = no_memory fault refusal (no_text_fault t s fault says is)
 
 pub one_reading : (t : List ℕ) (r q : WktReading) → IsReading t r → IsReading t q → r ≡ q
 one_reading t Unwritten Unwritten h k = refl
@@ -75,8 +68,10 @@ one_verdict d l v w (r, h, e) (q, k, f) = e ∙ (by (wkt_of d (fields l)) refl h
 -- ---- what the code finds
 pub written : (t : List ℕ) (s : Shape) (b : Bool) → length t ≤ 1048576 → IsShapeText t s → b ≡ bytes_eq (shape_text s) t → b ≡ true
     → IsReading t (Written s)
-written t s b short says test same =
-    (record { short = short; says = says; written = sym ((bytes_eq-Decides (shape_text s) t).0 (sym test ∙ same)) }, λ u h. one_shape t u s h says)
+written t s b short says test same = (
+  record { short = short; says = says; written = sym ((bytes_eq-Decides (shape_text s) t).0 (sym test ∙ same)) },
+  λ u h. one_shape t u s h says,
+)
 
 pub unwritten : (t : List ℕ) (s : Shape) (b : Bool) → IsShapeText t s → b ≡ bytes_eq (shape_text s) t → b ≡ false → IsReading t Unwritten
 unwritten t s b says test other =
@@ -85,7 +80,7 @@ unwritten t s b says test other =
     (inr (inr (s, says, λ w. differ s refl w)), λ u h. differ u (one_shape t u s h.says says) h.written)
 
 no_written : (t : List ℕ) (f : WktFault) (r : WktReading) → IsWktFault t f → IsFaulty f r → (s : Shape) → IsWritten t s → ⊥
-no_written t f r is h s w = let P : WktFault → Type 0 = λ g. IsFaulty g r in subst P (no_fault t s f w.says is) h
+no_written t f r is h s w = let P : WktFault → Type 0 = λ g. IsFaulty g r in subst P (no_text_fault t s f w.says is) h
 
 pub faulty : (t : List ℕ) (f : WktFault) (r : WktReading) → length t ≤ 1048576 → IsWktFault t f → IsFaulty f r → IsReading t r
 faulty t f r short is h = reading f is h (no_written t f r is h)

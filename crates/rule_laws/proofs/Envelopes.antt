@@ -1,7 +1,6 @@
 -- The vertices of a shape, and the ends of its segments, lie in its envelope.
-use Rattle.std.proofs.Common.{arith, Bool, true, false, List, [], ◌∷◌, ◌++◌}
+use Rattle.std.proofs.Common.{Bool, true, false, List, [], ◌∷◌, ◌++◌}
 use Rattle.std.specs.Prelude.{flat_map, if◌then◌else◌}
-use Rattle.std.proofs.lemmas.Int.{ints}
 use Rattle.plane_terms.specs.Lists.{Every}
 use Rattle.plane_terms.specs.Point.{Place}
 use Rattle.plane_terms.specs.Rectangle.{Rectangle, IsWithin, rect_at, join_of}
@@ -10,17 +9,8 @@ use Rattle.plane_terms.specs.Shape.{Shape, box_from, box_of_places, vertices_of,
 use Rattle.plane_terms.specs.declared.kind.Kind.{Kind}
 use Rattle.plane_terms.specs.declared.kind.Kind.TheVariants as shapes
 use Rattle.cell_laws.proofs.Lists.{all_append}
-use Rattle.sound_laws.proofs.Planes.{within_self}
+use Rattle.sound_laws.proofs.Planes.{within_self, within_trans}
 use Rattle.validation_laws.proofs.Frames.{within_join_left, within_join_right}
-
-pub within_trans : (r s t : Rectangle) → IsWithin r s → IsWithin s t → IsWithin r t
-within_trans r s t i j =
-    record {
-      left = omega (arith, ints, i.left, j.left);
-      right = omega (arith, ints, i.right, j.right);
-      below = omega (arith, ints, i.below, j.below);
-      above = omega (arith, ints, i.above, j.above);
-    }
 
 -- a box only grows
 pub box_grows : (r : Rectangle) (ps : List Place) → IsWithin r (box_from r ps)

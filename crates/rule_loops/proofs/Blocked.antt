@@ -10,7 +10,7 @@ use Rattle.plane_terms.specs.Cell.{Cell}
 use Rattle.plane_terms.proofs.ListLemmas.{every_append, every_map}
 use Rattle.grid_plane.specs.Rectangles.{IsJoin}
 use Rattle.topology_terms.specs.Cells.{box_meets}
-use Rattle.rule_laws.proofs.Envelopes.{within_trans}
+use Rattle.sound_laws.proofs.Planes.{within_trans}
 use Rattle.rule_loops.specs.Blocks.{IsRound}
 use Rattle.rule_loops.proofs.Boxes.{meets_wider}
 

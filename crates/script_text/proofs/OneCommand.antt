@@ -1,15 +1,12 @@
 -- A line has one command, and a line that has one has no fault.
-use Rattle.std.proofs.Common.{ℕ, zero, suc, ◌≡◌, ◌<◌, List, [], ◌∷◌, sym, ◌∙◌, ap, subst, arith, inl, inr, ◌⊎◌, Result, Ok, Err, MatchResult, refl}
+use Rattle.std.proofs.Common.{ℕ, zero, suc, ◌≡◌, List, [], ◌∷◌, sym, ◌∙◌, subst, arith, inl, inr, refl}
 use Rattle.std.proofs.lemmas.Int.{ints}
 use Rattle.plane_terms.specs.Rectangle.{Rectangle, IsRectangle, IsFirstOut, numbers_of}
 use Rattle.plane_terms.specs.Point.{InReach}
 use Rattle.plane_terms.specs.Shape.{Shape}
-use Rattle.wkt_terms.specs.Shapes.{IsShapeText, shape_in}
-use Rattle.wkt_terms.specs.WktFaults.{IsWktFault}
-use Rattle.wkt_terms.specs.declared.wkt_fault.WktFault.{WktFault}
+use Rattle.wkt_terms.specs.Shapes.{IsShapeText}
 use Rattle.wkt_terms.specs.declared.wkt_fault.WktFault.TheVariants as text
-use Rattle.wkt_laws.proofs.Reading.{one_value}
-use Rattle.wkt_text.proofs.Results.{only}
+use Rattle.wkt_text.proofs.Results.{one_shape, no_text_fault}
 use Rattle.line_terms.specs.Commands.{Command, Form, Window, All, Numbers}
 use Rattle.line_terms.specs.Commands as form
 use Rattle.line_terms.specs.Forms.{HasForm, IsLine, pieces, Rest, written}
@@ -23,9 +20,6 @@ use Rattle.script_text.specs.declared.fault.LineFault.{LineFault}
 use Rattle.script_text.specs.declared.fault.LineFault.TheVariants.{Refused, NoMemory}
 
 -- ---- one command
-one_shape : (t : List ℕ) (s u : Shape) → IsShapeText t s → IsShapeText t u → s ≡ u
-one_shape t s u p q = p.shape ∙ (ap shape_in (one_value t p.geometry q.geometry p.spelled q.spelled) ∙ sym q.shape)
-
 one_rectangle : (v : Window) (x y : Rectangle) → IsWindow v x → IsWindow v y → x ≡ y
 one_rectangle All x y p q = p ∙ sym q
 one_rectangle (Numbers r) x y p q = p.0 ∙ sym q.0
@@ -74,9 +68,6 @@ said_there : (line t : List ℕ) (v : Window) (c : Command) → IsLine line (pie
     → HasForm line (said t v c)
 said_there line t v form.Blank p = p
 said_there line t v other p = p
-
-no_text_fault : (t : List ℕ) (s : Shape) (e : WktFault) → IsShapeText t s → IsWktFault t e → e ≡ text.NoMemory
-no_text_fault t s e m f = only t (Err e) f s m
 
 no_text_refusal : (t : List ℕ) (s : Shape) (r : LineRefusal) → IsShapeText t s → IsTextRefusal t r → ⊥
 no_text_refusal t s refusal.NotALine m f = let e = no_text_fault t s (text.Syntax f.0) m f.1 in cc

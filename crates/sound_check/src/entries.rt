@@ -19,7 +19,7 @@ pub fn has_whole(entries: &[Entry], rule: u16, subject: u32) -> bool
     let key = Key {
         rule,
         subject,
-        other: 0,
+        other: None,
     };
     match find_in(entries, key) {
         Some(e) => e.whole(),

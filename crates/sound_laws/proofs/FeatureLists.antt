@@ -1,5 +1,5 @@
 -- Features by handle: the laws of a list that ascends by a key, for `feature_at`.
-use Rattle.std.proofs.Common.{◌≡◌, ◌<◌, ℕ, Bool, true, false, List, ◌∷◌, Some, None, length, get_or}
+use Rattle.std.proofs.Common.{◌≡◌, ◌<◌, ℕ, Bool, true, false, List, [], ◌∷◌, ◌++◌, Some, None, length, get_or, sym}
 use Rattle.std.specs.Prelude.{cond, ◌==◌}
 use Rattle.std.specs.List.{filter}
 use Rattle.std.specs.List.{HoldsAt}
@@ -8,7 +8,7 @@ use Rattle.std.specs.Ordering.{MatchOrdering, ordering_index}
 use Rattle.std.specs.declared.cmp.Ordering.{Ordering}
 use Rattle.std.specs.declared.cmp.Ordering.TheVariants.{Less, Equal, Greater}
 use Rattle.plane_terms.specs.Lists.{Every}
-use Rattle.topology_terms.specs.Feature.{Feature, by_handle, feature_at, IsAscending}
+use Rattle.topology_terms.specs.Feature.{Feature, by_handle, feature_at, IsSetAt, IsAscending}
 use Rattle.sound_laws.proofs.Searches as searches
 use Rattle.sound_laws.proofs.Searches.{order_of}
 use Rattle.sound_laws.proofs.Keyed as keyed
@@ -48,6 +48,14 @@ handle_of F h f e = keyed.key_found by_handle handles F h f e
 pub same_features : (F G : List Feature) → IsAscending F → IsAscending G → ((h : ℕ) → feature_at F h ≡ feature_at G h) → F ≡ G
 unfolding feature_at
 same_features F G u v e = keyed.same_lists by_handle handles F G u v e
+
+-- a feature of a new handle, behind all others, is set there
+pub set_end : (F : List Feature) (f : Feature) → feature_at F f.handle ≡ None → IsSetAt f.handle (Some f) F (F ++ f ∷ [])
+unfolding feature_at
+set_end F f e = record {
+  here = keyed.last_here by_handle handles F f f.handle (handles.own f.handle) e;
+  others = λ k n. keyed.last_other by_handle handles F f k (keyed.differ by_handle handles f.handle k (λ e. n (sym e)));
+}
 
 -- ---- filters
 pub ascending_filter : (test : Feature → Bool) (F : List Feature) → IsAscending F → IsAscending (filter test F)

@@ -13,32 +13,41 @@ fn lot(alloc: Global, x: i16, y: i16) -> Result<Shape, Fail> {
     Ok(square(alloc, 1, 1, x, y)?.shape().try_copy(alloc)?)
 }
 
-// Two squares that overlap, of a class whose polygons must not.
-fn two_lots(alloc: Global) -> Result<Topology<PosterRules>, Fail> {
-    let mut town = Topology::new(alloc, PosterRules);
+// Adds two squares that overlap, of a class whose polygons must not.
+fn add_lots(alloc: Global, town: &mut Topology<PosterRules>) -> Result<(), Fail> {
     town.add_class(Name::of(b"lots").ok_or("no name")?, Kind::Polygon)?;
     town.add_rule(RuleRow {
         kind: RuleKind::PolygonMustNotOverlap,
         origin: 1,
-        dest: 0,
+        dest: None,
     })?;
     town.add(1, lot(alloc, 0, 0)?)?;
     town.add(1, lot(alloc, 5, 5)?)?;
-    Ok(town)
+    Ok(())
+}
+
+// What it owns stands with its caller: a function that owns a topology is proved once more for each of its ends.
+fn move_a_lot(
+    rt: HostRuntime,
+    town: &mut Topology<PosterRules>,
+    work: &mut Work,
+) -> Result<(), Fail> {
+    let alloc = rt.alloc();
+    add_lots(alloc, town)?;
+    town.validate(Rect::whole(), work)?;
+    assert_eq!(rt; (town.errors().len(), work.judged()), (1, 2));
+    town.change(2, lot(alloc, 10, 5)?)?;
+    town.validate(Rect::whole(), work)?;
+    assert_eq!(rt; (town.errors().len(), work.judged()), (0, 4));
+    town.change(2, lot(alloc, 5, 5)?)?;
+    town.validate(Rect::whole(), work)?;
+    assert_eq!(rt; (town.errors().len(), work.judged()), (1, 6));
+    Ok(())
 }
 
 #[test]
 fn a_changed_lot_is_judged_as_it_is(rt: HostRuntime) -> Result<(), Fail> {
-    let alloc = rt.alloc();
-    let mut town = two_lots(alloc)?;
+    let mut town = Topology::new(rt.alloc(), PosterRules);
     let mut work = Work::new();
-    town.validate(Rect::whole(), &mut work)?;
-    assert_eq!(rt; (town.errors().len(), work.judged()), (1, 2));
-    town.change(2, lot(alloc, 10, 5)?)?;
-    town.validate(Rect::whole(), &mut work)?;
-    assert_eq!(rt; (town.errors().len(), work.judged()), (0, 4));
-    town.change(2, lot(alloc, 5, 5)?)?;
-    town.validate(Rect::whole(), &mut work)?;
-    assert_eq!(rt; (town.errors().len(), work.judged()), (1, 6));
-    Ok(())
+    move_a_lot(rt, &mut town, &mut work)
 }

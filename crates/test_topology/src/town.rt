@@ -27,27 +27,35 @@ fn features_come_and_go(rt: HostRuntime) -> Result<(), Fail> {
     Ok(())
 }
 
-#[test]
-fn a_change_a_deletion_and_a_validation(rt: HostRuntime) -> Result<(), Fail> {
-    let alloc = rt.alloc();
-    let mut town = Topology::new(alloc, PosterRules);
+fn change_and_delete(
+    rt: HostRuntime,
+    town: &mut Topology<PosterRules>,
+    work: &mut Work,
+) -> Result<(), Fail> {
     town.add_class(Name::of(b"wells").ok_or("no name")?, Kind::Point)?;
     town.add_rule(RuleRow {
         kind: RuleKind::PointMustBeDisjoint,
         origin: 1,
-        dest: 0,
+        dest: None,
     })?;
     town.add(1, well(5)?)?;
     town.add(1, well(6)?)?;
-    town.validate(Rect::whole(), &mut Work::new())?;
+    town.validate(Rect::whole(), work)?;
     assert_eq!(rt; town.errors().len(), 0);
     town.change(2, well(5)?)?;
     assert!(rt; town.check()?.is_none());
-    town.validate(Rect::whole(), &mut Work::new())?;
+    town.validate(Rect::whole(), work)?;
     assert_eq!(rt; town.errors().len(), 1);
     assert!(rt; town.check()?.is_none());
     town.delete(1)?;
-    let summary = town.validate(Rect::whole(), &mut Work::new())?;
+    let summary = town.validate(Rect::whole(), work)?;
     assert_eq!(rt; (summary.errors, summary.dirty), (0, 0));
     Ok(())
+}
+
+#[test]
+fn a_change_a_deletion_and_a_validation(rt: HostRuntime) -> Result<(), Fail> {
+    let mut town = Topology::new(rt.alloc(), PosterRules);
+    let mut work = Work::new();
+    change_and_delete(rt, &mut town, &mut work)
 }

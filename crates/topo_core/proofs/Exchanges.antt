@@ -7,13 +7,12 @@ use Rattle.plane_terms.specs.Rectangle.{Rectangle}
 use Rattle.plane_terms.specs.Shape.{Shape, envelope_of}
 use Rattle.plane_terms.specs.Dirt.{add_dirt, add_all}
 use Rattle.plane_terms.specs.declared.kind.Kind.{Kind}
-use Rattle.topology_terms.specs.Feature.{Class, Feature, by_handle, feature_at, env, IsSetAt}
+use Rattle.topology_terms.specs.Feature.{Class, Feature, feature_at, env, IsSetAt}
 use Rattle.topology_terms.specs.Changes.{add_envelope, IsFeatureAdded, IsFeatureSet}
 use Rattle.topology_terms.specs.Causes.{Tells, add_cause}
 use Rattle.topology_terms.specs.Entry.{Entry}
 use Rattle.topology_terms.specs.Project.{Project, InForce, empty_project}
-use Rattle.sound_laws.proofs.Keyed.{last_here, last_other, differ}
-use Rattle.sound_laws.proofs.FeatureLists.{handles, handle_of}
+use Rattle.sound_laws.proofs.FeatureLists.{handle_of, set_end}
 use Rattle.feature_store.specs.Stored.{Stored, IsSame}
 use Rattle.feature_store.specs.Keeps.{IsOfClass, IsGiven}
 use Rattle.feature_store.specs.Faults.{store_cause}
@@ -25,13 +24,6 @@ use Rattle.topo_core.specs.Topologies.{IsTopology, project_of}
 use Rattle.topo_core.specs.Faults.{change_fault, edit_cause}
 use Rattle.topo_core.specs.declared.fault.ChangeFault.{ChangeFault}
 use Rattle.topo_core.proofs.Whole.{none_given}
-
-set_end : (F : List Feature) (f : Feature) → feature_at F f.handle ≡ None → IsSetAt f.handle (Some f) F (F ++ f ∷ [])
-unfolding feature_at
-set_end F f e = record {
-  here = last_here by_handle handles F f f.handle (handles.own f.handle) e;
-  others = λ k n. last_other by_handle handles F f k (differ by_handle handles f.handle k (λ e. n (sym e)));
-}
 
 -- what a store keeps as its features change
 pub record ChangesFeatures (next : ℕ) (F : List Feature) (s t : Stored) : Type 0 where

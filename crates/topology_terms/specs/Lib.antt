@@ -9,11 +9,13 @@ pub mod Cells
 pub mod Tests
 pub mod Plans
 pub mod Poster
+pub mod Extents
 pub mod Entry
 pub mod Project
 pub mod Lookups
 pub mod Causes
 pub mod Sound
+pub mod Unsound
 pub mod Changes
 pub mod Settled
 pub mod Scratch

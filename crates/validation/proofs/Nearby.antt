@@ -14,6 +14,7 @@ use Rattle.plane_terms.proofs.ListLemmas.{SomeOf-either, every_append, every_map
 use Rattle.plane_terms.specs.Rectangle.{Rectangle, IsWithin, rects_meet}
 use Rattle.topology_terms.specs.Feature.{Feature, feature_at, env, IsAscending}
 use Rattle.sound_laws.proofs.FeatureLists.{each_live, handle_of}
+use Rattle.sound_laws.proofs.Planes.{within_trans}
 use Rattle.validation_laws.specs.Parts.{live_of}
 use Rattle.validation_laws.specs.Views.{IsView}
 use Rattle.validation_laws.proofs.Handles.{rising}
@@ -82,16 +83,13 @@ near_none ps rs ns e q c m =
     let none = subst (SomeOf (λ (r : Rectangle). rects_meet r q.rect ≡ true)) e m in
     absurd none
 
-within_both : (r j k : Rectangle) → IsWithin r j → IsWithin j k → IsWithin r k
-within_both r j k h l = omega (arith, ints)
-
 pub joined_more : (rs : List Rectangle) (i : ℕ) (r j k : Rectangle) → i < length rs → r ≡ get_or rs i r → IsJoin k j r
     → Every (λ (s : Rectangle). IsWithin s j) (take i rs) → Every (λ (s : Rectangle). IsWithin s k) (take (i + 1) rs)
 joined_more rs i r j k l e join all =
     let more : take (i + 1) rs ≡ take i rs ++ r ∷ [] = take_more rs i r l ∙ ap (λ y. take i rs ++ y ∷ []) (sym e) in
     let P : Rectangle → Type 0 = λ (s : Rectangle). IsWithin s k in
     subst (Every P) (sym more) (every_append P (take i rs) (r ∷ [])
-    (every_map (λ (s : Rectangle). IsWithin s j) P (λ s w. within_both s j k w join.first) (take i rs) all) (join.second, tt))
+    (every_map (λ (s : Rectangle). IsWithin s j) P (λ s w. within_trans s j k w join.first) (take i rs) all) (join.second, tt))
 
 -- ---- a view
 passed_over : (t : Bool) (x : Feature) (xs : List Feature) → t ≡ false → cond t (x ∷ xs) xs ≡ xs

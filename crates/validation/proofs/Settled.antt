@@ -1,6 +1,5 @@
 -- A validation, from its selection, its new entries, its replacement and its cut.
-use Rattle.std.proofs.Common.{◌≡◌, ◌↔◌, ℕ, ◌≤◌, List, refl, subst, arith, Contains, Result, Ok, Err}
-use Rattle.std.specs.Prelude.{OnErr}
+use Rattle.std.proofs.Common.{◌≡◌, ◌↔◌, ℕ, ◌≤◌, List, refl, subst, arith, Contains}
 use Rattle.plane_terms.specs.Lists.{IsThose}
 use Rattle.plane_terms.proofs.ListLemmas.{those_one}
 use Rattle.plane_terms.specs.Rectangle.{Rectangle}
@@ -46,7 +45,3 @@ judged_upto w p rules F selected old done u v chosen l fs those =
 pub le_of_eq : (m n : ℕ) → m ≡ n → m ≤ n
 le_of_eq m n e = omega arith
 
--- what holds is a clause of every refusal
-pub on_err : {A E : Type 0} (r : Result A E) (P : Type 0) → P → OnErr r P
-on_err (Ok x) P p = tt
-on_err (Err e) P p = p

@@ -3,6 +3,7 @@
 -- is_closed ring         the ring's first and last places are the same
 -- rings_in g             all rings, through all polygons
 -- AreClosed g            each ring is closed
+-- IsOpen ring            the ring is not closed
 -- IsFirstOpen rings n    the ring n, counted from 0, is the first that is not closed
 -- kind_in g, parts_in g  the kind and the parts that a geometry says
 -- shape_in g             the shape that these parts make: equal neighbours are kept once, and the last place of a ring, which is its first
@@ -13,10 +14,11 @@
 -- of_polygons parts      the geometry of a polygon: each ring is closed; one part is a POLYGON, more are a MULTIPOLYGON
 -- geometry_in s          the geometry of a shape
 -- shape_text s           its written form
-use Rattle.std.specs.Prelude.{ℕ, zero, suc, ◌≡◌, Bool, true, false, List, [], ◌∷◌, ◌++◌, map, flat_map}
+use Rattle.std.specs.Prelude.{ℕ, ◌≡◌, Bool, true, false, List, [], ◌∷◌, ◌++◌, map, flat_map}
 use Rattle.plane_terms.specs.Lists.{Every}
 use Rattle.plane_terms.specs.Point.{Place, same_place}
 use Rattle.plane_terms.specs.Shape.{Shape, IsShape, rings_of, shape_of, place_of, last_of}
+use Rattle.plane_terms.specs.ShapeFaults.{IsFirstOf}
 use Rattle.plane_terms.specs.declared.kind.Kind.{Kind}
 use Rattle.plane_terms.specs.declared.kind.Kind.TheVariants as kind
 use Rattle.wkt_terms.specs.Grammar.{Geometry, APoint, ALine, Lines, APolygon, Polygons, IsWkt}
@@ -39,10 +41,11 @@ rings_in (Polygons parts) = flat_map (λ part. part) parts
 abbrev pub AreClosed : Geometry → Type 0
 AreClosed g = Every (λ ring. is_closed ring ≡ true) (rings_in g)
 
+abbrev pub IsOpen : List Place → Type 0
+IsOpen ring = is_closed ring ≡ false
+
 abbrev pub IsFirstOpen : List (List Place) → ℕ → Type 0
-IsFirstOpen [] n = ⊥
-IsFirstOpen (ring ∷ rings) zero = is_closed ring ≡ false
-IsFirstOpen (ring ∷ rings) (suc n) = (is_closed ring ≡ true) × IsFirstOpen rings n
+IsFirstOpen rings n = IsFirstOf IsOpen rings n
 
 abbrev pub kind_in : Geometry → Kind
 kind_in (APoint p) = kind.Point

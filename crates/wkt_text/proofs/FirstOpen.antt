@@ -100,7 +100,7 @@ open_from n m (x ∷ xs) e = by_test (is_closed x) refl (open_from (n + 1) m xs)
         → cond b (first_open (n + 1) xs) (Some n) ≡ Some m → OpenAt n m (x ∷ xs)
     by_test true t f e =
         let r = f e in
-        record { at = suc r.at; sum = omega (arith, r.sum); first = (t, r.first) }
+        record { at = suc r.at; sum = omega (arith, r.sum); first = (λ e. cc, r.first) }
     by_test false t f e = record { at = zero; sum = same e; first = t }
 
 pub open_at : (m : ℕ) (rings : List (List Place)) → first_open 0 rings ≡ Some m → IsFirstOpen rings m

@@ -2,14 +2,13 @@
 --
 -- one_first       it stops at one place, for one cause
 -- one_fault       and its fault is one; want of memory aside
-use Rattle.std.proofs.Common.{ℕ, zero, suc, ◌≡◌, ◌+◌, length, true, false, List, [], ◌∷◌, ◌++◌, Result, Ok, Err, refl, sym, ap, ◌∙◌, subst, append_assoc, arith, ◌⊎◌, inl, inr}
+use Rattle.std.proofs.Common.{ℕ, ◌≡◌, ◌+◌, length, List, [], ◌∷◌, ◌++◌, Result, Ok, Err, refl, sym, ap, ◌∙◌, subst, append_assoc, arith, ◌⊎◌, inl, inr}
 use Rattle.text_terms.specs.Fields.{skip_blanks}
-use Rattle.plane_terms.specs.Point.{Place}
 use Rattle.wkt_terms.specs.Faults.{Cause, IsSyntax, IsOffGrid, IsOutOfReach, IsUnsupported, IsBegun, IsFront, StopsAt, Wants, UnsupportedAt, NumeralAt, IsCause, FirstFault}
 use Rattle.wkt_terms.specs.Grammar.{Geometry, IsWkt}
 use Rattle.wkt_terms.specs.Numerals.{Number}
 use Rattle.wkt_terms.specs.Numerals as number
-use Rattle.wkt_terms.specs.Shapes.{is_closed, rings_in, shape_in, IsFirstOpen}
+use Rattle.wkt_terms.specs.Shapes.{rings_in, shape_in, IsOpen}
 use Rattle.wkt_terms.specs.Tokens.{Token, Close, Named, Numeral, End, StartsWith, token_at, behind_token}
 use Rattle.wkt_terms.specs.WktFaults.{IsWktFault}
 use Rattle.wkt_terms.specs.declared.wkt_fault.WktFault.{WktFault}
@@ -19,7 +18,7 @@ use Rattle.wkt_laws.proofs.Causes.{zero_number}
 use Rattle.wkt_laws.proofs.Grammar.{again, run-append, stops}
 use Rattle.wkt_laws.proofs.Reading.{one_value, no_fault}
 use Rattle.wkt_text.specs.Faults.{IsWholeFault}
-use Rattle.wkt_text.proofs.OneShapeFault.{one_shape_fault}
+use Rattle.wkt_text.proofs.OneShapeFault.{first_of, one_shape_fault}
 use Rattle.wkt_text.proofs.Results.{closed_or_open}
 
 -- ---- one place
@@ -129,17 +128,10 @@ one_first text a b c d h k = elim (fronts text h.front k.front h.place.rest k.pl
 ]
 
 -- ---- one fault
-first_open : (rings : List (List Place)) (m n : ℕ) → IsFirstOpen rings m → IsFirstOpen rings n → m ≡ n
-first_open [] m n h k = absurd h
-first_open (ring ∷ rings) zero zero h k = refl
-first_open (ring ∷ rings) zero (suc n) h k = let a : is_closed ring ≡ false = h in let b : is_closed ring ≡ true = k.0 in absurd cc
-first_open (ring ∷ rings) (suc m) zero h k = let a : is_closed ring ≡ true = h.0 in let b : is_closed ring ≡ false = k in absurd cc
-first_open (ring ∷ rings) (suc m) (suc n) h k = ap suc (first_open rings m n h.1 k.1)
-
 one_whole : (g : Geometry) (e f : WktFault) → (e ≡ NoMemory → ⊥) → (f ≡ NoMemory → ⊥) → IsWholeFault g e → IsWholeFault g f → e ≡ f
 one_whole g NoMemory f d c h k = absurd (d refl)
 one_whole g e NoMemory d c h k = absurd (c refl)
-one_whole g (NotClosed m) (NotClosed n) d c h k = ap NotClosed (first_open (rings_in g) m n h k)
+one_whole g (NotClosed m) (NotClosed n) d c h k = ap NotClosed (first_of IsOpen (rings_in g) m n h k)
 one_whole g (NotClosed m) (Invalid f) d c h k = absurd (closed_or_open (rings_in g) m k.0 h)
 one_whole g (Invalid e) (NotClosed n) d c h k = absurd (closed_or_open (rings_in g) n h.0 k)
 one_whole g (Invalid e) (Invalid f) d c h k = ap Invalid (one_shape_fault (shape_in g) e f h.1.1 k.1.1 h.1.0 k.1.0)

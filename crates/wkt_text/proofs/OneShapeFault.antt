@@ -11,7 +11,7 @@ use Rattle.plane_terms.specs.declared.shape_fault.ShapeFault.{ShapeFault}
 use Rattle.plane_terms.specs.declared.shape_fault.ShapeFault.TheVariants.{TooFew, TooMany, Cross, Along, NoMemory}
 use Rattle.cell_laws.proofs.Shares.{means_one}
 
-first_of : {A : Type 0} (P : A → Type 0) (xs : List A) (m n : ℕ) → IsFirstOf P xs m → IsFirstOf P xs n → m ≡ n
+pub first_of : {A : Type 0} (P : A → Type 0) (xs : List A) (m n : ℕ) → IsFirstOf P xs m → IsFirstOf P xs n → m ≡ n
 first_of P [] m n h k = absurd h
 first_of P (x ∷ xs) zero zero h k = refl
 first_of P (x ∷ xs) zero (suc n) h k = absurd (k.0 h)

@@ -2,18 +2,20 @@
 --
 -- found_from     the shape of what a text spells is the text's, and so is its fault
 -- only           a text has one shape at most, and then no fault
-use Rattle.std.proofs.Common.{ℕ, zero, suc, ◌≡◌, true, false, List, [], ◌∷◌, Result, Ok, Err, MatchResult, refl, sym, ap, ◌∙◌, subst}
+use Rattle.std.proofs.Common.{ℕ, ◌≡◌, true, List, Result, Ok, Err, MatchResult, refl, sym, ap, ◌∙◌, subst}
 use Rattle.plane_terms.specs.Lists.{Every}
+use Rattle.plane_terms.proofs.ListLemmas.{every_map}
 use Rattle.plane_terms.specs.Point.{Place}
 use Rattle.plane_terms.specs.Shape.{Shape, IsShape}
 use Rattle.wkt_terms.specs.Faults.{Cause, FirstFault}
 use Rattle.wkt_terms.specs.Grammar.{Geometry, IsWkt}
-use Rattle.wkt_terms.specs.Shapes.{is_closed, AreClosed, IsFirstOpen, rings_in, shape_in, IsShapeText}
+use Rattle.wkt_terms.specs.Shapes.{is_closed, AreClosed, IsOpen, IsFirstOpen, rings_in, shape_in, IsShapeText}
 use Rattle.wkt_laws.proofs.Reading.{no_fault, one_value}
 use Rattle.wkt_terms.specs.WktFaults.{IsWktFault}
 use Rattle.wkt_text.specs.Faults.{IsWholeFault}
 use Rattle.wkt_terms.specs.declared.wkt_fault.WktFault.{WktFault}
 use Rattle.wkt_terms.specs.declared.wkt_fault.WktFault.TheVariants.{Syntax, OffGrid, OutOfReach, Unsupported, NotClosed, Invalid, NoMemory}
+use Rattle.shape.proofs.Shorts.{none_first}
 use Rattle.wkt_text.proofs.Valid.{valid_flawless}
 
 abbrev pub IsMade : Geometry → Result Shape WktFault → Type 0
@@ -38,9 +40,8 @@ found_from text g (Err e) w h = whole text g e w h
 -- ---- one shape at most
 
 pub closed_or_open : (rings : List (List Place)) (n : ℕ) → Every (λ ring. is_closed ring ≡ true) rings → IsFirstOpen rings n → ⊥
-closed_or_open [] n h o = o
-closed_or_open (ring ∷ rings) zero h o = let a : is_closed ring ≡ true = h.0 in let b : is_closed ring ≡ false = o in cc
-closed_or_open (ring ∷ rings) (suc n) h o = closed_or_open rings n h.1 o.1
+closed_or_open rings n closed o =
+    none_first IsOpen rings n (every_map (λ ring. is_closed ring ≡ true) (λ ring. ¬ (IsOpen ring)) (λ ring t e. cc) rings closed) o
 
 no_token_fault : (text : List ℕ) (at : ℕ) (c : Cause) (s : Shape) → IsShapeText text s → FirstFault text at c → ⊥
 no_token_fault text at c s t h = no_fault text t.geometry at h.front h.token t.spelled h.place
@@ -74,3 +75,10 @@ only text (Ok u) f s t =
     let same : f.geometry ≡ t.geometry = one_value text f.geometry t.geometry f.spelled t.spelled in
     f.shape ∙ (ap shape_in same ∙ sym t.shape)
 only text (Err e) f s t = no_fault_of text e s t f
+
+pub one_shape : (t : List ℕ) (s u : Shape) → IsShapeText t s → IsShapeText t u → s ≡ u
+one_shape t s u h k = only t (Ok s) h u k
+
+-- a shape's text has no fault
+pub no_text_fault : (t : List ℕ) (s : Shape) (e : WktFault) → IsShapeText t s → IsWktFault t e → e ≡ NoMemory
+no_text_fault t s e h f = only t (Err e) f s h

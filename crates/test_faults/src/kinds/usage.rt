@@ -30,7 +30,7 @@ pub struct OtherWords;
 
 impl Kind for OtherWords {
     fn name(&self) -> &str {
-        "words that are not replay"
+        "words that are not known"
     }
 
     fn runs(&self, alloc: Global) -> Result<Tally, AllocError> {

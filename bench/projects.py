@@ -1,0 +1,73 @@
+#!/usr/bin/env python3
+"""How long saved projects take: made from a script, opened, saved, checked and reported.
+
+usage: bench/projects.py [--baseline WORDS] [--kinds KIND,..] [--turns N] [--seconds N] [--program WORDS]
+
+  --kinds KIND,..   made: the made town of 60 rows; small, large: the towns of bench/town.py with 10,000 and with 40,000 parcels,
+                    validated; dirty: 10,000 wells that came after a validation. All of them where it is left out
+  the others        as in bench/run.py
+
+The project that the measured program saves is opened by both. A saved text must be equal too, byte for byte.
+"""
+import os
+import sys
+
+from programs import ROOT, add_kinds, added, beyond, measure_saved, measure_words, parser_of, point, print_table
+from run import place_of
+from town import HEAD, Town, founding
+
+sys.path.append(os.path.join(ROOT, 'tools'))
+
+from lib.town import script  # noqa: E402
+
+
+def parcels(rows):
+    """The lines of a town of so many rows of parcels, validated."""
+    return HEAD + founding(Town(rows)) + ['validate all']
+
+
+def late_wells(count):
+    """The lines of so many wells, each of which is a dirty place of its own."""
+    founding = ['class wells point', 'rule point_must_be_disjoint wells', 'begin ann', 'validate all']
+    return founding + added('wells', map(place_of, range(count)), point)
+
+
+PROJECTS = {
+    'made': ('town 7 60', lambda: script(7, 60).splitlines()),
+    'small': ('10,000 parcels', lambda: parcels(100)),
+    'large': ('40,000 parcels', lambda: parcels(200)),
+    'dirty': ('10,000 dirty places', lambda: late_wells(10000)),
+}
+
+
+def print_rows(table, folder, kind, programs, given):
+    """The rows of the table on the projects of this kind."""
+    name, lines_of = PROJECTS[kind]
+    made = measure_saved(folder, 'made', lines_of(), ['replay', '-'], programs, given)
+    project = made[0].target
+    opened = measure_words(folder, ['replay', project], programs, given)
+    saved = measure_saved(folder, 'saved', [], ['replay', project], programs, given)
+    checked, reported = [measure_words(folder, [word, project], programs, given) for word in ('check', 'report')]
+    table.row(name + ', made from its script and saved: time', 'ms', [made], lambda i: made[i].seconds * 1e3)
+    table.row(name + ', opened: time', 'ms', [opened], lambda i: opened[i].seconds * 1e3)
+    table.row(name + ', opened: memory', 'MiB', [opened], lambda i: opened[i].kilobytes / 1024)
+    for runs, what in ((saved, 'saved'), (checked, 'checked')):
+        table.row('%s, %s: time' % (name, what), 'ms', [opened, runs], beyond(runs, opened, 1e3))
+        table.row('%s, %s: memory' % (name, what), 'MiB', [runs], lambda i: runs[i].kilobytes / 1024)
+    table.row(name + ', opened and reported: time', 'ms', [reported], lambda i: reported[i].seconds * 1e3)
+
+
+def main():
+    parser = parser_of(__doc__)
+    add_kinds(parser, list(PROJECTS))
+    given = parser.parse_args()
+
+    def print_projects(table, folder, programs):
+        for kind in given.kinds:
+            print_rows(table, folder, kind, programs, given)
+
+    return print_table('project', given, print_projects)
+
+
+if __name__ == '__main__':
+    sys.exit(main())
