@@ -11,6 +11,7 @@ use grid_plane::{Name, NoMemory};
 use reply_text::{Refusal, Reply};
 use rule_core::RuleRow;
 use rule_words::{Kind, RuleKind};
+use std::num::NonZeroU16;
 use topology_terms::Cause;
 
 impl World {
@@ -30,8 +31,8 @@ impl World {
         let store = self.topology.store();
         let origin = store.class_by_name(origin)?;
         let dest = match dest {
-            Some(name) => store.class_by_name(name)?,
-            None => 0,
+            Some(name) => NonZeroU16::new(store.class_by_name(name)?),
+            None => None,
         };
         Some(RuleRow { kind, origin, dest })
     }

@@ -11,8 +11,7 @@ use Rattle.topology_terms.specs.Entry.{Entry, by_key, entry_at, IsAscending}
 use Rattle.sound_laws.proofs.Searches as searches
 use Rattle.sound_laws.proofs.Searches.{order_of}
 use Rattle.sound_laws.proofs.Lists.{keys}
-use Rattle.error_store.specs.Keys.{key_of, IsBefore}
-use Rattle.error_store.specs.declared.key.Key.{Key}
+use Rattle.error_store.specs.Keys.{Key, key_of, IsBefore}
 
 abbrev parts : Key → terms.Key
 parts k = (k.rule, k.subject, k.other)

@@ -1,10 +1,15 @@
 -- Keys of errors.
 --
+-- Key                  a rule, a subject and a partner, or 0 where there is none
 -- key_of e             the key of an entry
 -- IsBefore j k         j stands before k
-use Rattle.std.specs.Prelude.{◌≡◌, ◌⊎◌, ◌<◌}
+use Rattle.std.specs.Prelude.{◌≡◌, ◌⊎◌, ℕ, ◌<◌}
 use Rattle.topology_terms.specs.Entry.{Entry}
-use Rattle.error_store.specs.declared.key.Key.{Key}
+
+pub record Key : Type 0 where
+  pub rule : ℕ
+  pub subject : ℕ
+  pub other : ℕ
 
 abbrev pub key_of : Entry → Key
 key_of e = record { rule = e.rule; subject = e.subject; other = e.other }

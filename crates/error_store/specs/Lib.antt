@@ -1,3 +1,4 @@
 pub mod Keys
+pub mod Partners
 pub mod Merging
 pub mod Marking

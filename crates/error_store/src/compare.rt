@@ -21,10 +21,10 @@ pub fn compare(j: Key, k: Key) -> Ordering
     if k.subject < j.subject {
         return Ordering::Greater;
     }
-    if j.other < k.other {
+    if j.partner_number() < k.partner_number() {
         return Ordering::Less;
     }
-    if k.other < j.other {
+    if k.partner_number() < j.partner_number() {
         return Ordering::Greater;
     }
     Ordering::Equal

@@ -1,5 +1,6 @@
 ghost use Rattle.std.specs.Prelude.{◌≡◌, ◌↔◌, [], ◌∷◌, ◌++◌, IsTrue, Some, IfOk, OnOk, OnErr};
 ghost use Rattle.topology_terms.specs.Changes.{IsUnchanged};
+ghost use Rattle.topology_terms.specs.Extents.{is_whole};
 ghost use Rattle.topology_terms.specs.Entry as terms;
 ghost use Rattle.validation_laws.specs.Replaced.{IsRemarked};
 ghost use Rattle.error_store.specs.Keys.{key_of};
@@ -9,23 +10,25 @@ use convex_cell::{Cell, Cells};
 use grid_plane::{NoMemory, Rect};
 use std::alloc::Global;
 use std::marker::Model;
+use topology_terms::Extent;
 
 /// An error of a rule. Error features and exceptions of a geodatabase topology (Esri).
 #[derive(Drop)]
 pub struct Entry {
     key: Key,
-    whole: bool,
+    extent: Extent,
     marked: bool,
     frame: Rect,
     cells: Cells,
 }
 
 impl Model for Entry {
+    ghost use Rattle.topology_terms.specs.Extents.{is_whole};
     ghost use Rattle.topology_terms.specs.Entry as terms;
 
     ghost Value = { terms.Entry };
 
-    ghost view = { λ e. record { rule = e.key.rule; subject = e.key.subject; other = e.key.other; whole = e.whole; marked = e.marked; frame = e.frame; cells = e.cells } };
+    ghost view = { λ e. record { rule = e.key.rule; subject = e.key.subject; other = e.key.other; whole = is_whole e.extent; marked = e.marked; frame = e.frame; cells = e.cells } };
 }
 
 fn is_same_rect(a: &Rect, b: &Rect) -> bool
@@ -36,12 +39,12 @@ fn is_same_rect(a: &Rect, b: &Rect) -> bool
 
 impl Entry {
     /// The error of this key, of the whole subject or of the cells, with its mark and its frame.
-    pub fn new(key: Key, whole: bool, marked: bool, frame: Rect, cells: Cells) -> Entry
-        ensures { result ≡ record { rule = key.rule; subject = key.subject; other = key.other; whole = whole; marked = marked; frame = frame; cells = cells } }
+    pub fn new(key: Key, extent: Extent, marked: bool, frame: Rect, cells: Cells) -> Entry
+        ensures { result ≡ record { rule = key.rule; subject = key.subject; other = key.other; whole = is_whole extent; marked = marked; frame = frame; cells = cells } }
     {
         Entry {
             key,
-            whole,
+            extent,
             marked,
             frame,
             cells,
@@ -55,11 +58,21 @@ impl Entry {
         self.key
     }
 
+    /// Whether the whole subject breaks the rule, or it is broken in cells.
+    pub fn extent(&self) -> Extent
+        ensures { is_whole result ≡ self.now.whole }
+    {
+        self.extent
+    }
+
     /// Whether the whole subject breaks the rule; there are no cells then.
     pub fn whole(&self) -> bool
         ensures { result ≡ self.now.whole }
     {
-        self.whole
+        match self.extent {
+            Extent::Whole => true,
+            Extent::Cells => false,
+        }
     }
 
     /// Whether it is an exception.
@@ -94,7 +107,7 @@ impl Entry {
     fn is_unchanged(&self, other: &Entry) -> bool
         ensures { IsTrue result ↔ IsUnchanged self.now other.now }
     {
-        self.whole == other.whole
+        self.whole() == other.whole()
             && is_same_rect(&self.frame, &other.frame)
             && self.cells.same(&other.cells)
     }
@@ -128,7 +141,7 @@ impl Entry {
     {
         Ok(Entry {
             key: self.key,
-            whole: self.whole,
+            extent: self.extent,
             marked: self.marked,
             frame: self.frame,
             cells: self.cells.try_copy(alloc)?,

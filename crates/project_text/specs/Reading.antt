@@ -20,6 +20,7 @@ use Rattle.std.specs.List.{list_all}
 use Rattle.plane_terms.specs.Rectangle.{Rectangle, rect_of as rectangle}
 use Rattle.plane_terms.specs.HalfPlane.{HalfPlane}
 use Rattle.plane_terms.specs.Cell.{Cell}
+use Rattle.topology_terms.specs.Extents.{is_whole}
 use Rattle.topology_terms.specs.Project.{InForce, rule_at}
 use Rattle.wkt_terms.specs.declared.wkt_fault.WktFault.{WktFault}
 use Rattle.wkt_terms.specs.declared.wkt_fault.WktFault.TheVariants as text
@@ -68,7 +69,7 @@ abbrev pub feature_said : code_feature.FeatureForm → FeatureForm
 feature_said f = record { handle = f.handle; class = f.class; wkt = f.wkt.now }
 
 abbrev pub error_said : code_error.ErrorForm → ErrorForm
-error_said e = record { rule = e.rule; subject = e.subject; other = e.other; whole = e.whole; frame = rect_said e.frame }
+error_said e = record { rule = e.rule; subject = e.subject; other = e.other; whole = is_whole e.extent; frame = rect_said e.frame }
 
 abbrev pub IsNoHalf : List (List ℕ) → Type 0
 IsNoHalf fs = (hs : List HalfPlane) → halves_behind hs true fs ≡ None

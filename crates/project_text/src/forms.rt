@@ -1,4 +1,6 @@
 ghost use Rattle.std.specs.Prelude.{◌≡◌, ◌<◌, length, MatchOption};
+ghost use Rattle.std.specs.Option.{option_map};
+ghost use Rattle.topology_terms.specs.Extents.{is_whole};
 ghost use Rattle.project_terms.specs.Verdicts.{is_one, number_of, kind_of_word, class_of, second_of, rule_of, feature_of, rect_of, extent_of, error_of, op_of};
 ghost use Rattle.project_text.specs.Reading.{left, rule_said, feature_said, rect_said, error_said, IsNoHalf, IsHalfForm};
 
@@ -7,6 +9,7 @@ use crate::numbers::read_number;
 use grid_plane::{Name, Op};
 use rule_words::RuleKind;
 use shape::Kind;
+use topology_terms::Extent;
 
 /// Four numbers, as a line spells them.
 #[derive(Clone, Copy)]
@@ -40,7 +43,7 @@ pub struct ErrorForm {
     pub rule: i64,
     pub subject: i64,
     pub other: i64,
-    pub whole: bool,
+    pub extent: Extent,
     pub frame: RectForm,
 }
 
@@ -152,14 +155,14 @@ pub fn rect_form(rest: &[u8]) -> Option<RectForm>
     })
 }
 
-fn extent_of(word: &[u8]) -> Option<bool>
-    ensures { result ≡ extent_of word.now }
+fn extent_of(word: &[u8]) -> Option<Extent>
+    ensures { option_map is_whole result ≡ extent_of word.now }
 {
     if is_word(word, b"cells") {
-        return Some(false);
+        return Some(Extent::Cells);
     }
     if is_word(word, b"whole") {
-        return Some(true);
+        return Some(Extent::Whole);
     }
     None
 }
@@ -176,7 +179,7 @@ pub fn error_form(rest: &[u8]) -> Option<ErrorForm>
         rule: read_number(rule)?,
         subject: read_number(subject)?,
         other: read_number(other)?,
-        whole: extent_of(extent)?,
+        extent: extent_of(extent)?,
         frame: rect_form(rest)?,
     })
 }

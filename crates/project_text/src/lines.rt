@@ -1,5 +1,6 @@
 ghost use Rattle.std.specs.Prelude.{◌≡◌, ◌++◌, Some, OnOk};
 ghost use Rattle.line_terms.specs.Forms.{kind_word};
+ghost use Rattle.topology_terms.specs.Extents.{is_whole};
 ghost use Rattle.topology_terms.specs.Lookups.{class_at};
 ghost use Rattle.project_terms.specs.Written.{mark_word, extent_word};
 ghost use Rattle.project_text.specs.Pushed.{rect_text, name_text, sign_text, half_text, halves_text, class_text, rule_text, feature_text, dirty_text, key_text, error_text, cell_text};
@@ -11,6 +12,7 @@ use feature_store::Store;
 use grid_plane::{Half, NoMemory, Op, Rect};
 use rule_core::InForce;
 use shape::{Feature, Kind};
+use topology_terms::Extent;
 use wkt_text::write_wkt;
 
 fn kind_bytes(kind: Kind) -> &'static [u8]
@@ -42,10 +44,13 @@ fn mark_bytes(marked: bool) -> &'static [u8]
     if marked { b"exception" } else { b"error" }
 }
 
-fn extent_bytes(whole: bool) -> &'static [u8]
-    ensures { result.now ≡ extent_word whole }
+fn extent_bytes(extent: Extent) -> &'static [u8]
+    ensures { result.now ≡ extent_word (is_whole extent) }
 {
-    if whole { b"whole" } else { b"cells" }
+    match extent {
+        Extent::Whole => b"whole",
+        Extent::Cells => b"cells",
+    }
 }
 
 fn push_rect(out: &mut Vec<u8>, r: &Rect) -> Result<(), NoMemory>
@@ -94,7 +99,7 @@ pub fn push_rule_line(out: &mut Vec<u8>, store: &Store, rule: &InForce) -> Resul
     push_number(out, rule.number)?;
     push_field(out, rule.row.kind.word().as_bytes())?;
     push_class_name(out, store, rule.row.origin)?;
-    push_class_name(out, store, rule.row.dest)?;
+    push_class_name(out, store, rule.row.dest_number())?;
     push_end(out)
 }
 
@@ -130,7 +135,7 @@ fn push_key(out: &mut Vec<u8>, entry: &Entry) -> Result<(), NoMemory>
     let key = entry.key();
     push_number(out, key.rule)?;
     push_number(out, key.subject)?;
-    push_number(out, key.other)
+    push_number(out, key.partner_number())
 }
 
 /// Appends the line of an error, without those of its cells.
@@ -139,7 +144,7 @@ pub fn push_error_line(out: &mut Vec<u8>, entry: &Entry) -> Result<(), NoMemory>
 {
     push_text(out, mark_bytes(entry.marked()))?;
     push_key(out, entry)?;
-    push_field(out, extent_bytes(entry.whole()))?;
+    push_field(out, extent_bytes(entry.extent()))?;
     push_rect(out, &entry.frame())?;
     push_end(out)
 }

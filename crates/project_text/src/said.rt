@@ -2,6 +2,9 @@ ghost use Rattle.std.specs.Prelude.{◌≡◌, ◌≤◌, ◌<◌, ◌-◌, ◌=
 ghost use Rattle.std.specs.List.{list_any};
 ghost use Rattle.rule_words.specs.Table.{dest_of};
 ghost use Rattle.topology_terms.specs.Causes.{fits_dest, is_fit, is_kind, is_row, is_there};
+ghost use Rattle.std.specs.Option.{option_map, option_map_or};
+ghost use Rattle.std.specs.NonZero.{non_zero_u16_get};
+ghost use Rattle.topology_terms.specs.Extents.{is_whole};
 ghost use Rattle.topology_terms.specs.Feature as feature_terms;
 ghost use Rattle.topology_terms.specs.Feature.{IsAscending};
 ghost use Rattle.topology_terms.specs.Lookups.{kind_of_class};
@@ -24,11 +27,13 @@ use project_terms::{ProjectCause, Stage};
 use rule_core::{InForce, RuleRow};
 use shape::{Feature, Kind, Shape};
 use std::alloc::Global;
+use std::num::NonZeroU16;
+use topology_terms::Extent;
 
 fn is_row(a: &RuleRow, b: &RuleRow) -> bool
     ensures { result ≡ is_row a.now b.now }
 {
-    a.kind == b.kind && a.origin == b.origin && a.dest == b.dest
+    a.kind == b.kind && a.origin == b.origin && a.dest_number() == b.dest_number()
 }
 
 fn is_there(rules: &[InForce], row: &RuleRow) -> bool
@@ -51,12 +56,16 @@ fn has_rule(rules: &[InForce], number: u16) -> bool
 }
 
 // Whether the second class serves the rule; or, where the rule takes none, whether none is given.
+#[tactic(auto, using(rule_core::proofs::Seconds::none_at_0))]
 fn does_dest_fit(store: &Store, row: &RuleRow) -> bool
     ensures { result ≡ fits_dest store.now.classes row.now (dest_of row.now.kind) }
 {
     match row.kind.dest() {
-        None => row.dest == 0,
-        Some(kind) => store.class_kind(row.dest) == Some(kind) && row.dest != row.origin,
+        None => row.dest.is_none(),
+        Some(kind) => {
+            let number = row.dest_number();
+            store.class_kind(number) == Some(kind) && number != row.origin
+        }
     }
 }
 
@@ -80,13 +89,13 @@ fn features_law(store: &Store)
     let _ = store.features();
 }
 
-// The number of the second class of a rule, or 0 where it names none.
-fn dest_in(store: &Store, name: &Option<Name>) -> Option<u16>
-    ensures { result ≡ dest_in store.now.classes name.now }
+// The number of the second class of a rule, or none where it names none; nothing where it names a class that is not there.
+fn dest_in(store: &Store, name: &Option<Name>) -> Option<Option<NonZeroU16>>
+    ensures { option_map (λ d. option_map_or non_zero_u16_get d 0) result ≡ dest_in store.now.classes name.now }
 {
     match name {
-        None => Some(0),
-        Some(name) => store.class_by_name(name),
+        None => Some(None),
+        Some(name) => Some(NonZeroU16::new(store.class_by_name(name)?)),
     }
 }
 
@@ -129,7 +138,7 @@ fn is_before(a: &Key, b: &Key) -> bool
 {
     a.rule < b.rule
         || (a.rule == b.rule
-            && (a.subject < b.subject || (a.subject == b.subject && a.other < b.other)))
+            && (a.subject < b.subject || (a.subject == b.subject && a.partner_number() < b.partner_number())))
 }
 
 // Whether the key stands behind that of the last error.
@@ -288,14 +297,13 @@ impl Draft {
 
     // The frame of an error, where its handles, its frame and its partner are within their limits.
     fn frame_of(&self, form: &ErrorForm, other: u32) -> Option<Rect>
-        ensures { MatchOption result ((not (is_rectangle (rect_said form.now.frame)) || (form.now.whole && not (other == 0))) ≡ true)
-            (λ r. (r ≡ rect_said form.now.frame) × ((not (is_rectangle (rect_said form.now.frame)) || (form.now.whole && not (other == 0))) ≡ false)) }
+        ensures { MatchOption result ((not (is_rectangle (rect_said form.now.frame)) || (is_whole form.now.extent && not (other == 0))) ≡ true)
+            (λ r. (r ≡ rect_said form.now.frame) × ((not (is_rectangle (rect_said form.now.frame)) || (is_whole form.now.extent && not (other == 0))) ≡ false)) }
     {
         let frame = rect_of(&form.frame)?;
-        if form.whole && other != 0 {
-            None
-        } else {
-            Some(frame)
+        match form.extent {
+            Extent::Whole if other != 0 => None,
+            _ => Some(frame),
         }
     }
 
@@ -334,12 +342,8 @@ impl Draft {
         let Some(rule) = self.rule_in_force(form.rule) else {
             return Err(LineFault::Wrong(ProjectCause::Unknown));
         };
-        let key = Key {
-            rule,
-            subject,
-            other,
-        };
-        self.put_error(Entry::new(key, form.whole, marked, frame, Cells::new(alloc)))
+        let key = Key::of_numbers(rule, subject, other);
+        self.put_error(Entry::new(key, form.extent, marked, frame, Cells::new(alloc)))
     }
 
     /// A cell more of the last error.

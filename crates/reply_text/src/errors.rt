@@ -1,10 +1,12 @@
 ghost use Rattle.std.specs.Prelude.{◌≡◌, ◌++◌, flat_map, length};
+ghost use Rattle.topology_terms.specs.Extents.{is_whole};
 ghost use Rattle.script_terms.specs.Reply.{mark_text, key_text, extent_text, entry_line, total_line};
 ghost use Rattle.wkt_text.specs.Appended.{Appends};
 
 use crate::numbers::{push_number, push_rect, push_text, push_total};
 use error_store::{Entry, Errors};
 use grid_plane::NoMemory;
+use topology_terms::Extent;
 
 fn mark_word(marked: bool) -> &'static [u8]
     ensures { result.now ≡ mark_text marked }
@@ -12,10 +14,13 @@ fn mark_word(marked: bool) -> &'static [u8]
     if marked { b"exception " } else { b"error " }
 }
 
-fn extent_word(whole: bool) -> &'static [u8]
-    ensures { result.now ≡ extent_text whole }
+fn extent_word(extent: Extent) -> &'static [u8]
+    ensures { result.now ≡ extent_text (is_whole extent) }
 {
-    if whole { b" whole " } else { b" cells " }
+    match extent {
+        Extent::Whole => b" whole ",
+        Extent::Cells => b" cells ",
+    }
 }
 
 // Rule, subject and partner.
@@ -27,7 +32,7 @@ fn push_key(out: &mut Vec<u8>, entry: &Entry) -> Result<(), NoMemory>
     push_text(out, b" ")?;
     push_number(out, key.subject)?;
     push_text(out, b" ")?;
-    push_number(out, key.other)?;
+    push_number(out, key.partner_number())?;
     Ok(())
 }
 
@@ -37,7 +42,7 @@ pub fn push_entry_line(out: &mut Vec<u8>, entry: &Entry) -> Result<(), NoMemory>
 {
     push_text(out, mark_word(entry.marked()))?;
     push_key(out, entry)?;
-    push_text(out, extent_word(entry.whole()))?;
+    push_text(out, extent_word(entry.extent()))?;
     push_rect(out, &entry.frame())?;
     push_text(out, b"\n")?;
     Ok(())

@@ -1,4 +1,6 @@
 ghost use Rattle.std.specs.Prelude.{◌++◌, flat_map, length};
+ghost use Rattle.std.specs.Option.{option_map_or};
+ghost use Rattle.std.specs.NonZero.{non_zero_u16_get};
 ghost use Rattle.script_terms.specs.Reply.{dest_text, row_text, rule_line, total_line};
 ghost use Rattle.wkt_text.specs.Appended.{Appends};
 
@@ -7,16 +9,21 @@ use crate::numbers::{push_number, push_text, push_total};
 use feature_store::Store;
 use grid_plane::NoMemory;
 use rule_core::{InForce, RuleRow};
+use std::num::NonZeroU16;
 
 // The name of the class that is second in a rule, behind a blank; nothing where the rule has none.
-fn push_dest(out: &mut Vec<u8>, store: &Store, dest: u16) -> Result<(), NoMemory>
-    ensures { Appends result out.old.items out.new.items (dest_text store.now.classes dest) }
+fn push_dest(
+    out: &mut Vec<u8>,
+    store: &Store,
+    dest: Option<NonZeroU16>,
+) -> Result<(), NoMemory>
+    ensures { Appends result out.old.items out.new.items (dest_text store.now.classes (option_map_or non_zero_u16_get dest 0)) }
 {
-    if dest == 0 {
+    let Some(dest) = dest else {
         return Ok(());
-    }
+    };
     push_text(out, b" ")?;
-    push_class_name(out, store, dest)?;
+    push_class_name(out, store, dest.get())?;
     Ok(())
 }
 

@@ -1,4 +1,5 @@
 ghost use Rattle.std.specs.Prelude.{◌≡◌, ◌++◌, ◌∷◌, [], OnOk};
+ghost use Rattle.topology_terms.specs.Extents.{is_whole};
 ghost use Rattle.script_terms.specs.Report.{rule_word, extent_word, mark_word, report_fields};
 ghost use Rattle.csv.specs.Records.{fields_of, partial_of};
 ghost use Rattle.report_text.specs.Tables.{key_fields, frame_fields};
@@ -8,6 +9,7 @@ use error_store::Entry;
 use grid_plane::{NoMemory, Rect};
 use itoa::{Buffer, Integer};
 use rule_core::InForce;
+use topology_terms::Extent;
 
 fn push_field(row: &mut ByteRecord, field: &[u8]) -> Result<(), NoMemory>
     requires { partial_of row.old ≡ [] }
@@ -40,10 +42,13 @@ fn word_of_rule(rules: &[InForce], number: u16) -> &'static str
     ""
 }
 
-fn extent_of(whole: bool) -> &'static [u8]
-    ensures { result.now ≡ extent_word whole }
+fn extent_of(extent: Extent) -> &'static [u8]
+    ensures { result.now ≡ extent_word (is_whole extent) }
 {
-    if whole { b"whole" } else { b"cells" }
+    match extent {
+        Extent::Whole => b"whole",
+        Extent::Cells => b"cells",
+    }
 }
 
 fn mark_of(marked: bool) -> &'static [u8]
@@ -62,7 +67,7 @@ fn push_key(row: &mut ByteRecord, rules: &[InForce], entry: &Entry) -> Result<()
     push_number(row, key.rule)?;
     push_field(row, word_of_rule(rules, key.rule).as_bytes())?;
     push_number(row, key.subject)?;
-    push_number(row, key.other)
+    push_number(row, key.partner_number())
 }
 
 // Least corner, then greatest corner, in grid units.
@@ -83,7 +88,7 @@ pub fn set_entry(row: &mut ByteRecord, rules: &[InForce], entry: &Entry) -> Resu
 {
     row.clear();
     push_key(row, rules, entry)?;
-    push_field(row, extent_of(entry.whole()))?;
+    push_field(row, extent_of(entry.extent()))?;
     push_field(row, mark_of(entry.marked()))?;
     push_frame(row, &entry.frame())
 }

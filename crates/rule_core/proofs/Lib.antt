@@ -1,4 +1,5 @@
 mod Lookups
 pub mod Partners
 mod Puts
+pub mod Seconds
 mod Totals

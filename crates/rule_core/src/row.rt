@@ -4,32 +4,48 @@ ghost use Rattle.topology_terms.specs.Broken.{judged};
 
 use rule_words::RuleKind;
 use std::marker::Model;
+use std::num::NonZeroU16;
 
 /// What a rule in force speaks of: its kind, the number of the class of its subjects, and the number of its second class,
-/// or 0 where it has none.
+/// where it takes one. Classes are numbered from 1.
 #[derive(Clone, Copy)]
 pub struct RuleRow {
     pub kind: RuleKind,
     pub origin: u16,
-    pub dest: u16,
+    pub dest: Option<NonZeroU16>,
 }
 
 impl Model for RuleRow {
+    ghost use Rattle.std.specs.Option.{option_map_or};
+    ghost use Rattle.std.specs.NonZero.{non_zero_u16_get};
     ghost use Rattle.topology_terms.specs.Broken.{Row};
+    ghost use Rattle.rule_core.specs.Seconds.{given, given_back};
 
     ghost Value = { Row };
 
-    ghost view = { λ r. record { kind = r.kind; origin = record { class = r.origin }; dest = record { class = r.dest } } };
+    ghost view = { λ r. record { kind = r.kind; origin = record { class = r.origin }; dest = record { class = option_map_or non_zero_u16_get r.dest 0 } } };
 
-    ghost inverse = { λ v. record { kind = v.kind; origin = v.origin.class; dest = v.dest.class } };
+    ghost inverse = { λ v. record { kind = v.kind; origin = v.origin.class; dest = given v.dest.class } };
+
+    ghost inverse_ok = { λ r _ i. record { kind = r.kind; origin = r.origin; dest = given_back r.dest i } };
 }
 
 impl RuleRow {
+    /// The number of the second class; 0, which no class has, where the rule takes none.
+    pub fn dest_number(&self) -> u16
+        ensures { result ≡ self.now.dest.class }
+    {
+        match self.dest {
+            Some(number) => number.get(),
+            None => 0,
+        }
+    }
+
     /// Whether the features of this class are subjects of the rule.
     pub fn judges(&self, class: u16) -> bool
         ensures { (f : terms.Feature) → f.class ≡ class → result ≡ judged self.now f }
     {
-        class == self.origin || (self.kind.judges_either() && class == self.dest)
+        class == self.origin || (self.kind.judges_either() && class == self.dest_number())
     }
 }
 

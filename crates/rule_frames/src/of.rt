@@ -7,22 +7,25 @@ use grid_plane::NoMemory;
 use rule_core::{Findings, Rule, RuleRow, View, Work};
 use std::alloc::Global;
 use std::marker::{Model, PhantomData};
+use std::num::NonZeroU16;
 
 /// A rule of a kind, for the classes of its row.
 #[derive(Drop)]
 pub struct Of<K: Kinded> {
     origin: u16,
-    dest: u16,
+    dest: Option<NonZeroU16>,
     rule: PhantomData<K>,
 }
 
 impl<K: Kinded> Model for Of<K> {
+    ghost use Rattle.std.specs.Option.{option_map_or};
+    ghost use Rattle.std.specs.NonZero.{non_zero_u16_get};
     ghost use Rattle.topology_terms.specs.Broken.{Row};
     ghost use Rattle.rule_frames.specs.Seen.{row_of};
 
     ghost Value = { Row };
 
-    ghost view = { λ r. row_of K.kind r.origin r.dest };
+    ghost view = { λ r. row_of K.kind r.origin (option_map_or non_zero_u16_get r.dest 0) };
 }
 
 impl<K: Kinded> Of<K> {
@@ -59,10 +62,11 @@ impl<K: Kinded> Rule for Of<K> {
         subject: u32,
         work: &mut Work,
     ) -> Result<Findings, NoMemory> {
+        let dest = self.row().dest_number();
         K::cut(
             alloc,
             self.origin,
-            self.dest,
+            dest,
             view.subject(subject),
             view,
             work,

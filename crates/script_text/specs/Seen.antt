@@ -1,9 +1,17 @@
 -- What the code's commands stand for.
 --
+-- number_of o      the number that stands in the line for a partner, or for none
 -- command_of c     the command that the code's value is
+use Rattle.std.specs.Prelude.{ℕ, Option}
+use Rattle.std.specs.Option.{option_map_or}
+use Rattle.std.specs.NonZero.{non_zero_u32_get}
+use Rattle.std.specs.declared.num.NonZeroU32.{NonZeroU32}
 use Rattle.line_terms.specs.Commands as commands
 use Rattle.script_text.specs.declared.command.Command.{Command}
 use Rattle.script_text.specs.declared.command.Command.TheVariants as command
+
+abbrev pub number_of : Option NonZeroU32 → ℕ
+number_of o = option_map_or non_zero_u32_get o 0
 
 abbrev pub command_of : Command → commands.Command
 command_of command.Blank = commands.Blank
@@ -19,8 +27,8 @@ command_of (command.Delete editor handle) = commands.Delete editor handle
 command_of (command.Undo editor) = commands.Undo editor
 command_of (command.Redo editor) = commands.Redo editor
 command_of (command.Validate window) = commands.Validate window
-command_of (command.Mark rule subject other) = commands.Mark rule subject other
-command_of (command.Unmark rule subject other) = commands.Unmark rule subject other
+command_of (command.Mark rule subject other) = commands.Mark rule subject (number_of other)
+command_of (command.Unmark rule subject other) = commands.Unmark rule subject (number_of other)
 command_of command.Dirty = commands.Dirty
 command_of command.Errors = commands.Errors
 command_of command.Cells = commands.Cells

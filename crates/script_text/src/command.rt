@@ -1,6 +1,7 @@
 use grid_plane::{Name, Rect};
 use rule_words::{Kind, RuleKind};
 use shape::Shape;
+use std::num::NonZeroU32;
 
 /// What a line asks for: one variant a command, with the values of the line's fields in their order.
 #[derive(Drop)]
@@ -31,10 +32,10 @@ pub enum Command {
     Redo(Name),
     /// `validate X0 Y0 X1 Y1`, or `validate all`, which is the whole grid.
     Validate(Rect),
-    /// `mark R H H2`
-    Mark(u16, u32, u32),
-    /// `unmark R H H2`
-    Unmark(u16, u32, u32),
+    /// `mark R H H2`; where H2 is 0, there is no partner.
+    Mark(u16, u32, Option<NonZeroU32>),
+    /// `unmark R H H2`; where H2 is 0, there is no partner.
+    Unmark(u16, u32, Option<NonZeroU32>),
     /// `dirty`
     Dirty,
     /// `errors`

@@ -15,7 +15,7 @@ fn is_at(e: &Entry, key: Key) -> bool
     ensures { result ≡ has_key e.now key.rule key.subject key.other }
 {
     let own = e.key();
-    own.rule == key.rule && own.subject == key.subject && own.other == key.other
+    own.rule == key.rule && own.subject == key.subject && own.partner_number() == key.partner_number()
 }
 
 // The entry of the key: the lists are short.
@@ -32,7 +32,7 @@ pub fn has_whole(entries: &[Entry], rule: u16, subject: u32) -> bool
     let key = Key {
         rule,
         subject,
-        other: 0,
+        other: None,
     };
     match find_at(entries, key) {
         Some(e) => e.whole(),

@@ -70,13 +70,13 @@ fn marks_and_steps_are_read(rt: HostRuntime) {
     assert!(rt;
         matches!(
             read_line(alloc, b"mark 65535 7 0"),
-            Ok(Command::Mark(65_535, 7, 0))
+            Ok(Command::Mark(65_535, 7, None))
         )
     );
     assert!(rt;
         matches!(
             read_line(alloc, b"unmark 1 7 8"),
-            Ok(Command::Unmark(1, 7, 8))
+            Ok(Command::Unmark(1, 7, Some(handle))) if handle.get() == 8
         )
     );
     assert!(rt; matches!(read_line(alloc, b"by ann redo"), Ok(Command::Redo(_))));

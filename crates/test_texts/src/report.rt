@@ -6,6 +6,7 @@ use rule_set::PosterRules;
 use rule_words::RuleKind;
 use shape::Kind;
 use std::alloc::Global;
+use std::num::NonZeroU32;
 use std::test::Fail;
 use topo_core::{Key, Topology};
 use wkt_text::read_wkt;
@@ -24,7 +25,7 @@ fn two_lots(alloc: Global) -> Result<Topology<PosterRules>, Fail> {
     topology.add_rule(RuleRow {
         kind: RuleKind::PolygonMustNotOverlap,
         origin: lots,
-        dest: 0,
+        dest: None,
     })?;
     let first = read_wkt(alloc, b"POLYGON ((0 0, 10 0, 10 10, 0 10, 0 0))").ok();
     topology.add(lots, first.ok_or("no shape")?)?;
@@ -44,7 +45,7 @@ fn the_report_of_two_lots(rt: HostRuntime) -> Result<(), Fail> {
     let key = Key {
         rule: 1,
         subject: 1,
-        other: 2,
+        other: NonZeroU32::new(2),
     };
     topology.mark(key, true)?;
     text.clear();

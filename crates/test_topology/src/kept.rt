@@ -20,7 +20,7 @@ fn two_lots(alloc: Global) -> Result<Topology<PosterRules>, Fail> {
     town.add_rule(RuleRow {
         kind: RuleKind::PolygonMustNotOverlap,
         origin: 1,
-        dest: 0,
+        dest: None,
     })?;
     town.add(1, lot(alloc, 0, 0)?)?;
     town.add(1, lot(alloc, 5, 5)?)?;

@@ -35,7 +35,7 @@ fn a_change_a_deletion_and_a_validation(rt: HostRuntime) -> Result<(), Fail> {
     town.add_rule(RuleRow {
         kind: RuleKind::PointMustBeDisjoint,
         origin: 1,
-        dest: 0,
+        dest: None,
     })?;
     town.add(1, well(5)?)?;
     town.add(1, well(6)?)?;

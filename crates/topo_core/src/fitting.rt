@@ -9,6 +9,7 @@ use feature_store::Store;
 use rule_core::RuleRow;
 
 // Whether the second class serves the rule; or, where the rule takes none, whether none is given.
+#[tactic(auto, using(rule_core::proofs::Seconds::none_at_0))]
 fn does_dest_fit(store: &Store, row: &RuleRow) -> Result<bool, RuleFault>
     ensures fit { IfOk result (λ b. b ≡ fits_dest store.now.classes row.now (dest_of row.now.kind)) }
     ensures there { OnOk result (lacks_dest store.now.classes row.now (dest_of row.now.kind) ≡ false) }
@@ -16,10 +17,11 @@ fn does_dest_fit(store: &Store, row: &RuleRow) -> Result<bool, RuleFault>
     ensures err { IfErr result (λ e. e ≡ fault.NoClass) }
 {
     let Some(kind) = row.kind.dest() else {
-        return Ok(row.dest == 0);
+        return Ok(row.dest.is_none());
     };
-    let dest = store.class_kind(row.dest).ok_or(RuleFault::NoClass)?;
-    Ok(dest == kind && row.dest != row.origin)
+    let number = row.dest_number();
+    let dest = store.class_kind(number).ok_or(RuleFault::NoClass)?;
+    Ok(dest == kind && number != row.origin)
 }
 
 /// Whether the classes are there and fit the rule.

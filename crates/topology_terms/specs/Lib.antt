@@ -9,6 +9,7 @@ pub mod Cells
 pub mod Tests
 pub mod Plans
 pub mod Poster
+pub mod Extents
 pub mod Entry
 pub mod Project
 pub mod Lookups

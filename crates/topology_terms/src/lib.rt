@@ -2,5 +2,7 @@
 #![tactic(auto)]
 
 mod cause;
+mod extent;
 
 pub use cause::Cause;
+pub use extent::Extent;

@@ -17,6 +17,7 @@ use grid_plane::{Handles, NoMemory, Rect};
 use rule_core::{Finding, InForce, RuleSet, Work};
 use shape::Feature;
 use std::alloc::Global;
+use topology_terms::Extent;
 
 // The least frame of its cells, or the envelope of the subject that breaks the rule as a whole.
 fn frame_for(f: &Feature, x: &Finding) -> Rect
@@ -24,10 +25,9 @@ fn frame_for(f: &Feature, x: &Finding) -> Rect
     ensures least { x.now.whole ≡ false → IsLeastFrame result x.now.cells }
     ensures envelope { x.now.whole ≡ true → result ≡ env f.now }
 {
-    if x.whole {
-        f.shape().env()
-    } else {
-        frame_of(&x.cells)
+    match x.extent {
+        Extent::Whole => f.shape().env(),
+        Extent::Cells => frame_of(&x.cells),
     }
 }
 
@@ -41,7 +41,7 @@ fn entry_of(rule: u16, f: &Feature, x: Finding) -> Entry
         subject: f.handle(),
         other: x.other,
     };
-    Entry::new(key, x.whole, false, frame, x.cells)
+    Entry::new(key, x.extent, false, frame, x.cells)
 }
 
 // Puts an entry for each finding.

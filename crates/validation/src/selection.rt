@@ -66,7 +66,8 @@ fn add_subjects(entries: &[Entry], dirty: &DirtyParts, found: &mut Vec<u32>) -> 
     ensures { OnOk result (ArePicked (λ (e : entries_of.Entry). MeetsDirt dirty.now e.frame) (λ (e : entries_of.Entry). e.subject) entries.now found.old.items found.new.items) }
 {
     for e in entries {
-        push_if(found, dirty.meets(&e.frame()), e.key().subject)?;
+        let key = e.key();
+        push_if(found, dirty.meets(&e.frame()), key.subject)?;
     }
     Ok(())
 }

@@ -1,7 +1,6 @@
-use Rattle.std.proofs.Common.{◌≡◌, ap}
+use Rattle.std.proofs.Common.{◌≡◌, ◌∙◌, ap}
 use Rattle.topology_terms.specs.Entry.{Entry}
-use Rattle.error_store.specs.Keys.{key_of}
-use Rattle.error_store.specs.declared.key.Key.{Key}
+use Rattle.error_store.specs.Keys.{Key, key_of}
 use Rattle.error_store.proofs.Steps.{puts_old, drops_old}
 use Rattle.error_store.proofs.merge.put_old.Goals as goal
 
@@ -12,10 +11,10 @@ pub returns-then-not-has-clause-merges : goal.returns-then-not-has-clause-merges
 returns-then-not-has-clause-merges c = λ old0 fresh0 fresh o m.
     rw c.push_reserved.ensures.items (puts_old c.args.selected.now old0 fresh0 c.args.out.now.items c.args.old.now.items
     c.pop_front.new.self.items fresh c.in-Some.e c.in-Some.ensures.items o
-    (λ k. let t = c.has.ensures.1 (rw (own_subject c.key.result c.in-Some.e c.key.ensures) k) in cc) m)
+    (λ k. let t = c.has-in-Some.ensures.1 (rw (own_subject _ c.in-Some.e (c.has.view_is ∙ c.key.ensures)) k) in cc) m)
 
 pub returns-else-not-has-clause-merges : goal.returns-else-not-has-clause-merges
 returns-else-not-has-clause-merges c = λ old0 fresh0 fresh o m.
     drops_old c.args.selected.now old0 fresh0 c.args.out.now.items c.args.old.now.items c.pop_front.new.self.items fresh c.in-Some.e
     c.in-Some.ensures.items o
-    (rw (own_subject c.key.result c.in-Some.e c.key.ensures) at (c.has.ensures.0 cc)) m
+    (rw (own_subject _ c.in-Some.e (c.has.view_is ∙ c.key.ensures)) at (c.has-in-Some.ensures.0 cc)) m

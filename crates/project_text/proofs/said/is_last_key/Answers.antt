@@ -1,5 +1,5 @@
 use Rattle.std.proofs.Common.{sym, ap, ◌∙◌}
-use Rattle.error_store.specs.declared.key.Key.{Key}
+use Rattle.error_store.specs.Keys.{Key}
 use Rattle.project_terms.specs.Drafts.{is_before}
 use Rattle.project_text.proofs.Lasts.{last_entry_at}
 use Rattle.project_text.proofs.said.is_last_key.Goals as goal

@@ -1,8 +1,8 @@
-use Rattle.std.proofs.Common.{ap}
+use Rattle.std.proofs.Common.{ap, ◌∙◌}
 use Rattle.std.proofs.lemmas.List.{take_all}
 use Rattle.topology_terms.specs.Entry.{Entry}
 use Rattle.plane_terms.specs.Dirt.{MeetsDirt}
-use Rattle.error_store.specs.declared.key.Key.{Key}
+use Rattle.error_store.specs.Keys.{Key}
 use Rattle.validation_laws.proofs.Selecting.{picked_more}
 use Rattle.validation.proofs.selection.add_subjects.Goals as goal
 
@@ -10,8 +10,8 @@ pub loop-e-preserved : goal.loop-e-preserved
 loop-e-preserved c =
     let d = c.args.dirty.now in
     picked_more (λ (e : Entry). MeetsDirt d e.frame) (λ (e : Entry). e.subject) c.args.entries.now c.loop-e.e-index c.e-item.result
-    c.args.found.now.items c.loop-e.found.items c.push_if.new.found.items c.meets.result c.key.result.subject
-    c.loop-e-test.true c.e-item.is (rw c.frame.ensures at c.meets.ensures) (ap (λ (k : Key). k.subject) c.key.ensures) c.loop-e.invariant
+    c.args.found.now.items c.loop-e.found.items c.push_if.new.found.items c.meets.result c.key.inside.subject
+    c.loop-e-test.true c.e-item.is (rw c.frame.ensures at c.meets.ensures) (ap (λ (k : Key). k.subject) (c.key.view_is ∙ c.key-key.ensures)) c.loop-e.invariant
     c.in_ok-push_if.ensures
 
 pub returns : goal.returns
