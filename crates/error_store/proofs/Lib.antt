@@ -1,5 +1,6 @@
 mod Dropping
 mod Finding
+mod Leaving
 mod Marking
 mod Merging
 mod Steps
