@@ -3,4 +3,5 @@ mod Finding
 mod Leaving
 mod Marking
 mod Merging
+mod Selected
 mod Steps

@@ -6,6 +6,6 @@ use Rattle.error_store.proofs.list.is_left.Goals as goal
 
 pub returns : goal.returns
 returns c =
-    let own = ap (λ (k : Key). k.subject) (c.has.view_is ∙ c.key.ensures) in
-    left_test c.args.selected.now c.args.e.now.subject c.has-2.result
-    (subst (λ a. IsTrue c.has-2.result ↔ Contains c.args.selected.now a) own c.has-2.ensures)
+    let own = ap (λ (k : Key). k.subject) (c.is_selected.view_is ∙ c.key.ensures) in
+    left_test c.args.selected.now c.args.e.now.subject c.is_selected-2.result
+    (subst (λ a. IsTrue c.is_selected-2.result ↔ Contains c.args.selected.now a) own c.is_selected-2.ensures)
