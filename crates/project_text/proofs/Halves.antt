@@ -2,7 +2,7 @@
 use Rattle.std.proofs.Common.{ℕ, ◌≡◌, ◌≢◌, ◌<◌, ◌≤◌, ◌+◌, ◌^◌, Bool, true, false, ◌&&◌, ◌==◌, nat_le, ltb, List, [], ◌∷◌, ◌++◌, length, Some, None, refl, sym, ap, subst, ◌∙◌, inl, inr, arith}
 use Rattle.std.specs.Prelude.{unsigned_abs}
 use Rattle.std.specs.List.{list_all}
-use Rattle.std.proofs.lemmas.Bool.{cases_Bool, false≢true}
+use Rattle.std.proofs.lemmas.Bool.{cases_Bool, false≢true, and_parts}
 use Rattle.std.proofs.lemmas.Bool.Decides.{nat_tests}
 use Rattle.std.proofs.lemmas.List.Folds.{list_all-append}
 use Rattle.plane_terms.specs.HalfPlane.{HalfPlane, IsHalfPlane}
@@ -23,7 +23,7 @@ pub begun : (rest : List ℕ) (halves : List HalfPlane) → halves ≡ [] → Ha
 begun rest halves e = record { all = []; behind = refl; right = λ t. (e, refl); wrong = λ t. absurd cc }
 
 -- ---- half-planes within their limits
-is_true : (h : HalfPlane) → IsHalfPlane h → is_half h ≡ true
+pub is_true : (h : HalfPlane) → IsHalfPlane h → is_half h ≡ true
 is_true h v =
     let a : nat_le (unsigned_abs h.a) 8388608 ≡ true = grind (arith, nat_tests, v.a_fits) in
     let b : nat_le (unsigned_abs h.b) 8388608 ≡ true = grind (arith, nat_tests, v.b_fits) in
@@ -31,19 +31,14 @@ is_true h v =
     let d : ltb 0 (unsigned_abs h.a + unsigned_abs h.b) ≡ true = grind (arith, nat_tests, v.slanted) in
     rw (a, b, c, d) refl
 
-both : (a b : Bool) → (a && b) ≡ true → (a ≡ true) × (b ≡ true)
-both true true h = (refl, refl)
-both true false h = absurd cc
-both false b h = absurd cc
-
-is_valid : (h : HalfPlane) → is_half h ≡ true → IsHalfPlane h
+pub is_valid : (h : HalfPlane) → is_half h ≡ true → IsHalfPlane h
 is_valid h t =
     let d = ltb 0 (unsigned_abs h.a + unsigned_abs h.b) in
     let c = nat_le (unsigned_abs h.c) 70368744177664 && d in
     let b = nat_le (unsigned_abs h.b) 8388608 && c in
-    let p = both (nat_le (unsigned_abs h.a) 8388608) b t in
-    let q = both (nat_le (unsigned_abs h.b) 8388608) c p.1 in
-    let r = both (nat_le (unsigned_abs h.c) 70368744177664) d q.1 in
+    let p = and_parts (nat_le (unsigned_abs h.a) 8388608) b t in
+    let q = and_parts (nat_le (unsigned_abs h.b) 8388608) c p.1 in
+    let r = and_parts (nat_le (unsigned_abs h.c) 70368744177664) d q.1 in
     let x : unsigned_abs h.a ≤ 2 ^ 23 = grind (arith, nat_tests, p.0) in
     let y : unsigned_abs h.b ≤ 2 ^ 23 = grind (arith, nat_tests, q.0) in
     let z : unsigned_abs h.c ≤ 2 ^ 46 = grind (arith, nat_tests, r.0) in
@@ -67,8 +62,10 @@ put_wrong hs h b = list_all-append is_half hs (h ∷ []) ∙ by (list_all is_hal
 put_behind : (hs : List HalfPlane) (h : HalfPlane) → list_all is_half hs ≡ false → list_all is_half (hs ++ h ∷ []) ≡ false
 put_behind hs h a = list_all-append is_half hs (h ∷ []) ∙ rw a refl
 
-pub one_more : (fs : List (List ℕ)) (halves made : List HalfPlane) (within : Bool) (rest : List ℕ) (f : HalfForm) (h : HalfPlane) → HalvesRead fs halves within true rest
-    → IsHalfForm (left rest) f → h ≡ half_said f → IsHalfPlane (half_said f) → made ≡ halves ++ h ∷ [] → HalvesRead fs made within f.more f.rest.now
+pub one_more : (fs : List (List ℕ)) (halves made : List HalfPlane) (within : Bool) (rest : List ℕ) (f : HalfForm) (h : HalfPlane)
+    → HalvesRead fs halves within true rest
+    → IsHalfForm (left rest) f → h ≡ half_said f → IsHalfPlane (half_said f) → made ≡ halves ++ h ∷ []
+    → HalvesRead fs made within f.more f.rest.now
 one_more fs halves made within rest f h r form same valid put = record {
   all = r.all ++ half_said f ∷ [];
   behind = r.behind ∙ form r.all;
@@ -79,7 +76,8 @@ one_more fs halves made within rest f h r form same valid put = record {
   wrong = λ t. put_behind r.all (half_said f) (r.wrong t);
 }
 
-pub one_wrong : (fs : List (List ℕ)) (halves : List HalfPlane) (within : Bool) (rest : List ℕ) (f : HalfForm) → HalvesRead fs halves within true rest
+pub one_wrong : (fs : List (List ℕ)) (halves : List HalfPlane) (within : Bool) (rest : List ℕ) (f : HalfForm)
+    → HalvesRead fs halves within true rest
     → IsHalfForm (left rest) f → (IsHalfPlane (half_said f) → ⊥) → HalvesRead fs halves false f.more f.rest.now
 one_wrong fs halves within rest f r form outside = record {
   all = r.all ++ half_said f ∷ [];
@@ -89,7 +87,8 @@ one_wrong fs halves within rest f r form outside = record {
 }
 
 -- ---- the end
-pub none_more : (fs : List (List ℕ)) (halves : List HalfPlane) (within : Bool) (rest : List ℕ) → HalvesRead fs halves within true rest → IsNoHalf (left rest)
+pub none_more : (fs : List (List ℕ)) (halves : List HalfPlane) (within : Bool) (rest : List ℕ) → HalvesRead fs halves within true rest
+    → IsNoHalf (left rest)
     → cell_of fs ≡ None
 none_more fs halves within rest r lacks = r.behind ∙ lacks r.all
 
@@ -108,19 +107,25 @@ pub not_empty : (rest : List ℕ) (b : Bool) → b ≡ (length rest == 0) → b 
 not_empty [] b h g e = false≢true (sym g ∙ h)
 not_empty (x ∷ xs) b h g e = absurd cc
 
-pub longer : (fs : List (List ℕ)) (halves : List HalfPlane) (within : Bool) (rest : List ℕ) → HalvesRead fs halves within false rest → rest ≢ []
+pub longer : (fs : List (List ℕ)) (halves : List HalfPlane) (within : Bool) (rest : List ℕ) → HalvesRead fs halves within false rest
+    → rest ≢ []
     → cell_of fs ≡ None
 longer fs halves within rest r some = r.behind ∙ too_many r.all (left rest) (left_some rest some)
 
-ended : (fs : List (List ℕ)) (halves : List HalfPlane) (within : Bool) (rest : List ℕ) (r : HalvesRead fs halves within false rest) → rest ≡ [] → cell_of fs ≡ Some r.all
+ended : (fs : List (List ℕ)) (halves : List HalfPlane) (within : Bool) (rest : List ℕ) (r : HalvesRead fs halves within false rest)
+    → rest ≡ [] → cell_of fs ≡ Some r.all
 ended fs halves within rest r none = r.behind ∙ ap (λ (t : List ℕ). halves_behind r.all false (left t)) none
 
-pub beyond : (fs : List (List ℕ)) (halves : List HalfPlane) (within : Bool) (rest : List ℕ) → HalvesRead fs halves within false rest → rest ≡ [] → within ≡ false
+pub beyond : (fs : List (List ℕ)) (halves : List HalfPlane) (within : Bool) (rest : List ℕ) → HalvesRead fs halves within false rest
+    → rest ≡ [] → within ≡ false
     → (made : Cell) × (cell_of fs ≡ Some made) × (list_all is_half made ≡ false)
 beyond fs halves within rest r none out = (r.all, ended fs halves within rest r none, r.wrong out)
 
-pub whole : (fs : List (List ℕ)) (halves : List HalfPlane) (within : Bool) (rest : List ℕ) → HalvesRead fs halves within false rest → rest ≡ [] → within ≡ true
+pub whole : (fs : List (List ℕ)) (halves : List HalfPlane) (within : Bool) (rest : List ℕ) → HalvesRead fs halves within false rest
+    → rest ≡ [] → within ≡ true
     → (cell_of fs ≡ Some halves) × (list_all is_half halves ≡ true)
 whole fs halves within rest r none out =
-    let k = r.right out in
-    (ended fs halves within rest r none ∙ ap (λ (hs : List HalfPlane). Some hs) (sym k.0), subst (λ (hs : List HalfPlane). list_all is_half hs ≡ true) (sym k.0) k.1)
+    let k = r.right out in (
+      ended fs halves within rest r none ∙ ap (λ (hs : List HalfPlane). Some hs) (sym k.0),
+      subst (λ (hs : List HalfPlane). list_all is_half hs ≡ true) (sym k.0) k.1,
+    )
