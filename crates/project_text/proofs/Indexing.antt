@@ -1,6 +1,6 @@
 -- Dirty rectangles with an index: those that a rectangle meets tell whether it is nested with any, and one more stands under its place.
-use Rattle.std.proofs.Common.{ℕ, zero, suc, ◌≡◌, ◌⊎◌, inl, inr, ◌↔◌, arith, refl, sym, ap, ◌∙◌, Bool, true, false, List, [], ◌∷◌, ◌++◌, length, get_or, Option, Some, None, Contains}
-use Rattle.std.specs.Prelude.{slice_get}
+use Rattle.std.proofs.Common.{ℕ, zero, suc, ◌≡◌, ◌⊎◌, inl, inr, ◌↔◌, arith, refl, sym, ap, ◌∙◌, Bool, true, false, List, [], ◌∷◌, ◌++◌, length, get_or, Option, Some, None, Contains, subst}
+use Rattle.std.specs.Prelude.{slice_get, Result, Ok, Err, OnOk, OnErr}
 use Rattle.std.specs.List.{list_any}
 use Rattle.std.specs.Option.{option_map_or}
 use Rattle.std.proofs.lemmas.Bool.{or_cases, false≢true}
@@ -13,7 +13,7 @@ use Rattle.plane_terms.proofs.Truths.{same_by_truth}
 use Rattle.sound_laws.proofs.Planes.{within_from_test}
 use Rattle.dirty_area.specs.Parts.{IsDirt}
 use Rattle.project_terms.specs.Verdicts.{are_nested}
-use Rattle.grid_index.specs.Near.{HoldsSame, Gains, IsNear}
+use Rattle.grid_index.specs.Near.{Gains, IsNear}
 use Rattle.grid_index.specs.declared.placed.Placed.{Placed}
 use Rattle.project_text.specs.Indexed.{IsIndexed, nested_at}
 
@@ -36,7 +36,7 @@ pub nested_among : (r : Rectangle) (d : List Rectangle) (ps : List Placed) (ns :
 nested_among r d ps ns b placed dirt proper near is = is ∙ same_by_truth (list_any (nested_at r d) ns) (list_any (are_nested r) d) found asked
   where
     found : list_any (nested_at r d) ns ≡ true → list_any (are_nested r) d ≡ true
-    found e = let a = Any-from_list_any (nested_at r d) ns e in some_place r d a.1 a.1.1.1.1
+    found e = let a = Any-from_list_any (nested_at r d) ns e in some_place r d a.1 a.4
 
     asked : list_any (are_nested r) d ≡ true → list_any (nested_at r d) ns ≡ true
     asked e =
@@ -66,3 +66,10 @@ one_more d ps qs r n last gains placed k s e = elim (pushed d r s k e) [
 
 pub still_indexed : (d : List Rectangle) (ps qs : List Placed) → ((p : Placed) → Contains ps p → Contains qs p) → IsIndexed d ps → IsIndexed d qs
 still_indexed d ps qs stays placed k s e = stays (record { rect = s; handle = k }) (placed k s e)
+
+-- whether the rectangle was put last, or nothing was, for want of memory
+pub put_or_not : {A E : Type 0} (o : Result A E) (d D : List Rectangle) (ps qs : List Placed) (r : Rectangle) (n : ℕ) → n ≡ length d
+    → Gains ps qs (record { rect = r; handle = n }) → OnOk o (D ≡ d ++ r ∷ []) → OnErr o (D ≡ d) → IsIndexed d ps → IsIndexed D qs
+put_or_not (Ok x) d D ps qs r n last gains put none placed = subst (λ l. IsIndexed l qs) (sym put) (one_more d ps qs r n last gains placed)
+put_or_not (Err x) d D ps qs r n last gains put none placed =
+    subst (λ l. IsIndexed l qs) (sym none) (still_indexed d ps qs (λ p h. (gains p).1 (inl h)) placed)
