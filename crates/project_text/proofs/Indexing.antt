@@ -1,5 +1,5 @@
 -- Dirty rectangles with an index: those that a rectangle meets tell whether it is nested with any, and one more stands under its place.
-use Rattle.std.proofs.Common.{ℕ, zero, suc, ◌≡◌, ◌⊎◌, inl, inr, ◌↔◌, arith, refl, sym, ap, ◌∙◌, Bool, true, false, List, [], ◌∷◌, ◌++◌, length, get_or, Option, Some, None, Contains, subst}
+use Rattle.std.proofs.Common.{ℕ, zero, suc, ◌≡◌, ◌⊎◌, inl, inr, ◌↔◌, arith, refl, sym, ap, ◌∙◌, Bool, true, false, List, [], ◌∷◌, ◌++◌, length, Option, Some, None, Contains, subst}
 use Rattle.std.specs.Prelude.{slice_get, Result, Ok, Err, OnOk, OnErr}
 use Rattle.std.specs.List.{list_any}
 use Rattle.std.specs.Option.{option_map_or}
@@ -29,11 +29,13 @@ some_place r d n e = by (slice_get d n) refl e
   where
     by : (o : Option Rectangle) → slice_get d n ≡ o → option_map_or (are_nested r) o false ≡ true → list_any (are_nested r) d ≡ true
     by None i t = absurd (false≢true t)
-    by (Some s) i t = list_any_at (are_nested r) d n s (slice_get_within d n s i) (ap (are_nested r) (get_or_from_slice_get d n s s i) ∙ t)
+    by (Some s) i t =
+        list_any_at (are_nested r) d n s (slice_get_within d n s i) (ap (are_nested r) (get_or_from_slice_get d n s s i) ∙ t)
 
 pub nested_among : (r : Rectangle) (d : List Rectangle) (ps : List Placed) (ns : List ℕ) (b : Bool) → IsIndexed d ps → IsDirt d
     → IsRectangle r → ((n : ℕ) → Contains ns n ↔ IsNear r ps n) → b ≡ list_any (nested_at r d) ns → b ≡ list_any (are_nested r) d
-nested_among r d ps ns b placed dirt proper near is = is ∙ same_by_truth (list_any (nested_at r d) ns) (list_any (are_nested r) d) found asked
+nested_among r d ps ns b placed dirt proper near is =
+    is ∙ same_by_truth (list_any (nested_at r d) ns) (list_any (are_nested r) d) found asked
   where
     found : list_any (nested_at r d) ns ≡ true → list_any (are_nested r) d ≡ true
     found e = let a = Any-from_list_any (nested_at r d) ns e in some_place r d a.1 a.4
@@ -49,7 +51,8 @@ nested_among r d ps ns b placed dirt proper near is = is ∙ same_by_truth (list
         list_any_at (nested_at r d) ns c.0 k c.1 (ap (nested_at r d) c.2 ∙ (ap (λ o. option_map_or (are_nested r) o false) i ∙ a.4))
 
 -- what stands at a place of a list with one more
-pushed : {A : Type 0} (xs : List A) (y x : A) (n : ℕ) → slice_get (xs ++ y ∷ []) n ≡ Some x → (slice_get xs n ≡ Some x) ⊎ ((n ≡ length xs) × (y ≡ x))
+pushed : {A : Type 0} (xs : List A) (y x : A) (n : ℕ) → slice_get (xs ++ y ∷ []) n ≡ Some x
+    → (slice_get xs n ≡ Some x) ⊎ ((n ≡ length xs) × (y ≡ x))
 pushed [] y x zero e = inr (refl, same_Some y x e)
 pushed [] y x (suc n) e = absurd cc
 pushed (z ∷ xs) y x zero e = inl e
@@ -60,7 +63,8 @@ pub one_more : (d : List Rectangle) (ps qs : List Placed) (r : Rectangle) (n : �
 one_more d ps qs r n last gains placed k s e = elim (pushed d r s k e) [
   | inl h ↦ (gains (record { rect = s; handle = k })).1 (inl (placed k s h))
   | inr h ↦
-      let same : record { rect = s; handle = k } ≡ record { rect = r; handle = n } = λ i. record { rect = sym h.1 i; handle = (h.0 ∙ sym last) i } in
+      let same : record { rect = s; handle = k } ≡ record { rect = r; handle = n } = λ i. record
+      { rect = sym h.1 i; handle = (h.0 ∙ sym last) i } in
       (gains (record { rect = s; handle = k })).1 (inr same)
 ]
 

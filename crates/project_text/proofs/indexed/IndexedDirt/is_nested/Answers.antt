@@ -1,6 +1,3 @@
-use Rattle.std.proofs.Common.{◌≡◌, ap, ◌∙◌}
-use Rattle.std.specs.List.{list_any}
-use Rattle.project_text.specs.Indexed.{nested_at}
 use Rattle.project_text.proofs.Indexing.{nested_among}
 use Rattle.project_text.proofs.indexed.IndexedDirt.is_nested.Goals as goal
 
