@@ -58,8 +58,8 @@ pushed [] y x (suc n) e = absurd cc
 pushed (z ∷ xs) y x zero e = inl e
 pushed (z ∷ xs) y x (suc n) e = elim (pushed xs y x n e) [ inl h ↦ inl h | inr h ↦ inr (ap suc h.0, h.1) ]
 
-pub one_more : (d : List Rectangle) (ps qs : List Placed) (r : Rectangle) (n : ℕ) → n ≡ length d → Gains ps qs (record { rect = r; handle = n })
-    → IsIndexed d ps → IsIndexed (d ++ r ∷ []) qs
+pub one_more : (d : List Rectangle) (ps qs : List Placed) (r : Rectangle) (n : ℕ) → n ≡ length d
+    → Gains ps qs (record { rect = r; handle = n }) → IsIndexed d ps → IsIndexed (d ++ r ∷ []) qs
 one_more d ps qs r n last gains placed k s e = elim (pushed d r s k e) [
   | inl h ↦ (gains (record { rect = s; handle = k })).1 (inl (placed k s h))
   | inr h ↦
@@ -68,7 +68,8 @@ one_more d ps qs r n last gains placed k s e = elim (pushed d r s k e) [
       (gains (record { rect = s; handle = k })).1 (inr same)
 ]
 
-pub still_indexed : (d : List Rectangle) (ps qs : List Placed) → ((p : Placed) → Contains ps p → Contains qs p) → IsIndexed d ps → IsIndexed d qs
+pub still_indexed : (d : List Rectangle) (ps qs : List Placed) → ((p : Placed) → Contains ps p → Contains qs p) → IsIndexed d ps
+    → IsIndexed d qs
 still_indexed d ps qs stays placed k s e = stays (record { rect = s; handle = k }) (placed k s e)
 
 -- whether the rectangle was put last, or nothing was, for want of memory

@@ -35,7 +35,7 @@ fn are_nested(r: &Rect, s: &Rect) -> bool
     s.holds_rect(r) || r.holds_rect(s)
 }
 
-// Whether one lies in the other: the rectangle, and that at this place of the list, where there is one.
+// Whether one lies in the other: the rectangle, and that at this place of the list, if there is one.
 fn is_nested_at(rects: &[Rect], r: &Rect, place: u32) -> bool
     ensures { result ≡ nested_at r.now rects.now place }
 {
@@ -63,7 +63,7 @@ impl IndexedDirt {
         }
     }
 
-    /// Whether the rectangle lies in a dirty one, or a dirty one in it. Asks those alone that it meets.
+    /// Whether the rectangle lies in a dirty one, or a dirty one in it. Tests those that it meets.
     pub fn is_nested(&self, r: &Rect) -> Result<bool, NoMemory>
         ensures { IfOk result (λ b. b ≡ list_any (are_nested r.now) self.now) }
     {
@@ -72,7 +72,8 @@ impl IndexedDirt {
         Ok(is_nested_among(self.dirt.rects(), r, &places))
     }
 
-    /// Makes the rectangle dirty, last. After an `Err`, want of memory, the same is dirty; a place beyond `u32` is want of memory.
+    /// Makes the rectangle dirty, last. After an `Err`, want of memory, the same is dirty as before;
+    /// that there is no handle, a `u32`, for a place so far behind counts as want of memory.
     pub fn add(&mut self, r: Rect) -> Result<(), NoMemory>
         requires { list_any (are_nested r) self.old ≡ false }
         ensures ok { OnOk result (self.new ≡ self.old ++ r ∷ []) }
