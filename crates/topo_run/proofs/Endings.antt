@@ -46,6 +46,11 @@ completes s k status.Done (kept, read, written) = λ script told short calm quie
 completes s k status.Refused (kept, read, written) = λ script told short calm quiet. inr
     (inl (refl, whole s k script kept true told read written))
 completes s k status.Usage ends = absurd ends
+completes s k status.WrongText ends = absurd ends
+completes s k status.OpenFault ends = absurd ends
+completes s k status.SaveFault ends = absurd ends
+completes s k status.Unsound ends = absurd ends
+completes s k status.NoProject ends = absurd ends
 completes s k status.ReadFault (kept, refused, read, written) = λ script told short calm quiet. absurd (calm read.ended.2)
 completes s k status.WriteFault (rose, rest) = λ script told short calm quiet. absurd (quiet rose)
 completes s k status.NoMemory ends = λ script told short calm quiet. inr (inr refl)

@@ -111,6 +111,11 @@ pub town_completes : (seed n : ℕ) (k : Passage) (s : Status) → EndsAsTown se
 town_completes seed n k status.Done h = λ quiet. inl (refl, h)
 town_completes seed n k status.Refused h = λ quiet. inr (inl (refl, h))
 town_completes seed n k status.Usage h = absurd h
+town_completes seed n k status.WrongText h = absurd h
+town_completes seed n k status.OpenFault h = absurd h
+town_completes seed n k status.SaveFault h = absurd h
+town_completes seed n k status.Unsound h = absurd h
+town_completes seed n k status.NoProject h = absurd h
 town_completes seed n k status.ReadFault h = absurd h
 town_completes seed n k status.WriteFault h = λ quiet. absurd (quiet h.0)
 town_completes seed n k status.NoMemory h = λ quiet. inr (inr refl)
