@@ -1,0 +1,4 @@
+pub mod Words
+pub mod Opening
+pub mod Checking
+pub mod Reporting

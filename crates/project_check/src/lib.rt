@@ -1,0 +1,6 @@
+// Stand-in.
+#![tactic(auto)]
+
+mod check;
+
+pub use check::Unsound;
