@@ -1,31 +1,24 @@
-ghost use Rattle.std.specs.Prelude.{◌≡◌, ◌≤◌, ◌↔◌, ℕ, map, IsTrue, string_bytes};
+ghost use Rattle.std.specs.Prelude.{◌≡◌, ◌≤◌, ℕ, List, map, string_bytes};
+ghost use Rattle.outside_terms.specs.Shelves.{KeepsHeld};
 ghost use Rattle.outside_terms.specs.Statuses.{code_of};
 ghost use Rattle.outside_terms.specs.declared.status.Status.{Status};
 ghost use Rattle.script_terms.specs.Ends.{EndsAs, EndsAsUsage, IsComplete, IsReplay};
 ghost use Rattle.town_terms.specs.Ends.{EndsAsTown, IsTownComplete};
 ghost use Rattle.town_terms.specs.Request.{IsTownRequest};
+ghost use Rattle.opening_terms.specs.Words.{IsCheckOf};
+ghost use Rattle.opening_terms.specs.Opening.{IsOpeningComplete};
+ghost use Rattle.opening_terms.specs.Checking.{EndsAsCheck, IsCheckComplete};
+ghost use Rattle.topo_run.specs.Asked.{IsFit, EndsAsAsked, UnlessReplay, UnlessNamed};
 
+use crate::check::check;
 use crate::replay::replay;
 use crate::status::code_of;
 use crate::town::town;
-use crate::write::write_all;
+use crate::words::{Words, words_of};
+use crate::write::say;
 use outside_terms::Status;
 use std::alloc::Global;
-use topo_outside::{Shelf, Sink, SinkFault, Source};
-use town_maker::town_request;
-
-#[tactic(auto, using(crate::proofs::Words::words_tests))]
-fn is_replay(words: &Vec<String>) -> bool
-    ensures { IsTrue result ↔ IsReplay words.now.items }
-{
-    words.len() == 1 && is_word(&words[0], "replay")
-}
-
-fn is_word(word: &String, text: &str) -> bool
-    ensures { IsTrue result ↔ (string_bytes word.now ≡ text.now) }
-{
-    word.as_str() == text
-}
+use topo_outside::{Shelf, Sink, Source};
 
 /// The line that is written where the words are none that the program knows.
 pub const USAGE: &str =
@@ -35,10 +28,33 @@ fn say_usage<K: Sink>(sink: &mut K) -> Status
     ensures usage { EndsAsUsage (record { old = K.written sink.old; new = K.written sink.new; before = K.faults sink.old; now = K.faults sink.new }) result }
     ensures later { K.faults sink.old ≤ K.faults sink.new }
 {
-    match write_all(sink, USAGE.as_bytes()) {
-        Ok(()) => Status::Usage,
-        Err(SinkFault::Failed) => Status::WriteFault,
-        Err(SinkFault::NoMemory) => Status::NoMemory,
+    say(sink, USAGE.as_bytes(), Status::Usage)
+}
+
+// Does what is asked for.
+fn act<S: Source, K: Sink, H: Shelf>(
+    alloc: Global,
+    words: Words<'_>,
+    source: &mut S,
+    sink: &mut K,
+    shelf: &mut H,
+) -> Status
+    requires { IsFit words }
+    ensures ends { EndsAsAsked words
+        (record { old = S.left source.old; new = S.left source.new; before = S.faults source.old; now = S.faults source.new })
+        (record { old = H.held shelf.old; new = H.held shelf.new; before = H.faults shelf.old; now = H.faults shelf.new })
+        (record { old = K.written sink.old; new = K.written sink.new; before = K.faults sink.old; now = K.faults sink.new })
+        result }
+    ensures unread { UnlessReplay words (source.new ≡ source.old) }
+    ensures untouched { UnlessNamed words (shelf.new ≡ shelf.old) }
+    ensures kept { KeepsHeld (H.held shelf.old) (H.held shelf.new) }
+    ensures counts { (S.faults source.old ≤ S.faults source.new) × (K.faults sink.old ≤ K.faults sink.new) × (H.faults shelf.old ≤ H.faults shelf.new) }
+{
+    match words {
+        Words::Replay => replay(alloc, source, sink),
+        Words::Check(project) => check(alloc, project, sink, shelf),
+        Words::Town(request) => town(alloc, request, sink),
+        Words::Other => say_usage(sink),
     }
 }
 
@@ -71,17 +87,22 @@ pub fn run<S: Source, K: Sink, H: Shelf>(
         (record { old = K.written sink.old; new = K.written sink.new; before = K.faults sink.old; now = K.faults sink.new }) s }
     ensures town_complete { (seed n : ℕ) → IsTownRequest (map (λ w. string_bytes w) words.now.items) seed n → IsTownComplete seed n
         (record { old = K.written sink.old; new = K.written sink.new; before = K.faults sink.old; now = K.faults sink.new }) result }
-    ensures usage { ¬ (IsReplay words.now.items) → ((seed n : ℕ) → ¬ (IsTownRequest (map (λ w. string_bytes w) words.now.items) seed n)) → (s : Status) × (result ≡ code_of s) × EndsAsUsage
+    ensures check { (project : List ℕ) → IsCheckOf (map (λ w. string_bytes w) words.now.items) project → (s : Status) × (result ≡ code_of s) × EndsAsCheck project
+        (record { old = H.held shelf.old; new = H.held shelf.new; before = H.faults shelf.old; now = H.faults shelf.new })
+        (record { old = K.written sink.old; new = K.written sink.new; before = K.faults sink.old; now = K.faults sink.new }) s }
+    ensures check_complete { (project : List ℕ) → IsCheckOf (map (λ w. string_bytes w) words.now.items) project → IsCheckComplete project
+        (record { old = H.held shelf.old; new = H.held shelf.new; before = H.faults shelf.old; now = H.faults shelf.new })
+        (record { old = K.written sink.old; new = K.written sink.new; before = K.faults sink.old; now = K.faults sink.new }) result }
+    ensures check_opening { (project : List ℕ) → IsCheckOf (map (λ w. string_bytes w) words.now.items) project → IsOpeningComplete project
+        (record { old = H.held shelf.old; new = H.held shelf.new; before = H.faults shelf.old; now = H.faults shelf.new })
+        (record { old = K.written sink.old; new = K.written sink.new; before = K.faults sink.old; now = K.faults sink.new }) result }
+    ensures usage { ¬ (IsReplay words.now.items) → ((project : List ℕ) → ¬ (IsCheckOf (map (λ w. string_bytes w) words.now.items) project)) → ((seed n : ℕ) → ¬ (IsTownRequest (map (λ w. string_bytes w) words.now.items) seed n)) → (s : Status) × (result ≡ code_of s) × EndsAsUsage
         (record { old = K.written sink.old; new = K.written sink.new; before = K.faults sink.old; now = K.faults sink.new }) s }
     ensures unread { ¬ (IsReplay words.now.items) → source.new ≡ source.old }
     ensures counts { (S.faults source.old ≤ S.faults source.new) × (K.faults sink.old ≤ K.faults sink.new) }
-    ensures shelf { shelf.new ≡ shelf.old }
+    ensures shelf { ((project : List ℕ) → ¬ (IsCheckOf (map (λ w. string_bytes w) words.now.items) project)) → shelf.new ≡ shelf.old }
+    ensures kept { KeepsHeld (H.held shelf.old) (H.held shelf.new) }
+    ensures shelf_count { H.faults shelf.old ≤ H.faults shelf.new }
 {
-    if is_replay(words) {
-        code_of(replay(alloc, source, sink))
-    } else if let Some(request) = town_request(words) {
-        code_of(town(alloc, request, sink))
-    } else {
-        code_of(say_usage(sink))
-    }
+    code_of(act(alloc, words_of(words), source, sink, shelf))
 }
