@@ -6,18 +6,14 @@ use Rattle.sound_laws.proofs.Keyed as keyed
 use Rattle.sound_laws.proofs.Edits.{same_or_not}
 use Rattle.sound_laws.proofs.FeatureLists.{handles, same_features}
 use Rattle.project_terms.specs.Drafts.{last_in}
+use Rattle.project_text.proofs.Ends.{all_below}
 
 abbrev handle : Feature → ℕ
 handle f = f.handle
 
-all_below : (F : List Feature) (h : ℕ) → IsAscending F → last_in handle F < h → Every (λ (f : Feature). f.handle < h) F
-all_below [] h a l = tt
-all_below (f ∷ []) h a l = (l, tt)
-all_below (f ∷ g ∷ F) h a l = let i = all_below (g ∷ F) h a.1 l in (omega (arith, a.0.0, i.0), i)
-
 none_yet : (F : List Feature) (h : ℕ) → IsAscending F → last_in handle F < h → feature_at F h ≡ None
 unfolding feature_at
-none_yet F h a l = keyed.none_lacks by_handle handles h F (keyed.lacks_before by_handle handles h F (all_below F h a l))
+none_yet F h a l = keyed.none_lacks by_handle handles h F (keyed.lacks_before by_handle handles h F (all_below handle F h a l))
 
 set_end : (F : List Feature) (f : Feature) → feature_at F f.handle ≡ None → IsSetAt f.handle (Some f) F (F ++ f ∷ [])
 unfolding feature_at
@@ -30,7 +26,7 @@ pub put_last : (F G : List Feature) (f : Feature) → IsAscending F → IsAscend
     → IsSetAt f.handle (Some f) F G → G ≡ F ++ f ∷ []
 put_last F G f a b l set =
     let made = set_end F f (none_yet F f.handle a l) in
-    same_features G (F ++ f ∷ []) b (keyed.ascending_last by_handle handles F f a (all_below F f.handle a l)) (λ k. elim (same_or_not k f.handle) [
+    same_features G (F ++ f ∷ []) b (keyed.ascending_last by_handle handles F f a (all_below handle F f.handle a l)) (λ k. elim (same_or_not k f.handle) [
       | inl e ↦ rw e (set.here ∙ sym made.here)
       | inr n ↦ set.others k n ∙ sym (made.others k n)
     ])

@@ -1,16 +1,22 @@
 -- What is found of a text is all that there is to find.
 use Rattle.std.proofs.Common.{ℕ, ◌≡◌, List, Result, Ok, Err, refl}
-use Rattle.std.specs.Prelude.{MatchResult}
+use Rattle.std.specs.Prelude.{MatchResult, IfOk}
 use Rattle.topology_terms.specs.Project.{Project}
 use Rattle.project_terms.specs.declared.project_cause.ProjectCause.{ProjectCause}
+use Rattle.project_terms.specs.Records.{IsRecord}
 use Rattle.project_terms.specs.Texts.{IsRead, IsFault}
 use Rattle.project_text.specs.Reading.{IsProjectFault, IsFaultAt}
 use Rattle.project_text.specs.declared.fault.ProjectFault.{ProjectFault}
 use Rattle.project_text.specs.declared.fault.ProjectFault.TheVariants as fault
 use Rattle.project_text.proofs.OneText.{one_project, no_project, one_fault}
+use Rattle.project_text.proofs.Kept.{read_record}
 
 abbrev pub IsFound : List ℕ → Result Project ProjectFault → Type 0
 IsFound t r = MatchResult r (λ p. IsRead t p) (λ e. IsProjectFault t e)
+
+pub valid : (t : List ℕ) (r : Result Project ProjectFault) → IsFound t r → IfOk r (λ p. IsRecord p)
+valid t (Ok q) h = read_record t q h
+valid t (Err e) h = tt
 
 pub only : (t : List ℕ) (r : Result Project ProjectFault) → IsFound t r → (p : Project) → IsRead t p
     → MatchResult r (λ q. q ≡ p) (λ e. e ≡ fault.NoMemory)

@@ -2,7 +2,7 @@
 use Rattle.std.proofs.Common.{ℕ, ◌≡◌, ◌≢◌, ◌<◌, ◌≤◌, ◌+◌, ◌^◌, Bool, true, false, ◌&&◌, ◌==◌, nat_le, ltb, List, [], ◌∷◌, ◌++◌, length, Some, None, refl, sym, ap, subst, ◌∙◌, inl, inr, arith}
 use Rattle.std.specs.Prelude.{unsigned_abs}
 use Rattle.std.specs.List.{list_all}
-use Rattle.std.proofs.lemmas.Bool.{cases_Bool, false≢true}
+use Rattle.std.proofs.lemmas.Bool.{cases_Bool, false≢true, and_parts}
 use Rattle.std.proofs.lemmas.Bool.Decides.{nat_tests}
 use Rattle.std.proofs.lemmas.List.Folds.{list_all-append}
 use Rattle.plane_terms.specs.HalfPlane.{HalfPlane, IsHalfPlane}
@@ -31,19 +31,14 @@ is_true h v =
     let d : ltb 0 (unsigned_abs h.a + unsigned_abs h.b) ≡ true = grind (arith, nat_tests, v.slanted) in
     rw (a, b, c, d) refl
 
-both : (a b : Bool) → (a && b) ≡ true → (a ≡ true) × (b ≡ true)
-both true true h = (refl, refl)
-both true false h = absurd cc
-both false b h = absurd cc
-
-is_valid : (h : HalfPlane) → is_half h ≡ true → IsHalfPlane h
+pub is_valid : (h : HalfPlane) → is_half h ≡ true → IsHalfPlane h
 is_valid h t =
     let d = ltb 0 (unsigned_abs h.a + unsigned_abs h.b) in
     let c = nat_le (unsigned_abs h.c) 70368744177664 && d in
     let b = nat_le (unsigned_abs h.b) 8388608 && c in
-    let p = both (nat_le (unsigned_abs h.a) 8388608) b t in
-    let q = both (nat_le (unsigned_abs h.b) 8388608) c p.1 in
-    let r = both (nat_le (unsigned_abs h.c) 70368744177664) d q.1 in
+    let p = and_parts (nat_le (unsigned_abs h.a) 8388608) b t in
+    let q = and_parts (nat_le (unsigned_abs h.b) 8388608) c p.1 in
+    let r = and_parts (nat_le (unsigned_abs h.c) 70368744177664) d q.1 in
     let x : unsigned_abs h.a ≤ 2 ^ 23 = grind (arith, nat_tests, p.0) in
     let y : unsigned_abs h.b ≤ 2 ^ 23 = grind (arith, nat_tests, q.0) in
     let z : unsigned_abs h.c ≤ 2 ^ 46 = grind (arith, nat_tests, r.0) in

@@ -16,3 +16,7 @@ pub mod Rects
 pub mod Saying
 pub mod Halves
 pub mod FeatureLines
+pub mod Ends
+pub mod Spelled
+pub mod Named
+pub mod Kept

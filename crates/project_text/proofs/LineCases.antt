@@ -8,7 +8,8 @@ use Rattle.project_terms.specs.declared.project_cause.ProjectCause.TheVariants a
 use Rattle.project_terms.specs.Drafts.{Draft, is_open, is_cell_open}
 use Rattle.project_terms.specs.Verdicts.{Verdict, WktReading, at, said, judged, is_one, is_none, number_of, class_of, rule_of, feature_of, rect_of, error_of, cell_of, next_verdict, class_verdict, rule_verdict, feature_verdict, dirty_verdict, error_verdict, cell_verdict, line_verdict}
 
-pick : (P : Verdict → Type 0) (w k : List ℕ) (x y : Verdict) → (w ≡ k → P x) → P y → P (if bytes_eq w k then x else y)
+-- by the word that it is
+pub pick : {V : Type 0} (P : V → Type 0) (w k : List ℕ) (x y : V) → (w ≡ k → P x) → P y → P (if bytes_eq w k then x else y)
 pick P w k x y h g = by (bytes_eq w k) refl
   where
     by : (b : Bool) → bytes_eq w k ≡ b → P (if b then x else y)

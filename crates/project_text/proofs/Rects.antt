@@ -1,34 +1,29 @@
--- Four numbers that are no rectangle fail the test of one.
+-- Four numbers that are no rectangle fail the test of one, and those that pass it are one.
 use Rattle.std.proofs.Common.{ℕ, pos, negsuc, zero, suc, ◌≡◌, ◌≤ℤ◌, Bool, true, false, ◌&&◌, refl, inl, inr, arith}
-use Rattle.std.proofs.lemmas.Bool.{cases_Bool}
+use Rattle.std.proofs.lemmas.Bool.{cases_Bool, and_parts}
 use Rattle.std.proofs.lemmas.Int.{ints}
 use Rattle.number_laws.proofs.Tests.{Decides-int_le}
 use Rattle.plane_terms.specs.Point.{InReach}
-use Rattle.plane_terms.specs.Rectangle.{Rectangle, IsProper, numbers_of, IsFirstOut}
+use Rattle.plane_terms.specs.Rectangle.{Rectangle, IsProper, IsRectangle, numbers_of, IsFirstOut}
 use Rattle.grid_plane.specs.Rectangles.{IsRectFault}
 use Rattle.grid_plane.specs.declared.fault.RectFault.{RectFault}
 use Rattle.grid_plane.specs.declared.fault.RectFault.TheVariants.{OutOfReach, Reversed}
 use Rattle.project_terms.specs.Drafts.{is_rectangle}
 
-both : (a b : Bool) → (a && b) ≡ true → (a ≡ true) × (b ≡ true)
-both true true h = (refl, refl)
-both true false h = absurd cc
-both false b h = absurd cc
+pub record AreSides (r : Rectangle) : Type 0 where
+  pub x0 : InReach r.x0
+  pub y0 : InReach r.y0
+  pub x1 : InReach r.x1
+  pub y1 : InReach r.y1
+  pub proper : IsProper r
 
-record AreSides (r : Rectangle) : Type 0 where
-  x0 : InReach r.x0
-  y0 : InReach r.y0
-  x1 : InReach r.x1
-  y1 : InReach r.y1
-  proper : IsProper r
-
-sides : (r : Rectangle) → is_rectangle r ≡ true → AreSides r
+pub sides : (r : Rectangle) → is_rectangle r ≡ true → AreSides r
 sides r h =
-    let b = both _ _ h in
-    let w1 = both _ _ b.0 in
-    let w2 = both _ _ w1.1 in
-    let w3 = both _ _ w2.1 in
-    let o = both _ _ b.1 in
+    let b = and_parts _ _ h in
+    let w1 = and_parts _ _ b.0 in
+    let w2 = and_parts _ _ w1.1 in
+    let w3 = and_parts _ _ w2.1 in
+    let o = and_parts _ _ b.1 in
     let left : negsuc 4194303 ≤ℤ r.x0 = (Decides-int_le (negsuc 4194303) r.x0).0 w1.0 in
     let right : r.x1 ≤ℤ pos 4194304 = (Decides-int_le r.x1 (pos 4194304)).0 w2.0 in
     let below : negsuc 4194303 ≤ℤ r.y0 = (Decides-int_le (negsuc 4194303) r.y0).0 w3.0 in
@@ -42,6 +37,11 @@ sides r h =
       y1 = record { low = omega (arith, ints); high = above };
       proper = record { wide = wide; high = high };
     }
+
+pub rectangle_there : (r : Rectangle) → is_rectangle r ≡ true → IsRectangle r
+rectangle_there r h =
+    let s = sides r h in
+    record { proper = s.proper; on_grid = record { left = s.x0.low; right = s.x1.high; below = s.y0.low; above = s.y1.high } }
 
 none_out : (k : ℕ) (r : Rectangle) → AreSides r → IsFirstOut k (numbers_of r) → ⊥
 none_out zero r s o = o s.x0

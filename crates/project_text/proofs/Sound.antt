@@ -2,6 +2,7 @@
 use Rattle.std.proofs.Common.{ℕ, ◌≡◌, ◌==◌, ◌-◌, Bool, true, false, ◌&&◌, ◌||◌, not, ltb, List, [], ◌∷◌, ◌++◌, length, Option, Some, None, Ok, Err, refl, sym, subst, arith}
 use Rattle.std.specs.Prelude.{IfOk, is_some}
 use Rattle.std.specs.List.{list_all, list_any}
+use Rattle.std.proofs.lemmas.Bool.{and_parts}
 use Rattle.std.proofs.lemmas.Bool.Decides.{nat_tests}
 use Rattle.plane_terms.specs.Lists.{Every}
 use Rattle.plane_terms.specs.Rectangle.{Rectangle}
@@ -64,10 +65,6 @@ cell_put (e ∷ []) c h = h
 cell_put (e ∷ f ∷ es) c h = (below_cell e (f ∷ es) c h.0, cell_put (f ∷ es) c h.1)
 
 -- ---- stages
-both_left : (a b : Bool) → (a && b) ≡ true → a ≡ true
-both_left true b h = refl
-both_left false b h = absurd cc
-
 pub before_title : (a : Stage) → may_follow a stage.Title ≡ true → a ≡ stage.Start
 before_title stage.Start h = refl
 before_title stage.Title h = absurd cc
@@ -91,7 +88,7 @@ before_next stage.Errors h = absurd cc
 before_next stage.End h = absurd cc
 
 pub open_next : (d : Draft) → is_open stage.Next d ≡ true → d.stage ≡ stage.Title
-open_next d h = before_next d.stage (both_left _ _ h)
+open_next d h = before_next d.stage ((and_parts _ _ h).0)
 
 -- ---- lines
 next_sound : (d : Draft) → IsSound d → (o : Option ℕ) → IfOk (next_numbered d o) IsSound
@@ -165,7 +162,7 @@ line_sound d h r [] = tt
 line_sound d h r (w ∷ fs) =
     line_by (λ v. IfOk v IsSound) r d w fs tt
     (λ k. at_ok stage.Title d _ IsSound (λ o. said_ok stage.Title d (is_one fs) IsSound
-    (λ b. record { early = λ e. cc; titled = λ e. h.early (before_title d.stage (both_left _ _ o)); ascending = h.ascending })))
+    (λ b. record { early = λ e. cc; titled = λ e. h.early (before_title d.stage ((and_parts _ _ o).0)); ascending = h.ascending })))
     (λ k. at_ok stage.Next d _ IsSound (λ o. judged_ok (next_verdict d) (number_of fs) IsSound (λ z e. next_sound d h (natural 1 4294967295 z))))
     (λ k. at_ok stage.Classes d _ IsSound (λ o. judged_ok (class_verdict d) (class_of fs) IsSound (λ c e. class_sound d h c)))
     (λ k. at_ok stage.Rules d _ IsSound (λ o. judged_ok (rule_verdict d) (rule_of fs) IsSound (λ q e. rule_sound d h q)))

@@ -3,12 +3,14 @@ ghost use Rattle.std.specs.Fmt.{signed_decimal};
 ghost use Rattle.topology_terms.specs.Project.{Project};
 ghost use Rattle.project_terms.specs.declared.project_cause.ProjectCause as terms;
 ghost use Rattle.project_terms.specs.Lines.{number};
+ghost use Rattle.project_terms.specs.Records.{IsRecord};
 ghost use Rattle.project_terms.specs.Texts.{IsRead, IsFault};
 
-/// The law of texts: a text says one project at most; where it says one, no line of it is wrong; and else one line is the first that
-/// is wrong, of one cause.
+/// The law of texts: a text says one project at most, and one that a text can say; where it says one, no line of it is wrong; and
+/// else one line is the first that is wrong, of one cause.
 pub fn one_text_law()
     ensures project { (t : List ℕ) (p q : Project) → IsRead t p → IsRead t q → p ≡ q }
+    ensures valid { (t : List ℕ) (p : Project) → IsRead t p → IsRecord p }
     ensures either { (t : List ℕ) (p : Project) (n : ℕ) (c : terms.ProjectCause) → IsRead t p → ¬ (IsFault t n c) }
     ensures fault { (t : List ℕ) (m n : ℕ) (b c : terms.ProjectCause) → IsFault t m b → IsFault t n c → (m ≡ n) × (b ≡ c) }
 {}

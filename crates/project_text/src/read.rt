@@ -1,5 +1,6 @@
-ghost use Rattle.std.specs.Prelude.{◌≡◌, ℕ, MatchResult};
+ghost use Rattle.std.specs.Prelude.{◌≡◌, ℕ, MatchResult, IfOk};
 ghost use Rattle.topology_terms.specs.Project.{Project};
+ghost use Rattle.project_terms.specs.Records.{IsRecord};
 ghost use Rattle.project_terms.specs.Texts.{IsRead, IsFault};
 ghost use Rattle.project_terms.specs.declared.project_cause.ProjectCause as terms;
 ghost use Rattle.project_text.specs.Reading.{IsProjectFault, IsFaultAt, at_line};
@@ -55,6 +56,7 @@ fn read_lines(alloc: Global, text: &[u8]) -> Result<ProjectData, ProjectFault>
 /// for each byte of the text, and for each two dirty rectangles.
 pub fn read_project(alloc: Global, text: &[u8]) -> Result<ProjectData, ProjectFault>
     ensures found { MatchResult result (λ p. IsRead text.now p) (λ e. IsProjectFault text.now e) }
+    ensures valid { IfOk result (λ p. IsRecord p) }
     ensures only { (p : Project) → IsRead text.now p → MatchResult result (λ q. q ≡ p) (λ e. e ≡ ProjectFault.NoMemory) }
     ensures first { (n : ℕ) (c : terms.ProjectCause) → IsFault text.now n c → MatchResult result (λ _. ⊥) (λ e. IsFaultAt n c e) }
 {

@@ -1,0 +1,627 @@
+-- What is read is a record: each draft is one, as far as it goes.
+--
+-- MayStand a s       a line of the stage s may stand behind the stage a
+-- AreStaged s p      what lines of a later stage alone say is not there yet
+-- AreClasses, AreRules, AreFeatures, AreDirt, AreErrors     what holds of each section
+-- IsStarted p e      what holds of an error whose cells are to come; AreFilled es: only the last lacks them
+-- IsKept d           the draft keeps all that
+use Rattle.std.proofs.Common.{ℕ, ℤ, ◌≡◌, ◌≢◌, ◌<◌, ◌≤◌, ◌-◌, ◌==◌, ltb, nat_le, Bool, true, false, ◌&&◌, ◌||◌, not, List, [], ◌∷◌, ◌++◌, length, Option, Some, None, Ok, Err, refl, sym, ap, subst, ◌∙◌, arith}
+use Rattle.std.specs.Prelude.{IfOk, IfSome, is_some, codes}
+use Rattle.std.specs.List.{list_all, list_any}
+use Rattle.std.proofs.lemmas.Bool.{not-true, not-false, and_parts, or_parts}
+use Rattle.std.proofs.lemmas.Bool.Decides.{nat_tests}
+use Rattle.plane_terms.proofs.ListLemmas.{every_map}
+use Rattle.plane_terms.specs.Lists.{Every, EveryPair}
+use Rattle.plane_terms.specs.Rectangle.{Rectangle, IsRectangle, is_within}
+use Rattle.plane_terms.specs.HalfPlane.{IsHalfPlane}
+use Rattle.plane_terms.specs.Cell.{Cell}
+use Rattle.plane_terms.specs.Dirt.{IsLoose, AreLoose}
+use Rattle.plane_terms.specs.Shape.{Shape}
+use Rattle.text_terms.specs.Fields.{is_name}
+use Rattle.wkt_terms.specs.Shapes.{shape_text}
+use Rattle.topology_terms.specs.Broken.{Row}
+use Rattle.topology_terms.specs.Feature.{Class, Feature}
+use Rattle.topology_terms.specs.Feature as features
+use Rattle.topology_terms.specs.Entry.{Entry, key_of}
+use Rattle.topology_terms.specs.Entry as entries
+use Rattle.topology_terms.specs.Lookups.{number_from, kind_of_class}
+use Rattle.topology_terms.specs.Causes.{is_kind, is_fit, is_row, is_there}
+use Rattle.topology_terms.specs.Project.{Project, InForce, rule_at, AreAscending, empty_project}
+use Rattle.feature_store.specs.Keeps.{IsStore}
+use Rattle.feature_store.proofs.Keeping.{none_of}
+use Rattle.feature_store.proofs.Keeping as store
+use Rattle.project_terms.specs.declared.stage.Stage.{Stage}
+use Rattle.project_terms.specs.declared.stage.Stage.TheVariants as stage
+use Rattle.project_terms.specs.declared.project_cause.ProjectCause.TheVariants as cause
+use Rattle.project_terms.specs.Lines.{fields, natural}
+use Rattle.project_terms.specs.Records.{IsNumbered, IsPlaced, IsError, IsRecord}
+use Rattle.project_terms.specs.Drafts.{Draft, start, rank, may_follow, is_open, is_cell_open, is_bare, takes_cell, wants_cell, with_cell, last_in, is_last_key, is_rectangle, is_half}
+use Rattle.project_terms.specs.Verdicts.{Verdict, WktReading, Unwritten, Refused, Written, RuleForm, FeatureForm, ErrorForm, is_one, is_none, number_of, class_of, rule_of, row_of, feature_of, rect_of, error_of, cell_of, next_verdict, next_numbered, class_verdict, rule_verdict, rule_numbered, rule_in, feature_verdict, feature_numbered, feature_in, are_nested, dirty_verdict, error_verdict, error_in, error_ruled, with_error, cell_verdict, line_verdict, wkt_of}
+use Rattle.project_terms.specs.Texts.{AreRead, IsVerdict, IsReading, IsRead}
+use Rattle.project_text.proofs.Ends.{every_end, pairs_end, none_pass, ascending_end}
+use Rattle.project_text.proofs.Spelled.{class_said, IsCellLine, cell_said}
+use Rattle.project_text.proofs.Named.{natural_said, kind_there, row_said}
+use Rattle.project_text.proofs.Halves.{is_valid}
+use Rattle.project_text.proofs.Rects.{rectangle_there}
+use Rattle.project_text.proofs.LineCases.{line_by, at_ok, judged_ok, said_ok, if_ok}
+use Rattle.project_text.proofs.Sound.{open_next}
+use Rattle.project_text.proofs.Sound as sound
+
+-- ---- stages
+pub record MayStand (a s : Stage) : Type 0 where
+  pub up : rank a ≤ rank s
+  pub begun : 3 ≤ rank s → 2 ≤ rank a
+  pub on : rank a ≤ 7
+
+in_section : (a s : Stage) → 2 ≤ rank a → rank a ≤ 7 → (nat_le 3 (rank s) && nat_le (rank a) (rank s)) ≡ true → MayStand a s
+in_section a s some on h =
+    let b = and_parts (nat_le 3 (rank s)) (nat_le (rank a) (rank s)) h in
+    record { up = grind (arith, nat_tests, b.1); begun = λ e. some; on = on }
+
+pub may_stand : (a s : Stage) → may_follow a s ≡ true → MayStand a s
+may_stand stage.Start s h =
+    let e : rank s ≡ 1 = grind (arith, nat_tests, h) in
+    record { up = omega (arith, e); begun = λ k. absurd (omega (arith, e, k)); on = omega arith }
+may_stand stage.Title s h =
+    let e : rank s ≡ 2 = grind (arith, nat_tests, h) in
+    record { up = omega (arith, e); begun = λ k. absurd (omega (arith, e, k)); on = omega arith }
+may_stand stage.Next s h = in_section stage.Next s (omega arith) (omega arith) h
+may_stand stage.Classes s h = in_section stage.Classes s (omega arith) (omega arith) h
+may_stand stage.Rules s h = in_section stage.Rules s (omega arith) (omega arith) h
+may_stand stage.Features s h = in_section stage.Features s (omega arith) (omega arith) h
+may_stand stage.Dirt s h = in_section stage.Dirt s (omega arith) (omega arith) h
+may_stand stage.Errors s h = in_section stage.Errors s (omega arith) (omega arith) h
+may_stand stage.End s h = absurd cc
+
+pub opened : (s : Stage) (d : Draft) → is_open s d ≡ true → MayStand d.stage s × (wants_cell d.project.entries ≡ false)
+opened s d o =
+    let b = and_parts (may_follow d.stage s) (not (wants_cell d.project.entries)) o in
+    (may_stand d.stage s b.0, not-true (wants_cell d.project.entries) b.1)
+
+pub record AreStaged (s : Stage) (p : Project) : Type 0 where
+  pub next : 2 ≤ rank s → (1 ≤ p.next) × (p.next ≤ 4294967295)
+  pub classes : rank s ≤ 2 → p.classes ≡ []
+  pub rules : rank s ≤ 3 → p.rules ≡ []
+  pub features : rank s ≤ 4 → p.features ≡ []
+  pub dirt : rank s ≤ 5 → p.dirt ≡ []
+  pub entries : rank s ≤ 6 → p.entries ≡ []
+
+restaged : (a s : Stage) (p : Project) → MayStand a s → rank s ≢ 2 → AreStaged a p → AreStaged s p
+restaged a s p m n h = record {
+  next = λ e. h.next (m.begun (omega (arith, n, e)));
+  classes = λ e. h.classes (omega (arith, m.up, e));
+  rules = λ e. h.rules (omega (arith, m.up, e));
+  features = λ e. h.features (omega (arith, m.up, e));
+  dirt = λ e. h.dirt (omega (arith, m.up, e));
+  entries = λ e. h.entries (omega (arith, m.up, e));
+}
+
+-- ---- sections
+pub record AreClasses (cs : List Class) : Type 0 where
+  pub few : length cs ≤ 64
+  pub names : Every (λ (c : Class). is_name c.name ≡ true) cs
+  pub unlike : EveryPair (λ (c d : Class). c.name ≢ d.name) cs
+
+pub record AreRules (cs : List Class) (rs : List InForce) : Type 0 where
+  pub numbers : Every IsNumbered rs
+  pub ascending : AreAscending rs
+  pub fit : Every (λ (q : InForce). is_fit cs q.row ≡ true) rs
+  pub apart : EveryPair (λ (q r : InForce). is_row q.row r.row ≡ false) rs
+
+pub record AreFeatures (p : Project) (F : List Feature) : Type 0 where
+  pub placed : Every (IsPlaced p) F
+  pub ascending : features.IsAscending F
+
+pub record AreDirt (D : List Rectangle) : Type 0 where
+  pub rectangles : Every IsRectangle D
+  pub loose : IsLoose D
+
+pub record IsStarted (p : Project) (e : Entry) : Type 0 where
+  pub from_1 : 1 ≤ e.subject
+  pub given : e.subject < p.next
+  pub partner : e.other < p.next
+  pub frame : IsRectangle e.frame
+  pub whole : e.whole ≡ true → (e.other ≡ 0) × (e.cells ≡ [])
+  pub some : Every (λ (c : Cell). c ≢ []) e.cells
+  pub halves : Every (λ (c : Cell). Every IsHalfPlane c) e.cells
+  pub rule : (row : Row) × (rule_at p.rules e.rule ≡ Some row)
+  pub numbered : (1 ≤ e.rule) × (e.rule ≤ 256)
+
+abbrev pub HasCells : Entry → Type 0
+HasCells e = e.whole ≡ false → e.cells ≢ []
+
+abbrev pub AreFilled : List Entry → Type 0
+AreFilled [] = Unit {0}
+AreFilled (e ∷ []) = Unit {0}
+AreFilled (e ∷ f ∷ es) = HasCells e × AreFilled (f ∷ es)
+
+pub record AreErrors (p : Project) (es : List Entry) : Type 0 where
+  pub started : Every (IsStarted p) es
+  pub filled : AreFilled es
+  pub ascending : entries.IsAscending es
+
+-- what features and errors look at
+abbrev pub head_of : Project → Project
+head_of p = record empty_project { classes = p.classes; rules = p.rules; next = p.next }
+
+pub record IsKept (d : Draft) : Type 0 where
+  pub staged : AreStaged d.stage d.project
+  pub classes : AreClasses d.project.classes
+  pub rules : AreRules d.project.classes d.project.rules
+  pub features : AreFeatures (head_of d.project) d.project.features
+  pub dirt : AreDirt d.project.dirt
+  pub errors : AreErrors (head_of d.project) d.project.entries
+  pub over : rank d.stage ≡ 8 → wants_cell d.project.entries ≡ false
+
+no_rules : (cs : List Class) (rs : List InForce) → rs ≡ [] → AreRules cs rs
+no_rules cs rs e = subst (AreRules cs) (sym e) (record { numbers = tt; ascending = tt; fit = tt; apart = tt })
+
+no_features : (p : Project) (F : List Feature) → F ≡ [] → AreFeatures p F
+no_features p F e = subst (AreFeatures p) (sym e) (record { placed = tt; ascending = tt })
+
+no_errors : (p : Project) (es : List Entry) → es ≡ [] → AreErrors p es
+no_errors p es e = subst (AreErrors p) (sym e) (record { started = tt; filled = tt; ascending = tt })
+
+pub start_kept : IsKept start
+start_kept = record {
+  staged = record {
+    next = λ e. absurd (omega (arith, e));
+    classes = λ e. refl;
+    rules = λ e. refl;
+    features = λ e. refl;
+    dirt = λ e. refl;
+    entries = λ e. refl;
+  };
+  classes = record { few = omega arith; names = tt; unlike = tt };
+  rules = no_rules [] [] refl;
+  features = no_features (head_of empty_project) [] refl;
+  dirt = record { rectangles = tt; loose = tt };
+  errors = no_errors (head_of empty_project) [] refl;
+  over = λ e. absurd (omega (arith, e));
+}
+
+-- ---- lines that say nothing else
+said_kept : (s : Stage) (d : Draft) → IsKept d → is_open s d ≡ true → rank s ≢ 2 → IsKept (record d { stage = s })
+said_kept s d h o n =
+    let b = opened s d o in
+    record {
+      staged = restaged d.stage s d.project b.0 n h.staged;
+      classes = h.classes;
+      rules = h.rules;
+      features = h.features;
+      dirt = h.dirt;
+      errors = h.errors;
+      over = λ e. b.1;
+    }
+
+-- ---- the next handle
+next_kept : (d : Draft) → IsKept d → is_open stage.Next d ≡ true → (z : ℤ) → IfOk (next_verdict d z) IsKept
+next_kept d h o z = by (natural 1 4294967295 z) refl
+  where
+    at_title : rank d.stage ≤ 2
+    at_title = let b = opened stage.Next d o in b.0.up
+
+    by : (n : Option ℕ) → natural 1 4294967295 z ≡ n → IfOk (next_numbered d n) IsKept
+    by None e = tt
+    by (Some n) e =
+        let b = natural_said 1 4294967295 z n e in
+        let t = at_title in
+        let rules = h.staged.rules (omega (arith, t)) in
+        let features = h.staged.features (omega (arith, t)) in
+        let entries = h.staged.entries (omega (arith, t)) in
+        record {
+          staged = record {
+            next = λ k. (b.1, b.2);
+            classes = λ k. h.staged.classes t;
+            rules = λ k. rules;
+            features = λ k. features;
+            dirt = λ k. h.staged.dirt (omega (arith, t));
+            entries = λ k. entries;
+          };
+          classes = h.classes;
+          rules = h.rules;
+          features = no_features _ d.project.features features;
+          dirt = h.dirt;
+          errors = no_errors _ d.project.entries entries;
+          over = λ k. absurd (omega (arith, k));
+        }
+
+-- ---- a class
+class_put : (cs : List Class) (c : Class) → AreClasses cs → is_name c.name ≡ true → (length cs == 64) ≡ false → number_from 1 cs c.name ≡ None
+    → AreClasses (cs ++ c ∷ [])
+class_put cs c h name few free =
+    let before : IsStore cs [] 1 = record {
+      few = h.few;
+      names = h.unlike;
+      ascending = tt;
+      given = tt;
+      kinds = tt;
+      simple = tt;
+      from_1 = omega arith;
+    } in
+    let left : length cs ≢ 64 = λ e. let t : (length cs == 64) ≡ true = grind (arith, nat_tests, e) in cc in
+    let after = store.class_kept cs [] 1 c c.name refl free left before in
+    record { few = after.few; names = every_end (λ (d : Class). is_name d.name ≡ true) cs c h.names name; unlike = after.names }
+
+class_kept : (d : Draft) → IsKept d → is_open stage.Classes d ≡ true → (c : Class) → is_name c.name ≡ true → IfOk (class_verdict d c) IsKept
+class_kept d h o c name = if_ok (length d.project.classes == 64) (Err cause.Range) _ IsKept (λ e. tt)
+    (λ e. if_ok (is_some (number_from 1 d.project.classes c.name)) (Err cause.Order) _ IsKept (λ k. tt) (λ k.
+    let s = restaged d.stage stage.Classes d.project (opened stage.Classes d o).0 (λ n. absurd (omega (arith, n))) h.staged in
+    let rules = s.rules (omega arith) in
+    let features = s.features (omega arith) in
+    let entries = s.entries (omega arith) in
+    record {
+      staged = record {
+        next = s.next;
+        classes = λ n. absurd (omega (arith, n));
+        rules = s.rules;
+        features = s.features;
+        dirt = s.dirt;
+        entries = s.entries;
+      };
+      classes = class_put d.project.classes c h.classes name e (none_of (number_from 1 d.project.classes c.name) k);
+      rules = no_rules _ d.project.rules rules;
+      features = no_features _ d.project.features features;
+      dirt = h.dirt;
+      errors = no_errors _ d.project.entries entries;
+      over = λ n. absurd (omega (arith, n));
+    }))
+
+-- ---- a rule
+rule_put : (cs : List Class) (rs : List InForce) (q : InForce) → AreRules cs rs → IsNumbered q → is_fit cs q.row ≡ true
+    → (not (ltb (last_in (λ (r : InForce). r.number) rs) q.number) || is_there rs q.row) ≡ false → AreRules cs (rs ++ q ∷ [])
+rule_put cs rs q h n fit free =
+    let b = or_parts (not (ltb (last_in (λ (r : InForce). r.number) rs) q.number)) (is_there rs q.row) free in
+    let t = not-false (ltb (last_in (λ (r : InForce). r.number) rs) q.number) b.0 in
+    let less : last_in (λ (r : InForce). r.number) rs < q.number = grind (arith, nat_tests, t) in
+    record {
+      numbers = every_end IsNumbered rs q h.numbers n;
+      ascending = ascending_end (λ (r : InForce). r.number) rs q h.ascending less;
+      fit = every_end (λ (r : InForce). is_fit cs r.row ≡ true) rs q h.fit fit;
+      apart = pairs_end (λ (r s : InForce). is_row r.row s.row ≡ false) rs q h.apart (none_pass (λ (r : InForce). is_row r.row q.row) rs b.1);
+    }
+
+rule_kept : (d : Draft) → IsKept d → is_open stage.Rules d ≡ true → (q : RuleForm) → IfOk (rule_verdict d q) IsKept
+rule_kept d h o q = numbered (natural 1 256 q.number) refl
+  where
+    put : (r : InForce) → IsNumbered r → is_fit d.project.classes r.row ≡ true
+        → (not (ltb (last_in (λ (s : InForce). s.number) d.project.rules) r.number) || is_there d.project.rules r.row) ≡ false
+        → IsKept (record { stage = stage.Rules; project = record d.project { rules = d.project.rules ++ r ∷ [] } })
+    put r n fit free =
+        let s = restaged d.stage stage.Rules d.project (opened stage.Rules d o).0 (λ n. absurd (omega (arith, n))) h.staged in
+        let features = s.features (omega arith) in
+        let entries = s.entries (omega arith) in
+        record {
+          staged = record {
+            next = s.next;
+            classes = s.classes;
+            rules = λ n. absurd (omega (arith, n));
+            features = s.features;
+            dirt = s.dirt;
+            entries = s.entries;
+          };
+          classes = h.classes;
+          rules = rule_put d.project.classes d.project.rules r h.rules n fit free;
+          features = no_features _ d.project.features features;
+          dirt = h.dirt;
+          errors = no_errors _ d.project.entries entries;
+          over = λ n. absurd (omega (arith, n));
+        }
+
+    in_force : (n : ℕ) → (1 ≤ n) × (n ≤ 256) → (r : Option Row) → row_of d.project.classes q ≡ r → IfOk (rule_in d n r) IsKept
+    in_force n b None e = tt
+    in_force n b (Some r) e = if_ok _ (Err cause.Order) _ IsKept (λ k. tt)
+        (λ k. put (record { number = n; row = r }) b (row_said d.project.classes q r e).fit k)
+
+    numbered : (n : Option ℕ) → natural 1 256 q.number ≡ n → IfOk (rule_numbered d q n) IsKept
+    numbered None e = tt
+    numbered (Some n) e =
+        let b = natural_said 1 256 q.number n e in in_force n (b.1, b.2) (row_of d.project.classes q) refl
+
+-- ---- a feature
+feature_kept : (d : Draft) → IsKept d → is_open stage.Features d ≡ true → (r : WktReading) (f : FeatureForm) → IsReading f.wkt r
+    → IfOk (feature_verdict r d f) IsKept
+feature_kept d h o Unwritten f reading = tt
+feature_kept d h o Refused f reading = tt
+feature_kept d h o (Written s) f reading = numbered (natural 1 (d.project.next - 1) f.handle) refl
+  where
+    put : (g : Feature) → IsPlaced (head_of d.project) g → ltb (last_in (λ (f : Feature). f.handle) d.project.features) g.handle ≡ true
+        → IsKept (record { stage = stage.Features; project = record d.project { features = d.project.features ++ g ∷ [] } })
+    put g placed t =
+        let s = restaged d.stage stage.Features d.project (opened stage.Features d o).0 (λ n. absurd (omega (arith, n))) h.staged in
+        let less : last_in (λ (f : Feature). f.handle) d.project.features < g.handle = grind (arith, nat_tests, t) in
+        record {
+          staged = record {
+            next = s.next;
+            classes = s.classes;
+            rules = s.rules;
+            features = λ n. absurd (omega (arith, n));
+            dirt = s.dirt;
+            entries = s.entries;
+          };
+          classes = h.classes;
+          rules = h.rules;
+          features = record {
+            placed = every_end (IsPlaced (head_of d.project)) d.project.features g h.features.placed placed;
+            ascending = ascending_end (λ (f : Feature). f.handle) d.project.features g h.features.ascending less;
+          };
+          dirt = h.dirt;
+          errors = h.errors;
+          over = λ n. absurd (omega (arith, n));
+        }
+
+    short : length (shape_text s) ≤ 1048576
+    short = subst (λ (t : List ℕ). length t ≤ 1048576) reading.0.written reading.0.short
+
+    of_class : (n : ℕ) → (1 ≤ n) × (n ≤ d.project.next - 1) → (c : Option ℕ) → IfOk (feature_in d n s c) IsKept
+    of_class n b None = tt
+    of_class n b (Some c) = if_ok (is_kind (kind_of_class d.project.classes c) s.kind) _ (Err cause.Unknown) IsKept
+        (λ e. if_ok (ltb (last_in (λ (g : Feature). g.handle) d.project.features) n) _ (Err cause.Order) IsKept
+        (λ k. put (record { handle = n; class = c; shape = s }) (record {
+          from_1 = b.0;
+          given = omega (arith, b.0, b.1);
+          kind = kind_there (kind_of_class d.project.classes c) s.kind e;
+          shape = reading.0.says.valid;
+          short = short;
+        }) k) (λ k. tt)) (λ e. tt)
+
+    numbered : (n : Option ℕ) → natural 1 (d.project.next - 1) f.handle ≡ n → IfOk (feature_numbered d f s n) IsKept
+    numbered None e = tt
+    numbered (Some n) e =
+        let b = natural_said 1 (d.project.next - 1) f.handle n e in of_class n (b.1, b.2) (number_from 1 d.project.classes f.class)
+
+-- ---- a dirty rectangle
+none_nested : (r : Rectangle) (D : List Rectangle) → list_any (are_nested r) D ≡ false → Every (λ s. AreLoose s r) D
+none_nested r D e = every_map (λ s. are_nested r s ≡ false) (λ s. AreLoose s r)
+    (λ s k. let b = or_parts (is_within r s) (is_within s r) k in record { left = b.1; right = b.0 }) D (none_pass (are_nested r) D e)
+
+dirty_kept : (d : Draft) → IsKept d → is_open stage.Dirt d ≡ true → (r : Rectangle) → IfOk (dirty_verdict d r) IsKept
+dirty_kept d h o r = if_ok (not (is_rectangle r)) (Err cause.Range) _ IsKept (λ e. tt)
+    (λ e. if_ok (list_any (are_nested r) d.project.dirt) (Err cause.Order) _ IsKept (λ k. tt) (λ k.
+    let s = restaged d.stage stage.Dirt d.project (opened stage.Dirt d o).0 (λ n. absurd (omega (arith, n))) h.staged in
+    record {
+      staged = record {
+        next = s.next;
+        classes = s.classes;
+        rules = s.rules;
+        features = s.features;
+        dirt = λ n. absurd (omega (arith, n));
+        entries = s.entries;
+      };
+      classes = h.classes;
+      rules = h.rules;
+      features = h.features;
+      dirt = record {
+        rectangles = every_end IsRectangle d.project.dirt r h.dirt.rectangles (rectangle_there r (not-false (is_rectangle r) e));
+        loose = pairs_end AreLoose d.project.dirt r h.dirt.loose (none_nested r d.project.dirt k);
+      };
+      errors = h.errors;
+      over = λ n. absurd (omega (arith, n));
+    }))
+
+-- ---- an error
+not_bare : (w : Bool) (cs : List Cell) → (not w && is_bare cs) ≡ false → w ≡ false → cs ≢ []
+not_bare true cs h e = absurd cc
+not_bare false [] h e = absurd cc
+not_bare false (c ∷ cs) h e = λ n. absurd cc
+
+all_filled : (es : List Entry) → AreFilled es → wants_cell es ≡ false → Every HasCells es
+all_filled [] h w = tt
+all_filled (e ∷ []) h w = (λ k. not_bare e.whole e.cells w k, tt)
+all_filled (e ∷ f ∷ es) h w = (h.0, all_filled (f ∷ es) h.1 w)
+
+filled_end : (es : List Entry) (e : Entry) → Every HasCells es → AreFilled (es ++ e ∷ [])
+filled_end [] e h = tt
+filled_end (f ∷ []) e h = (h.0, tt)
+filled_end (f ∷ g ∷ es) e h = (h.0, filled_end (g ∷ es) e h.1)
+
+error_put : (p : Project) (es : List Entry) (e : Entry) → AreErrors p es → wants_cell es ≡ false → IsStarted p e
+    → is_last_key es (key_of e) ≡ true → AreErrors p (es ++ e ∷ [])
+error_put p es e h full started last = record {
+  started = every_end (IsStarted p) es e h.started started;
+  filled = filled_end es e (all_filled es h.filled full);
+  ascending = sound.put_last es e h.ascending last;
+}
+
+rule_there : (rs : List InForce) (n : ℕ) → is_some (rule_at rs n) ≡ true → (row : Row) × (rule_at rs n ≡ Some row)
+rule_there rs n t = by (rule_at rs n) refl t
+  where
+    by : (o : Option Row) → rule_at rs n ≡ o → is_some o ≡ true → (row : Row) × (rule_at rs n ≡ Some row)
+    by None e k = absurd cc
+    by (Some row) e k = (row, e)
+
+is_zero : (w : Bool) (n : ℕ) → (w && not (n == 0)) ≡ false → w ≡ true → n ≡ 0
+is_zero true n h e = grind (arith, nat_tests, not-false (n == 0) h)
+is_zero false n h e = absurd cc
+
+error_kept : (d : Draft) → IsKept d → is_open stage.Errors d ≡ true → (marked : Bool) (e : ErrorForm) → IfOk (error_verdict marked d e) IsKept
+error_kept d h o marked e =
+    handled (natural 1 (d.project.next - 1) e.subject) refl (natural 0 (d.project.next - 1) e.other) refl
+  where
+    put : (x : Entry) → IsStarted (head_of d.project) x → IfOk (with_error d x) IsKept
+    put x started = if_ok (is_last_key d.project.entries (x.rule, x.subject, x.other)) _ (Err cause.Order) IsKept
+        (λ k.
+        let b = opened stage.Errors d o in
+        let s = restaged d.stage stage.Errors d.project b.0 (λ n. absurd (omega (arith, n))) h.staged in
+        record {
+          staged = record {
+            next = s.next;
+            classes = s.classes;
+            rules = s.rules;
+            features = s.features;
+            dirt = s.dirt;
+            entries = λ n. absurd (omega (arith, n));
+          };
+          classes = h.classes;
+          rules = h.rules;
+          features = h.features;
+          dirt = h.dirt;
+          errors = error_put (head_of d.project) d.project.entries x h.errors b.1 started k;
+          over = λ n. absurd (omega (arith, n));
+        }) (λ k. tt)
+
+    ruled : (a b : ℕ) → (1 ≤ a) × (a ≤ d.project.next - 1) → b ≤ d.project.next - 1
+        → (not (is_rectangle e.frame) || (e.whole && not (b == 0))) ≡ false → (r : Option ℕ) → natural 1 256 e.rule ≡ r
+        → IfOk (error_ruled d marked e a b r) IsKept
+    ruled a b i j fits None k = tt
+    ruled a b i j fits (Some r) k = if_ok (is_some (rule_at d.project.rules r)) _ (Err cause.Unknown) IsKept (λ t.
+        let g = or_parts (not (is_rectangle e.frame)) (e.whole && not (b == 0)) fits in
+        let n = natural_said 1 256 e.rule r k in
+        put _ (record {
+          from_1 = i.0;
+          given = omega (arith, i.0, i.1);
+          partner = omega (arith, i.0, i.1, j);
+          frame = rectangle_there e.frame (not-false (is_rectangle e.frame) g.0);
+          whole = λ w. (is_zero e.whole b g.1 w, refl);
+          some = tt;
+          halves = tt;
+          rule = rule_there d.project.rules r t;
+          numbered = (n.1, n.2);
+        })) (λ t. tt)
+
+    handled : (a : Option ℕ) → natural 1 (d.project.next - 1) e.subject ≡ a → (b : Option ℕ) → natural 0 (d.project.next - 1) e.other ≡ b
+        → IfOk (error_in d marked e a b) IsKept
+    handled None i b j = tt
+    handled (Some a) i None j = tt
+    handled (Some a) i (Some b) j =
+        let m = natural_said 1 (d.project.next - 1) e.subject a i in
+        let n = natural_said 0 (d.project.next - 1) e.other b j in
+        if_ok (not (is_rectangle e.frame) || (e.whole && not (b == 0))) (Err cause.Range) _ IsKept (λ k. tt)
+        (λ k. ruled a b (m.1, m.2) n.2 k (natural 1 256 e.rule) refl)
+
+-- ---- a cell
+filled_cell : (es : List Entry) (c : Cell) → AreFilled es → AreFilled (with_cell es c)
+filled_cell [] c h = tt
+filled_cell (e ∷ []) c h = tt
+filled_cell (e ∷ f ∷ []) c h = (h.0, tt)
+filled_cell (e ∷ f ∷ g ∷ es) c h = (h.0, filled_cell (f ∷ g ∷ es) c h.1)
+
+started_cell : (p : Project) (es : List Entry) (c : Cell) → takes_cell es ≡ true → c ≢ [] → Every IsHalfPlane c → Every (IsStarted p) es
+    → Every (IsStarted p) (with_cell es c)
+started_cell p [] c t some fit h = tt
+started_cell p (e ∷ []) c t some fit h = (
+  record {
+    from_1 = h.0.from_1;
+    given = h.0.given;
+    partner = h.0.partner;
+    frame = h.0.frame;
+    whole = λ w. absurd (let u = not-true e.whole t in cc);
+    some = every_end (λ (k : Cell). k ≢ []) e.cells c h.0.some some;
+    halves = every_end (λ (k : Cell). Every IsHalfPlane k) e.cells c h.0.halves fit;
+    rule = h.0.rule;
+    numbered = h.0.numbered;
+  },
+  tt,
+)
+started_cell p (e ∷ f ∷ es) c t some fit h = (h.0, started_cell p (f ∷ es) c t some fit h.1)
+
+pub all_valid : (c : Cell) → list_all is_half c ≡ true → Every IsHalfPlane c
+all_valid [] t = tt
+all_valid (h ∷ hs) t = let b = and_parts (is_half h) (list_all is_half hs) t in (is_valid h b.0, all_valid hs b.1)
+
+cell_kept : (d : Draft) → IsKept d → is_cell_open d ≡ true → (c : Cell) → c ≢ [] → IfOk (cell_verdict d c) IsKept
+cell_kept d h o c some = if_ok (list_all is_half c) _ (Err cause.Range) IsKept (λ k.
+    let b = and_parts (may_follow d.stage stage.Errors) (takes_cell d.project.entries) o in
+    let m = may_stand d.stage stage.Errors b.0 in
+    record {
+      staged = record {
+        next = h.staged.next;
+        classes = h.staged.classes;
+        rules = h.staged.rules;
+        features = h.staged.features;
+        dirt = h.staged.dirt;
+        entries = λ n. absurd (let u = rw (h.staged.entries n) at b.1 in cc);
+      };
+      classes = h.classes;
+      rules = h.rules;
+      features = h.features;
+      dirt = h.dirt;
+      errors = record {
+        started = started_cell (head_of d.project) d.project.entries c b.1 some (all_valid c k) h.errors.started;
+        filled = filled_cell d.project.entries c h.errors.filled;
+        ascending = sound.cell_put d.project.entries c h.errors.ascending;
+      };
+      over = λ n. absurd (omega (arith, n, m.on));
+    }) (λ k. tt)
+
+-- ---- lines
+-- the shape's text of a line of a feature is read
+pub shape_read : (d : Draft) (w : List ℕ) (fs : List (List ℕ)) (r : WktReading) (f : FeatureForm) → w ≡ codes "feature"
+    → is_open stage.Features d ≡ true → feature_of fs ≡ Some f → IfSome (wkt_of d (w ∷ fs)) (λ t. IsReading t r) → IsReading f.wkt r
+shape_read d w fs r f k o e h =
+    let g = subst (λ (x : List ℕ). IfSome (wkt_of d (x ∷ fs)) (λ t. IsReading t r)) k h in
+    rw (o, e) at g
+
+line_kept : (d : Draft) → IsKept d → (r : WktReading) (fs : List (List ℕ)) → IfSome (wkt_of d fs) (λ t. IsReading t r)
+    → IfOk (line_verdict r d fs) IsKept
+line_kept d h r [] reading = tt
+line_kept d h r (w ∷ fs) reading =
+    line_by (λ v. IfOk v IsKept) r d w fs tt
+    (λ k. at_ok stage.Title d _ IsKept (λ o. said_ok stage.Title d (is_one fs) IsKept
+    (λ b. said_kept stage.Title d h o (λ n. absurd (omega (arith, n))))))
+    (λ k. at_ok stage.Next d _ IsKept (λ o. judged_ok (next_verdict d) (number_of fs) IsKept (λ z e. next_kept d h o z)))
+    (λ k. at_ok stage.Classes d _ IsKept (λ o. judged_ok (class_verdict d) (class_of fs) IsKept
+    (λ c e. class_kept d h o c (class_said fs c e).0)))
+    (λ k. at_ok stage.Rules d _ IsKept (λ o. judged_ok (rule_verdict d) (rule_of fs) IsKept (λ q e. rule_kept d h o q)))
+    (λ k. at_ok stage.Features d _ IsKept (λ o. judged_ok (feature_verdict r d) (feature_of fs) IsKept
+    (λ f e. feature_kept d h o r f (shape_read d w fs r f k o e reading))))
+    (λ k. at_ok stage.Dirt d _ IsKept (λ o. judged_ok (dirty_verdict d) (rect_of fs) IsKept (λ q e. dirty_kept d h o q)))
+    (λ k. at_ok stage.Errors d _ IsKept (λ o. judged_ok (error_verdict false d) (error_of fs) IsKept (λ q e. error_kept d h o false q)))
+    (λ k. at_ok stage.Errors d _ IsKept (λ o. judged_ok (error_verdict true d) (error_of fs) IsKept (λ q e. error_kept d h o true q)))
+    (λ k. if_ok (is_cell_open d) _ (Err cause.Form) IsKept (λ o. judged_ok (cell_verdict d) (cell_of fs) IsKept
+    (λ c e. cell_kept d h o c (cell_said fs c e).some)) (λ o. tt))
+    (λ k. at_ok stage.End d _ IsKept (λ o. said_ok stage.End d (is_none fs) IsKept
+    (λ b. said_kept stage.End d h o (λ n. absurd (omega (arith, n))))))
+
+pub verdict_kept : (d m : Draft) (l : List ℕ) → IsKept d → IsVerdict d l (Ok m) → IsKept m
+verdict_kept d m l h (r, k, v) = let P : Verdict → Type 0 = λ x. IfOk x IsKept in subst P (sym v) (line_kept d h r (fields l) k)
+
+pub read_kept : (ls : List (List ℕ)) (d e : Draft) → IsKept d → AreRead d ls e → IsKept e
+read_kept [] d e h r = subst IsKept r h
+read_kept (l ∷ ls) d e h (m, v, r) = read_kept ls m e (verdict_kept d m l h v) r
+
+-- ---- the end
+all_placed : (p : Project) (F : List Feature) → Every (IsPlaced (head_of p)) F → Every (IsPlaced p) F
+all_placed p F h = every_map (IsPlaced (head_of p)) (IsPlaced p)
+    (λ f g. record { from_1 = g.from_1; given = g.given; kind = g.kind; shape = g.shape; short = g.short }) F h
+
+all_errors : (p : Project) (es : List Entry) → Every (IsStarted (head_of p)) es → Every HasCells es → Every (IsError p) es
+all_errors p [] h k = tt
+all_errors p (e ∷ es) h k = (
+  record {
+    from_1 = h.0.from_1;
+    given = h.0.given;
+    partner = h.0.partner;
+    frame = h.0.frame;
+    whole = h.0.whole;
+    cells = k.0;
+    some = h.0.some;
+    halves = h.0.halves;
+    rule = h.0.rule;
+    numbered = h.0.numbered;
+  },
+  all_errors p es h.1 k.1,
+)
+
+made : (d : Draft) → IsKept d → d.stage ≡ stage.End → IsRecord d.project
+made d h over =
+    let last : rank d.stage ≡ 8 = ap rank over in
+    record {
+      next = h.staged.next (omega (arith, last));
+      few = h.classes.few;
+      names = h.classes.names;
+      unlike = h.classes.unlike;
+      numbers = h.rules.numbers;
+      rules = h.rules.ascending;
+      fit = h.rules.fit;
+      apart = h.rules.apart;
+      placed = all_placed d.project d.project.features h.features.placed;
+      features = h.features.ascending;
+      rectangles = h.dirt.rectangles;
+      loose = h.dirt.loose;
+      errors = all_errors d.project d.project.entries h.errors.started (all_filled d.project.entries h.errors.filled (h.over last));
+      entries = h.errors.ascending;
+    }
+
+pub read_record : (t : List ℕ) (p : Project) → IsRead t p → IsRecord p
+read_record t p (ls, d, b, over, said) = subst IsRecord said (made d (read_kept ls start d start_kept b.read) over)

@@ -1,0 +1,82 @@
+-- Numbers within limits, and classes by their names.
+use Rattle.std.proofs.Common.{ℕ, ℤ, pos, negsuc, suc, zero, ◌≡◌, ◌≤◌, ◌+◌, ◌-◌, ◌==◌, Bool, true, false, ◌&&◌, nat_le, List, [], ◌∷◌, Option, Some, None, if◌then◌else◌, refl, sym, ap, subst, ◌∙◌, arith}
+use Rattle.std.specs.Prelude.{bytes_eq, slice_get}
+use Rattle.std.proofs.lemmas.Bool.Decides.{nat_tests}
+use Rattle.std.proofs.lemmas.Slice.Eq.{bytes_eq-Decides}
+use Rattle.std.proofs.lemmas.Bool.{and_parts}
+use Rattle.plane_terms.specs.declared.kind.Kind.{Kind}
+use Rattle.topology_terms.specs.Feature.{Class}
+use Rattle.topology_terms.specs.Broken.{Row}
+use Rattle.topology_terms.specs.Lookups.{class_at, number_from}
+use Rattle.topology_terms.specs.Causes.{is_kind, is_fit}
+use Rattle.feature_store.proofs.Keeping.{kinds_same}
+use Rattle.project_terms.specs.Lines.{natural}
+use Rattle.project_terms.specs.Verdicts.{RuleForm, row, row_of, dest_in}
+use Rattle.project_text.proofs.Spelled.{bound, tested, one}
+
+pub natural_said : (low high : ℕ) (z : ℤ) (n : ℕ) → natural low high z ≡ Some n → (z ≡ pos n) × (low ≤ n) × (n ≤ high)
+natural_said low high (negsuc m) n e = absurd cc
+natural_said low high (pos m) n e =
+    let t = tested (nat_le low m && nat_le m high) (Some m) n e in
+    let same : m ≡ n = one m n t.1 in
+    let b = and_parts (nat_le low m) (nat_le m high) t.0 in
+    let above : low ≤ m = grind (arith, nat_tests, b.0) in
+    let below : m ≤ high = grind (arith, nat_tests, b.1) in
+    (ap pos same, omega (arith, same, above), omega (arith, same, below))
+
+pub kind_there : (o : Option Kind) (k : Kind) → is_kind o k ≡ true → o ≡ Some k
+kind_there None k e = absurd cc
+kind_there (Some l) k e = ap Some (kinds_same l k e)
+
+-- the class whose number, counted from n, is k has the name
+record IsNamed (n k : ℕ) (cs : List Class) (name : List ℕ) : Type 0 where
+  class : Class
+  place : slice_get cs (k - n) ≡ Some class
+  named : class.name ≡ name
+  from : n ≤ k
+
+named_from : (n : ℕ) (cs : List Class) (name : List ℕ) (k : ℕ) → number_from n cs name ≡ Some k → IsNamed n k cs name
+named_from n [] name k e = absurd cc
+named_from n (c ∷ cs) name k e = by (bytes_eq c.name name) refl e (named_from (n + 1) cs name k)
+  where
+    by : (b : Bool) → bytes_eq c.name name ≡ b → (if b then Some n else number_from (n + 1) cs name) ≡ Some k
+        → (number_from (n + 1) cs name ≡ Some k → IsNamed (n + 1) k cs name) → IsNamed n k (c ∷ cs) name
+    by true t f rest =
+        let same : n ≡ k = one n k f in
+        let first : k - n ≡ 0 = omega (arith, same) in
+        record {
+          class = c;
+          place = ap (λ i. slice_get (c ∷ cs) i) first;
+          named = (bytes_eq-Decides c.name name).0 t;
+          from = omega (arith, same);
+        }
+    by false t f rest =
+        let i = rest f in
+        let behind : k - n ≡ suc (k - (n + 1)) = omega (arith, i.from) in
+        record {
+          class = i.class;
+          place = ap (λ j. slice_get (c ∷ cs) j) behind ∙ i.place;
+          named = i.named;
+          from = omega (arith, i.from);
+        }
+
+pub named_class : (cs : List Class) (name : List ℕ) (k : ℕ) → number_from 1 cs name ≡ Some k
+    → (c : Class) × (class_at cs k ≡ Some c) × (c.name ≡ name)
+named_class cs name k e =
+    let i = named_from 1 cs name k e in
+    let some : (k == 0) ≡ false = grind (arith, nat_tests, i.from) in
+    (i.class, rw some i.place, i.named)
+
+-- a row of classes that fit the rule
+pub record IsRowOf (cs : List Class) (q : RuleForm) (r : Row) : Type 0 where
+  pub kind : q.kind ≡ r.kind
+  pub origin : number_from 1 cs q.origin ≡ Some r.origin.class
+  pub dest : dest_in cs q.dest ≡ Some r.dest.class
+  pub fit : is_fit cs r ≡ true
+
+pub row_said : (cs : List Class) (q : RuleForm) (r : Row) → row_of cs q ≡ Some r → IsRowOf cs q r
+row_said cs q r e =
+    let a = bound (number_from 1 cs q.origin) _ r e in
+    let b = bound (dest_in cs q.dest) _ r a.2 in
+    let t = tested (is_fit cs (row q.kind a.0 b.0)) (Some (row q.kind a.0 b.0)) r b.2 in
+    subst (IsRowOf cs q) (one (row q.kind a.0 b.0) r t.1) (record { kind = refl; origin = a.1; dest = b.1; fit = t.0 })
