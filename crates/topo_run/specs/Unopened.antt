@@ -3,7 +3,7 @@
 -- unopened_of fault e     what a shelf's fault is turned into
 -- unread_of fault e       what the fault of a text is turned into
 -- IsUnopened name h e     of the shelf h: the project of this name is not opened, for this reason
--- Says text done k status     of the sink k: the text was written, and the status is `done`; or it was not, and a prefix of it was
+-- Says text done k t      of the sink k: the text was written, and the status t is `done`; or it was not, and a prefix of it was
 use Rattle.std.specs.Prelude.{ℕ, ◌≡◌, ◌⊎◌, List, None}
 use Rattle.std.specs.Io.KnownBytes.{Appends}
 use Rattle.project_text.specs.declared.fault.ProjectFault.{ProjectFault}
@@ -34,5 +34,5 @@ IsUnopened name h (why.Wrong line cause) = IsWrongUnder h.old name line cause
 IsUnopened name h why.NoMemory = Unit {0}
 
 abbrev pub Says : List ℕ → Status → Passage → Status → Type 0
-Says text done k status = ((status ≡ done) × Appends k.old k.new text)
-    ⊎ (((status ≡ status.WriteFault) × Rose k.before k.now × WritesSomeOf text k) ⊎ ((status ≡ status.NoMemory) × WritesSomeOf text k))
+Says text done k t = ((t ≡ done) × Appends k.old k.new text)
+    ⊎ (((t ≡ status.WriteFault) × Rose k.before k.now × WritesSomeOf text k) ⊎ ((t ≡ status.NoMemory) × WritesSomeOf text k))

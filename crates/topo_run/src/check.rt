@@ -1,5 +1,6 @@
 ghost use Rattle.std.specs.Prelude.{◌≡◌, ◌≤◌, IfOk, string_bytes};
 ghost use Rattle.topology_terms.specs.Poster.{poster};
+ghost use Rattle.project_terms.specs.Records.{IsRecord};
 ghost use Rattle.outside_terms.specs.Shelves.{KeepsHeld};
 ghost use Rattle.opening_terms.specs.Checking.{EndsChecked, EndsAsCheck};
 ghost use Rattle.project_check.specs.Checked.{IsChecked};
@@ -33,12 +34,13 @@ fn checked_status(found: Option<Unsound>) -> Status
     }
 }
 
-fn say_checked<K: Sink>(alloc: Global, data: ProjectData, sink: &mut K) -> Status
-    ensures ends { EndsChecked data
+fn say_checked<K: Sink>(alloc: Global, saved: ProjectData, sink: &mut K) -> Status
+    requires { IsRecord saved }
+    ensures ends { EndsChecked saved
         (record { old = K.written sink.old; new = K.written sink.new; before = K.faults sink.old; now = K.faults sink.new }) result }
     ensures later { K.faults sink.old ≤ K.faults sink.new }
 {
-    let Ok(found) = check_data(alloc, data) else {
+    let Ok(found) = check_data(alloc, saved) else {
         return Status::NoMemory;
     };
     let Ok(text) = checked_text(alloc, found) else {
@@ -56,7 +58,7 @@ pub fn check<K: Sink, H: Shelf>(alloc: Global, name: &str, sink: &mut K, shelf: 
     ensures counts { (K.faults sink.old ≤ K.faults sink.new) × (H.faults shelf.old ≤ H.faults shelf.new) }
 {
     match open(alloc, name, shelf) {
-        Ok(data) => say_checked(alloc, data, sink),
+        Ok(saved) => say_checked(alloc, saved, sink),
         Err(why) => say_unopened(alloc, why, sink),
     }
 }

@@ -9,6 +9,7 @@ mod open;
 mod program;
 mod read;
 mod replay;
+mod report;
 mod status;
 mod town;
 mod waiting;

@@ -1,4 +1,5 @@
 ghost use Rattle.std.specs.Prelude.{◌≡◌, ◌≤◌, ℕ, List, IfOk, IfErr, string_bytes};
+ghost use Rattle.project_terms.specs.Records.{IsRecord};
 ghost use Rattle.outside_terms.specs.Shelves.{KeepsHeld, Visit};
 ghost use Rattle.opening_terms.specs.Opening.{IsUnder, EndsUnopened, cause_word, wrong_text};
 ghost use Rattle.topo_run.specs.Unopened.{unopened_of, unread_of, IsUnopened};
@@ -47,6 +48,7 @@ impl From<ProjectFault> for NotOpened {
 /// Opens the project of this name. The shelf holds what it held.
 pub fn open<H: Shelf>(alloc: Global, name: &str, shelf: &mut H) -> Result<ProjectData, NotOpened>
     ensures opened { IfOk result (IsUnder (H.held shelf.old) name.now) }
+    ensures valid { IfOk result (λ p. IsRecord p) }
     ensures unopened { IfErr result (IsUnopened name.now (record { old = H.held shelf.old; new = H.held shelf.new; before = H.faults shelf.old; now = H.faults shelf.new })) }
     ensures kept { KeepsHeld (H.held shelf.old) (H.held shelf.new) }
     ensures later { H.faults shelf.old ≤ H.faults shelf.new }

@@ -5,13 +5,15 @@ ghost use Rattle.outside_terms.specs.declared.status.Status.{Status};
 ghost use Rattle.script_terms.specs.Ends.{EndsAs, EndsAsUsage, IsComplete, IsReplay};
 ghost use Rattle.town_terms.specs.Ends.{EndsAsTown, IsTownComplete};
 ghost use Rattle.town_terms.specs.Request.{IsTownRequest};
-ghost use Rattle.opening_terms.specs.Words.{IsCheckOf};
+ghost use Rattle.opening_terms.specs.Words.{IsCheckOf, IsReportOf};
 ghost use Rattle.opening_terms.specs.Opening.{IsOpeningComplete};
 ghost use Rattle.opening_terms.specs.Checking.{EndsAsCheck, IsCheckComplete};
+ghost use Rattle.opening_terms.specs.Reporting.{EndsAsReport, IsReportComplete};
 ghost use Rattle.topo_run.specs.Asked.{IsFit, EndsAsAsked, UnlessReplay, UnlessNamed};
 
 use crate::check::check;
 use crate::replay::replay;
+use crate::report::report;
 use crate::status::code_of;
 use crate::town::town;
 use crate::words::{Words, words_of};
@@ -39,22 +41,23 @@ fn act<S: Source, K: Sink, H: Shelf>(
     sink: &mut K,
     shelf: &mut H,
 ) -> Status
-    requires { IsFit words }
-    ensures ends { EndsAsAsked words
+    requires { IsFit words.entry }
+    ensures ends { EndsAsAsked words.entry
         (record { old = S.left source.old; new = S.left source.new; before = S.faults source.old; now = S.faults source.new })
         (record { old = H.held shelf.old; new = H.held shelf.new; before = H.faults shelf.old; now = H.faults shelf.new })
         (record { old = K.written sink.old; new = K.written sink.new; before = K.faults sink.old; now = K.faults sink.new })
         result }
-    ensures unread { UnlessReplay words (source.new ≡ source.old) }
-    ensures untouched { UnlessNamed words (shelf.new ≡ shelf.old) }
+    ensures unread { UnlessReplay words.entry (source.new ≡ source.old) }
+    ensures untouched { UnlessNamed words.entry (shelf.new ≡ shelf.old) }
     ensures kept { KeepsHeld (H.held shelf.old) (H.held shelf.new) }
     ensures counts { (S.faults source.old ≤ S.faults source.new) × (K.faults sink.old ≤ K.faults sink.new) × (H.faults shelf.old ≤ H.faults shelf.new) }
 {
     match words {
         Words::Replay => replay(alloc, source, sink),
         Words::Check(project) => check(alloc, project, sink, shelf),
+        Words::Report(project) => report(alloc, project, sink, shelf),
         Words::Town(request) => town(alloc, request, sink),
-        Words::Other => say_usage(sink),
+        Words::Unknown => say_usage(sink),
     }
 }
 
@@ -96,11 +99,11 @@ pub fn run<S: Source, K: Sink, H: Shelf>(
     ensures check_opening { (project : List ℕ) → IsCheckOf (map (λ w. string_bytes w) words.now.items) project → IsOpeningComplete project
         (record { old = H.held shelf.old; new = H.held shelf.new; before = H.faults shelf.old; now = H.faults shelf.new })
         (record { old = K.written sink.old; new = K.written sink.new; before = K.faults sink.old; now = K.faults sink.new }) result }
-    ensures usage { ¬ (IsReplay words.now.items) → ((project : List ℕ) → ¬ (IsCheckOf (map (λ w. string_bytes w) words.now.items) project)) → ((seed n : ℕ) → ¬ (IsTownRequest (map (λ w. string_bytes w) words.now.items) seed n)) → (s : Status) × (result ≡ code_of s) × EndsAsUsage
+    ensures usage { ¬ (IsReplay words.now.items) → ((project : List ℕ) → ¬ (IsCheckOf (map (λ w. string_bytes w) words.now.items) project)) → ((project : List ℕ) → ¬ (IsReportOf (map (λ w. string_bytes w) words.now.items) project)) → ((seed n : ℕ) → ¬ (IsTownRequest (map (λ w. string_bytes w) words.now.items) seed n)) → (s : Status) × (result ≡ code_of s) × EndsAsUsage
         (record { old = K.written sink.old; new = K.written sink.new; before = K.faults sink.old; now = K.faults sink.new }) s }
     ensures unread { ¬ (IsReplay words.now.items) → source.new ≡ source.old }
     ensures counts { (S.faults source.old ≤ S.faults source.new) × (K.faults sink.old ≤ K.faults sink.new) }
-    ensures shelf { ((project : List ℕ) → ¬ (IsCheckOf (map (λ w. string_bytes w) words.now.items) project)) → shelf.new ≡ shelf.old }
+    ensures shelf { ((project : List ℕ) → ¬ (IsCheckOf (map (λ w. string_bytes w) words.now.items) project)) → ((project : List ℕ) → ¬ (IsReportOf (map (λ w. string_bytes w) words.now.items) project)) → shelf.new ≡ shelf.old }
     ensures kept { KeepsHeld (H.held shelf.old) (H.held shelf.new) }
     ensures shelf_count { H.faults shelf.old ≤ H.faults shelf.new }
 {

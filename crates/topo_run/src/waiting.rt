@@ -1,5 +1,6 @@
 ghost use Rattle.std.specs.Prelude.{IfOk};
 ghost use Rattle.topology_terms.specs.Poster.{poster};
+ghost use Rattle.project_terms.specs.Records.{IsRecord};
 ghost use Rattle.project_check.specs.Checked.{IsChecked};
 
 use grid_plane::NoMemory;
@@ -8,8 +9,10 @@ use project_text::ProjectData;
 use std::alloc::Global;
 
 /// Stand-in.
-pub fn check_data(_alloc: Global, _data: ProjectData) -> Result<Option<Unsound>, NoMemory>
-    ensures { IfOk result (λ found. IsChecked poster _data found) }
+pub fn check_data(_alloc: Global, saved: ProjectData) -> Result<Option<Unsound>, NoMemory>
+    requires { IsRecord saved }
+    ensures { IfOk result (λ found. IsChecked poster saved found) }
 {
+    let _ = saved;
     Err(NoMemory)
 }

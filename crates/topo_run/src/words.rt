@@ -11,10 +11,12 @@ pub enum Words<'a> {
     Replay,
     /// `check PROJECT`
     Check(&'a str),
+    /// `report PROJECT`
+    Report(&'a str),
     /// `town SEED N`
     Town(TownRequest),
     /// None of these.
-    Other,
+    Unknown,
 }
 
 fn is_word(word: &String, text: &str) -> bool
@@ -23,7 +25,7 @@ fn is_word(word: &String, text: &str) -> bool
     word.as_str() == text
 }
 
-#[tactic(auto, using(crate::proofs::Words::words_tests))]
+#[tactic(auto, using(crate::proofs::Spelling::words_tests))]
 fn is_replay(words: &Vec<String>) -> bool
     ensures { IsTrue result ↔ IsReplay words.now.items }
 {
@@ -52,8 +54,11 @@ pub fn words_of(words: &Vec<String>) -> Words<'_>
     if let Some(project) = named_by(words, "check") {
         return Words::Check(project);
     }
+    if let Some(project) = named_by(words, "report") {
+        return Words::Report(project);
+    }
     match town_request(words) {
         Some(request) => Words::Town(request),
-        None => Words::Other,
+        None => Words::Unknown,
     }
 }
