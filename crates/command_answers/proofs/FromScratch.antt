@@ -13,7 +13,6 @@ use Rattle.topology_terms.specs.Meaning.{Finding, Meaning, CutsRight, by_partner
 use Rattle.topology_terms.specs.Plans.{Plan, WithEach, Alone, Whole, Later, Own, Second, Other, around, side_by, finding_of, pair_findings, whole_finding, plan_of, cut_by, cutting_of, IsCutting}
 use Rattle.topology_terms.specs.Poster.{poster}
 use Rattle.topology_terms.specs.Entry.{Entry, entry_at, by_key}
-use Rattle.topology_terms.specs.Entry as entries
 use Rattle.topology_terms.specs.Project.{Project, InForce, rule_at, by_number, AreAscending}
 use Rattle.topology_terms.specs.Scratch.{unmarked, IsFromScratch}
 use Rattle.topology_terms.specs.Settled.{IsSettled, AreAlike, AreCut}

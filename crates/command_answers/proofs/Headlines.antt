@@ -8,13 +8,12 @@ use Rattle.topology_terms.specs.Sound.{IsSound}
 use Rattle.sound_laws.proofs.Settling.{clean_points, clean_live, clean_whole}
 use Rattle.topo_core.specs.Topologies.{IsTopology}
 use Rattle.script_terms.specs.Headline.{Headline, Invariant, IsExact}
-use Rattle.script_terms.proofs.Runs.{empty_keeps}
 use Rattle.command_answers.proofs.FromScratch.{scratch}
 use Rattle.session_terms.specs.Kept.{KeptSession}
 use Rattle.command_answers.specs.Worlds.{state_of, IsWorld}
 use Rattle.script_terms.specs.State.{empty_state}
 
-headline : (p : Project) → IsTopology p → IsSound p → Headline p
+pub headline : (p : Project) → IsTopology p → IsSound p → Headline p
 headline p t s = record {
   points = λ r row e q off a b. (s.each r row e a).points q off b;
   features = λ r row e a f live clear. (s.each r row e a).whole f live clear;
@@ -37,13 +36,12 @@ exact p L t s clean = record {
   live = λ r a b x found. let row = t.made.ruled r a b x found in clean_live poster p s clean r row.0 row.1 a b x found;
 }
 
-pub empty : (p : Project) (ss : List KeptSession) → p ≡ empty_project → ss ≡ [] → IsSound p → IsSettled p → IsWorld p ss
-empty p ss e f sound settled = subst (λ xs. IsWorld p xs) (sym f) (by p (sym e) sound settled)
-  where
-    by : (q : Project) → empty_project ≡ q → IsSound q → IsSettled q → IsWorld q []
-    by q d s k =
-        let P : Project → Type 0 = λ r. IsSound r → IsSettled r → IsWorld r [] in
-        subst P d (λ x y. record { sound = x; settled = y; keeping = empty_keeps; may = tt }) s k
+-- no session has a step
+pub begun : (p : Project) (ss : List KeptSession) → ss ≡ [] → IsWorld p ss
+begun p ss e = subst (IsWorld p) (sym e) (record { keeping = record { apart = tt; chained = tt; given = tt }; may = tt })
+
+pub begun_seen : (p : Project) (ss : List KeptSession) → ss ≡ [] → state_of p ss ≡ record { project = p; sessions = [] }
+begun_seen p ss e = ap (state_of p) e
 
 pub empty_seen : (p : Project) (ss : List KeptSession) → p ≡ empty_project → ss ≡ [] → state_of p ss ≡ empty_state
 empty_seen p ss e f = ap (λ (q : Project). state_of q ss) e ∙ ap (state_of empty_project) f

@@ -1,11 +1,9 @@
 -- A mark that is set or taken away: what is answered, and what stays.
-use Rattle.std.proofs.Common.{◌≡◌, ℕ, Bool, true, false, List, Option, Some, None, refl, sym, ◌∙◌, ap, subst}
+use Rattle.std.proofs.Common.{◌≡◌, ℕ, Bool, true, false, List, Some, None, refl, sym, ◌∙◌, ap, subst}
 use Rattle.std.specs.Prelude.{Result, Ok, Err, OnOk, OnErr, IfErr, MatchResult}
 use Rattle.topology_terms.specs.Causes.{mark_cause}
 use Rattle.topology_terms.specs.Changes.{IsMarked}
 use Rattle.topology_terms.specs.Project.{Project}
-use Rattle.topology_terms.specs.Settled.{IsSettled}
-use Rattle.topology_terms.specs.Sound.{IsSound}
 use Rattle.error_store.specs.Marking.{fault_cause}
 use Rattle.error_store.specs.declared.fault.MarkFault.{MarkFault}
 use Rattle.line_terms.specs.Commands.{Command, Mark, Unmark}
@@ -54,9 +52,6 @@ mark_replied p q ss r a b on (Err e) reply ok may err kept said =
     (said q) (same_state p q ss kept)
 
 pub mark_kept : {T : Type 0} (p q : Project) (ss : List KeptSession) (r a b : ℕ) (on : Bool) (marked : Result T MarkFault)
-    → IsWorld p ss → OnOk marked (IsMarked r a b on p q) → OnErr marked (q ≡ p) → (IsSound p → IsSound q) → (IsSettled p → IsSettled q)
-    → IsWorld q ss
-mark_kept p q ss r a b on (Ok u) w ok kept sound settled =
-    let m = ok.marking in
-    stays_world p q ss m.features m.next m.classes (sound w.sound) (settled w.settled) w
-mark_kept p q ss r a b on (Err e) w ok kept sound settled = subst (λ (r : Project). IsWorld r ss) (sym kept) w
+    → IsWorld p ss → OnOk marked (IsMarked r a b on p q) → OnErr marked (q ≡ p) → IsWorld q ss
+mark_kept p q ss r a b on (Ok u) w ok kept = let m = ok.marking in stays_world p q ss m.features m.next m.classes w
+mark_kept p q ss r a b on (Err e) w ok kept = subst (λ (r : Project). IsWorld r ss) (sym kept) w

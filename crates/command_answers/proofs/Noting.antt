@@ -1,14 +1,11 @@
 -- A change that is noted, and one that no session notes, leave a state of a run.
 use Rattle.std.proofs.Common.{ℕ, ◌≡◌, ◌≤◌, ◌<◌, ◌+◌, Bool, true, false, List, [], ◌∷◌, ◌++◌, Option, Some, None, refl, sym, ◌∙◌, ap, subst, arith, eqb}
 use Rattle.std.specs.Prelude.{IfSome, if◌then◌else◌}
-use Rattle.std.proofs.lemmas.Bool.Decides.{nat_tests}
 use Rattle.plane_terms.specs.Lists.{Every}
 use Rattle.plane_terms.specs.Shape.{Shape}
 use Rattle.topology_terms.specs.Changes.{IsFeatureSet, IsFeatureAdded}
 use Rattle.topology_terms.specs.Feature.{Class, Feature, feature_at}
 use Rattle.topology_terms.specs.Project.{Project, IsOrdered}
-use Rattle.topology_terms.specs.Settled.{IsSettled}
-use Rattle.topology_terms.specs.Sound.{IsSound}
 use Rattle.feature_store.specs.Keeps.{IsOfClass, IsGiven, IsStore}
 use Rattle.feature_store.proofs.Keeping.{kind_end}
 use Rattle.session_terms.specs.Kept.{KeptStep, KeptSession, seen}
@@ -110,15 +107,12 @@ set_done p q name ss ts h after w ord may e d =
 pub set_world : (p q : Project) (name : List ℕ) (ss ts : List KeptSession) (h : ℕ) (f : Feature) (after : Option Feature)
     → IsStore p.classes p.features p.next → IsWorld p ss → IsOrdered p
     → refusal_of (state_of p ss) (Delete name h) ≡ None → feature_at p.features h ≡ Some f → IsFeatureSet h after p q
-    → calls.IsNoted name (record { handle = h; kept = feature_at p.features h }) ss ts
-    → IsSound q → IsSettled q → IsWorld q ts
-set_world p q name ss ts h f after store w ord may live e d sound settled =
+    → calls.IsNoted name (record { handle = h; kept = feature_at p.features h }) ss ts → IsWorld q ts
+set_world p q name ss ts h f after store w ord may live e d =
     let still : (k : ℕ) (x : Option Feature) → May p k x → May q k x = λ k x. may_in p.classes q.classes p.next q.next k x e.edit.classes
     e.next in
     let a = may_edit (state_of p ss) name h [] w.keeping ord may in
     record {
-      sound = sound;
-      settled = settled;
       keeping = altered_keeps name h after (state_of p ss) (state_of q ts) w.keeping a.0 a.1
           (set_done p q name ss ts h after w ord may e d);
       may = may_changed p q name d.was d.is ss ts d.change still
@@ -160,15 +154,13 @@ add_done p q name ss ts class shape h w e d =
 
 pub add_world : (p q : Project) (name : List ℕ) (ss ts : List KeptSession) (class : ℕ) (shape : Shape) (h : ℕ)
     → IsStore p.classes p.features p.next → IsWorld p ss → IsFeatureAdded class shape h p q
-    → calls.IsNoted name (record { handle = h; kept = None }) ss ts → IsSound q → IsSettled q → IsWorld q ts
-add_world p q name ss ts class shape h store w e d sound settled =
+    → calls.IsNoted name (record { handle = h; kept = None }) ss ts → IsWorld q ts
+add_world p q name ss ts class shape h store w e d =
     let still : (k : ℕ) (x : Option Feature) → May p k x → May q k x = λ k x. may_more p q k x e.edit.classes e.next in
     let one : 1 ≤ h = (let n = e.number in let f = store.from_1 in omega (arith, n, f)) in
     let below : h < q.next = (let n = e.number in let m = e.next in omega (arith, n, m)) in
     let step : May q h None = record { from_1 = one; given = below; own = tt; fits = tt } in
     record {
-      sound = sound;
-      settled = settled;
       keeping = added_keeps name class shape h (state_of p ss) (state_of q ts) w.keeping (add_done p q name ss ts class shape h w e d);
       may = may_changed p q name d.was d.is ss ts d.change still (noted_may (May p) (May q) d.was (record { handle = h; kept = None }) d.is
           still d.noted (named_has (MayAll (May p)) ss name d.was d.change.there w.may) step) w.may;
@@ -180,17 +172,15 @@ pub seen_same : (p q : Project) (ss : List KeptSession) → q.features ≡ p.fea
 seen_same p q ss f = ap (λ F. seen (feature_at F) ss) f
 
 other_world : (p q : Project) (ss : List KeptSession) → q.features ≡ p.features → q.next ≡ p.next
-    → ((k : ℕ) (x : Option Feature) → May p k x → May q k x) → IsSound q → IsSettled q → IsWorld p ss → IsWorld q ss
-other_world p q ss f n still sound settled w = record {
-  sound = sound;
-  settled = settled;
+    → ((k : ℕ) (x : Option Feature) → May p k x → May q k x) → IsWorld p ss → IsWorld q ss
+other_world p q ss f n still w = record {
   keeping = same_keeps (state_of p ss) (state_of q ss) w.keeping (seen_same p q ss f) f n;
   may = all_still (May p) (May q) ss still w.may;
 }
 
-pub stays_world : (p q : Project) (ss : List KeptSession) → q.features ≡ p.features → q.next ≡ p.next → q.classes ≡ p.classes → IsSound q
-    → IsSettled q → IsWorld p ss → IsWorld q ss
-stays_world p q ss f n c sound settled w = other_world p q ss f n (λ k x. may_in p.classes q.classes p.next q.next k x c n) sound settled w
+pub stays_world : (p q : Project) (ss : List KeptSession) → q.features ≡ p.features → q.next ≡ p.next → q.classes ≡ p.classes
+    → IsWorld p ss → IsWorld q ss
+stays_world p q ss f n c w = other_world p q ss f n (λ k x. may_in p.classes q.classes p.next q.next k x c n) w
 
 may_class : (p q : Project) (d : Class) (k : ℕ) (x : Option Feature) → q.classes ≡ p.classes ++ d ∷ [] → q.next ≡ p.next → May p k x
     → May q k x
@@ -206,8 +196,8 @@ may_class p q d k x c n m = record {
     by (Some f) h = kind_end p.classes d f.class f.shape.kind h
 
 pub class_world : (p q : Project) (ss : List KeptSession) (d : Class) → q.classes ≡ p.classes ++ d ∷ [] → q.features ≡ p.features
-    → q.next ≡ p.next → IsSound q → IsSettled q → IsWorld p ss → IsWorld q ss
-class_world p q ss d c f n sound settled w = other_world p q ss f n (λ k x. may_class p q d k x c n) sound settled w
+    → q.next ≡ p.next → IsWorld p ss → IsWorld q ss
+class_world p q ss d c f n w = other_world p q ss f n (λ k x. may_class p q d k x c n) w
 
 -- ---- room alone
 pub room_done : (p : Project) (name : List ℕ) (ss ts : List KeptSession) → calls.IsRoomMade name ss ts → state_of p ts ≡ state_of p ss
@@ -222,8 +212,6 @@ room_world p name ss ts r w =
       undone = subst (Every (λ (x : KeptStep). May p x.handle x.kept)) (sym r.same.undone) m.undone;
     } in
     record {
-      sound = w.sound;
-      settled = w.settled;
       keeping = subst IsKeeping (sym (room_done p name ss ts r)) w.keeping;
       may = may_changed p p name r.was r.is ss ts r.change (λ k x h. h) each w.may;
     }

@@ -10,8 +10,6 @@ use Rattle.topology_terms.specs.Changes.{IsClassAdded, IsFeatureAdded, IsFeature
 use Rattle.topology_terms.specs.Feature.{Feature, feature_at}
 use Rattle.topology_terms.specs.Lookups.{class_number}
 use Rattle.topology_terms.specs.Project.{Project, IsOrdered}
-use Rattle.topology_terms.specs.Settled.{IsSettled}
-use Rattle.topology_terms.specs.Sound.{IsSound}
 use Rattle.feature_store.specs.Keeps.{IsStore}
 use Rattle.topology_terms.specs.declared.cause.Cause.{Cause}
 use Rattle.feature_store.specs.Faults.{store_cause}
@@ -92,11 +90,9 @@ add_replied p q ss ts editor class shape n (Err e) (Ok r) w opened named ok note
 pub add_kept : (p q : Project) (ss ts : List KeptSession) (editor : List ℕ) (shape : Shape) (n : ℕ) (added : Result ℕ ChangeFault)
     → IsStore p.classes p.features p.next → IsWorld p ss
     → IfOk added (λ h. IsFeatureAdded n shape h p q) → IfOk added (λ h. calls.IsNoted editor (record { handle = h; kept = None }) ss ts)
-    → OnErr added (q ≡ p) → OnErr added (IsRoomAlone editor ss ts)
-    → (IsSound p → IsSound q) → (IsSettled p → IsSettled q) → IsWorld q ts
-add_kept p q ss ts editor shape n (Ok h) store w ok noted kept room sound settled =
-    add_world p q editor ss ts n shape h store w ok noted (sound w.sound) (settled w.settled)
-add_kept p q ss ts editor shape n (Err e) store w ok noted kept room sound settled = room_kept p q editor ss ts kept room w
+    → OnErr added (q ≡ p) → OnErr added (IsRoomAlone editor ss ts) → IsWorld q ts
+add_kept p q ss ts editor shape n (Ok h) store w ok noted kept room = add_world p q editor ss ts n shape h store w ok noted
+add_kept p q ss ts editor shape n (Err e) store w ok noted kept room = room_kept p q editor ss ts kept room w
 
 -- ---- a feature is changed, or deleted
 pub change_replied : {E T : Type 0} (p q : Project) (ss ts : List KeptSession) (editor : List ℕ) (h : ℕ) (shape : Shape)
@@ -138,10 +134,10 @@ pub set_kept : {T : Type 0} (p q : Project) (ss ts : List KeptSession) (editor :
     → refusal_of (state_of p ss) (Delete editor h) ≡ None → OnOk changed (IsFeatureSet h after p q)
     → OnOk changed (calls.IsNoted editor (record { handle = h; kept = feature_at p.features h }) ss ts)
     → OnOk changed ((f : Feature) × (feature_at p.features h ≡ Some f)) → OnErr changed (q ≡ p) → OnErr changed (IsRoomAlone editor ss ts)
-    → (IsSound p → IsSound q) → (IsSettled p → IsSettled q) → IsWorld q ts
-set_kept p q ss ts editor h after (Ok u) store w ord free ok noted live kept room sound settled =
-    set_world p q editor ss ts h live.0 after store w ord free live.1 ok noted (sound w.sound) (settled w.settled)
-set_kept p q ss ts editor h after (Err e) store w ord free ok noted live kept room sound settled = room_kept p q editor ss ts kept room w
+    → IsWorld q ts
+set_kept p q ss ts editor h after (Ok u) store w ord free ok noted live kept room =
+    set_world p q editor ss ts h live.0 after store w ord free live.1 ok noted
+set_kept p q ss ts editor h after (Err e) store w ord free ok noted live kept room = room_kept p q editor ss ts kept room w
 
 -- ---- a class, or a rule
 pub class_replied : {E : Type 0} (p q : Project) (ss : List KeptSession) (name : List ℕ) (k : Kind) (added : Result ℕ StoreFault)
@@ -158,11 +154,9 @@ class_replied p q ss name k (Err e) (Ok r) ok number may err kept said =
     (same_state p q ss kept)
 
 pub class_kept : (p q : Project) (ss : List KeptSession) (name : List ℕ) (k : Kind) (added : Result ℕ StoreFault) → IsWorld p ss
-    → OnOk added (IsClassAdded name k p q) → OnErr added (q ≡ p)
-    → (IsSound p → IsSound q) → (IsSettled p → IsSettled q) → IsWorld q ss
-class_kept p q ss name k (Ok n) w ok kept sound settled = class_world p q ss (record { name = name; kind = k }) ok.classes ok.features
-    ok.next (sound w.sound) (settled w.settled) w
-class_kept p q ss name k (Err e) w ok kept sound settled = subst (λ (r : Project). IsWorld r ss) (sym kept) w
+    → OnOk added (IsClassAdded name k p q) → OnErr added (q ≡ p) → IsWorld q ss
+class_kept p q ss name k (Ok n) w ok kept = class_world p q ss (record { name = name; kind = k }) ok.classes ok.features ok.next w
+class_kept p q ss name k (Err e) w ok kept = subst (λ (r : Project). IsWorld r ss) (sym kept) w
 
 pub rule_replied : {E : Type 0} (p q : Project) (ss : List KeptSession) (k : RuleKind) (origin : List ℕ) (dest : Option (List ℕ))
     (row : Row) (added : Result ℕ RuleFault) (reply : Result Reply E)
@@ -180,8 +174,6 @@ rule_replied p q ss k origin dest row (Err e) (Ok r) there is ok may err kept sa
     (said_at (row_cause e) q r said) (same_state p q ss kept)
 
 pub rule_kept : (p q : Project) (ss : List KeptSession) (row : Row) (added : Result ℕ RuleFault) → IsWorld p ss
-    → IfOk added (λ n. IsRuleAdded n row p q) → OnErr added (q ≡ p)
-    → (IsSound p → IsSound q) → (IsSettled p → IsSettled q) → IsWorld q ss
-rule_kept p q ss row (Ok n) w ok kept sound settled = stays_world p q ss ok.features ok.next ok.classes (sound w.sound) (settled w.settled)
-    w
-rule_kept p q ss row (Err e) w ok kept sound settled = subst (λ (r : Project). IsWorld r ss) (sym kept) w
+    → IfOk added (λ n. IsRuleAdded n row p q) → OnErr added (q ≡ p) → IsWorld q ss
+rule_kept p q ss row (Ok n) w ok kept = stays_world p q ss ok.features ok.next ok.classes w
+rule_kept p q ss row (Err e) w ok kept = subst (λ (r : Project). IsWorld r ss) (sym kept) w

@@ -8,14 +8,17 @@ use Rattle.topology_terms.specs.Feature.{Feature, feature_at}
 use Rattle.topology_terms.specs.Poster.{poster}
 use Rattle.topology_terms.specs.Project.{Project}
 use Rattle.topology_terms.specs.Session.{EditStep, Session, session_of}
+use Rattle.topology_terms.specs.Settled.{IsSettled}
+use Rattle.topology_terms.specs.Sound.{IsSound}
 use Rattle.line_terms.specs.Commands.{Command, Begin, End, Discard, Delete, Undo, Redo}
-use Rattle.session_terms.specs.Kept.{KeptSession, seen_session, seen}
+use Rattle.session_terms.specs.Kept.{KeptStep, KeptSession, seen_session, seen}
 use Rattle.session_terms.specs.KeptChanges.{kept_named, without_kept, kept_holder}
 use Rattle.edit_session.specs.Faults.{IsBeginFault, IsEndFault, IsUndoFault, IsRedoFault}
 use Rattle.edit_session.specs.SessionsCalls as calls
 use Rattle.edit_session.specs.declared.fault.SessionFault.{SessionFault}
 use Rattle.edit_session.specs.declared.fault.SessionFault.TheVariants as fault
 use Rattle.edit_session.specs.OverTopologies.{IsGroundSwap}
+use Rattle.edit_session.proofs.Undoing.{chain_sound, chain_settled}
 use Rattle.script_terms.proofs.Bridges.{there_seen}
 use Rattle.script_terms.specs.Answer.{Answers}
 use Rattle.script_terms.specs.Refusal.{Refusal, Change, NoSession, HeldBy}
@@ -28,7 +31,7 @@ use Rattle.command_answers.specs.Refusals.{SaysRefusal, session_refusal}
 use Rattle.command_answers.specs.Worlds.{state_of, IsWorld}
 use Rattle.command_answers.proofs.Answering.{refused, done}
 use Rattle.command_answers.proofs.KeptLists.{open_seen, length_seen, holder_seen}
-use Rattle.command_answers.proofs.Sessions.{begin_done, begin_world, end_done, end_world, undo_done, undo_world, redo_done, redo_world, discard_done, discard_world, part_world}
+use Rattle.command_answers.proofs.Sessions.{Chain, begin_done, begin_world, end_done, end_world, undo_done, undo_world, redo_done, redo_world, discard_done, discard_world, part_world}
 
 -- ---- why a line is refused
 opened : (p : Project) (ss : List KeptSession) (name : List ℕ) (s : KeptSession) → kept_named ss name ≡ Some s
@@ -264,6 +267,47 @@ discard_kept p q ss ts name (Err fault.OpenAlready) w ok err = absurd err
 discard_kept p q ss ts name (Err fault.SessionsFull) w ok err = absurd err
 discard_kept p q ss ts name (Err fault.NothingToUndo) w ok err = absurd err
 discard_kept p q ss ts name (Err fault.NothingToRedo) w ok err = absurd err
+
+-- ---- what was sound stays so, and what was settled stays so
+abbrev pub Stays : Project → Project → Type 0
+Stays p q = (IsSound p → IsSound q) × (IsSettled p → IsSettled q)
+
+same_stays : (p q : Project) → q ≡ p → Stays p q
+same_stays p q e = (λ s. subst IsSound (sym e) s, λ s. subst IsSettled (sym e) s)
+
+pub undo_stays : {T : Type 0} (p q : Project) (ss ts : List KeptSession) (name : List ℕ) (called : Result T SessionFault)
+    → OnOk called (calls.IsUndone (IsGroundSwap poster) name ss ts p q) → OnErr called (Still p q) → Stays p q
+undo_stays p q ss ts name (Ok u) ok same = (ok.undone.undone.swap.sound, ok.undone.undone.swap.settled)
+undo_stays p q ss ts name (Err e) ok same = same_stays p q (still p q same)
+
+pub redo_stays : {T : Type 0} (p q : Project) (ss ts : List KeptSession) (name : List ℕ) (called : Result T SessionFault)
+    → OnOk called (calls.IsRedone (IsGroundSwap poster) name ss ts p q) → OnErr called (Still p q) → Stays p q
+redo_stays p q ss ts name (Ok u) ok same = (ok.redone.redone.swap.sound, ok.redone.redone.swap.settled)
+redo_stays p q ss ts name (Err e) ok same = same_stays p q (still p q same)
+
+chain_stays : (ts : List KeptStep) (s u : KeptSession) (p q : Project) → Chain ts s u p q → Stays p q
+chain_stays ts s u p q c = (λ k. chain_sound poster ts s u p q c k, λ k. chain_settled poster ts s u p q c k)
+
+pub discard_stays : {T : Type 0} (p q : Project) (ss ts : List KeptSession) (name : List ℕ) (called : Result T SessionFault)
+    → OnOk called (calls.IsDiscarded (IsGroundSwap poster) name ss ts p q) → IfErr called (DiscardFault name ss ts p q) → Stays p q
+discard_stays p q ss ts name (Ok u) ok err = chain_stays ok.was.done ok.was ok.last p q ok.undone
+discard_stays p q ss ts name (Err fault.NoMemory) ok err =
+    let c = err.cut_short in
+    chain_stays c.undone err.was err.is p q (subst (Chain c.undone err.was err.is p) (sym c.then) c.chain)
+discard_stays p q ss ts name (Err fault.NoSession) ok err = same_stays p q err.features
+discard_stays p q ss ts name (Err fault.OpenAlready) ok err = absurd err
+discard_stays p q ss ts name (Err fault.SessionsFull) ok err = absurd err
+discard_stays p q ss ts name (Err fault.NothingToUndo) ok err = absurd err
+discard_stays p q ss ts name (Err fault.NothingToRedo) ok err = absurd err
+
+-- what the topology keeps, the state keeps, as it is seen
+pub sound_seen : (p q : Project) (ss : List KeptSession) (z : State) → state_of p ss ≡ z → (IsSound p → IsSound q) → IsSound z.project
+    → IsSound q
+sound_seen p q ss z is keeps s = keeps (subst (λ (x : State). IsSound x.project) (sym is) s)
+
+pub settled_seen : (p q : Project) (ss : List KeptSession) (z : State) → state_of p ss ≡ z → (IsSettled p → IsSettled q)
+    → IsSettled z.project → IsSettled q
+settled_seen p q ss z is keeps s = keeps (subst (λ (x : State). IsSettled x.project) (sym is) s)
 
 -- the sessions are the old ones, so the state is
 pub left_after : {T : Type 0} (p : Project) (ss ts : List KeptSession) (called : Result T SessionFault) → OnErr called (ts ≡ ss)

@@ -17,7 +17,6 @@ use Rattle.edit_session.specs.SessionsCalls as calls
 use Rattle.edit_session.proofs.Moves.{may_same, may_undone, may_redone}
 use Rattle.edit_session.specs.OverTopologies.{IsGroundSwap}
 use Rattle.edit_session.specs.OverTopologies as grounds
-use Rattle.edit_session.proofs.Undoing.{chain_sound, chain_settled}
 use Rattle.script_terms.specs.Answer.{IsBegun, IsEnded, IsUndone, IsRedone, IsDiscarded, AreTakenBack}
 use Rattle.script_terms.specs.Keeping.{IsKeeping}
 use Rattle.script_terms.proofs.Bridges.{there_seen, undo_bridge, redo_bridge}
@@ -51,8 +50,6 @@ begin_done p name ss ts b =
 
 pub begin_world : (p : Project) (name : List ℕ) (ss ts : List KeptSession) → calls.IsBegun name ss ts → IsWorld p ss → IsWorld p ts
 begin_world p name ss ts b w = record {
-  sound = w.sound;
-  settled = w.settled;
   keeping = begun_keeps name (state_of p ss) (state_of p ts) w.keeping (open_seen (feature_at p.features) ss name ∙ ap is_some b.free)
       (begin_done p name ss ts b);
   may = subst (AllMay p) (sym b.sessions) (opened_has (MayAll (May p)) ss b.session
@@ -73,8 +70,6 @@ end_done p name ss ts e = record {
 
 pub end_world : (p : Project) (name : List ℕ) (ss ts : List KeptSession) → ts ≡ without_kept ss name → IsWorld p ss → IsWorld p ts
 end_world p name ss ts e w = record {
-  sound = w.sound;
-  settled = w.settled;
   keeping = ended_keeps name (state_of p ss) (state_of p ts) w.keeping (end_done p name ss ts e);
   may = subst (AllMay p) (sym e) (without_has (MayAll (May p)) ss name w.may);
 }
@@ -133,8 +128,6 @@ undo_world p q name ss ts d w =
     let t = d.undone.step in
     let u = d.undone.undone in
     record {
-      sound = u.swap.sound w.sound;
-      settled = u.swap.settled w.settled;
       keeping = undo_keeps name (state_of p ss) (state_of q ts) w.keeping (undo_done p q name ss ts w.keeping d);
       may = may_changed p q name d.was d.is ss ts d.change (λ k x. grounds.may_still poster t.handle u.stood t.kept p q k x u.swap)
           (may_undone (May p) (May q) d.was d.is t u.stood (λ k x. grounds.may_still poster t.handle u.stood t.kept p q k x u.swap)
@@ -148,8 +141,6 @@ redo_world p q name ss ts d w =
     let t = d.redone.step in
     let u = d.redone.redone in
     record {
-      sound = u.swap.sound w.sound;
-      settled = u.swap.settled w.settled;
       keeping = redo_keeps name (state_of p ss) (state_of q ts) w.keeping (redo_done p q name ss ts w.keeping d);
       may = may_changed p q name d.was d.is ss ts d.change (λ k x. grounds.may_still poster t.handle u.stood t.kept p q k x u.swap)
           (may_redone (May p) (May q) d.was d.is t u.stood (λ k x. grounds.may_still poster t.handle u.stood t.kept p q k x u.swap)
@@ -219,8 +210,6 @@ discard_done p q name ss ts k d =
 pub discard_world : (p q : Project) (name : List ℕ) (ss ts : List KeptSession) → calls.IsDiscarded (IsGroundSwap poster) name ss ts p q
     → IsWorld p ss → IsWorld q ts
 discard_world p q name ss ts d w = record {
-  sound = chain_sound poster d.was.done d.was d.last p q d.undone w.sound;
-  settled = chain_settled poster d.was.done d.was d.last p q d.undone w.settled;
   keeping = discard_keeps name (state_of p ss) (state_of q ts) w.keeping (discard_done p q name ss ts w.keeping d);
   may = subst (AllMay q) (sym d.sessions) (without_has (MayAll (May q)) ss name (all_same p q ss
       (chain_classes d.was.done d.was d.last p q d.undone) (chain_next d.was.done d.was d.last p q d.undone) w.may));
@@ -257,8 +246,6 @@ part_world p q name ss ts d w =
     let c = d.cut_short in
     let chain : Chain c.undone d.was d.is p q = subst (Chain c.undone d.was d.is p) (sym c.then) c.chain in
     record {
-      sound = chain_sound poster c.undone d.was d.is p q chain w.sound;
-      settled = chain_settled poster c.undone d.was d.is p q chain w.settled;
       keeping = subst (λ xs. IsKeeping (state_of q xs)) (sym d.change.sessions) (part_keeps name ss d.was p d.change.there w.keeping
           c.undone d.is q chain).0;
       may = may_changed p q name d.was d.is ss ts d.change

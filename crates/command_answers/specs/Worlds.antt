@@ -3,13 +3,11 @@
 -- state_of p ss     the project p with the sessions ss, as they are seen
 -- AllMay p ss       each kept step may stand at its handle
 -- IsRoomAlone name old new     the sessions are as they were, or but for room in the one of this name
--- IsWorld p ss      the project is sound and settled; no handle has steps in two sessions, and the steps fit one another and what stands
+-- IsWorld p ss      no handle has steps in two sessions, and the steps fit one another and what stands
 use Rattle.std.specs.Prelude.{◌≡◌, ◌⊎◌, ℕ, List}
 use Rattle.plane_terms.specs.Lists.{Every}
 use Rattle.topology_terms.specs.Feature.{feature_at}
 use Rattle.topology_terms.specs.Project.{Project}
-use Rattle.topology_terms.specs.Settled.{IsSettled}
-use Rattle.topology_terms.specs.Sound.{IsSound}
 use Rattle.session_terms.specs.Kept.{KeptSession, seen}
 use Rattle.edit_session.specs.Grounds.{IsMayStand}
 use Rattle.edit_session.specs.Moves.{MayAll}
@@ -24,8 +22,6 @@ abbrev pub AllMay : Project → List KeptSession → Type 0
 AllMay p ss = Every (MayAll (IsMayStand p.classes p.next)) ss
 
 pub record IsWorld (p : Project) (ss : List KeptSession) : Type 0 where
-  pub sound : IsSound p
-  pub settled : IsSettled p
   pub keeping : IsKeeping (state_of p ss)
   pub may : AllMay p ss
 

@@ -1,5 +1,7 @@
 ghost use Rattle.std.specs.Prelude.{◌≡◌, IfOk};
 ghost use Rattle.topology_terms.specs.Project.{IsOrdered};
+ghost use Rattle.topology_terms.specs.Settled.{IsSettled};
+ghost use Rattle.topology_terms.specs.Sound.{IsSound};
 ghost use Rattle.line_terms.specs.Commands as commands;
 ghost use Rattle.script_text.specs.Seen.{command_of};
 ghost use Rattle.script_terms.specs.Answer.{Answers};
@@ -27,7 +29,9 @@ impl World {
     /// Does what the command asks for, and answers what the reply says; a listing lists the state as it is then. If memory
     /// runs out, nothing has changed, except that the last steps of a discard may be undone, and its session stays open.
     pub fn answer(&mut self, command: Command) -> Result<Reply, NoMemory>
-        ensures { IfOk result (λ r. Answers self.old (command_of command) (said_of self.new.project r) self.new) }
+        ensures answers { IfOk result (λ r. Answers self.old (command_of command) (said_of self.new.project r) self.new) }
+        ensures sound { IsSound self.old.project → IsSound self.new.project }
+        ensures settled { IsSettled self.old.project → IsSettled self.new.project }
     {
         match command {
             Command::Blank => Ok(Reply::Nothing),

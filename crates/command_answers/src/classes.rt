@@ -1,5 +1,7 @@
 ghost use Rattle.std.specs.Prelude.{◌≡◌, ◌⊎◌, None, true, false, MatchOption, IfOk, OnErr};
 ghost use Rattle.topology_terms.specs.Lookups.{class_number};
+ghost use Rattle.topology_terms.specs.Settled.{IsSettled};
+ghost use Rattle.topology_terms.specs.Sound.{IsSound};
 ghost use Rattle.line_terms.specs.Commands.{Class, Rule, DropRule};
 ghost use Rattle.script_terms.specs.Answer.{Answers};
 ghost use Rattle.script_terms.specs.Refusing.{row_of, is_nowhere};
@@ -17,6 +19,8 @@ impl World {
     /// `class NAME KIND`
     pub(crate) fn answer_class(&mut self, name: Name, kind: Kind) -> Result<Reply, NoMemory>
         ensures answers { IfOk result (λ r. Answers self.old (Class name kind) (said_of self.new.project r) self.new) }
+        ensures sound { IsSound self.old.project → IsSound self.new.project }
+        ensures settled { IsSettled self.old.project → IsSettled self.new.project }
         ensures err { OnErr result (self.new ≡ self.old) }
     {
         reply_to_class(self.topology.add_class(name, kind))
@@ -45,6 +49,8 @@ impl World {
         dest: &Option<Name>,
     ) -> Result<Reply, NoMemory>
         ensures answers { IfOk result (λ r. Answers self.old (Rule kind origin.now dest.now) (said_of self.new.project r) self.new) }
+        ensures sound { IsSound self.old.project → IsSound self.new.project }
+        ensures settled { IsSettled self.old.project → IsSettled self.new.project }
         ensures err { OnErr result (self.new ≡ self.old) }
     {
         let Some(row) = self.row_of(kind, origin, dest) else {
@@ -56,7 +62,9 @@ impl World {
     /// `droprule R`
     #[tactic(auto, using(crate::proofs::Answering::rule_dropped, crate::proofs::Answering::no_rule))]
     pub(crate) fn answer_drop_rule(&mut self, number: u16) -> Reply
-        ensures { Answers self.old (DropRule number) (said_of self.new.project result) self.new }
+        ensures answers { Answers self.old (DropRule number) (said_of self.new.project result) self.new }
+        ensures sound { IsSound self.old.project → IsSound self.new.project }
+        ensures settled { IsSettled self.old.project → IsSettled self.new.project }
     {
         match self.topology.drop_rule(number) {
             Ok(()) => Reply::Done,

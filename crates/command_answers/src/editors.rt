@@ -1,4 +1,6 @@
 ghost use Rattle.std.specs.Prelude.{◌≡◌, None, Some, MatchOption, IfOk, OnErr};
+ghost use Rattle.topology_terms.specs.Settled.{IsSettled};
+ghost use Rattle.topology_terms.specs.Sound.{IsSound};
 ghost use Rattle.line_terms.specs.Commands.{Begin, End, Discard, Delete, Undo, Redo};
 ghost use Rattle.session_terms.specs.KeptChanges.{kept_holder};
 ghost use Rattle.script_terms.specs.Answer.{Answers};
@@ -62,6 +64,8 @@ impl World {
     /// `begin EDITOR`
     pub(crate) fn answer_begin(&mut self, editor: Name) -> Result<Reply, NoMemory>
         ensures answers { IfOk result (λ r. Answers self.old (Begin editor) (said_of self.new.project r) self.new) }
+        ensures sound { IsSound self.old.project → IsSound self.new.project }
+        ensures settled { IsSettled self.old.project → IsSettled self.new.project }
         ensures err { OnErr result (self.new ≡ self.old) }
     {
         reply_to_session(self.sessions.begin(editor))
@@ -70,6 +74,8 @@ impl World {
     /// `end EDITOR`
     pub(crate) fn answer_end(&mut self, editor: &Name) -> Result<Reply, NoMemory>
         ensures answers { IfOk result (λ r. Answers self.old (End editor.now) (said_of self.new.project r) self.new) }
+        ensures sound { IsSound self.old.project → IsSound self.new.project }
+        ensures settled { IsSettled self.old.project → IsSettled self.new.project }
         ensures err { OnErr result (self.new ≡ self.old) }
     {
         reply_to_session(self.sessions.end(editor))
@@ -77,7 +83,9 @@ impl World {
 
     /// `discard EDITOR`. If memory runs out, the session's last steps may be undone, and it stays open.
     pub(crate) fn answer_discard(&mut self, editor: &Name) -> Result<Reply, NoMemory>
-        ensures { IfOk result (λ r. Answers self.old (Discard editor.now) (said_of self.new.project r) self.new) }
+        ensures answers { IfOk result (λ r. Answers self.old (Discard editor.now) (said_of self.new.project r) self.new) }
+        ensures sound { IsSound self.old.project → IsSound self.new.project }
+        ensures settled { IsSettled self.old.project → IsSettled self.new.project }
     {
         reply_to_session(self.sessions.discard(editor, &mut self.topology))
     }
@@ -85,6 +93,8 @@ impl World {
     /// `by EDITOR undo`
     pub(crate) fn answer_undo(&mut self, editor: &Name) -> Result<Reply, NoMemory>
         ensures answers { IfOk result (λ r. Answers self.old (Undo editor.now) (said_of self.new.project r) self.new) }
+        ensures sound { IsSound self.old.project → IsSound self.new.project }
+        ensures settled { IsSettled self.old.project → IsSettled self.new.project }
         ensures err { OnErr result (self.new ≡ self.old) }
     {
         reply_to_session(self.sessions.undo(editor, &mut self.topology))
@@ -93,6 +103,8 @@ impl World {
     /// `by EDITOR redo`
     pub(crate) fn answer_redo(&mut self, editor: &Name) -> Result<Reply, NoMemory>
         ensures answers { IfOk result (λ r. Answers self.old (Redo editor.now) (said_of self.new.project r) self.new) }
+        ensures sound { IsSound self.old.project → IsSound self.new.project }
+        ensures settled { IsSettled self.old.project → IsSettled self.new.project }
         ensures err { OnErr result (self.new ≡ self.old) }
     {
         reply_to_session(self.sessions.redo(editor, &mut self.topology))

@@ -1,4 +1,6 @@
 ghost use Rattle.std.specs.Prelude.{◌≡◌, ◌≤◌, IfOk, OnErr};
+ghost use Rattle.topology_terms.specs.Settled.{IsSettled};
+ghost use Rattle.topology_terms.specs.Sound.{IsSound};
 ghost use Rattle.line_terms.specs.Commands.{Add, Change, Delete, Validate};
 ghost use Rattle.script_terms.specs.Answer.{Answers};
 ghost use Rattle.reply_text.specs.Replies.{said_of};
@@ -34,6 +36,8 @@ impl World {
         shape: Shape,
     ) -> Result<Reply, NoMemory>
         ensures answers { IfOk result (λ r. Answers self.old (Add editor.now class.now shape) (said_of self.new.project r) self.new) }
+        ensures sound { IsSound self.old.project → IsSound self.new.project }
+        ensures settled { IsSettled self.old.project → IsSettled self.new.project }
         ensures err { OnErr result (self.new ≡ self.old) }
     {
         if !self.is_open(editor) {
@@ -55,6 +59,8 @@ impl World {
         shape: Shape,
     ) -> Result<Reply, NoMemory>
         ensures answers { IfOk result (λ r. Answers self.old (Change editor.now handle shape) (said_of self.new.project r) self.new) }
+        ensures sound { IsSound self.old.project → IsSound self.new.project }
+        ensures settled { IsSettled self.old.project → IsSettled self.new.project }
         ensures err { OnErr result (self.new ≡ self.old) }
     {
         if let Some(refusal) = self.edit_refusal(editor, handle) {
@@ -75,6 +81,8 @@ impl World {
     #[tactic(auto, using(crate::proofs::Answering::delete_stopped))]
     pub(crate) fn answer_delete(&mut self, editor: &Name, handle: u32) -> Result<Reply, NoMemory>
         ensures answers { IfOk result (λ r. Answers self.old (Delete editor.now handle) (said_of self.new.project r) self.new) }
+        ensures sound { IsSound self.old.project → IsSound self.new.project }
+        ensures settled { IsSettled self.old.project → IsSettled self.new.project }
         ensures err { OnErr result (self.new ≡ self.old) }
     {
         if let Some(refusal) = self.edit_refusal(editor, handle) {
@@ -89,6 +97,8 @@ impl World {
     #[tactic(auto, using(crate::proofs::Answering::validated))]
     pub(crate) fn answer_validate(&mut self, window: Rect) -> Result<Reply, NoMemory>
         ensures answers { IfOk result (λ r. Answers self.old (Validate window) (said_of self.new.project r) self.new) }
+        ensures sound { IsSound self.old.project → IsSound self.new.project }
+        ensures settled { IsSettled self.old.project → IsSettled self.new.project }
         ensures err { OnErr result (self.new ≡ self.old) }
     {
         self.topology.topology_law();

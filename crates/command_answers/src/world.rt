@@ -1,8 +1,10 @@
 ghost use Rattle.std.specs.Prelude.{◌≡◌, []};
 ghost use Rattle.topology_terms.specs.Project.{IsOrdered};
+ghost use Rattle.topology_terms.specs.Settled.{IsSettled};
+ghost use Rattle.topology_terms.specs.Sound.{IsSound};
 ghost use Rattle.script_terms.specs.State.{empty_state};
 ghost use Rattle.script_terms.specs.Keeping.{IsKeeping};
-ghost use Rattle.script_terms.specs.Headline.{Invariant, IsExact};
+ghost use Rattle.script_terms.specs.Headline.{Headline, Invariant, IsExact};
 
 use edit_session::Sessions;
 use rule_core::Work;
@@ -11,9 +13,9 @@ use std::alloc::Global;
 use std::marker::Model;
 use topo_core::Topology;
 
-/// The state of a run: the topology, and the open sessions. In every state the printed errors are exactly what is broken off the
-/// printed dirty areas, and are cut as the rules cut them; no handle has steps in two sessions, and each can be undone. The cells
-/// that a validation keeps serve the next one.
+/// The state of a run: the topology, and the open sessions. No handle has steps in two sessions, and each step can be undone. A
+/// topology that is sound stays so, whatever is answered: the printed errors are exactly what is broken off the printed dirty
+/// areas. So does one that is settled: they are cut as the rules cut them. The cells that a validation keeps serve the next one.
 #[derive(Drop)]
 pub struct World {
     pub(crate) topology: Topology<PosterRules>,
@@ -34,22 +36,31 @@ impl Model for World {
 
 impl World {
     /// The empty project, and no session.
-    #[tactic(auto, using(crate::proofs::Headlines::empty))]
     pub fn new(alloc: Global) -> World
-        ensures { result ≡ empty_state }
+        ensures empty { result ≡ empty_state }
+        ensures sound { IsSound result.project }
+        ensures settled { IsSettled result.project }
+    {
+        World::of(alloc, Topology::new(alloc, PosterRules))
+    }
+
+    /// This topology, and no session.
+    pub fn of(alloc: Global, topology: Topology<PosterRules>) -> World
+        ensures { result ≡ record { project = topology; sessions = [] } }
     {
         World {
-            topology: Topology::new(alloc, PosterRules),
+            topology,
             sessions: Sessions::new(alloc),
             work: Work::new(),
         }
     }
 
-    /// The law of every state: it is sound and settled, the headline holds, and with no dirt the errors, marks aside, are those
-    /// of one full validation from scratch; its lists stand in order; and the sessions' steps fit one another and what stands.
-    #[tactic(auto, using(crate::proofs::Headlines::invariant))]
+    /// The law of every state: where it is sound, the headline holds; where it is settled too, and has no dirt, the errors, marks
+    /// aside, are those of one full validation from scratch; its lists stand in order; and the sessions' steps fit one another and
+    /// what stands.
     pub fn headline_law(&self)
-        ensures invariant { Invariant self.now.project }
+        ensures sound { IsSound self.now.project → Headline self.now.project }
+        ensures invariant { IsSound self.now.project → IsSettled self.now.project → Invariant self.now.project }
         ensures ordered { IsOrdered self.now.project }
         ensures keeping { IsKeeping self.now }
     {
@@ -57,11 +68,10 @@ impl World {
         self.topology.order_law();
     }
 
-    /// The law of a state with no dirt: at every point and for every feature the errors say exactly what is broken, and each is
-    /// of a live feature.
-    #[tactic(auto, using(crate::proofs::Headlines::exact))]
+    /// The law of a sound state with no dirt: at every point and for every feature the errors say exactly what is broken, and each
+    /// is of a live feature.
     pub fn clean_law(&self)
-        ensures { self.now.project.dirt ≡ [] → IsExact self.now.project }
+        ensures { IsSound self.now.project → self.now.project.dirt ≡ [] → IsExact self.now.project }
     {
         poster_law();
         self.topology.topology_law();

@@ -125,4 +125,13 @@ impl Dirt {
             rects: cut_of(alloc, &self.rects, window)?,
         })
     }
+
+    /// An equal value.
+    pub fn try_copy(&self, alloc: Global) -> Result<Dirt, NoMemory>
+        ensures { IfOk result (λ d. d ≡ self.now) }
+    {
+        Ok(Dirt {
+            rects: Vec::from_slice(alloc, &self.rects)?,
+        })
+    }
 }

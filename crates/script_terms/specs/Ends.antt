@@ -12,13 +12,13 @@
 -- IsComplete s k status code     with no fault counted and a script within the limit the whole text is written and the status is 0 or 1,
 --                                or it is 5
 --
--- In every state of a run that is spoken of the invariant holds (`WritesRun`, `WritesPrefix`). Source: own.
+-- In every state of a run that is spoken of the invariant holds. Source: own.
 use Rattle.std.specs.Prelude.{ℕ, ◌≡◌, ◌≤◌, ◌⊎◌, Bool, true, false, List, [], ◌∷◌, ◌++◌, codes, map, length, Some, String, string_bytes}
 use Rattle.std.specs.Io.KnownBytes.{Appends}
 use Rattle.std.specs.declared.alloc.Global.{Global}
 use Rattle.text_terms.specs.Lines.{lines_of}
 use Rattle.script_terms.specs.State.{empty_state}
-use Rattle.script_terms.specs.Run.{IsPrefix, WritesRun, WritesPrefix}
+use Rattle.script_terms.specs.Run.{IsPrefix, EachInvariant, WritesRun, WritesPrefix}
 use Rattle.outside_terms.specs.Faults.{Rose}
 use Rattle.outside_terms.specs.Reads.{Passage, Read, is_at_end, script_limit}
 use Rattle.outside_terms.specs.declared.end.End.{End}
@@ -27,12 +27,14 @@ use Rattle.outside_terms.specs.declared.status.Status.{Status}
 use Rattle.outside_terms.specs.declared.status.Status.TheVariants as status
 
 -- all that a run over these lines replies was written, and whether one was refused
-abbrev pub WritesAll : Passage → List (List ℕ) → Bool → Type 0
-WritesAll k lines refused = WritesRun empty_state lines k.old k.new refused
+pub record WritesAll (k : Passage) (lines : List (List ℕ)) (refused : Bool) : Type 0 where
+  pub run : WritesRun empty_state lines k.old k.new refused
+  pub invariant : EachInvariant empty_state run.outcomes
 
 -- a prefix of it was written
-abbrev pub WritesSome : Passage → List (List ℕ) → Type 0
-WritesSome k lines = WritesPrefix empty_state lines k.old k.new
+pub record WritesSome (k : Passage) (lines : List (List ℕ)) : Type 0 where
+  pub run : WritesPrefix empty_state lines k.old k.new
+  pub invariant : EachInvariant empty_state run.outcomes
 
 abbrev pub EndsAs : Passage → Passage → Status → Type 0
 EndsAs s k status.Done = (kept : List ℕ) × Read s kept AtEnd × WritesAll k (lines_of true kept) false

@@ -7,3 +7,5 @@ mod RuleLists
 mod Rows
 mod RulesMore
 mod RulesLess
+mod Indexing
+mod Saved

@@ -51,12 +51,14 @@ dest_told cs row None e = tt
 dest_told cs row (Some k) e = kind_told (kind_of_class cs row.dest.class) k (both_parts (is_kind (kind_of_class cs row.dest.class) k)
     (not (row.dest.class == row.origin.class)) e).0
 
-pub has_kinds : (cs : List Class) (row : Row) → fit_cause cs row ≡ None → HasKinds cs row
-has_kinds cs row e =
-    let fit = both_parts (is_kind (kind_of_class cs row.origin.class) (origin_of row.kind)) (fits_dest cs row (dest_of row.kind))
-    (no_fault (is_missing cs row) (is_fit cs row) e) in
+pub fits_kinds : (cs : List Class) (row : Row) → is_fit cs row ≡ true → HasKinds cs row
+fits_kinds cs row e =
+    let fit = both_parts (is_kind (kind_of_class cs row.origin.class) (origin_of row.kind)) (fits_dest cs row (dest_of row.kind)) e in
     record {
       origin = kind_told (kind_of_class cs row.origin.class) (origin_of row.kind) fit.0;
       dest =
           dest_told cs row (dest_of row.kind) fit.1;
     }
+
+pub has_kinds : (cs : List Class) (row : Row) → fit_cause cs row ≡ None → HasKinds cs row
+has_kinds cs row e = fits_kinds cs row (no_fault (is_missing cs row) (is_fit cs row) e)

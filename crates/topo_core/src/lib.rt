@@ -1,6 +1,7 @@
 // A topology of any classes and any rules: each change is the one that the definitions name, and keeps it sound.
 #![tactic(auto)]
 
+mod data;
 mod fault;
 mod fitting;
 mod growth;

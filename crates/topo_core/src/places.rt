@@ -9,8 +9,8 @@ use grid_index::{Index, Placed};
 use grid_plane::NoMemory;
 use shape::Feature;
 
-// Where a feature lies, and its handle.
-fn place_of(feature: &Feature) -> Placed
+/// Where a feature lies, and its handle.
+pub fn place_of(feature: &Feature) -> Placed
     ensures { result ≡ placed_of feature.now }
 {
     Placed {

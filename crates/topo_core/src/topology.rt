@@ -49,13 +49,13 @@ pub struct Summary {
 /// A call that answers an error leaves everything as it was. `NoMemory` may come of any call that may answer it.
 #[derive(Drop)]
 pub struct Topology<R> {
-    alloc: Global,
-    judging: R,
-    store: Store,
-    index: Index,
-    rules: Vec<InForce>,
-    dirt: Dirt,
-    entries: Errors,
+    pub(crate) alloc: Global,
+    pub(crate) judging: R,
+    pub(crate) store: Store,
+    pub(crate) index: Index,
+    pub(crate) rules: Vec<InForce>,
+    pub(crate) dirt: Dirt,
+    pub(crate) entries: Errors,
 }
 
 impl<R> Model for Topology<R> {

@@ -1,5 +1,6 @@
 use Rattle.std.proofs.Common.{rules, sym}
 use Rattle.command_answers.proofs.Replying.{kept_by, room_after, add_replied, add_kept}
+use Rattle.command_answers.proofs.SessionLines.{sound_seen, settled_seen}
 use Rattle.command_answers.proofs.world.World.answer_add.Goals as goal
 
 pub returns-clause-answers : goal.returns-clause-answers
@@ -19,4 +20,12 @@ pub invariant_of-self : goal.invariant_of-self
 invariant_of-self c =
     add_kept c.self.inside.topology c.add_noted.new.topology c.self.inside.sessions c.add_noted.new.sessions c.args.editor.now c.args.shape
     c.in-Some.class c.add_noted.result c.topology_law.ensures.store c.self.invariant c.add_noted.ensures.ok c.add_noted.ensures.noted
-    c.add_noted.ensures.err c.add_noted.ensures.room c.add_noted.ensures.sound c.add_noted.ensures.settled
+    c.add_noted.ensures.err c.add_noted.ensures.room
+
+pub returns-clause-sound : goal.returns-clause-sound
+returns-clause-sound c = sound_seen c.self.inside.topology c.add_noted.new.topology c.self.inside.sessions c.args.self.now c.self.view_is
+    c.add_noted.ensures.sound
+
+pub returns-clause-settled : goal.returns-clause-settled
+returns-clause-settled c = settled_seen c.self.inside.topology c.add_noted.new.topology c.self.inside.sessions c.args.self.now c.self.view_is
+    c.add_noted.ensures.settled

@@ -1,4 +1,4 @@
-use Rattle.command_answers.proofs.SessionLines.{begin_replied, begin_kept, left_after}
+use Rattle.command_answers.proofs.SessionLines.{sound_seen, settled_seen, begin_replied, begin_kept, left_after}
 use Rattle.command_answers.proofs.Replying.{kept_by}
 use Rattle.command_answers.proofs.world.World.answer_begin.Goals as goal
 
@@ -15,3 +15,11 @@ returns-clause-err c =
 pub invariant_of-self : goal.invariant_of-self
 invariant_of-self c = begin_kept c.self.inside.topology c.self.inside.sessions c.begin.new.self c.args.editor c.begin.result
     c.self.invariant c.begin.ensures.done c.begin.ensures.kept
+
+pub returns-clause-sound : goal.returns-clause-sound
+returns-clause-sound c = sound_seen c.self.inside.topology c.self.inside.topology c.self.inside.sessions c.args.self.now c.self.view_is
+    (λ k. k)
+
+pub returns-clause-settled : goal.returns-clause-settled
+returns-clause-settled c = settled_seen c.self.inside.topology c.self.inside.topology c.self.inside.sessions c.args.self.now c.self.view_is
+    (λ k. k)

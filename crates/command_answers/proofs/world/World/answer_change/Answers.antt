@@ -5,6 +5,7 @@ use Rattle.script_terms.specs.State.{State}
 use Rattle.topology_terms.specs.Changes.{reshaped}
 use Rattle.topology_terms.specs.Feature.{feature_at}
 use Rattle.command_answers.proofs.Replying.{kept_by, room_after, change_replied, set_kept}
+use Rattle.command_answers.proofs.SessionLines.{sound_seen, settled_seen}
 use Rattle.command_answers.proofs.world.World.answer_change.Goals as goal
 
 pub returns-clause-answers : goal.returns-clause-answers
@@ -28,4 +29,12 @@ invariant_of-self c =
     c.topology_law.ensures.store c.self.invariant c.order_law.ensures (subst
     (λ (z : State). refusal_of z (Delete c.args.editor.now c.args.handle) ≡ None) (sym c.self.view_is) c.in_default.ensures)
     c.change_noted.ensures.ok c.change_noted.ensures.noted c.change_noted.ensures.live c.change_noted.ensures.err
-    c.change_noted.ensures.room c.change_noted.ensures.sound c.change_noted.ensures.settled
+    c.change_noted.ensures.room
+
+pub returns-clause-sound : goal.returns-clause-sound
+returns-clause-sound c = sound_seen c.self.inside.topology c.change_noted.new.topology c.self.inside.sessions c.args.self.now c.self.view_is
+    c.change_noted.ensures.sound
+
+pub returns-clause-settled : goal.returns-clause-settled
+returns-clause-settled c = settled_seen c.self.inside.topology c.change_noted.new.topology c.self.inside.sessions c.args.self.now c.self.view_is
+    c.change_noted.ensures.settled

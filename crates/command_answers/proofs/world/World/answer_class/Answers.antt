@@ -1,4 +1,5 @@
 use Rattle.command_answers.proofs.Replying.{kept_by, same_after, class_replied, class_kept}
+use Rattle.command_answers.proofs.SessionLines.{sound_seen, settled_seen}
 use Rattle.command_answers.proofs.world.World.answer_class.Goals as goal
 
 pub returns-clause-answers : goal.returns-clause-answers
@@ -14,4 +15,12 @@ returns-clause-err c =
 
 pub invariant_of-self : goal.invariant_of-self
 invariant_of-self c = class_kept c.self.inside.topology c.add_class.new.self c.self.inside.sessions c.args.name c.args.kind
-    c.add_class.result c.self.invariant c.add_class.ensures.ok c.add_class.ensures.err c.add_class.ensures.sound c.add_class.ensures.settled
+    c.add_class.result c.self.invariant c.add_class.ensures.ok c.add_class.ensures.err
+
+pub returns-clause-sound : goal.returns-clause-sound
+returns-clause-sound c = sound_seen c.self.inside.topology c.add_class.new.self c.self.inside.sessions c.args.self.now c.self.view_is
+    c.add_class.ensures.sound
+
+pub returns-clause-settled : goal.returns-clause-settled
+returns-clause-settled c = settled_seen c.self.inside.topology c.add_class.new.self c.self.inside.sessions c.args.self.now c.self.view_is
+    c.add_class.ensures.settled

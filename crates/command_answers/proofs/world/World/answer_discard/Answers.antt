@@ -1,7 +1,7 @@
 use Rattle.edit_session.specs.Moves.{MayAll}
 use Rattle.command_answers.proofs.KeptLists.{named_has}
 use Rattle.command_answers.proofs.Sessions.{May}
-use Rattle.command_answers.proofs.SessionLines.{discard_replied, discard_kept}
+use Rattle.command_answers.proofs.SessionLines.{sound_seen, settled_seen, discard_stays, discard_replied, discard_kept}
 use Rattle.command_answers.proofs.world.World.answer_discard.Goals as goal
 
 pub discard-requires : goal.discard-requires
@@ -10,8 +10,8 @@ discard-requires c = record {
       c.self.invariant.may;
 }
 
-pub returns : goal.returns
-returns c =
+pub returns-clause-answers : goal.returns-clause-answers
+returns-clause-answers c =
     rw (← c.self.view_is) (discard_replied c.self.inside.topology c.discard.new.ground c.self.inside.sessions c.discard.new.self
     c.args.editor.now c.discard.result c.reply_to_session.result c.self.invariant c.discard.ensures.done c.discard.ensures.refused
     c.reply_to_session.ensures.said)
@@ -19,3 +19,13 @@ returns c =
 pub invariant_of-self : goal.invariant_of-self
 invariant_of-self c = discard_kept c.self.inside.topology c.discard.new.ground c.self.inside.sessions c.discard.new.self c.args.editor.now
     c.discard.result c.self.invariant c.discard.ensures.done c.discard.ensures.refused
+
+pub returns-clause-sound : goal.returns-clause-sound
+returns-clause-sound c = sound_seen c.self.inside.topology c.discard.new.ground c.self.inside.sessions c.args.self.now c.self.view_is
+    (discard_stays c.self.inside.topology c.discard.new.ground c.self.inside.sessions c.discard.new.self c.args.editor.now c.discard.result
+    c.discard.ensures.done c.discard.ensures.refused).0
+
+pub returns-clause-settled : goal.returns-clause-settled
+returns-clause-settled c = settled_seen c.self.inside.topology c.discard.new.ground c.self.inside.sessions c.args.self.now c.self.view_is
+    (discard_stays c.self.inside.topology c.discard.new.ground c.self.inside.sessions c.discard.new.self c.args.editor.now c.discard.result
+    c.discard.ensures.done c.discard.ensures.refused).1

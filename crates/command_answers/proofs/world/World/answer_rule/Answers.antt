@@ -7,6 +7,7 @@ use Rattle.script_terms.specs.Answer.{Answers}
 use Rattle.reply_text.specs.Replies.{said_of}
 use Rattle.command_answers.specs.Worlds.{state_of}
 use Rattle.command_answers.proofs.Replying.{kept_by, same_after, rule_replied, rule_kept}
+use Rattle.command_answers.proofs.SessionLines.{sound_seen, settled_seen}
 use Rattle.command_answers.proofs.world.World.answer_rule.Goals as goal
 
 pub returns-clause-answers : goal.returns-clause-answers
@@ -27,4 +28,12 @@ returns-clause-err c =
 
 pub invariant_of-self : goal.invariant_of-self
 invariant_of-self c = rule_kept c.self.inside.topology c.add_rule.new.self c.self.inside.sessions c.in-Some.row c.add_rule.result
-    c.self.invariant c.add_rule.ensures.ok c.add_rule.ensures.err c.add_rule.ensures.sound c.add_rule.ensures.settled
+    c.self.invariant c.add_rule.ensures.ok c.add_rule.ensures.err
+
+pub returns-clause-sound : goal.returns-clause-sound
+returns-clause-sound c = sound_seen c.self.inside.topology c.add_rule.new.self c.self.inside.sessions c.args.self.now c.self.view_is
+    c.add_rule.ensures.sound
+
+pub returns-clause-settled : goal.returns-clause-settled
+returns-clause-settled c = settled_seen c.self.inside.topology c.add_rule.new.self c.self.inside.sessions c.args.self.now c.self.view_is
+    c.add_rule.ensures.settled

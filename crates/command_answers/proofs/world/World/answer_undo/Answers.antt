@@ -1,7 +1,7 @@
 use Rattle.edit_session.specs.Moves.{MayAll}
 use Rattle.command_answers.proofs.KeptLists.{named_has}
 use Rattle.command_answers.proofs.Sessions.{May}
-use Rattle.command_answers.proofs.SessionLines.{undo_replied, undo_kept, still_after}
+use Rattle.command_answers.proofs.SessionLines.{sound_seen, settled_seen, undo_stays, undo_replied, undo_kept, still_after}
 use Rattle.command_answers.proofs.Replying.{kept_by}
 use Rattle.command_answers.proofs.world.World.answer_undo.Goals as goal
 
@@ -26,3 +26,13 @@ returns-clause-err c =
 pub invariant_of-self : goal.invariant_of-self
 invariant_of-self c = undo_kept c.self.inside.topology c.undo.new.ground c.self.inside.sessions c.undo.new.self c.args.editor.now
     c.undo.result c.self.invariant c.undo.ensures.done c.undo.ensures.kept c.undo.ensures.same
+
+pub returns-clause-sound : goal.returns-clause-sound
+returns-clause-sound c = sound_seen c.self.inside.topology c.undo.new.ground c.self.inside.sessions c.args.self.now c.self.view_is
+    (undo_stays c.self.inside.topology c.undo.new.ground c.self.inside.sessions c.undo.new.self c.args.editor.now c.undo.result c.undo.ensures.done
+    c.undo.ensures.same).0
+
+pub returns-clause-settled : goal.returns-clause-settled
+returns-clause-settled c = settled_seen c.self.inside.topology c.undo.new.ground c.self.inside.sessions c.args.self.now c.self.view_is
+    (undo_stays c.self.inside.topology c.undo.new.ground c.self.inside.sessions c.undo.new.self c.args.editor.now c.undo.result c.undo.ensures.done
+    c.undo.ensures.same).1

@@ -2,6 +2,7 @@ use Rattle.std.proofs.Common.{arith}
 use Rattle.command_answers.specs.Worlds.{state_of}
 use Rattle.command_answers.proofs.Noting.{seen_same, stays_world}
 use Rattle.command_answers.proofs.Answering.{validated}
+use Rattle.command_answers.proofs.SessionLines.{sound_seen, settled_seen}
 use Rattle.command_answers.proofs.world.World.answer_validate.Goals as goal
 
 pub returns-clause-answers : goal.returns-clause-answers
@@ -14,5 +15,12 @@ returns-clause-answers c =
 pub invariant_of-self-2 : goal.invariant_of-self-2
 invariant_of-self-2 c =
     let v = c.in_ok-validate.ensures.ok in
-    stays_world c.self.inside.topology c.validate.new.self c.self.inside.sessions v.features v.next v.classes
-    (c.validate.ensures.sound c.self.invariant.sound) (c.validate.ensures.settled c.self.invariant.settled) c.self.invariant
+    stays_world c.self.inside.topology c.validate.new.self c.self.inside.sessions v.features v.next v.classes c.self.invariant
+
+pub returns-clause-sound : goal.returns-clause-sound
+returns-clause-sound c = sound_seen c.self.inside.topology c.validate.new.self c.self.inside.sessions c.args.self.now c.self.view_is
+    c.validate.ensures.sound
+
+pub returns-clause-settled : goal.returns-clause-settled
+returns-clause-settled c = settled_seen c.self.inside.topology c.validate.new.self c.self.inside.sessions c.args.self.now c.self.view_is
+    c.validate.ensures.settled

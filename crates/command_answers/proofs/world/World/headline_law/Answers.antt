@@ -1,14 +1,20 @@
 use Rattle.std.proofs.Common.{subst}
 use Rattle.topology_terms.specs.Project.{IsOrdered}
-use Rattle.script_terms.specs.Headline.{Invariant}
+use Rattle.topology_terms.specs.Settled.{IsSettled}
+use Rattle.topology_terms.specs.Sound.{IsSound}
+use Rattle.script_terms.specs.Headline.{Headline, Invariant}
 use Rattle.script_terms.specs.Keeping.{IsKeeping}
 use Rattle.script_terms.specs.State.{State}
-use Rattle.command_answers.proofs.Headlines.{invariant}
+use Rattle.command_answers.proofs.Headlines.{headline, invariant}
 use Rattle.command_answers.proofs.world.World.headline_law.Goals as goal
 
+pub returns-clause-sound : goal.returns-clause-sound
+returns-clause-sound c = subst (λ (q : State). IsSound q.project → Headline q.project) c.self.view_is
+    (headline c.self.inside.topology c.topology_law.ensures)
+
 pub returns-clause-invariant : goal.returns-clause-invariant
-returns-clause-invariant c = subst (λ (q : State). Invariant q.project) c.self.view_is
-    (invariant c.self.inside.topology c.topology_law.ensures c.self.invariant.sound c.self.invariant.settled)
+returns-clause-invariant c = subst (λ (q : State). IsSound q.project → IsSettled q.project → Invariant q.project) c.self.view_is
+    (invariant c.self.inside.topology c.topology_law.ensures)
 
 pub returns-clause-ordered : goal.returns-clause-ordered
 returns-clause-ordered c = subst (λ (q : State). IsOrdered q.project) c.self.view_is c.order_law.ensures
