@@ -1,4 +1,5 @@
 use Rattle.outside_terms.specs.Reads.{Passage}
+use Rattle.script_terms.proofs.Starts.{writes_all}
 use Rattle.topo_run.proofs.Endings.{all_answered}
 use Rattle.topo_run.proofs.replay.replay.Goals as goal
 
@@ -19,4 +20,4 @@ returns-in-Ok-answer_all-clause-ends g c =
       now = g.K.Sink.faults c.answer_all.new.sink;
     } in
     rw c.status_of.ensures (all_answered s k c.in-Ok.script.bytes.items c.in-Ok.script.end c.in-Ok-answer_all.refused c.in-Ok.ensures.read
-    (rw (← c.is_at_end.ensures, ← c.deref.ensures.value) c.in-Ok-answer_all.ensures.ok))
+    (writes_all (rw (← c.is_at_end.ensures, ← c.deref.ensures.value) c.in-Ok-answer_all.ensures.ok)))
