@@ -2,3 +2,5 @@ pub mod Words
 pub mod Opening
 pub mod Checking
 pub mod Reporting
+pub mod Replaying
+pub mod Saving
