@@ -2,9 +2,11 @@
 --
 -- unopened_of fault e     what a shelf's fault is turned into
 -- unread_of fault e       what the fault of a text is turned into
+-- IsNoStart name h e      the same where a replay was to start from it: the name is not `-`
 -- IsUnopened name h e     of the shelf h: the project of this name is not opened, for this reason
+-- IfUnopened t P          P, where the status t says that no project was opened
 -- Says text done k t      of the sink k: the text was written, and the status t is `done`; or it was not, and a prefix of it was
-use Rattle.std.specs.Prelude.{ℕ, ◌≡◌, ◌⊎◌, List, None}
+use Rattle.std.specs.Prelude.{ℕ, ◌≡◌, ◌≢◌, ◌⊎◌, List, None, codes}
 use Rattle.std.specs.Io.KnownBytes.{Appends}
 use Rattle.project_text.specs.declared.fault.ProjectFault.{ProjectFault}
 use Rattle.project_text.specs.declared.fault.ProjectFault.TheVariants as text
@@ -32,6 +34,15 @@ IsUnopened name h why.Failed = Rose h.before h.now
 IsUnopened name h why.Absent = Gives h.old name None
 IsUnopened name h (why.Wrong line cause) = IsWrongUnder h.old name line cause
 IsUnopened name h why.NoMemory = Unit {0}
+
+abbrev pub IsNoStart : List ℕ → Visit → NotOpened → Type 0
+IsNoStart name h e = (name ≢ codes "-") × IsUnopened name h e
+
+abbrev pub IfUnopened : Status → Type 0 → Type 0
+IfUnopened status.WrongText P = P
+IfUnopened status.OpenFault P = P
+IfUnopened status.NoProject P = P
+IfUnopened other P = Unit {0}
 
 abbrev pub Says : List ℕ → Status → Passage → Status → Type 0
 Says text done k t = ((t ≡ done) × Appends k.old k.new text)

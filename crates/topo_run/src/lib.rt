@@ -10,6 +10,7 @@ mod program;
 mod read;
 mod replay;
 mod report;
+mod save;
 mod status;
 mod town;
 mod waiting;

@@ -1,13 +1,18 @@
 ghost use Rattle.std.specs.Prelude.{◌≡◌, ◌≤◌, ℕ, List, IfOk, IfErr, string_bytes};
+ghost use Rattle.topology_terms.specs.Project.{Project};
 ghost use Rattle.project_terms.specs.Records.{IsRecord};
 ghost use Rattle.outside_terms.specs.Shelves.{KeepsHeld, Visit};
 ghost use Rattle.opening_terms.specs.Opening.{IsUnder, EndsUnopened, cause_word, wrong_text};
-ghost use Rattle.topo_run.specs.Unopened.{unopened_of, unread_of, IsUnopened};
+ghost use Rattle.opening_terms.specs.Replaying.{IsStart, start_of};
+ghost use Rattle.topo_run.specs.Unopened.{unopened_of, unread_of, IsUnopened, IsNoStart};
 
 use crate::write::say;
+use command_answers::World;
 use outside_terms::Status;
 use project_text::{ProjectCause, ProjectData, ProjectFault, read_project};
+use rule_set::PosterRules;
 use std::alloc::{AllocError, Global};
+use topo_core::Topology;
 use topo_outside::{Shelf, ShelfFault, Sink};
 
 /// Why a project is not opened.
@@ -56,6 +61,23 @@ pub fn open<H: Shelf>(alloc: Global, name: &str, shelf: &mut H) -> Result<Projec
     match shelf.get(alloc, name)? {
         Some(bytes) => Ok(read_project(alloc, &bytes)?),
         None => Err(NotOpened::Absent),
+    }
+}
+
+/// The state that a replay of this name starts from: the project, and no session; `-` names the empty project.
+pub fn world_of<H: Shelf>(alloc: Global, name: &str, shelf: &mut H) -> Result<World, NotOpened>
+    ensures start { IfOk result (λ w. (p : Project) × IsStart (H.held shelf.old) name.now p × (w ≡ start_of p)) }
+    ensures none { IfErr result (IsNoStart name.now (record { old = H.held shelf.old; new = H.held shelf.new; before = H.faults shelf.old; now = H.faults shelf.new })) }
+    ensures kept { KeepsHeld (H.held shelf.old) (H.held shelf.new) }
+    ensures later { H.faults shelf.old ≤ H.faults shelf.new }
+{
+    if name == "-" {
+        return Ok(World::new(alloc));
+    }
+    let saved = open(alloc, name, shelf)?;
+    match Topology::from_data(alloc, PosterRules, saved) {
+        Ok(topology) => Ok(World::of(alloc, topology)),
+        Err(_) => Err(NotOpened::NoMemory),
     }
 }
 
