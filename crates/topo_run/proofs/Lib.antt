@@ -8,4 +8,5 @@ pub mod Restores
 pub mod Towns
 pub mod Saying
 pub mod Opened
+pub mod Shelved
 pub mod Asked

@@ -127,8 +127,3 @@ pub town_asked : (words : List (List ℕ)) (seed n other m : ℕ) (k : Passage) 
 town_asked words seed n other m k s asked made ends =
     let one = one_request words seed n other m asked made in
     rw (one.0, one.1) ends
-
-pub town_done : (words : List (List ℕ)) (seed n other m : ℕ) (k : Passage) (s : Status) (code : ℕ) → IsTownRequest words seed n
-    → IsTownRequest words other m → EndsAsTown other m k s → code ≡ code_of s → IsTownComplete seed n k code
-town_done words seed n other m k s code asked made ends is =
-    rw is (town_completes seed n k s (town_asked words seed n other m k s asked made ends))

@@ -129,6 +129,7 @@ pub fn replay<S: Source, K: Sink>(alloc: Global, source: &mut S, sink: &mut K) -
         (record { old = S.left source.old; new = S.left source.new; before = S.faults source.old; now = S.faults source.new })
         (record { old = K.written sink.old; new = K.written sink.new; before = K.faults sink.old; now = K.faults sink.new })
         result }
+    ensures unopened { IfUnopened result (source.new ≡ source.old) }
     ensures counts { (S.faults source.old ≤ S.faults source.new) × (K.faults sink.old ≤ K.faults sink.new) }
 {
     let mut world = World::new(alloc);

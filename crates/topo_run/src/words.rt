@@ -1,6 +1,6 @@
-ghost use Rattle.std.specs.Prelude.{◌≡◌, ◌≢◌, ◌↔◌, ℕ, List, [], ◌∷◌, map, IsTrue, MatchOption, string_bytes};
+ghost use Rattle.std.specs.Prelude.{◌≡◌, ◌≢◌, ◌↔◌, ℕ, List, [], ◌∷◌, map, IsTrue, MatchOption, string_bytes, codes};
 ghost use Rattle.script_terms.specs.Ends.{IsReplay};
-ghost use Rattle.topo_run.specs.Asked.{Asks};
+ghost use Rattle.topo_run.specs.Asked.{IsAskedBy};
 
 use town_maker::{TownRequest, town_request};
 
@@ -9,6 +9,10 @@ use town_maker::{TownRequest, town_request};
 pub enum Words<'a> {
     /// `replay`
     Replay,
+    /// `replay PROJECT`
+    ReplayOf(&'a str),
+    /// `replay PROJECT TARGET`
+    ReplayTo(&'a str, &'a str),
     /// `check PROJECT`
     Check(&'a str),
     /// `report PROJECT`
@@ -44,12 +48,33 @@ fn named_by<'a>(words: &'a Vec<String>, form: &str) -> Option<&'a str>
     Some(words[1].as_str())
 }
 
+// The second and third of three words of which the first is `replay`, where they are not empty.
+fn saved_by(words: &Vec<String>) -> Option<(&str, &str)>
+    ensures { MatchOption result
+        ((name target : List ℕ) → map (λ w. string_bytes w) words.now.items ≡ codes "replay" ∷ name ∷ target ∷ [] → name ≢ [] → target ≢ [] → ⊥)
+        (λ both. (map (λ w. string_bytes w) words.now.items ≡ codes "replay" ∷ both.0.now ∷ both.1.now ∷ []) × (both.0.now ≢ []) × (both.1.now ≢ [])) }
+{
+    if words.len() != 3 || !is_word(&words[0], "replay") {
+        return None;
+    }
+    if words[1].is_empty() || words[2].is_empty() {
+        return None;
+    }
+    Some((words[1].as_str(), words[2].as_str()))
+}
+
 /// What these words, those after the program's name, ask for.
 pub fn words_of(words: &Vec<String>) -> Words<'_>
-    ensures { Asks (map (λ w. string_bytes w) words.now.items) result }
+    ensures { IsAskedBy (map (λ w. string_bytes w) words.now.items) result }
 {
     if is_replay(words) {
         return Words::Replay;
+    }
+    if let Some(project) = named_by(words, "replay") {
+        return Words::ReplayOf(project);
+    }
+    if let Some((project, target)) = saved_by(words) {
+        return Words::ReplayTo(project, target);
     }
     if let Some(project) = named_by(words, "check") {
         return Words::Check(project);
