@@ -87,19 +87,19 @@ ends_empty start last s k t is ends =
     empty_ends s k t (subst (λ (x : State). EndsFrom x s k t) is (from_there start last s k t ends))
 
 -- a replay that began does not end as one does that opened nothing
-pub began : {P : Type 0} (start : State) (s k : Passage) (t : Status) → EndsFrom start s k t → IfUnopened t P
-began start s k status.WrongText r = absurd r
-began start s k status.OpenFault r = absurd r
-began start s k status.NoProject r = absurd r
-began start s k status.Done r = tt
-began start s k status.Refused r = tt
-began start s k status.Usage r = tt
-began start s k status.ReadFault r = tt
-began start s k status.WriteFault r = tt
-began start s k status.NoMemory r = tt
-began start s k status.SaveFault r = tt
-began start s k status.Unsound r = tt
-began start s k status.TooLong r = tt
+pub began : (P : Type 0) (start : State) (s k : Passage) (t : Status) → EndsFrom start s k t → IfUnopened t P
+began P start s k status.WrongText r = absurd r
+began P start s k status.OpenFault r = absurd r
+began P start s k status.NoProject r = absurd r
+began P start s k status.Done r = tt
+began P start s k status.Refused r = tt
+began P start s k status.Usage r = tt
+began P start s k status.ReadFault r = tt
+began P start s k status.WriteFault r = tt
+began P start s k status.NoMemory r = tt
+began P start s k status.SaveFault r = tt
+began P start s k status.Unsound r = tt
+began P start s k status.TooLong r = tt
 
 -- ---- where nothing fails
 

@@ -21,7 +21,7 @@ use Rattle.opening_terms.specs.Opening.{EndsUnopened, IsOpeningComplete}
 use Rattle.opening_terms.specs.Replaying.{IsStart, IsToldStart, start_of, Replays, EndsFrom, EndsAsReplayOf, IsReplayOfComplete}
 use Rattle.opening_terms.specs.Saving.{Saves, SavesRun, FailsToSave, EndsSaving, EndsAsReplayTo, IsReplayToComplete}
 use Rattle.topo_run.specs.Told.{ReplaysTo, EndsAt}
-use Rattle.topo_run.specs.Unopened.{IfUnopened}
+use Rattle.topo_run.specs.Unopened.{IfUnopened, is_answered}
 use Rattle.topo_run.proofs.Endings.{all_some, began, kept_whole, not_too_long, not_at_end, from_completes, long_completes}
 use Rattle.topo_run.proofs.Opened.{one_under, opened_complete, unopened_complete, unopened_told}
 
@@ -67,19 +67,19 @@ if_unopened status.Unsound p = tt
 if_unopened status.TooLong p = tt
 
 -- a plain replay opens nothing
-pub none_opened : {P : Type 0} (s k : Passage) (t : Status) → EndsAs s k t → IfUnopened t P
-none_opened s k status.WrongText r = absurd r
-none_opened s k status.OpenFault r = absurd r
-none_opened s k status.NoProject r = absurd r
-none_opened s k status.Done r = tt
-none_opened s k status.Refused r = tt
-none_opened s k status.Usage r = tt
-none_opened s k status.ReadFault r = tt
-none_opened s k status.WriteFault r = tt
-none_opened s k status.NoMemory r = tt
-none_opened s k status.SaveFault r = tt
-none_opened s k status.Unsound r = tt
-none_opened s k status.TooLong r = tt
+pub none_opened : (P : Type 0) (s k : Passage) (t : Status) → EndsAs s k t → IfUnopened t P
+none_opened P s k status.WrongText r = absurd r
+none_opened P s k status.OpenFault r = absurd r
+none_opened P s k status.NoProject r = absurd r
+none_opened P s k status.Done r = tt
+none_opened P s k status.Refused r = tt
+none_opened P s k status.Usage r = tt
+none_opened P s k status.ReadFault r = tt
+none_opened P s k status.WriteFault r = tt
+none_opened P s k status.NoMemory r = tt
+none_opened P s k status.SaveFault r = tt
+none_opened P s k status.Unsound r = tt
+none_opened P s k status.TooLong r = tt
 
 -- by its number
 pub by_code : {P : Type 0} (t : Status) (code : ℕ) → code ≡ code_of t → IfUnopened t P → (code ≡ 6) ⊎ ((code ≡ 7) ⊎ (code ≡ 11)) → P
@@ -111,20 +111,34 @@ puts h target text bytes p q (Ok u) put others same says is valid = record {
 puts h target text bytes p q (Err e) put others same says is valid = tt
 
 -- ---- a replay that saves
+pub answered : (t : Status) → is_answered t ≡ true → (t ≡ status.Done) ⊎ (t ≡ status.Refused)
+answered status.Done test = inl refl
+answered status.Refused test = inr refl
+answered status.Usage test = cc
+answered status.ReadFault test = cc
+answered status.WriteFault test = cc
+answered status.NoMemory test = cc
+answered status.WrongText test = cc
+answered status.OpenFault test = cc
+answered status.SaveFault test = cc
+answered status.Unsound test = cc
+answered status.TooLong test = cc
+answered status.NoProject test = cc
+
 pub not_answered : (start last : State) (target : List ℕ) (s : Passage) (h : Visit) (k : Passage) (t : Status) → EndsAt start last s k t
-    → ((t ≡ status.Done) ⊎ (t ≡ status.Refused) → ⊥) → KeepsHeld h.old h.new → EndsSaving start target s h k t
-not_answered start last target s h k status.Done r no held = absurd (no (inl refl))
-not_answered start last target s h k status.Refused r no held = absurd (no (inr refl))
-not_answered start last target s h k status.SaveFault r no held = absurd r
-not_answered start last target s h k status.Usage r no held = (r, held)
-not_answered start last target s h k status.ReadFault r no held = (r, held)
-not_answered start last target s h k status.WriteFault r no held = (r, held)
-not_answered start last target s h k status.NoMemory r no held = (r, held)
-not_answered start last target s h k status.WrongText r no held = (r, held)
-not_answered start last target s h k status.OpenFault r no held = (r, held)
-not_answered start last target s h k status.Unsound r no held = (r, held)
-not_answered start last target s h k status.TooLong r no held = (r, held)
-not_answered start last target s h k status.NoProject r no held = (r, held)
+    → is_answered t ≡ false → KeepsHeld h.old h.new → EndsSaving start target s h k t
+not_answered start last target s h k status.Done r test held = cc
+not_answered start last target s h k status.Refused r test held = cc
+not_answered start last target s h k status.SaveFault r test held = absurd r
+not_answered start last target s h k status.Usage r test held = (r, held)
+not_answered start last target s h k status.ReadFault r test held = (r, held)
+not_answered start last target s h k status.WriteFault r test held = (r, held)
+not_answered start last target s h k status.NoMemory r test held = (r, held)
+not_answered start last target s h k status.WrongText r test held = (r, held)
+not_answered start last target s h k status.OpenFault r test held = (r, held)
+not_answered start last target s h k status.Unsound r test held = (r, held)
+not_answered start last target s h k status.TooLong r test held = (r, held)
+not_answered start last target s h k status.NoProject r test held = (r, held)
 
 saves_run : (start last : State) (target : List ℕ) (s : Passage) (h : Visit) (k : Passage) (refused : Bool)
     → (r : ReplaysTo start last s k refused) → Saves h target last.project → SavesRun start target s h k r.kept refused
@@ -210,20 +224,20 @@ after_opening start target s h k old before status.Unsound held late r = (r.0, k
 after_opening start target s h k old before status.TooLong held late r = (r.0, keeps_keeps old h.old h.new held r.1)
 after_opening start target s h k old before status.NoProject held late r = (r.0, keeps_keeps old h.old h.new held r.1)
 
-pub began_saving : {P : Type 0} (start : State) (target : List ℕ) (s : Passage) (h : Visit) (k : Passage) (t : Status)
+pub began_saving : (P : Type 0) (start : State) (target : List ℕ) (s : Passage) (h : Visit) (k : Passage) (t : Status)
     → EndsSaving start target s h k t → IfUnopened t P
-began_saving start target s h k status.WrongText r = absurd r.0
-began_saving start target s h k status.OpenFault r = absurd r.0
-began_saving start target s h k status.NoProject r = absurd r.0
-began_saving start target s h k status.Done r = tt
-began_saving start target s h k status.Refused r = tt
-began_saving start target s h k status.Usage r = tt
-began_saving start target s h k status.ReadFault r = tt
-began_saving start target s h k status.WriteFault r = tt
-began_saving start target s h k status.NoMemory r = tt
-began_saving start target s h k status.SaveFault r = tt
-began_saving start target s h k status.Unsound r = tt
-began_saving start target s h k status.TooLong r = tt
+began_saving P start target s h k status.WrongText r = absurd r.0
+began_saving P start target s h k status.OpenFault r = absurd r.0
+began_saving P start target s h k status.NoProject r = absurd r.0
+began_saving P start target s h k status.Done r = tt
+began_saving P start target s h k status.Refused r = tt
+began_saving P start target s h k status.Usage r = tt
+began_saving P start target s h k status.ReadFault r = tt
+began_saving P start target s h k status.WriteFault r = tt
+began_saving P start target s h k status.NoMemory r = tt
+began_saving P start target s h k status.SaveFault r = tt
+began_saving P start target s h k status.Unsound r = tt
+began_saving P start target s h k status.TooLong r = tt
 
 -- ---- where nothing fails
 

@@ -4,9 +4,10 @@
 -- unread_of fault e       what the fault of a text is turned into
 -- IsNoStart name h e      the same where a replay was to start from it: the name is not `-`
 -- IsUnopened name h e     of the shelf h: the project of this name is not opened, for this reason
+-- is_answered t           the status says that all lines of the source were answered
 -- IfUnopened t P          P, where the status t says that no project was opened
 -- Says text done k t      of the sink k: the text was written, and the status t is `done`; or it was not, and a prefix of it was
-use Rattle.std.specs.Prelude.{ℕ, ◌≡◌, ◌≢◌, ◌⊎◌, List, None, codes}
+use Rattle.std.specs.Prelude.{ℕ, ◌≡◌, ◌≢◌, ◌⊎◌, Bool, true, false, List, None, codes}
 use Rattle.std.specs.Io.KnownBytes.{Appends}
 use Rattle.project_text.specs.declared.fault.ProjectFault.{ProjectFault}
 use Rattle.project_text.specs.declared.fault.ProjectFault.TheVariants as text
@@ -37,6 +38,11 @@ IsUnopened name h why.NoMemory = Unit {0}
 
 abbrev pub IsNoStart : List ℕ → Visit → NotOpened → Type 0
 IsNoStart name h e = (name ≢ codes "-") × IsUnopened name h e
+
+abbrev pub is_answered : Status → Bool
+is_answered status.Done = true
+is_answered status.Refused = true
+is_answered other = false
 
 abbrev pub IfUnopened : Status → Type 0 → Type 0
 IfUnopened status.WrongText P = P

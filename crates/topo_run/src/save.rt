@@ -1,8 +1,8 @@
-ghost use Rattle.std.specs.Prelude.{◌≡◌, ◌≤◌, ◌↔◌, ◌⊎◌, IsTrue, OnOk, IsErrOf};
+ghost use Rattle.std.specs.Prelude.{◌≡◌, ◌≤◌, OnOk, IsErrOf};
 ghost use Rattle.outside_terms.specs.Faults.{Rose};
 ghost use Rattle.outside_terms.specs.Shelves.{KeepsHeld, KeepsOthers};
 ghost use Rattle.opening_terms.specs.Saving.{Saves, EndsSaving, EndsAsReplayTo};
-ghost use Rattle.topo_run.specs.Unopened.{IfUnopened};
+ghost use Rattle.topo_run.specs.Unopened.{IfUnopened, is_answered};
 
 use crate::open::{say_unopened, world_of};
 use crate::replay::replay_from;
@@ -31,7 +31,7 @@ fn save<H: Shelf>(alloc: Global, world: &World, target: &str, shelf: &mut H) -> 
 }
 
 fn is_answered(status: Status) -> bool
-    ensures { IsTrue result ↔ ((status ≡ Status.Done) ⊎ (status ≡ Status.Refused)) }
+    ensures { result ≡ is_answered status }
 {
     matches!(status, Status::Done | Status::Refused)
 }

@@ -10,4 +10,5 @@ returns-clause-ends g c =
       before = g.K.Sink.faults c.args.sink.now;
       now = g.K.Sink.faults c.say.new.sink;
     } in
-    checked_said c.args.saved c.in-Ok.found k c.say.result c.in-Ok.ensures ?
+    checked_said c.args.saved c.in-Ok.found k c.say.result c.in-Ok.ensures
+    (rw (c.as_bytes.ensures.value, c.in-Ok-checked_text.ensures, c.checked_status.ensures) at c.say.ensures.says)

@@ -33,5 +33,5 @@ returns-clause-unopened g c =
       before = g.K.Sink.faults c.args.sink.now;
       now = g.K.Sink.faults c.replay_from.new.sink;
     } in
-    none_opened s k c.replay_from.result
+    none_opened _ s k c.replay_from.result
     (ends_empty c.new-world.result c.replay_from.new.world s k c.replay_from.result c.new-world.ensures.empty c.replay_from.ensures.ends)

@@ -38,7 +38,7 @@ returns-in-Ok-clause-unopened g c =
       before = g.K.Sink.faults c.args.sink.now;
       now = g.K.Sink.faults c.replay_from.new.sink;
     } in
-    began c.in-Ok.world s k c.replay_from.result
+    began _ c.in-Ok.world s k c.replay_from.result
     (from_there c.in-Ok.world c.replay_from.new.world s k c.replay_from.result c.replay_from.ensures.ends)
 
 pub returns-in-Err-clause-ends : goal.returns-in-Err-clause-ends

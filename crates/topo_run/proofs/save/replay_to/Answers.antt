@@ -51,7 +51,7 @@ returns-in-Ok-clause-unopened g c =
       before = g.H.Shelf.faults c.world_of.new.shelf;
       now = g.H.Shelf.faults c.replay_and_save.new.shelf;
     } in
-    began_saving c.in-Ok.world c.args.target.now s h k c.replay_and_save.result c.replay_and_save.ensures.ends
+    began_saving _ c.in-Ok.world c.args.target.now s h k c.replay_and_save.result c.replay_and_save.ensures.ends
 
 pub returns-in-Err-clause-ends : goal.returns-in-Err-clause-ends
 returns-in-Err-clause-ends g c =
