@@ -23,7 +23,7 @@ use Rattle.outside_terms.specs.Reads.{Passage}
 use Rattle.outside_terms.specs.Shelves.{Visit}
 use Rattle.outside_terms.specs.declared.status.Status.{Status}
 use Rattle.outside_terms.specs.declared.status.Status.TheVariants as status
-use Rattle.project_check.specs.Checked.{IsFirstUnsound}
+use Rattle.topology_terms.specs.Unsound.{IsFirstUnsound}
 use Rattle.opening_terms.specs.Opening.{IsUnder, IsToldUnder, WritesSomeOf, EndsUnopened}
 
 abbrev pub sound_text : List ℕ

@@ -16,7 +16,7 @@ use Rattle.outside_terms.specs.declared.status.Status.TheVariants as status
 use Rattle.opening_terms.specs.Opening.{IsUnder, IsWrongUnder, IsToldUnder, IsToldWrong, IsToldNone, EndsUnopened, IsOpeningComplete, wrong_text}
 use Rattle.opening_terms.specs.Checking.{EndsChecked, EndsAsCheck, IsCheckComplete, sound_text, unsound_text}
 use Rattle.opening_terms.specs.Reporting.{EndsReported, EndsAsReport, IsReportComplete}
-use Rattle.project_check.specs.Checked.{IsFirstUnsound}
+use Rattle.topology_terms.specs.Unsound.{IsFirstUnsound}
 use Rattle.script_terms.specs.Report.{report_of}
 
 -- ---- one thing stands under a name

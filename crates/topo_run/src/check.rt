@@ -7,12 +7,13 @@ ghost use Rattle.project_check.specs.Checked.{IsChecked};
 ghost use Rattle.topo_run.specs.Verdicts.{checked_text, checked_status};
 
 use crate::open::{open, say_unopened};
-use crate::waiting::check_data;
 use crate::write::say;
+use grid_plane::NoMemory;
 use outside_terms::Status;
-use project_check::Unsound;
 use project_text::ProjectData;
+use rule_set::PosterRules;
 use std::alloc::{AllocError, Global};
+use topo_core::{Topology, Unsound};
 use topo_outside::{Shelf, Sink};
 
 // The line that says what a check found.
@@ -32,6 +33,15 @@ fn checked_status(found: Option<Unsound>) -> Status
         None => Status::Done,
         Some(_) => Status::Unsound,
     }
+}
+
+// What a check of what was saved finds.
+fn check_data(alloc: Global, saved: ProjectData) -> Result<Option<Unsound>, NoMemory>
+    requires { IsRecord saved }
+    ensures { IfOk result (λ found. IsChecked poster saved found) }
+{
+    let topology = Topology::from_data(alloc, PosterRules, saved)?;
+    topology.check()
 }
 
 fn say_checked<K: Sink>(alloc: Global, saved: ProjectData, sink: &mut K) -> Status
