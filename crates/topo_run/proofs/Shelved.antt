@@ -153,12 +153,12 @@ pub answered_saved : (start last : State) (target : List ℕ) (s : Passage) (h :
     → (t ≡ status.Done) ⊎ (t ≡ status.Refused) → Saves h target last.project → EndsSaving start target s h k t
 answered_saved start last target s h k t ends (inl is) saved =
     subst (λ (x : Status). EndsSaving start target s h k x) (sym is) (
-      let r : ReplaysTo start last s k false = subst (λ (x : Status). EndsAt start last s k x) is ends in
-      (r.kept, saves_run start last target s h k false r saved))
+    let r : ReplaysTo start last s k false = subst (λ (x : Status). EndsAt start last s k x) is ends in
+    (r.kept, saves_run start last target s h k false r saved))
 answered_saved start last target s h k t ends (inr is) saved =
     subst (λ (x : Status). EndsSaving start target s h k x) (sym is) (
-      let r : ReplaysTo start last s k true = subst (λ (x : Status). EndsAt start last s k x) is ends in
-      (r.kept, saves_run start last target s h k true r saved))
+    let r : ReplaysTo start last s k true = subst (λ (x : Status). EndsAt start last s k x) is ends in
+    (r.kept, saves_run start last target s h k true r saved))
 
 -- all of the source was replayed
 pub all_of : (start last : State) (s k : Passage) (t : Status) → EndsAt start last s k t → (t ≡ status.Done) ⊎ (t ≡ status.Refused)

@@ -13,7 +13,12 @@ use std::alloc::Global;
 use topo_outside::{Shelf, ShelfFault, Sink, Source};
 
 // Puts the project of a state under this name.
-fn save<H: Shelf>(alloc: Global, world: &World, target: &str, shelf: &mut H) -> Result<(), ShelfFault>
+fn save<H: Shelf>(
+    alloc: Global,
+    world: &World,
+    target: &str,
+    shelf: &mut H,
+) -> Result<(), ShelfFault>
     ensures saved { OnOk result (Saves (record { old = H.held shelf.old; new = H.held shelf.new; before = H.faults shelf.old; now = H.faults shelf.new }) target.now world.now.project) }
     ensures others { KeepsOthers (H.held shelf.old) (H.held shelf.new) target.now }
     ensures failed { IsErrOf result ShelfFault.Failed → Rose (H.faults shelf.old) (H.faults shelf.new) }

@@ -123,7 +123,14 @@ impl Kind for SavedProjects {
         let words = &["replay", "-", "town"];
         let status = status_on(alloc, words, &mut source, &mut sink, &mut shelf)?;
         tally.note(status == REFUSED && holds(&shelf, "town", SAVED.as_bytes()));
-        end_as(alloc, &mut shelf, &["check", "town"], 0, b"sound\n", &mut tally)?;
+        end_as(
+            alloc,
+            &mut shelf,
+            &["check", "town"],
+            0,
+            b"sound\n",
+            &mut tally,
+        )?;
         Ok(tally)
     }
 }

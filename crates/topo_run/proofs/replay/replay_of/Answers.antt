@@ -21,8 +21,12 @@ returns-in-Ok-clause-ends g c =
       now = g.K.Sink.faults c.replay_from.new.sink;
     } in
     let start = c.in-Ok.ensures.start in
-    inl (start.0, start.1, subst (λ (x : State). EndsFrom x s k c.replay_from.result) start.2
-    (from_there c.in-Ok.world c.replay_from.new.world s k c.replay_from.result c.replay_from.ensures.ends))
+    inl (
+      start.0,
+      start.1,
+      subst (λ (x : State). EndsFrom x s k c.replay_from.result) start.2
+          (from_there c.in-Ok.world c.replay_from.new.world s k c.replay_from.result c.replay_from.ensures.ends),
+    )
 
 pub returns-in-Ok-clause-unopened : goal.returns-in-Ok-clause-unopened
 returns-in-Ok-clause-unopened g c =

@@ -27,9 +27,13 @@ returns-in-Ok-clause-ends g c =
       now = g.H.Shelf.faults c.replay_and_save.new.shelf;
     } in
     let start = c.in-Ok.ensures.start in
-    inl (start.0, start.1, after_opening _ c.args.target.now s h k (g.H.Shelf.held c.args.shelf.now) (g.H.Shelf.faults c.args.shelf.now)
-    c.replay_and_save.result c.world_of.ensures.kept c.world_of.ensures.later
-    (subst (λ (x : State). EndsSaving x c.args.target.now s h k c.replay_and_save.result) start.2 c.replay_and_save.ensures.ends))
+    inl (
+      start.0,
+      start.1,
+      after_opening _ c.args.target.now s h k (g.H.Shelf.held c.args.shelf.now) (g.H.Shelf.faults c.args.shelf.now)
+          c.replay_and_save.result c.world_of.ensures.kept c.world_of.ensures.later
+          (subst (λ (x : State). EndsSaving x c.args.target.now s h k c.replay_and_save.result) start.2 c.replay_and_save.ensures.ends),
+    )
 
 pub returns-in-Ok-clause-unopened : goal.returns-in-Ok-clause-unopened
 returns-in-Ok-clause-unopened g c =
