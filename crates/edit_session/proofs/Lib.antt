@@ -1,3 +1,5 @@
 pub mod Moves
+mod StepLists
+mod Swaps
 mod Places
 pub mod Undoing

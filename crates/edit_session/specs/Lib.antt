@@ -1,5 +1,6 @@
 pub mod Grounds
 pub mod OverTopologies
 pub mod Moves
+pub mod StepLists
 pub mod Faults
 pub mod SessionsCalls

@@ -1,4 +1,4 @@
-ghost use Rattle.std.specs.Prelude.{◌≡◌, ◌≢◌, ◌==◌, ◌≤◌, ◌<◌, ◌-◌, ◌+◌, ◌∷◌, ◌++◌, ℕ, List, [], length, take, drop, bytes_eq, OnOk, OnErr, IfOk, vec_len, vec_capacity};
+ghost use Rattle.std.specs.Prelude.{◌≡◌, ◌≢◌, ◌==◌, ◌≤◌, [], length, bytes_eq, OnOk, OnErr};
 ghost use Rattle.std.specs.List.{list_any};
 ghost use Rattle.session_terms.specs.Kept.{KeptStep};
 ghost use Rattle.session_terms.specs.KeptChanges.{has_kept_step, IsKeptNoted, IsSameButRoom};
@@ -6,6 +6,7 @@ ghost use Rattle.edit_session.specs.Moves.{MayAll, IsUndoneOn, IsRedoneOn, AreUn
 
 use crate::ground_of::Ground;
 use crate::step::Step;
+use crate::steps::Steps;
 use grid_plane::{Name, NoMemory};
 use std::alloc::Global;
 use std::marker::Model;
@@ -14,26 +15,19 @@ use std::marker::Model;
 #[derive(Drop)]
 pub struct Session {
     name: Name,
-    steps: Vec<Step>,
+    steps: Steps,
     done: usize,
 }
 
 impl Model for Session {
-    ghost use Rattle.std.specs.Prelude.{◌-◌, ◌≤◌, take, drop, vec_len, vec_capacity};
+    ghost use Rattle.std.specs.Prelude.{◌≤◌, take, drop, length};
     ghost use Rattle.session_terms.specs.Kept.{KeptSession};
 
     ghost Value = { KeptSession };
 
-    ghost view = { λ s. record { name = s.name; done = take s.done s.steps.items; undone = drop s.done s.steps.items; room = vec_capacity s.steps - vec_len s.steps } };
+    ghost view = { λ s. record { name = s.name; done = take s.done s.steps.items; undone = drop s.done s.steps.items; room = s.steps.room } };
 
-    ghost invariant = { λ s. s.done ≤ vec_len s.steps };
-}
-
-// Whether a step is of this handle.
-fn any_of(steps: &[Step], handle: u32) -> bool
-    ensures { result ≡ list_any (λ (t : KeptStep). t.handle == handle) steps.now }
-{
-    steps.iter().any(|step| step.handle() == handle)
+    ghost invariant = { λ s. s.done ≤ length s.steps.items };
 }
 
 impl Session {
@@ -45,7 +39,7 @@ impl Session {
     {
         Session {
             name,
-            steps: Vec::new(alloc),
+            steps: Steps::new(alloc),
             done: 0,
         }
     }
@@ -80,7 +74,7 @@ impl Session {
     pub fn has_step(&self, handle: u32) -> bool
         ensures { result ≡ has_kept_step self.now handle }
     {
-        any_of(&self.steps, handle)
+        self.steps.has(handle)
     }
 
     /// Makes room for a step more.
@@ -89,7 +83,7 @@ impl Session {
         ensures same { IsSameButRoom self.old self.new }
         ensures kept { OnErr result (self.new ≡ self.old) }
     {
-        self.steps.reserve(1)?;
+        self.steps.make_room()?;
         Ok(())
     }
 
@@ -99,7 +93,7 @@ impl Session {
         ensures { IsKeptNoted self.old step self.new }
     {
         self.steps.truncate(self.done);
-        self.steps.push_reserved(step);
+        self.steps.push(step);
         self.done += 1;
     }
 
@@ -110,8 +104,7 @@ impl Session {
         ensures kept { OnErr result (self.new ≡ self.old) }
         ensures same { OnErr result (G.same ground.old ground.new) }
     {
-        let step = &mut self.steps[self.done - 1];
-        ground.swap(step.handle, &mut step.kept)?;
+        self.steps.swap(self.done - 1, ground)?;
         self.done -= 1;
         Ok(())
     }
@@ -136,8 +129,7 @@ impl Session {
         ensures kept { OnErr result (self.new ≡ self.old) }
         ensures same { OnErr result (G.same ground.old ground.new) }
     {
-        let step = &mut self.steps[self.done];
-        ground.swap(step.handle, &mut step.kept)?;
+        self.steps.swap(self.done, ground)?;
         self.done += 1;
         Ok(())
     }

@@ -30,6 +30,17 @@ impl Model for Key {
 }
 
 impl Key {
+    /// The key of these numbers, as texts have them: the partner 0, which no feature has, stands for none.
+    pub fn of_numbers(rule: u16, subject: u32, partner: u32) -> Key
+        ensures { result ≡ record { rule = rule; subject = subject; other = partner } }
+    {
+        Key {
+            rule,
+            subject,
+            other: NonZeroU32::new(partner),
+        }
+    }
+
     /// The handle of the partner as texts have it; 0, which no feature has, where there is none.
     pub fn partner_number(&self) -> u32
         ensures { result ≡ self.now.other }

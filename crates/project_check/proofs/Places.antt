@@ -27,11 +27,15 @@ holds_below number P (z ∷ xs) zero x u l e h y b m = elim m [
 ]
   where
     not_below : y ≡ z → number y < number x → ⊥
-    not_below s b = let c : number y < number z = subst (λ w. number y < number w) e b in
-        let d : number z < number z = subst (λ w. number w < number z) s c in omega arith
+    not_below s b =
+        let c : number y < number z = subst (λ w. number y < number w) e b in
+        let d : number z < number z = subst (λ w. number w < number z) s c in
+        omega arith
 
     not_above : number z < number y → number y < number x → ⊥
-    not_above a b = let c : number y < number z = subst (λ w. number y < number w) e b in omega arith
+    not_above a b =
+        let c : number y < number z = subst (λ w. number y < number w) e b in
+        omega arith
 holds_below number P (z ∷ xs) (suc i) x u l e h y b m = elim m [
   | inl s ↦ subst P (sym s) h.0
   | inr k ↦ holds_below number P xs i x u.1 (omega arith) e h.1 y b k

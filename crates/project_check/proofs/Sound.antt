@@ -17,7 +17,8 @@ use Rattle.sound_laws.proofs.Keyed.{found_contained, key_found, every_found, con
 use Rattle.sound_laws.proofs.RuleLists.{rule_numbers, found_rule, rule_found}
 use Rattle.validation.specs.Projects.{HasParts}
 use Rattle.project_check.specs.Subjects.{HasSubjects}
-use Rattle.project_check.specs.Checked.{HasLists, IsFirstNot, IsFirstUnsound}
+use Rattle.topology_terms.specs.Unsound.{IsFirstUnsound}
+use Rattle.project_check.specs.Checked.{HasLists, IsFirstNot}
 use Rattle.project_check.proofs.Places.{holds_below}
 
 -- ---- where there is nobody
@@ -91,7 +92,8 @@ first_unsound M p rules i q a is u l e h first = record {
       elim early [
         | inl below ↦
             let there = found_contained by_number rule_numbers rules s x.rule x.found in
-            let k = holds_below (λ (y : InForce). y.number) (IsSoundBy M p) rules i q u l e h x.rule (rw own below) (among_at rules there.0 x.rule there.1 there.2) b in
+            let k = holds_below (λ (y : InForce). y.number) (IsSoundBy M p) rules i q u l e h x.rule (rw own below)
+            (among_at rules there.0 x.rule there.1 there.2) b in
             subst (λ y. IsSoundAt M p s y b) x.row_is (subst (λ n. IsSoundAt M p n x.rule.row b) own k)
         | inr same ↦
             let both : Some q.row ≡ Some other = sym here ∙ subst (λ n. rule_at rules n ≡ Some other) same.0

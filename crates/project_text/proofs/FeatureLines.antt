@@ -6,7 +6,7 @@ use Rattle.plane_terms.specs.Shape.{Shape}
 use Rattle.project_terms.specs.declared.stage.Stage.TheVariants as stage
 use Rattle.project_terms.specs.Lines.{fields, natural}
 use Rattle.project_terms.specs.Drafts.{Draft, is_open}
-use Rattle.project_terms.specs.Verdicts.{Verdict, WktReading, Written, FeatureForm, wkt_in, wkt_of, line_verdict, feature_of, feature_numbered}
+use Rattle.project_terms.specs.Verdicts.{Verdict, Written, FeatureForm, wkt_in, feature_of, feature_numbered}
 use Rattle.project_terms.specs.Texts.{IsReading, IsLineVerdict, IsVerdict}
 use Rattle.project_text.specs.Reading.{Gives, Says, IsFeatureVerdict}
 use Rattle.project_text.specs.declared.fault.LineFault.{LineFault}

@@ -1,6 +1,5 @@
 -- A feature above all others goes to the end of the list.
-use Rattle.std.proofs.Common.{ℕ, ◌≡◌, ◌<◌, List, [], ◌∷◌, ◌++◌, Some, None, sym, ◌∙◌, inl, inr, arith}
-use Rattle.plane_terms.specs.Lists.{Every}
+use Rattle.std.proofs.Common.{ℕ, ◌≡◌, ◌<◌, List, [], ◌∷◌, ◌++◌, Some, None, sym, ◌∙◌, inl, inr}
 use Rattle.topology_terms.specs.Feature.{Feature, by_handle, feature_at, IsSetAt, IsAscending}
 use Rattle.sound_laws.proofs.Keyed as keyed
 use Rattle.sound_laws.proofs.Edits.{same_or_not}

@@ -1,5 +1,5 @@
 -- Four numbers that are no rectangle fail the test of one, and those that pass it are one.
-use Rattle.std.proofs.Common.{ℕ, pos, negsuc, zero, suc, ◌≡◌, ◌≤ℤ◌, Bool, true, false, ◌&&◌, refl, inl, inr, arith}
+use Rattle.std.proofs.Common.{ℕ, pos, negsuc, zero, suc, ◌≡◌, ◌≤ℤ◌, true, false, refl, inl, inr, arith}
 use Rattle.std.proofs.lemmas.Bool.{cases_Bool, and_parts}
 use Rattle.std.proofs.lemmas.Int.{ints}
 use Rattle.number_laws.proofs.Tests.{Decides-int_le}

@@ -27,7 +27,7 @@ use project_terms::{ProjectCause, Stage};
 use rule_core::{InForce, RuleRow};
 use shape::{Feature, Kind, Shape};
 use std::alloc::Global;
-use std::num::{NonZeroU16, NonZeroU32};
+use std::num::NonZeroU16;
 use topology_terms::Extent;
 
 fn is_row(a: &RuleRow, b: &RuleRow) -> bool
@@ -342,11 +342,7 @@ impl Draft {
         let Some(rule) = self.rule_in_force(form.rule) else {
             return Err(LineFault::Wrong(ProjectCause::Unknown));
         };
-        let key = Key {
-            rule,
-            subject,
-            other: NonZeroU32::new(other),
-        };
+        let key = Key::of_numbers(rule, subject, other);
         self.put_error(Entry::new(key, form.extent, marked, frame, Cells::new(alloc)))
     }
 

@@ -15,6 +15,7 @@ pub mod Project
 pub mod Lookups
 pub mod Causes
 pub mod Sound
+pub mod Unsound
 pub mod Changes
 pub mod Settled
 pub mod Scratch

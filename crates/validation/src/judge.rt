@@ -85,8 +85,8 @@ fn judge_live<R: RuleSet>(
     add_findings(rule.number, f, findings.into_list(), out)
 }
 
-/// Puts the new entries of the subject, in the order of partners; where it is not live there are none. The count of judgements rises
-/// by one where the rule judges it. After an `Err`, want of memory, it has risen by no more.
+/// Puts the new entries of the subject, in the order of partners; where it is not live there are none. The count of judgements
+/// rises by one where it is live and the rule judges it. After an `Err`, want of memory, it has risen by no more.
 pub fn judge_subject<R: RuleSet>(
     rules: &R,
     alloc: Global,
