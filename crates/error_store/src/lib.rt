@@ -13,3 +13,4 @@ pub use entry::Entry;
 pub use errors::Errors;
 pub use fault::MarkFault;
 pub use key::Key;
+pub use list::find_in;

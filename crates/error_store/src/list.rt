@@ -20,7 +20,7 @@ pub fn place_of(entries: &[Entry], key: Key) -> Option<usize>
     }
 }
 
-/// The error of this key.
+/// The error of this key. Takes steps by the logarithm of their number.
 pub fn find_in(entries: &[Entry], key: Key) -> Option<&Entry>
     requires { terms.IsAscending entries.now }
     ensures { MatchOption result (entry_at entries.now key.rule key.subject key.other ≡ None) (λ e. entry_at entries.now key.rule key.subject key.other ≡ Some e.now) }

@@ -53,6 +53,7 @@ class_there cs k c unlike names e = by (k == 0) refl e
           name = every_got HasName cs (k - 1) c names f;
         }
 
-pub kind_class : (cs : List Class) (k : ℕ) (l : Kind) → EveryPair AreUnlike cs → Every HasName cs → kind_of_class cs k ≡ Some l → IsThere cs k
+pub kind_class : (cs : List Class) (k : ℕ) (l : Kind) → EveryPair AreUnlike cs → Every HasName cs → kind_of_class cs k ≡ Some l
+    → IsThere cs k
 kind_class cs k l unlike names e =
     let m = mapped (λ (c : Class). c.kind) (class_at cs k) l e in class_there cs k m.0 unlike names m.1

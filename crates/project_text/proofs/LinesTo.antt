@@ -65,12 +65,14 @@ pub none_said_yet : (cs : List Class) (rs : List InForce) (F : List Feature) (D 
     → body_of cs rs F D es ≡ []
 none_said_yet cs rs F D es a b c d e = rw (a, b, c, d, e) refl
 
-pub class_more : (cs : List Class) (c : Class) (rs : List InForce) (F : List Feature) (D : List Rectangle) (es : List Entry) → rs ≡ [] → F ≡ []
+pub class_more : (cs : List Class) (c : Class) (rs : List InForce) (F : List Feature) (D : List Rectangle) (es : List Entry) → rs ≡ []
+    → F ≡ []
     → D ≡ [] → es ≡ []
     → body_of (cs ++ c ∷ []) rs F D es ≡ body_of cs rs F D es ++ class_line c ∷ []
 class_more cs c rs F D es a b d e = rw (a, b, d, e) (section_end class_line cs c [] refl)
 
-pub rule_more : (cs : List Class) (rs : List InForce) (q : InForce) (F : List Feature) (D : List Rectangle) (es : List Entry) → F ≡ [] → D ≡ []
+pub rule_more : (cs : List Class) (rs : List InForce) (q : InForce) (F : List Feature) (D : List Rectangle) (es : List Entry) → F ≡ []
+    → D ≡ []
     → es ≡ []
     → body_of cs (rs ++ q ∷ []) F D es ≡ body_of cs rs F D es ++ rule_line cs q ∷ []
 rule_more cs rs q F D es b d e = rw (b, d, e) (deeper (map class_line cs) _ _ _ (section_end (rule_line cs) rs q [] refl))

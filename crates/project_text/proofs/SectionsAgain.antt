@@ -148,7 +148,8 @@ pub rule_put : (d : Draft) (q : RuleForm) (n : ℕ) (r : Row) → natural 1 256 
     Ok (record { stage = stage.Rules; project = record d.project { rules = d.project.rules ++ record { number = n; row = r } ∷ [] } })
 rule_put d q n r a b c e = ap (rule_numbered d q) a ∙ (ap (rule_in d n) b ∙ rw (c, e) refl)
 
-pub rule_step : (p : Project) → IsRecord p → (done : List InForce) (q : InForce) (qs : List InForce) → done ++ q ∷ qs ≡ p.rules → (s : Stage)
+pub rule_step : (p : Project) → IsRecord p → (done : List InForce) (q : InForce) (qs : List InForce) → done ++ q ∷ qs ≡ p.rules
+    → (s : Stage)
     → 2 ≤ rank s → rank s ≤ 4
     → IsVerdict (at_stage s (in_rules p done)) (joined (rule_line p.classes q)) (Ok (at_stage stage.Rules (in_rules p (done ++ q ∷ []))))
 rule_step p h done q qs same s some up =

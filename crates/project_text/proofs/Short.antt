@@ -56,10 +56,13 @@ record IsRingOnGrid (ring : List Place) : Type 0 where
   some : 1 ≤ length ring
   reach : Every IsInReach ring
 
-rings_on_grid : (rings : List (List Place)) → Every (λ ring. 1 ≤ length ring) rings → Every IsInReach (flat rings) → Every IsRingOnGrid rings
+rings_on_grid : (rings : List (List Place)) → Every (λ ring. 1 ≤ length ring) rings → Every IsInReach (flat rings)
+    → Every IsRingOnGrid rings
 rings_on_grid [] h r = tt
-rings_on_grid (ring ∷ rings) h r =
-    (record { some = h.0; reach = every_left IsInReach ring (flat rings) r }, rings_on_grid rings h.1 (every_right IsInReach ring (flat rings) r))
+rings_on_grid (ring ∷ rings) h r = (
+  record { some = h.0; reach = every_left IsInReach ring (flat rings) r },
+  rings_on_grid rings h.1 (every_right IsInReach ring (flat rings) r),
+)
 
 closed_short : (ring : List Place) → IsRingOnGrid ring → length (list_text (closed ring)) ≤ 19 * length ring + 21
 closed_short [] h = absurd (let s = h.some in omega (arith, s))
@@ -160,7 +163,8 @@ of_polygons_short (rings ∷ more ∷ parts) some h few =
 abbrev shape_by : Kind → List (List (List Place)) → Shape
 shape_by k parts = record { kind = k; parts = parts }
 
-point_by : (parts : List (List (List Place))) → IsShape (shape_by kind.Point parts) → length (shape_text (shape_by kind.Point parts)) ≤ 1048576
+point_by : (parts : List (List (List Place))) → IsShape (shape_by kind.Point parts)
+    → length (shape_text (shape_by kind.Point parts)) ≤ 1048576
 point_by [] h = absurd (omega (arith, h.some))
 point_by (part ∷ more ∷ parts) h = absurd (omega (arith, h.some))
 point_by ([] ∷ []) h = absurd (omega (arith, h.parts.0))
@@ -175,7 +179,8 @@ short_by kind.Line parts h =
     let some = every_map (IsRing kind.Line) (λ (ring : List Place). 1 ≤ length ring) (λ ring k. omega (arith, k.0)) (flat parts) h.rings in
     of_lines_short (flat parts) (rings_on_grid (flat parts) some h.in_reach) h.vertices
 short_by kind.Polygon parts h =
-    let some = every_map (IsRing kind.Polygon) (λ (ring : List Place). 1 ≤ length ring) (λ ring k. omega (arith, k.0)) (flat parts) h.rings in
+    let some = every_map (IsRing kind.Polygon) (λ (ring : List Place). 1 ≤ length ring) (λ ring k. omega (arith, k.0)) (flat parts) h.rings
+    in
     of_polygons_short parts h.parts (rings_on_grid (flat parts) some h.in_reach) h.vertices
 
 pub shape_short : (s : Shape) → IsShape s → length (shape_text s) ≤ 1048576

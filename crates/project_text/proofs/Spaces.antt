@@ -36,10 +36,6 @@ line_ends t n lt lf =
     ∙ sym (append_assoc (take n t) (10 ∷ []) (drop (n + 1) t)))
 
 -- ---- how many fields are left
-pub over : (fs : List (List ℕ)) → is_none fs ≡ true → fs ≡ []
-over [] h = refl
-over (f ∷ fs) h = absurd cc
-
 pub not_single : (f : List ℕ) (fs : List (List ℕ)) → is_none fs ≡ false → is_single (f ∷ fs) ≡ false
 not_single f [] h = absurd cc
 not_single f (g ∷ fs) h = refl

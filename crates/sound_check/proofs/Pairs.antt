@@ -34,15 +34,6 @@ unfolding entry_at
 each_entry P es u h = keyed.each_found by_key keys P es u (λ k e at. h k.0 k.1 k.2 e at)
 
 -- ---- an entry
-pub entry_at-find : (es : List Entry) (r a b : ℕ) → entry_at es r a b ≡ find (λ e. has_key e r a b) es
-unfolding entry_at
-entry_at-find es r a b = refl
-
-pub matched : {A : Type 0} (v : A → Entry) (o : Option A) (r : Option Entry) → r ≡ option_map v o
-    → MatchOption o (r ≡ None) (λ e. r ≡ Some (v e))
-matched v None r e = e
-matched v (Some f) r e = e
-
 pub lies_there : (d : List Rectangle) (es : List Entry) (e x : Entry) → entry_at es e.rule e.subject e.other ≡ Some x
     → IsWithinOff d e.cells x.cells ↔ LiesIn d es e
 lies_there d es e x at = (

@@ -1,32 +1,19 @@
-ghost use Rattle.std.specs.Prelude.{◌≡◌, ◌↔◌, IsTrue, IfOk, None, Some, MatchOption};
+ghost use Rattle.std.specs.Prelude.{◌↔◌, IsTrue, IfOk};
 ghost use Rattle.plane_terms.specs.Lists.{Every};
-ghost use Rattle.topology_terms.specs.Entry.{entry_at, has_key, HasWhole, IsFramed};
+ghost use Rattle.topology_terms.specs.Entry.{HasWhole, IsFramed, IsAscending};
 ghost use Rattle.sound_check.specs.Pairs.{LiesIn, IsFramedOrWhole, IsEntrySound};
 
 use crate::frames::{frame_stands, is_least_frame};
 use crate::within::{have_points, is_within};
 use convex_cell::Cells;
 use dirty_area::Dirt;
-use error_store::{Entry, Key};
+use error_store::{Entry, Key, find_in};
 use grid_plane::{NoMemory, Rect};
 use std::alloc::Global;
 
-fn is_at(e: &Entry, key: Key) -> bool
-    ensures { result ≡ has_key e.now key.rule key.subject key.other }
-{
-    let own = e.key();
-    own.rule == key.rule && own.subject == key.subject && own.partner_number() == key.partner_number()
-}
-
-// The entry of the key: the lists are short.
-fn find_at(entries: &[Entry], key: Key) -> Option<&Entry>
-    ensures { MatchOption result (entry_at entries.now key.rule key.subject key.other ≡ None) (λ e. entry_at entries.now key.rule key.subject key.other ≡ Some e.now) }
-{
-    entries.iter().find(|e| is_at(e, key))
-}
-
 /// Whether there is a whole entry of the rule and the subject.
 pub fn has_whole(entries: &[Entry], rule: u16, subject: u32) -> bool
+    requires { IsAscending entries.now }
     ensures { IsTrue result ↔ HasWhole entries.now rule subject }
 {
     let key = Key {
@@ -34,16 +21,17 @@ pub fn has_whole(entries: &[Entry], rule: u16, subject: u32) -> bool
         subject,
         other: None,
     };
-    match find_at(entries, key) {
+    match find_in(entries, key) {
         Some(e) => e.whole(),
         None => false,
     }
 }
 
 fn lies_in(alloc: Global, e: &Entry, others: &[Entry], dirt: &Dirt) -> Result<bool, NoMemory>
+    requires { IsAscending others.now }
     ensures { IfOk result (λ yes. IsTrue yes ↔ LiesIn dirt.now others.now e.now) }
 {
-    match find_at(others, e.key()) {
+    match find_in(others, e.key()) {
         Some(other) => is_within(alloc, e.cells(), other.cells(), dirt),
         None => is_within(alloc, e.cells(), &Cells::new(alloc), dirt),
     }
@@ -77,6 +65,7 @@ fn is_entry_sound(
     fresh: &[Entry],
     dirt: &Dirt,
 ) -> Result<bool, NoMemory>
+    requires { IsAscending fresh.now }
     ensures { IfOk result (λ yes. IsTrue yes ↔ IsEntrySound dirt.now envelope fresh.now e.now) }
 {
     if !frame_stands(&e.frame(), envelope, dirt) {
@@ -97,6 +86,7 @@ pub fn are_entries_sound(
     fresh: &[Entry],
     dirt: &Dirt,
 ) -> Result<bool, NoMemory>
+    requires { IsAscending fresh.now }
     ensures { IfOk result (λ yes. IsTrue yes ↔ Every (IsEntrySound dirt.now envelope fresh.now) stored.now) }
 {
     for i in 0..stored.len() {
@@ -114,6 +104,7 @@ pub fn all_lie_in(
     others: &[Entry],
     dirt: &Dirt,
 ) -> Result<bool, NoMemory>
+    requires { IsAscending others.now }
     ensures { IfOk result (λ yes. IsTrue yes ↔ Every (LiesIn dirt.now others.now) entries.now) }
 {
     for i in 0..entries.len() {

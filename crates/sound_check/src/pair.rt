@@ -17,6 +17,8 @@ fn do_wholes_agree(
     stored: &[Entry],
     dirt: &Dirt,
 ) -> bool
+    requires fresh { IsAscending fresh.now }
+    requires stored { IsAscending stored.now }
     ensures { IsTrue result ↔ WholesAgree dirt.now envelope fresh.now stored.now rule subject }
 {
     if has_whole(stored, rule, subject) == has_whole(fresh, rule, subject) {

@@ -1,5 +1,5 @@
 -- Rows that are equal, and classes that fit a row, as their tests tell.
-use Rattle.std.proofs.Common.{◌≡◌, ℕ, Bool, true, false, ◌||◌, not, refl, ap, List, [], ◌∷◌, Option, Some, None, arith}
+use Rattle.std.proofs.Common.{◌≡◌, ℕ, Bool, true, false, ◌||◌, not, refl, List, [], ◌∷◌, Option, Some, None, arith}
 use Rattle.std.specs.Prelude.{◌==◌, IfSome}
 use Rattle.std.proofs.lemmas.Bool.Decides.{nat_tests}
 use Rattle.std.proofs.lemmas.Slice.Eq.{bytes_eq-Decides}
@@ -11,7 +11,7 @@ use Rattle.topology_terms.specs.Project.{InForce, rule_at}
 use Rattle.topology_terms.specs.Lookups.{kind_of_class}
 use Rattle.topology_terms.specs.Causes.{when, first_of, is_kind, is_row, is_there, is_missing, is_fit, fits_dest, fit_cause}
 use Rattle.topology_terms.specs.declared.cause.Cause.TheVariants as cause
-use Rattle.feature_store.proofs.Keeping.{kinds_same}
+use Rattle.project_text.proofs.Named.{kind_there}
 use Rattle.topo_core.specs.Kinds.{HasKinds}
 use Rattle.plane_terms.proofs.Truths.{both_parts}
 
@@ -36,10 +36,6 @@ somewhere row (q ∷ rs) n e = by (q.number == n) refl (somewhere row rs n)
     by false t rest = rw (rest (rw t at e)) (true_last (is_row q.row row))
 
 -- ---- classes that serve the row have its kinds
-kind_told : (o : Option Kind) (k : Kind) → is_kind o k ≡ true → o ≡ Some k
-kind_told None k e = cc
-kind_told (Some l) k e = ap (λ m. Some m) (kinds_same l k e)
-
 no_fault : (s t : Bool) → first_of (when s cause.NoClass ∷ when (not t) cause.Unfit ∷ []) ≡ None → t ≡ true
 no_fault true t e = cc
 no_fault false true e = refl
@@ -48,14 +44,14 @@ no_fault false false e = cc
 dest_told : (cs : List Class) (row : Row) (o : Option Kind) → fits_dest cs row o ≡ true
     → IfSome o (λ k. kind_of_class cs row.dest.class ≡ Some k)
 dest_told cs row None e = tt
-dest_told cs row (Some k) e = kind_told (kind_of_class cs row.dest.class) k (both_parts (is_kind (kind_of_class cs row.dest.class) k)
+dest_told cs row (Some k) e = kind_there (kind_of_class cs row.dest.class) k (both_parts (is_kind (kind_of_class cs row.dest.class) k)
     (not (row.dest.class == row.origin.class)) e).0
 
 pub fits_kinds : (cs : List Class) (row : Row) → is_fit cs row ≡ true → HasKinds cs row
 fits_kinds cs row e =
     let fit = both_parts (is_kind (kind_of_class cs row.origin.class) (origin_of row.kind)) (fits_dest cs row (dest_of row.kind)) e in
     record {
-      origin = kind_told (kind_of_class cs row.origin.class) (origin_of row.kind) fit.0;
+      origin = kind_there (kind_of_class cs row.origin.class) (origin_of row.kind) fit.0;
       dest =
           dest_told cs row (dest_of row.kind) fit.1;
     }

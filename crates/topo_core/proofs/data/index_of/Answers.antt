@@ -1,6 +1,7 @@
 use Rattle.topology_terms.specs.Feature.{Feature, env}
 use Rattle.plane_terms.specs.Rectangle.{IsRectangle}
-use Rattle.topo_core.proofs.Indexing.{every_more, put_more}
+use Rattle.sound_check.proofs.Pairs.{every_more}
+use Rattle.topo_core.proofs.Indexing.{put_more}
 use Rattle.topo_core.proofs.data.index_of.Goals as goal
 
 pub loop-feature-preserved : goal.loop-feature-preserved
