@@ -11,7 +11,7 @@ use Rattle.topology_terms.specs.Sound.{IsSoundAt}
 use Rattle.validation_laws.specs.Parts.{IsSubjectPart}
 use Rattle.sound_check.specs.Pairs.{IsSoundPair, AreExact}
 use Rattle.sound_check.proofs.Exact.{part_exact, sound_at, sound_pair}
-use Rattle.project_check.specs.Checked.{HasLists}
+use Rattle.project_check.specs.Subjects.{HasLists}
 
 pub pair_at : (M : Meaning) → Laws M → CutsRight M → (p : Project) (F : List Feature) (d : List Rectangle) (es : List Entry) (r : ℕ)
     (row : Row) (a : ℕ) (fresh stored : List Entry) (ok : Bool) → HasLists p F d es → IsAscending F → M.Fits row F

@@ -3,3 +3,4 @@ mod Runs
 mod EachSubject
 mod Judged
 mod Sound
+mod Rows

@@ -11,14 +11,13 @@ use Rattle.topology_terms.specs.Meaning.{Meaning, Laws}
 use Rattle.topology_terms.specs.Entry.{Entry, entry_at}
 use Rattle.topology_terms.specs.Project.{Project, InForce, by_number, rule_at, AreAscending}
 use Rattle.topology_terms.specs.Sound.{IsSoundAt, IsSoundUnder}
+use Rattle.topology_terms.specs.Unsound.{IsFirstUnsound}
 use Rattle.validation_laws.specs.Parts.{IsRising}
 use Rattle.validation_laws.proofs.Handles.{among, among_or_not}
 use Rattle.sound_laws.proofs.Keyed.{found_contained, key_found, every_found, contained_found}
 use Rattle.sound_laws.proofs.RuleLists.{rule_numbers, found_rule, rule_found}
 use Rattle.validation.specs.Projects.{HasParts}
-use Rattle.project_check.specs.Subjects.{HasSubjects}
-use Rattle.topology_terms.specs.Unsound.{IsFirstUnsound}
-use Rattle.project_check.specs.Checked.{HasLists, IsFirstNot}
+use Rattle.project_check.specs.Subjects.{HasLists, HasSubjects, IsFirstNot}
 use Rattle.project_check.proofs.Places.{holds_below}
 
 -- ---- where there is nobody

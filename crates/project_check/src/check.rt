@@ -7,8 +7,8 @@ ghost use Rattle.topology_terms.specs.Sound.{IsSoundAt};
 ghost use Rattle.validation_laws.specs.Parts.{IsRising};
 ghost use Rattle.validation.specs.Placed.{ArePlaced};
 ghost use Rattle.validation.specs.Projects.{HasParts};
-ghost use Rattle.project_check.specs.Subjects.{HasSubjects};
-ghost use Rattle.project_check.specs.Checked.{HasLists, IsFirstNot, IsChecked};
+ghost use Rattle.project_check.specs.Subjects.{HasLists, HasSubjects, IsFirstNot};
+ghost use Rattle.project_check.specs.Checked.{IsChecked};
 
 use crate::pair::is_sound_at;
 use crate::subjects::subjects_of;

@@ -5,7 +5,7 @@ ghost use Rattle.topology_terms.specs.Feature as features_of;
 ghost use Rattle.topology_terms.specs.Entry as entries_of;
 ghost use Rattle.topology_terms.specs.Project.{Project};
 ghost use Rattle.topology_terms.specs.Sound.{IsSoundAt};
-ghost use Rattle.project_check.specs.Checked.{HasLists};
+ghost use Rattle.project_check.specs.Subjects.{HasLists};
 
 use crate::run::entries_of;
 use dirty_area::Dirt;

@@ -138,7 +138,8 @@ fn is_before(a: &Key, b: &Key) -> bool
 {
     a.rule < b.rule
         || (a.rule == b.rule
-            && (a.subject < b.subject || (a.subject == b.subject && a.partner_number() < b.partner_number())))
+            && (a.subject < b.subject
+                || (a.subject == b.subject && a.partner_number() < b.partner_number())))
 }
 
 // Whether the key stands behind that of the last error.

@@ -12,11 +12,7 @@ use rule_core::{InForce, RuleRow};
 use std::num::NonZeroU16;
 
 // The name of the class that is second in a rule, behind a blank; nothing where the rule has none.
-fn push_dest(
-    out: &mut Vec<u8>,
-    store: &Store,
-    dest: Option<NonZeroU16>,
-) -> Result<(), NoMemory>
+fn push_dest(out: &mut Vec<u8>, store: &Store, dest: Option<NonZeroU16>) -> Result<(), NoMemory>
     ensures { Appends result out.old.items out.new.items (dest_text store.now.classes (option_map_or non_zero_u16_get dest 0)) }
 {
     let Some(dest) = dest else {

@@ -63,14 +63,7 @@ impl<K: Kinded> Rule for Of<K> {
         work: &mut Work,
     ) -> Result<Findings, NoMemory> {
         let dest = self.row().dest_number();
-        K::cut(
-            alloc,
-            self.origin,
-            dest,
-            view.subject(subject),
-            view,
-            work,
-        )
+        K::cut(alloc, self.origin, dest, view.subject(subject), view, work)
     }
 
     ghost laws = { poster_laws };

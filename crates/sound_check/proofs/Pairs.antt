@@ -1,8 +1,5 @@
 -- The entries of a rule and a subject, stored and fresh.
 use Rattle.std.proofs.Common.{◌≡◌, ◌↔◌, ◌∙◌, ℕ, ◌+◌, ◌<◌, length, get_or, Bool, true, false, IsTrue, List, [], ◌∷◌, take, Option, Some, None, refl, sym, subst}
-use Rattle.std.specs.Prelude.{MatchOption}
-use Rattle.std.specs.List.{find}
-use Rattle.std.specs.Option.{option_map}
 use Rattle.std.proofs.lemmas.Bool.{false≢true}
 use Rattle.std.proofs.lemmas.List.{take_more}
 use Rattle.std.proofs.lemmas.Option.{same_Some, none-some}
@@ -13,7 +10,7 @@ use Rattle.plane_terms.specs.Point.{Point}
 use Rattle.plane_terms.specs.Rectangle.{Rectangle}
 use Rattle.plane_terms.specs.Cell.{InCells}
 use Rattle.plane_terms.specs.Dirt.{Covers, MeetsDirt}
-use Rattle.topology_terms.specs.Entry.{Entry, by_key, has_key, entry_at, HasCellsAt, HasWhole, IsAscending}
+use Rattle.topology_terms.specs.Entry.{Entry, by_key, entry_at, HasCellsAt, HasWhole, IsAscending}
 use Rattle.sound_laws.proofs.Keyed as keyed
 use Rattle.sound_laws.proofs.Lists.{keys, entry_key, every_found}
 use Rattle.sound_check.specs.Rest.{IsWithinOff}

@@ -32,7 +32,7 @@ use rule_core::{InForce, RuleRow, Work};
 use shape::{Feature, Kind, Shape};
 use std::alloc::Global;
 use std::marker::Model;
-use validation::validate;
+use validation::{RuledFeatures, validate};
 
 // The most rules there may be.
 const RULE_LIMIT: usize = 256;
@@ -288,12 +288,11 @@ impl<R: KindRules> Topology<R> {
         ensures err { OnErr result (self.new ≡ self.old) }
     {
         let before = work.judged();
+        let ruled = RuledFeatures::of(&self.rules, self.store.features(), &self.index);
         validate(
             &self.judging,
             self.alloc,
-            &self.rules,
-            self.store.features(),
-            &self.index,
+            &ruled,
             &mut self.entries,
             &mut self.dirt,
             &window,

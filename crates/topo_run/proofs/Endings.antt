@@ -4,7 +4,11 @@ use Rattle.std.specs.Io.KnownBytes.{Consumes, IsAtEnd}
 use Rattle.text_terms.specs.Lines.{lines_of}
 use Rattle.outside_terms.specs.Reads.{Passage, Read, is_at_end, script_limit}
 use Rattle.outside_terms.specs.Statuses.{code_of, status_of}
+use Rattle.outside_terms.specs.Faults.{Rose}
+use Rattle.script_terms.specs.State.{empty_state}
+use Rattle.script_terms.specs.Run.{WritesPrefix}
 use Rattle.script_terms.specs.Ends.{WritesAll, EndsAs, IsComplete, WritesWhole}
+use Rattle.script_terms.proofs.Starts.{writes_some}
 use Rattle.outside_terms.specs.declared.end.End.{End}
 use Rattle.outside_terms.specs.declared.end.End.TheVariants.{AtEnd, Failed, TooLong}
 use Rattle.outside_terms.specs.declared.status.Status.{Status}
@@ -16,6 +20,15 @@ all_answered s k kept AtEnd true read written = (kept, read, written)
 all_answered s k kept AtEnd false read written = (kept, read, written)
 all_answered s k kept Failed refused read written = (kept, refused, read, written)
 all_answered s k kept TooLong refused read written = (kept, refused, read, written)
+
+-- it stopped early
+pub stopped_writing : (s k : Passage) (kept : List ℕ) (end : End) → Read s kept end → Rose k.before k.now
+    → WritesPrefix empty_state (lines_of (is_at_end end) kept) k.old k.new → EndsAs s k status.WriteFault
+stopped_writing s k kept end read rose some = (rose, (kept, end, read, writes_some some))
+
+pub stopped_short : (s k : Passage) (kept : List ℕ) (end : End) → Read s kept end
+    → WritesPrefix empty_state (lines_of (is_at_end end) kept) k.old k.new → EndsAs s k status.NoMemory
+stopped_short s k kept end read some = inl (kept, end, read, writes_some some)
 
 -- what was given of a told script, read to its end, is the script
 whole_given : (script given : List ℕ) (new : Option (List ℕ)) → Consumes (Some script) new given → IsAtEnd new → given ≡ script

@@ -8,11 +8,14 @@ use Rattle.std.specs.Prelude.{Result, Ok, Err, OnErr}
 use Rattle.std.specs.Io.KnownBytes.{Appends}
 use Rattle.std.proofs.KnownBytes.{Appends-nil, Appends-trans}
 use Rattle.script_terms.specs.State.{State, empty_state}
-use Rattle.script_terms.specs.Run.{Outcome, Step, Run, text_of, any_refused, last_state, EachInvariant, WritesRun, WritesPrefix}
-use Rattle.script_terms.specs.Headline.{Invariant}
+use Rattle.script_terms.specs.Run.{Outcome, Step, Run, text_of, any_refused, last_state, EachSound, EachInvariant, WritesRun, WritesPrefix}
+use Rattle.script_terms.specs.Headline.{SoundHeadline, Invariant}
 use Rattle.script_terms.proofs.Runs.{run_keeps, empty_keeps}
+use Rattle.script_terms.proofs.Starts.{last_sound, last_settled}
 use Rattle.topology_terms.specs.Project.{IsOrdered, empty_project}
-use Rattle.topo_run.specs.Told.{Course}
+use Rattle.topology_terms.specs.Settled.{IsSettled}
+use Rattle.topology_terms.specs.Sound.{IsSound}
+use Rattle.topo_run.specs.Told.{Course, Keeps}
 use Rattle.topo_run.proofs.Stepping.{Takes}
 
 pub record SoFar (start : State) (all rest : List (List ℕ)) (now : State) (before written : Option (List ℕ)) (pending : List ℕ)
@@ -41,35 +44,52 @@ pub any_snoc : (os : List Outcome) (o : Outcome) → any_refused (os ++ o ∷ []
 any_snoc [] o = search rules
 any_snoc (p ∷ os) o = grind (arith, any_snoc os o)
 
+pub sound_snoc : (s : State) (os : List Outcome) (o : Outcome) → EachSound s os → SoundHeadline o.after.project → EachSound s (os ++ o ∷ [])
+sound_snoc s [] o h k = (h, k)
+sound_snoc s (p ∷ os) o h k = (h.0, sound_snoc p.after os o h.1 k)
+
 pub invariant_snoc : (s : State) (os : List Outcome) (o : Outcome) → EachInvariant s os → Invariant o.after.project
     → EachInvariant s (os ++ o ∷ [])
 invariant_snoc s [] o h k = (h, k)
 invariant_snoc s (p ∷ os) o h k = (h.0, invariant_snoc p.after os o h.1 k)
 
 -- ---- the course of a run
-abbrev pub course_begins : (start : State) (all : List (List ℕ)) → Invariant start.project → Course start all all start false
-course_begins start all invariant = record {
+abbrev pub course_begins : (start : State) (all : List (List ℕ)) → Keeps start start → Course start all all start false
+course_begins start all keeps = record {
   done = [];
   split = refl;
   outcomes = [];
   run = tt;
   last = refl;
   any = refl;
-  invariant = invariant;
+  sound = keeps.sound;
+  invariant = keeps.invariant;
 }
+
+-- the state that it has come to
+pub now_sound : {start now : State} {all rest : List (List ℕ)} {refused : Bool} → Course start all rest now refused → IsSound start.project
+    → IsSound now.project
+now_sound {start} {now} {all} {rest} {refused} far k =
+    subst (λ (s : State). IsSound s.project) far.last (last_sound start far.outcomes (far.sound k))
+
+pub now_settled : {start now : State} {all rest : List (List ℕ)} {refused : Bool} → Course start all rest now refused
+    → IsSound start.project → IsSettled start.project → IsSettled now.project
+now_settled {start} {now} {all} {rest} {refused} far k l =
+    subst (λ (s : State). IsSettled s.project) far.last (last_settled start far.outcomes (far.invariant k l))
 
 -- one line more was answered
 abbrev pub course_goes_on : {start now : State} {all : List (List ℕ)} {line : List ℕ} {rest : List (List ℕ)} {refused : Bool} {o : Outcome}
-    → Course start all (line ∷ rest) now refused → Step now line o → Invariant o.after.project
+    → Course start all (line ∷ rest) now refused → Step now line o → Keeps now o.after
     → Course start all rest o.after (refused || o.refused)
-course_goes_on {start} {now} {all} {line} {rest} {refused} {o} far step invariant = record {
+course_goes_on {start} {now} {all} {line} {rest} {refused} {o} far step keeps = record {
   done = far.done ++ line ∷ [];
   split = far.split ∙ sym (append_assoc far.done (line ∷ []) rest);
   outcomes = far.outcomes ++ o ∷ [];
   run = run_snoc start far.done far.outcomes line o far.run (rw far.last step);
   last = last_snoc start far.outcomes o;
   any = rw (any_snoc far.outcomes o, far.any) refl;
-  invariant = invariant_snoc start far.outcomes o far.invariant invariant;
+  sound = λ k. sound_snoc start far.outcomes o (far.sound k) (keeps.sound (now_sound far k));
+  invariant = λ k l. invariant_snoc start far.outcomes o (far.invariant k l) (keeps.invariant (now_sound far k) (now_settled far k l));
 }
 
 -- no line is left
@@ -78,18 +98,18 @@ pub course_ends : {start now : State} {all lines : List (List ℕ)} {refused : B
 course_ends far none = rw (far.split, none, append-nil far.done) refl
 
 -- ---- what of its text was written
-pub begins : (start : State) (all : List (List ℕ)) (before : Option (List ℕ)) → Invariant start.project
+pub begins : (start : State) (all : List (List ℕ)) (before : Option (List ℕ)) → Keeps start start
     → SoFar start all all start before before [] false
-begins start all before invariant =
-    record { course = course_begins start all invariant; front = []; text = refl; appended = Appends-nil before }
+begins start all before keeps =
+    record { course = course_begins start all keeps; front = []; text = refl; appended = Appends-nil before }
 
 -- a line was answered, and its reply is pending
 pub goes_on : {start now : State} {all : List (List ℕ)} {line : List ℕ} {rest : List (List ℕ)} {before written : Option (List ℕ)}
     {pending more : List ℕ} {refused : Bool} {o : Outcome} →
-    SoFar start all (line ∷ rest) now before written pending refused → Step now line o → Invariant o.after.project
+    SoFar start all (line ∷ rest) now before written pending refused → Step now line o → Keeps now o.after
     → more ≡ pending ++ o.text → SoFar start all rest o.after before written more (refused || o.refused)
-goes_on {start} {now} {all} {line} {rest} {before} {written} {pending} {more} {refused} {o} far step invariant grown = record {
-  course = course_goes_on {o = o} far.course step invariant;
+goes_on {start} {now} {all} {line} {rest} {before} {written} {pending} {more} {refused} {o} far step keeps grown = record {
+  course = course_goes_on {o = o} far.course step keeps;
   front = far.front;
   text = text_snoc far.course.outcomes o ∙ (ap (λ t. t ++ o.text) far.text ∙ (append_assoc far.front pending o.text
       ∙ ap (λ t. far.front ++ t) (sym grown)));
@@ -132,6 +152,7 @@ ends {now} {all} {lines} {before} {written} {after} {pending} {bytes} {refused} 
       written = rw far.text (Appends-trans before written after far.front pending far.appended
           (subst (λ (t : List ℕ). Appends written after t) same more));
       any = far.course.any;
+      sound = far.course.sound;
       invariant = far.course.invariant;
       keeping = run_keeps empty_state all far.course.outcomes empty_keeps empty_ordered run;
     }
@@ -147,6 +168,7 @@ stops {now} {all} {rest} {before} {written} {pending} {refused} far = record {
   text = far.front;
   is_prefix = (pending, far.text);
   written = far.appended;
+  sound = far.course.sound;
   invariant = far.course.invariant;
   keeping = run_keeps empty_state far.course.done far.course.outcomes empty_keeps empty_ordered far.course.run;
 }

@@ -1,6 +1,8 @@
 -- A line that is read and answered is a step, and tries the pairs of which its reply tells.
 use Rattle.std.proofs.Common.{◌≡◌, ℕ, Bool, List, ◌++◌, refl, ◌∙◌, ap, Option, Some, None}
 use Rattle.topology_terms.specs.Project.{Project, IsOrdered}
+use Rattle.topology_terms.specs.Settled.{IsSettled}
+use Rattle.topology_terms.specs.Sound.{IsSound}
 use Rattle.line_terms.specs.Commands.{Command, Blank, Class, Rule, DropRule, Begin, End, Discard, Add, Change, Delete, Undo, Redo, Validate, Mark, Unmark, Dirty, Errors, Cells, Features, Rules}
 use Rattle.line_terms.specs.Lines.{IsCommandLine, IsLineFault}
 use Rattle.script_text.specs.Faults.{IsFault}
@@ -13,19 +15,19 @@ use Rattle.script_terms.specs.Reply.{Judged, reply_text}
 use Rattle.script_terms.specs.Reply as replies
 use Rattle.script_terms.specs.State.{State}
 use Rattle.script_terms.specs.Answer.{Answers, IsDone, answers_by}
-use Rattle.script_terms.specs.Headline.{Invariant}
+use Rattle.script_terms.specs.Headline.{Headline, Invariant}
 use Rattle.script_terms.specs.Run.{Reads, Faulty, Step, is_refusal}
 use Rattle.reply_text.specs.declared.reply.Reply.{Reply}
 use Rattle.reply_text.specs.declared.reply.Reply.TheVariants as reply
 use Rattle.reply_text.specs.declared.refusal.Refusal.TheVariants as refusal
 use Rattle.reply_text.specs.Replies.{said_of}
 use Rattle.town_terms.specs.Ends.{Judges}
-use Rattle.topo_run.specs.Told.{IsReplyTo, judged_in}
+use Rattle.topo_run.specs.Told.{Keeps, IsReplyTo, judged_in}
 
 -- what a line does to what is gathered, and to the state
 abbrev pub Takes : State → List ℕ → List ℕ → List ℕ → Bool → State → Type 0
 Takes s line old new refused t = (text : List ℕ) × (new ≡ old ++ text) × Step s line (record { text = text; after = t; refused = refused })
-    × Invariant t.project
+    × Keeps s t
 
 -- ---- how many pairs a command tries
 abbrev pub judged_said : replies.Reply → ℕ
@@ -73,17 +75,25 @@ tried s t Cells r h = none_tried (refusal_of s Cells) s t Cells r (λ d. ap judg
 tried s t Features r h = none_tried (refusal_of s Features) s t Features r (λ d. ap judged_said d.0) h
 tried s t Rules r h = none_tried (refusal_of s Rules) s t Rules r (λ d. ap judged_said d.0) h
 
+-- ---- what a state keeps of the one before
+pub keeps_by : (s t : State) → (IsSound s.project → IsSound t.project) → (IsSettled s.project → IsSettled t.project)
+    → (IsSound t.project → Headline t.project) → (IsSound t.project → IsSettled t.project → Invariant t.project) → Keeps s t
+keeps_by s t sound settled headline invariant = record {
+  sound = λ k. record { sound = sound k; headline = headline (sound k) };
+  invariant = λ k l. invariant (sound k) (settled l);
+}
+
 -- ---- the answer to a line
 pub answers : (s t : State) (line : List ℕ) (c : Command) (r : Reply) → IsCommandLine line c → Answers s c (said_of t.project r) t
-    → IsOrdered t.project → Invariant t.project → IsReplyTo s line r t
-answers s t line c r reads answer ordered invariant = record {
+    → IsOrdered t.project → Keeps s t → IsReplyTo s line r t
+answers s t line c r reads answer ordered keeps = record {
   step = record {
     reading = Reads c;
     reads = reads;
     comes = (said_of t.project r, answer, record { text = refl; refused = refl });
     ordered = ordered;
   };
-  invariant = invariant;
+  keeps = keeps;
   judged = record {
     reading = Reads c;
     reads = reads;
@@ -91,23 +101,23 @@ answers s t line c r reads answer ordered invariant = record {
   };
 }
 
-pub refuses : (s : State) (line : List ℕ) (r : LineRefusal) → IsOrdered s.project → Invariant s.project
+pub refuses : (s : State) (line : List ℕ) (r : LineRefusal) → IsOrdered s.project → Keeps s s
     → ((c : Command) → ¬ (IsCommandLine line c)) → IsLineFault line r → IsReplyTo s line (reply.Refused (refusal.Line r)) s
-refuses s line r ordered invariant none fault = record {
+refuses s line r ordered keeps none fault = record {
   step = record {
     reading = Faulty r;
     reads = (none, fault);
     comes = (refl, record { text = refl; refused = refl });
     ordered = ordered;
   };
-  invariant = invariant;
+  keeps = keeps;
   judged = record { reading = Faulty r; reads = (none, fault); judges = refl };
 }
 
 -- its text is gathered
 pub gathers : (s t : State) (line old new : List ℕ) (r : Reply) (refused : Bool) → IsReplyTo s line r t
     → new ≡ old ++ reply_text (said_of t.project r) → refused ≡ is_refusal (said_of t.project r) → Takes s line old new refused t
-gathers s t line old new r refused h grown is = (reply_text (said_of t.project r), grown, rw is h.step, h.invariant)
+gathers s t line old new r refused h grown is = (reply_text (said_of t.project r), grown, rw is h.step, h.keeps)
 
 -- the fault of a line that is refused
 pub fault_of : (line : List ℕ) (e : LineFault) (r : LineRefusal) → e ≡ fault.Refused r → IsFault line e → IsLineFault line r

@@ -11,15 +11,15 @@ use Rattle.outside_terms.specs.declared.status.Status.TheVariants as status
 use Rattle.reply_text.specs.declared.reply.Reply.{Reply}
 use Rattle.reply_text.specs.Replies.{said_of}
 use Rattle.script_terms.specs.State.{State, empty_state}
-use Rattle.script_terms.specs.Headline.{Invariant}
 use Rattle.script_terms.specs.Run.{Outcome, Run, last_state, is_refusal, IsPrefix}
 use Rattle.script_terms.proofs.Runs.{run_keeps, empty_keeps}
+use Rattle.script_terms.proofs.Starts.{empty_sound, empty_settled}
 use Rattle.script_text.proofs.Numbers.{one_number}
 use Rattle.town_terms.specs.Ends.{IsJudgedBy, AreJudged, IsTownRun, WritesSummary, WritesSomeSummary, EndsAsTown, IsTownComplete, listings}
 use Rattle.town_terms.specs.Request.{IsTownRequest}
 use Rattle.town_terms.specs.Summary.{TownCounts, summary_text}
 use Rattle.town_terms.specs.Town.{town_text}
-use Rattle.topo_run.specs.Told.{IsReplyTo, IsTold, judged_in}
+use Rattle.topo_run.specs.Told.{Keeps, IsReplyTo, IsTold, judged_in}
 use Rattle.topo_run.proofs.Runs.{course_begins, course_goes_on, course_ends, empty_ordered}
 
 -- ---- one line more
@@ -30,9 +30,9 @@ judged_snoc m s [] (p ∷ os) n line o j e h = absurd e
 judged_snoc m s (l ∷ lines) [] n line o j e h = absurd e
 judged_snoc m s (l ∷ lines) (p ∷ os) n line o j e h = (e.0, e.1, judged_snoc (raised m e.0) p.after lines os n line o j e.2 h)
 
-pub told_begins : (start now : State) (all : List (List ℕ)) → now ≡ start → Invariant now.project → IsTold start all all now 0 false
-told_begins start now all is invariant =
-    let there : Invariant start.project = subst (λ (s : State). Invariant s.project) is invariant in
+pub told_begins : (start now : State) (all : List (List ℕ)) → now ≡ start → Keeps now now → IsTold start all all now 0 false
+told_begins start now all is keeps =
+    let there : Keeps start start = subst (λ (s : State). Keeps s s) is keeps in
     subst (λ (s : State). IsTold start all all s 0 false) (sym is) (record { course = course_begins start all there; judged = refl })
 
 pub told_more : {start now next : State} {all lines : List (List ℕ)} {line : List ℕ} {rest : List (List ℕ)} {judged more : ℕ}
@@ -42,7 +42,7 @@ told_more {start} {now} {next} {all} {lines} {line} {rest} {judged} {more} {refu
     let t : IsTold start all (line ∷ rest) now judged refused = subst (λ ls. IsTold start all ls now judged refused) is told in
     let by : IsJudgedBy (last_state start t.course.outcomes) line (judged_in r) = rw t.course.last answered.judged in
     let grown : IsTold start all rest next (raised judged (judged_in r)) (refused || is_refusal (said_of next.project r)) = record {
-      course = course_goes_on t.course answered.step answered.invariant;
+      course = course_goes_on t.course answered.step answered.keeps;
       judged = judged_snoc 0 start t.course.done t.course.outcomes judged line _ (judged_in r) t.judged by;
     } in
     rw (counted, marked) grown
@@ -65,7 +65,7 @@ summed seed n c now refused told features errors dirty text =
       outcomes = told.course.outcomes;
       run = run;
       any = told.course.any;
-      invariant = told.course.invariant;
+      invariant = told.course.invariant empty_sound empty_settled;
       keeping = run_keeps empty_state all told.course.outcomes empty_keeps empty_ordered run;
       features = rw told.course.last features;
       judged = subst (λ (ls : List (List ℕ)). AreJudged 0 empty_state ls told.course.outcomes c.judged) (sym is) told.judged;

@@ -1,28 +1,35 @@
 -- What the answer to a line tells.
 --
 -- judged_in reply           how many pairs the reply says were judged; none but that of a validation says any
--- IsReplyTo s line reply t  in the state s the line is answered so, and t is the state after it; the invariant holds there, and the pairs
---                           that the line tries are those of which the reply tells
+-- Keeps s t                 where the state s is sound, t is, and the headline holds in it; where s is settled too, the invariant does
+-- IsReplyTo s line reply t  in the state s the line is answered so, and t is the state after it, which keeps so much; and the pairs that
+--                           the line tries are those of which the reply tells
 -- Course start all rest now refused     a run over the lines that are done: these are left of all, this is the state, and some line was
---                           refused, or none; the invariant held throughout
+--                           refused, or none; each state of it keeps so much of the start
 -- IsTold start all rest now count refused     such a run, whose validations tried so many pairs
 use Rattle.std.specs.Prelude.{ℕ, ◌≡◌, Bool, List, ◌++◌}
 use Rattle.reply_text.specs.declared.reply.Reply.{Reply}
 use Rattle.reply_text.specs.declared.reply.Reply.TheVariants as reply
 use Rattle.reply_text.specs.Replies.{said_of}
+use Rattle.topology_terms.specs.Settled.{IsSettled}
+use Rattle.topology_terms.specs.Sound.{IsSound}
 use Rattle.script_terms.specs.State.{State}
 use Rattle.script_terms.specs.Reply.{reply_text}
-use Rattle.script_terms.specs.Headline.{Invariant}
-use Rattle.script_terms.specs.Run.{Outcome, Run, Step, is_refusal, any_refused, last_state, EachInvariant}
+use Rattle.script_terms.specs.Headline.{SoundHeadline, Invariant}
+use Rattle.script_terms.specs.Run.{Outcome, Run, Step, is_refusal, any_refused, last_state, EachSound, EachInvariant}
 use Rattle.town_terms.specs.Ends.{IsJudgedBy, AreJudged}
 
 abbrev pub judged_in : Reply → ℕ
 judged_in (reply.Judged summary) = summary.judged
 judged_in other = 0
 
+pub record Keeps (s t : State) : Type 0 where
+  pub sound : IsSound s.project → SoundHeadline t.project
+  pub invariant : IsSound s.project → IsSettled s.project → Invariant t.project
+
 pub record IsReplyTo (s : State) (line : List ℕ) (r : Reply) (t : State) : Type 0 where
   pub step : Step s line (record { text = reply_text (said_of t.project r); after = t; refused = is_refusal (said_of t.project r) })
-  pub invariant : Invariant t.project
+  pub keeps : Keeps s t
   pub judged : IsJudgedBy s line (judged_in r)
 
 pub record Course (start : State) (all rest : List (List ℕ)) (now : State) (refused : Bool) : Type 0 where
@@ -32,7 +39,8 @@ pub record Course (start : State) (all rest : List (List ℕ)) (now : State) (re
   pub run : Run start done outcomes
   pub last : last_state start outcomes ≡ now
   pub any : any_refused outcomes ≡ refused
-  pub invariant : EachInvariant start outcomes
+  pub sound : IsSound start.project → EachSound start outcomes
+  pub invariant : IsSound start.project → IsSettled start.project → EachInvariant start outcomes
 
 pub record IsTold (start : State) (all rest : List (List ℕ)) (now : State) (count : ℕ) (refused : Bool) : Type 0 where
   pub course : Course start all rest now refused

@@ -1,10 +1,9 @@
 ghost use Rattle.std.specs.Prelude.{◌≡◌, ◌++◌, List, ℕ, IfOk};
 ghost use Rattle.topology_terms.specs.Project.{Project};
-ghost use Rattle.script_terms.specs.Headline.{Invariant};
 ghost use Rattle.script_terms.specs.Run.{Step};
 ghost use Rattle.script_terms.specs.Run as run;
 ghost use Rattle.reply_text.specs.Replies.{said_of};
-ghost use Rattle.topo_run.specs.Told.{IsReplyTo};
+ghost use Rattle.topo_run.specs.Told.{Keeps, IsReplyTo};
 
 use command_answers::{Refusal, Reply, World};
 use grid_plane::NoMemory;
@@ -43,7 +42,7 @@ pub fn answer_line(
     out: &mut Vec<u8>,
 ) -> Result<bool, NoMemory>
     ensures { IfOk result (λ refused. (text : List ℕ) × (out.new.items ≡ out.old.items ++ text)
-        × Step world.old line.now (record { text = text; after = world.new; refused = refused }) × Invariant world.new.project) }
+        × Step world.old line.now (record { text = text; after = world.new; refused = refused }) × Keeps world.old world.new) }
 {
     let reply = reply_to(alloc, world, line)?;
     push_reply(out, world.topology(), &reply)?;

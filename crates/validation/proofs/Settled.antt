@@ -15,14 +15,14 @@ use Rattle.topology_terms.specs.Counts.{raised, judged_of}
 use Rattle.validation_laws.specs.Replaced.{IsReplaced}
 use Rattle.validation_laws.proofs.Validating.{validated_by_parts}
 use Rattle.validation_laws.proofs.Counting.{live_those}
-use Rattle.validation.specs.Projects.{HasParts, with_parts}
+use Rattle.validation.specs.Projects.{RuledFeatures, HasParts, with_parts}
 
-pub validated : (M : Meaning) (w : Rectangle) (p : Project) (rules : List InForce) (F : List Feature) (d new : List Rectangle)
+pub validated : (M : Meaning) (w : Rectangle) (p : Project) (r : RuledFeatures) (d new : List Rectangle)
     (es after fresh : List Entry) (selected : List ℕ)
-    → HasParts p rules F d es → AreAscending rules → IsRising selected → ((a : ℕ) → Contains selected a ↔ IsSelected p w a)
-    → IsJudging M F rules selected fresh → IsReplaced selected es fresh after → new ≡ cut_dirt d w
+    → HasParts p r d es → AreAscending r.in_force → IsRising selected → ((a : ℕ) → Contains selected a ↔ IsSelected p w a)
+    → IsJudging M r.features r.in_force selected fresh → IsReplaced selected es fresh after → new ≡ cut_dirt d w
     → IsValidatedBy M w p (with_parts p new after)
-validated M w p rules F d new es after fresh selected h v u chosen judging replaced cut =
+validated M w p r d new es after fresh selected h v u chosen judging replaced cut =
     validated_by_parts M w p (with_parts p new after) selected fresh (rw h.rules v) u
     (record { classes = refl; rules = refl; features = refl; next = refl })
     (record { chosen = chosen; judging = rw (h.features, h.rules) judging; replaced = rw h.entries replaced; dirt = rw h.dirt cut })

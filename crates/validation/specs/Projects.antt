@@ -1,16 +1,21 @@
 -- The parts of a project that a validation reads and changes.
 --
--- HasParts p rules F d es      p has these rules in force, features, dirt and entries
--- with_parts p d es            p with this dirt and these entries
+-- RuledFeatures        rules in force and features
+-- HasParts p r d es    p has these rules in force and features, this dirt and these entries
+-- with_parts p d es    p with this dirt and these entries
 use Rattle.std.specs.Prelude.{◌≡◌, List}
 use Rattle.plane_terms.specs.Rectangle.{Rectangle}
 use Rattle.topology_terms.specs.Feature.{Feature}
 use Rattle.topology_terms.specs.Entry.{Entry}
 use Rattle.topology_terms.specs.Project.{Project, InForce}
 
-pub record HasParts (p : Project) (in_force : List InForce) (F : List Feature) (d : List Rectangle) (es : List Entry) : Type 0 where
-  pub rules : p.rules ≡ in_force
-  pub features : p.features ≡ F
+pub record RuledFeatures : Type 0 where
+  pub in_force : List InForce
+  pub features : List Feature
+
+pub record HasParts (p : Project) (r : RuledFeatures) (d : List Rectangle) (es : List Entry) : Type 0 where
+  pub rules : p.rules ≡ r.in_force
+  pub features : p.features ≡ r.features
   pub dirt : p.dirt ≡ d
   pub entries : p.entries ≡ es
 

@@ -6,10 +6,12 @@ mod frame;
 mod judge;
 mod lookup;
 mod near;
+mod ruled;
 mod selection;
 mod sorted;
 mod window;
 
 pub use judge::judge_subject;
 pub use near::FeatureIndex;
+pub use ruled::RuledFeatures;
 pub use window::validate;

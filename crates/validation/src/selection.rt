@@ -9,13 +9,13 @@ ghost use Rattle.topology_terms.specs.Changes.{IsSelected};
 ghost use Rattle.plane_terms.specs.Dirt.{MeetsDirt};
 ghost use Rattle.validation_laws.specs.Parts.{IsRising, live_of};
 ghost use Rattle.validation_laws.specs.Picked.{ArePicked};
-ghost use Rattle.validation.specs.Placed.{ArePlaced};
 
 use crate::dirty::DirtyParts;
 use crate::lookup::find;
+use crate::ruled::RuledFeatures;
 use dirty_area::Dirt;
 use error_store::{Entry, Errors};
-use grid_index::{Index, once_each};
+use grid_index::once_each;
 use grid_plane::{Handles, NoMemory, Rect};
 use shape::Feature;
 use std::alloc::Global;
@@ -85,25 +85,23 @@ fn handles_of(alloc: Global, found: &[u32]) -> Result<Handles, NoMemory>
 }
 
 /// The handles that the window and the dirt select: of live features by their envelope, and of subjects of errors by the
-/// error's frame. The index says where to look for features; what else stands in it changes nothing.
+/// error's frame. Of the features it looks only at those that the index gives.
 pub fn select(
     alloc: Global,
-    features: &[Feature],
-    index: &Index,
+    ruled: &RuledFeatures<'_>,
     errors: &Errors,
     dirt: &Dirt,
     window: &Rect,
 ) -> Result<Handles, NoMemory>
-    requires ascending { features_of.IsAscending features.now }
-    requires placed { ArePlaced index.now features.now }
     ensures rising { IfOk result IsRising }
-    ensures chosen { IfOk result (λ s. (p : Project) → p.features ≡ features.now → p.dirt ≡ dirt.now → p.entries ≡ errors.now → (a : ℕ) → Contains s a ↔ IsSelected p window.now a) }
+    ensures chosen { IfOk result (λ s. (p : Project) → p.features ≡ ruled.now.features → p.dirt ≡ dirt.now → p.entries ≡ errors.now → (a : ℕ) → Contains s a ↔ IsSelected p window.now a) }
 {
     let dirty = DirtyParts::of(alloc, dirt, window)?;
-    let mut near = dirty.near(alloc, index)?;
+    let mut near = dirty.near(alloc, ruled.index())?;
     once_each(&mut near);
+    ruled.order_law();
     let mut found = Vec::new(alloc);
-    add_features(features, &near, &dirty, &mut found)?;
+    add_features(ruled.features(), &near, &dirty, &mut found)?;
     add_subjects(errors.entries(), &dirty, &mut found)?;
     once_each(&mut found);
     handles_of(alloc, &found)

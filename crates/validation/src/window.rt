@@ -1,58 +1,50 @@
 ghost use Rattle.std.specs.Prelude.{◌≡◌, ◌≤◌, ℕ, List, [], Some, IfOk, OnOk, OnErr};
 ghost use Rattle.plane_terms.specs.Lists.{IsThose};
-ghost use Rattle.topology_terms.specs.Feature.{IsAscending};
 ghost use Rattle.topology_terms.specs.Feature as features_of;
 ghost use Rattle.topology_terms.specs.Broken.{Row};
 ghost use Rattle.topology_terms.specs.Entry as entries_of;
-ghost use Rattle.topology_terms.specs.Project.{Project, IsProject, AreAscending, rule_at};
+ghost use Rattle.topology_terms.specs.Project.{Project, IsProject, rule_at};
 ghost use Rattle.topology_terms.specs.Sound.{IsSoundUnder};
 ghost use Rattle.topology_terms.specs.Settled.{IsSettledUnder, IsValidatedBy};
 ghost use Rattle.topology_terms.specs.Changes.{IsSelected};
 ghost use Rattle.validation_laws.specs.Parts.{IsRising, IsJudging, live_of};
 ghost use Rattle.topology_terms.specs.Counts.{raised, judged_of};
-ghost use Rattle.validation.specs.Placed.{ArePlaced};
 ghost use Rattle.validation.specs.Projects.{HasParts, with_parts};
 
 use crate::judge::judge_all;
-use crate::near::FeatureIndex;
+use crate::ruled::RuledFeatures;
 use crate::selection::select;
 use dirty_area::Dirt;
 use error_store::{Entry, Errors};
-use grid_index::Index;
 use grid_plane::{Handles, NoMemory, Rect};
-use rule_core::{InForce, RuleSet, Work};
-use shape::Feature;
+use rule_core::{RuleSet, Work};
 use std::alloc::Global;
 
 // The new entries of the selected subjects, in the order of their keys.
 fn rejudge<R: RuleSet>(
     rules: &R,
     alloc: Global,
-    in_force: &[InForce],
-    features: &[Feature],
-    index: &Index,
+    ruled: &RuledFeatures<'_>,
     selected: &Handles,
     work: &mut Work,
 ) -> Result<Vec<Entry>, NoMemory>
-    requires rules { AreAscending in_force.now }
-    requires features { IsAscending features.now }
-    requires fits { (n : ℕ) (row : Row) → rule_at in_force.now n ≡ Some row → R.meaning.Fits row features.now }
+    requires fits { (n : ℕ) (row : Row) → rule_at ruled.now.in_force n ≡ Some row → R.meaning.Fits row ruled.now.features }
     requires selected { IsRising selected.now }
-    requires placed { ArePlaced index.now features.now }
-    ensures judging { IfOk result (λ es. IsJudging R.meaning features.now in_force.now selected.now es.items) }
+    ensures judging { IfOk result (λ es. IsJudging R.meaning ruled.now.features ruled.now.in_force selected.now es.items) }
     ensures ascending { IfOk result (λ es. entries_of.IsAscending es.items) }
-    ensures judged { IfOk result (λ _. work.new ≡ raised work.old (judged_of in_force.now (live_of features.now selected.now))) }
-    ensures stopped { OnErr result (work.new ≤ raised work.old (judged_of in_force.now (live_of features.now selected.now))) }
+    ensures judged { IfOk result (λ _. work.new ≡ raised work.old (judged_of ruled.now.in_force (live_of ruled.now.features selected.now))) }
+    ensures stopped { OnErr result (work.new ≤ raised work.old (judged_of ruled.now.in_force (live_of ruled.now.features selected.now))) }
 {
-    let indexed = FeatureIndex::of(features, index);
+    ruled.order_law();
+    let in_force = ruled.in_force();
+    let indexed = ruled.indexed();
     let mut found = Vec::new(alloc);
     judge_all(rules, alloc, in_force, &indexed, selected, &mut found, work)?;
     Ok(found)
 }
 
 /// Validates the window: every rule in force judges each live feature of its subjects that the window and the dirt select;
-/// the entries of the selected subjects give way to the findings, and the window is cut out of the dirt. Each live feature
-/// stands in the index, which says where to look for features; other pairs that stand there change nothing.
+/// the entries of the selected subjects give way to the findings, and the window is cut out of the dirt.
 ///
 /// The count of judgements rises by exactly the number of pairs of a rule in force and a selected feature that it judges.
 /// After an `Err`, out of memory, it has risen by no more, and errors and dirt are as they were: all growth comes before the
@@ -60,30 +52,26 @@ fn rejudge<R: RuleSet>(
 pub fn validate<R: RuleSet>(
     rules: &R,
     alloc: Global,
-    in_force: &[InForce],
-    features: &[Feature],
-    index: &Index,
+    ruled: &RuledFeatures<'_>,
     errors: &mut Errors,
     dirt: &mut Dirt,
     window: &Rect,
     work: &mut Work,
 ) -> Result<(), NoMemory>
-    requires rules { AreAscending in_force.now }
-    requires features { IsAscending features.now }
-    requires fits { (n : ℕ) (row : Row) → rule_at in_force.now n ≡ Some row → R.meaning.Fits row features.now }
-    requires placed { ArePlaced index.now features.now }
-    ensures step { OnOk result ((p : Project) → HasParts p in_force.now features.now dirt.old errors.old → IsValidatedBy R.meaning window.now p (with_parts p dirt.new errors.new)) }
-    ensures valid { OnOk result ((p : Project) → HasParts p in_force.now features.now dirt.old errors.old → IsProject R.meaning p → IsProject R.meaning (with_parts p dirt.new errors.new)) }
-    ensures sound { OnOk result ((p : Project) → HasParts p in_force.now features.now dirt.old errors.old → IsProject R.meaning p → IsSoundUnder R.meaning p → IsSoundUnder R.meaning (with_parts p dirt.new errors.new)) }
-    ensures settled { OnOk result ((p : Project) → HasParts p in_force.now features.now dirt.old errors.old → IsProject R.meaning p → IsSettledUnder R.meaning p → IsSettledUnder R.meaning (with_parts p dirt.new errors.new)) }
-    ensures judged { OnOk result ((p : Project) → HasParts p in_force.now features.now dirt.old errors.old → (fs : List features_of.Feature) × IsThose (λ (f : features_of.Feature). IsSelected p window.now f.handle) features.now fs × (work.new ≡ raised work.old (judged_of in_force.now fs))) }
-    ensures stopped { OnErr result ((p : Project) → HasParts p in_force.now features.now dirt.old errors.old → (fs : List features_of.Feature) → IsThose (λ (f : features_of.Feature). IsSelected p window.now f.handle) features.now fs → work.new ≤ raised work.old (judged_of in_force.now fs)) }
+    requires { (n : ℕ) (row : Row) → rule_at ruled.now.in_force n ≡ Some row → R.meaning.Fits row ruled.now.features }
+    ensures step { OnOk result ((p : Project) → HasParts p ruled.now dirt.old errors.old → IsValidatedBy R.meaning window.now p (with_parts p dirt.new errors.new)) }
+    ensures valid { OnOk result ((p : Project) → HasParts p ruled.now dirt.old errors.old → IsProject R.meaning p → IsProject R.meaning (with_parts p dirt.new errors.new)) }
+    ensures sound { OnOk result ((p : Project) → HasParts p ruled.now dirt.old errors.old → IsProject R.meaning p → IsSoundUnder R.meaning p → IsSoundUnder R.meaning (with_parts p dirt.new errors.new)) }
+    ensures settled { OnOk result ((p : Project) → HasParts p ruled.now dirt.old errors.old → IsProject R.meaning p → IsSettledUnder R.meaning p → IsSettledUnder R.meaning (with_parts p dirt.new errors.new)) }
+    ensures judged { OnOk result ((p : Project) → HasParts p ruled.now dirt.old errors.old → (fs : List features_of.Feature) × IsThose (λ (f : features_of.Feature). IsSelected p window.now f.handle) ruled.now.features fs × (work.new ≡ raised work.old (judged_of ruled.now.in_force fs))) }
+    ensures stopped { OnErr result ((p : Project) → HasParts p ruled.now dirt.old errors.old → (fs : List features_of.Feature) → IsThose (λ (f : features_of.Feature). IsSelected p window.now f.handle) ruled.now.features fs → work.new ≤ raised work.old (judged_of ruled.now.in_force fs)) }
     ensures ordered { OnOk result (entries_of.IsAscending errors.new) }
     ensures errors_kept { OnErr result (errors.new ≡ errors.old) }
     ensures dirt_kept { OnErr result (dirt.new ≡ dirt.old) }
 {
-    let selected = select(alloc, features, index, errors, dirt, window)?;
-    let fresh = rejudge(rules, alloc, in_force, features, index, &selected, work)?;
+    ruled.order_law();
+    let selected = select(alloc, ruled, errors, dirt, window)?;
+    let fresh = rejudge(rules, alloc, ruled, &selected, work)?;
     let left = dirt.cut(alloc, window)?;
     errors.replace(alloc, &selected, fresh)?;
     *dirt = left;

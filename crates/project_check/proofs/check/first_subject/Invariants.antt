@@ -2,7 +2,7 @@ use Rattle.std.proofs.Common.{take}
 use Rattle.plane_terms.specs.Lists.{Every}
 use Rattle.topology_terms.specs.Project.{Project}
 use Rattle.topology_terms.specs.Sound.{IsSoundAt}
-use Rattle.project_check.specs.Checked.{HasLists}
+use Rattle.project_check.specs.Subjects.{HasLists}
 use Rattle.project_check.proofs.check.first_subject.Given as goal
 
 abbrev pub invariant-loop-subject : goal.invariant-loop-subject

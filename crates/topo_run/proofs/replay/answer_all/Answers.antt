@@ -1,12 +1,15 @@
-use Rattle.std.proofs.Common.{arith, rules, sym, ◌∙◌}
-use Rattle.script_terms.specs.State.{empty_state}
+use Rattle.std.proofs.Common.{arith, rules, sym, subst, ◌∙◌}
+use Rattle.script_terms.specs.State.{State, empty_state}
+use Rattle.topo_run.specs.Told.{Keeps}
+use Rattle.topo_run.proofs.Stepping.{keeps_by}
 use Rattle.topo_run.proofs.Runs.{begins, takes, flushed, ends, stops, at_err}
 use Rattle.topo_run.proofs.replay.answer_all.Goals as goal
 
 pub loop-line-init : goal.loop-line-init
 loop-line-init g c = record {
-  far = rw (c.new-world.ensures, c.new-gathered.ensures.items) (begins empty_state _ _
-      (rw c.new-world.ensures at c.headline_law.ensures.invariant));
+  far = rw (c.new-world.ensures.empty, c.new-gathered.ensures.items) (begins empty_state _ _
+      (subst (λ (s : State). Keeps s s) c.new-world.ensures.empty (keeps_by c.new-world.result c.new-world.result (λ k. k) (λ k. k)
+      c.headline_law.ensures.sound c.headline_law.ensures.invariant)));
   later = omega arith;
 }
 

@@ -1,9 +1,11 @@
 use Rattle.script_terms.specs.State.{empty_state}
+use Rattle.topo_run.proofs.Stepping.{keeps_by}
 use Rattle.topo_run.proofs.Towns.{told_begins, told_more}
 use Rattle.topo_run.proofs.town.answer_all.Goals as goal
 
 pub loop-line-init : goal.loop-line-init
-loop-line-init c = told_begins empty_state c.args.world.now _ c.requires c.headline_law.ensures.invariant
+loop-line-init c = told_begins empty_state c.args.world.now _ c.requires (keeps_by c.args.world.now c.args.world.now (λ k. k) (λ k. k)
+    c.headline_law.ensures.sound c.headline_law.ensures.invariant)
 
 pub loop-line-preserved : goal.loop-line-preserved
 loop-line-preserved c =

@@ -11,8 +11,8 @@ loop-e-preserved c =
     let d = c.args.dirty.now in
     picked_more (λ (e : Entry). MeetsDirt d e.frame) (λ (e : Entry). e.subject) c.args.entries.now c.loop-e.e-index c.e-item.result
     c.args.found.now.items c.loop-e.found.items c.push_if.new.found.items c.meets.result c.key.inside.subject
-    c.loop-e-test.true c.e-item.is (rw c.frame.ensures at c.meets.ensures) (ap (λ (k : Key). k.subject) (c.key.view_is ∙ c.key-key.ensures)) c.loop-e.invariant
-    c.in_ok-push_if.ensures
+    c.loop-e-test.true c.e-item.is (rw c.frame.ensures at c.meets.ensures)
+    (ap (λ (k : Key). k.subject) (c.key.view_is ∙ c.key-key.ensures)) c.loop-e.invariant c.in_ok-push_if.ensures
 
 pub returns : goal.returns
 returns c = λ a. rw (take_all c.loop-e.e-index c.args.entries.now c.loop-e-test.false) at (c.loop-e.invariant a)

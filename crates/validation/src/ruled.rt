@@ -1,0 +1,88 @@
+ghost use Rattle.std.specs.Prelude.{◌≡◌};
+ghost use Rattle.topology_terms.specs.Feature.{IsAscending};
+ghost use Rattle.topology_terms.specs.Project.{AreAscending};
+ghost use Rattle.validation.specs.Placed.{ArePlaced};
+
+use crate::near::FeatureIndex;
+use grid_index::Index;
+use rule_core::InForce;
+use shape::Feature;
+use std::marker::Model;
+
+/// What a validation looks at and leaves as it is: rules in force in the order of their numbers, features in the order of their
+/// handles, and an index in which each of them stands. Other pairs that stand in the index change nothing.
+#[derive(Drop)]
+pub struct RuledFeatures<'a> {
+    in_force: &'a [InForce],
+    features: &'a [Feature],
+    index: &'a Index,
+}
+
+impl<'a> Model for RuledFeatures<'a> {
+    ghost use Rattle.topology_terms.specs.Feature.{IsAscending};
+    ghost use Rattle.topology_terms.specs.Project.{AreAscending};
+    ghost use Rattle.validation.specs.Placed.{ArePlaced};
+    ghost use Rattle.validation.specs.Projects as terms;
+
+    ghost Value = { terms.RuledFeatures };
+
+    ghost view = { λ x. record { in_force = x.in_force.now; features = x.features.now } };
+
+    ghost invariant = { λ x. AreAscending x.in_force.now × IsAscending x.features.now × ArePlaced x.index.now x.features.now };
+}
+
+impl<'a> RuledFeatures<'a> {
+    /// These rules and these features, each of which stands in the index.
+    pub fn of(
+        in_force: &'a [InForce],
+        features: &'a [Feature],
+        index: &'a Index,
+    ) -> RuledFeatures<'a>
+        requires rules { AreAscending in_force.now }
+        requires features { IsAscending features.now }
+        requires placed { ArePlaced index.now features.now }
+        ensures { result ≡ record { in_force = in_force.now; features = features.now } }
+    {
+        RuledFeatures {
+            in_force,
+            features,
+            index,
+        }
+    }
+
+    /// The rules in force.
+    pub(crate) fn in_force(&self) -> &'a [InForce]
+        ensures { result.now ≡ self.now.in_force }
+    {
+        self.in_force
+    }
+
+    /// The features.
+    pub(crate) fn features(&self) -> &'a [Feature]
+        ensures { result.now ≡ self.now.features }
+    {
+        self.features
+    }
+
+    /// The index in which each feature stands.
+    pub(crate) fn index(&self) -> &'a Index
+        ensures { ArePlaced result.now self.now.features }
+    {
+        self.index
+    }
+
+    /// The features with their index.
+    pub(crate) fn indexed(&self) -> FeatureIndex<'a>
+        ensures { result ≡ self.now.features }
+    {
+        FeatureIndex::of(self.features, self.index)
+    }
+
+    /// The law that the rules ascend by their numbers, and the features by their handles.
+    pub(crate) fn order_law(&self)
+        ensures rules { AreAscending self.now.in_force }
+        ensures features { IsAscending self.now.features }
+    {
+        let _ = &self.in_force;
+    }
+}
