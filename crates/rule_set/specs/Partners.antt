@@ -1,9 +1,11 @@
 -- A partner of the product's rules is a live feature, or 0.
-use Rattle.std.proofs.Common.{◌≡◌, ◌⊎◌, inl, inr, ℕ, List, Some}
+--
+-- poster_partners    what a topology asks of the meaning of its rules
+use Rattle.std.proofs.Common.{inl, inr, ℕ, List}
 use Rattle.plane_terms.specs.Point.{Point}
 use Rattle.rule_words.specs.declared.rule_kind.RuleKind.{RuleKind}
 use Rattle.rule_words.specs.declared.rule_kind.RuleKind.TheVariants as rule
-use Rattle.topology_terms.specs.Feature.{Feature, Side, feature_at}
+use Rattle.topology_terms.specs.Feature.{Feature, Side}
 use Rattle.topology_terms.specs.Broken.{BrokenAt, broken_at}
 use Rattle.topology_terms.specs.Poster.{poster}
 use Rattle.topo_core.specs.Kinds.{NamesPartners, IsPartner}

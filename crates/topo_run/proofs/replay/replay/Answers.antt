@@ -40,7 +40,7 @@ returns-in-Err-Write-clause-ends g c =
           g.K.Sink.faults c.args.sink.now;
       now = g.K.Sink.faults c.answer_all.new.sink;
     } in
-    stopped_writing s k c.in-Ok.script.bytes.items c.in-Ok.script.end c.in-Ok.ensures.read 
+    stopped_writing s k c.in-Ok.script.bytes.items c.in-Ok.script.end c.in-Ok.ensures.read
     (c.in-Err-Write.ensures.failed (ap (λ (e : Stop). Err e) c.in-Err-Write.field-0-is))
     (rw (← c.is_at_end.ensures, ← c.deref.ensures.value) c.in-Err-Write.ensures.err)
 
