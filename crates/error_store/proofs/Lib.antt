@@ -1,5 +1,7 @@
 mod Dropping
 mod Finding
+mod Leaving
 mod Marking
 mod Merging
+mod Selected
 mod Steps

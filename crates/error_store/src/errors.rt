@@ -8,7 +8,7 @@ ghost use Rattle.error_store.specs.Marking.{IsMarkSet, fault_cause};
 use crate::entry::Entry;
 use crate::fault::MarkFault;
 use crate::key::Key;
-use crate::list::{copy_of, drop_from, find_in, place_of};
+use crate::list::{copy_of, drop_from, drop_selected, find_in, place_of};
 use crate::merge::merge;
 use grid_plane::{Handles, NoMemory};
 use std::alloc::{AllocError, Global};
@@ -94,7 +94,7 @@ impl Errors {
 
     /// The errors of the selected subjects give way to the fresh ones, and all others stay. A fresh error is marked exactly
     /// where the old one of its key was, and had the same extent, frame and cells. After an `Err`, want of memory, nothing
-    /// has changed. Goes over both lists once.
+    /// has changed. Goes over both lists once; where there is no fresh error, in place and without memory.
     pub fn replace(
         &mut self,
         alloc: Global,
@@ -107,6 +107,10 @@ impl Errors {
         ensures ascending { IsAscending self.new }
         ensures err { OnErr result (self.new ≡ self.old) }
     {
+        if fresh.is_empty() {
+            drop_selected(&mut self.entries, selected);
+            return Ok(());
+        }
         let mut out = Vec::new(alloc);
         make_room(&mut out, self.entries.len(), fresh.len())?;
         let old = mem::replace(&mut self.entries, Vec::new(alloc));

@@ -1,11 +1,12 @@
-ghost use Rattle.std.specs.Prelude.{◌≡◌, ◌==◌, ◌<◌, not, filter, length, slice_get, None, Some, IfOk, MatchOption};
+ghost use Rattle.std.specs.Prelude.{◌≡◌, ◌==◌, ◌<◌, ◌↔◌, IsTrue, Contains, nat_eq, not, filter, length, slice_get, None, Some, IfOk, MatchOption};
+ghost use Rattle.std.specs.List.{list_any};
 ghost use Rattle.topology_terms.specs.Entry.{entry_at};
 ghost use Rattle.topology_terms.specs.Entry as terms;
 
 use crate::compare::compare;
 use crate::entry::Entry;
 use crate::key::Key;
-use grid_plane::NoMemory;
+use grid_plane::{Handles, NoMemory};
 use std::alloc::Global;
 
 /// Where the error of this key stands.
@@ -41,6 +42,31 @@ pub fn drop_from(entries: &mut Vec<Entry>, rule: u16)
     ensures { entries.new.items ≡ filter (λ (e : terms.Entry). not (e.rule == rule)) entries.old.items }
 {
     entries.retain(|e| is_of_other(e, rule));
+}
+
+/// Whether the handle is selected. The selected handles ascend, so that most others are told by the first and the last of them.
+pub fn is_selected(selected: &Handles, handle: u32) -> bool
+    ensures { IsTrue result ↔ Contains selected.now handle }
+{
+    let count = selected.len();
+    if count == 0 || handle < selected.at(0) || selected.at(count - 1) < handle {
+        return false;
+    }
+    selected.has(handle)
+}
+
+// Whether the subject of the error is not selected.
+fn is_left(e: &Entry, selected: &Handles) -> bool
+    ensures { result ≡ not (list_any (nat_eq e.now.subject) selected.now) }
+{
+    !is_selected(selected, e.key().subject)
+}
+
+/// Takes out the errors of the selected subjects.
+pub fn drop_selected(entries: &mut Vec<Entry>, selected: &Handles)
+    ensures { entries.new.items ≡ filter (λ (e : terms.Entry). not (list_any (nat_eq e.subject) selected.now)) entries.old.items }
+{
+    entries.retain(|e| is_left(e, selected));
 }
 
 /// The same list once more.

@@ -7,6 +7,7 @@ ghost use Rattle.error_store.specs.Merging.{HaveSameKey, IsMerging, OldFirst, Bo
 
 use crate::compare::compare;
 use crate::entry::Entry;
+use crate::list::is_selected;
 use grid_plane::Handles;
 use std::cmp::Ordering;
 use std::collections::VecDeque;
@@ -77,7 +78,7 @@ fn put_old(old: &mut VecDeque<Entry>, selected: &Handles, out: &mut Vec<Entry>)
     ensures merges { (old0 fresh0 fresh : List terms.Entry) → OldFirst old.old.items fresh → IsMerging selected.now old0 fresh0 out.old.items old.old.items fresh → IsMerging selected.now old0 fresh0 out.new.items old.new.items fresh }
 {
     if let Some(e) = old.pop_front() {
-        if !selected.has(e.key().subject) {
+        if !is_selected(selected, e.key().subject) {
             out.push_reserved(e);
         }
     }

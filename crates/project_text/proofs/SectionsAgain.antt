@@ -36,7 +36,7 @@ use Rattle.project_terms.specs.Verdicts.{Written, RuleForm, FeatureForm, judged,
 use Rattle.project_terms.specs.Texts.{IsLineVerdict, IsVerdict, IsReading, AreRead}
 use Rattle.project_text.proofs.FieldForms.{rule_found, feature_found, rect_found}
 use Rattle.project_text.proofs.Numerals.{natural_read, signed_read}
-use Rattle.project_text.proofs.Readings.{one_shape}
+use Rattle.wkt_text.proofs.Results.{one_shape}
 use Rattle.project_text.proofs.Rects.{sides, rectangle_true}
 use Rattle.project_text.proofs.Ends.{none_any, last_below}
 use Rattle.project_text.proofs.Spelled.{second}

@@ -44,4 +44,3 @@ judged_upto w p rules F selected old done u v chosen l fs those =
 
 pub le_of_eq : (m n : ℕ) → m ≡ n → m ≤ n
 le_of_eq m n e = omega arith
-

@@ -66,7 +66,7 @@ returns-clause-ordered g c =
     let p = project_of c.self.inside.store c.self.inside.rules.items c.self.inside.dirt c.self.inside.entries in
     let parts = parts_of p _ _ _ c.of-ruled.ensures c.deref.ensures.value c.features.ensures.value in
     ordered _ (validated_keeps g.R.RuleSet.meaning g.met.R.RuleSet.right g.met.R.KindRules.kinds g.met.R.KindRules.partners
-          c.args.window p _ c.self.invariant.topology
+    c.args.window p _ c.self.invariant.topology
     (c.in_ok-validate.ensures.step p parts) c.in_ok-validate.ensures.ordered)
 
 pub returns-in_err-validate-clause-stopped : goal.returns-in_err-validate-clause-stopped
