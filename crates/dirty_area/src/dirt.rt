@@ -1,4 +1,4 @@
-ghost use Rattle.std.specs.Prelude.{◌≡◌, ◌↔◌, ◌<◌, [], length, slice_get, Some, IsTrue, IfSome, IfOk, OnOk, OnErr};
+ghost use Rattle.std.specs.Prelude.{◌≡◌, ◌↔◌, ◌<◌, [], ◌∷◌, ◌++◌, length, slice_get, Some, IsTrue, IfSome, IfOk, OnOk, OnErr};
 ghost use Rattle.std.specs.List.{list_any};
 ghost use Rattle.std.specs.Option.{option_to_list};
 ghost use Rattle.plane_terms.specs.Point.{Point};
@@ -100,6 +100,18 @@ impl Dirt {
     {
         r.corner_law();
         add_to(&mut self.rects, r)
+    }
+
+    /// Makes a rectangle dirty that no rectangle of the list holds and that holds none, so that `add` would put it behind them
+    /// all: it is put there. After an `Err`, want of memory, nothing has changed. Takes one step.
+    pub fn add_loose(&mut self, r: Rect) -> Result<(), NoMemory>
+        requires { add_dirt self.old r ≡ self.old ++ r ∷ [] }
+        ensures ok { OnOk result (self.new ≡ self.old ++ r ∷ []) }
+        ensures err { OnErr result (self.new ≡ self.old) }
+    {
+        r.corner_law();
+        self.rects.push(r)?;
+        Ok(())
     }
 
     /// Makes the first rectangle dirty, then the second, each where it is there, as `add` does. After an `Err`, want of memory,

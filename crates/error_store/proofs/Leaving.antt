@@ -60,7 +60,7 @@ left_replaced selected es = record {
       (λ e t. stays selected e (λ c. out (subst (Contains selected) (has_parts e r a b t).1 c))) es);
   came = λ r a b c.
       let none : entry_at (filter (is_left selected) es) r a b ≡ None = none_at (filter (is_left selected) es) r a b
-          (every_passing (Lacks r a b) (is_left selected) (λ e left. lacks selected r a b e c left) es) in
+      (every_passing (Lacks r a b) (is_left selected) (λ e left. lacks selected r a b e c left) es) in
       rw none tt;
 }
 

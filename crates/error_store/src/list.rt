@@ -44,7 +44,8 @@ pub fn drop_from(entries: &mut Vec<Entry>, rule: u16)
     entries.retain(|e| is_of_other(e, rule));
 }
 
-/// Whether the handle is selected. The selected handles ascend, so that most others are told by the first and the last of them.
+/// Whether the handle is selected. The selected handles ascend, so that the first and the last of
+/// them tell most others.
 pub fn is_selected(selected: &Handles, handle: u32) -> bool
     ensures { IsTrue result ↔ Contains selected.now handle }
 {

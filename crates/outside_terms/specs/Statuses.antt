@@ -15,7 +15,12 @@ code_of status.Usage = 2
 code_of status.ReadFault = 3
 code_of status.WriteFault = 4
 code_of status.NoMemory = 5
+code_of status.WrongText = 6
+code_of status.OpenFault = 7
+code_of status.SaveFault = 8
+code_of status.Unsound = 9
 code_of status.TooLong = 10
+code_of status.NoProject = 11
 
 abbrev pub status_of : End → Bool → Status
 status_of AtEnd refused = if refused then status.Refused else status.Done

@@ -1,7 +1,7 @@
 /// How the program ends.
 #[derive(Clone, Copy)]
 pub enum Status {
-    /// All lines were answered, none was refused.
+    /// All was done: a script was answered and none of its lines was refused, or a project was checked and is sound.
     Done,
     /// All lines were answered, at least one was refused.
     Refused,
@@ -13,6 +13,16 @@ pub enum Status {
     WriteFault,
     /// Out of memory.
     NoMemory,
+    /// What stands under the project's name is no project's text.
+    WrongText,
+    /// The shelf failed to give the project.
+    OpenFault,
+    /// The shelf failed to take the project.
+    SaveFault,
+    /// The project was checked, and is not sound.
+    Unsound,
     /// The source gave more than a script may have.
     TooLong,
+    /// Nothing stands under the project's name.
+    NoProject,
 }

@@ -3,21 +3,17 @@ use Rattle.std.proofs.Common.{ℕ, ◌≡◌, ◌<◌, Bool, true, false, ltb, L
 use Rattle.std.specs.List.{list_any}
 use Rattle.std.proofs.lemmas.Bool.Decides.{nat_tests}
 use Rattle.plane_terms.specs.Rectangle.{Rectangle}
-use Rattle.plane_terms.specs.Dirt.{add_dirt}
 use Rattle.topology_terms.specs.Feature.{Class, Feature, IsSetAt, IsAscending}
 use Rattle.project_terms.specs.declared.stage.Stage.TheVariants as stage
 use Rattle.project_terms.specs.Drafts.{Draft, is_rectangle, last_in}
 use Rattle.project_terms.specs.Verdicts.{are_nested, dirty_verdict, with_feature}
-use Rattle.project_text.proofs.Dirty as dirty
 use Rattle.project_text.proofs.Features as features
 
-pub dirty_said : (d : Draft) (D : List Rectangle) (r q : Rectangle) (rects : List Rectangle) (b : Bool) → r ≡ q → is_rectangle r ≡ true
-    → rects ≡ d.project.dirt → b ≡ list_any (are_nested r) rects → b ≡ false → D ≡ add_dirt d.project.dirt r
+pub dirty_said : (d : Draft) (D : List Rectangle) (r q : Rectangle) (b : Bool) → r ≡ q → is_rectangle r ≡ true
+    → b ≡ list_any (are_nested r) d.project.dirt → b ≡ false → D ≡ d.project.dirt ++ r ∷ []
     → Ok (record { stage = stage.Dirt; project = record d.project { dirt = D } }) ≡ dirty_verdict d q
-dirty_said d D r q rects b same proper listed test none made =
-    let loose : list_any (are_nested r) d.project.dirt ≡ false = sym (test ∙ ap (λ (x : List Rectangle). list_any (are_nested r) x) listed)
-    ∙ none in
-    let last : D ≡ d.project.dirt ++ r ∷ [] = made ∙ dirty.put_last r d.project.dirt loose in
+dirty_said d D r q b same proper test none last =
+    let loose : list_any (are_nested r) d.project.dirt ≡ false = sym test ∙ none in
     let put : Ok (record { stage = stage.Dirt; project = record d.project { dirt = D } }) ≡ dirty_verdict d r = rw (proper, loose)
     (ap (λ (x : List Rectangle). Ok (record { stage = stage.Dirt; project = record d.project { dirt = x } })) last) in
     put ∙ ap (dirty_verdict d) same

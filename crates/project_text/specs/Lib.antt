@@ -1,2 +1,3 @@
+pub mod Indexed
 pub mod Pushed
 pub mod Reading

@@ -3,7 +3,7 @@ ghost use Rattle.topology_terms.specs.Entry.{IsAscending};
 ghost use Rattle.project_terms.specs.Drafts.{start, rank, may_follow, takes_cell, wants_cell, is_open, is_cell_open};
 
 use crate::data::ProjectData;
-use dirty_area::Dirt;
+use crate::indexed::IndexedDirt;
 use error_store::{Entry, Errors};
 use feature_store::Store;
 use project_terms::Stage;
@@ -17,7 +17,7 @@ pub struct Draft {
     pub stage: Stage,
     pub store: Store,
     pub rules: Vec<InForce>,
-    pub dirt: Dirt,
+    pub dirt: IndexedDirt,
     pub entries: Vec<Entry>,
 }
 
@@ -85,7 +85,7 @@ impl Draft {
             stage: Stage::Start,
             store: Store::new(alloc),
             rules: Vec::new(alloc),
-            dirt: Dirt::new(alloc),
+            dirt: IndexedDirt::new(alloc),
             entries: Vec::new(alloc),
         }
     }
@@ -119,7 +119,7 @@ impl Draft {
         ProjectData {
             store: self.store,
             rules: self.rules,
-            dirt: self.dirt,
+            dirt: self.dirt.into_dirt(),
             errors: Errors::of(self.entries),
         }
     }

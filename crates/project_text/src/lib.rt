@@ -8,6 +8,7 @@ mod draft;
 mod fault;
 mod fields;
 mod forms;
+mod indexed;
 mod kinds;
 mod law;
 mod lines;

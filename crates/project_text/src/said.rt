@@ -1,5 +1,4 @@
 ghost use Rattle.std.specs.Prelude.{◌≡◌, ◌≤◌, ◌<◌, ◌-◌, ◌==◌, ◌&&◌, ◌||◌, not, Some, Ok, true, false, [], is_some, MatchOption};
-ghost use Rattle.std.specs.List.{list_any};
 ghost use Rattle.rule_words.specs.Table.{dest_of};
 ghost use Rattle.topology_terms.specs.Causes.{fits_dest, is_fit, is_kind, is_row, is_there};
 ghost use Rattle.std.specs.Option.{option_map, option_map_or};
@@ -12,7 +11,7 @@ ghost use Rattle.topology_terms.specs.Project.{rule_at};
 ghost use Rattle.topology_terms.specs.Project as project_terms;
 ghost use Rattle.project_terms.specs.Lines.{natural};
 ghost use Rattle.project_terms.specs.Drafts.{is_rectangle, last_in, is_last_key, is_before, takes_cell, with_cell};
-ghost use Rattle.project_terms.specs.Verdicts.{class_verdict, row_of, dest_in, with_rule, rule_verdict, are_nested, dirty_verdict, with_feature, feature_numbered, with_error, error_verdict, next_verdict};
+ghost use Rattle.project_terms.specs.Verdicts.{class_verdict, row_of, dest_in, with_rule, rule_verdict, dirty_verdict, with_feature, feature_numbered, with_error, error_verdict, next_verdict};
 ghost use Rattle.project_text.specs.Reading.{Says, rule_said, rect_said, error_said, is_in_force};
 
 use crate::draft::Draft;
@@ -152,18 +151,6 @@ fn is_last_key(entries: &[Entry], key: &Key) -> bool
     }
 }
 
-fn are_nested(r: &Rect, s: &Rect) -> bool
-    ensures { result ≡ are_nested r.now s.now }
-{
-    s.holds_rect(r) || r.holds_rect(s)
-}
-
-fn is_nested(rects: &[Rect], r: &Rect) -> bool
-    ensures { result ≡ list_any (are_nested r.now) rects.now }
-{
-    rects.iter().any(|s| are_nested(r, s))
-}
-
 // The rectangle of four numbers, where they are within the reach and in order.
 fn rect_of(form: &RectForm) -> Option<Rect>
     ensures { MatchOption result (is_rectangle (rect_said form.now) ≡ false) (λ r. (r ≡ rect_said form.now) × (is_rectangle r ≡ true)) }
@@ -269,14 +256,14 @@ impl Draft {
         self.put_feature(handle, class, shape)
     }
 
-    /// A dirty rectangle more. Takes steps for each dirty rectangle once.
+    /// A dirty rectangle more.
     pub fn say_dirty(&mut self, form: &RectForm) -> Result<(), LineFault>
         ensures { Says result (dirty_verdict self.old (rect_said form.now)) self.new }
     {
         let Some(r) = rect_of(form) else {
             return Err(LineFault::Wrong(ProjectCause::Range));
         };
-        if is_nested(self.dirt.rects(), &r) {
+        if self.dirt.is_nested(&r)? {
             return Err(LineFault::Wrong(ProjectCause::Order));
         }
         self.dirt.add(r)?;

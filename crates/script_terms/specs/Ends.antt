@@ -6,7 +6,7 @@
 --   ReadFault, TooLong  the reading failed, or gave too much; the whole text of a run over the lines whose LF was kept was written
 --   WriteFault          the sink's count of faults rose; a prefix of the text of a run over first lines was written
 --   NoMemory            want of memory: the same, or nothing was read that is told of
---   Usage               never
+--   others              never
 -- usage_text            the usage line
 -- EndsAsUsage k status  it was written, or a prefix of it
 -- IsComplete s k status code     with no fault counted and a script within the limit the whole text is written and the status is 0 or 1,
@@ -45,7 +45,7 @@ EndsAs s k status.WriteFault = Rose k.before k.now × ((kept : List ℕ) × (end
     × WritesSome k (lines_of (is_at_end end) kept))
 EndsAs s k status.NoMemory = ((kept : List ℕ) × (end : End) × Read s kept end × WritesSome k (lines_of (is_at_end end) kept))
     ⊎ Appends k.old k.new []
-EndsAs s k status.Usage = ⊥
+EndsAs s k other = ⊥
 
 -- the words are `replay` alone
 abbrev pub IsReplay : List (String Global) → Type 0

@@ -1,6 +1,7 @@
 ghost use Rattle.std.specs.Prelude.{◌≤◌};
 
 mod reads;
+mod shelves;
 mod usage;
 mod whole;
 mod writes;
@@ -9,9 +10,10 @@ use crate::script::LINES;
 use crate::statuses::{DONE, REFUSED};
 use crate::tally::Tally;
 pub use reads::{EndlessReads, FailingReads, FailingReadsAndWrites};
+pub use shelves::{AbsentProjects, FailingShelves, SavedProjects, UnsavedProjects, WrongTexts};
 use std::alloc::{AllocError, Global};
 use std::collections::BTreeMap;
-use topo_outside::{MemSink, MemSource, Sink, Source, SureShelf};
+use topo_outside::{MemSink, MemSource, Shelf, Sink, Source, SureShelf};
 use topo_run::run;
 pub use usage::{FailingUsage, OtherWords};
 pub use whole::{PlainRuns, RunsInPieces};
@@ -29,19 +31,30 @@ pub trait Kind {
 // A piece that has room for all that a run reads or writes.
 const AT_ONCE: usize = 1_000_000;
 
-// The status of a run with these words.
+// The status of a run with these words over this shelf.
+fn status_on<S: Source, K: Sink, H: Shelf>(
+    alloc: Global,
+    words: &[&str],
+    source: &mut S,
+    sink: &mut K,
+    shelf: &mut H,
+) -> Result<u8, AllocError> {
+    let mut owned = Vec::new(alloc);
+    for word in words {
+        owned.push(String::from_str(alloc, word)?)?;
+    }
+    Ok(run(alloc, &owned, source, sink, shelf))
+}
+
+// The status of a run with these words, with an empty shelf.
 fn status_with<S: Source, K: Sink>(
     alloc: Global,
     words: &[&str],
     source: &mut S,
     sink: &mut K,
 ) -> Result<u8, AllocError> {
-    let mut owned = Vec::new(alloc);
-    for word in words {
-        owned.push(String::from_str(alloc, word)?)?;
-    }
     let mut shelf = SureShelf::new(BTreeMap::new(alloc));
-    Ok(run(alloc, &owned, source, sink, &mut shelf))
+    status_on(alloc, words, source, sink, &mut shelf)
 }
 
 // The status of a replay.

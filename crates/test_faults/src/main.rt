@@ -9,8 +9,9 @@ mod streams;
 mod tally;
 
 use kinds::{
-    EmptyWrites, EndlessReads, FailingReads, FailingReadsAndWrites, FailingUsage, FailingWrites,
-    Kind, LateWrites, OtherWords, PlainRuns, RunsInPieces,
+    AbsentProjects, EmptyWrites, EndlessReads, FailingReads, FailingReadsAndWrites, FailingShelves,
+    FailingUsage, FailingWrites, Kind, LateWrites, OtherWords, PlainRuns, RunsInPieces,
+    SavedProjects, UnsavedProjects, WrongTexts,
 };
 use std::io;
 
@@ -33,5 +34,10 @@ fn main(rt: HostRuntime) -> io::Result<()> {
     make(&rt, &LateWrites)?;
     make(&rt, &OtherWords)?;
     make(&rt, &FailingUsage)?;
+    make(&rt, &AbsentProjects)?;
+    make(&rt, &FailingShelves)?;
+    make(&rt, &WrongTexts)?;
+    make(&rt, &SavedProjects)?;
+    make(&rt, &UnsavedProjects)?;
     make(&rt, &EndlessReads)
 }

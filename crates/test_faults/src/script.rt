@@ -17,3 +17,7 @@ pub const LINES: [(&str, &str); LEN] = [
     ("by ann add wells POINT (-5 6)", "ok 3\n"),
     ("dirty", "dirty -5 6 -5 6\ntotal 1\n"),
 ];
+
+/// The text of the project that the script comes to; by hand, from the documents.
+pub const SAVED: &str =
+    "topology 1\nnext 4\nclass wells point\nrule 1 point_must_be_disjoint wells\nfeature 1 wells POINT (3 4)\nfeature 2 wells POINT (3 4)\nfeature 3 wells POINT (-5 6)\ndirty -5 6 -5 6\nerror 1 1 2 cells 3 4 3 4\ncell 1 0 -3 =, 0 1 -4 =\nend\n";

@@ -1,11 +1,10 @@
 // The program: the real source, sink and shelf, and the words after the program's name.
 #![tactic(auto)]
 
-use std::collections::BTreeMap;
 use std::io::ErrorKind;
 use std::process::ExitCode;
 use std::{env, io};
-use topo_outside::{StdSink, StdSource, SureShelf};
+use topo_outside::{FolderShelf, StdSink, StdSource};
 use topo_run::run;
 
 // The status where not even the words can be held.
@@ -28,6 +27,6 @@ fn main(rt: HostRuntime) -> ExitCode {
     };
     let mut source = StdSource::new(rt.stdin());
     let mut sink = StdSink::new(rt.stdout());
-    let mut shelf = SureShelf::new(BTreeMap::new(rt.alloc()));
+    let mut shelf = FolderShelf::new(&rt);
     ExitCode::from(run(rt.alloc(), &words, &mut source, &mut sink, &mut shelf))
 }

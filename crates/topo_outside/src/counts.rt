@@ -1,9 +1,17 @@
 ghost use Rattle.std.specs.Prelude.{◌≡◌};
-ghost use Rattle.topo_outside.specs.Memory.{counted};
+ghost use Rattle.topo_outside.specs.Memory.{counted, is_failing};
 
 /// One more, up to the greatest u64.
 pub fn counted(n: u64) -> u64
     ensures { result ≡ counted n }
 {
     n.saturating_add(1)
+}
+
+/// Whether the next call, the one after `calls` calls, is to fail.
+pub fn is_failing(calls: u64, failing: &[u64]) -> bool
+    ensures { result ≡ is_failing calls failing.now }
+{
+    let call = counted(calls);
+    failing.iter().any(|n| *n == call)
 }

@@ -1,49 +1,147 @@
 -- How a replay ends: all lines were answered, and what completeness says of each status.
-use Rattle.std.proofs.Common.{ℕ, ◌≡◌, ◌≤◌, ◌<◌, Bool, true, false, List, ◌++◌, Option, None, Some, length, inl, inr, refl, sym, ◌∙◌, ap, subst, arith, append-nil, length-append}
+use Rattle.std.proofs.Common.{ℕ, ◌≡◌, ◌≤◌, ◌<◌, ◌⊎◌, Bool, true, false, List, [], ◌++◌, Option, None, Some, length, take, inl, inr, refl, sym, ◌∙◌, ap, subst, arith, append-nil, length-append}
+use Rattle.std.proofs.lemmas.List.{take-append-le}
 use Rattle.std.specs.Io.KnownBytes.{Consumes, IsAtEnd}
 use Rattle.text_terms.specs.Lines.{lines_of}
+use Rattle.outside_terms.specs.Faults.{Rose}
 use Rattle.outside_terms.specs.Reads.{Passage, Read, is_at_end, script_limit}
 use Rattle.outside_terms.specs.Statuses.{code_of, status_of}
-use Rattle.outside_terms.specs.Faults.{Rose}
-use Rattle.script_terms.specs.State.{empty_state}
-use Rattle.script_terms.specs.Run.{WritesPrefix}
 use Rattle.script_terms.specs.Ends.{WritesAll, EndsAs, IsComplete, WritesWhole}
-use Rattle.script_terms.proofs.Starts.{writes_some}
+use Rattle.script_terms.specs.Run.{WritesRun, WritesPrefix, text_of}
+use Rattle.script_terms.specs.State.{State, empty_state}
+use Rattle.script_terms.proofs.Starts.{writes_all, writes_some}
+use Rattle.opening_terms.specs.Replaying.{Replays, ReplaysSome, EndsFrom}
+use Rattle.topo_run.specs.Told.{WritesTo, ReplaysTo, EndsAt}
+use Rattle.topo_run.specs.Unopened.{IfUnopened}
 use Rattle.outside_terms.specs.declared.end.End.{End}
 use Rattle.outside_terms.specs.declared.end.End.TheVariants.{AtEnd, Failed, TooLong}
 use Rattle.outside_terms.specs.declared.status.Status.{Status}
 use Rattle.outside_terms.specs.declared.status.Status.TheVariants as status
 
-pub all_answered : (s k : Passage) (kept : List ℕ) (end : End) (refused : Bool) → Read s kept end
-    → WritesAll k (lines_of (is_at_end end) kept) refused → EndsAs s k (status_of end refused)
-all_answered s k kept AtEnd true read written = (kept, read, written)
-all_answered s k kept AtEnd false read written = (kept, read, written)
-all_answered s k kept Failed refused read written = (kept, refused, read, written)
-all_answered s k kept TooLong refused read written = (kept, refused, read, written)
+pub all_answered : (start last : State) (s k : Passage) (kept : List ℕ) (end : End) (refused : Bool) → Read s kept end
+    → WritesTo start (lines_of (is_at_end end) kept) k.old k.new refused last → EndsAt start last s k (status_of end refused)
+all_answered start last s k kept AtEnd true read w = record { kept = kept; all = record { read = read; run = w.run }; last = w.last }
+all_answered start last s k kept AtEnd false read w = record { kept = kept; all = record { read = read; run = w.run }; last = w.last }
+all_answered start last s k kept Failed refused read w = (kept, refused, record { read = read; run = w.run })
+all_answered start last s k kept TooLong refused read w = (kept, refused, record { read = read; run = w.run })
 
--- it stopped early
-pub stopped_writing : (s k : Passage) (kept : List ℕ) (end : End) → Read s kept end → Rose k.before k.now
-    → WritesPrefix empty_state (lines_of (is_at_end end) kept) k.old k.new → EndsAs s k status.WriteFault
-stopped_writing s k kept end read rose some = (rose, (kept, end, read, writes_some some))
+pub some_answered : {start : State} {s k : Passage} {kept : List ℕ} {end : End} → Read s kept end
+    → WritesPrefix start (lines_of (is_at_end end) kept) k.old k.new → ReplaysSome start s k
+some_answered {start} {s} {k} {kept} {end} read run = record { kept = kept; end = end; read = read; run = run }
 
-pub stopped_short : (s k : Passage) (kept : List ℕ) (end : End) → Read s kept end
-    → WritesPrefix empty_state (lines_of (is_at_end end) kept) k.old k.new → EndsAs s k status.NoMemory
-stopped_short s k kept end read some = inl (kept, end, read, writes_some some)
+-- the whole text of a run is a prefix of it
+whole_prefix : (start : State) (lines : List (List ℕ)) (old new : Option (List ℕ)) (refused : Bool) → WritesRun start lines old new refused
+    → WritesPrefix start lines old new
+whole_prefix start lines old new refused w = record {
+  first = lines;
+  is_first = ([], sym (append-nil lines));
+  outcomes = w.outcomes;
+  run = w.run;
+  text = text_of w.outcomes;
+  is_prefix = ([], sym (append-nil (text_of w.outcomes)));
+  written = w.written;
+  sound = w.sound;
+  invariant = w.invariant;
+  keeping = w.keeping;
+}
+
+pub all_some : (start : State) (s k : Passage) (kept : List ℕ) (end : End) (refused : Bool) → Replays start s k kept end refused
+    → ReplaysSome start s k
+all_some start s k kept end refused r =
+    some_answered r.read (whole_prefix start (lines_of (is_at_end end) kept) k.old k.new refused r.run)
+
+-- ---- of a replay from a start
+
+pub from_there : (start last : State) (s k : Passage) (t : Status) → EndsAt start last s k t → EndsFrom start s k t
+from_there start last s k status.Done r = (r.kept, r.all)
+from_there start last s k status.Refused r = (r.kept, r.all)
+from_there start last s k status.Usage r = r
+from_there start last s k status.ReadFault r = r
+from_there start last s k status.WriteFault r = r
+from_there start last s k status.NoMemory r = r
+from_there start last s k status.WrongText r = r
+from_there start last s k status.OpenFault r = r
+from_there start last s k status.SaveFault r = r
+from_there start last s k status.Unsound r = r
+from_there start last s k status.TooLong r = r
+from_there start last s k status.NoProject r = r
+
+-- from the empty state
+empty_ends : (s k : Passage) (t : Status) → EndsFrom empty_state s k t → EndsAs s k t
+empty_ends s k status.Done (kept, r) = (kept, r.read, writes_all r.run)
+empty_ends s k status.Refused (kept, r) = (kept, r.read, writes_all r.run)
+empty_ends s k status.ReadFault (kept, refused, r) = (kept, refused, r.read, writes_all r.run)
+empty_ends s k status.TooLong (kept, refused, r) = (kept, refused, r.read, writes_all r.run)
+empty_ends s k status.WriteFault (rose, r) = (rose, (r.kept, r.end, r.read, writes_some r.run))
+empty_ends s k status.NoMemory (inl r) = inl (r.kept, r.end, r.read, writes_some r.run)
+empty_ends s k status.NoMemory (inr w) = inr w
+empty_ends s k status.Usage r = r
+empty_ends s k status.WrongText r = r
+empty_ends s k status.OpenFault r = r
+empty_ends s k status.SaveFault r = r
+empty_ends s k status.Unsound r = r
+empty_ends s k status.NoProject r = r
+
+pub ends_empty : (start last : State) (s k : Passage) (t : Status) → start ≡ empty_state → EndsAt start last s k t → EndsAs s k t
+ends_empty start last s k t is ends =
+    empty_ends s k t (subst (λ (x : State). EndsFrom x s k t) is (from_there start last s k t ends))
+
+-- a replay that began does not end as one does that opened nothing
+pub began : (P : Type 0) (start : State) (s k : Passage) (t : Status) → EndsFrom start s k t → IfUnopened t P
+began P start s k status.WrongText r = absurd r
+began P start s k status.OpenFault r = absurd r
+began P start s k status.NoProject r = absurd r
+began P start s k status.Done r = tt
+began P start s k status.Refused r = tt
+began P start s k status.Usage r = tt
+began P start s k status.ReadFault r = tt
+began P start s k status.WriteFault r = tt
+began P start s k status.NoMemory r = tt
+began P start s k status.SaveFault r = tt
+began P start s k status.Unsound r = tt
+began P start s k status.TooLong r = tt
+
+-- ---- where nothing fails
 
 -- what was given of a told script, read to its end, is the script
 whole_given : (script given : List ℕ) (new : Option (List ℕ)) → Consumes (Some script) new given → IsAtEnd new → given ≡ script
 whole_given script given None consumed end = absurd consumed
 whole_given script given (Some left) consumed end = sym (consumed ∙ (ap (λ t. given ++ t) end ∙ append-nil given))
 
-kept_whole : (s : Passage) (script kept : List ℕ) → s.old ≡ Some script → Read s kept AtEnd → kept ≡ script
-kept_whole s script kept told read =
-    read.ended.0 ∙ whole_given script read.given s.new (subst (λ (o : Option (List ℕ)). Consumes o s.new read.given) told read.consumed)
-    read.ended.2
+consumes : (s : Passage) (script kept : List ℕ) (end : End) → s.old ≡ Some script → (read : Read s kept end)
+    → Consumes (Some script) s.new read.given
+consumes s script kept end told read = subst (λ (o : Option (List ℕ)). Consumes o s.new read.given) told read.consumed
+
+pub kept_whole : (s : Passage) (script kept : List ℕ) → s.old ≡ Some script → Read s kept AtEnd → kept ≡ script
+kept_whole s script kept told read = read.ended.0 ∙ whole_given script read.given s.new (consumes s script kept AtEnd told read) read.ended.2
 
 -- no more is given than is there
 given_within : (script given : List ℕ) (new : Option (List ℕ)) → Consumes (Some script) new given → length given ≤ length script
 given_within script given None consumed = absurd consumed
 given_within script given (Some left) consumed = omega (arith, ap (length {A = ℕ}) consumed, length-append given left)
+
+pub not_too_long : (s : Passage) (script kept : List ℕ) → s.old ≡ Some script → length script ≤ script_limit → Read s kept TooLong → ⊥
+not_too_long s script kept told short read =
+    let within : length read.given ≤ length script = given_within script read.given s.new (consumes s script kept TooLong told read) in
+    let over : script_limit < length read.given = read.ended.1 in
+    absurd (omega (arith, within, over, short))
+
+pub not_at_end : (s : Passage) (script kept : List ℕ) → s.old ≡ Some script → script_limit < length script → Read s kept AtEnd → ⊥
+not_at_end s script kept told long read =
+    let same : read.given ≡ script = whole_given script read.given s.new (consumes s script kept AtEnd told read) read.ended.2 in
+    let within : length read.given ≤ script_limit = read.ended.1 in
+    absurd (omega (arith, ap (length {A = ℕ}) same, within, long))
+
+front_of : (script given : List ℕ) (new : Option (List ℕ)) → Consumes (Some script) new given → script_limit < length given
+    → take script_limit given ≡ take script_limit script
+front_of script given None consumed over = absurd consumed
+front_of script given (Some left) consumed over =
+    let fits : script_limit ≤ length given = omega (arith, over) in
+    sym (ap (λ t. take script_limit t) consumed ∙ take-append-le script_limit given left fits)
+
+pub kept_front : (s : Passage) (script kept : List ℕ) → s.old ≡ Some script → Read s kept TooLong → kept ≡ take script_limit script
+kept_front s script kept told read =
+    read.ended.0 ∙ front_of script read.given s.new (consumes s script kept TooLong told read) read.ended.1
 
 whole : (s k : Passage) (script kept : List ℕ) (refused : Bool) → s.old ≡ Some script → Read s kept AtEnd
     → WritesAll k (lines_of true kept) refused → WritesWhole s k script refused
@@ -54,16 +152,57 @@ whole s k script kept refused told read written =
       written = subst (λ (t : List ℕ). WritesAll k (lines_of true t) refused) same written;
     }
 
-pub completes : (s k : Passage) (status : Status) → EndsAs s k status → IsComplete s k (code_of status)
+pub completes : (s k : Passage) (t : Status) → EndsAs s k t → IsComplete s k (code_of t)
 completes s k status.Done (kept, read, written) = λ script told short calm quiet. inl (refl, whole s k script kept false told read written)
 completes s k status.Refused (kept, read, written) = λ script told short calm quiet. inr
     (inl (refl, whole s k script kept true told read written))
-completes s k status.Usage ends = absurd ends
 completes s k status.ReadFault (kept, refused, read, written) = λ script told short calm quiet. absurd (calm read.ended.2)
 completes s k status.WriteFault (rose, rest) = λ script told short calm quiet. absurd (quiet rose)
 completes s k status.NoMemory ends = λ script told short calm quiet. inr (inr refl)
 completes s k status.TooLong (kept, refused, read, written) = λ script told short calm quiet.
-    let within : length read.given ≤ length script = given_within script read.given s.new
-    (subst (λ (o : Option (List ℕ)). Consumes o s.new read.given) told read.consumed) in
-    let over : script_limit < length read.given = read.ended.1 in
-    absurd (omega (arith, within, over, short))
+    absurd (not_too_long s script kept told short read)
+completes s k status.Usage ends = absurd ends
+completes s k status.WrongText ends = absurd ends
+completes s k status.OpenFault ends = absurd ends
+completes s k status.SaveFault ends = absurd ends
+completes s k status.Unsound ends = absurd ends
+completes s k status.NoProject ends = absurd ends
+
+-- a replay from a start
+pub from_completes : (start : State) (s k : Passage) (t : Status) → EndsFrom start s k t → (script : List ℕ) → s.old ≡ Some script
+    → length script ≤ script_limit → ¬ (Rose s.before s.now) → ¬ (Rose k.before k.now)
+    → ((code_of t ≡ 0) × Replays start s k script AtEnd false)
+    ⊎ (((code_of t ≡ 1) × Replays start s k script AtEnd true) ⊎ (code_of t ≡ 5))
+from_completes start s k status.Done (kept, r) script told short calm quiet =
+    inl (refl, subst (λ (x : List ℕ). Replays start s k x AtEnd false) (kept_whole s script kept told r.read) r)
+from_completes start s k status.Refused (kept, r) script told short calm quiet =
+    inr (inl (refl, subst (λ (x : List ℕ). Replays start s k x AtEnd true) (kept_whole s script kept told r.read) r))
+from_completes start s k status.ReadFault (kept, refused, r) script told short calm quiet = absurd (calm r.read.ended.2)
+from_completes start s k status.TooLong (kept, refused, r) script told short calm quiet =
+    absurd (not_too_long s script kept told short r.read)
+from_completes start s k status.WriteFault (rose, r) script told short calm quiet = absurd (quiet rose)
+from_completes start s k status.NoMemory r script told short calm quiet = inr (inr refl)
+from_completes start s k status.Usage r script told short calm quiet = absurd r
+from_completes start s k status.WrongText r script told short calm quiet = absurd r
+from_completes start s k status.OpenFault r script told short calm quiet = absurd r
+from_completes start s k status.SaveFault r script told short calm quiet = absurd r
+from_completes start s k status.Unsound r script told short calm quiet = absurd r
+from_completes start s k status.NoProject r script told short calm quiet = absurd r
+
+-- of a script that is too long
+pub long_completes : (start : State) (s k : Passage) (t : Status) → EndsFrom start s k t → (script : List ℕ) → s.old ≡ Some script
+    → script_limit < length script → ¬ (Rose s.before s.now) → ¬ (Rose k.before k.now)
+    → ((code_of t ≡ 10) × ((refused : Bool) × Replays start s k (take script_limit script) TooLong refused)) ⊎ (code_of t ≡ 5)
+long_completes start s k status.Done (kept, r) script told long calm quiet = absurd (not_at_end s script kept told long r.read)
+long_completes start s k status.Refused (kept, r) script told long calm quiet = absurd (not_at_end s script kept told long r.read)
+long_completes start s k status.ReadFault (kept, refused, r) script told long calm quiet = absurd (calm r.read.ended.2)
+long_completes start s k status.TooLong (kept, refused, r) script told long calm quiet =
+    inl (refl, (refused, subst (λ (x : List ℕ). Replays start s k x TooLong refused) (kept_front s script kept told r.read) r))
+long_completes start s k status.WriteFault (rose, r) script told long calm quiet = absurd (quiet rose)
+long_completes start s k status.NoMemory r script told long calm quiet = inr refl
+long_completes start s k status.Usage r script told long calm quiet = absurd r
+long_completes start s k status.WrongText r script told long calm quiet = absurd r
+long_completes start s k status.OpenFault r script told long calm quiet = absurd r
+long_completes start s k status.SaveFault r script told long calm quiet = absurd r
+long_completes start s k status.Unsound r script told long calm quiet = absurd r
+long_completes start s k status.NoProject r script told long calm quiet = absurd r

@@ -2,7 +2,11 @@ pub mod Endings
 pub mod Runs
 pub mod Stepping
 pub mod Texts
-pub mod Words
+pub mod Spelling
 pub mod OneRun
 pub mod Restores
 pub mod Towns
+pub mod Saying
+pub mod Opened
+pub mod Shelved
+pub mod Asked

@@ -7,15 +7,16 @@ use Rattle.std.proofs.lemmas.List.{take-append-drop, take_all, length-drop}
 use Rattle.std.specs.Prelude.{Result, Ok, Err, OnErr}
 use Rattle.std.specs.Io.KnownBytes.{Appends}
 use Rattle.std.proofs.KnownBytes.{Appends-nil, Appends-trans}
-use Rattle.script_terms.specs.State.{State, empty_state}
+use Rattle.script_terms.specs.State.{State}
 use Rattle.script_terms.specs.Run.{Outcome, Step, Run, text_of, any_refused, last_state, EachSound, EachInvariant, WritesRun, WritesPrefix}
 use Rattle.script_terms.specs.Headline.{SoundHeadline, Invariant}
-use Rattle.script_terms.proofs.Runs.{run_keeps, empty_keeps}
+use Rattle.script_terms.proofs.Runs.{run_keeps}
 use Rattle.script_terms.proofs.Starts.{last_sound, last_settled}
 use Rattle.topology_terms.specs.Project.{IsOrdered, empty_project}
 use Rattle.topology_terms.specs.Settled.{IsSettled}
 use Rattle.topology_terms.specs.Sound.{IsSound}
-use Rattle.topo_run.specs.Told.{Course, Keeps}
+use Rattle.script_terms.specs.Keeping.{IsKeeping}
+use Rattle.topo_run.specs.Told.{Course, Keeps, WritesTo}
 use Rattle.topo_run.proofs.Stepping.{Takes}
 
 pub record SoFar (start : State) (all rest : List (List ℕ)) (now : State) (before written : Option (List ℕ)) (pending : List ℕ)
@@ -141,26 +142,30 @@ pub empty_ordered : IsOrdered empty_project
 empty_ordered = record { rules = tt; features = tt; next = tt; entries = tt }
 
 -- all lines were answered, and what was pending is written
-pub ends : {now : State} {all lines : List (List ℕ)} {before written after : Option (List ℕ)} {pending bytes : List ℕ} {refused : Bool} →
-    SoFar empty_state all lines now before written pending refused → lines ≡ [] → bytes ≡ pending → Appends written after bytes
-    → WritesRun empty_state all before after refused
-ends {now} {all} {lines} {before} {written} {after} {pending} {bytes} {refused} far none same more =
-    let run : Run empty_state all far.course.outcomes = rw (course_ends far.course none) far.course.run in
+pub ends : {start now : State} {all lines : List (List ℕ)} {before written after : Option (List ℕ)} {pending bytes : List ℕ} {refused : Bool}
+    → SoFar start all lines now before written pending refused → IsKeeping start → IsOrdered start.project → lines ≡ [] → bytes ≡ pending
+    → Appends written after bytes → WritesTo start all before after refused now
+ends {start} {now} {all} {lines} {before} {written} {after} {pending} {bytes} {refused} far keeping ordered none same more =
+    let run : Run start all far.course.outcomes = rw (course_ends far.course none) far.course.run in
     record {
-      outcomes = far.course.outcomes;
-      run = run;
-      written = rw far.text (Appends-trans before written after far.front pending far.appended
-          (subst (λ (t : List ℕ). Appends written after t) same more));
-      any = far.course.any;
-      sound = far.course.sound;
-      invariant = far.course.invariant;
-      keeping = run_keeps empty_state all far.course.outcomes empty_keeps empty_ordered run;
+      run = record {
+        outcomes = far.course.outcomes;
+        run = run;
+        written = rw far.text (Appends-trans before written after far.front pending far.appended
+            (subst (λ (t : List ℕ). Appends written after t) same more));
+        any = far.course.any;
+        sound = far.course.sound;
+        invariant = far.course.invariant;
+        keeping = run_keeps start all far.course.outcomes keeping ordered run;
+      };
+      last = far.course.last;
     }
 
 -- what was written so far is a prefix
-pub stops : {now : State} {all rest : List (List ℕ)} {before written : Option (List ℕ)} {pending : List ℕ} {refused : Bool}
-    → SoFar empty_state all rest now before written pending refused → WritesPrefix empty_state all before written
-stops {now} {all} {rest} {before} {written} {pending} {refused} far = record {
+pub stops : {start now : State} {all rest : List (List ℕ)} {before written : Option (List ℕ)} {pending : List ℕ} {refused : Bool}
+    → SoFar start all rest now before written pending refused → IsKeeping start → IsOrdered start.project
+    → WritesPrefix start all before written
+stops {start} {now} {all} {rest} {before} {written} {pending} {refused} far keeping ordered = record {
   first = far.course.done;
   is_first = (rest, far.course.split);
   outcomes = far.course.outcomes;
@@ -170,7 +175,7 @@ stops {now} {all} {rest} {before} {written} {pending} {refused} far = record {
   written = far.appended;
   sound = far.course.sound;
   invariant = far.course.invariant;
-  keeping = run_keeps empty_state far.course.done far.course.outcomes empty_keeps empty_ordered far.course.run;
+  keeping = run_keeps start far.course.done far.course.outcomes keeping ordered far.course.run;
 }
 
 -- what holds anyway

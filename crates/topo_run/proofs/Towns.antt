@@ -111,6 +111,11 @@ pub town_completes : (seed n : ℕ) (k : Passage) (s : Status) → EndsAsTown se
 town_completes seed n k status.Done h = λ quiet. inl (refl, h)
 town_completes seed n k status.Refused h = λ quiet. inr (inl (refl, h))
 town_completes seed n k status.Usage h = absurd h
+town_completes seed n k status.WrongText h = absurd h
+town_completes seed n k status.OpenFault h = absurd h
+town_completes seed n k status.SaveFault h = absurd h
+town_completes seed n k status.Unsound h = absurd h
+town_completes seed n k status.NoProject h = absurd h
 town_completes seed n k status.ReadFault h = absurd h
 town_completes seed n k status.WriteFault h = λ quiet. absurd (quiet h.0)
 town_completes seed n k status.NoMemory h = λ quiet. inr (inr refl)
@@ -122,8 +127,3 @@ pub town_asked : (words : List (List ℕ)) (seed n other m : ℕ) (k : Passage) 
 town_asked words seed n other m k s asked made ends =
     let one = one_request words seed n other m asked made in
     rw (one.0, one.1) ends
-
-pub town_done : (words : List (List ℕ)) (seed n other m : ℕ) (k : Passage) (s : Status) (code : ℕ) → IsTownRequest words seed n
-    → IsTownRequest words other m → EndsAsTown other m k s → code ≡ code_of s → IsTownComplete seed n k code
-town_done words seed n other m k s code asked made ends is =
-    rw is (town_completes seed n k s (town_asked words seed n other m k s asked made ends))

@@ -1,2 +1,5 @@
 pub mod Stops
 pub mod Told
+pub mod Unopened
+pub mod Verdicts
+pub mod Asked

@@ -1,31 +1,30 @@
-ghost use Rattle.std.specs.Prelude.{◌≡◌, ◌≤◌, ◌↔◌, ℕ, map, IsTrue, string_bytes};
+ghost use Rattle.std.specs.Prelude.{◌≡◌, ◌≢◌, ◌≤◌, ◌⊎◌, ℕ, List, map, string_bytes, codes};
+ghost use Rattle.outside_terms.specs.Shelves.{KeepsHeld};
 ghost use Rattle.outside_terms.specs.Statuses.{code_of};
 ghost use Rattle.outside_terms.specs.declared.status.Status.{Status};
 ghost use Rattle.script_terms.specs.Ends.{EndsAs, EndsAsUsage, IsComplete, IsReplay};
 ghost use Rattle.town_terms.specs.Ends.{EndsAsTown, IsTownComplete};
 ghost use Rattle.town_terms.specs.Request.{IsTownRequest};
+ghost use Rattle.opening_terms.specs.Words.{IsReplayOf, IsReplayTo, IsCheckOf, IsReportOf};
+ghost use Rattle.opening_terms.specs.Opening.{IsOpeningComplete};
+ghost use Rattle.opening_terms.specs.Checking.{EndsAsCheck, IsCheckComplete};
+ghost use Rattle.opening_terms.specs.Reporting.{EndsAsReport, IsReportComplete};
+ghost use Rattle.opening_terms.specs.Replaying.{EndsAsReplayOf, IsReplayOfComplete};
+ghost use Rattle.opening_terms.specs.Saving.{EndsAsReplayTo, IsReplayToComplete};
+ghost use Rattle.topo_run.specs.Asked.{IsFit, EndsAsAsked, UnlessReplay, UnlessNamed, UnlessSaved};
+ghost use Rattle.topo_run.specs.Unopened.{IfUnopened};
 
-use crate::replay::replay;
+use crate::check::check;
+use crate::replay::{replay, replay_of};
+use crate::report::report;
+use crate::save::replay_to;
 use crate::status::code_of;
 use crate::town::town;
-use crate::write::write_all;
+use crate::words::{Words, words_of};
+use crate::write::say;
 use outside_terms::Status;
 use std::alloc::Global;
-use topo_outside::{Shelf, Sink, SinkFault, Source};
-use town_maker::town_request;
-
-#[tactic(auto, using(crate::proofs::Words::words_tests))]
-fn is_replay(words: &Vec<String>) -> bool
-    ensures { IsTrue result ↔ IsReplay words.now.items }
-{
-    words.len() == 1 && is_word(&words[0], "replay")
-}
-
-fn is_word(word: &String, text: &str) -> bool
-    ensures { IsTrue result ↔ (string_bytes word.now ≡ text.now) }
-{
-    word.as_str() == text
-}
+use topo_outside::{Shelf, Sink, Source};
 
 /// The line that is written where the words are none that the program knows.
 pub const USAGE: &str =
@@ -35,23 +34,59 @@ fn say_usage<K: Sink>(sink: &mut K) -> Status
     ensures usage { EndsAsUsage (record { old = K.written sink.old; new = K.written sink.new; before = K.faults sink.old; now = K.faults sink.new }) result }
     ensures later { K.faults sink.old ≤ K.faults sink.new }
 {
-    match write_all(sink, USAGE.as_bytes()) {
-        Ok(()) => Status::Usage,
-        Err(SinkFault::Failed) => Status::WriteFault,
-        Err(SinkFault::NoMemory) => Status::NoMemory,
+    say(sink, USAGE.as_bytes(), Status::Usage)
+}
+
+// Does what is asked for.
+#[tactic(auto, using(crate::proofs::Shelved::stays))]
+fn act<S: Source, K: Sink, H: Shelf>(
+    alloc: Global,
+    words: Words<'_>,
+    source: &mut S,
+    sink: &mut K,
+    shelf: &mut H,
+) -> Status
+    requires { IsFit words.entry }
+    ensures ends { EndsAsAsked words.entry
+        (record { old = S.left source.old; new = S.left source.new; before = S.faults source.old; now = S.faults source.new })
+        (record { old = H.held shelf.old; new = H.held shelf.new; before = H.faults shelf.old; now = H.faults shelf.new })
+        (record { old = K.written sink.old; new = K.written sink.new; before = K.faults sink.old; now = K.faults sink.new })
+        result }
+    ensures unread { UnlessReplay words.entry (source.new ≡ source.old) }
+    ensures untouched { UnlessNamed words.entry (shelf.new ≡ shelf.old) }
+    ensures kept { UnlessSaved words.entry (KeepsHeld (H.held shelf.old) (H.held shelf.new)) }
+    ensures unopened { IfUnopened result (source.new ≡ source.old) }
+    ensures counts { (S.faults source.old ≤ S.faults source.new) × (K.faults sink.old ≤ K.faults sink.new) × (H.faults shelf.old ≤ H.faults shelf.new) }
+{
+    match words {
+        Words::Replay => replay(alloc, source, sink),
+        Words::ReplayOf(project) => replay_of(alloc, project, source, sink, shelf),
+        Words::ReplayTo(project, target) => {
+            replay_to(alloc, project, target, source, sink, shelf)
+        }
+        Words::Check(project) => check(alloc, project, sink, shelf),
+        Words::Report(project) => report(alloc, project, sink, shelf),
+        Words::Town(request) => town(alloc, request, sink),
+        Words::Unknown => say_usage(sink),
     }
 }
 
 /// Does all that the program does, and gives its exit status.
 ///
 /// `words` are those after the program's name. `replay` reads the script of `source`, answers each of its lines from the empty
-/// topology and writes the replies to `sink`; `town SEED N` runs the script of the made town and writes its summary; other words
-/// have the usage line written. The shelf is not touched yet.
+/// topology and writes the replies to `sink`; `replay PROJECT` does so from the project that the shelf holds under this name, or
+/// from the empty one where it is `-`, and `replay PROJECT TARGET` then puts the project at the end under the name TARGET. `check
+/// PROJECT` writes whether the project is sound, and `report PROJECT` its errors as a table. `town SEED N` runs the script of the
+/// made town and writes its summary; other words have the usage line written.
 ///
 /// The clause `replay` says of each status what was read and written: the replies of a run over the lines read, in every state of
 /// which the topology is sound and settled, the headline holds, and with no dirt the errors are those of a validation from
-/// scratch. The clause `complete` says that with no fault counted nothing but running out of memory stands between a script and
-/// its replies. The clauses `town` and `town_complete` say the same of the made town's script and its summary.
+/// scratch. The clauses `replay_of` and `replay_to` say the same of a run from a project: the headline holds in its states where
+/// the project is sound, and the rest where it is settled too; and what is saved is the text of the last state, sound and settled
+/// where the start was. Where no project was opened, they say why and what was written, as `check` and `report` do. The clauses
+/// with `complete` and `opening` say that with no fault counted nothing but running out of memory stands between what was asked
+/// for and its answer. The clauses `town` and `town_complete` say this of the made town's script and its summary. The shelf holds
+/// what it held unless a TARGET is named (`kept`), and is not asked unless a project is (`shelf`).
 pub fn run<S: Source, K: Sink, H: Shelf>(
     alloc: Global,
     words: &Vec<String>,
@@ -71,17 +106,48 @@ pub fn run<S: Source, K: Sink, H: Shelf>(
         (record { old = K.written sink.old; new = K.written sink.new; before = K.faults sink.old; now = K.faults sink.new }) s }
     ensures town_complete { (seed n : ℕ) → IsTownRequest (map (λ w. string_bytes w) words.now.items) seed n → IsTownComplete seed n
         (record { old = K.written sink.old; new = K.written sink.new; before = K.faults sink.old; now = K.faults sink.new }) result }
-    ensures usage { ¬ (IsReplay words.now.items) → ((seed n : ℕ) → ¬ (IsTownRequest (map (λ w. string_bytes w) words.now.items) seed n)) → (s : Status) × (result ≡ code_of s) × EndsAsUsage
+    ensures replay_of { (project : List ℕ) → IsReplayOf (map (λ w. string_bytes w) words.now.items) project → (s : Status) × (result ≡ code_of s) × EndsAsReplayOf project
+        (record { old = S.left source.old; new = S.left source.new; before = S.faults source.old; now = S.faults source.new })
+        (record { old = H.held shelf.old; new = H.held shelf.new; before = H.faults shelf.old; now = H.faults shelf.new })
         (record { old = K.written sink.old; new = K.written sink.new; before = K.faults sink.old; now = K.faults sink.new }) s }
-    ensures unread { ¬ (IsReplay words.now.items) → source.new ≡ source.old }
+    ensures replay_of_complete { (project : List ℕ) → IsReplayOf (map (λ w. string_bytes w) words.now.items) project → IsReplayOfComplete project
+        (record { old = S.left source.old; new = S.left source.new; before = S.faults source.old; now = S.faults source.new })
+        (record { old = H.held shelf.old; new = H.held shelf.new; before = H.faults shelf.old; now = H.faults shelf.new })
+        (record { old = K.written sink.old; new = K.written sink.new; before = K.faults sink.old; now = K.faults sink.new }) result }
+    ensures replay_of_opening { (project : List ℕ) → IsReplayOf (map (λ w. string_bytes w) words.now.items) project → project ≢ codes "-" → IsOpeningComplete project
+        (record { old = H.held shelf.old; new = H.held shelf.new; before = H.faults shelf.old; now = H.faults shelf.new })
+        (record { old = K.written sink.old; new = K.written sink.new; before = K.faults sink.old; now = K.faults sink.new }) result }
+    ensures replay_to { (project target : List ℕ) → IsReplayTo (map (λ w. string_bytes w) words.now.items) project target → (s : Status) × (result ≡ code_of s) × EndsAsReplayTo project target
+        (record { old = S.left source.old; new = S.left source.new; before = S.faults source.old; now = S.faults source.new })
+        (record { old = H.held shelf.old; new = H.held shelf.new; before = H.faults shelf.old; now = H.faults shelf.new })
+        (record { old = K.written sink.old; new = K.written sink.new; before = K.faults sink.old; now = K.faults sink.new }) s }
+    ensures replay_to_complete { (project target : List ℕ) → IsReplayTo (map (λ w. string_bytes w) words.now.items) project target → IsReplayToComplete project target
+        (record { old = S.left source.old; new = S.left source.new; before = S.faults source.old; now = S.faults source.new })
+        (record { old = H.held shelf.old; new = H.held shelf.new; before = H.faults shelf.old; now = H.faults shelf.new })
+        (record { old = K.written sink.old; new = K.written sink.new; before = K.faults sink.old; now = K.faults sink.new }) result }
+    ensures replay_to_opening { (project target : List ℕ) → IsReplayTo (map (λ w. string_bytes w) words.now.items) project target → project ≢ codes "-" → IsOpeningComplete project
+        (record { old = H.held shelf.old; new = H.held shelf.new; before = H.faults shelf.old; now = H.faults shelf.new })
+        (record { old = K.written sink.old; new = K.written sink.new; before = K.faults sink.old; now = K.faults sink.new }) result }
+    ensures check { (project : List ℕ) → IsCheckOf (map (λ w. string_bytes w) words.now.items) project → (s : Status) × (result ≡ code_of s) × EndsAsCheck project
+        (record { old = H.held shelf.old; new = H.held shelf.new; before = H.faults shelf.old; now = H.faults shelf.new })
+        (record { old = K.written sink.old; new = K.written sink.new; before = K.faults sink.old; now = K.faults sink.new }) s }
+    ensures check_complete { (project : List ℕ) → IsCheckOf (map (λ w. string_bytes w) words.now.items) project → IsCheckComplete project
+        (record { old = H.held shelf.old; new = H.held shelf.new; before = H.faults shelf.old; now = H.faults shelf.new })
+        (record { old = K.written sink.old; new = K.written sink.new; before = K.faults sink.old; now = K.faults sink.new }) result }
+    ensures check_opening { (project : List ℕ) → IsCheckOf (map (λ w. string_bytes w) words.now.items) project → IsOpeningComplete project
+        (record { old = H.held shelf.old; new = H.held shelf.new; before = H.faults shelf.old; now = H.faults shelf.new })
+        (record { old = K.written sink.old; new = K.written sink.new; before = K.faults sink.old; now = K.faults sink.new }) result }
+    ensures usage { ¬ (IsReplay words.now.items) → ((project : List ℕ) → ¬ (IsReplayOf (map (λ w. string_bytes w) words.now.items) project)) → ((project target : List ℕ) → ¬ (IsReplayTo (map (λ w. string_bytes w) words.now.items) project target)) → ((project : List ℕ) → ¬ (IsCheckOf (map (λ w. string_bytes w) words.now.items) project))
+        → ((project : List ℕ) → ¬ (IsReportOf (map (λ w. string_bytes w) words.now.items) project)) → ((seed n : ℕ) → ¬ (IsTownRequest (map (λ w. string_bytes w) words.now.items) seed n))
+        → (s : Status) × (result ≡ code_of s) × EndsAsUsage
+        (record { old = K.written sink.old; new = K.written sink.new; before = K.faults sink.old; now = K.faults sink.new }) s }
+    ensures unread { ¬ (IsReplay words.now.items) → ((project : List ℕ) → ¬ (IsReplayOf (map (λ w. string_bytes w) words.now.items) project)) → ((project target : List ℕ) → ¬ (IsReplayTo (map (λ w. string_bytes w) words.now.items) project target)) → source.new ≡ source.old }
+    ensures unopened { (result ≡ 6) ⊎ ((result ≡ 7) ⊎ (result ≡ 11)) → source.new ≡ source.old }
     ensures counts { (S.faults source.old ≤ S.faults source.new) × (K.faults sink.old ≤ K.faults sink.new) }
-    ensures shelf { shelf.new ≡ shelf.old }
+    ensures shelf_count { H.faults shelf.old ≤ H.faults shelf.new }
+    ensures shelf { ((project : List ℕ) → ¬ (IsReplayOf (map (λ w. string_bytes w) words.now.items) project)) → ((project target : List ℕ) → ¬ (IsReplayTo (map (λ w. string_bytes w) words.now.items) project target)) → ((project : List ℕ) → ¬ (IsCheckOf (map (λ w. string_bytes w) words.now.items) project))
+        → ((project : List ℕ) → ¬ (IsReportOf (map (λ w. string_bytes w) words.now.items) project)) → shelf.new ≡ shelf.old }
+    ensures kept { ((project target : List ℕ) → ¬ (IsReplayTo (map (λ w. string_bytes w) words.now.items) project target)) → KeepsHeld (H.held shelf.old) (H.held shelf.new) }
 {
-    if is_replay(words) {
-        code_of(replay(alloc, source, sink))
-    } else if let Some(request) = town_request(words) {
-        code_of(town(alloc, request, sink))
-    } else {
-        code_of(say_usage(sink))
-    }
+    code_of(act(alloc, words_of(words), source, sink, shelf))
 }

@@ -1,15 +1,19 @@
 ghost use Rattle.std.specs.Prelude.{◌≡◌, ◌≤◌, ◌++◌, ◌||◌, ℕ, List, IfOk, OnOk, OnErr, IsErrOf};
 ghost use Rattle.std.specs.Io.KnownBytes.{Appends};
 ghost use Rattle.text_terms.specs.Lines.{lines_of};
-ghost use Rattle.script_terms.specs.State.{empty_state};
-ghost use Rattle.script_terms.specs.Run.{IsPrefix, WritesRun, WritesPrefix};
+ghost use Rattle.script_terms.specs.Run.{IsPrefix, WritesPrefix};
 ghost use Rattle.outside_terms.specs.Faults.{Rose};
 ghost use Rattle.script_terms.specs.Ends.{EndsAs};
+ghost use Rattle.outside_terms.specs.Shelves.{KeepsHeld};
+ghost use Rattle.opening_terms.specs.Replaying.{EndsAsReplayOf};
 ghost use Rattle.topo_run.specs.Stops.{stop_of};
+ghost use Rattle.topo_run.specs.Told.{WritesTo, EndsAt};
+ghost use Rattle.topo_run.specs.Unopened.{IfUnopened};
 ghost use Rattle.topo_run.specs.declared.replay.Stop.TheVariants as stop;
 
 use crate::answer::answer_line;
 use crate::lines::split_line;
+use crate::open::{say_unopened, world_of};
 use crate::read::read_script;
 use crate::status::{is_at_end, status_of};
 use crate::write::write_all;
@@ -17,7 +21,7 @@ use command_answers::World;
 use grid_plane::NoMemory;
 use outside_terms::Status;
 use std::alloc::Global;
-use topo_outside::{Sink, SinkFault, Source};
+use topo_outside::{Shelf, Sink, SinkFault, Source};
 
 // So many bytes of replies are gathered before they are written.
 const GATHERED: usize = 65_536;
@@ -69,20 +73,25 @@ fn write_if_many<K: Sink>(sink: &mut K, gathered: &mut Vec<u8>) -> Result<(), Si
     Ok(())
 }
 
-/// Answers the lines of a text from the empty state, and tells whether one was refused.
-fn answer_all<K: Sink>(alloc: Global, text: &[u8], whole: bool, sink: &mut K) -> Result<bool, Stop>
-    ensures ok { IfOk result (λ refused. WritesRun empty_state (lines_of whole text.now) (K.written sink.old) (K.written sink.new) refused) }
-    ensures err { OnErr result (WritesPrefix empty_state (lines_of whole text.now) (K.written sink.old) (K.written sink.new)) }
+/// Answers the lines of a text, and tells whether one was refused.
+fn answer_all<K: Sink>(
+    alloc: Global,
+    world: &mut World,
+    text: &[u8],
+    whole: bool,
+    sink: &mut K,
+) -> Result<bool, Stop>
+    ensures ok { IfOk result (λ refused. WritesTo world.old (lines_of whole text.now) (K.written sink.old) (K.written sink.new) refused world.new) }
+    ensures err { OnErr result (WritesPrefix world.old (lines_of whole text.now) (K.written sink.old) (K.written sink.new)) }
     ensures later { K.faults sink.old ≤ K.faults sink.new }
     ensures failed { IsErrOf result Stop.Write → Rose (K.faults sink.old) (K.faults sink.new) }
 {
-    let mut world = World::new(alloc);
     world.headline_law();
     let mut gathered = Vec::new(alloc);
     let mut refused = false;
     let mut rest = text;
     while let Some((line, after)) = split_line(rest, whole) {
-        let bad = answer_line(alloc, &mut world, line, &mut gathered)?;
+        let bad = answer_line(alloc, world, line, &mut gathered)?;
         write_if_many(sink, &mut gathered)?;
         refused = either(refused, bad);
         rest = after;
@@ -91,9 +100,14 @@ fn answer_all<K: Sink>(alloc: Global, text: &[u8], whole: bool, sink: &mut K) ->
     Ok(refused)
 }
 
-/// Replays the script of a source from the empty topology.
-pub fn replay<S: Source, K: Sink>(alloc: Global, source: &mut S, sink: &mut K) -> Status
-    ensures ends { EndsAs
+/// Replays the script of a source from this state, and leaves the state at its end.
+pub fn replay_from<S: Source, K: Sink>(
+    alloc: Global,
+    world: &mut World,
+    source: &mut S,
+    sink: &mut K,
+) -> Status
+    ensures ends { EndsAt world.old world.new
         (record { old = S.left source.old; new = S.left source.new; before = S.faults source.old; now = S.faults source.new })
         (record { old = K.written sink.old; new = K.written sink.new; before = K.faults sink.old; now = K.faults sink.new })
         result }
@@ -102,9 +116,45 @@ pub fn replay<S: Source, K: Sink>(alloc: Global, source: &mut S, sink: &mut K) -
     let Ok(script) = read_script(alloc, source) else {
         return Status::NoMemory;
     };
-    match answer_all(alloc, &script.bytes, is_at_end(script.end), sink) {
+    match answer_all(alloc, world, &script.bytes, is_at_end(script.end), sink) {
         Ok(refused) => status_of(script.end, refused),
         Err(Stop::Write) => Status::WriteFault,
         Err(Stop::NoMemory) => Status::NoMemory,
+    }
+}
+
+/// Replays the script of a source from the empty topology.
+pub fn replay<S: Source, K: Sink>(alloc: Global, source: &mut S, sink: &mut K) -> Status
+    ensures ends { EndsAs
+        (record { old = S.left source.old; new = S.left source.new; before = S.faults source.old; now = S.faults source.new })
+        (record { old = K.written sink.old; new = K.written sink.new; before = K.faults sink.old; now = K.faults sink.new })
+        result }
+    ensures unopened { IfUnopened result (source.new ≡ source.old) }
+    ensures counts { (S.faults source.old ≤ S.faults source.new) × (K.faults sink.old ≤ K.faults sink.new) }
+{
+    let mut world = World::new(alloc);
+    replay_from(alloc, &mut world, source, sink)
+}
+
+/// Replays the script of a source from the project of this name; `-` names the empty one.
+pub fn replay_of<S: Source, K: Sink, H: Shelf>(
+    alloc: Global,
+    name: &str,
+    source: &mut S,
+    sink: &mut K,
+    shelf: &mut H,
+) -> Status
+    ensures ends { EndsAsReplayOf name.now
+        (record { old = S.left source.old; new = S.left source.new; before = S.faults source.old; now = S.faults source.new })
+        (record { old = H.held shelf.old; new = H.held shelf.new; before = H.faults shelf.old; now = H.faults shelf.new })
+        (record { old = K.written sink.old; new = K.written sink.new; before = K.faults sink.old; now = K.faults sink.new })
+        result }
+    ensures unopened { IfUnopened result (source.new ≡ source.old) }
+    ensures kept { KeepsHeld (H.held shelf.old) (H.held shelf.new) }
+    ensures counts { (S.faults source.old ≤ S.faults source.new) × (K.faults sink.old ≤ K.faults sink.new) × (H.faults shelf.old ≤ H.faults shelf.new) }
+{
+    match world_of(alloc, name, shelf) {
+        Ok(mut world) => replay_from(alloc, &mut world, source, sink),
+        Err(why) => say_unopened(alloc, why, sink),
     }
 }

@@ -34,6 +34,11 @@ pub fn code_of(status: Status) -> u8
         Status::ReadFault => 3,
         Status::WriteFault => 4,
         Status::NoMemory => 5,
+        Status::WrongText => 6,
+        Status::OpenFault => 7,
+        Status::SaveFault => 8,
+        Status::Unsound => 9,
         Status::TooLong => 10,
+        Status::NoProject => 11,
     }
 }

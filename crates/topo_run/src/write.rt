@@ -2,7 +2,9 @@ ghost use Rattle.std.specs.Prelude.{◌≡◌, ◌≤◌, ◌++◌, List, ℕ, O
 ghost use Rattle.std.specs.Io.KnownBytes.{Appends};
 ghost use Rattle.script_terms.specs.Run.{IsPrefix};
 ghost use Rattle.outside_terms.specs.Faults.{Rose};
+ghost use Rattle.topo_run.specs.Unopened.{Says};
 
+use outside_terms::Status;
 use topo_outside::{Sink, SinkFault};
 
 /// Writes all the bytes, or a prefix of them.
@@ -21,4 +23,16 @@ pub fn write_all<K: Sink>(sink: &mut K, bytes: &[u8]) -> Result<(), SinkFault>
         rest = &rest[count..];
     }
     Ok(())
+}
+
+/// Writes a text, and answers `done` where all of it was written.
+pub fn say<K: Sink>(sink: &mut K, text: &[u8], done: Status) -> Status
+    ensures says { Says text.now done (record { old = K.written sink.old; new = K.written sink.new; before = K.faults sink.old; now = K.faults sink.new }) result }
+    ensures later { K.faults sink.old ≤ K.faults sink.new }
+{
+    match write_all(sink, text) {
+        Ok(()) => done,
+        Err(SinkFault::Failed) => Status::WriteFault,
+        Err(SinkFault::NoMemory) => Status::NoMemory,
+    }
 }

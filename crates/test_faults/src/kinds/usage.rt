@@ -10,17 +10,21 @@ const TEXT: &str =
     "usage: topo replay [PROJECT [TARGET]] | check PROJECT | report PROJECT | town SEED N\n";
 
 // Words that the program does not know.
-const OTHERS: [&[&str]; 12] = [
+const OTHERS: [&[&str]; 16] = [
     &[],
     &[""],
     &["Replay"],
     &["replay "],
     &["repla"],
     &["replays"],
-    &["replay", "replay"],
     &["replay", ""],
-    &["check", "wells"],
-    &["report", "wells"],
+    &["replay", "", "wells"],
+    &["replay", "wells", ""],
+    &["replay", "wells", "wells", "wells"],
+    &["check"],
+    &["check", ""],
+    &["report", ""],
+    &["report", "wells", "wells"],
     &["town", "1", "61"],
     &["--help"],
 ];
@@ -30,7 +34,7 @@ pub struct OtherWords;
 
 impl Kind for OtherWords {
     fn name(&self) -> &str {
-        "words that are not known"
+        "words of no form"
     }
 
     fn runs(&self, alloc: Global) -> Result<Tally, AllocError> {

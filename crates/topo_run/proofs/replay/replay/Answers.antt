@@ -1,64 +1,37 @@
-use Rattle.std.proofs.Common.{ap, Err}
 use Rattle.outside_terms.specs.Reads.{Passage}
-use Rattle.script_terms.proofs.Starts.{writes_all}
-use Rattle.topo_run.specs.declared.replay.Stop.{Stop}
-use Rattle.topo_run.proofs.Endings.{all_answered, stopped_writing, stopped_short}
+use Rattle.topo_run.proofs.Endings.{ends_empty}
+use Rattle.topo_run.proofs.Shelved.{none_opened}
 use Rattle.topo_run.proofs.replay.replay.Goals as goal
-
-pub returns-in-Ok-answer_all-clause-ends : goal.returns-in-Ok-answer_all-clause-ends
-returns-in-Ok-answer_all-clause-ends g c =
-    let s : Passage = record {
-      old = g.S.Source.left c.args.source.now;
-      new = g.S.Source.left c.read_script.new.source;
-      before =
-          g.S.Source.faults c.args.source.now;
-      now = g.S.Source.faults c.read_script.new.source;
-    } in
-    let k : Passage = record {
-      old = g.K.Sink.written c.args.sink.now;
-      new = g.K.Sink.written c.answer_all.new.sink;
-      before =
-          g.K.Sink.faults c.args.sink.now;
-      now = g.K.Sink.faults c.answer_all.new.sink;
-    } in
-    rw c.status_of.ensures (all_answered s k c.in-Ok.script.bytes.items c.in-Ok.script.end c.in-Ok-answer_all.refused c.in-Ok.ensures.read
-    (writes_all (rw (← c.is_at_end.ensures, ← c.deref.ensures.value) c.in-Ok-answer_all.ensures.ok)))
-
-pub returns-in-Err-Write-clause-ends : goal.returns-in-Err-Write-clause-ends
-returns-in-Err-Write-clause-ends g c =
-    let s : Passage = record {
-      old = g.S.Source.left c.args.source.now;
-      new = g.S.Source.left c.read_script.new.source;
-      before =
-          g.S.Source.faults c.args.source.now;
-      now = g.S.Source.faults c.read_script.new.source;
-    } in
-    let k : Passage = record {
-      old = g.K.Sink.written c.args.sink.now;
-      new = g.K.Sink.written c.answer_all.new.sink;
-      before =
-          g.K.Sink.faults c.args.sink.now;
-      now = g.K.Sink.faults c.answer_all.new.sink;
-    } in
-    stopped_writing s k c.in-Ok.script.bytes.items c.in-Ok.script.end c.in-Ok.ensures.read
-    (c.in-Err-Write.ensures.failed (ap (λ (e : Stop). Err e) c.in-Err-Write.field-0-is))
-    (rw (← c.is_at_end.ensures, ← c.deref.ensures.value) c.in-Err-Write.ensures.err)
 
 pub returns-clause-ends : goal.returns-clause-ends
 returns-clause-ends g c =
     let s : Passage = record {
       old = g.S.Source.left c.args.source.now;
-      new = g.S.Source.left c.read_script.new.source;
-      before =
-          g.S.Source.faults c.args.source.now;
-      now = g.S.Source.faults c.read_script.new.source;
+      new = g.S.Source.left c.replay_from.new.source;
+      before = g.S.Source.faults c.args.source.now;
+      now = g.S.Source.faults c.replay_from.new.source;
     } in
     let k : Passage = record {
       old = g.K.Sink.written c.args.sink.now;
-      new = g.K.Sink.written c.answer_all.new.sink;
-      before =
-          g.K.Sink.faults c.args.sink.now;
-      now = g.K.Sink.faults c.answer_all.new.sink;
+      new = g.K.Sink.written c.replay_from.new.sink;
+      before = g.K.Sink.faults c.args.sink.now;
+      now = g.K.Sink.faults c.replay_from.new.sink;
     } in
-    stopped_short s k c.in-Ok.script.bytes.items c.in-Ok.script.end c.in-Ok.ensures.read
-    (rw (← c.is_at_end.ensures, ← c.deref.ensures.value) c.in-Err-NoMemory.ensures.err)
+    ends_empty c.new-world.result c.replay_from.new.world s k c.replay_from.result c.new-world.ensures.empty c.replay_from.ensures.ends
+
+pub returns-clause-unopened : goal.returns-clause-unopened
+returns-clause-unopened g c =
+    let s : Passage = record {
+      old = g.S.Source.left c.args.source.now;
+      new = g.S.Source.left c.replay_from.new.source;
+      before = g.S.Source.faults c.args.source.now;
+      now = g.S.Source.faults c.replay_from.new.source;
+    } in
+    let k : Passage = record {
+      old = g.K.Sink.written c.args.sink.now;
+      new = g.K.Sink.written c.replay_from.new.sink;
+      before = g.K.Sink.faults c.args.sink.now;
+      now = g.K.Sink.faults c.replay_from.new.sink;
+    } in
+    none_opened _ s k c.replay_from.result
+    (ends_empty c.new-world.result c.replay_from.new.world s k c.replay_from.result c.new-world.ensures.empty c.replay_from.ensures.ends)

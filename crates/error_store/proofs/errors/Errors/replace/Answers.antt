@@ -1,4 +1,4 @@
-use Rattle.std.proofs.Common.{◌≡◌, rules, sym, vec_len, length}
+use Rattle.std.proofs.Common.{◌≡◌, rules, vec_len, length}
 use Rattle.topology_terms.specs.Entry.{by_key}
 use Rattle.sound_laws.proofs.Keyed.{ascending_filter}
 use Rattle.sound_laws.proofs.Lists.{keys}

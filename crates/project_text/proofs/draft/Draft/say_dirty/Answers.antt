@@ -19,6 +19,6 @@ returns c =
             entries = i.entries.items;
           };
     } in
-    rw (← c.self.view_is) (dirty_said d c.add.new.self c.in-Some.r (rect_said c.args.form.now) c.rects.result.now c.is_nested.result
+    rw (← c.self.view_is) (dirty_said d c.add.new.self c.in-Some.r (rect_said c.args.form.now) c.in_ok-is_nested.field-0
     c.in-Some.ensures.0
-    c.in-Some.ensures.1 c.rects.ensures.value c.is_nested.ensures c.if-is_nested.false c.in_ok-add.ensures.ok)
+    c.in-Some.ensures.1 c.in_ok-is_nested.ensures c.if-branch.false c.in_ok-add.ensures.ok)

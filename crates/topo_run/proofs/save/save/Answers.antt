@@ -1,0 +1,14 @@
+use Rattle.outside_terms.specs.Shelves.{Visit}
+use Rattle.topo_run.proofs.Shelved.{puts}
+use Rattle.topo_run.proofs.save.save.Goals as goal
+
+pub returns-in-Ok-write_project-clause-saved : goal.returns-in-Ok-write_project-clause-saved
+returns-in-Ok-write_project-clause-saved g c =
+    let h : Visit = record {
+      old = g.H.Shelf.held c.args.shelf.now;
+      new = g.H.Shelf.held c.put.new.self;
+      before = g.H.Shelf.faults c.args.shelf.now;
+      now = g.H.Shelf.faults c.put.new.self;
+    } in
+    puts h c.args.target.now c.in-Ok-write_project.text.items c.deref.result.now c.args.world.now.project c.in-Ok.saved c.put.result c.put.ensures.stored
+    c.put.ensures.others c.deref.ensures.value c.in-Ok-write_project.ensures c.in-Ok.ensures.same c.in-Ok.ensures.valid
