@@ -36,7 +36,7 @@ WHYS = [
     ('of a comparison program or of the tests', lambda f, clause: re.match('plain_|test_|bench_', f.crate)),
     ('a law: its body is empty or only calls others, so that no other body means anything', lambda f, clause: f.name.endswith('_law')),
     ('of a trait: its bodies are those of the types that have it', lambda f, clause: f.is_declared),
-    ('of the streams in memory, which only the tests use', lambda f, clause: re.match('Mem|Sure', f.owner or '')),
+    ('of the streams in memory, which only the tests use', lambda f, clause: re.match('Mem|Repeat|Sure', f.owner or '')),
     ('a copy is equal: `error_store/a_copy_loses_its_mark` stands for all', lambda f, clause: f.name in ('try_copy', 'to_data')),
     ('after a refusal nothing has changed: `topo_core/a_refused_change_dirties` stands for all',
      lambda f, clause: clause in ('err', 'kept', 'same', 'uncounted', 'no_memory', 'errors_kept', 'dirt_kept')),
