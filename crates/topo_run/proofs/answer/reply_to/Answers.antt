@@ -12,7 +12,8 @@ returns-in_ok-reply-in-Ok c =
 pub returns-in-Err-Refused : goal.returns-in-Err-Refused
 returns-in-Err-Refused c =
     let law = c.headline_law.ensures in
-    refuses c.args.world.now c.args.line.now c.in-Err-Refused.refusal law.ordered (keeps_by c.args.world.now c.args.world.now (λ k. k) (λ k. k)
+    refuses c.args.world.now c.args.line.now c.in-Err-Refused.refusal law.ordered (keeps_by c.args.world.now c.args.world.now (λ k.
+    k) (λ k. k)
     law.sound law.invariant)
     (λ d h. let no = c.in-Err-Refused.ensures.only d h in absurd cc) (fault_of c.args.line.now c.in-Err-Refused.field-0
     c.in-Err-Refused.refusal c.in-Err-Refused.field-0-is c.in-Err-Refused.ensures.refused)
