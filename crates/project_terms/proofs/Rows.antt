@@ -173,5 +173,6 @@ two_spaces = refl
 carriage_return : line_verdict Unwritten behind_features (fields (codes "end" ++ 13 ∷ [])) ≡ Err cause.Form
 carriage_return = refl
 
-handle_not_given : line_verdict (Written (square (pos 0) (pos 10))) behind_features (fields (codes "feature 3 lot POINT (0 0)")) ≡ Err cause.Range
+handle_not_given : line_verdict (Written (square (pos 0) (pos 10))) behind_features (fields (codes "feature 3 lot POINT (0 0)")) ≡ Err
+    cause.Range
 handle_not_given = refl

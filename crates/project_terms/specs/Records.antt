@@ -1,13 +1,13 @@
 -- The projects that a text can say.
 --
 -- IsRecord p        the next handle is from 1 to 4,294,967,295; at most 64 classes, each of a name, no two of one name; rules by number,
---                   from 1 to 256,
---                   each of classes that fit it, no two alike; features by handle, below the next one, each of a class of its kind, with a
---                   shape that is valid; dirty rectangles of the grid, of which none lies in another; errors by key
+--                   from 1 to 256, each of classes that fit it, no two alike; features by handle, below the next one, each of a class of
+--                   its kind, with a shape that is valid; dirty rectangles of the grid, of which none lies in another; errors by key
 -- IsNumbered q, IsPlaced p f, IsError p e      what holds of each rule, feature and error
 --
 -- An error may have a subject that is not live, cells without a point or without bound, and any frame. Its rule is in force, its subject
--- and its partner were given, it has cells exactly if it is not of the whole subject, and each cell has a half-plane. Source: own.
+-- and its partner were given, it has cells exactly if it is not of the whole subject, and each cell has a half-plane. The written form of
+-- a valid shape is always within the limit of a line's shape. Source: own.
 use Rattle.std.specs.Prelude.{◌≡◌, ◌≢◌, ◌<◌, ◌≤◌, true, false, [], length, Some}
 use Rattle.plane_terms.specs.Lists.{Every, EveryPair}
 use Rattle.plane_terms.specs.Rectangle.{IsRectangle}
@@ -15,7 +15,6 @@ use Rattle.plane_terms.specs.HalfPlane.{IsHalfPlane}
 use Rattle.plane_terms.specs.Dirt.{IsLoose}
 use Rattle.plane_terms.specs.Shape.{IsShape}
 use Rattle.text_terms.specs.Fields.{is_name}
-use Rattle.wkt_terms.specs.Shapes.{shape_text}
 use Rattle.topology_terms.specs.Feature.{Class, Feature}
 use Rattle.topology_terms.specs.Broken.{Row}
 use Rattle.topology_terms.specs.Entry.{Entry}
@@ -33,8 +32,6 @@ pub record IsPlaced (p : Project) (f : Feature) : Type 0 where
   pub given : f.handle < p.next
   pub kind : kind_of_class p.classes f.class ≡ Some f.shape.kind
   pub shape : IsShape f.shape
-  -- as the written form of every shape is
-  pub short : length (shape_text f.shape) ≤ 1048576
 
 pub record IsError (p : Project) (e : Entry) : Type 0 where
   pub from_1 : 1 ≤ e.subject

@@ -1,18 +1,20 @@
 -- The text of a project: what it says, or its first wrong line.
 --
--- IsProjectText t p     t is the text of the project p, which a text can say: the grammar, both ways. A project has one text
+-- IsProjectText t p     t is the text of the project p, which a text can say: the grammar, both ways. A project has one text, and a text
+--                       one project
 -- IsReading t r         r is what comes of the text t of a shape
--- IsVerdict d l v       v is the verdict on the line l behind the draft d
+-- IsLineVerdict d fs v  v is the verdict on a line of these fields behind the draft d
+-- IsVerdict d l v       the same, on the line l
 -- IsInner l             no LF is in l
 -- ended l               the line with its LF
 -- AreRead d ls e        of the lines ls each is right in its turn, and they bring the draft d to e
 -- IsRead t p            all lines of the text are right, the last is the end, and they say the project p
 -- IsWrong d rest c      what comes next behind the draft d is wrong: something stands behind the end; or the text ends before the next
---                       line or
---                       within it; or the line is wrong, for the cause c
+--                       line or within it; or the line is wrong, for the cause c
 -- IsFault t n c         the line n, counted from 1, is the first that is wrong, and c is its first cause
 --
--- `IsProjectText` waits for the reader of projects, which answers a project exactly of such a text. Source: own.
+-- `IsProjectText` says what a text means by how it is written, `IsRead` by how it is read, line by line: the reader of projects proves
+-- them the same. Source: own.
 use Rattle.std.specs.Prelude.{ℕ, ◌≡◌, ◌≢◌, ◌+◌, ◌<◌, ◌≤◌, ◌⊎◌, ◌==◌, Bool, true, not, List, [], ◌∷◌, ◌++◌, length, flat_map, Ok, Err, IfSome}
 use Rattle.std.specs.List.{list_all}
 use Rattle.plane_terms.specs.Lists.{Every}
@@ -61,8 +63,11 @@ IsReading t (Written s) = IsWritten t s × ((u : Shape) → IsShapeText t u → 
 
 -- ---- lines
 
+abbrev pub IsLineVerdict : Draft → List (List ℕ) → Verdict → Type 0
+IsLineVerdict d fs v = (r : WktReading) × IfSome (wkt_of d fs) (λ t. IsReading t r) × (v ≡ line_verdict r d fs)
+
 abbrev pub IsVerdict : Draft → List ℕ → Verdict → Type 0
-IsVerdict d l v = (r : WktReading) × IfSome (wkt_of d (fields l)) (λ t. IsReading t r) × (v ≡ line_verdict r d (fields l))
+IsVerdict d l v = IsLineVerdict d (fields l) v
 
 abbrev pub is_inner : ℕ → Bool
 is_inner b = not (b == 10)

@@ -1,5 +1,5 @@
 -- A rectangle that is nested with none of the dirt goes to its end.
-use Rattle.std.proofs.Common.{◌≡◌, Bool, true, false, ◌||◌, not, List, [], ◌∷◌, ◌++◌, refl, ap}
+use Rattle.std.proofs.Common.{◌≡◌, false, not, List, [], ◌∷◌, ◌++◌, refl, ap}
 use Rattle.std.specs.List.{list_any, filter}
 use Rattle.std.proofs.lemmas.Bool.{or_parts}
 use Rattle.plane_terms.specs.Rectangle.{Rectangle, is_within}

@@ -1,6 +1,5 @@
 -- A feature above all others goes to the end of the list.
-use Rattle.std.proofs.Common.{ℕ, ◌≡◌, ◌<◌, List, [], ◌∷◌, ◌++◌, Some, None, sym, ◌∙◌, inl, inr, arith}
-use Rattle.plane_terms.specs.Lists.{Every}
+use Rattle.std.proofs.Common.{ℕ, ◌≡◌, ◌<◌, List, [], ◌∷◌, ◌++◌, Some, None, sym, ◌∙◌, inl, inr}
 use Rattle.topology_terms.specs.Feature.{Feature, by_handle, feature_at, IsSetAt, IsAscending}
 use Rattle.sound_laws.proofs.Keyed as keyed
 use Rattle.sound_laws.proofs.Edits.{same_or_not}
@@ -26,7 +25,8 @@ pub put_last : (F G : List Feature) (f : Feature) → IsAscending F → IsAscend
     → IsSetAt f.handle (Some f) F G → G ≡ F ++ f ∷ []
 put_last F G f a b l set =
     let made = set_end F f (none_yet F f.handle a l) in
-    same_features G (F ++ f ∷ []) b (keyed.ascending_last by_handle handles F f a (all_below handle F f.handle a l)) (λ k. elim (same_or_not k f.handle) [
+    same_features G (F ++ f ∷ []) b (keyed.ascending_last by_handle handles F f a (all_below handle F f.handle a l))
+    (λ k. elim (same_or_not k f.handle) [
       | inl e ↦ rw e (set.here ∙ sym made.here)
       | inr n ↦ set.others k n ∙ sym (made.others k n)
     ])

@@ -95,7 +95,8 @@ joined_from : (before t : List ℕ) → joined (fields_from before t) ≡ before
 joined_from before [] = sym (append-nil before)
 joined_from before (b ∷ bs) = by (b == 32) refl (joined_from [] bs) (joined_from (before ++ b ∷ []) bs)
   where
-    by : (y : Bool) → (b == 32) ≡ y → joined (fields_from [] bs) ≡ bs → joined (fields_from (before ++ b ∷ []) bs) ≡ (before ++ b ∷ []) ++ bs
+    by : (y : Bool) → (b == 32) ≡ y → joined (fields_from [] bs) ≡ bs
+        → joined (fields_from (before ++ b ∷ []) bs) ≡ (before ++ b ∷ []) ++ bs
         → joined (if y then before ∷ fields_from [] bs else fields_from (before ++ b ∷ []) bs) ≡ before ++ b ∷ bs
     by true e rest on =
         let space : b ≡ 32 = grind (arith, nat_tests) in
@@ -113,7 +114,8 @@ pub feature_unnumbered : (h n t : List ℕ) (fs : List (List ℕ)) → fs ≡ fi
 feature_unnumbered h n t [] e m = refl
 feature_unnumbered h n t (f ∷ fs) e m = by (is_name n)
   where
-    by : (y : Bool) → (if y then option_map {U = FeatureForm} (λ (z : ℤ). record { handle = z; class = n; wkt = joined (f ∷ fs) }) (number h) else None) ≡ None
+    by : (y : Bool) → (if y then option_map {U = FeatureForm} (λ (z : ℤ). record { handle = z; class = n; wkt = joined (f ∷ fs) })
+        (number h) else None) ≡ None
     by true = rw m refl
     by false = refl
 
@@ -148,7 +150,8 @@ pub half_right : (a b c w : List ℕ) (fs : List (List ℕ)) (h : HalfForm) → 
     → halves_behind hs true (a ∷ b ∷ c ∷ w ∷ fs) ≡ halves_behind (hs ++ h.half ∷ []) h.more fs
 half_right a b c w fs h e hs = rw e refl
 
-pub half_said : (a b c w : List ℕ) (x y z : ℤ) (o : Op) (m : Bool) → number a ≡ Some x → number b ≡ Some y → number c ≡ Some z → op_of w ≡ Some (o, m)
+pub half_said : (a b c w : List ℕ) (x y z : ℤ) (o : Op) (m : Bool) → number a ≡ Some x → number b ≡ Some y → number c ≡ Some z
+    → op_of w ≡ Some (o, m)
     → half_of a b c w ≡ Some (record { half = record { a = x; b = y; c = z; op = o }; more = m })
 half_said a b c w x y z o m h i j k = rw (h, i, j, k) refl
 
@@ -187,7 +190,8 @@ rect_first a b c d h = rw h refl
 pub rect_second : (a b c d : List ℕ) (x : ℤ) → number a ≡ Some x → number b ≡ None → rect_of (a ∷ b ∷ c ∷ d ∷ []) ≡ None
 rect_second a b c d x h i = rw (h, i) refl
 
-pub rect_third : (a b c d : List ℕ) (x y : ℤ) → number a ≡ Some x → number b ≡ Some y → number c ≡ None → rect_of (a ∷ b ∷ c ∷ d ∷ []) ≡ None
+pub rect_third : (a b c d : List ℕ) (x y : ℤ) → number a ≡ Some x → number b ≡ Some y → number c ≡ None
+    → rect_of (a ∷ b ∷ c ∷ d ∷ []) ≡ None
 rect_third a b c d x y h i j = rw (h, i, j) refl
 
 pub rect_fourth : (a b c d : List ℕ) (x y z : ℤ) → number a ≡ Some x → number b ≡ Some y → number c ≡ Some z → number d ≡ None
@@ -202,7 +206,8 @@ rect_found a b c d x y z w h i j k = rw (h, i, j, k) refl
 pub error_first : (r a b w : List ℕ) (fs : List (List ℕ)) → number r ≡ None → error_of (r ∷ a ∷ b ∷ w ∷ fs) ≡ None
 error_first r a b w fs h = rw h refl
 
-pub error_second : (r a b w : List ℕ) (fs : List (List ℕ)) (x : ℤ) → number r ≡ Some x → number a ≡ None → error_of (r ∷ a ∷ b ∷ w ∷ fs) ≡ None
+pub error_second : (r a b w : List ℕ) (fs : List (List ℕ)) (x : ℤ) → number r ≡ Some x → number a ≡ None
+    → error_of (r ∷ a ∷ b ∷ w ∷ fs) ≡ None
 error_second r a b w fs x h i = rw (h, i) refl
 
 pub error_third : (r a b w : List ℕ) (fs : List (List ℕ)) (x y : ℤ) → number r ≡ Some x → number a ≡ Some y → number b ≡ None
@@ -233,7 +238,8 @@ counted_small digits = by (nat_le (value_of digits) 1125899906842624) refl
 neg_small : (n : ℕ) → n ≤ 1125899906842624 → unsigned_abs (neg_ℤ (pos n)) ≤ 1125899906842624
 neg_small n h = omega (arith, ints)
 
-at_some : (b : Bool) (x z : ℤ) → Some z ≡ (if b then Some x else None) → unsigned_abs x ≤ 1125899906842624 → unsigned_abs z ≤ 1125899906842624
+at_some : (b : Bool) (x z : ℤ) → Some z ≡ (if b then Some x else None) → unsigned_abs x ≤ 1125899906842624
+    → unsigned_abs z ≤ 1125899906842624
 at_some true x z e h = let s : x ≡ z = cc in subst (λ (y : ℤ). unsigned_abs y ≤ 1125899906842624) s h
 at_some false x z e h = absurd cc
 
@@ -269,9 +275,11 @@ no_rule w h = by (first_of_word w all_rules) (has_word w all_rules)
 
 pub rule_unworded_at : (ls ms ns fs : List (List ℕ)) (f w n : List ℕ) (z : ℤ) → ls ≡ f ∷ ms → ms ≡ w ∷ ns → ns ≡ n ∷ fs → Some z ≡ number f
     → ((k : RuleKind) → word_of k ≡ w → None ≡ Some k) → rule_of ls ≡ None
-rule_unworded_at ls ms ns fs f w n z h i j k l = ap rule_of (h ∙ ap (λ x. f ∷ x) (i ∙ ap (λ x. w ∷ x) j)) ∙ rule_unworded f w n fs z (sym k) (no_rule w l)
+rule_unworded_at ls ms ns fs f w n z h i j k l = ap rule_of (h ∙ ap (λ x. f ∷ x) (i ∙ ap (λ x. w ∷ x) j))
+    ∙ rule_unworded f w n fs z (sym k) (no_rule w l)
 
-pub half_said_at : (ls ms ns os fs : List (List ℕ)) (a b c w : List ℕ) (x y z : ℤ) (o : Op) (m : Bool) → ls ≡ a ∷ ms → ms ≡ b ∷ ns → ns ≡ c ∷ os
+pub half_said_at : (ls ms ns os fs : List (List ℕ)) (a b c w : List ℕ) (x y z : ℤ) (o : Op) (m : Bool) → ls ≡ a ∷ ms → ms ≡ b ∷ ns
+    → ns ≡ c ∷ os
     → os ≡ w ∷ fs → Some x ≡ number a → Some y ≡ number b → Some z ≡ number c → Some (o, m) ≡ op_of w → (hs : List HalfPlane)
     → halves_behind hs true ls ≡ halves_behind (hs ++ record { a = x; b = y; c = z; op = o } ∷ []) m fs
 half_said_at ls ms ns os fs a b c w x y z o m h i j k p q r s hs =

@@ -23,7 +23,7 @@ pub begun : (rest : List ℕ) (halves : List HalfPlane) → halves ≡ [] → Ha
 begun rest halves e = record { all = []; behind = refl; right = λ t. (e, refl); wrong = λ t. absurd cc }
 
 -- ---- half-planes within their limits
-is_true : (h : HalfPlane) → IsHalfPlane h → is_half h ≡ true
+pub is_true : (h : HalfPlane) → IsHalfPlane h → is_half h ≡ true
 is_true h v =
     let a : nat_le (unsigned_abs h.a) 8388608 ≡ true = grind (arith, nat_tests, v.a_fits) in
     let b : nat_le (unsigned_abs h.b) 8388608 ≡ true = grind (arith, nat_tests, v.b_fits) in
@@ -62,8 +62,10 @@ put_wrong hs h b = list_all-append is_half hs (h ∷ []) ∙ by (list_all is_hal
 put_behind : (hs : List HalfPlane) (h : HalfPlane) → list_all is_half hs ≡ false → list_all is_half (hs ++ h ∷ []) ≡ false
 put_behind hs h a = list_all-append is_half hs (h ∷ []) ∙ rw a refl
 
-pub one_more : (fs : List (List ℕ)) (halves made : List HalfPlane) (within : Bool) (rest : List ℕ) (f : HalfForm) (h : HalfPlane) → HalvesRead fs halves within true rest
-    → IsHalfForm (left rest) f → h ≡ half_said f → IsHalfPlane (half_said f) → made ≡ halves ++ h ∷ [] → HalvesRead fs made within f.more f.rest.now
+pub one_more : (fs : List (List ℕ)) (halves made : List HalfPlane) (within : Bool) (rest : List ℕ) (f : HalfForm) (h : HalfPlane)
+    → HalvesRead fs halves within true rest
+    → IsHalfForm (left rest) f → h ≡ half_said f → IsHalfPlane (half_said f) → made ≡ halves ++ h ∷ []
+    → HalvesRead fs made within f.more f.rest.now
 one_more fs halves made within rest f h r form same valid put = record {
   all = r.all ++ half_said f ∷ [];
   behind = r.behind ∙ form r.all;
@@ -74,7 +76,8 @@ one_more fs halves made within rest f h r form same valid put = record {
   wrong = λ t. put_behind r.all (half_said f) (r.wrong t);
 }
 
-pub one_wrong : (fs : List (List ℕ)) (halves : List HalfPlane) (within : Bool) (rest : List ℕ) (f : HalfForm) → HalvesRead fs halves within true rest
+pub one_wrong : (fs : List (List ℕ)) (halves : List HalfPlane) (within : Bool) (rest : List ℕ) (f : HalfForm)
+    → HalvesRead fs halves within true rest
     → IsHalfForm (left rest) f → (IsHalfPlane (half_said f) → ⊥) → HalvesRead fs halves false f.more f.rest.now
 one_wrong fs halves within rest f r form outside = record {
   all = r.all ++ half_said f ∷ [];
@@ -84,7 +87,8 @@ one_wrong fs halves within rest f r form outside = record {
 }
 
 -- ---- the end
-pub none_more : (fs : List (List ℕ)) (halves : List HalfPlane) (within : Bool) (rest : List ℕ) → HalvesRead fs halves within true rest → IsNoHalf (left rest)
+pub none_more : (fs : List (List ℕ)) (halves : List HalfPlane) (within : Bool) (rest : List ℕ) → HalvesRead fs halves within true rest
+    → IsNoHalf (left rest)
     → cell_of fs ≡ None
 none_more fs halves within rest r lacks = r.behind ∙ lacks r.all
 
@@ -103,19 +107,25 @@ pub not_empty : (rest : List ℕ) (b : Bool) → b ≡ (length rest == 0) → b 
 not_empty [] b h g e = false≢true (sym g ∙ h)
 not_empty (x ∷ xs) b h g e = absurd cc
 
-pub longer : (fs : List (List ℕ)) (halves : List HalfPlane) (within : Bool) (rest : List ℕ) → HalvesRead fs halves within false rest → rest ≢ []
+pub longer : (fs : List (List ℕ)) (halves : List HalfPlane) (within : Bool) (rest : List ℕ) → HalvesRead fs halves within false rest
+    → rest ≢ []
     → cell_of fs ≡ None
 longer fs halves within rest r some = r.behind ∙ too_many r.all (left rest) (left_some rest some)
 
-ended : (fs : List (List ℕ)) (halves : List HalfPlane) (within : Bool) (rest : List ℕ) (r : HalvesRead fs halves within false rest) → rest ≡ [] → cell_of fs ≡ Some r.all
+ended : (fs : List (List ℕ)) (halves : List HalfPlane) (within : Bool) (rest : List ℕ) (r : HalvesRead fs halves within false rest)
+    → rest ≡ [] → cell_of fs ≡ Some r.all
 ended fs halves within rest r none = r.behind ∙ ap (λ (t : List ℕ). halves_behind r.all false (left t)) none
 
-pub beyond : (fs : List (List ℕ)) (halves : List HalfPlane) (within : Bool) (rest : List ℕ) → HalvesRead fs halves within false rest → rest ≡ [] → within ≡ false
+pub beyond : (fs : List (List ℕ)) (halves : List HalfPlane) (within : Bool) (rest : List ℕ) → HalvesRead fs halves within false rest
+    → rest ≡ [] → within ≡ false
     → (made : Cell) × (cell_of fs ≡ Some made) × (list_all is_half made ≡ false)
 beyond fs halves within rest r none out = (r.all, ended fs halves within rest r none, r.wrong out)
 
-pub whole : (fs : List (List ℕ)) (halves : List HalfPlane) (within : Bool) (rest : List ℕ) → HalvesRead fs halves within false rest → rest ≡ [] → within ≡ true
+pub whole : (fs : List (List ℕ)) (halves : List HalfPlane) (within : Bool) (rest : List ℕ) → HalvesRead fs halves within false rest
+    → rest ≡ [] → within ≡ true
     → (cell_of fs ≡ Some halves) × (list_all is_half halves ≡ true)
 whole fs halves within rest r none out =
-    let k = r.right out in
-    (ended fs halves within rest r none ∙ ap (λ (hs : List HalfPlane). Some hs) (sym k.0), subst (λ (hs : List HalfPlane). list_all is_half hs ≡ true) (sym k.0) k.1)
+    let k = r.right out in (
+      ended fs halves within rest r none ∙ ap (λ (hs : List HalfPlane). Some hs) (sym k.0),
+      subst (λ (hs : List HalfPlane). list_all is_half hs ≡ true) (sym k.0) k.1,
+    )

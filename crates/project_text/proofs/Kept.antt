@@ -1,32 +1,22 @@
--- What is read is a record: each draft is one, as far as it goes.
---
--- MayStand a s       a line of the stage s may stand behind the stage a
--- AreStaged s p      what lines of a later stage alone say is not there yet
--- AreClasses, AreRules, AreFeatures, AreDirt, AreErrors     what holds of each section
--- IsStarted p e      what holds of an error whose cells are to come; AreFilled es: only the last lacks them
--- IsKept d           the draft keeps all that
-use Rattle.std.proofs.Common.{ℕ, ℤ, ◌≡◌, ◌≢◌, ◌<◌, ◌≤◌, ◌-◌, ◌==◌, ltb, nat_le, Bool, true, false, ◌&&◌, ◌||◌, not, List, [], ◌∷◌, ◌++◌, length, Option, Some, None, Ok, Err, refl, sym, ap, subst, ◌∙◌, arith}
+-- What is read is a record: each line keeps what a draft keeps of it.
+use Rattle.std.proofs.Common.{ℕ, ℤ, ◌≡◌, ◌≢◌, ◌<◌, ◌≤◌, ◌-◌, ◌==◌, ltb, Bool, true, false, ◌&&◌, ◌||◌, not, List, [], ◌∷◌, ◌++◌, length, Option, Some, None, Ok, Err, refl, sym, ap, subst, arith}
 use Rattle.std.specs.Prelude.{IfOk, IfSome, is_some, codes}
 use Rattle.std.specs.List.{list_all, list_any}
 use Rattle.std.proofs.lemmas.Bool.{not-true, not-false, and_parts, or_parts}
 use Rattle.std.proofs.lemmas.Bool.Decides.{nat_tests}
 use Rattle.plane_terms.proofs.ListLemmas.{every_map}
-use Rattle.plane_terms.specs.Lists.{Every, EveryPair}
+use Rattle.plane_terms.specs.Lists.{Every}
 use Rattle.plane_terms.specs.Rectangle.{Rectangle, IsRectangle, is_within}
 use Rattle.plane_terms.specs.HalfPlane.{IsHalfPlane}
 use Rattle.plane_terms.specs.Cell.{Cell}
-use Rattle.plane_terms.specs.Dirt.{IsLoose, AreLoose}
-use Rattle.plane_terms.specs.Shape.{Shape}
+use Rattle.plane_terms.specs.Dirt.{AreLoose}
 use Rattle.text_terms.specs.Fields.{is_name}
-use Rattle.wkt_terms.specs.Shapes.{shape_text}
 use Rattle.topology_terms.specs.Broken.{Row}
 use Rattle.topology_terms.specs.Feature.{Class, Feature}
-use Rattle.topology_terms.specs.Feature as features
 use Rattle.topology_terms.specs.Entry.{Entry, key_of}
-use Rattle.topology_terms.specs.Entry as entries
 use Rattle.topology_terms.specs.Lookups.{number_from, kind_of_class}
 use Rattle.topology_terms.specs.Causes.{is_kind, is_fit, is_row, is_there}
-use Rattle.topology_terms.specs.Project.{Project, InForce, rule_at, AreAscending, empty_project}
+use Rattle.topology_terms.specs.Project.{Project, InForce, rule_at}
 use Rattle.feature_store.specs.Keeps.{IsStore}
 use Rattle.feature_store.proofs.Keeping.{none_of}
 use Rattle.feature_store.proofs.Keeping as store
@@ -39,146 +29,14 @@ use Rattle.project_terms.specs.Drafts.{Draft, start, rank, may_follow, is_open, 
 use Rattle.project_terms.specs.Verdicts.{Verdict, WktReading, Unwritten, Refused, Written, RuleForm, FeatureForm, ErrorForm, is_one, is_none, number_of, class_of, rule_of, row_of, feature_of, rect_of, error_of, cell_of, next_verdict, next_numbered, class_verdict, rule_verdict, rule_numbered, rule_in, feature_verdict, feature_numbered, feature_in, are_nested, dirty_verdict, error_verdict, error_in, error_ruled, with_error, cell_verdict, line_verdict, wkt_of}
 use Rattle.project_terms.specs.Texts.{AreRead, IsVerdict, IsReading, IsRead}
 use Rattle.project_text.proofs.Ends.{every_end, pairs_end, none_pass, ascending_end}
-use Rattle.project_text.proofs.Spelled.{class_said, IsCellLine, cell_said}
+use Rattle.project_text.proofs.Spelled.{class_said, cell_said}
 use Rattle.project_text.proofs.Named.{natural_said, kind_there, row_said}
 use Rattle.project_text.proofs.Halves.{is_valid}
 use Rattle.project_text.proofs.Rects.{rectangle_there}
 use Rattle.project_text.proofs.LineCases.{line_by, at_ok, judged_ok, said_ok, if_ok}
 use Rattle.project_text.proofs.Sound.{open_next}
 use Rattle.project_text.proofs.Sound as sound
-
--- ---- stages
-pub record MayStand (a s : Stage) : Type 0 where
-  pub up : rank a ≤ rank s
-  pub begun : 3 ≤ rank s → 2 ≤ rank a
-  pub on : rank a ≤ 7
-
-in_section : (a s : Stage) → 2 ≤ rank a → rank a ≤ 7 → (nat_le 3 (rank s) && nat_le (rank a) (rank s)) ≡ true → MayStand a s
-in_section a s some on h =
-    let b = and_parts (nat_le 3 (rank s)) (nat_le (rank a) (rank s)) h in
-    record { up = grind (arith, nat_tests, b.1); begun = λ e. some; on = on }
-
-pub may_stand : (a s : Stage) → may_follow a s ≡ true → MayStand a s
-may_stand stage.Start s h =
-    let e : rank s ≡ 1 = grind (arith, nat_tests, h) in
-    record { up = omega (arith, e); begun = λ k. absurd (omega (arith, e, k)); on = omega arith }
-may_stand stage.Title s h =
-    let e : rank s ≡ 2 = grind (arith, nat_tests, h) in
-    record { up = omega (arith, e); begun = λ k. absurd (omega (arith, e, k)); on = omega arith }
-may_stand stage.Next s h = in_section stage.Next s (omega arith) (omega arith) h
-may_stand stage.Classes s h = in_section stage.Classes s (omega arith) (omega arith) h
-may_stand stage.Rules s h = in_section stage.Rules s (omega arith) (omega arith) h
-may_stand stage.Features s h = in_section stage.Features s (omega arith) (omega arith) h
-may_stand stage.Dirt s h = in_section stage.Dirt s (omega arith) (omega arith) h
-may_stand stage.Errors s h = in_section stage.Errors s (omega arith) (omega arith) h
-may_stand stage.End s h = absurd cc
-
-pub opened : (s : Stage) (d : Draft) → is_open s d ≡ true → MayStand d.stage s × (wants_cell d.project.entries ≡ false)
-opened s d o =
-    let b = and_parts (may_follow d.stage s) (not (wants_cell d.project.entries)) o in
-    (may_stand d.stage s b.0, not-true (wants_cell d.project.entries) b.1)
-
-pub record AreStaged (s : Stage) (p : Project) : Type 0 where
-  pub next : 2 ≤ rank s → (1 ≤ p.next) × (p.next ≤ 4294967295)
-  pub classes : rank s ≤ 2 → p.classes ≡ []
-  pub rules : rank s ≤ 3 → p.rules ≡ []
-  pub features : rank s ≤ 4 → p.features ≡ []
-  pub dirt : rank s ≤ 5 → p.dirt ≡ []
-  pub entries : rank s ≤ 6 → p.entries ≡ []
-
-restaged : (a s : Stage) (p : Project) → MayStand a s → rank s ≢ 2 → AreStaged a p → AreStaged s p
-restaged a s p m n h = record {
-  next = λ e. h.next (m.begun (omega (arith, n, e)));
-  classes = λ e. h.classes (omega (arith, m.up, e));
-  rules = λ e. h.rules (omega (arith, m.up, e));
-  features = λ e. h.features (omega (arith, m.up, e));
-  dirt = λ e. h.dirt (omega (arith, m.up, e));
-  entries = λ e. h.entries (omega (arith, m.up, e));
-}
-
--- ---- sections
-pub record AreClasses (cs : List Class) : Type 0 where
-  pub few : length cs ≤ 64
-  pub names : Every (λ (c : Class). is_name c.name ≡ true) cs
-  pub unlike : EveryPair (λ (c d : Class). c.name ≢ d.name) cs
-
-pub record AreRules (cs : List Class) (rs : List InForce) : Type 0 where
-  pub numbers : Every IsNumbered rs
-  pub ascending : AreAscending rs
-  pub fit : Every (λ (q : InForce). is_fit cs q.row ≡ true) rs
-  pub apart : EveryPair (λ (q r : InForce). is_row q.row r.row ≡ false) rs
-
-pub record AreFeatures (p : Project) (F : List Feature) : Type 0 where
-  pub placed : Every (IsPlaced p) F
-  pub ascending : features.IsAscending F
-
-pub record AreDirt (D : List Rectangle) : Type 0 where
-  pub rectangles : Every IsRectangle D
-  pub loose : IsLoose D
-
-pub record IsStarted (p : Project) (e : Entry) : Type 0 where
-  pub from_1 : 1 ≤ e.subject
-  pub given : e.subject < p.next
-  pub partner : e.other < p.next
-  pub frame : IsRectangle e.frame
-  pub whole : e.whole ≡ true → (e.other ≡ 0) × (e.cells ≡ [])
-  pub some : Every (λ (c : Cell). c ≢ []) e.cells
-  pub halves : Every (λ (c : Cell). Every IsHalfPlane c) e.cells
-  pub rule : (row : Row) × (rule_at p.rules e.rule ≡ Some row)
-  pub numbered : (1 ≤ e.rule) × (e.rule ≤ 256)
-
-abbrev pub HasCells : Entry → Type 0
-HasCells e = e.whole ≡ false → e.cells ≢ []
-
-abbrev pub AreFilled : List Entry → Type 0
-AreFilled [] = Unit {0}
-AreFilled (e ∷ []) = Unit {0}
-AreFilled (e ∷ f ∷ es) = HasCells e × AreFilled (f ∷ es)
-
-pub record AreErrors (p : Project) (es : List Entry) : Type 0 where
-  pub started : Every (IsStarted p) es
-  pub filled : AreFilled es
-  pub ascending : entries.IsAscending es
-
--- what features and errors look at
-abbrev pub head_of : Project → Project
-head_of p = record empty_project { classes = p.classes; rules = p.rules; next = p.next }
-
-pub record IsKept (d : Draft) : Type 0 where
-  pub staged : AreStaged d.stage d.project
-  pub classes : AreClasses d.project.classes
-  pub rules : AreRules d.project.classes d.project.rules
-  pub features : AreFeatures (head_of d.project) d.project.features
-  pub dirt : AreDirt d.project.dirt
-  pub errors : AreErrors (head_of d.project) d.project.entries
-  pub over : rank d.stage ≡ 8 → wants_cell d.project.entries ≡ false
-
-no_rules : (cs : List Class) (rs : List InForce) → rs ≡ [] → AreRules cs rs
-no_rules cs rs e = subst (AreRules cs) (sym e) (record { numbers = tt; ascending = tt; fit = tt; apart = tt })
-
-no_features : (p : Project) (F : List Feature) → F ≡ [] → AreFeatures p F
-no_features p F e = subst (AreFeatures p) (sym e) (record { placed = tt; ascending = tt })
-
-no_errors : (p : Project) (es : List Entry) → es ≡ [] → AreErrors p es
-no_errors p es e = subst (AreErrors p) (sym e) (record { started = tt; filled = tt; ascending = tt })
-
-pub start_kept : IsKept start
-start_kept = record {
-  staged = record {
-    next = λ e. absurd (omega (arith, e));
-    classes = λ e. refl;
-    rules = λ e. refl;
-    features = λ e. refl;
-    dirt = λ e. refl;
-    entries = λ e. refl;
-  };
-  classes = record { few = omega arith; names = tt; unlike = tt };
-  rules = no_rules [] [] refl;
-  features = no_features (head_of empty_project) [] refl;
-  dirt = record { rectangles = tt; loose = tt };
-  errors = no_errors (head_of empty_project) [] refl;
-  over = λ e. absurd (omega (arith, e));
-}
+use Rattle.project_text.proofs.Staged.{may_stand, opened, restaged, AreClasses, AreRules, IsStarted, HasCells, AreFilled, AreErrors, head_of, IsKept, no_rules, no_features, no_errors, start_kept}
 
 -- ---- lines that say nothing else
 said_kept : (s : Stage) (d : Draft) → IsKept d → is_open s d ≡ true → rank s ≢ 2 → IsKept (record d { stage = s })
@@ -227,7 +85,8 @@ next_kept d h o z = by (natural 1 4294967295 z) refl
         }
 
 -- ---- a class
-class_put : (cs : List Class) (c : Class) → AreClasses cs → is_name c.name ≡ true → (length cs == 64) ≡ false → number_from 1 cs c.name ≡ None
+class_put : (cs : List Class) (c : Class) → AreClasses cs → is_name c.name ≡ true → (length cs == 64) ≡ false
+    → number_from 1 cs c.name ≡ None
     → AreClasses (cs ++ c ∷ [])
 class_put cs c h name few free =
     let before : IsStore cs [] 1 = record {
@@ -278,7 +137,8 @@ rule_put cs rs q h n fit free =
       numbers = every_end IsNumbered rs q h.numbers n;
       ascending = ascending_end (λ (r : InForce). r.number) rs q h.ascending less;
       fit = every_end (λ (r : InForce). is_fit cs r.row ≡ true) rs q h.fit fit;
-      apart = pairs_end (λ (r s : InForce). is_row r.row s.row ≡ false) rs q h.apart (none_pass (λ (r : InForce). is_row r.row q.row) rs b.1);
+      apart = pairs_end (λ (r s : InForce). is_row r.row s.row ≡ false) rs q h.apart
+          (none_pass (λ (r : InForce). is_row r.row q.row) rs b.1);
     }
 
 rule_kept : (d : Draft) → IsKept d → is_open stage.Rules d ≡ true → (q : RuleForm) → IfOk (rule_verdict d q) IsKept
@@ -350,9 +210,6 @@ feature_kept d h o (Written s) f reading = numbered (natural 1 (d.project.next -
           over = λ n. absurd (omega (arith, n));
         }
 
-    short : length (shape_text s) ≤ 1048576
-    short = subst (λ (t : List ℕ). length t ≤ 1048576) reading.0.written reading.0.short
-
     of_class : (n : ℕ) → (1 ≤ n) × (n ≤ d.project.next - 1) → (c : Option ℕ) → IfOk (feature_in d n s c) IsKept
     of_class n b None = tt
     of_class n b (Some c) = if_ok (is_kind (kind_of_class d.project.classes c) s.kind) _ (Err cause.Unknown) IsKept
@@ -362,7 +219,6 @@ feature_kept d h o (Written s) f reading = numbered (natural 1 (d.project.next -
           given = omega (arith, b.0, b.1);
           kind = kind_there (kind_of_class d.project.classes c) s.kind e;
           shape = reading.0.says.valid;
-          short = short;
         }) k) (λ k. tt)) (λ e. tt)
 
     numbered : (n : Option ℕ) → natural 1 (d.project.next - 1) f.handle ≡ n → IfOk (feature_numbered d f s n) IsKept
@@ -434,7 +290,8 @@ is_zero : (w : Bool) (n : ℕ) → (w && not (n == 0)) ≡ false → w ≡ true 
 is_zero true n h e = grind (arith, nat_tests, not-false (n == 0) h)
 is_zero false n h e = absurd cc
 
-error_kept : (d : Draft) → IsKept d → is_open stage.Errors d ≡ true → (marked : Bool) (e : ErrorForm) → IfOk (error_verdict marked d e) IsKept
+error_kept : (d : Draft) → IsKept d → is_open stage.Errors d ≡ true → (marked : Bool) (e : ErrorForm)
+    → IfOk (error_verdict marked d e) IsKept
 error_kept d h o marked e =
     handled (natural 1 (d.project.next - 1) e.subject) refl (natural 0 (d.project.next - 1) e.other) refl
   where
@@ -583,7 +440,7 @@ read_kept (l ∷ ls) d e h (m, v, r) = read_kept ls m e (verdict_kept d m l h v)
 -- ---- the end
 all_placed : (p : Project) (F : List Feature) → Every (IsPlaced (head_of p)) F → Every (IsPlaced p) F
 all_placed p F h = every_map (IsPlaced (head_of p)) (IsPlaced p)
-    (λ f g. record { from_1 = g.from_1; given = g.given; kind = g.kind; shape = g.shape; short = g.short }) F h
+    (λ f g. record { from_1 = g.from_1; given = g.given; kind = g.kind; shape = g.shape }) F h
 
 all_errors : (p : Project) (es : List Entry) → Every (IsStarted (head_of p)) es → Every HasCells es → Every (IsError p) es
 all_errors p [] h k = tt

@@ -41,7 +41,8 @@ pub none_last : {A : Type 0} (xs : List A) → slice_get xs (length xs - 1) ≡ 
 none_last [] h = refl
 none_last (x ∷ xs) h = absurd (got x xs (length (x ∷ xs) - 1) (omega arith) h)
 
-pub last_number_at : {A : Type 0} (number : A → ℕ) (xs : List A) (x : A) → slice_get xs (length xs - 1) ≡ Some x → last_in number xs ≡ number x
+pub last_number_at : {A : Type 0} (number : A → ℕ) (xs : List A) (x : A) → slice_get xs (length xs - 1) ≡ Some x
+    → last_in number xs ≡ number x
 last_number_at number [] x h = absurd cc
 last_number_at number (y ∷ xs) x h = last_number number (y ∷ xs) (length (y ∷ xs) - 1) x (omega arith) h
 
@@ -50,7 +51,8 @@ last_entry_at [] e h = absurd cc
 last_entry_at (f ∷ es) e h = last_entry (f ∷ es) (length (f ∷ es) - 1) e (omega arith) h
 
 -- a cell put to the last error
-pub cell_set : (es : List Entry) (k : ℕ) (e f : Entry) (c : Cell) → k + 1 ≡ length es → e ≡ get_or es k e → f ≡ record e { cells = e.cells ++ c ∷ [] }
+pub cell_set : (es : List Entry) (k : ℕ) (e f : Entry) (c : Cell) → k + 1 ≡ length es → e ≡ get_or es k e
+    → f ≡ record e { cells = e.cells ++ c ∷ [] }
     → set es k f ≡ with_cell es c
 cell_set [] k e f c n h m = absurd (omega arith)
 cell_set (g ∷ []) zero e f c n h m = ap (λ (x : Entry). x ∷ []) m ∙ ap (λ (x : Entry). record x { cells = x.cells ++ c ∷ [] } ∷ []) h
@@ -66,10 +68,12 @@ bare : (cs : List Cell) → (length cs == 0) ≡ is_bare cs
 bare [] = refl
 bare (c ∷ cs) = grind (arith, nat_tests)
 
-pub wants_else : (es : List Entry) (e : Entry) → slice_get es (length es - 1) ≡ Some e → (w : Bool) → w ≡ e.whole → not w ≡ false → not w ≡ wants_cell es
+pub wants_else : (es : List Entry) (e : Entry) → slice_get es (length es - 1) ≡ Some e → (w : Bool) → w ≡ e.whole → not w ≡ false
+    → not w ≡ wants_cell es
 wants_else es e h w k n = let i = last_entry_at es e h in n ∙ sym (i.wants ∙ ap (λ b. b && is_bare e.cells) (sym (ap not k) ∙ n))
 
-pub wants_then : (es : List Entry) (e : Entry) → slice_get es (length es - 1) ≡ Some e → (w : Bool) → w ≡ e.whole → not w ≡ true → (n : ℕ) → n ≡ length e.cells
+pub wants_then : (es : List Entry) (e : Entry) → slice_get es (length es - 1) ≡ Some e → (w : Bool) → w ≡ e.whole → not w ≡ true → (n : ℕ)
+    → n ≡ length e.cells
     → (n == 0) ≡ wants_cell es
 wants_then es e h w k t n m =
     let i = last_entry_at es e h in

@@ -19,4 +19,16 @@ pub mod FeatureLines
 pub mod Ends
 pub mod Spelled
 pub mod Named
+pub mod Staged
 pub mod Kept
+pub mod LinesTo
+pub mod OneSpelling
+pub mod Bytes
+pub mod Short
+pub mod Standing
+pub mod ByName
+pub mod SectionsAgain
+pub mod ErrorsAgain
+pub mod InLine
+pub mod Again
+pub mod Grammar

@@ -3,6 +3,7 @@ use Rattle.std.proofs.Common.{ℕ, ℤ, pos, negsuc, suc, zero, ◌≡◌, ◌�
 use Rattle.std.specs.Prelude.{neg_ℤ, unsigned_abs}
 use Rattle.std.specs.List.{list_all}
 use Rattle.std.specs.Fmt.{decimal, signed_decimal}
+use Rattle.std.proofs.lemmas.Bool.{or_right}
 use Rattle.std.proofs.lemmas.Bool.Decides.{nat_tests}
 use Rattle.std.proofs.lemmas.Fmt.{digits_decimal, digits_value-decimal, decimal_digit, first_decimal, decimal-digits_value}
 use Rattle.text_terms.specs.Fields.{is_digit}
@@ -28,10 +29,6 @@ counted_value ds n e l = let k : nat_le (value_of ds) 1125899906842624 ≡ true 
 counted_decimal : (n : ℕ) → n ≤ 1125899906842624 → counted (decimal n) ≡ n
 counted_decimal n l = let wide : n < 2 ^ 64 = omega arith in counted_value (decimal n) n (digits_value-decimal own n wide) l
 
-or_right : (a b : Bool) → b ≡ true → (a || b) ≡ true
-or_right true b h = refl
-or_right false b h = h
-
 digits_read : (ds : List ℕ) (n : ℕ) → list_all is_digit ds ≡ true → spelled ds ≡ true → counted ds ≡ n → number ds ≡ Some (pos n)
 digits_read [] n h s c = absurd cc
 digits_read (d ∷ ds) n h s c =
@@ -44,7 +41,8 @@ natural_read (suc n) l =
     let wide : suc n < 2 ^ 64 = omega arith in
     let some : 0 < suc n = omega arith in
     digits_read (decimal (suc n)) (suc n) (digits_decimal own (suc n) wide)
-    (or_right (is_nought (decimal (suc n))) (is_positive (decimal (suc n))) (decimal_positive (suc n) some wide)) (counted_decimal (suc n) l)
+    (or_right (is_nought (decimal (suc n))) (is_positive (decimal (suc n))) (decimal_positive (suc n) some wide))
+    (counted_decimal (suc n) l)
 
 pub signed_read : (z : ℤ) → unsigned_abs z ≤ 1125899906842624 → number (signed_decimal z) ≡ Some z
 signed_read (pos n) l = natural_read n l
@@ -72,7 +70,8 @@ positive_digits (d ∷ ds) h = by (nat_le 49 d && nat_le d 57) refl h
 
 decimal_of : (ds : List ℕ) (n : ℕ) → is_positive ds ≡ true → value_of ds ≡ n → n < 2 ^ 64 → decimal n ≡ ds
 decimal_of ds n h v wide =
-    rw (← v) (decimal-digits_value own ds (positive_digits ds h) (positive_some ds h) (λ e. absurd (positive_first ds h e)) (omega (arith, v, wide)))
+    rw (← v) (decimal-digits_value own ds (positive_digits ds h) (positive_some ds h) (λ e. absurd (positive_first ds h e))
+    (omega (arith, v, wide)))
 
 counted_less : (ds : List ℕ) (n : ℕ) → counted ds ≡ n → n < 1125899906842624 → value_of ds ≡ n
 counted_less ds n e l = by (nat_le (value_of ds) 1125899906842624) refl e
@@ -85,7 +84,8 @@ some_is : (b : Bool) (x z : ℤ) → (if b then Some x else None) ≡ Some z →
 some_is true x z e = (refl, cc)
 some_is false x z e = absurd cc
 
-positive_written : (ds : List ℕ) (z : ℤ) → is_positive ds ≡ true → pos (counted ds) ≡ z → unsigned_abs z < 1125899906842624 → signed_decimal z ≡ ds
+positive_written : (ds : List ℕ) (z : ℤ) → is_positive ds ≡ true → pos (counted ds) ≡ z → unsigned_abs z < 1125899906842624
+    → signed_decimal z ≡ ds
 positive_written ds (pos n) h e l =
     let c : counted ds ≡ n = cc in
     decimal_of ds n h (counted_less ds n c l) (omega arith)
@@ -95,7 +95,8 @@ nought_written : (ds : List ℕ) (z : ℤ) → is_nought ds ≡ true → pos (co
 nought_written [] z h e = absurd cc
 nought_written (d ∷ []) z h e =
     let first : d ≡ 48 = grind (arith, nat_tests) in
-    subst (λ (x : ℕ). pos (counted (x ∷ [])) ≡ z → signed_decimal z ≡ x ∷ []) (sym first) (λ k. ap signed_decimal (sym k) ∙ decimal_digit 0 (omega arith)) e
+    subst (λ (x : ℕ). pos (counted (x ∷ [])) ≡ z → signed_decimal z ≡ x ∷ []) (sym first)
+    (λ k. ap signed_decimal (sym k) ∙ decimal_digit 0 (omega arith)) e
 nought_written (d ∷ c ∷ ds) z h e = absurd cc
 
 negative_written : (ds : List ℕ) (z : ℤ) → is_positive ds ≡ true → neg_ℤ (pos (counted ds)) ≡ z → unsigned_abs z < 1125899906842624
@@ -109,7 +110,9 @@ negative_written ds z h e l = by (counted ds) refl e
         let p : is_positive (48 ∷ []) ≡ true = subst (λ (x : List ℕ). is_positive x ≡ true) (sym same) h in
         absurd cc
     by (suc n) c k =
-        let small : suc n < 1125899906842624 = (let s : unsigned_abs (neg_ℤ (pos (suc n))) < 1125899906842624 = subst (λ (x : ℤ). unsigned_abs x < 1125899906842624) (sym k) l in s) in
+        let small : suc n < 1125899906842624 =
+        (let s : unsigned_abs (neg_ℤ (pos (suc n))) < 1125899906842624 =
+        subst (λ (x : ℤ). unsigned_abs x < 1125899906842624) (sym k) l in s) in
         ap signed_decimal (sym k) ∙ ap (λ t. 45 ∷ t) (decimal_of ds (suc n) h (counted_less ds (suc n) c small) (omega arith))
 
 pub number_written : (f : List ℕ) (z : ℤ) → number f ≡ Some z → unsigned_abs z < 1125899906842624 → signed_decimal z ≡ f

@@ -100,10 +100,12 @@ one_stop [] [] t u d c e f rest more same first il im ht hu rl rm sl sm =
     record { lines = refl; draft = sym rl ∙ (first ∙ rm); left = sym ht ∙ (same ∙ hu) }
 one_stop [] (m ∷ ms) t u d c e f rest more same first il im ht hu rl (n, v, rm) sl sm =
     let S : Draft → Type 0 = λ x. IsStop x rest in
-    absurd (no_further c n rest m (flat_map ended ms ++ more) (subst S (sym rl ∙ first) sl) im.0 (sym ht ∙ (same ∙ (hu ∙ cut_more m ms more))) v)
+    absurd (no_further c n rest m (flat_map ended ms ++ more) (subst S (sym rl ∙ first) sl) im.0
+    (sym ht ∙ (same ∙ (hu ∙ cut_more m ms more))) v)
 one_stop (l ∷ ls) [] t u d c e f rest more same first il im ht hu (n, v, rl) rm sl sm =
     let S : Draft → Type 0 = λ x. IsStop x more in
-    absurd (no_further d n more l (flat_map ended ls ++ rest) (subst S (sym rm ∙ sym first) sm) il.0 (sym hu ∙ (sym same ∙ (ht ∙ cut_more l ls rest))) v)
+    absurd (no_further d n more l (flat_map ended ls ++ rest) (subst S (sym rm ∙ sym first) sm) il.0
+    (sym hu ∙ (sym same ∙ (ht ∙ cut_more l ls rest))) v)
 one_stop (l ∷ ls) (m ∷ ms) t u d c e f rest more same first il im ht hu (n, v, rl) (k, w, rm) sl sm =
     let cut = one_line l m (flat_map ended ls ++ rest) (flat_map ended ms ++ more) il.0 im.0
     (sym (cut_more l ls rest) ∙ (sym ht ∙ (same ∙ (hu ∙ cut_more m ms more)))) in
@@ -118,7 +120,8 @@ one_stop (l ∷ ls) (m ∷ ms) t u d c e f rest more same first il im ht hu (n, 
 wrong_stops : (d : Draft) (rest : List ℕ) (c : ProjectCause) → IsWrong d rest c → IsStop d rest
 wrong_stops d rest c (inl (over, some, form)) = inl over
 wrong_stops d rest c (inr (on, inl (inner, short))) = inr (inl inner)
-wrong_stops d rest c (inr (on, inr w)) = inr (inr (record { line = w.line; more = w.more; cause = c; inner = w.inner; text = w.text; verdict = w.verdict }))
+wrong_stops d rest c (inr (on, inr w)) =
+    inr (inr (record { line = w.line; more = w.more; cause = c; inner = w.inner; text = w.text; verdict = w.verdict }))
 
 pub one_project : (t : List ℕ) (p q : Project) → IsRead t p → IsRead t q → p ≡ q
 one_project t p q (ls, d, b, over, said) (ms, e, c, done, told) =
@@ -127,7 +130,8 @@ one_project t p q (ls, d, b, over, said) (ms, e, c, done, told) =
 
 pub no_project : (t : List ℕ) (p : Project) (n : ℕ) (c : ProjectCause) → IsRead t p → IsFault t n c → ⊥
 no_project t p n c (ls, d, b, over, said) f =
-    let s = one_stop ls f.lines t t start start d f.draft [] f.rest refl refl b.inner f.begins.inner b.text f.begins.text b.read f.begins.read (inl over)
+    let s = one_stop ls f.lines t t start start d f.draft [] f.rest refl refl b.inner f.begins.inner b.text f.begins.text b.read
+    f.begins.read (inl over)
     (wrong_stops f.draft f.rest c f.wrong) in
     by f.wrong (ap (λ (x : Draft). x.stage) (sym s.draft) ∙ over) (sym s.left)
   where
@@ -150,7 +154,8 @@ one_cause d rest b c (inr (on, inr v)) (inr (off, inr w)) =
 
 pub one_fault : (t : List ℕ) (m n : ℕ) (b c : ProjectCause) → IsFault t m b → IsFault t n c → (m ≡ n) × (b ≡ c)
 one_fault t m n b c f g =
-    let s = one_stop f.lines g.lines t t start start f.draft g.draft f.rest g.rest refl refl f.begins.inner g.begins.inner f.begins.text g.begins.text
+    let s = one_stop f.lines g.lines t t start start f.draft g.draft f.rest g.rest refl refl f.begins.inner g.begins.inner f.begins.text
+    g.begins.text
     f.begins.read g.begins.read (wrong_stops f.draft f.rest b f.wrong) (wrong_stops g.draft g.rest c g.wrong) in
     let w1 : IsWrong g.draft f.rest b = subst (λ (x : Draft). IsWrong x f.rest b) s.draft f.wrong in
     let w2 : IsWrong g.draft g.rest b = subst (λ (x : List ℕ). IsWrong g.draft x b) s.left w1 in

@@ -75,8 +75,10 @@ one_verdict d l v w (r, h, e) (q, k, f) = e ∙ (by (wkt_of d (fields l)) refl h
 -- ---- what the code finds
 pub written : (t : List ℕ) (s : Shape) (b : Bool) → length t ≤ 1048576 → IsShapeText t s → b ≡ bytes_eq (shape_text s) t → b ≡ true
     → IsReading t (Written s)
-written t s b short says test same =
-    (record { short = short; says = says; written = sym ((bytes_eq-Decides (shape_text s) t).0 (sym test ∙ same)) }, λ u h. one_shape t u s h says)
+written t s b short says test same = (
+  record { short = short; says = says; written = sym ((bytes_eq-Decides (shape_text s) t).0 (sym test ∙ same)) },
+  λ u h. one_shape t u s h says,
+)
 
 pub unwritten : (t : List ℕ) (s : Shape) (b : Bool) → IsShapeText t s → b ≡ bytes_eq (shape_text s) t → b ≡ false → IsReading t Unwritten
 unwritten t s b says test other =

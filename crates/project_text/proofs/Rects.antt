@@ -1,5 +1,5 @@
 -- Four numbers that are no rectangle fail the test of one, and those that pass it are one.
-use Rattle.std.proofs.Common.{ℕ, pos, negsuc, zero, suc, ◌≡◌, ◌≤ℤ◌, Bool, true, false, ◌&&◌, refl, inl, inr, arith}
+use Rattle.std.proofs.Common.{ℕ, pos, negsuc, zero, suc, ◌≡◌, ◌≤ℤ◌, true, false, refl, inl, inr, arith}
 use Rattle.std.proofs.lemmas.Bool.{cases_Bool, and_parts}
 use Rattle.std.proofs.lemmas.Int.{ints}
 use Rattle.number_laws.proofs.Tests.{Decides-int_le}
@@ -42,6 +42,16 @@ pub rectangle_there : (r : Rectangle) → is_rectangle r ≡ true → IsRectangl
 rectangle_there r h =
     let s = sides r h in
     record { proper = s.proper; on_grid = record { left = s.x0.low; right = s.x1.high; below = s.y0.low; above = s.y1.high } }
+
+pub rectangle_true : (r : Rectangle) → IsRectangle r → is_rectangle r ≡ true
+rectangle_true r h =
+    let left = (Decides-int_le (negsuc 4194303) r.x0).1 h.on_grid.left in
+    let right = (Decides-int_le r.x1 (pos 4194304)).1 h.on_grid.right in
+    let below = (Decides-int_le (negsuc 4194303) r.y0).1 h.on_grid.below in
+    let above = (Decides-int_le r.y1 (pos 4194304)).1 h.on_grid.above in
+    let wide = (Decides-int_le r.x0 r.x1).1 h.proper.wide in
+    let high = (Decides-int_le r.y0 r.y1).1 h.proper.high in
+    rw (left, right, below, above, wide, high) refl
 
 none_out : (k : ℕ) (r : Rectangle) → AreSides r → IsFirstOut k (numbers_of r) → ⊥
 none_out zero r s o = o s.x0

@@ -15,13 +15,15 @@ pub dirty_said : (d : Draft) (D : List Rectangle) (r q : Rectangle) (rects : Lis
     → rects ≡ d.project.dirt → b ≡ list_any (are_nested r) rects → b ≡ false → D ≡ add_dirt d.project.dirt r
     → Ok (record { stage = stage.Dirt; project = record d.project { dirt = D } }) ≡ dirty_verdict d q
 dirty_said d D r q rects b same proper listed test none made =
-    let loose : list_any (are_nested r) d.project.dirt ≡ false = sym (test ∙ ap (λ (x : List Rectangle). list_any (are_nested r) x) listed) ∙ none in
+    let loose : list_any (are_nested r) d.project.dirt ≡ false = sym (test ∙ ap (λ (x : List Rectangle). list_any (are_nested r) x) listed)
+    ∙ none in
     let last : D ≡ d.project.dirt ++ r ∷ [] = made ∙ dirty.put_last r d.project.dirt loose in
     let put : Ok (record { stage = stage.Dirt; project = record d.project { dirt = D } }) ≡ dirty_verdict d r = rw (proper, loose)
     (ap (λ (x : List Rectangle). Ok (record { stage = stage.Dirt; project = record d.project { dirt = x } })) last) in
     put ∙ ap (dirty_verdict d) same
 
-pub feature_said : (d : Draft) (F : List Feature) (C : List Class) (N : ℕ) (f : Feature) (n : ℕ) → IsAscending d.project.features → IsAscending F
+pub feature_said : (d : Draft) (F : List Feature) (C : List Class) (N : ℕ) (f : Feature) (n : ℕ) → IsAscending d.project.features
+    → IsAscending F
     → n ≡ last_in (λ (g : Feature). g.handle) d.project.features → n < f.handle → IsSetAt f.handle (Some f) d.project.features F
     → C ≡ d.project.classes → N ≡ d.project.next
     → Ok (record { stage = stage.Features; project = record d.project { classes = C; next = N; features = F } }) ≡ with_feature d f
@@ -29,6 +31,12 @@ feature_said d F C N f n rising up last below set classes next =
     let less : last_in (λ (g : Feature). g.handle) d.project.features < f.handle = omega (arith, last, below) in
     let test : ltb (last_in (λ (g : Feature). g.handle) d.project.features) f.handle ≡ true = grind (arith, nat_tests) in
     let all : F ≡ d.project.features ++ f ∷ [] = features.put_last d.project.features F f rising up less set in
-    rw test (ap (λ (x : List Feature). Ok (record { stage = stage.Features; project = record d.project { classes = C; next = N; features = x } })) all
-    ∙ (ap (λ (x : List Class). Ok (record { stage = stage.Features; project = record d.project { classes = x; next = N; features = d.project.features ++ f ∷ [] } })) classes
-    ∙ ap (λ (x : ℕ). Ok (record { stage = stage.Features; project = record d.project { next = x; features = d.project.features ++ f ∷ [] } })) next))
+    rw test (ap (λ (x : List Feature). Ok
+    (record { stage = stage.Features; project = record d.project { classes = C; next = N; features = x } })) all
+    ∙ (ap (λ (x : List Class). Ok (record
+    { stage = stage.Features; project = record d.project { classes = x; next = N; features = d.project.features ++ f ∷ [] } })) classes
+    ∙ ap (λ (x : ℕ). Ok (record {
+      stage = stage.Features;
+      project =
+          record d.project { next = x; features = d.project.features ++ f ∷ [] };
+    })) next))

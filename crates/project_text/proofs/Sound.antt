@@ -38,19 +38,22 @@ later : (i j k : Key) → IsBefore i j → IsBefore j k → IsBefore i k
 later i j k h g = grind arith
 
 -- all come before a key that stands behind the last
-first_before : (e : Entry) (es : List Entry) (k : Key) → Every (IsKeyBelow e) es → Every (λ (f : Entry). IsBefore (key_of f) k) es → is_last_key (e ∷ es) k ≡ true
+first_before : (e : Entry) (es : List Entry) (k : Key) → Every (IsKeyBelow e) es → Every (λ (f : Entry). IsBefore (key_of f) k) es
+    → is_last_key (e ∷ es) k ≡ true
     → IsBefore (key_of e) k
 first_before e [] k h g last = before (key_of e) k last
 first_before e (f ∷ es) k h g last = later (key_of e) (key_of f) k h.0 g.0
 
-all_before : (es : List Entry) (k : Key) → entries.IsAscending es → is_last_key es k ≡ true → Every (λ (f : Entry). IsBefore (key_of f) k) es
+all_before : (es : List Entry) (k : Key) → entries.IsAscending es → is_last_key es k ≡ true
+    → Every (λ (f : Entry). IsBefore (key_of f) k) es
 all_before [] k h last = tt
 all_before (e ∷ []) k h last = (before (key_of e) k last, tt)
 all_before (e ∷ f ∷ es) k h last =
     let i = all_before (f ∷ es) k h.1 last in
     (first_before e (f ∷ es) k h.0 i last, i)
 
-pub put_last : (es : List Entry) (e : Entry) → entries.IsAscending es → is_last_key es (key_of e) ≡ true → entries.IsAscending (es ++ e ∷ [])
+pub put_last : (es : List Entry) (e : Entry) → entries.IsAscending es → is_last_key es (key_of e) ≡ true
+    → entries.IsAscending (es ++ e ∷ [])
 put_last es e h last = keyed.ascending_last by_key keys es e h (all_before es (key_of e) h last)
 
 -- a cell leaves the keys as they are
@@ -106,9 +109,14 @@ rule_sound d h q = numbered (natural 1 256 q.number)
     in_force : (n : ℕ) (o : Option Row) → IfOk (rule_in d n o) IsSound
     in_force n None = tt
     in_force n (Some r) =
-        let m : Draft = record { stage = stage.Rules; project = record d.project { rules = d.project.rules ++ record { number = n; row = r } ∷ [] } } in
+        let m : Draft = record {
+          stage = stage.Rules;
+          project =
+              record d.project { rules = d.project.rules ++ record { number = n; row = r } ∷ [] };
+        } in
         let s : IsSound m = record { early = λ e. cc; titled = λ e. cc; ascending = h.ascending } in
-        if_ok (not (ltb (last_in (λ (q : InForce). q.number) d.project.rules) n) || is_there d.project.rules r) (Err cause.Order) (Ok m) IsSound
+        if_ok (not (ltb (last_in (λ (q : InForce). q.number) d.project.rules) n) || is_there d.project.rules r) (Err cause.Order) (Ok m)
+        IsSound
         (λ e. tt) (λ e. s)
 
     numbered : (o : Option ℕ) → IfOk (rule_numbered d q o) IsSound
@@ -154,7 +162,12 @@ error_sound d h marked e = handled (natural 1 (d.project.next - 1) e.subject) (n
 
 cell_sound : (d : Draft) → IsSound d → is_cell_open d ≡ true → (c : Cell) → IfOk (cell_verdict d c) IsSound
 cell_sound d h o c = if_ok (list_all is_half c) _ (Err cause.Range) IsSound
-    (λ k. record { early = λ e. absurd (let u = rw e at o in cc); titled = λ e. absurd (let u = rw e at o in cc); ascending = cell_put d.project.entries c h.ascending })
+    (λ k. record {
+      early = λ e. absurd (let u = rw e at o in cc);
+      titled = λ e. absurd (let u = rw e at o in cc);
+      ascending =
+          cell_put d.project.entries c h.ascending;
+    })
     (λ k. tt)
 
 line_sound : (d : Draft) → IsSound d → (r : WktReading) (fs : List (List ℕ)) → IfOk (line_verdict r d fs) IsSound
@@ -163,14 +176,16 @@ line_sound d h r (w ∷ fs) =
     line_by (λ v. IfOk v IsSound) r d w fs tt
     (λ k. at_ok stage.Title d _ IsSound (λ o. said_ok stage.Title d (is_one fs) IsSound
     (λ b. record { early = λ e. cc; titled = λ e. h.early (before_title d.stage ((and_parts _ _ o).0)); ascending = h.ascending })))
-    (λ k. at_ok stage.Next d _ IsSound (λ o. judged_ok (next_verdict d) (number_of fs) IsSound (λ z e. next_sound d h (natural 1 4294967295 z))))
+    (λ k. at_ok stage.Next d _ IsSound
+    (λ o. judged_ok (next_verdict d) (number_of fs) IsSound (λ z e. next_sound d h (natural 1 4294967295 z))))
     (λ k. at_ok stage.Classes d _ IsSound (λ o. judged_ok (class_verdict d) (class_of fs) IsSound (λ c e. class_sound d h c)))
     (λ k. at_ok stage.Rules d _ IsSound (λ o. judged_ok (rule_verdict d) (rule_of fs) IsSound (λ q e. rule_sound d h q)))
     (λ k. at_ok stage.Features d _ IsSound (λ o. judged_ok (feature_verdict r d) (feature_of fs) IsSound (λ f e. feature_sound d h r f)))
     (λ k. at_ok stage.Dirt d _ IsSound (λ o. judged_ok (dirty_verdict d) (rect_of fs) IsSound (λ q e. dirty_sound d h q)))
     (λ k. at_ok stage.Errors d _ IsSound (λ o. judged_ok (error_verdict false d) (error_of fs) IsSound (λ q e. error_sound d h false q)))
     (λ k. at_ok stage.Errors d _ IsSound (λ o. judged_ok (error_verdict true d) (error_of fs) IsSound (λ q e. error_sound d h true q)))
-    (λ k. if_ok (is_cell_open d) _ (Err cause.Form) IsSound (λ o. judged_ok (cell_verdict d) (cell_of fs) IsSound (λ c e. cell_sound d h o c)) (λ o. tt))
+    (λ k. if_ok (is_cell_open d) _ (Err cause.Form) IsSound
+    (λ o. judged_ok (cell_verdict d) (cell_of fs) IsSound (λ c e. cell_sound d h o c)) (λ o. tt))
     (λ k. at_ok stage.End d _ IsSound (λ o. said_ok stage.End d (is_none fs) IsSound
     (λ b. record { early = λ e. cc; titled = λ e. cc; ascending = h.ascending })))
 

@@ -14,7 +14,8 @@ at_space before bs b e = grind (arith, nat_tests)
 at_other : (before bs : List ℕ) (b : ℕ) → b ≢ 32 → fields_from before (b ∷ bs) ≡ fields_from (before ++ b ∷ []) bs
 at_other before bs b e = grind (arith, nat_tests)
 
-pub goes_on : (t : List ℕ) (n : ℕ) → n < length t → get_or t n 0 ≢ 32 → fields_from (take n t) (drop n t) ≡ fields_from (take (n + 1) t) (drop (n + 1) t)
+pub goes_on : (t : List ℕ) (n : ℕ) → n < length t → get_or t n 0 ≢ 32
+    → fields_from (take n t) (drop n t) ≡ fields_from (take (n + 1) t) (drop (n + 1) t)
 goes_on t n lt other =
     ap (fields_from (take n t)) (drop_more t n 0 lt) ∙ (at_other (take n t) (drop (n + 1) t) (get_or t n 0) other
     ∙ sym (ap (λ before. fields_from before (drop (n + 1) t)) (take_more t n 0 lt)))

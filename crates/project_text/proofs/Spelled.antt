@@ -1,10 +1,9 @@
 -- What a line says is spelled in one way: the fields are those that are written of it.
-use Rattle.std.proofs.Common.{ℕ, ℤ, pos, negsuc, ◌≡◌, ◌≢◌, ◌≤◌, ◌<◌, Bool, true, false, ◌&&◌, nat_le, List, [], ◌∷◌, ◌++◌, append-nil, append_assoc, Option, Some, None, if◌then◌else◌, refl, sym, ap, subst, ◌∙◌, arith}
-use Rattle.std.specs.Prelude.{unsigned_abs, codes, IfSome}
+use Rattle.std.proofs.Common.{ℕ, ℤ, ◌≡◌, ◌≢◌, Bool, true, false, List, [], ◌∷◌, ◌++◌, append-nil, append_assoc, Option, Some, None, if◌then◌else◌, refl, sym, ap, subst, ◌∙◌, arith}
+use Rattle.std.specs.Prelude.{codes, IfSome}
 use Rattle.std.specs.List.{list_all}
 use Rattle.std.specs.Option.{option_map}
-use Rattle.std.specs.Fmt.{decimal, signed_decimal}
-use Rattle.std.proofs.lemmas.Bool.Decides.{nat_tests}
+use Rattle.std.specs.Fmt.{signed_decimal}
 use Rattle.std.proofs.lemmas.Slice.Eq.{bytes_eq-Decides}
 use Rattle.std.proofs.lemmas.Bool.{and_parts}
 use Rattle.plane_terms.specs.Rectangle.{Rectangle, rect_of as rectangle}
@@ -20,10 +19,10 @@ use Rattle.rule_words.specs.Table.{word_of, first_of_word, all_rules}
 use Rattle.rule_words.proofs.OneWord.{has_word}
 use Rattle.line_terms.specs.Forms.{kind_word}
 use Rattle.topology_terms.specs.Feature.{Class}
-use Rattle.project_terms.specs.Lines.{number, joined, natural}
+use Rattle.project_terms.specs.Lines.{number, joined}
 use Rattle.project_terms.specs.Drafts.{is_half}
-use Rattle.project_terms.specs.Verdicts.{RuleForm, FeatureForm, ErrorForm, HalfForm, bind, is_one, is_none, number_of, kind_of_word, class_of, second_of, rule_with, rule_of, feature_of, rect_of, extent_of, error_of, op_of, half_of, halves_behind, cell_of}
-use Rattle.project_terms.specs.Written.{cell_fields, op_word, extent_word}
+use Rattle.project_terms.specs.Verdicts.{RuleForm, FeatureForm, ErrorForm, HalfForm, bind, is_one, is_none, number_of, kind_of_word, class_of, second_of, rule_of, feature_of, rect_of, extent_of, error_of, op_of, half_of, halves_behind, cell_of}
+use Rattle.project_terms.specs.Written.{cell_fields, extent_word}
 use Rattle.project_text.specs.Pushed.{sign_text, some}
 use Rattle.project_text.proofs.LineCases.{pick}
 use Rattle.project_text.proofs.Halves.{is_valid}
@@ -239,7 +238,8 @@ half_said a b c w h e =
     let s = mapped (λ (o : Op × Bool). record { half = record { a = x.0; b = y.0; c = z.0; op = o.0 }; more = o.1 }) (op_of w) h z.2 in
     subst (IsHalfLine a b c w) s.2 (record { of_a = x.1; of_b = y.1; of_c = z.1; sign = sign_spelled w s.0 s.1 })
 
-four : {A : Type 0} (a b c d e f g h : A) (xs ys : List A) → a ≡ e → b ≡ f → c ≡ g → d ≡ h → xs ≡ ys → a ∷ b ∷ c ∷ d ∷ xs ≡ e ∷ f ∷ g ∷ h ∷ ys
+pub four : {A : Type 0} (a b c d e f g h : A) (xs ys : List A) → a ≡ e → b ≡ f → c ≡ g → d ≡ h → xs ≡ ys
+    → a ∷ b ∷ c ∷ d ∷ xs ≡ e ∷ f ∷ g ∷ h ∷ ys
 four a b c d e f g h xs ys i j k l m = cc
 
 -- a half-plane within its limits, and those behind it

@@ -46,7 +46,8 @@ one_more t d m rest l more n b inner cut v = record {
 pub sound : (t : List ℕ) (d : Draft) (rest : List ℕ) (n : ℕ) → IsBegun t d rest n → IsSound d
 sound t d rest n b = read_sound b.lines start d start_sound b.begins.read
 
-pub short : (t : List ℕ) (d : Draft) (rest : List ℕ) (n : ℕ) → IsBegun t d rest n → d.stage ≢ stage.End → IsInner rest → IsFault t n cause.Short
+pub short : (t : List ℕ) (d : Draft) (rest : List ℕ) (n : ℕ) → IsBegun t d rest n → d.stage ≢ stage.End → IsInner rest
+    → IsFault t n cause.Short
 short t d rest n b on inner = record {
   lines = b.lines;
   draft = d;
@@ -56,7 +57,8 @@ short t d rest n b on inner = record {
   wrong = inr (on, inl (inner, refl));
 }
 
-pub wrong : (t : List ℕ) (d : Draft) (rest l more : List ℕ) (n : ℕ) (c : ProjectCause) → IsBegun t d rest n → d.stage ≢ stage.End → IsInner l
+pub wrong : (t : List ℕ) (d : Draft) (rest l more : List ℕ) (n : ℕ) (c : ProjectCause) → IsBegun t d rest n → d.stage ≢ stage.End
+    → IsInner l
     → rest ≡ ended l ++ more → IsVerdict d l (Err c) → IsFault t n c
 wrong t d rest l more n c b on inner cut v = record {
   lines = b.lines;
@@ -67,7 +69,8 @@ wrong t d rest l more n c b on inner cut v = record {
   wrong = inr (on, inr (record { line = l; more = more; inner = inner; text = cut; verdict = v }));
 }
 
-pub behind : (t : List ℕ) (d : Draft) (rest : List ℕ) (n : ℕ) → IsBegun t d rest n → d.stage ≡ stage.End → rest ≢ [] → IsFault t n cause.Form
+pub behind : (t : List ℕ) (d : Draft) (rest : List ℕ) (n : ℕ) → IsBegun t d rest n → d.stage ≡ stage.End → rest ≢ []
+    → IsFault t n cause.Form
 behind t d rest n b over some = record {
   lines = b.lines;
   draft = d;
@@ -87,16 +90,21 @@ all_read t d rest n b over none = (
 )
 
 -- ---- what the code knows of a line
-pub right : {X : Type 0} (r : Result X LineFault) (x : X) (d m : Draft) (l : List ℕ) → Gives r (IsVerdict d l) m → r ≡ Ok x → IsVerdict d l (Ok m)
+pub right : {X : Type 0} (r : Result X LineFault) (x : X) (d m : Draft) (l : List ℕ) → Gives r (IsVerdict d l) m → r ≡ Ok x
+    → IsVerdict d l (Ok m)
 right r x d m l h e = subst (λ y. Gives y (IsVerdict d l) m) e h
 
-wrong_by : {X : Type 0} (r : Result X LineFault) (f : LineFault) (t : List ℕ) (d m : Draft) (rest l more : List ℕ) (n : ℕ) → IsBegun t d rest n
+wrong_by : {X : Type 0} (r : Result X LineFault) (f : LineFault) (t : List ℕ) (d m : Draft) (rest l more : List ℕ) (n : ℕ)
+    → IsBegun t d rest n
     → d.stage ≢ stage.End → IsInner l → rest ≡ ended l ++ more → Gives r (IsVerdict d l) m → r ≡ Err f → IsProjectFault t (at_line n f)
-wrong_by r (line.Wrong c) t d m rest l more n b on inner cut h e = wrong t d rest l more n c b on inner cut (subst (λ y. Gives y (IsVerdict d l) m) e h)
+wrong_by r (line.Wrong c) t d m rest l more n b on inner cut h e =
+    wrong t d rest l more n c b on inner cut (subst (λ y. Gives y (IsVerdict d l) m) e h)
 wrong_by r line.NoMemory t d m rest l more n b on inner cut h e = tt
 
-pub wrong_line : {X : Type 0} (r : Result X LineFault) (f : LineFault) (g : ProjectFault) (t : List ℕ) (d m : Draft) (rest l more : List ℕ) (n : ℕ)
-    → IsBegun t d rest n → d.stage ≢ stage.End → IsInner l → rest ≡ ended l ++ more → Gives r (IsVerdict d l) m → r ≡ Err f → g ≡ at_line n f
+pub wrong_line : {X : Type 0} (r : Result X LineFault) (f : LineFault) (g : ProjectFault) (t : List ℕ) (d m : Draft) (rest l more : List ℕ)
+    (n : ℕ)
+    → IsBegun t d rest n → d.stage ≢ stage.End → IsInner l → rest ≡ ended l ++ more → Gives r (IsVerdict d l) m → r ≡ Err f
+    → g ≡ at_line n f
     → IsProjectFault t g
 wrong_line r f g t d m rest l more n b on inner cut h e same =
     subst (λ (k : ProjectFault). IsProjectFault t k) (sym same) (wrong_by r f t d m rest l more n b on inner cut h e)

@@ -1,18 +1,24 @@
-ghost use Rattle.std.specs.Prelude.{◌≡◌, ◌<◌, ◌≤◌, ◌^◌, ℕ, ℤ, List, Some, unsigned_abs};
+ghost use Rattle.std.specs.Prelude.{◌≡◌, ◌↔◌, ◌<◌, ◌≤◌, ◌^◌, ℕ, ℤ, List, Some, unsigned_abs};
 ghost use Rattle.std.specs.Fmt.{signed_decimal};
 ghost use Rattle.topology_terms.specs.Project.{Project};
 ghost use Rattle.project_terms.specs.declared.project_cause.ProjectCause as terms;
 ghost use Rattle.project_terms.specs.Lines.{number};
-ghost use Rattle.project_terms.specs.Records.{IsRecord};
-ghost use Rattle.project_terms.specs.Texts.{IsRead, IsFault};
+ghost use Rattle.project_terms.specs.Texts.{IsProjectText, IsRead, IsFault};
 
-/// The law of texts: a text says one project at most, and one that a text can say; where it says one, no line of it is wrong; and
-/// else one line is the first that is wrong, of one cause.
+/// The law of texts: a text says one project at most; where it says one, no line of it is wrong; and else one line is the first that
+/// is wrong, of one cause.
 pub fn one_text_law()
     ensures project { (t : List ℕ) (p q : Project) → IsRead t p → IsRead t q → p ≡ q }
-    ensures valid { (t : List ℕ) (p : Project) → IsRead t p → IsRecord p }
     ensures either { (t : List ℕ) (p : Project) (n : ℕ) (c : terms.ProjectCause) → IsRead t p → ¬ (IsFault t n c) }
     ensures fault { (t : List ℕ) (m n : ℕ) (b c : terms.ProjectCause) → IsFault t m b → IsFault t n c → (m ≡ n) × (b ≡ c) }
+{}
+
+/// The law of the grammar: a text is read as a project exactly where it is the text that is written of it, and a text can say the
+/// project. So what was written is read as the same project; no other project has that text, and the project has no other text.
+pub fn project_text_law()
+    ensures read { (t : List ℕ) (p : Project) → IsRead t p ↔ IsProjectText t p }
+    ensures project { (t : List ℕ) (p q : Project) → IsProjectText t p → IsProjectText t q → p ≡ q }
+    ensures text { (t u : List ℕ) (p : Project) → IsProjectText t p → IsProjectText u p → t ≡ u }
 {}
 
 /// The law of numbers: what is written of a number within the limits of a project is read as it, and nothing else is.

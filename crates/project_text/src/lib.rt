@@ -20,7 +20,7 @@ mod write;
 
 pub use data::ProjectData;
 pub use fault::ProjectFault;
-pub use law::{one_number_law, one_text_law};
+pub use law::{one_number_law, one_text_law, project_text_law};
 pub use project_terms::ProjectCause;
 pub use read::read_project;
 pub use write::write_project;

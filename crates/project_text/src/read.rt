@@ -1,7 +1,6 @@
 ghost use Rattle.std.specs.Prelude.{◌≡◌, ℕ, MatchResult, IfOk};
 ghost use Rattle.topology_terms.specs.Project.{Project};
-ghost use Rattle.project_terms.specs.Records.{IsRecord};
-ghost use Rattle.project_terms.specs.Texts.{IsRead, IsFault};
+ghost use Rattle.project_terms.specs.Texts.{IsProjectText, IsRead, IsFault};
 ghost use Rattle.project_terms.specs.declared.project_cause.ProjectCause as terms;
 ghost use Rattle.project_text.specs.Reading.{IsProjectFault, IsFaultAt, at_line};
 
@@ -52,12 +51,13 @@ fn read_lines(alloc: Global, text: &[u8]) -> Result<ProjectData, ProjectFault>
     Ok(draft.into_project())
 }
 
-/// What is saved of a topology, from its text. `Wrong` names the first line, from 1, that is wrong, and its first cause. Takes steps
-/// for each byte of the text, and for each two dirty rectangles.
+/// What is saved of a topology, from its text: the project of which this is the text, where there is one. `Wrong` names the first
+/// line, from 1, that is wrong, and its first cause. Takes steps for each byte of the text, and for each two dirty rectangles.
 pub fn read_project(alloc: Global, text: &[u8]) -> Result<ProjectData, ProjectFault>
     ensures found { MatchResult result (λ p. IsRead text.now p) (λ e. IsProjectFault text.now e) }
-    ensures valid { IfOk result (λ p. IsRecord p) }
+    ensures text { IfOk result (λ p. IsProjectText text.now p) }
     ensures only { (p : Project) → IsRead text.now p → MatchResult result (λ q. q ≡ p) (λ e. e ≡ ProjectFault.NoMemory) }
+    ensures again { (p : Project) → IsProjectText text.now p → MatchResult result (λ q. q ≡ p) (λ e. e ≡ ProjectFault.NoMemory) }
     ensures first { (n : ℕ) (c : terms.ProjectCause) → IsFault text.now n c → MatchResult result (λ _. ⊥) (λ e. IsFaultAt n c e) }
 {
     read_lines(alloc, text)

@@ -1,5 +1,6 @@
 ghost use Rattle.topology_terms.specs.Poster.{poster};
 ghost use Rattle.rule_laws.proofs.Posters.{poster_laws, poster_cuts, poster_views};
+ghost use Rattle.rule_set.specs.Partners.{poster_partners};
 
 use crate::case::Case;
 use grid_plane::NoMemory;
@@ -41,4 +42,6 @@ impl RuleSet for PosterRules {
 
 impl KindRules for PosterRules {
     ghost kinds = { record { fits = λ row F fits. fits } };
+
+    ghost partners = { poster_partners };
 }

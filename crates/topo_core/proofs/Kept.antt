@@ -1,36 +1,52 @@
 -- Each change keeps what every topology keeps, and what it keeps of the rules' meaning.
-use Rattle.std.proofs.Common.{◌≡◌, inl, inr, ℕ, List, [], ◌∷◌, ◌++◌, Option, Some, None, sym, ◌∙◌}
+use Rattle.std.proofs.Common.{◌≡◌, ◌≤◌, inl, inr, ℕ, true, List, [], ◌∷◌, ◌++◌, Option, Some, sym, ◌∙◌, arith}
 use Rattle.std.specs.Option.{IfSome}
 use Rattle.plane_terms.specs.Lists.{Every}
 use Rattle.plane_terms.proofs.ListLemmas.{every_map}
 use Rattle.plane_terms.specs.Rectangle.{Rectangle, IsRectangle}
 use Rattle.plane_terms.specs.declared.kind.Kind.{Kind}
+use Rattle.topology_terms.specs.Causes.{is_fit}
 use Rattle.topology_terms.specs.Feature.{Class, Feature, env}
-use Rattle.rule_words.specs.Table.{origin_of, dest_of}
 use Rattle.topology_terms.specs.Meaning.{Meaning, Laws, CutsRight}
+use Rattle.topology_terms.specs.Entry.{Entry}
 use Rattle.topology_terms.specs.Entry as entries
 use Rattle.topology_terms.specs.Project.{Project, InForce}
-use Rattle.topology_terms.specs.Lookups.{kind_of_class}
 use Rattle.topology_terms.specs.Sound.{IsSoundUnder}
 use Rattle.topology_terms.specs.Settled.{IsSettledUnder, IsValidatedBy}
 use Rattle.topology_terms.specs.Changes.{IsClassAdded, IsEdit}
 use Rattle.sound_laws.proofs.Edits.{same_or_not, edit_sound}
-use Rattle.sound_laws.proofs.Settling.{edit_settled}
+use Rattle.sound_laws.proofs.Settling.{edit_settled, validated_by_cut}
 use Rattle.validation_laws.proofs.Validating.{parts_kept_valid, parts_kept_sound, parts_kept_settled}
 use Rattle.feature_store.specs.Keeps.{IsStore}
-use Rattle.feature_store.proofs.Keeping.{kind_end}
-use Rattle.topo_core.specs.Kinds.{HasKinds, TakesKinds}
-use Rattle.topo_core.specs.Topologies.{IsTopology}
+use Rattle.topo_core.specs.Kinds.{TakesKinds, NamesPartners}
+use Rattle.topo_core.specs.Topologies.{IsErrorOf, IsTopology}
+use Rattle.topo_core.proofs.Rows.{fit_end}
 use Rattle.topo_core.proofs.Whole.{valid}
+use Rattle.topo_core.proofs.Fresh.{validated_errors}
 
 -- ---- an edit
-pub edit_keeps : (h : ℕ) (after : Option Feature) (old new : Project) → IsTopology old → IsEdit h after old new
+given_later : (m n a b : ℕ) (e : Entry) → m ≤ n → IsErrorOf m a b e → IsErrorOf n a b e
+given_later m n a b e later x =
+    let given = x.given in
+    let partner = x.partner in
+    record {
+      from_1 = x.from_1;
+      given = omega (arith, given, later);
+      partner = omega (arith, partner, later);
+      cells = x.cells;
+      some =
+          x.some;
+    }
+
+pub edit_keeps : (h : ℕ) (after : Option Feature) (old new : Project) → IsTopology old → IsEdit h after old new → old.next ≤ new.next
     → IsStore new.classes new.features new.next → IfSome after (λ f. IsRectangle (env f)) → IsTopology new
-edit_keeps h after old new t i s r = record {
+edit_keeps h after old new t i later s r = record {
   store = s;
   rules = rw i.rules t.rules;
   few = rw i.rules t.few;
-  kinds = rw (i.rules, i.classes) t.kinds;
+  numbers = rw i.rules t.numbers;
+  fit = rw (i.rules, i.classes) t.fit;
+  apart = rw i.rules t.apart;
   order = rw i.entries t.order;
   made = record {
     envelopes = λ a f k. elim (same_or_not a h) [
@@ -41,6 +57,7 @@ edit_keeps h after old new t i s r = record {
     bare = λ r a b e k w. t.made.bare r a b e (rw i.entries at k) w;
     ruled = λ r a b e k. rw i.rules (t.made.ruled r a b e (rw i.entries at k));
   };
+  errors = λ r a b e k. given_later old.next new.next a b e later (t.errors r a b e (rw i.entries at k));
 }
 
 pub edit_sound_kept : (M : Meaning) → Laws M → TakesKinds M → (h : ℕ) (after : Option Feature) (old new : Project)
@@ -53,19 +70,10 @@ edit_settled_kept M L K h after old new t u i s = edit_settled M L h after old n
     u.store.ascending i s
 
 -- ---- a class more
-dest_end : (cs : List Class) (d : Class) (n : ℕ) (o : Option Kind) → IfSome o (λ k. kind_of_class cs n ≡ Some k)
-    → IfSome o (λ k. kind_of_class (cs ++ d ∷ []) n ≡ Some k)
-dest_end cs d n None h = tt
-dest_end cs d n (Some k) h = kind_end cs d n k h
-
-kinds_end : (cs : List Class) (d : Class) (rules : List InForce) → Every (λ (q : InForce). HasKinds cs q.row) rules
-    → Every (λ (q : InForce). HasKinds (cs ++ d ∷ []) q.row) rules
-kinds_end cs d rules h = every_map (λ (q : InForce). HasKinds cs q.row) (λ (q : InForce). HasKinds (cs ++ d ∷ []) q.row)
-    (λ q k. record {
-      origin = kind_end cs d q.row.origin.class (origin_of q.row.kind) k.origin;
-      dest =
-          dest_end cs d q.row.dest.class (dest_of q.row.kind) k.dest;
-    }) rules h
+fits_end : (cs : List Class) (d : Class) (rules : List InForce) → Every (λ (q : InForce). is_fit cs q.row ≡ true) rules
+    → Every (λ (q : InForce). is_fit (cs ++ d ∷ []) q.row ≡ true) rules
+fits_end cs d rules h = every_map (λ (q : InForce). is_fit cs q.row ≡ true) (λ (q : InForce). is_fit (cs ++ d ∷ []) q.row ≡ true)
+    (λ q f. fit_end cs d q.row f) rules h
 
 pub class_keeps : (name : List ℕ) (k : Kind) (old new : Project) → IsTopology old → IsClassAdded name k old new
     → IsStore new.classes new.features new.next → IsTopology new
@@ -73,7 +81,9 @@ class_keeps name k old new t i s = record {
   store = s;
   rules = rw i.rules t.rules;
   few = rw i.rules t.few;
-  kinds = rw (i.rules, i.classes) (kinds_end old.classes (record { name = name; kind = k }) old.rules t.kinds);
+  numbers = rw i.rules t.numbers;
+  fit = rw (i.rules, i.classes) (fits_end old.classes (record { name = name; kind = k }) old.rules t.fit);
+  apart = rw i.rules t.apart;
   order = rw i.entries t.order;
   made = record {
     envelopes = λ a f k. t.made.envelopes a f (rw i.features at k);
@@ -81,6 +91,7 @@ class_keeps name k old new t i s = record {
     bare = λ r a b e k w. t.made.bare r a b e (rw i.entries at k) w;
     ruled = λ r a b e k. rw i.rules (t.made.ruled r a b e (rw i.entries at k));
   };
+  errors = λ r a b e k. rw i.next (t.errors r a b e (rw i.entries at k));
 }
 
 pub class_sound : (M : Meaning) (name : List ℕ) (k : Kind) (old new : Project) → IsClassAdded name k old new → IsSoundUnder M old
@@ -104,15 +115,18 @@ class_settled M name k old new i s = record {
 }
 
 -- ---- a validation
-pub validated_keeps : (M : Meaning) → CutsRight M → TakesKinds M → (w : Rectangle) (old new : Project) → IsTopology old
+pub validated_keeps : (M : Meaning) → CutsRight M → TakesKinds M → NamesPartners M → (w : Rectangle) (old new : Project) → IsTopology old
     → IsValidatedBy M w old new → entries.IsAscending new.entries → IsTopology new
-validated_keeps M C K w old new t i order = record {
+validated_keeps M C K N w old new t i order = record {
   store = rw (i.classes, i.features, i.next) t.store;
   rules = rw i.rules t.rules;
   few = rw i.rules t.few;
-  kinds = rw (i.rules, i.classes) t.kinds;
+  numbers = rw i.rules t.numbers;
+  fit = rw (i.rules, i.classes) t.fit;
+  apart = rw i.rules t.apart;
   order = order;
   made = (parts_kept_valid M C w old new i (valid M K old t) t.store.ascending).made;
+  errors = rw i.next (validated_errors M N w old new t (validated_by_cut M C w old new (valid M K old t) t.store.ascending i));
 }
 
 pub validated_sound_kept : (M : Meaning) → Laws M → CutsRight M → TakesKinds M → (w : Rectangle) (old new : Project) → IsTopology old

@@ -9,3 +9,5 @@ mod RulesMore
 mod RulesLess
 mod Indexing
 mod Saved
+mod Fresh
+mod Records

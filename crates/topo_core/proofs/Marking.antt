@@ -30,7 +30,9 @@ mark_keeps old new t i u = record {
   store = rw (i.classes, i.features, i.next) t.store;
   rules = rw i.rules t.rules;
   few = rw i.rules t.few;
-  kinds = rw (i.rules, i.classes) t.kinds;
+  numbers = rw i.rules t.numbers;
+  fit = rw (i.rules, i.classes) t.fit;
+  apart = rw i.rules t.apart;
   order = u;
   made = record {
     envelopes = rw i.features t.made.envelopes;
@@ -38,6 +40,16 @@ mark_keeps old new t i u = record {
     bare = λ r a b e k w. let z = back r a b e k in rw (← z.2.cells) (t.made.bare r a b z.0 z.1 (z.2.whole ∙ w));
     ruled = λ r a b e k. let z = back r a b e k in rw i.rules (t.made.ruled r a b z.0 z.1);
   };
+  errors = λ r a b e k.
+      let z = back r a b e k in
+      let x = t.errors r a b z.0 z.1 in
+      rw i.next (record {
+        from_1 = x.from_1;
+        given = x.given;
+        partner = x.partner;
+        cells = λ w. rw (← z.2.cells) (x.cells (z.2.whole ∙ w));
+        some = rw (← z.2.cells) x.some;
+      });
 }
   where
     back : (r a b : ℕ) (e : Entry) → entry_at new.entries r a b ≡ Some e → (d : Entry) × (entry_at old.entries r a b ≡ Some d)

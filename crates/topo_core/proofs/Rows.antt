@@ -1,17 +1,20 @@
 -- Rows that are equal, and classes that fit a row, as their tests tell.
-use Rattle.std.proofs.Common.{◌≡◌, ℕ, Bool, true, false, ◌||◌, not, refl, ap, List, [], ◌∷◌, Option, Some, None, arith}
-use Rattle.std.specs.Prelude.{◌==◌, IfSome}
+use Rattle.std.proofs.Common.{◌≡◌, ℕ, inl, inr, Bool, true, false, ◌&&◌, ◌||◌, not, refl, sym, ap, List, [], ◌∷◌, ◌++◌, Option, Some, None, arith}
+use Rattle.std.specs.Prelude.{◌==◌, IfSome, bytes_eq}
+use Rattle.std.proofs.lemmas.Bool.{cases_Bool}
 use Rattle.std.proofs.lemmas.Bool.Decides.{nat_tests}
 use Rattle.std.proofs.lemmas.Slice.Eq.{bytes_eq-Decides}
+use Rattle.plane_terms.specs.Lists.{Every}
 use Rattle.plane_terms.specs.declared.kind.Kind.{Kind}
+use Rattle.plane_terms.specs.declared.kind.Kind.TheVariants as kind
 use Rattle.rule_words.specs.Table.{word_of, origin_of, dest_of}
 use Rattle.topology_terms.specs.Feature.{Class}
 use Rattle.topology_terms.specs.Broken.{Row}
 use Rattle.topology_terms.specs.Project.{InForce, rule_at}
 use Rattle.topology_terms.specs.Lookups.{kind_of_class}
-use Rattle.topology_terms.specs.Causes.{when, first_of, is_kind, is_row, is_there, is_missing, is_fit, fits_dest, fit_cause}
+use Rattle.topology_terms.specs.Causes.{when, first_of, same_kind, is_kind, is_row, is_there, is_missing, is_fit, fits_dest, fit_cause}
 use Rattle.topology_terms.specs.declared.cause.Cause.TheVariants as cause
-use Rattle.feature_store.proofs.Keeping.{kinds_same}
+use Rattle.feature_store.proofs.Keeping.{kinds_same, kind_end}
 use Rattle.topo_core.specs.Kinds.{HasKinds}
 use Rattle.plane_terms.proofs.Truths.{both_parts}
 
@@ -60,5 +63,53 @@ fits_kinds cs row e =
           dest_told cs row (dest_of row.kind) fit.1;
     }
 
-pub has_kinds : (cs : List Class) (row : Row) → fit_cause cs row ≡ None → HasKinds cs row
-has_kinds cs row e = fits_kinds cs row (no_fault (is_missing cs row) (is_fit cs row) e)
+pub no_cause_fits : (cs : List Class) (row : Row) → fit_cause cs row ≡ None → is_fit cs row ≡ true
+no_cause_fits cs row e = no_fault (is_missing cs row) (is_fit cs row) e
+
+-- ---- a class more leaves them fitting
+own_kind : (k : Kind) → same_kind k k ≡ true
+own_kind kind.Point = refl
+own_kind kind.Line = refl
+own_kind kind.Polygon = refl
+
+kind_stays : (cs : List Class) (d : Class) (n : ℕ) (k : Kind) → is_kind (kind_of_class cs n) k ≡ true
+    → is_kind (kind_of_class (cs ++ d ∷ []) n) k ≡ true
+kind_stays cs d n k e = rw (kind_end cs d n k (kind_told (kind_of_class cs n) k e)) (own_kind k)
+
+dest_stays : (cs : List Class) (d : Class) (row : Row) (o : Option Kind) → fits_dest cs row o ≡ true → fits_dest (cs ++ d ∷ []) row o ≡ true
+dest_stays cs d row None e = e
+dest_stays cs d row (Some k) e =
+    let h = both_parts (is_kind (kind_of_class cs row.dest.class) k) (not (row.dest.class == row.origin.class)) e in
+    rw (kind_stays cs d row.dest.class k h.0, h.1) refl
+
+pub fit_end : (cs : List Class) (d : Class) (row : Row) → is_fit cs row ≡ true → is_fit (cs ++ d ∷ []) row ≡ true
+fit_end cs d row e =
+    let h = both_parts (is_kind (kind_of_class cs row.origin.class) (origin_of row.kind)) (fits_dest cs row (dest_of row.kind)) e in
+    rw (kind_stays cs d row.origin.class (origin_of row.kind) h.0, dest_stays cs d row (dest_of row.kind) h.1) refl
+
+-- ---- rows that differ
+same_back : (m n : ℕ) → (m == n) ≡ true → (n == m) ≡ true
+same_back m n e = grind (arith, nat_tests)
+
+row_back : (q r : Row) → is_row q r ≡ true → is_row r q ≡ true
+row_back q r e =
+    let h = both_parts (bytes_eq (word_of q.kind) (word_of r.kind)) ((q.origin.class == r.origin.class) && (q.dest.class ==
+    r.dest.class)) e in
+    let k = both_parts (q.origin.class == r.origin.class) (q.dest.class == r.dest.class) h.1 in
+    let word = (bytes_eq-Decides (word_of q.kind) (word_of r.kind)).0 h.0 in
+    rw (
+      (bytes_eq-Decides (word_of r.kind) (word_of q.kind)).1 (sym word),
+      same_back q.origin.class r.origin.class k.0,
+      same_back q.dest.class r.dest.class k.1,
+    ) refl
+
+pub apart_back : (q r : Row) → is_row q r ≡ false → is_row r q ≡ false
+apart_back q r e = elim (cases_Bool (is_row r q)) [ inl t ↦ let back = row_back r q t in absurd cc | inr f ↦ f ]
+
+neither : (s t : Bool) → (s || t) ≡ false → (s ≡ false) × (t ≡ false)
+neither true t e = absurd cc
+neither false t e = (refl, e)
+
+pub each_other : (row : Row) (rs : List InForce) → is_there rs row ≡ false → Every (λ (q : InForce). is_row q.row row ≡ false) rs
+each_other row [] e = tt
+each_other row (q ∷ rs) e = let h = neither (is_row q.row row) (is_there rs row) e in (h.0, each_other row rs h.1)

@@ -1,9 +1,10 @@
 -- A rule more in an ascending list.
-use Rattle.std.proofs.Common.{◌≡◌, ◌≢◌, inl, inr, ℕ, zero, suc, ◌<◌, ◌≤◌, ◌+◌, true, false, List, [], ◌∷◌, Some, None, length, drop, get_or, refl, sym, subst, ap, ◌∙◌, arith, ltb}
-use Rattle.std.specs.Prelude.{is_some, insert, ◌⊎◌, ◌==◌, if◌then◌else◌}
+use Rattle.std.proofs.Common.{◌≡◌, ◌≢◌, inl, inr, ℕ, zero, suc, ◌<◌, ◌≤◌, ◌+◌, Bool, true, false, List, [], ◌∷◌, Some, None, length, drop, get_or, refl, sym, subst, ap, ◌∙◌, arith, ltb}
+use Rattle.std.specs.Prelude.{is_some, insert, filter, cond, ◌⊎◌, ◌==◌, if◌then◌else◌}
 use Rattle.std.proofs.lemmas.Bool.{eq-eqb, ne_eqb, cases_lt, lt-ltb, le-ltb}
 use Rattle.std.proofs.lemmas.Bool.Decides.{nat_tests, eqb_tells}
-use Rattle.plane_terms.specs.Lists.{Every}
+use Rattle.plane_terms.specs.Lists.{Every, EveryPair}
+use Rattle.plane_terms.proofs.ListLemmas.{every_map, every_filter}
 use Rattle.topology_terms.specs.Project.{InForce, by_number, AreAscending, rule_at}
 use Rattle.sound_laws.proofs.Keyed.{after_later, contained_found}
 use Rattle.sound_laws.proofs.RuleLists.{rule_numbers, at_number, past_number, rule_found}
@@ -163,3 +164,22 @@ with_ascending (q ∷ qs) r e a = elim (eqb_tells q.number r.number) [
         rw t.0 ((less, after_later by_number rule_numbers r.number q.number qs less a.0), a)
   ]
 ]
+
+-- a rule more in a list of which each two rules keep a relation that goes both ways
+pub with_pairs : (P : InForce → InForce → Type 0) → ((q r : InForce) → P q r → P r q) → (rs : List InForce) (r : InForce)
+    → Every (λ (q : InForce). P q r) rs → EveryPair P rs → EveryPair P (with_rule rs r)
+with_pairs P back [] r h pairs = (tt, tt)
+with_pairs P back (q ∷ qs) r h pairs = elim (lower_or_not q.number r.number) [
+  | inl t ↦ rw t.0 (with_every (P q) qs r pairs.0 h.0, with_pairs P back qs r h.1 pairs.1)
+  | inr t ↦ rw t.0 (every_map (λ (x : InForce). P x r) (P r) (λ x k. back x r k) (q ∷ qs) h, pairs)
+]
+
+pub pairs_filter : (P : InForce → InForce → Type 0) (test : InForce → Bool) (rs : List InForce) → EveryPair P rs
+    → EveryPair P (filter test rs)
+pairs_filter P test [] pairs = tt
+pairs_filter P test (q ∷ qs) pairs = by (test q) (every_filter (P q) test qs pairs.0) (pairs_filter P test qs pairs.1)
+  where
+    by : (b : Bool) → Every (P q) (filter test qs) → EveryPair P (filter test qs)
+        → EveryPair P (cond b (q ∷ filter test qs) (filter test qs))
+    by true h rest = (h, rest)
+    by false h rest = rest

@@ -1,19 +1,21 @@
 -- A rule less keeps what every topology keeps.
-use Rattle.std.proofs.Common.{◌≡◌, ◌≢◌, ◌≤◌, arith, length, inl, inr, ℕ, Bool, List, [], ◌∷◌, None, Some, refl, sym, ◌∙◌}
+use Rattle.std.proofs.Common.{◌≡◌, ◌≢◌, ◌≤◌, arith, length, inl, inr, ℕ, Bool, true, false, List, [], ◌∷◌, None, Some, refl, sym, ◌∙◌}
 use Rattle.std.specs.Prelude.{not, ◌==◌}
 use Rattle.std.proofs.lemmas.Bool.Decides.{eqb_tells}
 use Rattle.plane_terms.specs.Rectangle.{Rectangle}
 use Rattle.topology_terms.specs.Entry.{Entry, entry_at}
 use Rattle.topology_terms.specs.Entry as entries
 use Rattle.topology_terms.specs.Project.{InForce, by_number}
+use Rattle.topology_terms.specs.Causes.{is_fit, is_row}
 use Rattle.topology_terms.specs.Changes.{IsRuleDropped}
 use Rattle.plane_terms.proofs.ListLemmas.{every_filter}
 use Rattle.sound_laws.proofs.Keyed.{ascending_filter}
 use Rattle.sound_laws.proofs.RuleLists.{rule_numbers, without_here, without_others}
 use Rattle.feature_store.specs.Stored.{Stored}
-use Rattle.topo_core.specs.Kinds.{HasKinds}
+use Rattle.project_terms.specs.Records.{IsNumbered}
 use Rattle.topo_core.specs.RuleLists.{without_rule}
 use Rattle.topo_core.specs.Topologies.{IsTopology, project_of}
+use Rattle.topo_core.proofs.RuleLists.{pairs_filter}
 
 -- the rule has another number
 abbrev pub is_other : ℕ → InForce → Bool
@@ -51,7 +53,9 @@ rule_leaves n s rules less d es fs l left order t = record {
   store = t.store;
   rules = rw l (ascending_filter by_number rule_numbers (is_other n) rules t.rules);
   few = let short = without_length rules n in let few = t.few in rw l (omega (arith, short, few));
-  kinds = rw l (every_filter (λ (q : InForce). HasKinds s.classes q.row) (is_other n) rules t.kinds);
+  numbers = rw l (every_filter IsNumbered (is_other n) rules t.numbers);
+  fit = rw l (every_filter (λ (q : InForce). is_fit s.classes q.row ≡ true) (is_other n) rules t.fit);
+  apart = rw l (pairs_filter (λ (q r : InForce). is_row q.row r.row ≡ false) (is_other n) rules t.apart);
   order = order;
   made = record {
     envelopes = t.made.envelopes;
@@ -61,6 +65,7 @@ rule_leaves n s rules less d es fs l left order t = record {
         let y = t.made.ruled r a b e (sym (left.kept r a b (apart r a b e k)) ∙ k) in
         (y.0, rw l (without_others rules n r (apart r a b e k) ∙ y.1));
   };
+  errors = λ r a b e k. t.errors r a b e (sym (left.kept r a b (apart r a b e k)) ∙ k);
 }
   where
     apart : (r a b : ℕ) (e : Entry) → entry_at fs r a b ≡ Some e → r ≢ n

@@ -1,8 +1,9 @@
 -- A rule more keeps what every topology keeps, and what it keeps of the rules' meaning.
-use Rattle.std.proofs.Common.{◌≡◌, ◌≢◌, ◌<◌, ◌≤◌, inl, inr, ℕ, List, None, length, refl, ◌∙◌, arith}
+use Rattle.std.proofs.Common.{◌≡◌, ◌≢◌, ◌<◌, ◌≤◌, inl, inr, ℕ, true, false, List, None, length, refl, ◌∙◌, arith}
 use Rattle.plane_terms.specs.Rectangle.{Rectangle, whole_grid}
 use Rattle.plane_terms.specs.Dirt.{add_dirt}
 use Rattle.topology_terms.specs.Broken.{Row}
+use Rattle.topology_terms.specs.Causes.{is_fit, is_row, is_there}
 use Rattle.topology_terms.specs.Meaning.{Meaning, Laws}
 use Rattle.topology_terms.specs.Entry.{Entry}
 use Rattle.topology_terms.specs.Project.{Project, InForce, rule_at}
@@ -13,10 +14,12 @@ use Rattle.sound_laws.proofs.Edits.{same_or_not}
 use Rattle.sound_laws.proofs.RuleChanges.{add_rule_sound}
 use Rattle.sound_laws.proofs.Settling.{add_rule_settled}
 use Rattle.feature_store.specs.Stored.{Stored}
-use Rattle.topo_core.specs.Kinds.{HasKinds, TakesKinds}
+use Rattle.project_terms.specs.Records.{IsNumbered}
+use Rattle.topo_core.specs.Kinds.{TakesKinds}
 use Rattle.topo_core.specs.RuleLists.{with_rule}
 use Rattle.topo_core.specs.Topologies.{IsTopology, project_of}
-use Rattle.topo_core.proofs.RuleLists.{with_here, with_others, with_length, with_every, with_ascending}
+use Rattle.topo_core.proofs.Rows.{apart_back, each_other}
+use Rattle.topo_core.proofs.RuleLists.{with_here, with_others, with_length, with_every, with_pairs, with_ascending}
 use Rattle.topo_core.proofs.Whole.{valid}
 
 -- the least number from 1 that no rule has
@@ -44,15 +47,18 @@ rule_added n row s rules more d e es number m dirt =
     }
 
 pub rule_keeps : (n : ℕ) (row : Row) (s : Stored) (rules more : List InForce) (d e : List Rectangle) (es : List Entry)
-    → rule_at rules n ≡ None → length rules < 256 → more ≡ with_rule rules (record { number = n; row = row })
-    → IsTopology (project_of s rules d es) → HasKinds s.classes row → IsTopology (project_of s more e es)
-rule_keeps n row s rules more d e es free left m t kinds =
+    → rule_at rules n ≡ None → (1 ≤ n) × (n ≤ 256) → length rules < 256 → more ≡ with_rule rules (record { number = n; row = row })
+    → IsTopology (project_of s rules d es) → is_fit s.classes row ≡ true → is_there rules row ≡ false → IsTopology (project_of s more e es)
+rule_keeps n row s rules more d e es free number left m t fit absent =
     let q : InForce = record { number = n; row = row } in
     record {
       store = t.store;
       rules = rw m (with_ascending rules q free t.rules);
       few = let one = with_length rules q in rw m (omega (arith, one, left));
-      kinds = rw m (with_every (λ (x : InForce). HasKinds s.classes x.row) rules q t.kinds kinds);
+      numbers = rw m (with_every IsNumbered rules q t.numbers number);
+      fit = rw m (with_every (λ (x : InForce). is_fit s.classes x.row ≡ true) rules q t.fit fit);
+      apart = rw m (with_pairs (λ (x y : InForce). is_row x.row y.row ≡ false) (λ x y. apart_back x.row y.row) rules q
+          (each_other row rules absent) t.apart);
       order = t.order;
       made = record {
         envelopes = t.made.envelopes;
@@ -63,6 +69,7 @@ rule_keeps n row s rules more d e es free left m t kinds =
           | inr u ↦ let y = t.made.ruled r a b x k in (y.0, rw m (with_others rules q r u ∙ y.1))
         ];
       };
+      errors = t.errors;
     }
 
 pub rule_sound : (M : Meaning) → Laws M → TakesKinds M → (n : ℕ) (row : Row) (old new : Project)

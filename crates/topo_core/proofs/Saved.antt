@@ -1,18 +1,15 @@
 -- A project that a text can say is one that a topology keeps.
-use Rattle.std.proofs.Common.{◌≡◌, ℕ, ◌+◌, ◌<◌, ◌≤◌, true, List, [], ◌∷◌, Some, length, sym, subst, ◌∙◌, arith}
+use Rattle.std.proofs.Common.{◌≡◌, ℕ, ◌+◌, ◌<◌, ◌≤◌, List, [], ◌∷◌, Some, length, sym, subst, ◌∙◌, arith}
 use Rattle.plane_terms.specs.Lists.{Every}
 use Rattle.plane_terms.specs.Rectangle.{IsRectangle}
 use Rattle.plane_terms.proofs.ListLemmas.{every_map}
 use Rattle.topology_terms.specs.Feature.{Feature, env}
-use Rattle.topology_terms.specs.Causes.{is_fit}
 use Rattle.topology_terms.specs.Project.{Project, InForce, AreAscending, rule_at}
 use Rattle.project_terms.specs.Records.{IsRecord, IsNumbered, IsError}
 use Rattle.sound_laws.proofs.FeatureLists.{live_each}
 use Rattle.sound_laws.proofs.Lists.{every_found, entry_key}
 use Rattle.feature_store.specs.Keeps.{IsStore}
-use Rattle.topo_core.specs.Kinds.{HasKinds}
 use Rattle.topo_core.specs.Topologies.{IsTopology}
-use Rattle.topo_core.proofs.Rows.{fits_kinds}
 
 -- numbers that ascend from `low` on and are at most 256
 few_from : (low : ℕ) (rs : List InForce) → low ≤ 257 → AreAscending rs → Every (λ (q : InForce). low ≤ q.number) rs → Every IsNumbered rs
@@ -36,8 +33,9 @@ record_topology p s rects k = record {
   store = s;
   rules = k.rules;
   few = few_numbered p.rules k.rules k.numbers;
-  kinds = every_map (λ (q : InForce). is_fit p.classes q.row ≡ true) (λ (q : InForce). HasKinds p.classes q.row)
-      (λ q f. fits_kinds p.classes q.row f) p.rules k.fit;
+  numbers = k.numbers;
+  fit = k.fit;
+  apart = k.apart;
   order = k.entries;
   made = record {
     envelopes = λ a f e. live_each (λ (g : Feature). IsRectangle (env g)) p.features a f rects e;
@@ -49,4 +47,14 @@ record_topology p s rects k = record {
         let x = (every_found (IsError p) p.entries r a b e k.errors found).rule in
         (x.0, subst (λ n. rule_at p.rules n ≡ Some x.0) (entry_key p.entries r a b e found).0 x.1);
   };
+  errors = λ r a b e found.
+      let x = every_found (IsError p) p.entries r a b e k.errors found in
+      let key = entry_key p.entries r a b e found in
+      record {
+        from_1 = subst (λ n. 1 ≤ n) key.1 x.from_1;
+        given = subst (λ n. n < p.next) key.1 x.given;
+        partner = subst (λ n. n < p.next) key.2 x.partner;
+        cells = x.cells;
+        some = x.some;
+      };
 }

@@ -1,7 +1,8 @@
 -- What every topology keeps: it is ordered, its rules fit, and it is a project by any meaning that asks for kinds alone.
-use Rattle.std.proofs.Common.{◌≡◌, ℕ, List, Option, Some, None, sym, ◌∙◌, ap, arith}
+use Rattle.std.proofs.Common.{◌≡◌, ℕ, true, List, Option, Some, None, sym, ◌∙◌, ap, arith}
 use Rattle.std.specs.Option.{IfSome}
 use Rattle.plane_terms.specs.Lists.{Every}
+use Rattle.plane_terms.proofs.ListLemmas.{every_map}
 use Rattle.plane_terms.specs.declared.kind.Kind.{Kind}
 use Rattle.topology_terms.specs.Feature.{Class, Feature, by_handle, feature_at}
 use Rattle.rule_words.specs.Table.{origin_of, dest_of}
@@ -11,7 +12,8 @@ use Rattle.topology_terms.specs.Entry.{entry_at}
 use Rattle.topology_terms.specs.Lookups.{kind_of_class}
 use Rattle.topology_terms.specs.Sound.{IsSoundUnder}
 use Rattle.topology_terms.specs.Settled.{IsSettledUnder}
-use Rattle.topology_terms.specs.Project.{Project, IsProject, IsOrdered, rule_at, empty_project}
+use Rattle.topology_terms.specs.Project.{Project, InForce, IsProject, IsOrdered, rule_at, empty_project}
+use Rattle.topology_terms.specs.Causes.{is_fit}
 use Rattle.sound_laws.proofs.Keyed.{none_lacks, lacks_before}
 use Rattle.sound_laws.proofs.FeatureLists.{handles}
 use Rattle.sound_laws.proofs.RuleLists.{rule_each}
@@ -19,6 +21,7 @@ use Rattle.feature_store.specs.Keeps.{IsOfClass, IsGiven, HasSimpleSides, IsStor
 use Rattle.feature_store.proofs.Keeping.{live_each, below_next}
 use Rattle.topo_core.specs.Kinds.{HasKinds, TakesKinds}
 use Rattle.topo_core.specs.Topologies.{IsTopology}
+use Rattle.topo_core.proofs.Rows.{fits_kinds}
 
 pub ordered : (p : Project) → IsTopology p → IsOrdered p
 ordered p t = record { rules = t.rules; features = t.store.ascending; next = below_next p.next p.features t.store.given; entries = t.order }
@@ -55,10 +58,14 @@ row_fits cs F next row s h = record {
   boundary = λ a f e. (live_simple F a f s.simple e).boundary;
 }
 
+pub kinds : (p : Project) → IsTopology p → Every (λ (q : InForce). HasKinds p.classes q.row) p.rules
+kinds p t = every_map (λ (q : InForce). is_fit p.classes q.row ≡ true) (λ (q : InForce). HasKinds p.classes q.row)
+    (λ q f. fits_kinds p.classes q.row f) p.rules t.fit
+
 pub fitting : (M : Meaning) → TakesKinds M → (p : Project) → IsTopology p → (n : ℕ) (row : Row) → rule_at p.rules n ≡ Some row
     → M.Fits row p.features
 fitting M K p t n row e =
-    K.fits row p.features (row_fits p.classes p.features p.next row t.store (rule_each (HasKinds p.classes) p.rules n row t.kinds e))
+    K.fits row p.features (row_fits p.classes p.features p.next row t.store (rule_each (HasKinds p.classes) p.rules n row (kinds p t) e))
 
 pub row_fitting : (M : Meaning) → TakesKinds M → (p : Project) → IsTopology p → (row : Row) → HasKinds p.classes row → M.Fits row p.features
 row_fitting M K p t row h = K.fits row p.features (row_fits p.classes p.features p.next row t.store h)
@@ -73,7 +80,9 @@ empty_topology = record {
   store = record { few = omega arith; names = tt; ascending = tt; given = tt; kinds = tt; simple = tt; from_1 = omega arith };
   rules = tt;
   few = omega arith;
-  kinds = tt;
+  numbers = tt;
+  fit = tt;
+  apart = tt;
   order = tt;
   made = record {
     envelopes = λ a f e. absurd cc;
@@ -82,6 +91,7 @@ empty_topology = record {
     ruled =
         λ r a b e k. absurd cc;
   };
+  errors = λ r a b e k. absurd cc;
 }
 
 pub empty_sound : (M : Meaning) → IsSoundUnder M empty_project

@@ -3,8 +3,11 @@
 -- HasKinds cs row      the class of the subjects has the kind that the rule takes; so has the second class, where the rule takes one
 -- TakesKinds M         the meaning asks no more of the features than that they ascend, both sides have the rule's kinds, and segments are
 --                      as shapes have them
-use Rattle.std.specs.Prelude.{◌≡◌, List, Some, IfSome}
-use Rattle.topology_terms.specs.Feature.{Class, Feature}
+-- IsPartner F b        b is the handle of a live feature, or 0, which is the handle of none
+-- NamesPartners M      a subject breaks a rule of the meaning with such a partner alone
+use Rattle.std.specs.Prelude.{◌≡◌, ◌⊎◌, ℕ, List, Some, IfSome}
+use Rattle.plane_terms.specs.Point.{Point}
+use Rattle.topology_terms.specs.Feature.{Class, Feature, feature_at}
 use Rattle.topology_terms.specs.Lookups.{kind_of_class}
 use Rattle.rule_words.specs.Table.{origin_of, dest_of}
 use Rattle.topology_terms.specs.Broken.{Row, Fits}
@@ -16,3 +19,9 @@ pub record HasKinds (cs : List Class) (row : Row) : Type 0 where
 
 pub record TakesKinds (M : Meaning) : Type 0 where
   pub fits : (row : Row) (F : List Feature) → Fits row F → M.Fits row F
+
+abbrev pub IsPartner : List Feature → ℕ → Type 0
+IsPartner F b = (b ≡ 0) ⊎ ((g : Feature) × (feature_at F b ≡ Some g))
+
+pub record NamesPartners (M : Meaning) : Type 0 where
+  pub partner : (row : Row) (F : List Feature) (a b : ℕ) (p : Point) → M.BrokenAt row F a b p → IsPartner F b

@@ -1,15 +1,23 @@
-ghost use Rattle.std.specs.Prelude.{◌≡◌, Contains, IfOk};
+ghost use Rattle.std.specs.Prelude.{◌≡◌, Contains, IfOk, IfSome};
 ghost use Rattle.plane_terms.specs.Lists.{Every};
+ghost use Rattle.plane_terms.specs.Cell as cell_terms;
+ghost use Rattle.plane_terms.specs.HalfPlane.{IsHalfPlane};
 ghost use Rattle.plane_terms.specs.Rectangle.{IsRectangle};
+ghost use Rattle.plane_terms.specs.Shape.{IsShape};
 ghost use Rattle.topology_terms.specs.Feature as terms;
 ghost use Rattle.topology_terms.specs.Feature.{env};
+ghost use Rattle.topology_terms.specs.Lookups.{class_at};
 ghost use Rattle.project_terms.specs.Records.{IsRecord};
 ghost use Rattle.validation.specs.Placed.{placed_of};
+ghost use Rattle.topo_core.specs.Topologies.{IsNamed, IsDrawn};
 
 use crate::growth::store_law;
 use crate::kinds::KindRules;
 use crate::places::place_of;
 use crate::topology::Topology;
+use convex_cell::{Cell, Cells};
+use error_store::Entry;
+use feature_store::Store;
 use grid_index::Index;
 use grid_plane::NoMemory;
 use project_text::ProjectData;
@@ -29,13 +37,64 @@ fn index_of(alloc: Global, features: &[Feature]) -> Result<Index, NoMemory>
     Ok(index)
 }
 
+// The law that the class of this number, where there is one, has a name.
+fn name_law(store: &Store, class: u16)
+    ensures { IfSome (class_at store.now.classes class) IsNamed }
+{
+    if let Some(name) = store.class_name(class) {
+        name.bytes();
+    }
+}
+
+// The law that each class has a name.
+fn names_law(store: &Store)
+    ensures { Every IsNamed store.now.classes }
+{
+    for before in 0..store.class_count() {
+        name_law(store, before + 1);
+    }
+}
+
+// The law that each feature has a valid shape.
+fn shapes_law(features: &[Feature])
+    ensures { Every (λ (f : terms.Feature). IsShape f.shape) features.now }
+{
+    for feature in features {
+        feature.shape().kind();
+    }
+}
+
+// The law that each half-plane of a cell keeps its limits.
+fn cell_law(cell: &Cell)
+    ensures { Every IsHalfPlane cell.now }
+{
+    for i in 0..cell.len() {
+        cell.half(i).a();
+    }
+}
+
+// The law of each cell of the list.
+fn cells_law(cells: &Cells)
+    ensures { Every (λ (c : cell_terms.Cell). Every IsHalfPlane c) cells.now }
+{
+    for i in 0..cells.len() {
+        cell_law(cells.cell(i));
+    }
+}
+
+// The law of the frame and the cells of each error.
+fn errors_law(entries: &[Entry])
+    ensures { Every IsDrawn entries.now }
+{
+    for entry in entries {
+        entry.frame().corner_law();
+        cells_law(entry.cells());
+    }
+}
+
 impl<R: KindRules> Topology<R> {
     /// The topology of what was saved, judged by these rules.
-    pub fn from_data(
-        alloc: Global,
-        judging: R,
-        saved: ProjectData,
-    ) -> Result<Topology<R>, NoMemory>
+    pub fn from_data(alloc: Global, judging: R, saved: ProjectData) -> Result<Topology<R>, NoMemory>
     where
         R: Drop,
         requires { IsRecord saved }
@@ -54,10 +113,23 @@ impl<R: KindRules> Topology<R> {
         })
     }
 
+    /// The law that a text can say what is saved of the topology.
+    pub fn record_law(&self)
+        ensures { IsRecord self.now }
+    {
+        self.store.next_handle();
+        names_law(&self.store);
+        shapes_law(self.store.features());
+        self.dirt.rects();
+        errors_law(self.entries.entries());
+    }
+
     /// What is saved of the topology: a copy, which a later change of the topology leaves as it is.
     pub fn to_data(&self) -> Result<ProjectData, NoMemory>
         ensures same { IfOk result (λ d. d ≡ self.now) }
+        ensures valid { IfOk result (λ d. IsRecord d) }
     {
+        self.record_law();
         Ok(ProjectData {
             store: self.store.try_copy(self.alloc)?,
             rules: Vec::from_slice(self.alloc, &self.rules)?,

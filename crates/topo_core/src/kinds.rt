@@ -1,9 +1,11 @@
-ghost use Rattle.topo_core.specs.Kinds.{TakesKinds};
+ghost use Rattle.topo_core.specs.Kinds.{TakesKinds, NamesPartners};
 
 use rule_core::RuleSet;
 
 /// All rules, each of which fits where the features of both sides have the kinds that it takes, and the segments of each
-/// polygon meet at ends alone.
+/// polygon meet at ends alone. A partner with which a subject breaks a rule is a live feature.
 pub trait KindRules: RuleSet {
     ghost kinds: { TakesKinds Self.meaning };
+
+    ghost partners: { NamesPartners Self.meaning };
 }

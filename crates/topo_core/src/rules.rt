@@ -30,6 +30,7 @@ pub fn free_number(rules: &[InForce]) -> u16
     requires few { length rules.now < 256 }
     requires ascending { AreAscending rules.now }
     ensures from_1 { 1 ≤ result }
+    ensures most { result ≤ 256 }
     ensures free { rule_at rules.now result ≡ None }
     ensures least { (k : ℕ) → 1 ≤ k → k < result → rule_at rules.now k ≢ None }
 {

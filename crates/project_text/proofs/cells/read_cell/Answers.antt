@@ -12,7 +12,11 @@ returns-then-not-is_empty c =
     let l = c.loop-more in
     let r : HalvesRead (left c.args.rest.now) l.halves.items l.within false l.left.now =
     subst (λ m. HalvesRead (left c.args.rest.now) l.halves.items l.within m l.left.now) c.loop-more-test.false l.invariant in
-    inl (longer (left c.args.rest.now) l.halves.items l.within l.left.now r (not_empty l.left.now c.is_empty.result c.is_empty.ensures c.if-not-is_empty.true), refl)
+    inl (
+      longer (left c.args.rest.now) l.halves.items l.within l.left.now r
+          (not_empty l.left.now c.is_empty.result c.is_empty.ensures c.if-not-is_empty.true),
+      refl,
+    )
 
 pub loop-more-preserved : goal.loop-more-preserved
 loop-more-preserved c =
@@ -27,7 +31,8 @@ loop-more-preserved c =
       | in-Some-of+in_ok-push-in-Some-of w ↦
           let same : w.in-Some-of.half ≡ half_said f = rw (x, y, z) at w.in-Some-of.ensures.value in
           let valid : IsHalfPlane (half_said f) = rw (x, y, z) at (w.in-Some-of.ensures.made.0 refl) in
-          rw (w.halves-is, w.within-is) (one_more (left c.args.rest.now) l.halves.items w.push.new.self.items l.within l.left.now f w.in-Some-of.half r
+          rw (w.halves-is, w.within-is) (one_more (left c.args.rest.now) l.halves.items w.push.new.self.items l.within l.left.now f
+          w.in-Some-of.half r
           c.in-Some.ensures.said same valid w.in_ok-push-in-Some-of.ensures.items)
       | in-None w ↦
           let out : IsHalfPlane (half_said f) → false ≡ true = rw (x, y, z) at w.in-None.ensures.made.1 in

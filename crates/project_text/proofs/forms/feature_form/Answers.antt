@@ -7,5 +7,6 @@ returns-in_err-of c =
 
 pub returns : goal.returns
 returns c =
-    rw (fits c.in_ok-handle.handle.now c.in_ok-read_number.field-0 c.in_ok-read_number.ensures, c.in_ok-of.ensures.0) (feature_said_at _ _ _ _ _ _ _ c.in_ok-handle.ensures.0
+    rw (fits c.in_ok-handle.handle.now c.in_ok-read_number.field-0 c.in_ok-read_number.ensures, c.in_ok-of.ensures.0)
+    (feature_said_at _ _ _ _ _ _ _ c.in_ok-handle.ensures.0
     c.in_ok-class.ensures.0 c.in_ok-wkt.ensures c.in_ok-read_number.ensures c.in_ok-of.ensures.1)

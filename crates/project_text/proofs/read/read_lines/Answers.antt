@@ -13,17 +13,20 @@ pub returns-in-Err : goal.returns-in-Err
 returns-in-Err c =
     let l = c.loop-alloc in
     let on : l.draft.stage ≢ stage.End = λ e. false≢true (sym c.loop-alloc-test.true ∙ c.is_over.ensures.1 e) in
-    wrong_line c.read_line.result c.in-Err.fault c.at_line.result c.args.text.now l.draft c.read_line.new.self l.rest.now c.in-Some.first.now
+    wrong_line c.read_line.result c.in-Err.fault c.at_line.result c.args.text.now l.draft c.read_line.new.self l.rest.now
+    c.in-Some.first.now
     c.in-Some.more.now l.line l.invariant.begun on c.in-Some.ensures.0 c.in-Some.ensures.1 c.read_line.ensures c.in-Err.is c.at_line.ensures
 
 pub loop-alloc-preserved : goal.loop-alloc-preserved
 loop-alloc-preserved c =
     let l = c.loop-alloc in
     record {
-      begun = one_more c.args.text.now l.draft c.read_line.new.self l.rest.now c.in-Some.first.now c.in-Some.more.now l.line l.invariant.begun
+      begun = one_more c.args.text.now l.draft c.read_line.new.self l.rest.now c.in-Some.first.now c.in-Some.more.now l.line
+          l.invariant.begun
           c.in-Some.ensures.0 c.in-Some.ensures.1
           (right c.read_line.result c.in-Ok.field-0 l.draft c.read_line.new.self c.in-Some.first.now c.read_line.ensures c.in-Ok.is);
-      few = few_more l.line (length c.args.text.now + 1) l.rest.now c.in-Some.first.now c.in-Some.more.now l.invariant.few c.in-Some.ensures.1;
+      few = few_more l.line (length c.args.text.now + 1) l.rest.now c.in-Some.first.now c.in-Some.more.now l.invariant.few
+          c.in-Some.ensures.1;
     }
 
 pub into_project-requires : goal.into_project-requires

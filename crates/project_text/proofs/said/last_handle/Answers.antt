@@ -5,4 +5,5 @@ use Rattle.project_text.proofs.said.last_handle.Goals as goal
 
 pub returns-in-Some : goal.returns-in-Some
 returns-in-Some c =
-    c.handle.ensures ∙ sym (last_number_at (λ (f : Feature). f.handle) c.args.features.now c.in-Some.feature.now (sym c.in-Some.ensures.value))
+    c.handle.ensures ∙ sym (last_number_at (λ (f : Feature). f.handle) c.args.features.now c.in-Some.feature.now
+    (sym c.in-Some.ensures.value))

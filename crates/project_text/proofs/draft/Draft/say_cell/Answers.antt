@@ -11,5 +11,19 @@ returns c =
     let same : c.args.self.now.project.entries ≡ items = sym (ap (λ (d : Draft). d.project.entries) c.self.view_is) in
     let some : 0 < length c.args.self.now.project.entries = some_entry c.args.self.now.project.entries c.requires in
     let put = cell_set items (c.len-last.result - 1) c.index_mut.result.now c.push_cell.new.self c.args.cell
-    (omega (arith, c.len-last.ensures, some, ap (λ (es : List Entry). length es) same)) c.index_mut.ensures.value c.in_ok-push_cell.ensures.ok in
-    rw (← c.self.view_is) (ap (λ (es : List Entry). Ok (record { stage = i.stage; project = record { classes = i.store.classes; rules = i.rules.items; features = i.store.features; next = i.store.next; dirt = i.dirt; entries = es } })) put)
+    (omega (arith, c.len-last.ensures, some, ap (λ (es : List Entry). length es) same)) c.index_mut.ensures.value
+    c.in_ok-push_cell.ensures.ok in
+    rw (← c.self.view_is) (ap (λ (es : List Entry). Ok
+    (record {
+      stage = i.stage;
+      project =
+          record {
+            classes = i.store.classes;
+            rules = i.rules.items;
+            features = i.store.features;
+            next = i.store.next;
+            dirt =
+                i.dirt;
+            entries = es;
+          };
+    })) put)

@@ -1,4 +1,4 @@
-use Rattle.std.proofs.Common.{refl, subst, sym}
+use Rattle.std.proofs.Common.{refl, subst, sym, arith}
 use Rattle.topology_terms.specs.Project.{Project}
 use Rattle.topology_terms.specs.Causes.{Tells, add_cause}
 use Rattle.topology_terms.specs.Sound.{IsSoundUnder}
@@ -29,16 +29,18 @@ returns-in_err-dirty_next-clause-ordered g c = ordered _ (invariant_of-self-in_e
 
 pub invariant_of-self-2 : goal.invariant_of-self-2
 invariant_of-self-2 g c =
-    let edit = (added c.args.class c.args.shape c.add_in-handle.result c.self.inside.store c.room.new.self c.add_in-handle.new.self
+    let all = added c.args.class c.args.shape c.add_in-handle.result c.self.inside.store c.room.new.self c.add_in-handle.new.self
     c.self.inside.rules.items c.self.inside.dirt c.dirty_next.new.dirt c.self.inside.entries c.self.invariant.topology c.room.ensures.same
     c.add_in-handle.ensures.number (record {
       classes = c.add_in-handle.ensures.classes;
       features =
           c.add_in-handle.ensures.features;
       next_is = c.add_in-handle.ensures.next;
-    }) (rw c.env-env.ensures at c.in_ok-dirty_next.ensures.ok)).edit in
+    }) (rw c.env-env.ensures at c.in_ok-dirty_next.ensures.ok) in
+    let edit = all.edit in
+    let next = all.next in
     record {
-      topology = edit_keeps c.add_in-handle.result _ _ _ c.self.invariant.topology edit c.store_law.ensures
+      topology = edit_keeps c.add_in-handle.result _ _ _ c.self.invariant.topology edit (omega (arith, next)) c.store_law.ensures
           (rw c.env-env.ensures at c.corner_law.ensures);
       placed = next_placed c.add_in-handle.result (record { handle = c.add_in-handle.result; class = c.args.class; shape = c.args.shape })
           c.self.inside.store.features c.add_in-handle.new.self.features c.self.inside.index c.dirty_next.new.index refl edit.features

@@ -1,4 +1,4 @@
-use Rattle.std.proofs.Common.{◌∙◌, subst, sym, ap}
+use Rattle.std.proofs.Common.{◌∙◌, subst, sym, ap, arith}
 use Rattle.topology_terms.specs.Feature.{feature_at, IsSetAt}
 use Rattle.topology_terms.specs.Sound.{IsSoundUnder}
 use Rattle.topology_terms.specs.Settled.{IsSettledUnder}
@@ -9,16 +9,19 @@ use Rattle.topo_core.proofs.Standing.{placed_set}
 use Rattle.topo_core.proofs.topology.Topology.swap.Goals as goal
 
 pub invariant_of-self-2 : goal.invariant_of-self-2
-invariant_of-self-2 g c = record {
-  topology = edit_keeps c.args.handle c.args.kept.now _ _ c.self.invariant.topology
-      (exchanged c.args.handle c.args.kept.now c.self.inside.store c.room.new.self c.swap_in.new.self c.self.inside.rules.items
-      c.self.inside.dirt c.dirty_both.new.dirt c.self.inside.entries c.room.ensures.same c.swap_in.ensures.set c.swap_in.ensures.classes
-      c.swap_in.ensures.next c.in_ok-dirty_both.ensures.ok).edit c.store_law.ensures c.envelope_law.ensures;
-  placed = placed_set c.args.handle c.args.kept.now c.self.inside.store.features c.swap_in.new.self.features c.self.inside.index
-      c.dirty_both.new.index c.take_place.new.index (subst (λ F. IsSetAt c.args.handle c.args.kept.now F c.swap_in.new.self.features)
-      c.room.ensures.same.features c.swap_in.ensures.set) c.in_ok-dirty_both.ensures.put
-      (rw (c.live_place-stood.ensures, c.kept_place-comes.ensures) at c.take_place.ensures) c.self.invariant.placed;
-}
+invariant_of-self-2 g c =
+    let all = exchanged c.args.handle c.args.kept.now c.self.inside.store c.room.new.self c.swap_in.new.self c.self.inside.rules.items
+    c.self.inside.dirt c.dirty_both.new.dirt c.self.inside.entries c.room.ensures.same c.swap_in.ensures.set c.swap_in.ensures.classes
+    c.swap_in.ensures.next c.in_ok-dirty_both.ensures.ok in
+    let next = all.next in
+    record {
+      topology = edit_keeps c.args.handle c.args.kept.now _ _ c.self.invariant.topology all.edit (omega (arith, next)) c.store_law.ensures
+          c.envelope_law.ensures;
+      placed = placed_set c.args.handle c.args.kept.now c.self.inside.store.features c.swap_in.new.self.features c.self.inside.index
+          c.dirty_both.new.index c.take_place.new.index (subst (λ F. IsSetAt c.args.handle c.args.kept.now F c.swap_in.new.self.features)
+          c.room.ensures.same.features c.swap_in.ensures.set) c.in_ok-dirty_both.ensures.put
+          (rw (c.live_place-stood.ensures, c.kept_place-comes.ensures) at c.take_place.ensures) c.self.invariant.placed;
+    }
 
 pub returns-clause-ok : goal.returns-clause-ok
 returns-clause-ok g c = rw (← c.self.view_is) (exchanged c.args.handle c.args.kept.now c.self.inside.store c.room.new.self

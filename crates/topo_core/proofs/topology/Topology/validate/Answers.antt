@@ -21,7 +21,7 @@ returns-in_err-validate-clause-ordered g c = rw (c.in_err-validate.ensures.error
 
 pub invariant_of-self-2 : goal.invariant_of-self-2
 invariant_of-self-2 g c = record {
-  topology = validated_keeps g.R.RuleSet.meaning g.met.R.RuleSet.right g.met.R.KindRules.kinds c.args.window
+  topology = validated_keeps g.R.RuleSet.meaning g.met.R.RuleSet.right g.met.R.KindRules.kinds g.met.R.KindRules.partners c.args.window
       (project_of c.self.inside.store c.self.inside.rules.items c.self.inside.dirt c.self.inside.entries) _ c.self.invariant.topology
       (c.in_ok-validate.ensures.step (project_of c.self.inside.store c.self.inside.rules.items c.self.inside.dirt c.self.inside.entries)
       (record { rules = sym c.deref.ensures.value; features = sym c.features.ensures.value; dirt = refl; entries = refl }))
@@ -78,7 +78,8 @@ returns-clause-settled g c = λ k. validated_settled_kept g.R.RuleSet.meaning g.
     })) (subst (IsSettledUnder g.R.RuleSet.meaning) (sym c.self.view_is) k)
 
 pub returns-clause-ordered : goal.returns-clause-ordered
-returns-clause-ordered g c = ordered _ (validated_keeps g.R.RuleSet.meaning g.met.R.RuleSet.right g.met.R.KindRules.kinds c.args.window
+returns-clause-ordered g c = ordered _ (validated_keeps g.R.RuleSet.meaning g.met.R.RuleSet.right g.met.R.KindRules.kinds
+    g.met.R.KindRules.partners c.args.window
     (project_of c.self.inside.store c.self.inside.rules.items c.self.inside.dirt c.self.inside.entries) _ c.self.invariant.topology
     (c.in_ok-validate.ensures.step (project_of c.self.inside.store c.self.inside.rules.items c.self.inside.dirt c.self.inside.entries)
     (record { rules = sym c.deref.ensures.value; features = sym c.features.ensures.value; dirt = refl; entries = refl }))
