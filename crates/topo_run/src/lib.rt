@@ -13,7 +13,6 @@ mod report;
 mod save;
 mod status;
 mod town;
-mod waiting;
 mod words;
 mod write;
 

@@ -6,7 +6,6 @@ ghost use Rattle.topo_run.specs.Unopened.{IfUnopened, is_answered};
 
 use crate::open::{say_unopened, world_of};
 use crate::replay::replay_from;
-use crate::waiting::record_of;
 use command_answers::World;
 use outside_terms::Status;
 use project_text::write_project;
@@ -21,7 +20,7 @@ fn save<H: Shelf>(alloc: Global, world: &World, target: &str, shelf: &mut H) -> 
     ensures no_memory { IsErrOf result ShelfFault.NoMemory → KeepsHeld (H.held shelf.old) (H.held shelf.new) }
     ensures later { H.faults shelf.old ≤ H.faults shelf.new }
 {
-    let Ok(saved) = record_of(world) else {
+    let Ok(saved) = world.topology().to_data() else {
         return Err(ShelfFault::NoMemory);
     };
     let Ok(text) = write_project(alloc, &saved) else {
