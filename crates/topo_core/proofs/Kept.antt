@@ -40,7 +40,14 @@ given_later : (m n a b : ℕ) (e : Entry) → m ≤ n → IsErrorOf m a b e → 
 given_later m n a b e later x =
     let given = x.given in
     let partner = x.partner in
-    record { from_1 = x.from_1; given = omega (arith, given, later); partner = omega (arith, partner, later); cells = x.cells; some = x.some }
+    record {
+      from_1 = x.from_1;
+      given = omega (arith, given, later);
+      partner = omega (arith, partner, later);
+      cells = x.cells;
+      some =
+          x.some;
+    }
 
 pub edit_keeps : (h : ℕ) (after : Option Feature) (old new : Project) → IsTopology old → IsEdit h after old new → old.next ≤ new.next
     → IsStore new.classes new.features new.next → IfSome after (λ f. IsRectangle (env f)) → IsTopology new

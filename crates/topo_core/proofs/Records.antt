@@ -20,7 +20,8 @@ numbered : (p : Project) → IsTopology p → (e : Entry) (r : ℕ) → e.rule �
 numbered p t e r same row there =
     let q = found_rule p.rules r row there in
     let own = keyed.key_found by_number rule_numbers p.rules r q.rule q.found in
-    subst (λ n. (1 ≤ n) × (n ≤ 256)) (own ∙ sym same) (keyed.every_found by_number rule_numbers IsNumbered p.rules r q.rule t.numbers q.found)
+    subst (λ n. (1 ≤ n) × (n ≤ 256)) (own ∙ sym same) (keyed.every_found by_number rule_numbers IsNumbered p.rules r q.rule t.numbers
+    q.found)
 
 error : (p : Project) → IsTopology p → Every IsDrawn p.entries → (r a b : ℕ) (e : Entry) → entry_at p.entries r a b ≡ Some e → IsError p e
 error p t drawn r a b e found =

@@ -60,11 +60,8 @@ fits_kinds cs row e =
           dest_told cs row (dest_of row.kind) fit.1;
     }
 
-pub has_kinds : (cs : List Class) (row : Row) → fit_cause cs row ≡ None → HasKinds cs row
-has_kinds cs row e = fits_kinds cs row (no_fault (is_missing cs row) (is_fit cs row) e)
-
-pub none_missing : (cs : List Class) (row : Row) → fit_cause cs row ≡ None → is_fit cs row ≡ true
-none_missing cs row e = no_fault (is_missing cs row) (is_fit cs row) e
+pub no_cause_fits : (cs : List Class) (row : Row) → fit_cause cs row ≡ None → is_fit cs row ≡ true
+no_cause_fits cs row e = no_fault (is_missing cs row) (is_fit cs row) e
 
 -- ---- a class more leaves them fitting
 own_kind : (k : Kind) → same_kind k k ≡ true
@@ -93,7 +90,8 @@ same_back m n e = grind (arith, nat_tests)
 
 row_back : (q r : Row) → is_row q r ≡ true → is_row r q ≡ true
 row_back q r e =
-    let h = both_parts (bytes_eq (word_of q.kind) (word_of r.kind)) ((q.origin.class == r.origin.class) && (q.dest.class == r.dest.class)) e in
+    let h = both_parts (bytes_eq (word_of q.kind) (word_of r.kind)) ((q.origin.class == r.origin.class) && (q.dest.class ==
+    r.dest.class)) e in
     let k = both_parts (q.origin.class == r.origin.class) (q.dest.class == r.dest.class) h.1 in
     let word = (bytes_eq-Decides (word_of q.kind) (word_of r.kind)).0 h.0 in
     rw (

@@ -174,10 +174,12 @@ with_pairs P back (q ∷ qs) r h pairs = elim (lower_or_not q.number r.number) [
   | inr t ↦ rw t.0 (every_map (λ (x : InForce). P x r) (P r) (λ x k. back x r k) (q ∷ qs) h, pairs)
 ]
 
-pub pairs_filter : (P : InForce → InForce → Type 0) (test : InForce → Bool) (rs : List InForce) → EveryPair P rs → EveryPair P (filter test rs)
+pub pairs_filter : (P : InForce → InForce → Type 0) (test : InForce → Bool) (rs : List InForce) → EveryPair P rs
+    → EveryPair P (filter test rs)
 pairs_filter P test [] pairs = tt
 pairs_filter P test (q ∷ qs) pairs = by (test q) (every_filter (P q) test qs pairs.0) (pairs_filter P test qs pairs.1)
   where
-    by : (b : Bool) → Every (P q) (filter test qs) → EveryPair P (filter test qs) → EveryPair P (cond b (q ∷ filter test qs) (filter test qs))
+    by : (b : Bool) → Every (P q) (filter test qs) → EveryPair P (filter test qs)
+        → EveryPair P (cond b (q ∷ filter test qs) (filter test qs))
     by true h rest = (h, rest)
     by false h rest = rest

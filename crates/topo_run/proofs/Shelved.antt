@@ -111,6 +111,9 @@ puts h target text bytes p q (Ok u) put others same says is valid = record {
 puts h target text bytes p q (Err e) put others same says is valid = tt
 
 -- ---- a replay that saves
+clash : true ≡ false → ⊥
+clash e = cc
+
 pub answered : (t : Status) → is_answered t ≡ true → (t ≡ status.Done) ⊎ (t ≡ status.Refused)
 answered status.Done test = inl refl
 answered status.Refused test = inr refl
@@ -127,8 +130,8 @@ answered status.NoProject test = cc
 
 pub not_answered : (start last : State) (target : List ℕ) (s : Passage) (h : Visit) (k : Passage) (t : Status) → EndsAt start last s k t
     → is_answered t ≡ false → KeepsHeld h.old h.new → EndsSaving start target s h k t
-not_answered start last target s h k status.Done r test held = cc
-not_answered start last target s h k status.Refused r test held = cc
+not_answered start last target s h k status.Done r test held = absurd (clash test)
+not_answered start last target s h k status.Refused r test held = absurd (clash test)
 not_answered start last target s h k status.SaveFault r test held = absurd r
 not_answered start last target s h k status.Usage r test held = (r, held)
 not_answered start last target s h k status.ReadFault r test held = (r, held)

@@ -10,11 +10,21 @@ use crate::open::{open, say_unopened};
 use crate::write::say;
 use grid_plane::NoMemory;
 use outside_terms::Status;
+use project_check::Unsound;
 use project_text::ProjectData;
 use rule_set::PosterRules;
 use std::alloc::{AllocError, Global};
-use topo_core::{Topology, Unsound};
+use topo_core::Topology;
 use topo_outside::{Shelf, Sink};
+
+// None where the project is sound, and else the first rule and subject at which it is not.
+fn check_data(alloc: Global, saved: ProjectData) -> Result<Option<Unsound>, NoMemory>
+    requires { IsRecord saved }
+    ensures { IfOk result (λ found. IsChecked poster saved found) }
+{
+    let topology = Topology::from_data(alloc, PosterRules, saved)?;
+    topology.check()
+}
 
 // The line that says what a check found.
 fn checked_text(alloc: Global, found: Option<Unsound>) -> Result<String, AllocError>
@@ -33,15 +43,6 @@ fn checked_status(found: Option<Unsound>) -> Status
         None => Status::Done,
         Some(_) => Status::Unsound,
     }
-}
-
-// What a check of what was saved finds.
-fn check_data(alloc: Global, saved: ProjectData) -> Result<Option<Unsound>, NoMemory>
-    requires { IsRecord saved }
-    ensures { IfOk result (λ found. IsChecked poster saved found) }
-{
-    let topology = Topology::from_data(alloc, PosterRules, saved)?;
-    topology.check()
 }
 
 fn say_checked<K: Sink>(alloc: Global, saved: ProjectData, sink: &mut K) -> Status

@@ -46,7 +46,7 @@ fn act<S: Source, K: Sink, H: Shelf>(
     sink: &mut K,
     shelf: &mut H,
 ) -> Status
-    requires { IsFit words.entry }
+    requires { IsFit words }
     ensures ends { EndsAsAsked words.entry
         (record { old = S.left source.old; new = S.left source.new; before = S.faults source.old; now = S.faults source.new })
         (record { old = H.held shelf.old; new = H.held shelf.new; before = H.faults shelf.old; now = H.faults shelf.new })
@@ -135,6 +135,15 @@ pub fn run<S: Source, K: Sink, H: Shelf>(
         (record { old = H.held shelf.old; new = H.held shelf.new; before = H.faults shelf.old; now = H.faults shelf.new })
         (record { old = K.written sink.old; new = K.written sink.new; before = K.faults sink.old; now = K.faults sink.new }) result }
     ensures check_opening { (project : List ℕ) → IsCheckOf (map (λ w. string_bytes w) words.now.items) project → IsOpeningComplete project
+        (record { old = H.held shelf.old; new = H.held shelf.new; before = H.faults shelf.old; now = H.faults shelf.new })
+        (record { old = K.written sink.old; new = K.written sink.new; before = K.faults sink.old; now = K.faults sink.new }) result }
+    ensures report { (project : List ℕ) → IsReportOf (map (λ w. string_bytes w) words.now.items) project → (s : Status) × (result ≡ code_of s) × EndsAsReport project
+        (record { old = H.held shelf.old; new = H.held shelf.new; before = H.faults shelf.old; now = H.faults shelf.new })
+        (record { old = K.written sink.old; new = K.written sink.new; before = K.faults sink.old; now = K.faults sink.new }) s }
+    ensures report_complete { (project : List ℕ) → IsReportOf (map (λ w. string_bytes w) words.now.items) project → IsReportComplete project
+        (record { old = H.held shelf.old; new = H.held shelf.new; before = H.faults shelf.old; now = H.faults shelf.new })
+        (record { old = K.written sink.old; new = K.written sink.new; before = K.faults sink.old; now = K.faults sink.new }) result }
+    ensures report_opening { (project : List ℕ) → IsReportOf (map (λ w. string_bytes w) words.now.items) project → IsOpeningComplete project
         (record { old = H.held shelf.old; new = H.held shelf.new; before = H.faults shelf.old; now = H.faults shelf.new })
         (record { old = K.written sink.old; new = K.written sink.new; before = K.faults sink.old; now = K.faults sink.new }) result }
     ensures usage { ¬ (IsReplay words.now.items) → ((project : List ℕ) → ¬ (IsReplayOf (map (λ w. string_bytes w) words.now.items) project)) → ((project target : List ℕ) → ¬ (IsReplayTo (map (λ w. string_bytes w) words.now.items) project target)) → ((project : List ℕ) → ¬ (IsCheckOf (map (λ w. string_bytes w) words.now.items) project))

@@ -1,8 +1,13 @@
-use Rattle.std.proofs.Common.{sym, ◌∙◌}
+use Rattle.std.proofs.Common.{sym, ◌∙◌, ap}
+use Rattle.std.specs.Prelude.{Result, Err}
+use Rattle.topo_outside.specs.declared.fault.ShelfFault.{ShelfFault}
 use Rattle.outside_terms.specs.Reads.{Passage}
 use Rattle.outside_terms.specs.Shelves.{Visit}
 use Rattle.topo_run.proofs.Shelved.{same_held, answered, not_answered, answered_saved, answered_failed, answered_out}
 use Rattle.topo_run.proofs.save.replay_and_save.Goals as goal
+
+abbrev failed : ShelfFault → Result (Unit {0}) ShelfFault
+failed e = Err e
 
 pub returns-then-not-is_answered-clause-ends : goal.returns-then-not-is_answered-clause-ends
 returns-then-not-is_answered-clause-ends g c =
@@ -73,7 +78,7 @@ returns-in-Err-Failed-clause-ends g c =
     } in
     let done = answered c.replay_from-status.result (sym c.is_answered.ensures ∙ c.if-not-is_answered.false) in
     answered_failed c.args.world.now c.replay_from-status.new.world c.args.target.now s h k c.replay_from-status.result
-    c.replay_from-status.ensures.ends done (c.in-Err-Failed.ensures.failed ?) c.in-Err-Failed.ensures.others
+    c.replay_from-status.ensures.ends done (c.in-Err-Failed.ensures.failed (ap failed c.in-Err-Failed.field-0-is)) c.in-Err-Failed.ensures.others
 
 pub returns-in-Err-NoMemory-clause-ends : goal.returns-in-Err-NoMemory-clause-ends
 returns-in-Err-NoMemory-clause-ends g c =
@@ -97,4 +102,4 @@ returns-in-Err-NoMemory-clause-ends g c =
     } in
     let done = answered c.replay_from-status.result (sym c.is_answered.ensures ∙ c.if-not-is_answered.false) in
     answered_out c.args.world.now c.replay_from-status.new.world c.args.target.now s h k c.replay_from-status.result
-    c.replay_from-status.ensures.ends done (c.in-Err-NoMemory.ensures.no_memory ?)
+    c.replay_from-status.ensures.ends done (c.in-Err-NoMemory.ensures.no_memory (ap failed c.in-Err-NoMemory.field-0-is))

@@ -2,8 +2,8 @@ use Rattle.outside_terms.specs.Shelves.{Visit}
 use Rattle.topo_run.proofs.Shelved.{puts}
 use Rattle.topo_run.proofs.save.save.Goals as goal
 
-pub returns-in-Ok-write_project-clause-saved : goal.returns-in-Ok-write_project-clause-saved
-returns-in-Ok-write_project-clause-saved g c =
+pub returns-clause-saved : goal.returns-clause-saved
+returns-clause-saved g c =
     let h : Visit = record {
       old = g.H.Shelf.held c.args.shelf.now;
       new = g.H.Shelf.held c.put.new.self;

@@ -27,5 +27,6 @@ returns-clause-sound c = sound_seen c.self.inside.topology c.add_noted.new.topol
     c.add_noted.ensures.sound
 
 pub returns-clause-settled : goal.returns-clause-settled
-returns-clause-settled c = settled_seen c.self.inside.topology c.add_noted.new.topology c.self.inside.sessions c.args.self.now c.self.view_is
+returns-clause-settled c = settled_seen c.self.inside.topology c.add_noted.new.topology c.self.inside.sessions c.args.self.now
+    c.self.view_is
     c.add_noted.ensures.settled

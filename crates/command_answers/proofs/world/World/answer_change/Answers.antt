@@ -36,5 +36,6 @@ returns-clause-sound c = sound_seen c.self.inside.topology c.change_noted.new.to
     c.change_noted.ensures.sound
 
 pub returns-clause-settled : goal.returns-clause-settled
-returns-clause-settled c = settled_seen c.self.inside.topology c.change_noted.new.topology c.self.inside.sessions c.args.self.now c.self.view_is
+returns-clause-settled c = settled_seen c.self.inside.topology c.change_noted.new.topology c.self.inside.sessions c.args.self.now
+    c.self.view_is
     c.change_noted.ensures.settled

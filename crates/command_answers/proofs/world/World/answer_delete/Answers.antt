@@ -33,5 +33,6 @@ returns-clause-sound c = sound_seen c.self.inside.topology c.delete_noted.new.to
     c.delete_noted.ensures.sound
 
 pub returns-clause-settled : goal.returns-clause-settled
-returns-clause-settled c = settled_seen c.self.inside.topology c.delete_noted.new.topology c.self.inside.sessions c.args.self.now c.self.view_is
+returns-clause-settled c = settled_seen c.self.inside.topology c.delete_noted.new.topology c.self.inside.sessions c.args.self.now
+    c.self.view_is
     c.delete_noted.ensures.settled

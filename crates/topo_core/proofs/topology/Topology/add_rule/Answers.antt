@@ -1,7 +1,7 @@
 use Rattle.std.proofs.Common.{◌<◌, length, rules, subst, sym}
 use Rattle.topology_terms.specs.Sound.{IsSoundUnder}
 use Rattle.topology_terms.specs.Settled.{IsSettledUnder}
-use Rattle.topo_core.proofs.Rows.{none_missing}
+use Rattle.topo_core.proofs.Rows.{no_cause_fits}
 use Rattle.topo_core.proofs.Whole.{ordered}
 use Rattle.topo_core.proofs.RulesMore.{IsLeastFree, rule_added, rule_keeps, rule_sound, rule_settled}
 use Rattle.topo_core.proofs.topology.Topology.add_rule.Goals as goal
@@ -13,7 +13,7 @@ invariant_of-self-2 g c =
       topology = rule_keeps c.free_number-number.result c.args.row c.self.inside.store c.self.inside.rules.items c.put_rule.new.rules.items
           c.self.inside.dirt c.add.new.self c.self.inside.entries (rw c.deref-2.ensures.value at c.free_number-number.ensures.free)
           (c.free_number-number.ensures.from_1, c.free_number-number.ensures.most) (rw c.deref-2.ensures.value at few)
-          (rw c.reserve.ensures.items at c.put_rule.ensures) c.self.invariant.topology (none_missing _ c.args.row c.in_ok-fit.ensures.ok)
+          (rw c.reserve.ensures.items at c.put_rule.ensures) c.self.invariant.topology (no_cause_fits _ c.args.row c.in_ok-fit.ensures.ok)
           (rw c.deref.ensures.value at c.in_default.ensures);
       placed = c.self.invariant.placed;
     }
