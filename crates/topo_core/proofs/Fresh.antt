@@ -1,5 +1,5 @@
 -- What a validation finds is of a live subject and of a live partner or none, and each of its cells has a half-plane.
-use Rattle.std.proofs.Common.{◌≡◌, ◌≢◌, ◌<◌, ◌≤◌, ℕ, inl, inr, List, [], ◌∷◌, Some, refl, sym, subst, ◌∙◌, arith, pos, ◌+ℤ◌}
+use Rattle.std.proofs.Common.{◌≡◌, ◌≢◌, ◌<◌, ℕ, inl, inr, List, [], ◌∷◌, Some, refl, sym, subst, ◌∙◌, arith, pos, ◌+ℤ◌}
 use Rattle.std.proofs.lemmas.Int.{ints}
 use Rattle.plane_terms.specs.Lists.{Every}
 use Rattle.plane_terms.specs.Point.{Point}
@@ -13,10 +13,9 @@ use Rattle.topology_terms.specs.Entry.{Entry, entry_at}
 use Rattle.topology_terms.specs.Project.{Project, rule_at}
 use Rattle.topology_terms.specs.Changes.{IsFresh, IsValidated}
 use Rattle.sound_laws.proofs.Dirts.{bool_cases}
-use Rattle.sound_laws.proofs.FeatureLists.{live_each, handle_of}
-use Rattle.feature_store.specs.Keeps.{IsGiven}
 use Rattle.topo_core.specs.Kinds.{IsPartner, NamesPartners}
 use Rattle.topo_core.specs.Topologies.{IsErrorOf, IsTopology}
+use Rattle.topo_core.proofs.Exchanges.{live_given}
 
 -- cells that have points, and are not none, hold some point
 some_point : (cs : List Cell) → cs ≢ [] → HavePoints cs → (p : Point) × InCells cs p
@@ -37,13 +36,6 @@ bounded_some r (c ∷ cs) h = (
   λ e. not_held r (h (beyond r) (inl (subst (λ (d : Cell). InCell d (beyond r)) (sym e) tt))),
   bounded_some r cs (λ p k. h p (inr k)),
 )
-
--- a handle that is live was given
-live_given : (p : Project) → IsTopology p → (a : ℕ) (f : Feature) → feature_at p.features a ≡ Some f → (1 ≤ a) × (a < p.next)
-live_given p t a f live =
-    let given = live_each (IsGiven p.next) p.features a f t.store.given live in
-    let own = handle_of p.features a f live in
-    (subst (λ n. 1 ≤ n) own given.from_1, subst (λ n. n < p.next) own given.before)
 
 partner_given : (p : Project) → IsTopology p → (b : ℕ) → IsPartner p.features b → b < p.next
 partner_given p t b (inl none) = let one = t.store.from_1 in omega (arith, none, one)

@@ -32,12 +32,11 @@ pub got_more : {A : Type 0} (P : A → Type 0) (xs : List A) (i : ℕ) (x : A) �
 got_more P xs i x got p e = rw add-one (more_got P xs i (rw got p) e)
 
 -- ---- names
-class_here : (cs : List Class) (i : ℕ) → class_at cs (i + 1) ≡ slice_get cs i
-class_here cs i = grind arith
-
 pub name_more : (cs : List Class) (i : ℕ) → IfSome (class_at cs (i + 1)) IsNamed → Every IsNamed (take i cs)
     → Every IsNamed (take (i + 1) cs)
-name_more cs i h e = rw add-one (more_got IsNamed cs i (rw class_here at h) e)
+name_more cs i h e =
+    let here : class_at cs (i + 1) ≡ slice_get cs i = grind arith in
+    rw add-one (more_got IsNamed cs i (rw here at h) e)
 
 pub named_one : (o : Option Class) (n : List ℕ) → option_map (λ (c : Class). c.name) o ≡ Some n → is_name n ≡ true → IfSome o IsNamed
 named_one None n e h = tt

@@ -1,7 +1,7 @@
 -- Rows that are equal, and classes that fit a row, as their tests tell.
 use Rattle.std.proofs.Common.{◌≡◌, ℕ, inl, inr, Bool, true, false, ◌&&◌, ◌||◌, not, refl, sym, List, [], ◌∷◌, ◌++◌, Option, Some, None, arith}
 use Rattle.std.specs.Prelude.{◌==◌, IfSome, bytes_eq}
-use Rattle.std.proofs.lemmas.Bool.{cases_Bool}
+use Rattle.std.proofs.lemmas.Bool.{cases_Bool, or_parts}
 use Rattle.std.proofs.lemmas.Bool.Decides.{nat_tests}
 use Rattle.std.proofs.lemmas.Slice.Eq.{bytes_eq-Decides}
 use Rattle.plane_terms.specs.Lists.{Every}
@@ -103,10 +103,6 @@ row_back q r e =
 pub apart_back : (q r : Row) → is_row q r ≡ false → is_row r q ≡ false
 apart_back q r e = elim (cases_Bool (is_row r q)) [ inl t ↦ let back = row_back r q t in absurd cc | inr f ↦ f ]
 
-neither : (s t : Bool) → (s || t) ≡ false → (s ≡ false) × (t ≡ false)
-neither true t e = absurd cc
-neither false t e = (refl, e)
-
 pub each_other : (row : Row) (rs : List InForce) → is_there rs row ≡ false → Every (λ (q : InForce). is_row q.row row ≡ false) rs
 each_other row [] e = tt
-each_other row (q ∷ rs) e = let h = neither (is_row q.row row) (is_there rs row) e in (h.0, each_other row rs h.1)
+each_other row (q ∷ rs) e = let h = or_parts (is_row q.row row) (is_there rs row) e in (h.0, each_other row rs h.1)
