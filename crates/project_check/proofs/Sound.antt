@@ -62,8 +62,8 @@ first_not P ns i x other u l e h n = record {
 }
 
 -- ---- rules in force
-pub lists_of : (p : Project) (rules : List InForce) (F G : List Feature) (d : List Rectangle) (es fs : List Entry) → HasParts p rules F d es
-    → G ≡ F → fs ≡ es → HasLists p G d fs
+pub lists_of : (p : Project) (rules : List InForce) (F G : List Feature) (d : List Rectangle) (es fs : List Entry)
+    → HasParts p (record { in_force = rules; features = F }) d es → G ≡ F → fs ≡ es → HasLists p G d fs
 lists_of p rules F G d es fs h e k = record { features = h.features ∙ sym e; dirt = h.dirt; entries = h.entries ∙ sym k }
 
 abbrev pub IsSoundBy : Meaning → Project → InForce → Type 0

@@ -72,7 +72,7 @@ pub fn check_project<R: RuleSet>(
     requires features { features_of.IsAscending features.now }
     requires fits { (n : ℕ) (row : Row) → rule_at in_force.now n ≡ Some row → R.meaning.Fits row features.now }
     requires placed { ArePlaced index.now features.now }
-    ensures { IfOk result (λ found. (p : Project) → HasParts p in_force.now features.now dirt.now errors.now → IsChecked R.meaning p found) }
+    ensures { IfOk result (λ found. (p : Project) → HasParts p (record { in_force = in_force.now; features = features.now }) dirt.now errors.now → IsChecked R.meaning p found) }
 {
     let entries = errors.entries();
     let subjects = subjects_of(alloc, features, entries)?;
