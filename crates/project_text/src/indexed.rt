@@ -83,7 +83,7 @@ impl IndexedDirt {
             return Err(NoMemory);
         };
         self.index.put(Placed { rect: r, handle })?;
-        self.dirt.add(r)
+        self.dirt.add_loose(r)
     }
 
     /// The dirty areas alone.

@@ -52,7 +52,8 @@ fn read_lines(alloc: Global, text: &[u8]) -> Result<ProjectData, ProjectFault>
 }
 
 /// What is saved of a topology, from its text: the project of which this is the text, where there is one. `Wrong` names the first
-/// line, from 1, that is wrong, and its first cause. Takes steps for each byte of the text, and for each two dirty rectangles.
+/// line, from 1, that is wrong, and its first cause. Takes steps for each byte of the text, and for each dirty rectangle those of
+/// `Index::query`, and one for each before it that it meets.
 pub fn read_project(alloc: Global, text: &[u8]) -> Result<ProjectData, ProjectFault>
     ensures found { MatchResult result (λ p. IsRead text.now p) (λ e. IsProjectFault text.now e) }
     ensures text { IfOk result (λ p. IsProjectText text.now p) }
