@@ -19,7 +19,7 @@
 --                                status is 11 and nothing is written; where it tells that a wrong text does, and the sink's count does not
 --                                rise either, it is 6 and the whole line of it is written; or it is 5
 --
--- Of a shelf that does not tell what it holds, the text that is spoken of is one that it gave. Source: own.
+-- Of a shelf that does not tell what it holds, nothing ties the text that is spoken of to the shelf. Source: own.
 use Rattle.std.specs.Prelude.{ℕ, ◌≡◌, ◌⊎◌, List, [], ◌∷◌, codes, decimal, Option, Some, None}
 use Rattle.std.specs.Io.KnownBytes.{Appends}
 use Rattle.text_terms.specs.Wkt.{◌⧺◌}

@@ -3,8 +3,8 @@
 -- Saves h target p             the text of the project p was put on the shelf h under this name, and the other names have what they had
 -- SavesRun start target s h k kept refused     this, all of the source s, was replayed from the start, and the project of the last state was
 --                              saved. It is sound where the start was, and settled where the start was that too
--- FailsToSave start target s h k     all of the source was replayed; then the shelf's count of faults rose, and the other names have what they
---                              had
+-- FailsToSave start target s h k     all of the source was replayed; the shelf's count of faults rose in this call, and the other
+--                              names have what they had
 -- EndsSaving start target s h k status     a replay from this start, with a target, ends with this status
 --   Done, Refused        all was replayed and saved, and no line, or some line, was refused
 --   SaveFault            all was replayed and the shelf failed

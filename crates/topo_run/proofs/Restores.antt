@@ -8,6 +8,7 @@ use Rattle.script_terms.specs.Refusing.{refusal_of}
 use Rattle.script_terms.specs.Reply.{Reply}
 use Rattle.script_terms.specs.State.{State, empty_state}
 use Rattle.script_terms.specs.Answer.{IsDone, answers_by}
+use Rattle.script_terms.specs.Keeping.{IsKeeping}
 use Rattle.script_terms.specs.Restored.{IsRestored, IsAllRestored}
 use Rattle.script_terms.specs.Run.{Reading, Reads, Faulty, Outcome, Step, Run, ComesOf, ReadsAs, last_state, is_refusal}
 use Rattle.script_terms.proofs.Restoring.{undo_restores, discard_restores}
@@ -30,18 +31,25 @@ command_done s line c o step is free = by step.reading step.reads step.comes
         let k = subst (λ (e : Command). ComesOf s (Reads e) o) same comes in
         (k.0, done (refusal_of s c) k.0 k.1 (sym k.2.refused ∙ free))
 
+pub undo_there : (s : State) (line editor : List ℕ) (o : Outcome) → IsKeeping s → Step s line o → IsCommandLine line (Undo editor)
+    → o.refused ≡ false → IsRestored editor s o.after
+undo_there s line editor o keeps step is free =
+    let d = command_done s line (Undo editor) o step is free in
+    undo_restores editor s o.after keeps d.1.1
+
+pub discard_there : (s : State) (line editor : List ℕ) (o : Outcome) → Step s line o → IsCommandLine line (Discard editor)
+    → o.refused ≡ false → IsAllRestored editor s o.after
+discard_there s line editor o step is free =
+    let d = command_done s line (Discard editor) o step is free in
+    discard_restores editor s o.after d.1.1
+
 pub undo_over : (lines : List (List ℕ)) (os : List Outcome) (line editor : List ℕ) (o : Outcome) → Run empty_state lines os
     → Step (last_state empty_state os) line o → IsCommandLine line (Undo editor) → o.refused ≡ false
     → IsRestored editor (last_state empty_state os) o.after
-undo_over lines os line editor o run step is free =
-    let s = last_state empty_state os in
-    let d = command_done s line (Undo editor) o step is free in
-    undo_restores editor s o.after (last_keeps empty_state os (run_keeps empty_state lines os empty_keeps empty_ordered run)) d.1.1
+undo_over lines os line editor o run step is free = undo_there (last_state empty_state os) line editor o
+    (last_keeps empty_state os (run_keeps empty_state lines os empty_keeps empty_ordered run)) step is free
 
 pub discard_over : (lines : List (List ℕ)) (os : List Outcome) (line editor : List ℕ) (o : Outcome) → Run empty_state lines os
     → Step (last_state empty_state os) line o → IsCommandLine line (Discard editor) → o.refused ≡ false
     → IsAllRestored editor (last_state empty_state os) o.after
-discard_over lines os line editor o run step is free =
-    let s = last_state empty_state os in
-    let d = command_done s line (Discard editor) o step is free in
-    discard_restores editor s o.after d.1.1
+discard_over lines os line editor o run step is free = discard_there (last_state empty_state os) line editor o step is free

@@ -84,9 +84,10 @@ fn act<S: Source, K: Sink, H: Shelf>(
 /// scratch. The clauses `replay_of` and `replay_to` say the same of a run from a project: the headline holds in its states where
 /// the project is sound, and the rest where it is settled too; and what is saved is the text of the last state, sound and settled
 /// where the start was. Where no project was opened, they say why and what was written, as `check` and `report` do. The clauses
-/// with `complete` and `opening` say that with no fault counted nothing but running out of memory stands between what was asked
-/// for and its answer. The clauses `town` and `town_complete` say this of the made town's script and its summary. The shelf holds
-/// what it held unless a TARGET is named (`kept`), and is not asked unless a project is (`shelf`).
+/// with `complete` and `opening` say that with no fault counted, a source and a shelf that tell what they have, and a script within
+/// its limit, nothing but running out of memory stands between what was asked for and its answer. The clauses `town` and
+/// `town_complete` say this of the made town's script and its summary. The shelf holds what it held unless a TARGET is named
+/// (`kept`), and is left as it was unless a project is named (`shelf`).
 pub fn run<S: Source, K: Sink, H: Shelf>(
     alloc: Global,
     words: &Vec<String>,
