@@ -26,28 +26,35 @@ fn add_lots(alloc: Global, town: &mut Topology<PosterRules>) -> Result<(), Fail>
     Ok(())
 }
 
-// What it owns stands with its caller: a function that owns a topology is proved once more for each of its ends.
+// How many errors there are after a validation, and how many pairs were judged so far.
+fn validated(town: &mut Topology<PosterRules>, work: &mut Work) -> Result<(usize, u64), Fail> {
+    town.validate(Rect::whole(), work)?;
+    Ok((town.errors().len(), work.judged()))
+}
+
+// What is found as they stand, with the second moved away, and moved back. Its caller owns the topology: a function that owns
+// one is proved once more for each of its ends.
 fn move_a_lot(
-    rt: HostRuntime,
+    alloc: Global,
     town: &mut Topology<PosterRules>,
     work: &mut Work,
-) -> Result<(), Fail> {
-    let alloc = rt.alloc();
+) -> Result<((usize, u64), (usize, u64), (usize, u64)), Fail> {
     add_lots(alloc, town)?;
-    town.validate(Rect::whole(), work)?;
-    assert_eq!(rt; (town.errors().len(), work.judged()), (1, 2));
+    let first = validated(town, work)?;
     town.change(2, lot(alloc, 10, 5)?)?;
-    town.validate(Rect::whole(), work)?;
-    assert_eq!(rt; (town.errors().len(), work.judged()), (0, 4));
+    let away = validated(town, work)?;
     town.change(2, lot(alloc, 5, 5)?)?;
-    town.validate(Rect::whole(), work)?;
-    assert_eq!(rt; (town.errors().len(), work.judged()), (1, 6));
-    Ok(())
+    let back = validated(town, work)?;
+    Ok((first, away, back))
 }
 
 #[test]
 fn a_changed_lot_is_judged_as_it_is(rt: HostRuntime) -> Result<(), Fail> {
     let mut town = Topology::new(rt.alloc(), PosterRules);
     let mut work = Work::new();
-    move_a_lot(rt, &mut town, &mut work)
+    let (first, away, back) = move_a_lot(rt.alloc(), &mut town, &mut work)?;
+    assert_eq!(rt; first, (1, 2));
+    assert_eq!(rt; away, (0, 4));
+    assert_eq!(rt; back, (1, 6));
+    Ok(())
 }

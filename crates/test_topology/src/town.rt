@@ -27,11 +27,23 @@ fn features_come_and_go(rt: HostRuntime) -> Result<(), Fail> {
     Ok(())
 }
 
+// How many errors there are after a validation of a topology that has to be sound before it and behind it.
+fn errors_after(town: &mut Topology<PosterRules>, work: &mut Work) -> Result<usize, Fail> {
+    if town.check()?.is_some() {
+        return Err(Fail::from("unsound before"));
+    }
+    town.validate(Rect::whole(), work)?;
+    if town.check()?.is_some() {
+        return Err(Fail::from("unsound behind"));
+    }
+    Ok(town.errors().len())
+}
+
+// How many errors there are: of two wells apart, with the second moved to the first, and with the first deleted.
 fn change_and_delete(
-    rt: HostRuntime,
     town: &mut Topology<PosterRules>,
     work: &mut Work,
-) -> Result<(), Fail> {
+) -> Result<(usize, usize, usize), Fail> {
     town.add_class(Name::of(b"wells").ok_or("no name")?, Kind::Point)?;
     town.add_rule(RuleRow {
         kind: RuleKind::PointMustBeDisjoint,
@@ -40,22 +52,19 @@ fn change_and_delete(
     })?;
     town.add(1, well(5)?)?;
     town.add(1, well(6)?)?;
-    town.validate(Rect::whole(), work)?;
-    assert_eq!(rt; town.errors().len(), 0);
+    let apart = errors_after(town, work)?;
     town.change(2, well(5)?)?;
-    assert!(rt; town.check()?.is_none());
-    town.validate(Rect::whole(), work)?;
-    assert_eq!(rt; town.errors().len(), 1);
-    assert!(rt; town.check()?.is_none());
+    let moved = errors_after(town, work)?;
     town.delete(1)?;
-    let summary = town.validate(Rect::whole(), work)?;
-    assert_eq!(rt; (summary.errors, summary.dirty), (0, 0));
-    Ok(())
+    let deleted = errors_after(town, work)?;
+    Ok((apart, moved, deleted))
 }
 
 #[test]
 fn a_change_a_deletion_and_a_validation(rt: HostRuntime) -> Result<(), Fail> {
     let mut town = Topology::new(rt.alloc(), PosterRules);
     let mut work = Work::new();
-    change_and_delete(rt, &mut town, &mut work)
+    assert_eq!(rt; change_and_delete(&mut town, &mut work)?, (0, 1, 0));
+    assert_eq!(rt; town.dirt().len(), 0);
+    Ok(())
 }
