@@ -14,7 +14,7 @@ same lines as the first as remarks, so that no feature is made; the memory of a 
 """
 import sys
 
-from programs import add_kinds, beyond, measure_lines, parser_of, point, polygon, print_table, spread
+from programs import beyond, measure_lines, point, polygon, print_kinds, spread
 
 OCTAGON = [(2, 0), (4, 0), (6, 2), (6, 4), (4, 6), (2, 6), (0, 4), (0, 2)]
 HEADS = {
@@ -62,16 +62,8 @@ def print_kind(table, folder, kind, programs, given):
 
 
 def main():
-    parser = parser_of(__doc__)
-    parser.add_argument('--count', type=int, default=100000)
-    add_kinds(parser, HEADS)
-    given = parser.parse_args()
-
-    def print_rows(table, folder, programs):
-        for kind in given.kinds:
-            print_kind(table, folder, kind, programs, given)
-
-    return print_table('features', given, print_rows)
+    add_words = lambda parser: parser.add_argument('--count', type=int, default=100000)
+    return print_kinds(__doc__, 'features', HEADS, print_kind, add_words)
 
 
 if __name__ == '__main__':

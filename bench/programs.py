@@ -297,3 +297,17 @@ def print_sizes(usage, title, option, sizes, print_one, add_words=lambda parser:
             print_one(table, folder, size, programs, given)
 
     return print_table(title, given, print_rows)
+
+
+def print_kinds(usage, title, kinds, print_one, add_words=lambda parser: None):
+    """The whole of a command that takes kinds: reads its words, and has each kind print its rows. Answers the status."""
+    parser = parser_of(usage)
+    add_words(parser)
+    add_kinds(parser, list(kinds))
+    given = parser.parse_args()
+
+    def print_rows(table, folder, programs):
+        for kind in given.kinds:
+            print_one(table, folder, kind, programs, given)
+
+    return print_table(title, given, print_rows)

@@ -12,7 +12,7 @@ The project that the measured program saves is opened by both. A saved text must
 import os
 import sys
 
-from programs import ROOT, add_kinds, added, beyond, measure_saved, measure_words, parser_of, point, print_table
+from programs import ROOT, added, beyond, measure_saved, measure_words, point, print_kinds
 from run import place_of
 from town import HEAD, Town, founding
 
@@ -58,15 +58,7 @@ def print_rows(table, folder, kind, programs, given):
 
 
 def main():
-    parser = parser_of(__doc__)
-    add_kinds(parser, list(PROJECTS))
-    given = parser.parse_args()
-
-    def print_projects(table, folder, programs):
-        for kind in given.kinds:
-            print_rows(table, folder, kind, programs, given)
-
-    return print_table('project', given, print_projects)
+    return print_kinds(__doc__, 'project', PROJECTS, print_rows)
 
 
 if __name__ == '__main__':
