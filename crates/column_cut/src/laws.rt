@@ -1,4 +1,11 @@
 //! What the columns of a polygon rest on, as laws of their own. The functions do nothing: their clauses are the laws.
+ghost use Rattle.std.specs.Prelude.{◌≡◌, ◌↔◌};
+ghost use Rattle.plane_terms.specs.Point.{Place, Point, IsAt};
+ghost use Rattle.plane_terms.specs.Segment.{OnSegment, segment_between};
+ghost use Rattle.plane_terms.specs.Shape.{Shape, segments_of};
+ghost use Rattle.plane_terms.specs.Polygon.{IsInside};
+ghost use Rattle.plane_terms.specs.Between.{LiesBetween, IsClearBetween};
+ghost use Rattle.plane_terms.specs.declared.kind.Kind.TheVariants as kind;
 ghost use Rattle.column_laws.specs.Slots.{ColumnsHaveOneOrder, SlotsAreClear, SlotsCount, SlotsAreEnough, NoneCountsBeside};
 
 /// The segments of a column stand in one order over the whole strip between its walls, both walls included.
@@ -21,4 +28,17 @@ pub fn slots_are_enough()
 /// Exactly j segments run below a point of the slot j of a column, counted from 0 below, its left wall included.
 pub fn slots_count()
     ensures { SlotsCount }
+{}
+
+/// Two points between which a polygon's boundary has no point are both inside the polygon or both not: a traveller who crosses no
+/// side and touches none stays where he is. So of every polygon, valid or not, and of any two points of the plane. With it the parity
+/// that the definition counts is what one means by an inside.
+pub fn segment_law()
+    ensures { (s : Shape) → s.kind ≡ kind.Polygon → (p q : Point) → IsClearBetween (segments_of s) p q
+        → (IsInside (segments_of s) p ↔ IsInside (segments_of s) q) }
+{}
+
+/// Between two places of the grid lie exactly the points of the segment that joins them.
+pub fn between_law()
+    ensures { (a b : Place) (p q r : Point) → IsAt a p → IsAt b q → (LiesBetween p q r ↔ OnSegment (segment_between a b) r) }
 {}

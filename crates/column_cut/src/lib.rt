@@ -15,3 +15,4 @@ mod slots;
 mod vertices;
 
 pub use cut::{inside, outside};
+pub use laws::{between_law, segment_law};

@@ -11,3 +11,9 @@ pub mod Walls
 pub mod Cells
 pub mod Exact
 pub mod Laws
+pub mod Parity
+pub mod Between
+pub mod Balances
+pub mod Depths
+pub mod FourFacts
+pub mod Ways

@@ -14,3 +14,4 @@ pub mod Polygon
 pub mod Line
 pub mod Columns
 pub mod Laws
+pub mod Between

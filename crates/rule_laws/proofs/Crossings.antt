@@ -1,7 +1,7 @@
 -- A point inside a polygon lies in its envelope. Over or below a point there is an even number of a polygon's segments, so above all
 -- vertices an even number of them counts; left, right of and below all vertices none does.
-use Rattle.std.proofs.Common.{◌≡◌, ℕ, suc, ℤ, pos, ◌-ℤ◌, ◌*ℤ◌, ◌≤ℤ◌, ◌<ℤ◌, neg_ℤ, arith, sym, ap, refl, inl, inr, ◌∙◌, Bool, true, false, not, cond, ◌&&◌, List, [], ◌∷◌, ◌++◌}
-use Rattle.std.specs.Prelude.{flat_map, if◌then◌else◌}
+use Rattle.std.proofs.Common.{◌≡◌, ℤ, pos, ◌-ℤ◌, ◌*ℤ◌, ◌≤ℤ◌, ◌<ℤ◌, neg_ℤ, arith, sym, ap, refl, inl, inr, ◌∙◌, Bool, true, false, not, ◌&&◌, List, [], ◌∷◌}
+use Rattle.std.specs.Prelude.{if◌then◌else◌}
 use Rattle.std.specs.Int.RustNames.{int_le, int_lt}
 use Rattle.std.proofs.lemmas.Int.{ints}
 use Rattle.std.proofs.lemmas.Bool.{false≢true}
@@ -10,60 +10,13 @@ use Rattle.plane_terms.specs.Point.{Place, Point}
 use Rattle.plane_terms.specs.Rectangle.{Rectangle, RectHolds}
 use Rattle.plane_terms.specs.Segment.{Segment, cross, comes_before, segment_between}
 use Rattle.plane_terms.specs.Polygon.{counts, IsInside}
-use Rattle.plane_terms.specs.Shape.{Shape, envelope_of, path, closed_path, last_of, segments_of, rings_of}
+use Rattle.plane_terms.specs.Shape.{Shape, envelope_of, segments_of}
 use Rattle.plane_terms.specs.declared.kind.Kind.TheVariants as shapes
 use Rattle.number_laws.proofs.Ring.{num, neg, ◌⊖◌, ◌⊗◌, lt_by, lt_read, le_by, le_read}
 use Rattle.number_laws.proofs.Order.{scaled_le, product_at_least, product_over, over_unscaled, least_unscaled, cases_order_ℤ}
-use Rattle.plane_terms.proofs.ListLemmas.{every_map}
+use Rattle.plane_terms.proofs.ListLemmas.{every_map, every_of_all}
+use Rattle.column_laws.proofs.Parity.{differ, differ_back, in_order, out_of_order, round_even}
 use Rattle.rule_laws.proofs.Envelopes.{LiesIn, BothEnds, segments_ends}
-
--- ---- parity
-differ : Bool → Bool → Bool
-differ true b = not b
-differ false b = b
-
-differ_self : (b : Bool) → differ b b ≡ false
-unfolding differ
-differ_self true = refl
-differ_self false = refl
-
-differ_back : (b c : Bool) → differ b c ≡ differ c b
-unfolding differ
-differ_back true true = refl
-differ_back true false = refl
-differ_back false true = refl
-differ_back false false = refl
-
-differ_joined : (a b c : Bool) → differ (differ a b) c ≡ differ a (differ b c)
-unfolding differ
-differ_joined true true true = refl
-differ_joined true true false = refl
-differ_joined true false c = refl
-differ_joined false b c = refl
-
-differ_through : (a b c : Bool) → differ (differ a b) (differ b c) ≡ differ a c
-unfolding differ
-differ_through true true c = refl
-differ_through true false c = refl
-differ_through false true true = refl
-differ_through false true false = refl
-differ_through false false c = refl
-
-odd_more : (t : Bool) (n : ℕ) → is_odd (cond t (suc n) n) ≡ differ t (is_odd n)
-unfolding differ
-odd_more true n = refl
-odd_more false n = refl
-
-odd_joined : {A : Type 0} (test : A → Bool) (xs ys : List A)
-    → is_odd (how_many test (xs ++ ys)) ≡ differ (is_odd (how_many test xs)) (is_odd (how_many test ys))
-unfolding differ
-odd_joined test [] ys = refl
-odd_joined test (x ∷ xs) ys =
-    let m = is_odd (how_many test xs) in
-    let n = is_odd (how_many test ys) in
-    odd_more (test x) (how_many test (xs ++ ys))
-    ∙ (ap (differ (test x)) (odd_joined test xs ys)
-    ∙ (sym (differ_joined (test x) m n) ∙ ap (λ b. differ b n) (sym (odd_more (test x) (how_many test xs)))))
 
 -- ---- the segments over or below a point
 abbrev is_before : Point → Place → Bool
@@ -90,12 +43,6 @@ spans_ordered p a b h =
     by_cases false true h = h refl
     by_cases false false h = refl
 
-in_order : (a b : Place) → comes_before a b ≡ true → a.x ≤ℤ b.x
-in_order a b e = grind (arith, ints)
-
-out_of_order : (a b : Place) → comes_before a b ≡ false → b.x ≤ℤ a.x
-out_of_order a b e = grind (arith, ints)
-
 spans_between : (p : Point) (a b : Place) → spans p (segment_between a b) ≡ differ (is_before p a) (is_before p b)
 spans_between p a b = by_order (comes_before a b) refl
   where
@@ -105,32 +52,10 @@ spans_between p a b = by_order (comes_before a b) refl
     by_order true e = spans_ordered p a b (in_order a b e)
     by_order false e = spans_ordered p b a (out_of_order a b e) ∙ differ_back (is_before p b) (is_before p a)
 
-path_parity : (p : Point) (a : Place) (ps : List Place)
-    → is_odd (how_many (spans p) (path (a ∷ ps))) ≡ differ (is_before p a) (is_before p (last_of a ps))
-path_parity p a [] = sym (differ_self (is_before p a))
-path_parity p a (b ∷ ps) =
-    let one = spans_between p a b in
-    let rest = path_parity p b ps in
-    odd_more (spans p (segment_between a b)) (how_many (spans p) (path (b ∷ ps)))
-    ∙ (rw (one, rest) (differ_through (is_before p a) (is_before p b) (is_before p (last_of b ps))))
-
-last_added : (a b : Place) (ps : List Place) → last_of a (ps ++ b ∷ []) ≡ b
-last_added a b [] = refl
-last_added a b (q ∷ ps) = last_added q b ps
-
-closed_even : (p : Point) (ring : List Place) → is_odd (how_many (spans p) (closed_path ring)) ≡ false
-closed_even p [] = refl
-closed_even p (a ∷ ps) = path_parity p a (ps ++ a ∷ [])
-    ∙ (ap (λ q. differ (is_before p a) (is_before p q)) (last_added a a ps) ∙ differ_self (is_before p a))
-
-rings_even : (p : Point) (rings : List (List Place)) → is_odd (how_many (spans p) (flat_map closed_path rings)) ≡ false
-unfolding differ
-rings_even p [] = refl
-rings_even p (ring ∷ rings) = odd_joined (spans p) (closed_path ring) (flat_map closed_path rings)
-    ∙ rw (closed_even p ring) (rings_even p rings)
-
 polygon_even : (p : Point) (s : Shape) → s.kind ≡ shapes.Polygon → is_odd (how_many (spans p) (segments_of s)) ≡ false
-polygon_even p s e = rw e (rings_even p (rings_of s))
+polygon_even p s e =
+    round_even (spans p) (is_before p) (λ t. Unit {0}) (λ a b k. spans_between p a b) s e
+    (every_of_all (λ t. Unit {0}) (λ t. tt) (segments_of s))
 
 -- ---- above and below both ends
 cross_above : (s : Segment) (p : Point) → (s.lo.x *ℤ pos p.w) ≤ℤ p.x → p.x <ℤ (s.hi.x *ℤ pos p.w) → (s.lo.y *ℤ pos p.w) <ℤ p.y
