@@ -5,7 +5,7 @@ use Rattle.plane_terms.specs.Point.{Place, Point, IsAt}
 use Rattle.plane_terms.specs.Segment.{Segment, IsSegment, cross, OnSegment, Overlap}
 use Rattle.plane_terms.specs.Share.{AreSame, MeetOnce, CrossOnce, TouchOnce, turn}
 use Rattle.number_laws.proofs.Ring.{num, neg, ◌⊕◌, ◌⊖◌, ◌⊗◌, same_by, lt_by, le_read, lt_read}
-use Rattle.number_laws.proofs.Order.{product_at_least, product_over, zero_unscaled, natural}
+use Rattle.number_laws.proofs.Order.{turned_at_least, product_at_least, product_over, zero_unscaled, natural}
 use Rattle.cell_laws.proofs.Weights.{Weights, weights, Mixed, on_mixed, low_mixed, high_mixed}
 
 -- no point is on both
@@ -242,10 +242,10 @@ meeting s t h =
     let w = natural (a -ℤ b) (over a b h.turns) in
     record {
       at = record { x = neg_ℤ b *ℤ s.lo.x +ℤ a *ℤ s.hi.x; y = neg_ℤ b *ℤ s.lo.y +ℤ a *ℤ s.hi.y; w = w.0; positive = w.1 };
-      first = record { n_least = turned b h.to; m_least = h.from; w_is = sum a b (pos w.0) w.2; x_is = refl; y_is = refl };
+      first = record { n_least = turned_at_least b h.to; m_least = h.from; w_is = sum a b (pos w.0) w.2; x_is = refl; y_is = refl };
       second = record {
         n_least = h.other_to;
-        m_least = turned c h.other_from;
+        m_least = turned_at_least c h.other_from;
         w_is = other a b c d (pos w.0) w.2 (turns_differ s t);
         x_is = meet_x s.lo.x s.lo.y s.hi.x s.hi.y t.lo.x t.lo.y t.hi.x t.hi.y;
         y_is = meet_y s.lo.x s.lo.y s.hi.x s.hi.y t.lo.x t.lo.y t.hi.x t.hi.y;
@@ -254,9 +254,6 @@ meeting s t h =
   where
     over : (a b : ℤ) → b <ℤ a → pos 0 <ℤ (a -ℤ b)
     over a b h = omega (arith, ints)
-
-    turned : (v : ℤ) → v ≤ℤ pos 0 → pos 0 ≤ℤ neg_ℤ v
-    turned v h = omega (arith, ints)
 
     sum : (a b w : ℤ) → a -ℤ b ≡ w → w ≡ neg_ℤ b +ℤ a
     sum a b w e = omega (arith, ints)

@@ -4,7 +4,7 @@ use Rattle.std.proofs.lemmas.Int.{ints}
 use Rattle.plane_terms.specs.Point.{Point, IsAt}
 use Rattle.plane_terms.specs.Segment.{Segment, IsSegment, cross, IsBetween, OnSegment}
 use Rattle.number_laws.proofs.Ring.{num, ◌⊕◌, ◌⊖◌, ◌⊗◌, same_by, le_by, le_read}
-use Rattle.number_laws.proofs.Order.{product_at_least, least_under, square_least, product_over, le_from_scaled, cases_order_ℤ}
+use Rattle.number_laws.proofs.Order.{sum_at_least, product_at_least, least_under, square_least, product_over, le_from_scaled, cases_order_ℤ}
 
 -- k times the point is n times the low end and m times the high one
 pub record Weights (s : Segment) (p : Point) : Type 0 where
@@ -33,9 +33,6 @@ to_high a b v w p (inl h) =
 to_high a b v w p (inr h) =
     let o = le_from_scaled b a w p (omega (arith, ints, h.0, h.1)) in
     least_under (b -ℤ a) (b *ℤ pos w -ℤ v) (omega (arith, ints)) (omega (arith, ints, h.0))
-
-sum_two : (u v : ℤ) → pos 0 ≤ℤ u → pos 0 ≤ℤ v → pos 0 ≤ℤ (u +ℤ v)
-sum_two u v h k = omega (arith, ints)
 
 long : (s : Segment) → IsSegment s → pos 0 <ℤ ((s.hi.x -ℤ s.lo.x) *ℤ (s.hi.x -ℤ s.lo.x) +ℤ (s.hi.y -ℤ s.lo.y) *ℤ (s.hi.y -ℤ s.lo.y))
 long s g = elim g.ordered [
@@ -102,9 +99,9 @@ weights s p g o =
       m = m;
       n = n;
       k = k;
-      m_least = sum_two (dx *ℤ (p.x -ℤ s.lo.x *ℤ w)) (dy *ℤ (p.y -ℤ s.lo.y *ℤ w)) (from_low s.lo.x s.hi.x p.x p.w p.positive o.across)
+      m_least = sum_at_least (dx *ℤ (p.x -ℤ s.lo.x *ℤ w)) (dy *ℤ (p.y -ℤ s.lo.y *ℤ w)) (from_low s.lo.x s.hi.x p.x p.w p.positive o.across)
           (from_low s.lo.y s.hi.y p.y p.w p.positive o.along);
-      n_least = sum_two (dx *ℤ (s.hi.x *ℤ w -ℤ p.x)) (dy *ℤ (s.hi.y *ℤ w -ℤ p.y)) (to_high s.lo.x s.hi.x p.x p.w p.positive o.across)
+      n_least = sum_at_least (dx *ℤ (s.hi.x *ℤ w -ℤ p.x)) (dy *ℤ (s.hi.y *ℤ w -ℤ p.y)) (to_high s.lo.x s.hi.x p.x p.w p.positive o.across)
           (to_high s.lo.y s.hi.y p.y p.w p.positive o.along);
       k_over = long s g;
       w_is = sum_is s.lo.x s.lo.y s.hi.x s.hi.y p.x p.y w;

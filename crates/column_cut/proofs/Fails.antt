@@ -9,16 +9,13 @@ use Rattle.plane_terms.specs.Decide.{has_point}
 use Rattle.plane_terms.specs.declared.op.Op.{Op}
 use Rattle.plane_terms.specs.declared.op.Op.TheVariants.{Over, AtLeast, Zero}
 use Rattle.number_laws.proofs.Ring.{num, neg, ◌⊕◌, ◌⊖◌, ◌⊗◌, same_by}
-use Rattle.number_laws.proofs.Order.{product_over, product_at_least}
+use Rattle.number_laws.proofs.Order.{turned_at_least, product_over, product_at_least}
 use Rattle.std.proofs.lemmas.Bool.{cases_Bool}
 use Rattle.cell_laws.proofs.Decision.{has_point-true}
 use Rattle.cell_laws.proofs.GridLines.{x_is_holds, y_over_holds, y_under_holds}
 
 less : (v u t : ℤ) → v ≡ neg_ℤ u -ℤ t → pos 0 <ℤ u → pos 0 ≤ℤ t → v <ℤ pos 0
 less v u t e f g = omega (arith, ints)
-
-turned : (v : ℤ) → v ≤ℤ pos 0 → pos 0 ≤ℤ neg_ℤ v
-turned v h = omega (arith, ints)
 
 nowhere : (o : Op) (v : ℤ) → v <ℤ pos 0 → ¬ (Says o v)
 nowhere Over v h s = omega (arith, ints)
@@ -44,7 +41,7 @@ module _ (h : HalfPlane) (x y : ℤ) (p : Point) (under : (h.a *ℤ x +ℤ h.b *
   fails l = nowhere h.op (value_at h p) (subst (λ px. at px <ℤ pos 0) (sym ((x_is_holds x p).0 on)) l)
 
   rest : pos 0 ≤ℤ (neg_ℤ (h.a *ℤ x +ℤ h.b *ℤ y +ℤ h.c) *ℤ pos p.w)
-  rest = product_at_least _ (pos p.w) (turned _ under) (omega (arith, ints))
+  rest = product_at_least _ (pos p.w) (turned_at_least _ under) (omega (arith, ints))
 
   pub below_fails : pos 0 <ℤ h.b → Holds (y_under y) p → ¬ (Holds h p)
   below_fails b l =

@@ -2,7 +2,7 @@
 use Rattle.std.proofs.Common.{◌≡◌, ℤ, pos, ◌+ℤ◌, ◌-ℤ◌, ◌*ℤ◌, neg_ℤ, ◌≤ℤ◌, ◌<ℤ◌, arith, ◌⊎◌, inl, inr}
 use Rattle.std.proofs.lemmas.Int.{ints}
 use Rattle.number_laws.proofs.Ring.{num, neg, ◌⊕◌, ◌⊖◌, ◌⊗◌, same_by, le_by, le_read, lt_read, same_read}
-use Rattle.number_laws.proofs.Order.{product_at_least, product_over, cases_order_ℤ}
+use Rattle.number_laws.proofs.Order.{sum_at_least, turned_at_least, product_at_least, product_over, cases_order_ℤ}
 
 -- one is above zero and the other is not
 abbrev pub Opposite : ℤ → ℤ → Type 0
@@ -26,14 +26,8 @@ sum_right x y h k = omega (arith, ints)
 sum_left : (x y : ℤ) → pos 0 <ℤ x → pos 0 ≤ℤ y → pos 0 <ℤ (x +ℤ y)
 sum_left x y h k = omega (arith, ints)
 
-sum_least : (x y : ℤ) → pos 0 ≤ℤ x → pos 0 ≤ℤ y → pos 0 ≤ℤ (x +ℤ y)
-sum_least x y h k = omega (arith, ints)
-
 weak : (x : ℤ) → pos 0 <ℤ x → pos 0 ≤ℤ x
 weak x h = omega (arith, ints)
-
-turned : (x : ℤ) → x ≤ℤ pos 0 → pos 0 ≤ℤ neg_ℤ x
-turned x h = omega (arith, ints)
 
 turned_under : (x : ℤ) → x <ℤ pos 0 → pos 0 <ℤ neg_ℤ x
 turned_under x h = omega (arith, ints)
@@ -44,9 +38,9 @@ module _ (z w u v a b c d : ℤ) (pz : pos 0 <ℤ z) (pw : pos 0 <ℤ w) where
   balance_down h k l r = record {
     n = neg_ℤ v;
     m = u;
-    n_least = turned v k;
+    n_least = turned_at_least v k;
     m_least = weak u h;
-    w_over = sum_right (neg_ℤ v *ℤ z) (u *ℤ w) (product_at_least (neg_ℤ v) z (turned v k) (weak z pz)) (product_over u w h pw);
+    w_over = sum_right (neg_ℤ v *ℤ z) (u *ℤ w) (product_at_least (neg_ℤ v) z (turned_at_least v k) (weak z pz)) (product_over u w h pw);
     even = same_by (neg (num v) ⊗ num u ⊕ num u ⊗ num v) (num (pos 0)) (omega arith);
     low = l;
     high = r;
@@ -58,8 +52,8 @@ module _ (z w u v a b c d : ℤ) (pz : pos 0 <ℤ z) (pw : pos 0 <ℤ w) where
     n = v;
     m = neg_ℤ u;
     n_least = weak v k;
-    m_least = turned u h;
-    w_over = sum_left (v *ℤ z) (neg_ℤ u *ℤ w) (product_over v z k pz) (product_at_least (neg_ℤ u) w (turned u h) (weak w pw));
+    m_least = turned_at_least u h;
+    w_over = sum_left (v *ℤ z) (neg_ℤ u *ℤ w) (product_over v z k pz) (product_at_least (neg_ℤ u) w (turned_at_least u h) (weak w pw));
     even = same_by (num v ⊗ num u ⊕ neg (num u) ⊗ num v) (num (pos 0)) (omega arith);
     low = l;
     high = r;
@@ -67,12 +61,12 @@ module _ (z w u v a b c d : ℤ) (pz : pos 0 <ℤ z) (pw : pos 0 <ℤ w) where
 
   -- the middle of two that are on the right side
   down_least : (x y : ℤ) → pos 0 <ℤ u → v ≤ℤ pos 0 → pos 0 ≤ℤ x → pos 0 ≤ℤ y → pos 0 ≤ℤ (neg_ℤ v *ℤ x +ℤ u *ℤ y)
-  down_least x y h k l r = sum_least (neg_ℤ v *ℤ x) (u *ℤ y) (product_at_least (neg_ℤ v) x (turned v k) l)
+  down_least x y h k l r = sum_at_least (neg_ℤ v *ℤ x) (u *ℤ y) (product_at_least (neg_ℤ v) x (turned_at_least v k) l)
       (product_at_least u y (weak u h) r)
 
   up_least : (x y : ℤ) → u ≤ℤ pos 0 → pos 0 <ℤ v → pos 0 ≤ℤ x → pos 0 ≤ℤ y → pos 0 ≤ℤ (v *ℤ x +ℤ neg_ℤ u *ℤ y)
-  up_least x y h k l r = sum_least (v *ℤ x) (neg_ℤ u *ℤ y) (product_at_least v x (weak v k) l)
-      (product_at_least (neg_ℤ u) y (turned u h) r)
+  up_least x y h k l r = sum_at_least (v *ℤ x) (neg_ℤ u *ℤ y) (product_at_least v x (weak v k) l)
+      (product_at_least (neg_ℤ u) y (turned_at_least u h) r)
 
   -- ---- both points are in the range
   pub balance_both : pos 0 ≤ℤ a → pos 0 ≤ℤ b → pos 0 ≤ℤ c → pos 0 ≤ℤ d → Opposite u v → Balance z w u v a b c d
@@ -86,8 +80,8 @@ module _ (z w u v a b c d : ℤ) (pz : pos 0 <ℤ z) (pw : pos 0 <ℤ w) where
         elim (cases_order_ℤ (pos 0) v) [
           | inl hv ↦
               let f = lt_read (num (pos 0)) (num c ⊗ num v) (product_over c v hc hv) in
-              let g = le_read (num (pos 0)) (num k ⊗ neg (num e)) (product_at_least k (neg_ℤ e) (weak k pk) (turned e he)) in
-              let h = le_read (num (pos 0)) (neg (num d) ⊗ num u) (product_at_least (neg_ℤ d) u (turned d hd) (weak u hu)) in
+              let g = le_read (num (pos 0)) (num k ⊗ neg (num e)) (product_at_least k (neg_ℤ e) (weak k pk) (turned_at_least e he)) in
+              let h = le_read (num (pos 0)) (neg (num d) ⊗ num u) (product_at_least (neg_ℤ d) u (turned_at_least d hd) (weak u hu)) in
               let j = same_read (num k ⊗ num e) (num c ⊗ num v ⊖ num d ⊗ num u) i in
               absurd (omega (arith, f, g, h, j))
           | inr hv ↦ hv
@@ -98,17 +92,17 @@ module _ (z w u v a b c d : ℤ) (pz : pos 0 <ℤ z) (pw : pos 0 <ℤ w) where
         elim (cases_order_ℤ (pos 0) v) [
           | inl hv ↦ hv
           | inr hv ↦
-              let f = le_read (num (pos 0)) (num c ⊗ neg (num v)) (product_at_least c (neg_ℤ v) (weak c hc) (turned v hv)) in
+              let f = le_read (num (pos 0)) (num c ⊗ neg (num v)) (product_at_least c (neg_ℤ v) (weak c hc) (turned_at_least v hv)) in
               let g = lt_read (num (pos 0)) (num k ⊗ num e) (product_over k e pk he) in
               let h = le_read (num (pos 0)) (neg (num d) ⊗ neg (num u))
-              (product_at_least (neg_ℤ d) (neg_ℤ u) (turned d hd) (turned u hu)) in
+              (product_at_least (neg_ℤ d) (neg_ℤ u) (turned_at_least d hd) (turned_at_least u hu)) in
               let j = same_read (num k ⊗ num e) (num c ⊗ num v ⊖ num d ⊗ num u) i in
               absurd (omega (arith, f, g, h, j))
         ]
 
     high_down : e ≤ℤ pos 0 → pos 0 ≤ℤ (neg_ℤ v *ℤ c +ℤ u *ℤ d)
     high_down he =
-        let g = le_read (num (pos 0)) (num k ⊗ neg (num e)) (product_at_least k (neg_ℤ e) (weak k pk) (turned e he)) in
+        let g = le_read (num (pos 0)) (num k ⊗ neg (num e)) (product_at_least k (neg_ℤ e) (weak k pk) (turned_at_least e he)) in
         let j = same_read (num k ⊗ num e) (num c ⊗ num v ⊖ num d ⊗ num u) i in
         le_by (num (pos 0)) (neg (num v) ⊗ num c ⊕ num u ⊗ num d) (omega (arith, g, j))
 
@@ -133,10 +127,10 @@ module _ (z w u v a b c d : ℤ) (pz : pos 0 <ℤ z) (pw : pos 0 <ℤ w) where
         elim (cases_order_ℤ (pos 0) u) [
           | inl hu ↦ hu
           | inr hu ↦
-              let f = le_read (num (pos 0)) (num b ⊗ neg (num u)) (product_at_least b (neg_ℤ u) hb (turned u hu)) in
+              let f = le_read (num (pos 0)) (num b ⊗ neg (num u)) (product_at_least b (neg_ℤ u) hb (turned_at_least u hu)) in
               let g = lt_read (num (pos 0)) (num k ⊗ num e) (product_over k e pk he) in
               let h = le_read (num (pos 0)) (neg (num a) ⊗ neg (num v))
-              (product_at_least (neg_ℤ a) (neg_ℤ v) (weak (neg_ℤ a) (turned_under a ha)) (turned v hv)) in
+              (product_at_least (neg_ℤ a) (neg_ℤ v) (weak (neg_ℤ a) (turned_under a ha)) (turned_at_least v hv)) in
               let j = same_read (num k ⊗ num e) (num b ⊗ num u ⊖ num a ⊗ num v) i in
               absurd (omega (arith, f, g, h, j))
         ]
@@ -146,7 +140,7 @@ module _ (z w u v a b c d : ℤ) (pz : pos 0 <ℤ z) (pw : pos 0 <ℤ w) where
         elim (cases_order_ℤ (pos 0) u) [
           | inl hu ↦
               let f = le_read (num (pos 0)) (num b ⊗ num u) (product_at_least b u hb (weak u hu)) in
-              let g = le_read (num (pos 0)) (num k ⊗ neg (num e)) (product_at_least k (neg_ℤ e) (weak k pk) (turned e he)) in
+              let g = le_read (num (pos 0)) (num k ⊗ neg (num e)) (product_at_least k (neg_ℤ e) (weak k pk) (turned_at_least e he)) in
               let h = lt_read (num (pos 0)) (neg (num a) ⊗ num v) (product_over (neg_ℤ a) v (turned_under a ha) hv) in
               let j = same_read (num k ⊗ num e) (num b ⊗ num u ⊖ num a ⊗ num v) i in
               absurd (omega (arith, f, g, h, j))
@@ -161,7 +155,7 @@ module _ (z w u v a b c d : ℤ) (pz : pos 0 <ℤ z) (pw : pos 0 <ℤ w) where
 
     low_up : e ≤ℤ pos 0 → pos 0 ≤ℤ (v *ℤ a +ℤ neg_ℤ u *ℤ b)
     low_up he =
-        let g = le_read (num (pos 0)) (num k ⊗ neg (num e)) (product_at_least k (neg_ℤ e) (weak k pk) (turned e he)) in
+        let g = le_read (num (pos 0)) (num k ⊗ neg (num e)) (product_at_least k (neg_ℤ e) (weak k pk) (turned_at_least e he)) in
         let j = same_read (num k ⊗ num e) (num b ⊗ num u ⊖ num a ⊗ num v) i in
         le_by (num (pos 0)) (num v ⊗ num a ⊕ neg (num u) ⊗ num b) (omega (arith, g, j))
 

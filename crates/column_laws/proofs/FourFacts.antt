@@ -8,6 +8,7 @@ use Rattle.plane_terms.specs.Segment.{Segment, cross, comes_before, segment_betw
 use Rattle.plane_terms.specs.Polygon.{counts}
 use Rattle.number_laws.proofs.Ring.{num, ◌⊖◌, ◌⊗◌, le_read, lt_read}
 use Rattle.number_laws.proofs.Order.{scaled_le, lt_scaled, cases_order_ℤ}
+use Rattle.number_laws.proofs.Tests.{Decides-int_le, Decides-int_lt, int_le_false, int_lt_false}
 use Rattle.column_laws.proofs.Parity.{differ, differ_back, in_order, out_of_order}
 use Rattle.column_laws.proofs.Between.{drawn}
 use Rattle.column_laws.proofs.Balances.{Opposite}
@@ -19,16 +20,10 @@ is_low p q v = int_lt p.x (v.x *ℤ pos p.w) && (int_le (v.x *ℤ pos q.w) q.x &
 
 -- ---- tests
 le_true : (u v : ℤ) → u ≤ℤ v → int_le u v ≡ true
-le_true u v h = grind (arith, ints)
-
-le_false : (u v : ℤ) → v <ℤ u → int_le u v ≡ false
-le_false u v h = grind (arith, ints)
+le_true u v = (Decides-int_le u v).1
 
 lt_true : (u v : ℤ) → u <ℤ v → int_lt u v ≡ true
-lt_true u v h = grind (arith, ints)
-
-lt_false : (u v : ℤ) → v ≤ℤ u → int_lt u v ≡ false
-lt_false u v h = grind (arith, ints)
+lt_true u v = (Decides-int_lt u v).1
 
 -- numbers that never stand opposite have one sign
 one_sign : (u v : ℤ) → (Opposite u v → ⊥) → int_lt (pos 0) u ≡ int_lt (pos 0) v
@@ -40,7 +35,7 @@ one_sign u v f =
       ]
       | inr h ↦ elim (cases_order_ℤ (pos 0) v) [
         | inl k ↦ absurd (f (inr (h, k)))
-        | inr k ↦ lt_false (pos 0) u h ∙ sym (lt_false (pos 0) v k)
+        | inr k ↦ int_lt_false (pos 0) u h ∙ sym (int_lt_false (pos 0) v k)
       ]
     ]
 
@@ -141,9 +136,9 @@ module _ (p q : Point) (from_left : pos 0 ≤ℤ right_by p q) where
     beyond h =
         let l = right_of_first s.lo.x h in
         let r = far q.x (s.lo.x *ℤ pos q.w) (s.hi.x *ℤ pos q.w) h (scaled_le s.lo.x s.hi.x q.w order) in
-        even_by false false false false (first_not p_from p_to p_over (le_false (s.lo.x *ℤ pos p.w) p.x l))
-        (first_not q_from q_to q_over (le_false (s.lo.x *ℤ pos q.w) q.x h)) (second_not lo_from q_from lo_under (le_false (s.lo.x *ℤ pos q.w) q.x h))
-        (second_not p_to hi_to hi_under (le_false (s.hi.x *ℤ pos q.w) q.x r)) refl
+        even_by false false false false (first_not p_from p_to p_over (int_le_false (s.lo.x *ℤ pos p.w) p.x l))
+        (first_not q_from q_to q_over (int_le_false (s.lo.x *ℤ pos q.w) q.x h)) (second_not lo_from q_from lo_under (int_le_false (s.lo.x *ℤ pos q.w) q.x h))
+        (second_not p_to hi_to hi_under (int_le_false (s.hi.x *ℤ pos q.w) q.x r)) refl
       where
         far : (x u v : ℤ) → x <ℤ u → u ≤ℤ v → x <ℤ v
         far x u v h k = omega (arith, ints)
@@ -153,9 +148,9 @@ module _ (p q : Point) (from_left : pos 0 ≤ℤ right_by p q) where
     before h =
         let r = left_of_second s.hi.x h in
         let l = near (s.lo.x *ℤ pos p.w) (s.hi.x *ℤ pos p.w) p.x (scaled_le s.lo.x s.hi.x p.w order) h in
-        even_by false false false false (second_not p_from p_to p_over (lt_false p.x (s.hi.x *ℤ pos p.w) h))
-        (second_not q_from q_to q_over (lt_false q.x (s.hi.x *ℤ pos q.w) r)) (first_not lo_from q_from lo_under (lt_false p.x (s.lo.x *ℤ pos p.w) l))
-        (first_not p_to hi_to hi_under (lt_false p.x (s.hi.x *ℤ pos p.w) h)) refl
+        even_by false false false false (second_not p_from p_to p_over (int_lt_false p.x (s.hi.x *ℤ pos p.w) h))
+        (second_not q_from q_to q_over (int_lt_false q.x (s.hi.x *ℤ pos q.w) r)) (first_not lo_from q_from lo_under (int_lt_false p.x (s.lo.x *ℤ pos p.w) l))
+        (first_not p_to hi_to hi_under (int_lt_false p.x (s.hi.x *ℤ pos p.w) h)) refl
       where
         near : (u v x : ℤ) → u ≤ℤ v → v ≤ℤ x → u ≤ℤ x
         near u v x h k = omega (arith, ints)
@@ -171,29 +166,29 @@ module _ (p q : Point) (from_left : pos 0 ≤ℤ right_by p q) where
       over_both : (s.lo.x *ℤ pos p.w) ≤ℤ p.x → q.x <ℤ (s.hi.x *ℤ pos q.w) → AreEven
       over_both l r =
           even_by p_over q_over false false (third_is p_from p_to p_over (le_true (s.lo.x *ℤ pos p.w) p.x l) p_to_is)
-          (third_is q_from q_to q_over q_from_is (lt_true q.x (s.hi.x *ℤ pos q.w) r)) (first_not lo_from q_from lo_under (lt_false p.x (s.lo.x *ℤ pos p.w) l))
-          (second_not p_to hi_to hi_under (le_false (s.hi.x *ℤ pos q.w) q.x r))
+          (third_is q_from q_to q_over q_from_is (lt_true q.x (s.hi.x *ℤ pos q.w) r)) (first_not lo_from q_from lo_under (int_lt_false p.x (s.lo.x *ℤ pos p.w) l))
+          (second_not p_to hi_to hi_under (int_le_false (s.hi.x *ℤ pos q.w) q.x r))
           (both_same p_over q_over (one_sign (cross s p) (cross s q) (both_across s p q miss l hi_right lo_left r)))
 
       over_first : (s.lo.x *ℤ pos p.w) ≤ℤ p.x → (s.hi.x *ℤ pos q.w) ≤ℤ q.x → AreEven
       over_first l r =
           even_by p_over false false hi_under (third_is p_from p_to p_over (le_true (s.lo.x *ℤ pos p.w) p.x l) p_to_is)
-          (second_not q_from q_to q_over (lt_false q.x (s.hi.x *ℤ pos q.w) r)) (first_not lo_from q_from lo_under (lt_false p.x (s.lo.x *ℤ pos p.w) l))
+          (second_not q_from q_to q_over (int_lt_false q.x (s.hi.x *ℤ pos q.w) r)) (first_not lo_from q_from lo_under (int_lt_false p.x (s.lo.x *ℤ pos p.w) l))
           (third_is p_to hi_to hi_under p_to_is (le_true (s.hi.x *ℤ pos q.w) q.x r))
           (differ_right p_over hi_under (one_sign (cross s p) (depth p q s.hi) (first_across s p q miss l hi_right lo_left r)))
 
       over_second : p.x <ℤ (s.lo.x *ℤ pos p.w) → q.x <ℤ (s.hi.x *ℤ pos q.w) → AreEven
       over_second l r =
-          even_by false q_over lo_under false (first_not p_from p_to p_over (le_false (s.lo.x *ℤ pos p.w) p.x l))
+          even_by false q_over lo_under false (first_not p_from p_to p_over (int_le_false (s.lo.x *ℤ pos p.w) p.x l))
           (third_is q_from q_to q_over q_from_is (lt_true q.x (s.hi.x *ℤ pos q.w) r))
           (third_is lo_from q_from lo_under (lt_true p.x (s.lo.x *ℤ pos p.w) l) q_from_is)
-          (second_not p_to hi_to hi_under (le_false (s.hi.x *ℤ pos q.w) q.x r))
+          (second_not p_to hi_to hi_under (int_le_false (s.hi.x *ℤ pos q.w) q.x r))
           (differ_left q_over lo_under (sym (one_sign (depth p q s.lo) (cross s q) (second_across s p q miss l hi_right lo_left r))))
 
       over_neither : p.x <ℤ (s.lo.x *ℤ pos p.w) → (s.hi.x *ℤ pos q.w) ≤ℤ q.x → AreEven
       over_neither l r =
-          even_by false false lo_under hi_under (first_not p_from p_to p_over (le_false (s.lo.x *ℤ pos p.w) p.x l))
-          (second_not q_from q_to q_over (lt_false q.x (s.hi.x *ℤ pos q.w) r)) (third_is lo_from q_from lo_under (lt_true p.x (s.lo.x *ℤ pos p.w) l) q_from_is)
+          even_by false false lo_under hi_under (first_not p_from p_to p_over (int_le_false (s.lo.x *ℤ pos p.w) p.x l))
+          (second_not q_from q_to q_over (int_lt_false q.x (s.hi.x *ℤ pos q.w) r)) (third_is lo_from q_from lo_under (lt_true p.x (s.lo.x *ℤ pos p.w) l) q_from_is)
           (third_is p_to hi_to hi_under p_to_is (le_true (s.hi.x *ℤ pos q.w) q.x r))
           (sym (both_same lo_under hi_under (one_sign (depth p q s.lo) (depth p q s.hi) (within_across s p q miss l hi_right lo_left r))))
 

@@ -14,6 +14,7 @@ use Rattle.plane_terms.specs.Shape.{Shape, envelope_of, segments_of}
 use Rattle.plane_terms.specs.declared.kind.Kind.TheVariants as shapes
 use Rattle.number_laws.proofs.Ring.{num, neg, ◌⊖◌, ◌⊗◌, lt_by, lt_read, le_by, le_read}
 use Rattle.number_laws.proofs.Order.{scaled_le, product_at_least, product_over, over_unscaled, least_unscaled, cases_order_ℤ}
+use Rattle.number_laws.proofs.Tests.{Decides-int_lt, int_le_false, int_lt_false}
 use Rattle.plane_terms.proofs.ListLemmas.{every_map, every_of_all}
 use Rattle.column_laws.proofs.Parity.{differ, differ_back, in_order, out_of_order, round_even}
 use Rattle.rule_laws.proofs.Envelopes.{LiesIn, BothEnds, segments_ends}
@@ -102,16 +103,10 @@ both_tests u v z e = (low u v z e, high u v z e)
     high : (u v z : ℤ) → (int_le u z && int_lt z v) ≡ true → z <ℤ v
     high u v z e = grind (arith, ints)
 
-over_test : (v : ℤ) → pos 0 <ℤ v → int_lt (pos 0) v ≡ true
-over_test v h = grind (arith, ints)
-
-not_over : (v : ℤ) → v ≤ℤ pos 0 → int_lt (pos 0) v ≡ false
-not_over v h = grind (arith, ints)
-
 counts_above : (p : Point) (s : Segment) → BothEnds (λ q. (q.y *ℤ pos p.w) <ℤ p.y) s → counts s p ≡ spans p s
 counts_above p s h = third_is (is_before p s.lo) (int_lt p.x (s.hi.x *ℤ pos p.w)) (int_lt (pos 0) (cross s p)) (λ e.
     let k = both_tests (s.lo.x *ℤ pos p.w) (s.hi.x *ℤ pos p.w) p.x e in
-    over_test (cross s p) (cross_above s p k.0 k.1 h.0 h.1))
+    (Decides-int_lt (pos 0) (cross s p)).1 (cross_above s p k.0 k.1 h.0 h.1))
   where
     third_is : (b c d : Bool) → ((b && c) ≡ true → d ≡ true) → (b && (c && d)) ≡ (b && c)
     third_is true true d h = h refl
@@ -121,7 +116,7 @@ counts_above p s h = third_is (is_before p s.lo) (int_lt p.x (s.hi.x *ℤ pos p.
 counts_below : (p : Point) (s : Segment) → BothEnds (λ q. p.y <ℤ (q.y *ℤ pos p.w)) s → counts s p ≡ false
 counts_below p s h = third_not (is_before p s.lo) (int_lt p.x (s.hi.x *ℤ pos p.w)) (int_lt (pos 0) (cross s p)) (λ e.
     let k = both_tests (s.lo.x *ℤ pos p.w) (s.hi.x *ℤ pos p.w) p.x e in
-    not_over (cross s p) (cross_below s p k.0 k.1 h.0 h.1))
+    int_lt_false (pos 0) (cross s p) (cross_below s p k.0 k.1 h.0 h.1))
   where
     third_not : (b c d : Bool) → ((b && c) ≡ true → d ≡ false) → (b && (c && d)) ≡ false
     third_not true true d h = h refl
@@ -130,24 +125,18 @@ counts_below p s h = third_not (is_before p s.lo) (int_lt p.x (s.hi.x *ℤ pos p
 
 counts_left : (p : Point) (s : Segment) → BothEnds (λ q. p.x <ℤ (q.x *ℤ pos p.w)) s → counts s p ≡ false
 counts_left p s h = first_not (is_before p s.lo) (int_lt p.x (s.hi.x *ℤ pos p.w) && int_lt (pos 0) (cross s p))
-    (fails (s.lo.x *ℤ pos p.w) p.x h.0)
+    (int_le_false (s.lo.x *ℤ pos p.w) p.x h.0)
   where
     first_not : (b c : Bool) → b ≡ false → (b && c) ≡ false
     first_not b c e = rw e refl
 
-    fails : (u z : ℤ) → z <ℤ u → int_le u z ≡ false
-    fails u z h = grind (arith, ints)
-
 counts_right : (p : Point) (s : Segment) → BothEnds (λ q. (q.x *ℤ pos p.w) <ℤ p.x) s → counts s p ≡ false
 counts_right p s h =
-    second_not (is_before p s.lo) (int_lt p.x (s.hi.x *ℤ pos p.w)) (int_lt (pos 0) (cross s p)) (fails (s.hi.x *ℤ pos p.w) p.x h.1)
+    second_not (is_before p s.lo) (int_lt p.x (s.hi.x *ℤ pos p.w)) (int_lt (pos 0) (cross s p)) (int_lt_false p.x (s.hi.x *ℤ pos p.w) (omega (arith, ints, h.1)))
   where
     second_not : (b c d : Bool) → c ≡ false → (b && (c && d)) ≡ false
     second_not true c d e = rw e refl
     second_not false c d e = refl
-
-    fails : (v z : ℤ) → v <ℤ z → int_lt z v ≡ false
-    fails v z h = grind (arith, ints)
 
 same_number : {A : Type 0} (t u : A → Bool) (xs : List A) → Every (λ x. t x ≡ u x) xs → how_many t xs ≡ how_many u xs
 same_number t u [] h = refl
