@@ -1,4 +1,5 @@
-//! What the columns of a polygon rest on, as laws of their own. The functions do nothing: their clauses are the laws.
+//! What the columns of a polygon rest on, and what its inside means, as laws of their own. The functions do nothing: their clauses
+//! are the laws.
 ghost use Rattle.std.specs.Prelude.{◌≡◌, ◌↔◌};
 ghost use Rattle.plane_terms.specs.Point.{Place, Point, IsAt};
 ghost use Rattle.plane_terms.specs.Segment.{OnSegment, segment_between};
@@ -30,9 +31,9 @@ pub fn slots_count()
     ensures { SlotsCount }
 {}
 
-/// Two points between which a polygon's boundary has no point are both inside the polygon or both not: a traveller who crosses no
-/// side and touches none stays where he is. So of every polygon, valid or not, and of any two points of the plane. With it the parity
-/// that the definition counts is what one means by an inside.
+/// Two points between which a polygon's boundary has no point are both inside the polygon or both not: a traveller who meets no side
+/// stays inside or stays out. It holds for every polygon, valid or not, and for any two points of the plane, on the grid or not. So the
+/// odd count of the definition is what one means by an inside.
 pub fn segment_law()
     ensures { (s : Shape) → s.kind ≡ kind.Polygon → (p q : Point) → IsClearBetween (segments_of s) p q
         → (IsInside (segments_of s) p ↔ IsInside (segments_of s) q) }

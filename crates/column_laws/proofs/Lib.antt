@@ -16,4 +16,4 @@ pub mod Between
 pub mod Balances
 pub mod Depths
 pub mod FourFacts
-pub mod Ways
+pub mod SegmentLaw

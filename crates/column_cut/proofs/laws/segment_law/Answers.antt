@@ -1,5 +1,5 @@
-use Rattle.column_laws.proofs.Ways as ways
+use Rattle.column_laws.proofs.SegmentLaw as law
 use Rattle.column_cut.proofs.laws.segment_law.Goals as goal
 
 pub returns : goal.returns
-returns c = ways.segment_law
+returns c = law.segment_law
