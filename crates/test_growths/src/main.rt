@@ -6,22 +6,57 @@
 
 mod call;
 mod errors;
-mod store;
-mod topology;
+mod features;
 mod value;
 
-use call::make_all;
+use call::{Call, Made};
 use dirty_area::Dirt;
 use error_store::Errors;
-use errors::{ERRORS, DIRT};
+use errors::{DIRT, ERRORS};
 use feature_store::Store;
+use features::{STORE, TOPOLOGY};
+use grid_plane::NoMemory;
 use rule_set::PosterRules;
 use std::io;
-use std::io::Write;
-use store::STORE;
+use std::io::{ErrorKind, Write};
 use topo_core::Topology;
-use topology::TOPOLOGY;
-use value::{Value, given};
+use value::Value;
+
+// A result of a value, as the program's own result.
+fn given<T>(result: Result<T, NoMemory>) -> io::Result<T> {
+    match result {
+        Ok(value) => Ok(value),
+        Err(_) => Err(io::Error::from(ErrorKind::OutOfMemory)),
+    }
+}
+
+// Makes a call; where it is refused it says whether the value is as before, and makes it once more.
+fn make<V: Value, C: Call<V>>(rt: &HostRuntime, of: &str, value: &mut V, call: &C) -> io::Result<()> {
+    let alloc = rt.alloc();
+    let name = call.name();
+    let before = given(value.text(alloc))?;
+    if let Made::NoMemory = given(call.make(alloc, value))? {
+        let after = given(value.text(alloc))?;
+        let is_same = after.as_slice() == before.as_slice();
+        let end = if is_same { "as before" } else { "changed" };
+        println!(rt; "{of}, {name}: refused, {end}")?;
+        given(call.make(alloc, value))?;
+    }
+    println!(rt; "{of}, {name}: done")
+}
+
+// Makes these calls of a value, in their order.
+fn make_all<V: Value, C: Call<V>>(
+    rt: &HostRuntime,
+    of: &str,
+    value: &mut V,
+    calls: &[C],
+) -> io::Result<()> {
+    for call in calls {
+        make(rt, of, value, call)?;
+    }
+    Ok(())
+}
 
 fn main(rt: HostRuntime) -> io::Result<()> {
     let alloc = rt.alloc();
@@ -31,5 +66,5 @@ fn main(rt: HostRuntime) -> io::Result<()> {
     let mut town = Topology::new(alloc, PosterRules);
     make_all(&rt, "topology", &mut town, &TOPOLOGY)?;
     let text = given(town.text(alloc))?;
-    io::stdout(&rt).write_all(&text)
+    rt.stdout().write_all(&text)
 }

@@ -5,8 +5,6 @@ use grid_plane::NoMemory;
 use project_text::{ProjectData, write_project};
 use rule_set::PosterRules;
 use std::alloc::Global;
-use std::io;
-use std::io::ErrorKind;
 use topo_core::Topology;
 
 /// What is written as a text, so that two values of one text are equal.
@@ -52,13 +50,5 @@ impl Value for Dirt {
 impl Value for Topology<PosterRules> {
     fn text(&self, alloc: Global) -> Result<Vec<u8>, NoMemory> {
         write_project(alloc, &self.to_data()?)
-    }
-}
-
-/// The same, as the program's own result.
-pub fn given<T>(result: Result<T, NoMemory>) -> io::Result<T> {
-    match result {
-        Ok(value) => Ok(value),
-        Err(_) => Err(io::Error::from(ErrorKind::OutOfMemory)),
     }
 }

@@ -1,12 +1,82 @@
-use crate::call::{Call, Made, lot};
+use crate::call::{Call, Made};
 use error_store::Key;
-use feature_store::{Kind, Name, StoreFault};
+use feature_store::{Kind, Name, Shape, Store, StoreFault};
 use grid_plane::{NoMemory, Rect};
 use rule_core::{RuleRow, Work};
 use rule_set::PosterRules;
 use rule_words::RuleKind;
 use std::alloc::Global;
 use topo_core::{ChangeFault, RuleFault, Topology};
+use wkt_text::read_wkt;
+
+// A square lot of side 10 that begins at this abscissa.
+fn lot(alloc: Global, x: i32) -> Result<Shape, NoMemory> {
+    let (left, right) = (i64::from(x), i64::from(x) + 10);
+    let text = format!(in alloc; "POLYGON (({left} 0, {right} 0, {right} 10, {left} 10, {left} 0))")?;
+    if text.len() > 1000 {
+        return Err(NoMemory);
+    }
+    read_wkt(alloc, text.as_bytes()).map_err(|_| NoMemory)
+}
+
+/// A call of a store.
+pub enum StoreCall {
+    /// A class of polygons is added.
+    AddClass,
+    /// A lot that begins at this abscissa is added to the first class.
+    Add(i32),
+    /// The feature of this handle is exchanged with none.
+    Swap(u32),
+}
+
+/// Calls of an empty store.
+pub const STORE: [StoreCall; 6] = [
+    StoreCall::AddClass,
+    StoreCall::Add(0),
+    StoreCall::Add(5),
+    StoreCall::Add(10),
+    StoreCall::Add(15),
+    StoreCall::Swap(2),
+];
+
+fn added<T: Drop>(result: Result<T, StoreFault>) -> Made {
+    match result {
+        Err(StoreFault::NoMemory) => Made::NoMemory,
+        _ => Made::Done,
+    }
+}
+
+fn swap_in_store(store: &mut Store, handle: u32) -> Made {
+    if handle == 0 || handle >= store.next_handle() {
+        return Made::Done;
+    }
+    let mut kept = None;
+    match store.swap(handle, &mut kept) {
+        Ok(()) => Made::Done,
+        Err(_) => Made::NoMemory,
+    }
+}
+
+impl Call<Store> for StoreCall {
+    fn name(&self) -> &str {
+        match self {
+            StoreCall::AddClass => "add_class",
+            StoreCall::Add(_) => "add",
+            StoreCall::Swap(_) => "swap",
+        }
+    }
+
+    fn make(&self, alloc: Global, store: &mut Store) -> Result<Made, NoMemory> {
+        match self {
+            StoreCall::AddClass => {
+                let name = Name::of(b"lots").ok_or(NoMemory)?;
+                Ok(added(store.add_class(name, Kind::Polygon)))
+            }
+            StoreCall::Add(x) => Ok(added(store.add(1, lot(alloc, *x)?))),
+            StoreCall::Swap(handle) => Ok(swap_in_store(store, *handle)),
+        }
+    }
+}
 
 /// A call of a topology.
 pub enum TopologyCall {
