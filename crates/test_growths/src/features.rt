@@ -12,7 +12,9 @@ use wkt_text::read_wkt;
 // A square lot of side 10 that begins at this abscissa.
 fn lot(alloc: Global, x: i32) -> Result<Shape, NoMemory> {
     let (left, right) = (i64::from(x), i64::from(x) + 10);
-    let text = format!(in alloc; "POLYGON (({left} 0, {right} 0, {right} 10, {left} 10, {left} 0))")?;
+    let text = format!(in alloc;
+        "POLYGON (({left} 0, {right} 0, {right} 10, {left} 10, {left} 0))"
+    )?;
     if text.len() > 1000 {
         return Err(NoMemory);
     }

@@ -31,7 +31,12 @@ fn given<T>(result: Result<T, NoMemory>) -> io::Result<T> {
 }
 
 // Makes a call; where it is refused it says whether the value is as before, and makes it once more.
-fn make<V: Value, C: Call<V>>(rt: &HostRuntime, of: &str, value: &mut V, call: &C) -> io::Result<()> {
+fn make<V: Value, C: Call<V>>(
+    rt: &HostRuntime,
+    of: &str,
+    value: &mut V,
+    call: &C,
+) -> io::Result<()> {
     let alloc = rt.alloc();
     let name = call.name();
     let before = given(value.text(alloc))?;

@@ -59,11 +59,13 @@ fn a_square_with_a_hole(rt: HostRuntime) -> Result<(), Fail> {
 fn no_cell_inside_a_comb_is_outside(rt: HostRuntime) -> Result<(), Fail> {
     let alloc = rt.alloc();
     let mut vertices = vec![in alloc; (0, 0)]?;
-    for k in 0..10i64 {
-        vertices.push((100 + k, 4 * k))?;
-        vertices.push((100 + k, 4 * k + 1))?;
-        vertices.push((k + 1, 4 * k + 2))?;
-        vertices.push((k + 1, 4 * k + 3))?;
+    for tooth in 0..10u8 {
+        let k = i64::from(tooth);
+        let y = i64::from(tooth) * 4;
+        vertices.push((100 + k, y))?;
+        vertices.push((100 + k, y + 1))?;
+        vertices.push((k + 1, y + 2))?;
+        vertices.push((k + 1, y + 3))?;
     }
     vertices.push((0, 40))?;
     let comb = ring(alloc, &vertices)?;
