@@ -2,6 +2,7 @@ use grid_plane::NoMemory;
 use std::alloc::Global;
 
 /// How a call ended.
+#[derive(Clone, Copy, PartialEq, Eq)]
 pub enum Made {
     /// It was done, or refused for another cause than memory.
     Done,

@@ -41,8 +41,8 @@ pub const STORE: [StoreCall; 6] = [
     StoreCall::Swap(2),
 ];
 
-fn added<T: Drop>(result: Result<T, StoreFault>) -> Made {
-    match result {
+fn added<T: Drop>(ended: Result<T, StoreFault>) -> Made {
+    match ended {
         Err(StoreFault::NoMemory) => Made::NoMemory,
         _ => Made::Done,
     }
@@ -130,8 +130,8 @@ pub const TOPOLOGY: [TopologyCall; 26] = [
     TopologyCall::Validate,
 ];
 
-fn changed<T: Drop>(result: Result<T, ChangeFault>) -> Made {
-    match result {
+fn changed<T: Drop>(ended: Result<T, ChangeFault>) -> Made {
+    match ended {
         Err(ChangeFault::NoMemory) => Made::NoMemory,
         _ => Made::Done,
     }

@@ -23,8 +23,8 @@ use topo_core::Topology;
 use value::Value;
 
 // A result of a value, as the program's own result.
-fn given<T>(result: Result<T, NoMemory>) -> io::Result<T> {
-    match result {
+fn given<T>(ended: Result<T, NoMemory>) -> io::Result<T> {
+    match ended {
         Ok(value) => Ok(value),
         Err(_) => Err(io::Error::from(ErrorKind::OutOfMemory)),
     }
@@ -40,7 +40,7 @@ fn make<V: Value, C: Call<V>>(
     let alloc = rt.alloc();
     let name = call.name();
     let before = given(value.text(alloc))?;
-    if let Made::NoMemory = given(call.make(alloc, value))? {
+    if given(call.make(alloc, value))? == Made::NoMemory {
         let after = given(value.text(alloc))?;
         let is_same = after.as_slice() == before.as_slice();
         let end = if is_same { "as before" } else { "changed" };
