@@ -1,8 +1,6 @@
 ghost use Rattle.std.specs.Prelude.{◌≤◌};
 
-use super::{
-    AT_ONCE, Kind, calls_for, failing_sink, failing_source, holds, idle_sink, status_on,
-};
+use super::{AT_ONCE, Kind, calls_for, failing_sink, failing_source, holds, idle_sink, status_on};
 use crate::script::{LOTS, SAVING};
 use crate::statuses::{DONE, OPEN_FAULT, READ_FAULT, SAVE_FAULT, WRITE_FAULT};
 use crate::streams::EndlessSource;
@@ -16,6 +14,7 @@ const SAVES: [&str; 3] = ["replay", "-", "town"];
 
 // What the shelf holds before it, each name with itself as its text; and the same without the name that is saved.
 const HELD: [&str; 3] = ["roads", "town", "wells"];
+
 const OTHERS: [&str; 2] = ["roads", "wells"];
 
 // The lines of the run, each with its LF.
