@@ -18,8 +18,8 @@ import sys
 from programs import HERE, ROOT, parser_of, timing_path
 
 COMMANDS = [
-    'run.py', 'features.py', 'late.py', 'moved.py', 'together.py', 'town.py', 'town_words.py', 'projects.py', 'borders.py',
-    'coverings.py', 'roads.py', 'wells.py', 'shapes.py', 'columns.py', 'cells.py',
+    'run.py', 'features.py', 'late.py', 'moved.py', 'together.py', 'town.py', 'town_words.py', 'projects.py', 'long_scripts.py',
+    'borders.py', 'coverings.py', 'roads.py', 'wells.py', 'shapes.py', 'columns.py', 'cells.py',
 ]
 TIMING = {'shapes.py': 'bench_shapes', 'columns.py': 'bench_columns', 'cells.py': 'bench_cells'}
 WITHOUT_BASELINE = {'cells.py'}

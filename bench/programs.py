@@ -1,5 +1,6 @@
 """Programs that are measured over scripts: the built one, and another beside it where one is named."""
 import argparse
+import contextlib
 import hashlib
 import math
 import os
@@ -29,13 +30,17 @@ class Measure:
             return
         report, written = os.path.join(folder, 'report'), os.path.join(folder, 'written')
         words = [os.path.join(folder, 'measured'), report, str(limit)] + self.words
-        with open(os.path.join(folder, 'script'), 'rb') as source, open(written, 'wb') as out:
+        with self.source(folder) as source, open(written, 'wb') as out:
             subprocess.run(words, stdin=source, stdout=out, check=True)
         with open(report) as told:
             self.status, microseconds, kilobytes = map(int, told.read().split())
         self.seconds = min(self.seconds, microseconds / 1e6)
         self.kilobytes = min(self.kilobytes, kilobytes)
         self.digest = self.digest_of(written)
+
+    def source(self, folder):
+        """What a run reads: the script in the folder."""
+        return open(os.path.join(folder, 'script'), 'rb')
 
     def digest_of(self, written):
         """What stands for the output of a run in a comparison."""
@@ -52,6 +57,19 @@ class SavingMeasure(Measure):
     def digest_of(self, written):
         saved = digest_of_file(self.target) if os.path.exists(self.target) else b''
         return super().digest_of(written) + saved
+
+
+class PipedMeasure(Measure):
+    """The same of runs that read what another program, called with these words, writes into a pipe."""
+
+    def __init__(self, words, maker):
+        super().__init__(words)
+        self.maker = maker
+
+    @contextlib.contextmanager
+    def source(self, folder):
+        with subprocess.Popen(self.maker, stdout=subprocess.PIPE) as maker:
+            yield maker.stdout
 
 
 def digest_of_file(path):
@@ -145,6 +163,11 @@ def measure_saved(folder, name, lines, more, programs, given):
     write_lines(folder, lines)
     targets = [os.path.join(folder, '%s-%d' % (name, number)) for number in range(len(programs))]
     return take_turns([SavingMeasure(words + list(more), target) for words, target in zip(programs, targets)], folder, given)
+
+
+def measure_piped(folder, maker, more, programs, given):
+    """The same of programs that are called with more words and read what another program writes, which is called with the words `maker`."""
+    return take_turns([PipedMeasure(words + list(more), maker) for words in programs], folder, given)
 
 
 def measure_words(folder, words, programs, given):

@@ -48,6 +48,7 @@ REFUSED = {
 # The lines between the first and the last, at a limit and beyond it. Where a cell is accepted, its error is not sound.
 RULED = 'next 2/class a line/rule %d line_must_not_overlap a'
 CELL = RULED % 1 + '/error 1 1 0 cells 0 0 0 0/cell %s >'
+FRAMED = RULED % 1 + '/error 1 1 0 cells %s/cell 1 0 0 >'
 CLASSES = '/'.join('class c%d line' % number for number in range(1, 65))
 LIMITS = {
     'next 1': 'sound',
@@ -62,7 +63,14 @@ LIMITS = {
     RULED % 257: 'line 4 range',
     'next 1/dirty -4194304 -4194304 4194304 4194304': 'sound',
     'next 1/dirty -4194305 0 0 0': 'line 3 range',
+    'next 1/dirty 0 -4194305 0 0': 'line 3 range',
+    'next 1/dirty 0 0 4194305 0': 'line 3 range',
     'next 1/dirty 0 0 0 4194305': 'line 3 range',
+    FRAMED % '-4194304 -4194304 4194304 4194304': 'unsound 1 1',
+    FRAMED % '-4194305 0 0 0': 'line 5 range',
+    FRAMED % '0 -4194305 0 0': 'line 5 range',
+    FRAMED % '0 0 4194305 0': 'line 5 range',
+    FRAMED % '0 0 0 4194305': 'line 5 range',
     CELL % '8388608 -8388608 0': 'unsound 1 1',
     CELL % '8388609 0 0': 'line 6 range',
     CELL % '0 -8388609 0': 'line 6 range',
@@ -194,8 +202,7 @@ class Refused(Kept):
                 self.assertIn(self.topo('check', name).out, (said + '\n', 'project refused %s\n' % said))
 
     def test_each_part_that_stops_early_is_short(self):
-        for project in NAMES:
-            text = text_of(project)
+        for project, text in [('saved', SAVED)] + [(project, text_of(project)) for project in NAMES]:
             for end in range(len(text)):
                 name = self.keep('a.project', text[:end])
                 said = 'project refused line %d short\n' % (text.count('\n', 0, end) + 1)
@@ -203,6 +210,11 @@ class Refused(Kept):
 
 
 class Words(Kept):
+    def test_a_saved_cell_without_a_point_is_read(self):
+        name = self.keep('town', re.sub('^cell .*$', 'cell 1 0 0 >, -1 0 0 >', SAVED, flags=re.M))
+        self.assertEqual(self.topo('check', name), (9, 'unsound 1 1\n', ''))
+        self.assertEqual(self.topo('replay', name, script='cells\n').out.splitlines()[1], 'cell 1 0 0 >, -1 0 0 >')
+
     def test_save_check_report_and_reopen(self):
         self.assertEqual(self.topo('replay', '-', 'town', script=LOTS).status, 0)
         self.assertEqual(self.kept('town'), SAVED)

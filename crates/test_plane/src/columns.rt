@@ -53,3 +53,24 @@ fn a_square_with_a_hole(rt: HostRuntime) -> Result<(), Fail> {
     }
     Ok(())
 }
+
+// A comb of ten teeth, whose inside and outside have no point in common.
+#[test]
+fn no_cell_inside_a_comb_is_outside(rt: HostRuntime) -> Result<(), Fail> {
+    let alloc = rt.alloc();
+    let mut vertices = vec![in alloc; (0, 0)]?;
+    for tooth in 0..10u8 {
+        let k = i64::from(tooth);
+        let y = i64::from(tooth) * 4;
+        vertices.push((100 + k, y))?;
+        vertices.push((100 + k, y + 1))?;
+        vertices.push((k + 1, y + 2))?;
+        vertices.push((k + 1, y + 3))?;
+    }
+    vertices.push((0, 40))?;
+    let comb = ring(alloc, &vertices)?;
+    let cells = inside(alloc, &comb)?;
+    assert!(rt; cells.len() > 10);
+    assert_eq!(rt; cells.carve(alloc, &outside(alloc, &comb)?)?.len(), 0);
+    Ok(())
+}
