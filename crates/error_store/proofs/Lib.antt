@@ -1,7 +1,10 @@
+mod Changing
 mod Dropping
 mod Finding
 mod Leaving
 mod Marking
 mod Merging
+mod Places
 mod Selected
 mod Steps
+mod Walking

@@ -7,6 +7,7 @@ ghost use Rattle.error_store.specs.Marking.{IsMarkSet, fault_cause};
 
 use crate::entry::Entry;
 use crate::fault::MarkFault;
+use crate::few::replace_few;
 use crate::key::Key;
 use crate::list::{copy_of, drop_from, drop_selected, find_in, place_of};
 use crate::merge::merge;
@@ -42,6 +43,36 @@ fn make_room(out: &mut Vec<Entry>, a: usize, b: usize) -> Result<(), AllocError>
         Some(n) => out.reserve(n),
         None => Err(AllocError),
     }
+}
+
+// Whether so few are selected and fresh that it takes less to look for each than to go over all.
+fn is_few(count: usize, selected: usize, fresh: usize) -> bool {
+    selected.max(fresh) < count / 32
+}
+
+fn replace_many(
+    entries: &mut Vec<Entry>,
+    alloc: Global,
+    selected: &Handles,
+    fresh: Vec<Entry>,
+) -> Result<(), NoMemory>
+    requires old_ascending { IsAscending entries.old.items }
+    requires ascending { IsAscending fresh.items }
+    requires new { AreFresh selected.now fresh.items }
+    ensures replaced { OnOk result (IsReplaced selected.now entries.old.items fresh.items entries.new.items) }
+    ensures ascending { IsAscending entries.new.items }
+    ensures err { OnErr result (entries.new.items ≡ entries.old.items) }
+{
+    if fresh.is_empty() {
+        drop_selected(entries, selected);
+        return Ok(());
+    }
+    let mut out = Vec::new(alloc);
+    make_room(&mut out, entries.len(), fresh.len())?;
+    let old = mem::replace(entries, Vec::new(alloc));
+    merge(old, selected, fresh, &mut out);
+    *entries = out;
+    Ok(())
 }
 
 impl Errors {
@@ -94,7 +125,7 @@ impl Errors {
 
     /// The errors of the selected subjects give way to the fresh ones, and all others stay. A fresh error is marked exactly
     /// where the old one of its key was, and had the same extent, frame and cells. After an `Err`, want of memory, nothing
-    /// has changed. Goes over both lists once; where there is no fresh error, in place and without memory.
+    /// has changed. Where few are selected among many errors it looks for each by its key, else it goes over both lists once.
     pub fn replace(
         &mut self,
         alloc: Global,
@@ -107,16 +138,11 @@ impl Errors {
         ensures ascending { IsAscending self.new }
         ensures err { OnErr result (self.new ≡ self.old) }
     {
-        if fresh.is_empty() {
-            drop_selected(&mut self.entries, selected);
-            return Ok(());
+        if is_few(self.entries.len(), selected.len(), fresh.len()) {
+            replace_few(&mut self.entries, alloc, selected, fresh)
+        } else {
+            replace_many(&mut self.entries, alloc, selected, fresh)
         }
-        let mut out = Vec::new(alloc);
-        make_room(&mut out, self.entries.len(), fresh.len())?;
-        let old = mem::replace(&mut self.entries, Vec::new(alloc));
-        merge(old, selected, fresh, &mut out);
-        self.entries = out;
-        Ok(())
     }
 
     /// The errors of the rule of this number go, and all others stay in their order. Takes no memory.

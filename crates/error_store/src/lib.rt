@@ -5,9 +5,11 @@ mod compare;
 mod entry;
 mod errors;
 mod fault;
+mod few;
 mod key;
 mod list;
 mod merge;
+mod walk;
 
 pub use entry::Entry;
 pub use errors::Errors;
