@@ -1,6 +1,7 @@
 mod Changing
 mod Dropping
 mod Finding
+mod Framing
 mod Leaving
 mod Marking
 mod Merging

@@ -4,3 +4,4 @@ pub mod Merging
 pub mod Marking
 pub mod Runs
 pub mod Changing
+pub mod Frames

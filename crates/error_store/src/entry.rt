@@ -37,7 +37,8 @@ impl Model for Entry {
     ghost view = { λ e. record { rule = e.body.value.key.rule; subject = e.body.value.key.subject; other = e.body.value.key.other; whole = is_whole e.body.value.extent; marked = e.body.value.marked; frame = e.body.value.frame; cells = e.body.value.cells } };
 }
 
-fn is_same_rect(a: &Rect, b: &Rect) -> bool
+/// Whether both are one rectangle.
+pub(crate) fn is_same_rect(a: &Rect, b: &Rect) -> bool
     ensures { IsTrue result ↔ (a.now ≡ b.now) }
 {
     a.holds_rect(b) && b.holds_rect(a)

@@ -11,7 +11,6 @@ use crate::key::Key;
 use crate::list::find_in;
 use crate::walk::next_of;
 use grid_plane::{Handles, NoMemory};
-use std::alloc::Global;
 use std::collections::VecDeque;
 
 // The place of the error of this key; where there is none, the place at which it would stand.
@@ -20,18 +19,6 @@ fn find(entries: &[Entry], key: Key) -> Result<usize, usize>
     ensures { MatchResult result (IsHere key entries.now) (IsGap key entries.now) }
 {
     entries.binary_search_by(|e| compare(e.key(), key))
-}
-
-// The handles once more.
-fn list_of(alloc: Global, handles: &Handles) -> Result<Vec<u32>, NoMemory>
-    ensures same { IfOk result (λ v. v.items ≡ handles.now) }
-    ensures rising { IfOk result (λ v. IsStrictlyIncreasing v.items) }
-{
-    let mut list = Vec::new(alloc);
-    for i in 0..handles.len() {
-        list.push(handles.at(i))?;
-    }
-    Ok(list)
 }
 
 // Whether an error of this key is among these.
@@ -107,10 +94,12 @@ fn put_each(entries: &mut Vec<Entry>, fresh: Vec<Entry>, selected: &Handles)
 /// moves those behind it where one comes or goes. After an `Err`, want of memory, nothing has changed.
 pub fn replace_few(
     entries: &mut Vec<Entry>,
-    alloc: Global,
     selected: &Handles,
+    subjects: &[u32],
     fresh: Vec<Entry>,
 ) -> Result<(), NoMemory>
+    requires same { subjects.now ≡ selected.now }
+    requires rising { IsStrictlyIncreasing subjects.now }
     requires ascending { IsAscending entries.old.items }
     requires fresh_ascending { IsAscending fresh.items }
     requires fresh { AreFresh selected.now fresh.items }
@@ -118,9 +107,8 @@ pub fn replace_few(
     ensures ascending { IsAscending entries.new.items }
     ensures err { OnErr result (entries.new.items ≡ entries.old.items) }
 {
-    let subjects = list_of(alloc, selected)?;
     entries.reserve(fresh.len())?;
-    drop_gone(entries, &subjects, &fresh);
+    drop_gone(entries, subjects, &fresh);
     put_each(entries, fresh, selected);
     Ok(())
 }
