@@ -17,8 +17,8 @@ loop-place-preserved c =
     let was = picked_on d es c.args.near.now c.args.found.now.items c.loop-place.found.items c.loop-place.from k n.on (omega (arith, n.within))
     c.requires.enough n.none inv.1 in (
       omega (arith, n.within),
-      picked_more (λ (e : Entry). MeetsDirt d e.frame) (λ (e : Entry). e.subject) es k c.index-e.result c.args.found.now.items
-          c.loop-place.found.items c.push_if.new.found.items c.meets.result c.key.inside.subject n.within c.index-e.is
+      picked_more (λ (e : Entry). MeetsDirt d e.frame) (λ (e : Entry). e.subject) es k c.index-entries-place.result c.args.found.now.items
+          c.loop-place.found.items c.push_if.new.found.items c.meets.result c.key.inside.subject n.within c.index-entries-place.is
           (rw c.frame.ensures at c.meets.ensures) (ap (λ (j : Key). j.subject) (c.key.view_is ∙ c.key-key.ensures)) was
           c.in_ok-push_if.ensures,
     )
