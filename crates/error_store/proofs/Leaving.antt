@@ -1,5 +1,5 @@
 -- What is left of an ascending list where the errors of the selected subjects are taken out.
-use Rattle.std.proofs.Common.{◌≡◌, inl, inr, ℕ, arith, Bool, true, false, not, nat_eq, refl, sym, ◌∙◌, subst, List, [], ◌∷◌, length, get_or, None, Contains}
+use Rattle.std.proofs.Common.{◌≡◌, ◌⊎◌, inl, inr, ℕ, arith, Bool, true, false, not, nat_eq, refl, sym, ◌∙◌, subst, List, [], ◌∷◌, length, get_or, None, Contains}
 use Rattle.std.specs.Prelude.{IsTrue, ◌↔◌}
 use Rattle.std.specs.List.{filter, list_any}
 use Rattle.std.proofs.lemmas.Bool.{cases_Bool}
@@ -22,10 +22,10 @@ same_number m n t = grind (arith, nat_tests)
 own_number : (m n : ℕ) → n ≡ m → nat_eq m n ≡ true
 own_number m n e = grind (arith, nat_tests)
 
-within : (selected : List ℕ) (a : ℕ) → list_any (nat_eq a) selected ≡ true → Contains selected a
+pub within : (selected : List ℕ) (a : ℕ) → list_any (nat_eq a) selected ≡ true → Contains selected a
 within selected a t = Contains-from_any same_number a selected t
 
-among : (selected : List ℕ) (a : ℕ) → Contains selected a → list_any (nat_eq a) selected ≡ true
+pub among : (selected : List ℕ) (a : ℕ) → Contains selected a → list_any (nat_eq a) selected ≡ true
 among selected a c = list_any_at (nat_eq a) selected c.0 a c.1 (own_number a (get_or selected c.0 a) c.2)
 
 -- the test of one error, in the words of its subject's test
@@ -67,3 +67,9 @@ left_replaced selected es = record {
 pub none_fresh : (fresh : List Entry) (n : ℕ) (b : Bool) → length fresh ≡ n → b ≡ nat_eq n 0 → b ≡ true → fresh ≡ []
 none_fresh [] n b l e t = refl
 none_fresh (f ∷ fresh) n b l e t = let some : nat_eq n 0 ≡ true = sym e ∙ t in absurd (grind (arith, nat_tests))
+
+pub selected_or_not : (selected : List ℕ) (a : ℕ) → Contains selected a ⊎ ¬ (Contains selected a)
+selected_or_not selected a = elim (cases_Bool (list_any (nat_eq a) selected)) [
+  | inl t ↦ inl (within selected a t)
+  | inr t ↦ inr (λ c. let u = among selected a c in cc)
+]

@@ -1,7 +1,11 @@
+mod Changing
 mod Dropping
 mod Finding
+mod Framing
 mod Leaving
 mod Marking
 mod Merging
+mod Places
 mod Selected
 mod Steps
+mod Walking

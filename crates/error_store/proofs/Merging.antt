@@ -58,10 +58,10 @@ asc_same (x ∷ out) e f es s h =
 
 -- ---- look-ups
 
-at_push_other : (out : List Entry) (e : Entry) (r a b : ℕ) → has_key e r a b ≡ false → entry_at (out ++ e ∷ []) r a b ≡ entry_at out r a b
+pub at_push_other : (out : List Entry) (e : Entry) (r a b : ℕ) → has_key e r a b ≡ false → entry_at (out ++ e ∷ []) r a b ≡ entry_at out r a b
 at_push_other out e r a b t = before_back out (e ∷ []) r a b (t, tt)
 
-at_push_here : (out : List Entry) (e : Entry) (r a b : ℕ) → has_key e r a b ≡ true → entry_at out r a b ≡ None
+pub at_push_here : (out : List Entry) (e : Entry) (r a b : ℕ) → has_key e r a b ≡ true → entry_at out r a b ≡ None
     → entry_at (out ++ e ∷ []) r a b ≡ Some e
 unfolding entry_at
 at_push_here out e r a b t n = last_here by_key keys out e (r, a, b) t n

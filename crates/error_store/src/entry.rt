@@ -12,14 +12,20 @@ use std::alloc::Global;
 use std::marker::Model;
 use topology_terms::Extent;
 
-/// An error of a rule. Error features and exceptions of a geodatabase topology (Esri).
 #[derive(Drop)]
-pub struct Entry {
+struct Body {
     key: Key,
     extent: Extent,
     marked: bool,
     frame: Rect,
     cells: Cells,
+}
+
+/// An error of a rule. Error features and exceptions of a geodatabase topology (Esri). What is said of it stands in a box, so
+/// that it costs little to move it within a long list.
+#[derive(Drop)]
+pub struct Entry {
+    body: Box<Body>,
 }
 
 impl Model for Entry {
@@ -28,10 +34,11 @@ impl Model for Entry {
 
     ghost Value = { terms.Entry };
 
-    ghost view = { λ e. record { rule = e.key.rule; subject = e.key.subject; other = e.key.other; whole = is_whole e.extent; marked = e.marked; frame = e.frame; cells = e.cells } };
+    ghost view = { λ e. record { rule = e.body.value.key.rule; subject = e.body.value.key.subject; other = e.body.value.key.other; whole = is_whole e.body.value.extent; marked = e.body.value.marked; frame = e.body.value.frame; cells = e.body.value.cells } };
 }
 
-fn is_same_rect(a: &Rect, b: &Rect) -> bool
+/// Whether both are one rectangle.
+pub(crate) fn is_same_rect(a: &Rect, b: &Rect) -> bool
     ensures { IsTrue result ↔ (a.now ≡ b.now) }
 {
     a.holds_rect(b) && b.holds_rect(a)
@@ -39,37 +46,47 @@ fn is_same_rect(a: &Rect, b: &Rect) -> bool
 
 impl Entry {
     /// The error of this key, of the whole subject or of the cells, with its mark and its frame.
-    pub fn new(key: Key, extent: Extent, marked: bool, frame: Rect, cells: Cells) -> Entry
-        ensures { result ≡ record { rule = key.rule; subject = key.subject; other = key.other; whole = is_whole extent; marked = marked; frame = frame; cells = cells } }
+    pub fn new(
+        alloc: Global,
+        key: Key,
+        extent: Extent,
+        marked: bool,
+        frame: Rect,
+        cells: Cells,
+    ) -> Result<Entry, NoMemory>
+        ensures { IfOk result (λ e. e ≡ record { rule = key.rule; subject = key.subject; other = key.other; whole = is_whole extent; marked = marked; frame = frame; cells = cells }) }
     {
-        Entry {
+        let body = Body {
             key,
             extent,
             marked,
             frame,
             cells,
-        }
+        };
+        Ok(Entry {
+            body: Box::new(alloc, body)?,
+        })
     }
 
     /// By what it is known.
     pub fn key(&self) -> Key
         ensures { result ≡ key_of self.now }
     {
-        self.key
+        self.body.key
     }
 
     /// Whether the whole subject breaks the rule, or it is broken in cells.
     pub fn extent(&self) -> Extent
         ensures { is_whole result ≡ self.now.whole }
     {
-        self.extent
+        self.body.extent
     }
 
     /// Whether the whole subject breaks the rule; there are no cells then.
     pub fn whole(&self) -> bool
         ensures { result ≡ self.now.whole }
     {
-        match self.extent {
+        match self.body.extent {
             Extent::Whole => true,
             Extent::Cells => false,
         }
@@ -79,21 +96,21 @@ impl Entry {
     pub fn marked(&self) -> bool
         ensures { result ≡ self.now.marked }
     {
-        self.marked
+        self.body.marked
     }
 
     /// The least rectangle of the grid that holds all its points, in grid units; of a whole entry the subject's envelope.
     pub fn frame(&self) -> Rect
         ensures { result ≡ self.now.frame }
     {
-        self.frame
+        self.body.frame
     }
 
     /// Where the rule is broken.
     pub fn cells(&self) -> &Cells
         ensures { result.now ≡ self.now.cells }
     {
-        &self.cells
+        &self.body.cells
     }
 
     /// A cell more, behind the others. After an `Err`, want of memory, nothing has changed.
@@ -101,22 +118,22 @@ impl Entry {
         ensures ok { OnOk result (self.new ≡ record self.old { cells = self.old.cells ++ cell ∷ [] }) }
         ensures err { OnErr result (self.new ≡ self.old) }
     {
-        self.cells.push(cell)
+        self.body.cells.push(cell)
     }
 
     fn is_unchanged(&self, other: &Entry) -> bool
         ensures { IsTrue result ↔ IsUnchanged self.now other.now }
     {
         self.whole() == other.whole()
-            && is_same_rect(&self.frame, &other.frame)
-            && self.cells.same(&other.cells)
+            && is_same_rect(&self.frame(), &other.frame())
+            && self.cells().same(other.cells())
     }
 
     /// Sets the mark, or takes it away.
     pub(crate) fn set_mark(&mut self, on: bool)
         ensures { self.new ≡ record self.old { marked = on } }
     {
-        self.marked = on;
+        self.body.marked = on;
     }
 
     fn with_mark(self, on: bool) -> Entry
@@ -131,7 +148,7 @@ impl Entry {
     pub(crate) fn remarked(&self, fresh: Entry) -> Entry
         ensures { IsRemarked (Some self.now) fresh result }
     {
-        let on = self.marked && self.is_unchanged(&fresh);
+        let on = self.marked() && self.is_unchanged(&fresh);
         fresh.with_mark(on)
     }
 
@@ -139,12 +156,14 @@ impl Entry {
     pub fn try_copy(&self, alloc: Global) -> Result<Entry, NoMemory>
         ensures { IfOk result (λ e. e ≡ self.now) }
     {
-        Ok(Entry {
-            key: self.key,
-            extent: self.extent,
-            marked: self.marked,
-            frame: self.frame,
-            cells: self.cells.try_copy(alloc)?,
-        })
+        let cells = self.cells().try_copy(alloc)?;
+        Entry::new(
+            alloc,
+            self.key(),
+            self.extent(),
+            self.marked(),
+            self.frame(),
+            cells,
+        )
     }
 }

@@ -3,33 +3,41 @@ ghost use Rattle.topology_terms.specs.Causes.{mark_cause};
 ghost use Rattle.topology_terms.specs.Entry.{entry_at, IsAscending};
 ghost use Rattle.topology_terms.specs.Entry as terms;
 ghost use Rattle.validation_laws.specs.Replaced.{IsReplaced, AreFresh};
+ghost use Rattle.std.specs.List.Sorted.{IsStrictlyIncreasing};
+ghost use Rattle.error_store.specs.Frames.{AreFramed};
 ghost use Rattle.error_store.specs.Marking.{IsMarkSet, fault_cause};
 
 use crate::entry::Entry;
 use crate::fault::MarkFault;
+use crate::few::replace_few;
+use crate::frames::{drop_frames, frames_of, frames_under, index_of, put_frames};
 use crate::key::Key;
-use crate::list::{copy_of, drop_from, drop_selected, find_in, place_of};
+use crate::list::{copy_of, drop_from, drop_selected, find_in, list_of, place_of};
 use crate::merge::merge;
+use grid_index::Index;
 use grid_plane::{Handles, NoMemory};
 use std::alloc::{AllocError, Global};
 use std::marker::Model;
 use std::mem;
 
-/// Errors, each of a key of its own, in the order of their keys.
+/// Errors, each of a key of its own, in the order of their keys; and an index of where their frames lie.
 #[derive(Drop)]
 pub struct Errors {
+    alloc: Global,
     entries: Vec<Entry>,
+    frames: Index,
 }
 
 impl Model for Errors {
     ghost use Rattle.std.specs.Prelude.{List};
     ghost use Rattle.topology_terms.specs.Entry as terms;
+    ghost use Rattle.error_store.specs.Frames.{AreFramed};
 
     ghost Value = { List terms.Entry };
 
     ghost view = { λ e. e.entries.items };
 
-    ghost invariant = { λ e. terms.IsAscending e.entries.items };
+    ghost invariant = { λ e. terms.IsAscending e.entries.items × AreFramed e.frames e.entries.items };
 }
 
 // Room for the entries of both lists; the list stays as it is.
@@ -44,22 +52,82 @@ fn make_room(out: &mut Vec<Entry>, a: usize, b: usize) -> Result<(), AllocError>
     }
 }
 
+// Whether so few are selected and fresh that it takes less to look for each than to go over all.
+fn is_few(count: usize, selected: usize, fresh: usize) -> bool {
+    selected.max(fresh) < count / 32
+}
+
+fn replace_many(
+    entries: &mut Vec<Entry>,
+    alloc: Global,
+    selected: &Handles,
+    fresh: Vec<Entry>,
+) -> Result<(), NoMemory>
+    requires old_ascending { IsAscending entries.old.items }
+    requires ascending { IsAscending fresh.items }
+    requires new { AreFresh selected.now fresh.items }
+    ensures replaced { OnOk result (IsReplaced selected.now entries.old.items fresh.items entries.new.items) }
+    ensures ascending { IsAscending entries.new.items }
+    ensures err { OnErr result (entries.new.items ≡ entries.old.items) }
+{
+    if fresh.is_empty() {
+        drop_selected(entries, selected);
+        return Ok(());
+    }
+    let mut out = Vec::new(alloc);
+    make_room(&mut out, entries.len(), fresh.len())?;
+    let old = mem::replace(entries, Vec::new(alloc));
+    merge(old, selected, fresh, &mut out);
+    *entries = out;
+    Ok(())
+}
+
+fn replace_in(
+    entries: &mut Vec<Entry>,
+    alloc: Global,
+    selected: &Handles,
+    subjects: &[u32],
+    fresh: Vec<Entry>,
+) -> Result<(), NoMemory>
+    requires same { subjects.now ≡ selected.now }
+    requires rising { IsStrictlyIncreasing subjects.now }
+    requires old_ascending { IsAscending entries.old.items }
+    requires ascending { IsAscending fresh.items }
+    requires new { AreFresh selected.now fresh.items }
+    ensures replaced { OnOk result (IsReplaced selected.now entries.old.items fresh.items entries.new.items) }
+    ensures ascending { IsAscending entries.new.items }
+    ensures err { OnErr result (entries.new.items ≡ entries.old.items) }
+{
+    if is_few(entries.len(), selected.len(), fresh.len()) {
+        replace_few(entries, selected, subjects, fresh)
+    } else {
+        replace_many(entries, alloc, selected, fresh)
+    }
+}
+
 impl Errors {
     /// No error.
     pub fn new(alloc: Global) -> Errors
         ensures { result ≡ [] }
     {
         Errors {
+            alloc,
             entries: Vec::new(alloc),
+            frames: Index::new(alloc),
         }
     }
 
     /// The errors of this list.
-    pub fn of(entries: Vec<Entry>) -> Errors
+    pub fn of(alloc: Global, entries: Vec<Entry>) -> Result<Errors, NoMemory>
         requires { IsAscending entries.items }
-        ensures { result ≡ entries.items }
+        ensures { IfOk result (λ errors. errors ≡ entries.items) }
     {
-        Errors { entries }
+        let frames = index_of(alloc, &entries)?;
+        Ok(Errors {
+            alloc,
+            entries,
+            frames,
+        })
     }
 
     /// How many errors there are.
@@ -85,6 +153,13 @@ impl Errors {
         &self.entries
     }
 
+    /// An index in which the frame of each error stands, under the handle of its subject; other pairs may stand there too.
+    pub fn frames(&self) -> &Index
+        ensures { AreFramed result.now self.now }
+    {
+        &self.frames
+    }
+
     /// The error of this key. Takes steps by the logarithm of their number.
     pub fn find(&self, key: Key) -> Option<&Entry>
         ensures { MatchOption result (entry_at self.now key.rule key.subject key.other ≡ None) (λ e. entry_at self.now key.rule key.subject key.other ≡ Some e.now) }
@@ -94,7 +169,7 @@ impl Errors {
 
     /// The errors of the selected subjects give way to the fresh ones, and all others stay. A fresh error is marked exactly
     /// where the old one of its key was, and had the same extent, frame and cells. After an `Err`, want of memory, nothing
-    /// has changed. Goes over both lists once; where there is no fresh error, in place and without memory.
+    /// has changed. Where few are selected among many errors it looks for each by its key, else it goes over both lists once.
     pub fn replace(
         &mut self,
         alloc: Global,
@@ -107,26 +182,26 @@ impl Errors {
         ensures ascending { IsAscending self.new }
         ensures err { OnErr result (self.new ≡ self.old) }
     {
-        if fresh.is_empty() {
-            drop_selected(&mut self.entries, selected);
-            return Ok(());
-        }
-        let mut out = Vec::new(alloc);
-        make_room(&mut out, self.entries.len(), fresh.len())?;
-        let old = mem::replace(&mut self.entries, Vec::new(alloc));
-        merge(old, selected, fresh, &mut out);
-        self.entries = out;
+        let _ = &self.entries;
+        let subjects = list_of(alloc, selected)?;
+        let gone = frames_of(alloc, &self.entries, &subjects)?;
+        put_frames(&mut self.frames, &self.entries, &fresh)?;
+        replace_in(&mut self.entries, alloc, selected, &subjects, fresh)?;
+        drop_frames(&mut self.frames, &self.entries, &gone);
         Ok(())
     }
 
-    /// The errors of the rule of this number go, and all others stay in their order. Takes no memory.
+    /// The errors of the rule of this number go, and all others stay in their order. Where there is no memory to note their
+    /// frames, these stay in the index, which costs time alone.
     pub fn drop_rule(&mut self, rule: u16)
         ensures left { self.new ≡ filter (λ (e : terms.Entry). not (e.rule == rule)) self.old }
         ensures gone { (a b : ℕ) → entry_at self.new rule a b ≡ None }
         ensures kept { (k a b : ℕ) → k ≢ rule → entry_at self.new k a b ≡ entry_at self.old k a b }
         ensures ascending { IsAscending self.new }
     {
+        let gone = frames_under(self.alloc, &self.entries, rule);
         drop_from(&mut self.entries, rule);
+        drop_frames(&mut self.frames, &self.entries, &gone);
     }
 
     /// Marks the error of this key as an exception, or takes its mark away; all else stays. Refused where no error has this
@@ -153,8 +228,6 @@ impl Errors {
     pub fn try_copy(&self, alloc: Global) -> Result<Errors, NoMemory>
         ensures { IfOk result (λ e. e ≡ self.now) }
     {
-        Ok(Errors {
-            entries: copy_of(alloc, &self.entries)?,
-        })
+        Errors::of(alloc, copy_of(alloc, &self.entries)?)
     }
 }

@@ -5,12 +5,16 @@ mod compare;
 mod entry;
 mod errors;
 mod fault;
+mod few;
+mod frames;
 mod key;
 mod list;
 mod merge;
+mod walk;
 
 pub use entry::Entry;
 pub use errors::Errors;
 pub use fault::MarkFault;
 pub use key::Key;
 pub use list::find_in;
+pub use walk::next_of;

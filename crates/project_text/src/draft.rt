@@ -1,4 +1,4 @@
-ghost use Rattle.std.specs.Prelude.{◌≡◌, ◌↔◌, IsTrue};
+ghost use Rattle.std.specs.Prelude.{◌≡◌, ◌↔◌, IsTrue, IfOk};
 ghost use Rattle.topology_terms.specs.Entry.{IsAscending};
 ghost use Rattle.project_terms.specs.Drafts.{start, rank, may_follow, takes_cell, wants_cell, is_open, is_cell_open};
 
@@ -6,6 +6,7 @@ use crate::data::ProjectData;
 use crate::indexed::IndexedDirt;
 use error_store::{Entry, Errors};
 use feature_store::Store;
+use grid_plane::NoMemory;
 use project_terms::Stage;
 use rule_core::InForce;
 use std::alloc::Global;
@@ -112,15 +113,16 @@ impl Draft {
     }
 
     /// What the lines have said, once all are read.
-    pub fn into_project(self) -> ProjectData
+    pub fn into_project(self, alloc: Global) -> Result<ProjectData, NoMemory>
         requires { IsAscending self.project.entries }
-        ensures { result ≡ self.project }
+        ensures { IfOk result (λ p. p ≡ self.project) }
     {
-        ProjectData {
+        let errors = Errors::of(alloc, self.entries)?;
+        Ok(ProjectData {
             store: self.store,
             rules: self.rules,
             dirt: self.dirt.into_dirt(),
-            errors: Errors::of(self.entries),
-        }
+            errors,
+        })
     }
 }

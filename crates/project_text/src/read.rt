@@ -48,7 +48,8 @@ fn read_lines(alloc: Global, text: &[u8]) -> Result<ProjectData, ProjectFault>
             cause: ProjectCause::Form,
         });
     }
-    Ok(draft.into_project())
+    let project = draft.into_project(alloc)?;
+    Ok(project)
 }
 
 /// What is saved of a topology, from its text: the project of which this is the text, where there is one. `Wrong` names the first

@@ -331,7 +331,9 @@ impl Draft {
             return Err(LineFault::Wrong(ProjectCause::Unknown));
         };
         let key = Key::of_numbers(rule, subject, other);
-        self.put_error(Entry::new(key, form.extent, marked, frame, Cells::new(alloc)))
+        let cells = Cells::new(alloc);
+        let entry = Entry::new(alloc, key, form.extent, marked, frame, cells)?;
+        self.put_error(entry)
     }
 
     /// A cell more of the last error.

@@ -1,8 +1,9 @@
+mod CellFrames
+mod Dirtied
 mod Elements
 mod Filters
-mod TooFar
+mod Framed
 mod Nearby
 mod Picking
-mod Dirtied
-mod CellFrames
+mod TooFar
 pub mod Settled

@@ -96,13 +96,15 @@ picked_near P F ns before out u near h a = (
 )
 
 -- ---- the handles that are given for the dirt are enough
-covered_meets : (d : List Rectangle) (r : Rectangle) (p : Point) → Covers d p → RectHolds r p
+pub covered_meets : (d : List Rectangle) (r : Rectangle) (p : Point) → Covers d p → RectHolds r p
     → SomeOf (λ (s : Rectangle). rects_meet s r ≡ true) d
 covered_meets [] r p h k = absurd h
 covered_meets (s ∷ d) r p h k = elim h [ inl t ↦ inl (meets_test s r (p, t, k)) | inr t ↦ inr (covered_meets d r p t k) ]
 
-pub dirty_near : (ps : List Placed) (F : List Feature) (d : List Rectangle) (ns ms : List ℕ) → ArePlaced ps F → HasNear ns ps d
-    → ((a : ℕ) → Contains ms a ↔ Contains ns a) → (h : ℕ) (f : Feature) → feature_at F h ≡ Some f → MeetsDirt d (env f)
-    → Contains ms f.handle
-dirty_near ps F d ns ms placed near same h f e m =
-    (same f.handle).1 (near (placed_of f) (placed h f e) (covered_meets d (env f) m.0 m.1 m.2))
+pub dirty_near : (ps : List Placed) (F : List Feature) (d : List Rectangle) (ns : List ℕ) → ArePlaced ps F → HasNear ns ps d
+    → (h : ℕ) (f : Feature) → feature_at F h ≡ Some f → MeetsDirt d (env f) → Contains ns f.handle
+dirty_near ps F d ns placed near h f e m = near (placed_of f) (placed h f e) (covered_meets d (env f) m.0 m.1 m.2)
+
+pub near_once : (ps : List Placed) (d : List Rectangle) (ns ms : List ℕ) → HasNear ns ps d → ((a : ℕ) → Contains ms a ↔ Contains ns a)
+    → HasNear ms ps d
+near_once ps d ns ms near same q c s = (same q.handle).1 (near q c s)

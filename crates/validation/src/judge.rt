@@ -31,9 +31,9 @@ fn frame_for(f: &Feature, x: &Finding) -> Rect
     }
 }
 
-fn entry_of(rule: u16, f: &Feature, x: Finding) -> Entry
+fn entry_of(alloc: Global, rule: u16, f: &Feature, x: Finding) -> Result<Entry, NoMemory>
     requires { IsFramable x }
-    ensures { IsNewEntry rule f.now.handle f.now x result }
+    ensures { IfOk result (IsNewEntry rule f.now.handle f.now x) }
 {
     let frame = frame_for(f, &x);
     let key = Key {
@@ -41,11 +41,12 @@ fn entry_of(rule: u16, f: &Feature, x: Finding) -> Entry
         subject: f.handle(),
         other: x.other,
     };
-    Entry::new(key, x.extent, false, frame, x.cells)
+    Entry::new(alloc, key, x.extent, false, frame, x.cells)
 }
 
 // Puts an entry for each finding.
 fn add_findings(
+    alloc: Global,
     rule: u16,
     f: &Feature,
     findings: Vec<Finding>,
@@ -55,7 +56,8 @@ fn add_findings(
     ensures { OnOk result ((es : List terms.Entry) × (out.new.items ≡ out.old.items ++ es) × Paired (IsNewEntry rule f.now.handle f.now) findings.items es) }
 {
     for x in findings {
-        out.push(entry_of(rule, f, x))?;
+        let entry = entry_of(alloc, rule, f, x)?;
+        out.push(entry)?;
     }
     Ok(())
 }
@@ -82,7 +84,7 @@ fn judge_live<R: RuleSet>(
     }
     let view = features.view_of(alloc, f)?;
     let findings = rules.judge_row(alloc, &rule.row, &view, f.handle(), work)?;
-    add_findings(rule.number, f, findings.into_list(), out)
+    add_findings(alloc, rule.number, f, findings.into_list(), out)
 }
 
 /// Puts the new entries of the subject, in the order of partners; where it is not live there are none. The count of judgements

@@ -9,13 +9,15 @@ ghost use Rattle.topology_terms.specs.Changes.{IsSelected};
 ghost use Rattle.plane_terms.specs.Dirt.{MeetsDirt};
 ghost use Rattle.validation_laws.specs.Parts.{IsRising, live_of};
 ghost use Rattle.validation_laws.specs.Picked.{ArePicked};
+ghost use Rattle.plane_terms.specs.Lists.{Every};
+ghost use Rattle.validation.specs.Placed.{HasNear};
 
 use crate::dirty::DirtyParts;
 use crate::lookup::find;
 use crate::ruled::RuledFeatures;
 use dirty_area::Dirt;
-use error_store::{Entry, Errors};
-use grid_index::once_each;
+use error_store::{Entry, Errors, next_of};
+use grid_index::{Index, once_each};
 use grid_plane::{Handles, NoMemory, Rect};
 use shape::Feature;
 use std::alloc::Global;
@@ -61,15 +63,36 @@ fn add_features(
     Ok(())
 }
 
-// The subjects of the errors whose frame does.
-fn add_subjects(entries: &[Entry], dirty: &DirtyParts, found: &mut Vec<u32>) -> Result<(), NoMemory>
+// The subjects of the errors whose frame does; each of them is one of these.
+fn add_subjects(
+    entries: &[Entry],
+    near: &[u32],
+    dirty: &DirtyParts,
+    found: &mut Vec<u32>,
+) -> Result<(), NoMemory>
+    requires ascending { entries_of.IsAscending entries.now }
+    requires rising { IsStrictlyIncreasing near.now }
+    requires enough { Every (λ (e : entries_of.Entry). MeetsDirt dirty.now e.frame → Contains near.now e.subject) entries.now }
     ensures { OnOk result (ArePicked (λ (e : entries_of.Entry). MeetsDirt dirty.now e.frame) (λ (e : entries_of.Entry). e.subject) entries.now found.old.items found.new.items) }
 {
-    for e in entries {
+    let mut from = 0;
+    while let Some(place) = next_of(entries, from, near) {
+        let e = &entries[place];
         let key = e.key();
         push_if(found, dirty.meets(&e.frame()), key.subject)?;
+        from = place + 1;
     }
     Ok(())
+}
+
+// The handles that an index gives for what is dirty of the window, once each, ascending; it may give others too.
+fn near_of(alloc: Global, dirty: &DirtyParts, index: &Index) -> Result<Vec<u32>, NoMemory>
+    ensures rising { IfOk result (λ v. IsStrictlyIncreasing v.items) }
+    ensures near { IfOk result (λ v. HasNear v.items index.now dirty.now) }
+{
+    let mut near = dirty.near(alloc, index)?;
+    once_each(&mut near);
+    Ok(near)
 }
 
 // The numbers once each, ascending.
@@ -85,7 +108,7 @@ fn handles_of(alloc: Global, found: &[u32]) -> Result<Handles, NoMemory>
 }
 
 /// The handles that the window and the dirt select: of live features by their envelope, and of subjects of errors by the
-/// error's frame. Of the features it looks only at those that the index gives.
+/// error's frame. It looks only at those features and errors that the indexes give.
 pub fn select(
     alloc: Global,
     ruled: &RuledFeatures<'_>,
@@ -97,12 +120,12 @@ pub fn select(
     ensures chosen { IfOk result (λ s. (p : Project) → p.features ≡ ruled.now.features → p.dirt ≡ dirt.now → p.entries ≡ errors.now → (a : ℕ) → Contains s a ↔ IsSelected p window.now a) }
 {
     let dirty = DirtyParts::of(alloc, dirt, window)?;
-    let mut near = dirty.near(alloc, ruled.index())?;
-    once_each(&mut near);
+    let near = near_of(alloc, &dirty, ruled.index())?;
+    let framed = near_of(alloc, &dirty, errors.frames())?;
     ruled.order_law();
     let mut found = Vec::new(alloc);
     add_features(ruled.features(), &near, &dirty, &mut found)?;
-    add_subjects(errors.entries(), &dirty, &mut found)?;
+    add_subjects(errors.entries(), &framed, &dirty, &mut found)?;
     once_each(&mut found);
     handles_of(alloc, &found)
 }

@@ -11,11 +11,12 @@ use Rattle.validation_laws.proofs.Handles.{rising}
 use Rattle.validation_laws.proofs.Selecting.{selected_picked}
 use Rattle.validation.proofs.Dirtied.{meets_parts, picked_as}
 use Rattle.validation.proofs.Picking.{picked_near, dirty_near}
+use Rattle.validation.proofs.Framed.{frames_near}
 use Rattle.validation.proofs.selection.select.Goals as goal
 
 pub returns-clause-rising : goal.returns-clause-rising
-returns-clause-rising c = IfOk-weaker c.handles_of.result _ IsRising (λ s h. subst IsRising (sym (h ∙ c.deref-2.ensures.value))
-    (rising c.once_each-2.new.found.items c.once_each-2.ensures.ascending)) c.handles_of.ensures
+returns-clause-rising c = IfOk-weaker c.handles_of.result _ IsRising (λ s h. subst IsRising (sym (h ∙ c.deref-3.ensures.value))
+    (rising c.once_each.new.found.items c.once_each.ensures.ascending)) c.handles_of.ensures
 
 pub returns-clause-chosen : goal.returns-clause-chosen
 returns-clause-chosen c = IfOk-weaker c.handles_of.result _
@@ -28,17 +29,20 @@ returns-clause-chosen c = IfOk-weaker c.handles_of.result _
     let meets = meets_parts c.in_ok-dirty.dirty c.args.dirt.now w c.in_ok-dirty.ensures in
     let dirty : Feature → Type 0 = λ (f : Feature). MeetsDirt c.in_ok-dirty.dirty (env f) in
     let F = c.args.ruled.now.features in
-    let enough = dirty_near c.index.result.now F c.in_ok-dirty.dirty c.in_ok-near.near.items c.once_each.new.found.items c.index.ensures
-    c.in_ok-near.ensures c.once_each.ensures.same in
-    let among : ArePicked dirty (λ (f : Feature). f.handle) (live_of F c.once_each.new.found.items) [] early =
+    let enough = dirty_near c.index.result.now F c.in_ok-dirty.dirty c.in_ok-near.near.items c.index.ensures c.in_ok-near.ensures.near in
+    let among : ArePicked dirty (λ (f : Feature). f.handle) (live_of F c.in_ok-near.near.items) [] early =
     rw (c.new-found.ensures.items, c.deref.ensures.value, c.features.ensures) at c.in_ok-add_features.ensures in
     let first : ArePicked (λ (f : Feature). MeetsPart p.dirt w (env f)) (λ (f : Feature). f.handle) p.features [] early =
     rw (ef, ed) (picked_as dirty (λ (f : Feature). MeetsPart c.args.dirt.now w (env f)) (λ (f : Feature). f.handle) F [] early
-    (λ f. meets (env f)) (picked_near dirty F c.once_each.new.found.items [] early c.order_law.ensures.features enough among)) in
+    (λ f. meets (env f)) (picked_near dirty F c.in_ok-near.near.items [] early c.order_law.ensures.features enough among)) in
     let second : ArePicked (λ (e : Entry). MeetsPart p.dirt w e.frame) (λ (e : Entry). e.subject) p.entries early late =
     rw (ee, ed) (picked_as _ (λ (e : Entry). MeetsPart c.args.dirt.now w e.frame) (λ (e : Entry). e.subject) c.args.errors.now early
     late (λ e. meets e.frame) (rw c.entries.ensures.value at c.in_ok-add_subjects.ensures)) in
     let chosen = selected_picked p w early late (rw ef c.order_law.ensures.features) (rw ee c.entries.ensures.ascending) first second a in
-    let once = c.once_each-2.ensures.same a in
-    subst (λ t. Contains t a ↔ IsSelected p w a) (sym (h ∙ c.deref-2.ensures.value)) ((λ k. chosen.0 (once.0 k)), (λ k. once.1 (chosen.1 k))))
+    let once = c.once_each.ensures.same a in
+    subst (λ t. Contains t a ↔ IsSelected p w a) (sym (h ∙ c.deref-3.ensures.value)) ((λ k. chosen.0 (once.0 k)), (λ k. once.1 (chosen.1 k))))
     c.handles_of.ensures
+
+pub add_subjects-requires-clause-enough : goal.add_subjects-requires-clause-enough
+add_subjects-requires-clause-enough c = rw (c.deref-2.ensures.value, c.entries.ensures.value) (frames_near c.frames.result.now
+    c.args.errors.now c.in_ok-dirty.dirty c.in_ok-framed.framed.items c.frames.ensures c.in_ok-framed.ensures.near)

@@ -1,5 +1,6 @@
 use Rattle.std.proofs.Common.{◌≡◌, refl}
 use Rattle.error_store.proofs.Marking.{mark_set, may_mark, placed, stays_ascending}
+use Rattle.error_store.proofs.Framing.{framed_marked}
 use Rattle.error_store.proofs.errors.Errors.set_mark.Goals as goal
 
 pub returns-clause-may : goal.returns-clause-may
@@ -24,13 +25,18 @@ returns-clause-set c =
     let e = c.index_mut-entry.result.now in
     let is = c.index_mut-entry.ensures.value in
     let z = placed items items c.deref.result.now i k.rule k.subject k.other e refl c.deref.ensures.value c.in-Some.ensures is in
-    rw (same, c.set_mark.ensures) (mark_set items i e c.args.on k.rule k.subject k.other z.0 is c.self.invariant z.1)
+    rw (same, c.set_mark.ensures) (mark_set items i e c.args.on k.rule k.subject k.other z.0 is c.self.invariant.0 z.1)
 
 pub invariant_of-self-2 : goal.invariant_of-self-2
 invariant_of-self-2 c =
     let e = c.index_mut-entry.result.now in
     let is = c.index_mut-entry.ensures.value in
-    rw c.set_mark.ensures (stays_ascending c.self.inside.entries.items c.in-Some.place e c.args.on is c.self.invariant)
+    let es = c.self.inside.entries.items in
+    let i = c.in-Some.place in
+    rw c.set_mark.ensures (
+      stays_ascending es i e c.args.on is c.self.invariant.0,
+      framed_marked c.self.inside.frames es i e c.args.on is c.self.invariant.1,
+    )
 
 pub returns-clause-ascending : goal.returns-clause-ascending
-returns-clause-ascending c = invariant_of-self-2 c
+returns-clause-ascending c = (invariant_of-self-2 c).0

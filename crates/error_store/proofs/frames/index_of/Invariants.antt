@@ -1,0 +1,6 @@
+use Rattle.std.proofs.Common.{take}
+use Rattle.error_store.specs.Frames.{AreFramed}
+use Rattle.error_store.proofs.frames.index_of.Given as goal
+
+abbrev pub invariant-loop-e : goal.invariant-loop-e
+invariant-loop-e l = AreFramed l.index (take l.e-index l.entries)

@@ -1,0 +1,135 @@
+ghost use Rattle.std.specs.Prelude.{◌≡◌, ◌↔◌, IsTrue, Contains, IfOk, OnOk};
+ghost use Rattle.std.specs.List.Sorted.{IsStrictlyIncreasing};
+ghost use Rattle.plane_terms.specs.Lists.{SomeOf};
+ghost use Rattle.topology_terms.specs.Entry.{IsAscending};
+ghost use Rattle.topology_terms.specs.Entry as terms;
+ghost use Rattle.grid_index.specs.declared.placed.Placed as placed;
+ghost use Rattle.error_store.specs.Frames.{framed_of, AreFramed};
+
+use crate::entry::{Entry, is_same_rect};
+use crate::walk::next_of;
+use grid_index::{Index, Placed};
+use grid_plane::NoMemory;
+use std::alloc::Global;
+
+// Where the frame of the error lies, and its subject.
+fn place_of(e: &Entry) -> Placed
+    ensures { result ≡ framed_of e.now }
+{
+    Placed {
+        rect: e.frame(),
+        handle: e.key().subject,
+    }
+}
+
+fn is_at(e: &Entry, place: &Placed) -> bool
+    ensures { IsTrue result ↔ (framed_of e.now ≡ place.now) }
+{
+    e.key().subject == place.handle && is_same_rect(&e.frame(), &place.rect)
+}
+
+// Whether an error of the handle has this frame.
+fn stands(entries: &[Entry], place: &Placed) -> bool
+    requires { IsAscending entries.now }
+    ensures { IsTrue result ↔ SomeOf (λ (e : terms.Entry). framed_of e ≡ place.now) entries.now }
+{
+    let subject = [place.handle];
+    let mut from = 0;
+    while let Some(at) = next_of(entries, from, &subject) {
+        if is_at(&entries[at], place) {
+            return true;
+        }
+        from = at + 1;
+    }
+    false
+}
+
+/// An index in which the frame of each error stands under its subject.
+pub fn index_of(alloc: Global, entries: &[Entry]) -> Result<Index, NoMemory>
+    ensures { IfOk result (λ index. AreFramed index entries.now) }
+{
+    let mut index = Index::new(alloc);
+    for e in entries {
+        index.put(place_of(e))?;
+    }
+    Ok(index)
+}
+
+// Puts the frame of the fresh error in, unless an error has it, which stands there already.
+fn put_frame(index: &mut Index, entries: &[Entry], fresh: &Entry) -> Result<(), NoMemory>
+    requires ascending { IsAscending entries.now }
+    requires framed { AreFramed index.old entries.now }
+    ensures there { OnOk result (Contains index.new (framed_of fresh.now)) }
+    ensures kept { (q : placed.Placed) → Contains index.old q → Contains index.new q }
+{
+    let place = place_of(fresh);
+    if stands(entries, &place) {
+        return Ok(());
+    }
+    index.put(place)
+}
+
+/// Puts the frames of the fresh errors in. Those of the errors stay there, after an `Err`, want of memory, too.
+pub fn put_frames(index: &mut Index, entries: &[Entry], fresh: &[Entry]) -> Result<(), NoMemory>
+    requires ascending { IsAscending entries.now }
+    requires framed { AreFramed index.old entries.now }
+    ensures there { OnOk result (AreFramed index.new fresh.now) }
+    ensures framed { AreFramed index.new entries.now }
+{
+    for e in fresh {
+        put_frame(index, entries, e)?;
+    }
+    Ok(())
+}
+
+/// The frames of the errors of these subjects.
+pub fn frames_of(
+    alloc: Global,
+    entries: &[Entry],
+    subjects: &[u32],
+) -> Result<Vec<Placed>, NoMemory>
+    requires ascending { IsAscending entries.now }
+    requires rising { IsStrictlyIncreasing subjects.now }
+{
+    let mut frames = Vec::new(alloc);
+    let mut from = 0;
+    while let Some(at) = next_of(entries, from, subjects) {
+        frames.push(place_of(&entries[at]))?;
+        from = at + 1;
+    }
+    Ok(frames)
+}
+
+/// The frames of the errors of this rule; where there is no memory for all of them, some are left out.
+pub fn frames_under(alloc: Global, entries: &[Entry], rule: u16) -> Vec<Placed> {
+    let mut frames = Vec::new(alloc);
+    for e in entries {
+        if e.key().rule == rule {
+            let _ = frames.push(place_of(e));
+        }
+    }
+    frames
+}
+
+// Takes the frame out, unless an error has it.
+fn drop_frame(index: &mut Index, entries: &[Entry], frame: &Placed)
+    requires ascending { IsAscending entries.now }
+    requires framed { AreFramed index.old entries.now }
+    ensures { AreFramed index.new entries.now }
+{
+    if stands(entries, frame) {
+        return;
+    }
+    index.take(frame);
+}
+
+/// Takes out these frames, but for those that an error has.
+pub fn drop_frames(index: &mut Index, entries: &[Entry], frames: &[Placed])
+    requires ascending { IsAscending entries.now }
+    requires framed { AreFramed index.old entries.now }
+    ensures { AreFramed index.new entries.now }
+{
+    for frame in frames {
+        drop_frame(index, entries, frame);
+    }
+}
