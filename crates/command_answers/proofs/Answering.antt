@@ -11,6 +11,7 @@ use Rattle.topology_terms.specs.Causes.{Tells, when, first_of, class_cause, add_
 use Rattle.topology_terms.specs.Feature.{Feature, feature_at}
 use Rattle.topology_terms.specs.Lookups.{class_number}
 use Rattle.topology_terms.specs.Poster.{poster}
+use Rattle.topology_terms.specs.Session.{holder}
 use Rattle.topology_terms.specs.Settled.{IsValidatedBy}
 use Rattle.topology_terms.specs.declared.cause.Cause.{Cause}
 use Rattle.topology_terms.specs.declared.cause.Cause.TheVariants as cause
@@ -22,14 +23,14 @@ use Rattle.line_terms.specs.Commands.{Command, Class, Rule, DropRule, Add, Chang
 use Rattle.script_terms.specs.Refusal.{Refusal, NoSession, Change}
 use Rattle.script_terms.specs.Reply.{Reply, Done, Number, Judged, Refused}
 use Rattle.script_terms.specs.State.{State, is_open}
-use Rattle.script_terms.specs.Refusing.{refusal_of, row_of, is_nowhere, changes, held}
+use Rattle.script_terms.specs.Refusing.{refusal_of, row_of, is_nowhere, changes, held_by}
 use Rattle.script_terms.specs.Answer.{Answers, IsDone, LeavesNoted, added_step, set_step}
 use Rattle.command_answers.proofs.Counts.{fewer_chosen, few_handles, few_judged}
 use Rattle.script_terms.proofs.Runs.{first_none, changes_none}
 
 pub refused : (s t : State) (c : Command) (reply : Reply) (r : Refusal) → refusal_of s c ≡ Some r → reply ≡ Refused r → t ≡ s
     → Answers s c reply t
-refused s t c reply r e said same = rw e (said, record { same = same })
+refused s t c reply r e said same = rw e (said, same)
 
 pub done : (s t : State) (c : Command) (reply : Reply) → refusal_of s c ≡ None → IsDone s c reply t → Answers s c reply t
 done s t c reply e d = rw e d
@@ -71,12 +72,12 @@ edit_stopped None None None d r e = cc
 change_refusal : (s : State) (editor : List ℕ) (h : ℕ) (shape : Shape) → refusal_of s (Delete editor h) ≡ None
     → refusal_of s (AChange editor h shape) ≡ changes (change_cause s.project.features h shape.kind)
 change_refusal s editor h shape may = edit_passed (when (not (is_open s editor)) NoSession) (changes (delete_cause s.project.features h))
-    (held s editor h) (changes (change_cause s.project.features h shape.kind)) may
+    (held_by (holder s.sessions h) editor) (changes (change_cause s.project.features h shape.kind)) may
 
 pub change_stopped : (s : State) (editor : List ℕ) (h : ℕ) (shape : Shape) (r : Refusal) → refusal_of s (Delete editor h) ≡ Some r
     → Answers s (AChange editor h shape) (Refused r) s
 change_stopped s editor h shape r e = refused s s (AChange editor h shape) (Refused r) r
-    (edit_stopped (when (not (is_open s editor)) NoSession) (changes (delete_cause s.project.features h)) (held s editor h)
+    (edit_stopped (when (not (is_open s editor)) NoSession) (changes (delete_cause s.project.features h)) (held_by (holder s.sessions h) editor)
     (changes (change_cause s.project.features h shape.kind)) r e) refl refl
 
 pub delete_stopped : (s : State) (editor : List ℕ) (h : ℕ) (r : Refusal) → refusal_of s (Delete editor h) ≡ Some r
@@ -153,9 +154,9 @@ change_refused s t editor h shape o reply free tells said same =
 -- a deletion that is not refused finds its feature
 deletes : (s : State) (editor : List ℕ) (h : ℕ) → refusal_of s (Delete editor h) ≡ None → delete_cause s.project.features h ≡ None
 deletes s editor h free =
-    let a = first_none (when (not (is_open s editor)) NoSession) (changes (delete_cause s.project.features h) ∷ held s editor h ∷ []) free
+    let a = first_none (when (not (is_open s editor)) NoSession) (changes (delete_cause s.project.features h) ∷ held_by (holder s.sessions h) editor ∷ []) free
     in
-    changes_none (delete_cause s.project.features h) (first_none (changes (delete_cause s.project.features h)) (held s editor h ∷ []) a.1).0
+    changes_none (delete_cause s.project.features h) (first_none (changes (delete_cause s.project.features h)) (held_by (holder s.sessions h) editor ∷ []) a.1).0
 
 pub delete_refused : (s t : State) (editor : List ℕ) (h : ℕ) (o : Option Cause) (reply : Reply) → refusal_of s (Delete editor h) ≡ None
     → Tells o (delete_cause s.project.features h) → IsSomeAnd o (λ x. reply ≡ Refused (Change x)) → t ≡ s
@@ -221,19 +222,7 @@ validated s t w judged errors dirty before after law next low v counted j e d sa
     ∙ exact before (judged_of s.project.rules counted.subjects) low bound)) in
     done s t (Validate w) (Judged judged errors dirty) refl (
       judged,
-      errors,
-      dirty,
-      refl,
-      record {
-        project = record {
-          validated = v;
-          selected = counted.subjects;
-          those = counted.those;
-          judged_is =
-              is;
-          errors_is = e;
-          dirty_is = d;
-        };
-        sessions = same;
-      },
+      (counted.subjects, counted.those, is),
+      record { project = v; sessions = same },
+      rw (e, d) refl,
     )

@@ -27,7 +27,7 @@ use Rattle.validation_laws.specs.Parts.{IsRising, AreInOrder, IsJoined, IsNewEnt
 use Rattle.validation_laws.specs.Replaced.{IsNewOf}
 use Rattle.validation_laws.proofs.Judging.{found_alike, judging_ascends, judging_fresh, judging_idle, judging_part}
 use Rattle.topo_core.specs.Topologies.{IsTopology}
-use Rattle.script_terms.specs.Scratch.{found_of, found_as, found_under, IsFrameOf, AreFromScratch}
+use Rattle.script_terms.specs.Scratch.{Found, found_of, found_under, IsFrameOf, AreFromScratch}
 
 -- ---- findings stand in the order of their partners
 first_above : (n : ℕ) (cells : Feature → List Cell) (gs : List Feature) → Every (λ (g : Feature). n < g.handle) gs
@@ -102,6 +102,9 @@ all_made : (f : Feature) (es : List Entry) (r a : ℕ) (xs : List Finding) → E
     → Paired (IsNewEntry r a f) xs (map (made es r a) xs)
 all_made f es r a [] h = tt
 all_made f es r a (x ∷ xs) h = (h.0, all_made f es r a xs h.1)
+
+abbrev found_as : ℕ → ℕ → Finding → Found
+found_as r a x = (r, a, x)
 
 made_found : (es : List Entry) (r a : ℕ) (xs : List Finding) → map found_of (map (made es r a) xs) ≡ map (found_as r a) xs
 made_found es r a [] = refl

@@ -16,10 +16,10 @@ use Rattle.edit_session.specs.Moves.{MayAll}
 use Rattle.edit_session.specs.SessionsCalls as calls
 use Rattle.edit_session.proofs.Moves.{each_still, each_end}
 use Rattle.line_terms.specs.Commands.{Delete}
-use Rattle.script_terms.specs.Answer.{IsNoted, LeavesNoted, set_step, added_step}
+use Rattle.script_terms.specs.Answer.{LeavesNoted, set_step, added_step}
 use Rattle.script_terms.specs.Keeping.{IsKeeping}
 use Rattle.script_terms.specs.Refusing.{refusal_of}
-use Rattle.script_terms.proofs.Bridges.{note_bridge, room_bridge}
+use Rattle.script_terms.proofs.Bridges.{IsNoted, note_bridge, room_bridge}
 use Rattle.script_terms.proofs.Commands.{same_keeps, added_keeps, fresh_alone}
 use Rattle.script_terms.proofs.Keeping.{altered_keeps}
 use Rattle.script_terms.proofs.Runs.{may_edit}
@@ -95,14 +95,11 @@ set_done p q name ss ts h after w ord may e d =
     let at = feature_at p.features in
     let bt = feature_at q.features in
     let a = may_edit (state_of p ss) name h [] w.keeping ord may in
-    record {
-      project = e;
-      noted = note_bridge at bt name d.was d.is ss ts h after d.change d.noted (record {
-        here = e.edit.features.here;
-        others =
-            e.edit.features.others;
-      }) w.keeping.apart a.0;
-    }
+    let b = note_bridge at bt name d.was d.is ss ts h after d.change d.noted (record {
+      here = e.edit.features.here;
+      others = e.edit.features.others;
+    }) w.keeping.apart a.0 in
+    record { project = e; session = b.session; change = b.change }
 
 pub set_world : (p q : Project) (name : List ℕ) (ss ts : List KeptSession) (h : ℕ) (f : Feature) (after : Option Feature)
     → IsStore p.classes p.features p.next → IsWorld p ss → IsOrdered p
@@ -146,11 +143,8 @@ add_done p q name ss ts class shape h w e d =
       others =
           e.edit.features.others;
     }) w.keeping.apart alone in
-    record {
-      project = e;
-      noted = subst (λ o. IsNoted name (record { handle = h; before = o; after = x }) (seen at ss) (seen bt ts))
-          e.absent b;
-    }
+    let n = subst (λ o. IsNoted name (record { handle = h; before = o; after = x }) (seen at ss) (seen bt ts)) e.absent b in
+    record { project = e; session = n.session; change = n.change }
 
 pub add_world : (p q : Project) (name : List ℕ) (ss ts : List KeptSession) (class : ℕ) (shape : Shape) (h : ℕ)
     → IsStore p.classes p.features p.next → IsWorld p ss → IsFeatureAdded class shape h p q

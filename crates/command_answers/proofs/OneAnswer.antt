@@ -1,5 +1,6 @@
 -- A command has one reply, and leaves one state.
 use Rattle.std.proofs.Common.{◌≡◌, ◌⊎◌, inl, inr, ℕ, ◌<◌, Bool, true, false, List, [], ◌∷◌, ◌++◌, length, Option, Some, None, refl, sym, ◌∙◌, ap, subst, arith}
+use Rattle.std.specs.Prelude.{unwrap_or}
 use Rattle.plane_terms.specs.Rectangle.{Rectangle}
 use Rattle.plane_terms.specs.Cell.{Cell}
 use Rattle.topology_terms.specs.Broken.{Row}
@@ -25,8 +26,8 @@ use Rattle.script_terms.specs.Refusal.{Refusal}
 use Rattle.script_terms.specs.Reply.{Reply, Number, Judged}
 use Rattle.script_terms.specs.State.{State}
 use Rattle.script_terms.proofs.Restoring.{taken_at}
-use Rattle.script_terms.specs.Refusing.{refusal_of, number_or_0}
-use Rattle.script_terms.specs.Answer.{Answers, IsDone, IsSame, IsNoted, IsUndone, IsRedone, IsDiscarded, AreTakenBack, answers_by, added_step}
+use Rattle.script_terms.specs.Refusing.{refusal_of}
+use Rattle.script_terms.specs.Answer.{Answers, IsDone, LeavesNoted, IsUndone, IsRedone, IsDiscarded, AreTakenBack, answers_by, added_step}
 use Rattle.plane_terms.proofs.Truths.{same_by_truth, there_or_not}
 use Rattle.session_terms.proofs.Chains.{end_same, head_same}
 use Rattle.plane_terms.proofs.ListLemmas.{those_one}
@@ -276,8 +277,8 @@ validated_same C w s p q u v i j = record {
 
 -- the elements that are chosen are one list
 -- ---- each command
-kept_same : (s t u : State) → IsSame s t → IsSame s u → t ≡ u
-kept_same s t u i j = i.same ∙ sym j.same
+kept_same : (s t u : State) → t ≡ s → u ≡ s → t ≡ u
+kept_same s t u i j = i ∙ sym j
 
 left_same : (s t u : State) → t.sessions ≡ s.sessions → u.sessions ≡ s.sessions → AreSame t.project u.project → t ≡ u
 left_same s t u e f h = same_state t u (by_parts t.project u.project h) (e ∙ sym f)
@@ -286,9 +287,9 @@ left_same s t u e f h = same_state t u (by_parts t.project u.project h) (e ∙ s
 some_same : {A : Type 0} (o : Option A) (x y : A) → o ≡ Some x → o ≡ Some y → x ≡ y
 some_same o x y i j = let e : Some x ≡ Some y = sym i ∙ j in cc
 
-noted_same : (editor : List ℕ) (s t u : State) (x y : EditStep) → IsNoted editor x s.sessions t.sessions
-    → IsNoted editor y s.sessions u.sessions → x ≡ y → AreSame t.project u.project → t ≡ u
-noted_same editor s t u x y i j step h =
+noted_same : {P Q : Project → Project → Type 0} (editor : List ℕ) (s t u : State) (x y : EditStep) → LeavesNoted editor x P s t
+    → LeavesNoted editor y Q s u → x ≡ y → AreSame t.project u.project → t ≡ u
+noted_same {P} {Q} editor s t u x y i j step h =
     let was : i.session ≡ j.session = some_same (session_of s.sessions editor) i.session j.session i.change.there j.change.there in
     let is : with_step i.session x ≡ with_step j.session y = ap (λ (z : Session). with_step z x) was ∙ ap (with_step j.session) step in
     same_state t u (by_parts t.project u.project h) (i.change.sessions ∙ (ap (with_session s.sessions) is ∙ sym j.change.sessions))
@@ -306,27 +307,27 @@ set_project h after s p q v w i j = by_parts p q (edit_same h after s p q v w i.
 undo_same : (editor : List ℕ) (s t u : State) → IsOrdered t.project → IsOrdered u.project → IsUndone editor s t → IsUndone editor s u
     → t ≡ u
 undo_same editor s t u v w i j =
-    let was : i.was ≡ j.was = some_same (session_of s.sessions editor) i.was j.was i.session.there j.session.there in
-    let e = end_same i.is.done j.is.done i.step j.step (sym i.undone.done ∙ (ap (λ (z : Session). z.done) was ∙ j.undone.done)) in
-    let left : i.is.undone ≡ j.is.undone = i.undone.undone ∙ (ap (λ (z : EditStep). z ∷ i.was.undone) e.1
-    ∙ (ap (λ (z : Session). j.step ∷ z.undone) was ∙ sym j.undone.undone)) in
-    let is : i.is ≡ j.is = parts_same i.is j.is (i.undone.name ∙ (ap (λ (z : Session). z.name) was ∙ sym j.undone.name)) e.0 left in
-    let set = subst (λ (z : EditStep). IsFeatureSet z.handle z.before s.project t.project) e.1 i.set in
-    same_state t u (set_project j.step.handle j.step.before s.project t.project u.project v w set j.set) (i.session.sessions
-    ∙ (ap (with_session s.sessions) is ∙ sym j.session.sessions))
+    let was : i.1 ≡ j.1 = some_same (session_of s.sessions editor) i.1 j.1 i.4.session.there j.4.session.there in
+    let e = end_same i.2.done j.2.done i.0 j.0 (sym i.3.done ∙ (ap (λ (z : Session). z.done) was ∙ j.3.done)) in
+    let left : i.2.undone ≡ j.2.undone = i.3.undone ∙ (ap (λ (z : EditStep). z ∷ i.1.undone) e.1
+    ∙ (ap (λ (z : Session). j.0 ∷ z.undone) was ∙ sym j.3.undone)) in
+    let is : i.2 ≡ j.2 = parts_same i.2 j.2 (i.3.name ∙ (ap (λ (z : Session). z.name) was ∙ sym j.3.name)) e.0 left in
+    let set = subst (λ (z : EditStep). IsFeatureSet z.handle z.before s.project t.project) e.1 i.4.set in
+    same_state t u (set_project j.0.handle j.0.before s.project t.project u.project v w set j.4.set) (i.4.session.sessions
+    ∙ (ap (with_session s.sessions) is ∙ sym j.4.session.sessions))
 
 redo_same : (editor : List ℕ) (s t u : State) → IsOrdered t.project → IsOrdered u.project → IsRedone editor s t → IsRedone editor s u
     → t ≡ u
 redo_same editor s t u v w i j =
-    let was : i.was ≡ j.was = some_same (session_of s.sessions editor) i.was j.was i.session.there j.session.there in
-    let e = head_same i.step j.step i.is.undone j.is.undone (sym i.undone.undone ∙ (ap (λ (z : Session). z.undone) was ∙ j.undone.undone))
+    let was : i.1 ≡ j.1 = some_same (session_of s.sessions editor) i.1 j.1 i.4.session.there j.4.session.there in
+    let e = head_same i.0 j.0 i.2.undone j.2.undone (sym i.3.undone ∙ (ap (λ (z : Session). z.undone) was ∙ j.3.undone))
     in
-    let left : i.is.done ≡ j.is.done = i.undone.done ∙ (ap (λ (z : EditStep). i.was.done ++ z ∷ []) e.0
-    ∙ (ap (λ (z : Session). z.done ++ j.step ∷ []) was ∙ sym j.undone.done)) in
-    let is : i.is ≡ j.is = parts_same i.is j.is (sym i.undone.name ∙ (ap (λ (z : Session). z.name) was ∙ j.undone.name)) left e.1 in
-    let set = subst (λ (z : EditStep). IsFeatureSet z.handle z.after s.project t.project) e.0 i.set in
-    same_state t u (set_project j.step.handle j.step.after s.project t.project u.project v w set j.set) (i.session.sessions
-    ∙ (ap (with_session s.sessions) is ∙ sym j.session.sessions))
+    let left : i.2.done ≡ j.2.done = i.3.done ∙ (ap (λ (z : EditStep). i.1.done ++ z ∷ []) e.0
+    ∙ (ap (λ (z : Session). z.done ++ j.0 ∷ []) was ∙ sym j.3.done)) in
+    let is : i.2 ≡ j.2 = parts_same i.2 j.2 (sym i.3.name ∙ (ap (λ (z : Session). z.name) was ∙ j.3.name)) left e.1 in
+    let set = subst (λ (z : EditStep). IsFeatureSet z.handle z.after s.project t.project) e.0 i.4.set in
+    same_state t u (set_project j.0.handle j.0.after s.project t.project u.project v w set j.4.set) (i.4.session.sessions
+    ∙ (ap (with_session s.sessions) is ∙ sym j.4.session.sessions))
 
 -- steps that are taken back: all but the features, and the look-up of those, is told step by step
 pub record SameRest (p q : Project) : Type 0 where
@@ -409,45 +410,34 @@ one_done C s t u (DropRule r) reply said v w d e = (
   left_same s t u d.1.sessions e.1.sessions
       (dropped_same s.project t.project u.project r v w d.1.project e.1.project),
 )
-one_done C s t u (Begin editor) reply said v w d e = (
-  d.0 ∙ sym e.0,
-  same_state t u (d.1.project ∙ sym e.1.project) (d.1.sessions
-      ∙ sym e.1.sessions),
-)
-one_done C s t u (End editor) reply said v w d e = (
-  d.0 ∙ sym e.0,
-  same_state t u (d.1.project ∙ sym e.1.project) (d.1.sessions
-      ∙ sym e.1.sessions),
-)
+one_done C s t u (Begin editor) reply said v w d e = (d.0 ∙ sym e.0, d.1 ∙ sym e.1)
+one_done C s t u (End editor) reply said v w d e = (d.0 ∙ sym e.0, d.1 ∙ sym e.1)
 one_done C s t u (Discard editor) reply said v w d e = (d.0 ∙ sym e.0, discard_same editor s t u v w d.1 e.1)
 one_done C s t u (Add editor class shape) reply said v w (g, d, i) (h, e, j) =
     let same : g ≡ h = i.project.number ∙ sym j.project.number in
     let k = rw same at i.project.edit in (
       d ∙ (ap Number same ∙ sym e),
-      noted_same editor s t u _ _ i.noted j.noted (ap (λ (n : ℕ). added_step n (number_or_0 (class_number s.project class)) shape) same)
+      noted_same editor s t u _ _ i j (ap (λ (n : ℕ). added_step n (unwrap_or (class_number s.project class) 0) shape) same)
           (edit_same h _ s.project t.project u.project v w k j.project.edit (i.project.next ∙ sym j.project.next)),
     )
 one_done C s t u (Change editor h shape) reply said v w d e = (
   d.0 ∙ sym e.0,
-  noted_same editor s t u _ _ d.1.noted e.1.noted refl (edit_same h _ s.project t.project u.project v w d.1.project.edit
+  noted_same editor s t u _ _ d.1 e.1 refl (edit_same h _ s.project t.project u.project v w d.1.project.edit
       e.1.project.edit (d.1.project.next ∙ sym e.1.project.next)),
 )
 one_done C s t u (Delete editor h) reply said v w d e = (
   d.0 ∙ sym e.0,
-  noted_same editor s t u _ _ d.1.noted e.1.noted refl (edit_same h None s.project t.project u.project v w
+  noted_same editor s t u _ _ d.1 e.1 refl (edit_same h None s.project t.project u.project v w
       d.1.project.edit e.1.project.edit (d.1.project.next ∙ sym e.1.project.next)),
 )
 one_done C s t u (Undo editor) reply said v w d e = (d.0 ∙ sym e.0, undo_same editor s t u v w d.1 e.1)
 one_done C s t u (Redo editor) reply said v w d e = (d.0 ∙ sym e.0, redo_same editor s t u v w d.1 e.1)
-one_done C s t u (Validate win) reply said v w (j1, e1, d1, is1, l1) (j2, e2, d2, is2, l2) =
-    let p = l1.project in
-    let q = l2.project in
-    let parts = validated_same C win s.project t.project u.project v w p.validated q.validated in
-    let chosen = those_one _ s.project.features p.selected q.selected p.those q.those in
-    let judged : j1 ≡ j2 = p.judged_is ∙ (ap (λ fs. judged_of s.project.rules fs) chosen ∙ sym q.judged_is) in
-    let errors : e1 ≡ e2 = p.errors_is ∙ (ap length parts.entries ∙ sym q.errors_is) in
-    let dirty : d1 ≡ d2 = p.dirty_is ∙ (ap length parts.dirt ∙ sym q.dirty_is) in
-    (is1 ∙ (judged_same j1 e1 d1 j2 e2 d2 judged errors dirty ∙ sym is2), left_same s t u l1.sessions l2.sessions parts)
+one_done C s t u (Validate win) reply said v w (j1, p, l1, is1) (j2, q, l2, is2) =
+    let parts = validated_same C win s.project t.project u.project v w l1.project l2.project in
+    let chosen = those_one _ s.project.features p.0 q.0 p.1 q.1 in
+    let judged : j1 ≡ j2 = p.2 ∙ (ap (λ fs. judged_of s.project.rules fs) chosen ∙ sym q.2) in
+    (is1 ∙ (judged_same j1 _ _ j2 _ _ judged (ap length parts.entries) (ap length parts.dirt) ∙ sym is2),
+     left_same s t u l1.sessions l2.sessions parts)
 one_done C s t u (Mark r a b) reply said v w d e = (
   d.0 ∙ sym e.0,
   left_same s t u d.1.sessions e.1.sessions (marked_same r a b true s.project t.project u.project v w d.1.project

@@ -2,6 +2,7 @@
 use Rattle.std.proofs.Common.{◌≡◌, ◌≢◌, ◌<◌, ◌++◌, ℕ, true, false, List, [], ◌∷◌, length, Option, Some, None, refl, sym, ◌∙◌, ap, subst, inl, inr, arith, eqb, length-append}
 use Rattle.std.proofs.lemmas.Bool.Decides.{nat_tests}
 use Rattle.std.specs.Prelude.{Result, Ok, Err, IfOk, OnOk, IfErr, OnErr, MatchResult, is_some, bytes_eq}
+use Rattle.std.specs.Option.{option_map_or}
 use Rattle.topology_terms.specs.Causes.{first_of}
 use Rattle.topology_terms.specs.declared.cause.Cause.TheVariants.{NoFeature}
 use Rattle.topology_terms.specs.Feature.{Feature, feature_at}
@@ -79,8 +80,8 @@ end_free p ss name there = by (kept_named ss name) refl
 -- the steps of the editor's session
 steps_seen : (p : Project) (ss : List KeptSession) (name : List ℕ) (s : KeptSession) (steps : Session → List EditStep)
     → kept_named ss name ≡ Some s
-    → steps_of steps (session_of (seen (feature_at p.features) ss) name) ≡ steps (seen_session (feature_at p.features) s)
-steps_seen p ss name s steps e = ap (steps_of steps) (there_seen (feature_at p.features) ss name s e)
+    → steps_of steps (state_of p ss) name ≡ steps (seen_session (feature_at p.features) s)
+steps_seen p ss name s steps e = ap (λ (o : Option Session). option_map_or steps o []) (there_seen (feature_at p.features) ss name s e)
 
 no_steps : (s : KeptSession) (at : ℕ → Option Feature) → s.done ≡ [] → (seen_session at s).done ≡ []
 no_steps s at e = rw e refl
@@ -121,18 +122,18 @@ undo_free : (p q : Project) (ss ts : List KeptSession) (name : List ℕ) → IsW
     → refusal_of (state_of p ss) (Undo name) ≡ None
 undo_free p q ss ts name w d =
     let u = undo_done p q name ss ts w.keeping d in
-    let some : eqb (length (steps_of (λ (y : Session). y.done) (session_of (seen (feature_at p.features) ss) name))) 0 ≡ false =
-    ap (λ (o : Option Session). eqb (length (steps_of (λ (y : Session). y.done) o)) 0) u.session.there
-    ∙ some_done u.was.done u.is.done u.step u.undone.done in
+    let some : eqb (length (steps_of (λ (y : Session). y.done) (state_of p ss) name)) 0 ≡ false =
+    ap (λ (o : Option Session). eqb (length (option_map_or (λ (y : Session). y.done) o [])) 0) u.4.session.there
+    ∙ some_done u.1.done u.2.done u.0 u.3.done in
     rw (opened p ss name d.was d.change.there, some) refl
 
 redo_free : (p q : Project) (ss ts : List KeptSession) (name : List ℕ) → IsWorld p ss → calls.IsRedone (IsGroundSwap poster) name ss ts p q
     → refusal_of (state_of p ss) (Redo name) ≡ None
 redo_free p q ss ts name w d =
     let u = redo_done p q name ss ts w.keeping d in
-    let some : eqb (length (steps_of (λ (y : Session). y.undone) (session_of (seen (feature_at p.features) ss) name))) 0 ≡ false =
-    ap (λ (o : Option Session). eqb (length (steps_of (λ (y : Session). y.undone) o)) 0) u.session.there
-    ∙ some_undone u.was.undone u.is.undone u.step u.undone.undone in
+    let some : eqb (length (steps_of (λ (y : Session). y.undone) (state_of p ss) name)) 0 ≡ false =
+    ap (λ (o : Option Session). eqb (length (option_map_or (λ (y : Session). y.undone) o [])) 0) u.4.session.there
+    ∙ some_undone u.1.undone u.2.undone u.0 u.3.undone in
     rw (opened p ss name d.was d.change.there, some) refl
 
 -- ---- each line

@@ -73,7 +73,7 @@ may_begin = refl
 
 -- ann comes before bob
 ann_begins : IsDone begun (Begin ann) Done both
-ann_begins = (refl, record { project = refl; sessions = refl })
+ann_begins = (refl, refl)
 
 begin_again : refusal_of both (Begin bob) ≡ Some SessionOpen
 begin_again = refl
@@ -116,7 +116,8 @@ ann_moves = (
       };
       next = refl;
     };
-    noted = record { session = session ann [] []; change = record { there = refl; name = refl; sessions = refl } };
+    session = session ann [] [];
+    change = record { there = refl; name = refl; sessions = refl };
   },
 )
 
@@ -166,7 +167,8 @@ bob_adds = (
         entries = refl;
       };
     };
-    noted = record { session = session bob [] []; change = record { there = refl; name = refl; sessions = refl } };
+    session = session bob [] [];
+    change = record { there = refl; name = refl; sessions = refl };
   },
 )
 
@@ -182,30 +184,32 @@ ann_undoes : IsDone three (Undo ann) Done ann_back
 unfolding feature_at add_dirt envelope_of
 ann_undoes = (
   refl,
-  record {
-    step = moved_step;
-    was = session ann (moved_step ∷ []) [];
-    is = session ann [] (moved_step ∷ []);
-    session = record { there = refl; name = refl; sessions = refl };
-    undone = record { name = refl; done = refl; undone = refl };
-    set = record {
-      edit = record {
-        features = set_between 2 (well 1 (pos 0) (pos 0) ∷ []) (well 3 (pos 4) (pos 4) ∷ [])
-            (Some (well 2 (pos 2) (pos 2))) (Some (well 2 (pos 1) (pos 1))) (record {
-              before = (omega arith, tt);
-              own = refl;
-              after =
-                  (omega arith, tt);
-            }) (record { before = (omega arith, tt); own = refl; after = (omega arith, tt) });
-        dirt = refl;
-        classes =
-            refl;
-        rules = refl;
-        entries = refl;
+  (
+    moved_step,
+    session ann (moved_step ∷ []) [],
+    session ann [] (moved_step ∷ []),
+    record { name = refl; done = refl; undone = refl },
+    record {
+      session = record { there = refl; name = refl; sessions = refl };
+      set = record {
+        edit = record {
+          features = set_between 2 (well 1 (pos 0) (pos 0) ∷ []) (well 3 (pos 4) (pos 4) ∷ [])
+              (Some (well 2 (pos 2) (pos 2))) (Some (well 2 (pos 1) (pos 1))) (record {
+                before = (omega arith, tt);
+                own = refl;
+                after =
+                    (omega arith, tt);
+              }) (record { before = (omega arith, tt); own = refl; after = (omega arith, tt) });
+          dirt = refl;
+          classes =
+              refl;
+          rules = refl;
+          entries = refl;
+        };
+        next = refl;
       };
-      next = refl;
-    };
-  },
+    },
+  ),
 )
 
 still_held : refusal_of ann_back (Change bob 2 (point (pos 3) (pos 3))) ≡ Some (HeldBy ann)
@@ -225,26 +229,28 @@ bob_undoes : IsDone ann_back (Undo bob) Done bob_back
 unfolding feature_at add_dirt envelope_of
 bob_undoes = (
   refl,
-  record {
-    step = third;
-    was = session bob (third ∷ []) [];
-    is = session bob [] (third ∷ []);
-    session = record { there = refl; name = refl; sessions = refl };
-    undone = record { name = refl; done = refl; undone = refl };
-    set = record {
-      edit = record {
-        features = set_between 3 (well 1 (pos 0) (pos 0) ∷ well 2 (pos 1) (pos 1) ∷ []) []
-            (Some (well 3 (pos 4) (pos 4))) None (record { before = (omega arith, (omega arith, tt)); own = refl; after = tt })
-            (record { before = (omega arith, (omega arith, tt)); own = tt; after = tt });
-        dirt = refl;
-        classes = refl;
-        rules = refl;
-        entries =
-            refl;
+  (
+    third,
+    session bob (third ∷ []) [],
+    session bob [] (third ∷ []),
+    record { name = refl; done = refl; undone = refl },
+    record {
+      session = record { there = refl; name = refl; sessions = refl };
+      set = record {
+        edit = record {
+          features = set_between 3 (well 1 (pos 0) (pos 0) ∷ well 2 (pos 1) (pos 1) ∷ []) []
+              (Some (well 3 (pos 4) (pos 4))) None (record { before = (omega arith, (omega arith, tt)); own = refl; after = tt })
+              (record { before = (omega arith, (omega arith, tt)); own = tt; after = tt });
+          dirt = refl;
+          classes = refl;
+          rules = refl;
+          entries =
+              refl;
+        };
+        next = refl;
       };
-      next = refl;
-    };
-  },
+    },
+  ),
 )
 
 bob_has_none : refusal_of bob_back (Undo bob) ≡ Some NothingToUndo
@@ -254,26 +260,28 @@ bob_redoes : IsDone bob_back (Redo bob) Done ann_back
 unfolding feature_at add_dirt envelope_of
 bob_redoes = (
   refl,
-  record {
-    step = third;
-    was = session bob [] (third ∷ []);
-    is = session bob (third ∷ []) [];
-    session = record { there = refl; name = refl; sessions = refl };
-    undone = record { name = refl; done = refl; undone = refl };
-    set = record {
-      edit = record {
-        features = set_between 3 (well 1 (pos 0) (pos 0) ∷ well 2 (pos 1) (pos 1) ∷ []) [] None
-            (Some (well 3 (pos 4) (pos 4))) (record { before = (omega arith, (omega arith, tt)); own = tt; after = tt })
-            (record { before = (omega arith, (omega arith, tt)); own = refl; after = tt });
-        dirt = refl;
-        classes = refl;
-        rules = refl;
-        entries =
-            refl;
+  (
+    third,
+    session bob [] (third ∷ []),
+    session bob (third ∷ []) [],
+    record { name = refl; done = refl; undone = refl },
+    record {
+      session = record { there = refl; name = refl; sessions = refl };
+      set = record {
+        edit = record {
+          features = set_between 3 (well 1 (pos 0) (pos 0) ∷ well 2 (pos 1) (pos 1) ∷ []) [] None
+              (Some (well 3 (pos 4) (pos 4))) (record { before = (omega arith, (omega arith, tt)); own = tt; after = tt })
+              (record { before = (omega arith, (omega arith, tt)); own = refl; after = tt });
+          dirt = refl;
+          classes = refl;
+          rules = refl;
+          entries =
+              refl;
+        };
+        next = refl;
       };
-      next = refl;
-    };
-  },
+    },
+  ),
 )
 
 listed : reply_text (FeatureList ann_back.project) ≡ codes "feature 1 wells POINT (0 0)" ++ 10 ∷ codes "feature 2 wells POINT (1 1)" ++ 10 ∷
@@ -311,7 +319,7 @@ open_before_full = refl
 -- capitals come before small letters
 capital : IsDone (record { project = wells [] 1 []; sessions = named (codes "ann") ∷ [] }) (Begin (codes "Zed")) Done
     (record { project = wells [] 1 []; sessions = named (codes "Zed") ∷ named (codes "ann") ∷ [] })
-capital = (refl, record { project = refl; sessions = refl })
+capital = (refl, refl)
 
 -- ---- a deleted square comes back: its envelope is dirty
 abbrev square : ℤ → ℤ → Shape
@@ -347,24 +355,26 @@ returns : IsDone deleted (Undo ann) Done returned
 unfolding feature_at add_dirt envelope_of
 returns = (
   refl,
-  record {
-    step = gone;
-    was = session ann (gone ∷ []) [];
-    is = session ann [] (gone ∷ []);
-    session = record { there = refl; name = refl; sessions = refl };
-    undone = record { name = refl; done = refl; undone = refl };
-    set = record {
-      edit = record {
-        features = set_between 1 [] (lot 2 (pos 5) (pos 15) ∷ []) None (Some (lot 1 (pos 0) (pos 10)))
-            (record { before = tt; own = tt; after = (omega arith, tt) }) (record { before = tt; own = refl; after = (omega arith, tt) });
-        dirt = refl;
-        classes = refl;
-        rules = refl;
-        entries = refl;
+  (
+    gone,
+    session ann (gone ∷ []) [],
+    session ann [] (gone ∷ []),
+    record { name = refl; done = refl; undone = refl },
+    record {
+      session = record { there = refl; name = refl; sessions = refl };
+      set = record {
+        edit = record {
+          features = set_between 1 [] (lot 2 (pos 5) (pos 15) ∷ []) None (Some (lot 1 (pos 0) (pos 10)))
+              (record { before = tt; own = tt; after = (omega arith, tt) }) (record { before = tt; own = refl; after = (omega arith, tt) });
+          dirt = refl;
+          classes = refl;
+          rules = refl;
+          entries = refl;
+        };
+        next = refl;
       };
-      next = refl;
-    };
-  },
+    },
+  ),
 )
 
 dirty_again : reply_text (DirtyList returned.project) ≡ codes "dirty 0 0 10 10" ++ 10 ∷ codes "total 1" ++ 10 ∷ []

@@ -8,7 +8,7 @@ use Rattle.topology_terms.specs.Project.{Project}
 use Rattle.topology_terms.specs.Session.{EditStep, Session}
 use Rattle.session_terms.specs.Kept.{KeptStep, KeptSession, stood, done_of, seen_session, seen}
 use Rattle.session_terms.specs.KeptChanges.{IsSet, IsKeptUndone, IsKeptRedone, IsKeptChange, kept_named, with_kept, without_kept}
-use Rattle.session_terms.specs.Steps.{with_opened, AreAllApart, HoldsNone}
+use Rattle.session_terms.specs.Steps.{with_opened, without, AreAllApart, HoldsNone}
 use Rattle.session_terms.proofs.Seen.{seen_opened, seen_without, all_seen}
 use Rattle.session_terms.proofs.Chains.{HoldsNoneOf, named_apart}
 use Rattle.edit_session.specs.Grounds.{IsMayStand, may_in}
@@ -17,8 +17,9 @@ use Rattle.edit_session.specs.SessionsCalls as calls
 use Rattle.edit_session.proofs.Moves.{may_same, may_undone, may_redone}
 use Rattle.edit_session.specs.OverTopologies.{IsGroundSwap}
 use Rattle.edit_session.specs.OverTopologies as grounds
-use Rattle.script_terms.specs.Answer.{IsBegun, IsEnded, IsUndone, IsRedone, IsDiscarded, AreTakenBack}
+use Rattle.script_terms.specs.Answer.{IsUndone, IsRedone, IsDiscarded, AreTakenBack}
 use Rattle.script_terms.specs.Keeping.{IsKeeping}
+use Rattle.script_terms.specs.State.{State}
 use Rattle.script_terms.proofs.Bridges.{there_seen, undo_bridge, redo_bridge}
 use Rattle.script_terms.proofs.Commands.{begun_keeps, ended_keeps, discard_keeps, others_have, none_each}
 use Rattle.script_terms.proofs.Keeping.{undo_keeps, redo_keeps}
@@ -38,15 +39,15 @@ pub all_same : (p q : Project) (ss : List KeptSession) → q.classes ≡ p.class
 all_same p q ss c n h = all_still (May p) (May q) ss (λ k x. may_in p.classes q.classes p.next q.next k x c n) h
 
 -- ---- a session begins, and ends
+abbrev with_sessions : Project → List Session → State
+with_sessions p ss = record { project = p; sessions = ss }
+
 pub begin_done : (p : Project) (name : List ℕ) (ss ts : List KeptSession) → calls.IsBegun name ss ts
-    → IsBegun name (state_of p ss) (state_of p ts)
+    → state_of p ts ≡ record (state_of p ss) { sessions = with_opened (state_of p ss).sessions name }
 begin_done p name ss ts b =
     let at = feature_at p.features in
-    record {
-      project = refl;
-      sessions = ap (seen at) b.sessions ∙ (seen_opened at ss b.session b.done b.undone
-          ∙ ap (λ n. with_opened (seen at ss) n) b.named);
-    }
+    ap (with_sessions p) (ap (seen at) b.sessions ∙ (seen_opened at ss b.session b.done b.undone
+    ∙ ap (λ n. with_opened (seen at ss) n) b.named))
 
 pub begin_world : (p : Project) (name : List ℕ) (ss ts : List KeptSession) → calls.IsBegun name ss ts → IsWorld p ss → IsWorld p ts
 begin_world p name ss ts b w = record {
@@ -61,12 +62,8 @@ begin_world p name ss ts b w = record {
 }
 
 pub end_done : (p : Project) (name : List ℕ) (ss ts : List KeptSession) → ts ≡ without_kept ss name
-    → IsEnded name (state_of p ss) (state_of p ts)
-end_done p name ss ts e = record {
-  project = refl;
-  sessions = ap (seen (feature_at p.features)) e
-      ∙ seen_without (feature_at p.features) ss name;
-}
+    → state_of p ts ≡ record (state_of p ss) { sessions = without (state_of p ss).sessions name }
+end_done p name ss ts e = ap (with_sessions p) (ap (seen (feature_at p.features)) e ∙ seen_without (feature_at p.features) ss name)
 
 pub end_world : (p : Project) (name : List ℕ) (ss ts : List KeptSession) → ts ≡ without_kept ss name → IsWorld p ss → IsWorld p ts
 end_world p name ss ts e w = record {
@@ -83,15 +80,13 @@ step_done p q name s u ss ts t apart c d =
     let bt = feature_at q.features in
     let set : IsSet t.handle t.kept at bt = record { here = d.swap.set.edit.features.here; others = d.swap.set.edit.features.others } in
     let kept : IsKeptUndone s t (at t.handle) u = subst (λ x. IsKeptUndone s t x u) d.swap.stood d.session in
-    let b = undo_bridge at bt name s u ss ts t c kept set apart in
-    record {
-      step = record { handle = t.handle; before = t.kept; after = at t.handle };
-      was = seen_session at s;
-      is = seen_session bt u;
-      session = b.0;
-      undone = b.1;
-      set = d.swap.set;
-    }
+    let b = undo_bridge at bt name s u ss ts t c kept set apart in (
+      record { handle = t.handle; before = t.kept; after = at t.handle },
+      seen_session at s,
+      seen_session bt u,
+      b.1,
+      record { session = b.0; set = d.swap.set },
+    )
 
 pub undo_done : (p q : Project) (name : List ℕ) (ss ts : List KeptSession) → IsKeeping (state_of p ss)
     → calls.IsUndone (IsGroundSwap poster) name ss ts p q → IsUndone name (state_of p ss) (state_of q ts)
@@ -106,15 +101,13 @@ redo_done p q name ss ts k d =
     let r = d.redone.redone in
     let set : IsSet t.handle t.kept at bt = record { here = r.swap.set.edit.features.here; others = r.swap.set.edit.features.others } in
     let kept : IsKeptRedone d.was t (at t.handle) d.is = subst (λ x. IsKeptRedone d.was t x d.is) r.swap.stood r.session in
-    let b = redo_bridge at bt name d.was d.is ss ts t d.change kept set k.apart in
-    record {
-      step = record { handle = t.handle; before = at t.handle; after = t.kept };
-      was = seen_session at d.was;
-      is = seen_session bt d.is;
-      session = b.0;
-      undone = b.1;
-      set = r.swap.set;
-    }
+    let b = redo_bridge at bt name d.was d.is ss ts t d.change kept set k.apart in (
+      record { handle = t.handle; before = at t.handle; after = t.kept },
+      seen_session at d.was,
+      seen_session bt d.is,
+      b.1,
+      record { session = b.0; set = r.swap.set },
+    )
 
 -- the session of the name changed so that its steps may stand, and the others' still may
 pub may_changed : (p q : Project) (name : List ℕ) (s u : KeptSession) (ss ts : List KeptSession) → IsKeptChange name s u ss ts

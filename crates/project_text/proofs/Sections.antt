@@ -63,7 +63,7 @@ halves_spaced (h ∷ g ∷ hs) rest =
 class_same : (c : Class) → line_text (class_line c) ≡ class_text (Some c)
 class_same c = simp append_assoc refl
 
-rule_same : (cs : List Class) (q : InForce) → line_text (rule_line cs q) ≡ rule_text cs q
+pub rule_same : (cs : List Class) (q : InForce) → line_text (rule_line cs q) ≡ rule_text cs q
 rule_same cs q =
     let o = class_at cs q.row.origin.class in
     let d = class_at cs q.row.dest.class in
@@ -72,17 +72,17 @@ rule_same cs q =
     (spaced-append (name_in o) (name_in d) (10 ∷ []) ∙ (name_spaced o (spaced (name_in d) (10 ∷ []))
     ∙ ap (λ t. name_text o ++ t) (name_spaced d (10 ∷ []))))
 
-feature_same : (cs : List Class) (f : Feature) → line_text (feature_line cs f) ≡ feature_text cs f
+pub feature_same : (cs : List Class) (f : Feature) → line_text (feature_line cs f) ≡ feature_text cs f
 feature_same cs f =
     let o = class_at cs f.class in
     spaced_line (codes "feature") (decimal f.handle ∷ (name_in o ++ shape_text f.shape ∷ [])) (10 ∷ [])
     ∙ ap (λ t. codes "feature" ⧺ 32 ∷ decimal f.handle ⧺ t)
     (spaced-append (name_in o) (shape_text f.shape ∷ []) (10 ∷ []) ∙ name_spaced o (spaced (shape_text f.shape ∷ []) (10 ∷ [])))
 
-dirty_same : (r : Rectangle) → line_text (dirty_line r) ≡ dirty_text r
+pub dirty_same : (r : Rectangle) → line_text (dirty_line r) ≡ dirty_text r
 dirty_same r = spaced_line (codes "dirty") (rect_fields r) (10 ∷ []) ∙ ap (λ t. codes "dirty" ++ t) (rect_spaced r (10 ∷ []))
 
-error_same : (e : Entry) → line_text (error_line e) ≡ error_text e
+pub error_same : (e : Entry) → line_text (error_line e) ≡ error_text e
 error_same e =
     spaced_line (mark_word e.marked) (decimal e.rule ∷ decimal e.subject ∷ decimal e.other ∷ extent_word e.whole ∷ rect_fields e.frame)
     (10 ∷ [])
@@ -104,14 +104,14 @@ section f g same (x ∷ xs) ls =
     ap (λ t. t ++ flat_map line_text (map f xs ++ ls)) (same x) ∙ (ap (λ t. g x ++ t) (section f g same xs ls)
     ∙ sym (append_assoc (g x) (flat_map g xs) (flat_map line_text ls)))
 
-cells_same : (cs : List Cell) → flat_map line_text (map {A = Cell} cell_line cs) ≡ flat_map {X = Cell} cell_text cs
-cells_same [] = refl
-cells_same (c ∷ cs) = ap (λ t. t ++ flat_map line_text (map {A = Cell} cell_line cs)) (cell_same c)
-    ∙ ap (λ t. cell_text c ++ t) (cells_same cs)
+pub lines_same : {A : Type 0} (f : A → List (List ℕ)) (g : A → List ℕ) → ((x : A) → line_text (f x) ≡ g x) → (xs : List A)
+    → flat_map line_text (map f xs) ≡ flat_map g xs
+lines_same f g same [] = refl
+lines_same f g same (x ∷ xs) = ap (λ t. t ++ flat_map line_text (map f xs)) (same x) ∙ ap (λ t. g x ++ t) (lines_same f g same xs)
 
-error_all : (e : Entry) → flat_map line_text (error_lines e) ≡ error_texts e
+pub error_all : (e : Entry) → flat_map line_text (error_lines e) ≡ error_texts e
 error_all e = ap (λ t. t ++ flat_map line_text (map {A = Cell} cell_line e.cells)) (error_same e)
-    ∙ ap (λ t. error_text e ++ t) (cells_same e.cells)
+    ∙ ap (λ t. error_text e ++ t) (lines_same {A = Cell} cell_line cell_text cell_same e.cells)
 
 errors_same : (es : List Entry) (ls : List (List (List ℕ))) → flat_map line_text (flat_map error_lines es ++ ls) ≡ flat_map error_texts
     es ++ flat_map line_text ls

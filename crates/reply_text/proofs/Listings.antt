@@ -1,9 +1,12 @@
 -- Half-planes with commas between them, one item more at a time.
 use Rattle.std.proofs.Common.{ℕ, zero, suc, ◌≡◌, ◌<◌, ◌+◌, List, [], ◌∷◌, ◌++◌, length, drop, map, refl, ◌∙◌, ap, add-one, Some, arith}
 use Rattle.std.specs.Prelude.{slice_get}
+use Rattle.plane_terms.specs.Cell.{Cell}
+use Rattle.plane_terms.specs.HalfPlane.{HalfPlane}
 use Rattle.text_terms.specs.Wkt.{listed}
 use Rattle.wkt_laws.specs.Commas.{comma_texts}
 use Rattle.wkt_laws.proofs.Written.{listed_items}
+use Rattle.reply_text.specs.Lines.{half_text, halves_text}
 
 -- ---- commas
 
@@ -30,3 +33,9 @@ pub listed_first : {X : Type 0} (f : X → List ℕ) (xs : List X) (x : X) → s
     → listed (map f xs) ≡ f x ++ comma_texts f (drop 1 xs)
 listed_first f [] x at = cc
 listed_first f (y ∷ ys) x at = let e : y ≡ x = cc in listed_items f y ys ∙ ap (λ v. f v ++ comma_texts f ys) e
+
+-- the half-planes of a cell, behind a space
+pub halves_first : (c : Cell) (h : HalfPlane) → slice_get c 0 ≡ Some h
+    → halves_text c ≡ (32 ∷ []) ++ (half_text h ++ comma_texts half_text (drop 1 c))
+halves_first [] h at = cc
+halves_first (g ∷ c) h at = ap (λ t. 32 ∷ t) (listed_first half_text (g ∷ c) h at)

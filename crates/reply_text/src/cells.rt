@@ -1,8 +1,8 @@
-ghost use Rattle.std.specs.Prelude.{◌≡◌, ◌≤◌, ◌<◌, ◌++◌, map, flat_map, length, drop};
-ghost use Rattle.plane_terms.specs.HalfPlane.{HalfPlane};
-ghost use Rattle.text_terms.specs.Wkt.{listed};
+ghost use Rattle.std.specs.Prelude.{◌≡◌, ◌≤◌, ◌<◌, ◌++◌, flat_map, length, drop};
 ghost use Rattle.wkt_laws.specs.Commas.{comma_texts};
-ghost use Rattle.script_terms.specs.Reply.{half_text, op_text, cell_line, entry_lines, total_line};
+ghost use Rattle.project_terms.specs.Written.{op_word};
+ghost use Rattle.script_terms.specs.Reply.{total_line};
+ghost use Rattle.reply_text.specs.Lines.{half_text, halves_text, cell_line, entry_lines};
 ghost use Rattle.wkt_text.specs.Appended.{Appends};
 
 use crate::errors::push_entry_line;
@@ -12,7 +12,7 @@ use error_store::{Entry, Errors};
 use grid_plane::{Half, NoMemory, Op};
 
 fn op_word(op: Op) -> &'static [u8]
-    ensures { result.now ≡ op_text op }
+    ensures { result.now ≡ op_word op }
 {
     match op {
         Op::Over => b">",
@@ -45,14 +45,16 @@ fn push_more_halves(out: &mut Vec<u8>, cell: &Cell) -> Result<(), NoMemory>
     Ok(())
 }
 
-// The half-planes with commas between them.
+// The half-planes behind a space, with commas between them.
 fn push_halves(out: &mut Vec<u8>, cell: &Cell) -> Result<(), NoMemory>
-    ensures { Appends result out.old.items out.new.items (listed (map {A = HalfPlane} half_text cell.now)) }
+    ensures { Appends result out.old.items out.new.items (halves_text cell.now) }
 {
     if cell.len() == 0 {
         return Ok(());
     }
-    push_half(out, &cell.half(0))?;
+    let first = cell.half(0);
+    push_text(out, b" ")?;
+    push_half(out, &first)?;
     push_more_halves(out, cell)?;
     Ok(())
 }
@@ -60,7 +62,7 @@ fn push_halves(out: &mut Vec<u8>, cell: &Cell) -> Result<(), NoMemory>
 fn push_cell_line(out: &mut Vec<u8>, cell: &Cell) -> Result<(), NoMemory>
     ensures { Appends result out.old.items out.new.items (cell_line cell.now) }
 {
-    push_text(out, b"cell ")?;
+    push_text(out, b"cell")?;
     push_halves(out, cell)?;
     push_text(out, b"\n")?;
     Ok(())

@@ -1,5 +1,6 @@
 ghost use Rattle.std.specs.Prelude.{◌++◌, flat_map, length};
-ghost use Rattle.script_terms.specs.Reply.{dirty_line, total_line};
+ghost use Rattle.project_text.specs.Pushed.{dirty_text};
+ghost use Rattle.script_terms.specs.Reply.{total_line};
 ghost use Rattle.wkt_text.specs.Appended.{Appends};
 
 use crate::numbers::{push_rect, push_text, push_total};
@@ -7,7 +8,7 @@ use dirty_area::Dirt;
 use grid_plane::{NoMemory, Rect};
 
 fn push_dirty_line(out: &mut Vec<u8>, r: &Rect) -> Result<(), NoMemory>
-    ensures { Appends result out.old.items out.new.items (dirty_line r.now) }
+    ensures { Appends result out.old.items out.new.items (dirty_text r.now) }
 {
     push_text(out, b"dirty ")?;
     push_rect(out, r)?;
@@ -16,7 +17,7 @@ fn push_dirty_line(out: &mut Vec<u8>, r: &Rect) -> Result<(), NoMemory>
 }
 
 fn push_dirty_lines(out: &mut Vec<u8>, rects: &[Rect]) -> Result<(), NoMemory>
-    ensures { Appends result out.old.items out.new.items (flat_map dirty_line rects.now) }
+    ensures { Appends result out.old.items out.new.items (flat_map dirty_text rects.now) }
 {
     for r in rects {
         push_dirty_line(out, r)?;
@@ -26,7 +27,7 @@ fn push_dirty_lines(out: &mut Vec<u8>, rects: &[Rect]) -> Result<(), NoMemory>
 
 /// Appends a line for each dirty rectangle, in their order, and their number.
 pub fn push_dirty_list(out: &mut Vec<u8>, dirt: &Dirt) -> Result<(), NoMemory>
-    ensures { Appends result out.old.items out.new.items (flat_map dirty_line dirt.now ++ total_line (length dirt.now)) }
+    ensures { Appends result out.old.items out.new.items (flat_map dirty_text dirt.now ++ total_line (length dirt.now)) }
 {
     push_dirty_lines(out, dirt.rects())?;
     push_total(out, dirt.len())?;

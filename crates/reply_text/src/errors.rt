@@ -1,6 +1,7 @@
 ghost use Rattle.std.specs.Prelude.{◌≡◌, ◌++◌, flat_map, length};
 ghost use Rattle.topology_terms.specs.Extents.{is_whole};
-ghost use Rattle.script_terms.specs.Reply.{mark_text, key_text, extent_text, entry_line, total_line};
+ghost use Rattle.script_terms.specs.Reply.{total_line};
+ghost use Rattle.reply_text.specs.Lines.{mark_text, key_text, extent_text, entry_line};
 ghost use Rattle.wkt_text.specs.Appended.{Appends};
 
 use crate::numbers::{push_number, push_rect, push_text, push_total};

@@ -1,29 +1,30 @@
 ghost use Rattle.std.specs.Prelude.{◌++◌, flat_map, length};
-ghost use Rattle.script_terms.specs.Reply.{class_name, feature_line, total_line};
+ghost use Rattle.topology_terms.specs.Lookups.{class_at};
+ghost use Rattle.project_text.specs.Pushed.{feature_text, name_text};
+ghost use Rattle.script_terms.specs.Reply.{total_line};
 ghost use Rattle.wkt_text.specs.Appended.{Appends};
 
-use crate::numbers::{push_number, push_text, push_total};
+use crate::numbers::{push_field, push_number, push_text, push_total};
 use feature_store::Store;
 use grid_plane::NoMemory;
 use shape::Feature;
 use wkt_text::write_wkt;
 
-/// Appends the name of the class of this number; nothing where there is none.
+/// Appends a space and the name of the class of this number; nothing where there is none.
 pub fn push_class_name(out: &mut Vec<u8>, store: &Store, class: u16) -> Result<(), NoMemory>
-    ensures { Appends result out.old.items out.new.items (class_name store.now.classes class) }
+    ensures { Appends result out.old.items out.new.items (name_text (class_at store.now.classes class)) }
 {
     match store.class_name(class) {
-        Some(name) => push_text(out, name.bytes()),
+        Some(name) => push_field(out, name.bytes()),
         None => Ok(()),
     }
 }
 
 fn push_feature_line(out: &mut Vec<u8>, store: &Store, feature: &Feature) -> Result<(), NoMemory>
-    ensures { Appends result out.old.items out.new.items (feature_line store.now.classes feature.now) }
+    ensures { Appends result out.old.items out.new.items (feature_text store.now.classes feature.now) }
 {
     push_text(out, b"feature ")?;
     push_number(out, feature.handle())?;
-    push_text(out, b" ")?;
     push_class_name(out, store, feature.class())?;
     push_text(out, b" ")?;
     write_wkt(feature.shape(), out)?;
@@ -36,7 +37,7 @@ fn push_feature_lines(
     store: &Store,
     features: &[Feature],
 ) -> Result<(), NoMemory>
-    ensures { Appends result out.old.items out.new.items (flat_map (feature_line store.now.classes) features.now) }
+    ensures { Appends result out.old.items out.new.items (flat_map (feature_text store.now.classes) features.now) }
 {
     for feature in features {
         push_feature_line(out, store, feature)?;
@@ -46,7 +47,7 @@ fn push_feature_lines(
 
 /// Appends a line for each live feature, in the order of their handles, and their number.
 pub fn push_feature_list(out: &mut Vec<u8>, store: &Store) -> Result<(), NoMemory>
-    ensures { Appends result out.old.items out.new.items (flat_map (feature_line store.now.classes) store.now.features ++ total_line (length store.now.features)) }
+    ensures { Appends result out.old.items out.new.items (flat_map (feature_text store.now.classes) store.now.features ++ total_line (length store.now.features)) }
 {
     push_feature_lines(out, store, store.features())?;
     push_total(out, store.len())?;

@@ -1,4 +1,6 @@
-ghost use Rattle.script_terms.specs.Reply.{rect_text, total_line};
+ghost use Rattle.std.specs.Prelude.{◌∷◌};
+ghost use Rattle.script_terms.specs.Reply.{total_line};
+ghost use Rattle.reply_text.specs.Lines.{rect_text};
 ghost use Rattle.wkt_text.specs.Appended.{Appends};
 
 use grid_plane::{NoMemory, Rect};
@@ -9,6 +11,15 @@ pub fn push_text(out: &mut Vec<u8>, text: &[u8]) -> Result<(), NoMemory>
     ensures { Appends result out.old.items out.new.items text.now }
 {
     out.extend_from_slice(text)?;
+    Ok(())
+}
+
+/// Appends a space and the field.
+pub fn push_field(out: &mut Vec<u8>, field: &[u8]) -> Result<(), NoMemory>
+    ensures { Appends result out.old.items out.new.items (32 ∷ field.now) }
+{
+    push_text(out, b" ")?;
+    push_text(out, field)?;
     Ok(())
 }
 

@@ -1,7 +1,6 @@
 ghost use Rattle.std.specs.Prelude.{◌++◌, flat_map, length};
-ghost use Rattle.std.specs.Option.{option_map_or};
-ghost use Rattle.std.specs.NonZero.{non_zero_u16_get};
-ghost use Rattle.script_terms.specs.Reply.{dest_text, row_text, rule_line, total_line};
+ghost use Rattle.script_terms.specs.Reply.{total_line};
+ghost use Rattle.reply_text.specs.Lines.{row_text, rule_line};
 ghost use Rattle.wkt_text.specs.Appended.{Appends};
 
 use crate::features::push_class_name;
@@ -9,28 +8,14 @@ use crate::numbers::{push_number, push_text, push_total};
 use feature_store::Store;
 use grid_plane::NoMemory;
 use rule_core::{InForce, RuleRow};
-use std::num::NonZeroU16;
-
-// The name of the class that is second in a rule, behind a blank; nothing where the rule has none.
-fn push_dest(out: &mut Vec<u8>, store: &Store, dest: Option<NonZeroU16>) -> Result<(), NoMemory>
-    ensures { Appends result out.old.items out.new.items (dest_text store.now.classes (option_map_or non_zero_u16_get dest 0)) }
-{
-    let Some(dest) = dest else {
-        return Ok(());
-    };
-    push_text(out, b" ")?;
-    push_class_name(out, store, dest.get())?;
-    Ok(())
-}
 
 // The word of the rule, and the names of its classes.
 fn push_row(out: &mut Vec<u8>, store: &Store, row: &RuleRow) -> Result<(), NoMemory>
     ensures { Appends result out.old.items out.new.items (row_text store.now.classes row.now) }
 {
     push_text(out, row.kind.word().as_bytes())?;
-    push_text(out, b" ")?;
     push_class_name(out, store, row.origin)?;
-    push_dest(out, store, row.dest)?;
+    push_class_name(out, store, row.dest_number())?;
     Ok(())
 }
 

@@ -3,13 +3,13 @@ use Rattle.std.proofs.Common.{ℕ, ◌≡◌, ◌≢◌, Bool, true, false, List
 use Rattle.std.specs.Prelude.{if◌then◌else◌, bytes_eq}
 use Rattle.std.specs.Option.{option_map}
 use Rattle.topology_terms.specs.Feature.{Feature}
-use Rattle.topology_terms.specs.Session.{EditStep, Session, session_of}
+use Rattle.topology_terms.specs.Session.{EditStep, Session, session_of, with_step}
 use Rattle.session_terms.specs.Kept.{KeptStep, KeptSession, seen_session, seen}
 use Rattle.session_terms.specs.KeptChanges.{IsSet, IsKeptUndone, IsKeptRedone, IsKeptNoted, IsSameButRoom, IsKeptChange, kept_named, with_kept}
 use Rattle.session_terms.specs.Steps.{IsUndoneTo, AreAllApart, IsAlone}
 use Rattle.session_terms.proofs.Seen.{undo_seen, redo_seen, note_seen, same_seen, seen_named, seen_with, same_name, other_name}
 use Rattle.session_terms.proofs.Chains.{named_apart}
-use Rattle.script_terms.specs.Answer.{IsSessionChanged, IsNoted}
+use Rattle.script_terms.specs.Answer.{IsSessionChanged}
 use Rattle.script_terms.proofs.Keeping.{own_alone, last_there, first_there}
 
 pub there_seen : (at : ℕ → Option Feature) (ss : List KeptSession) (name : List ℕ) (s : KeptSession) → kept_named ss name ≡ Some s
@@ -46,6 +46,11 @@ redo_bridge at bt name s u ss ts t c k set apart =
     let a = named_apart (seen at ss) name (seen_session at s) (there_seen at ss name s c.there) apart in
     let alone = own_alone (seen at ss) (seen_session at s) t.handle (first_there (seen_session at s) (seen_session bt u) e d) a.1 in
     (changed_seen at bt name s u ss ts t.handle c set.others apart alone, d)
+
+-- the step is the last done one of the editor's session
+pub record IsNoted (editor : List ℕ) (t : EditStep) (old new : List Session) : Type 0 where
+  pub session : Session
+  pub change : IsSessionChanged editor session (with_step session t) old new
 
 -- `IsAlone` is what a passed E20 gives, or a handle that is new
 pub note_bridge : (at bt : ℕ → Option Feature) (name : List ℕ) (s u : KeptSession) (ss ts : List KeptSession) (h : ℕ) (x : Option Feature)

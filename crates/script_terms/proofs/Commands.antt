@@ -16,7 +16,7 @@ use Rattle.session_terms.proofs.Chains.{HoldsNoneOf, apart_none, other_chained, 
 use Rattle.script_terms.specs.State.{State, is_open}
 use Rattle.plane_terms.specs.Shape.{Shape}
 use Rattle.topology_terms.specs.Changes.{IsFeatureAdded}
-use Rattle.script_terms.specs.Answer.{IsBegun, IsEnded, IsDiscarded, AreTakenBack, LeavesNoted, added_step}
+use Rattle.script_terms.specs.Answer.{IsDiscarded, AreTakenBack, LeavesNoted, added_step}
 use Rattle.script_terms.specs.Keeping.{IsKeeping}
 use Rattle.script_terms.proofs.Keeping.{set_to, named_has, changed_keeps, end_below}
 
@@ -51,7 +51,8 @@ each_opened P (o ∷ ss) name p h = by (is_below name o.name) (each_opened P ss 
     by true r = (p, h)
     by false r = (h.0, r)
 
-pub begun_keeps : (editor : List ℕ) (old new : State) → IsKeeping old → is_open old editor ≡ false → IsBegun editor old new → IsKeeping new
+pub begun_keeps : (editor : List ℕ) (old new : State) → IsKeeping old → is_open old editor ≡ false
+    → new ≡ record old { sessions = with_opened old.sessions editor } → IsKeeping new
 begun_keeps editor old new k free d =
     let m : State = record { project = old.project; sessions = with_opened old.sessions editor } in
     let here : IsKeeping m = record {
@@ -59,9 +60,10 @@ begun_keeps editor old new k free d =
       chained = each_opened (IsChained (feature_at old.project.features)) old.sessions editor refl k.chained;
       given = each_opened (IsBelow old.project.next) old.sessions editor (record { done = tt; undone = tt }) k.given;
     } in
-    same_keeps m new here d.sessions (ap (λ (p : Project). p.features) d.project) (ap (λ (p : Project). p.next) d.project)
+    equal_keeps m new here d
 
-pub ended_keeps : (editor : List ℕ) (old new : State) → IsKeeping old → IsEnded editor old new → IsKeeping new
+pub ended_keeps : (editor : List ℕ) (old new : State) → IsKeeping old → new ≡ record old { sessions = without old.sessions editor }
+    → IsKeeping new
 ended_keeps editor old new k d =
     let m : State = record { project = old.project; sessions = without old.sessions editor } in
     let here : IsKeeping m = record {
@@ -69,7 +71,7 @@ ended_keeps editor old new k d =
       chained = every_without (IsChained (feature_at old.project.features)) old.sessions editor k.chained;
       given = every_without (IsBelow old.project.next) old.sessions editor k.given;
     } in
-    same_keeps m new here d.sessions (ap (λ (p : Project). p.features) d.project) (ap (λ (p : Project). p.next) d.project)
+    equal_keeps m new here d
 
 -- ---- a session is discarded
 behind_has : (P : Session → Type 0) (o : Session) (ss : List Session) (name : List ℕ) → o.name ≡ name → Every (AreApart o) ss
@@ -149,7 +151,7 @@ pub added_keeps : (editor : List ℕ) (class : ℕ) (shape : Shape) (h : ℕ) (o
 added_keeps editor class shape h old new k d =
     let f = feature_at old.project.features in
     let e = feature_at new.project.features in
-    let s = d.noted.session in let ch = d.noted.change in
+    let s = d.session in let ch = d.change in
     let x : Option Feature = Some (record { handle = h; class = class; shape = shape }) in
     let t : EditStep = record { handle = h; before = None; after = x } in
     let p = d.project in

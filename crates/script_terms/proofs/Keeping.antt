@@ -99,31 +99,31 @@ pub undo_keeps : (editor : List ℕ) (old new : State) → IsKeeping old → IsU
 undo_keeps editor old new k d =
     let f = feature_at old.project.features in
     let e = feature_at new.project.features in
-    let s = d.was in let u = d.is in let t = d.step in
-    let set = d.set.edit.features in
-    let a = named_apart old.sessions editor s d.session.there k.apart in
-    let c = named_has (IsChained f) old.sessions editor s d.session.there k.chained in
-    let b = named_has (IsBelow old.project.next) old.sessions editor s d.session.there k.given in
-    changed_keeps old new editor s u t.handle t.before k d.session set (each_same old.project.next new.project.next old.sessions d.set.next
+    let t = d.0 in let s = d.1 in let u = d.2 in
+    let set = d.4.set.edit.features in
+    let a = named_apart old.sessions editor s d.4.session.there k.apart in
+    let c = named_has (IsChained f) old.sessions editor s d.4.session.there k.chained in
+    let b = named_has (IsBelow old.project.next) old.sessions editor s d.4.session.there k.given in
+    changed_keeps old new editor s u t.handle t.before k d.4.session set (each_same old.project.next new.project.next old.sessions d.4.set.next
     k.given)
-    (own_alone old.sessions s t.handle (last_there s u t d.undone) a.1) (undo_apart s u t old.sessions d.undone a.1)
-    (undo_chained f e s u t d.undone (set_to t.handle t.before old.project.features new.project.features set) c)
-    (undone_below new.project.next s u t d.undone (rw d.set.next b))
+    (own_alone old.sessions s t.handle (last_there s u t d.3) a.1) (undo_apart s u t old.sessions d.3 a.1)
+    (undo_chained f e s u t d.3 (set_to t.handle t.before old.project.features new.project.features set) c)
+    (undone_below new.project.next s u t d.3 (rw d.4.set.next b))
 
 pub redo_keeps : (editor : List ℕ) (old new : State) → IsKeeping old → IsRedone editor old new → IsKeeping new
 redo_keeps editor old new k d =
     let f = feature_at old.project.features in
     let e = feature_at new.project.features in
-    let s = d.was in let u = d.is in let t = d.step in
-    let set = d.set.edit.features in
-    let a = named_apart old.sessions editor s d.session.there k.apart in
-    let c = named_has (IsChained f) old.sessions editor s d.session.there k.chained in
-    let b = named_has (IsBelow old.project.next) old.sessions editor s d.session.there k.given in
-    changed_keeps old new editor s u t.handle t.after k d.session set (each_same old.project.next new.project.next old.sessions d.set.next
+    let t = d.0 in let s = d.1 in let u = d.2 in
+    let set = d.4.set.edit.features in
+    let a = named_apart old.sessions editor s d.4.session.there k.apart in
+    let c = named_has (IsChained f) old.sessions editor s d.4.session.there k.chained in
+    let b = named_has (IsBelow old.project.next) old.sessions editor s d.4.session.there k.given in
+    changed_keeps old new editor s u t.handle t.after k d.4.session set (each_same old.project.next new.project.next old.sessions d.4.set.next
     k.given)
-    (own_alone old.sessions s t.handle (first_there s u t d.undone) a.1) (redo_apart s u t old.sessions d.undone a.1)
-    (redo_chained f e s u t d.undone (set_to t.handle t.after old.project.features new.project.features set) c)
-    (redone_below new.project.next s u t d.undone (rw d.set.next b))
+    (own_alone old.sessions s t.handle (first_there s u t d.3) a.1) (redo_apart s u t old.sessions d.3 a.1)
+    (redo_chained f e s u t d.3 (set_to t.handle t.after old.project.features new.project.features set) c)
+    (redone_below new.project.next s u t d.3 (rw d.4.set.next b))
 
 -- an edit of a handle that no other session holds
 pub altered_keeps : (editor : List ℕ) (h : ℕ) (x : Option Feature) (old new : State) → IsKeeping old → IsAlone old.sessions editor h
@@ -132,7 +132,7 @@ pub altered_keeps : (editor : List ℕ) (h : ℕ) (x : Option Feature) (old new 
 altered_keeps editor h x old new k alone given d =
     let f = feature_at old.project.features in
     let e = feature_at new.project.features in
-    let s = d.noted.session in let ch = d.noted.change in
+    let s = d.session in let ch = d.change in
     let t : EditStep = record { handle = h; before = feature_at old.project.features h; after = x } in
     let set = d.project.edit.features in
     let a = named_apart old.sessions editor s ch.there k.apart in

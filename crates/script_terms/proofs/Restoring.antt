@@ -16,15 +16,15 @@ use Rattle.session_terms.proofs.Relation.{differ}
 
 pub undo_restores : (editor : List ℕ) (old new : State) → IsKeeping old → IsUndone editor old new → IsRestored editor old new
 undo_restores editor old new k d = record {
-  session = d.was;
-  there = d.session.there;
-  earlier = d.is.done;
-  step = d.step;
-  last = d.undone.done;
-  left = last_left (feature_at old.project.features) d.was d.is.done d.step d.undone.done
-      (named_has (IsChained (feature_at old.project.features)) old.sessions editor d.was d.session.there k.chained);
-  back = d.set.edit.features.here;
-  others = d.set.edit.features.others;
+  session = d.1;
+  there = d.4.session.there;
+  earlier = d.2.done;
+  step = d.0;
+  last = d.3.done;
+  left = last_left (feature_at old.project.features) d.1 d.2.done d.0 d.3.done
+      (named_has (IsChained (feature_at old.project.features)) old.sessions editor d.1 d.4.session.there k.chained);
+  back = d.4.set.edit.features.here;
+  others = d.4.set.edit.features.others;
 }
 
 pub taken_at : (ts : List EditStep) (old new : Project) (k : ℕ) → AreTakenBack ts old new

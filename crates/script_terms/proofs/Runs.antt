@@ -1,7 +1,7 @@
 -- Each line of a run, and so each run, keeps sessions apart and chained.
 use Rattle.std.proofs.Common.{ℕ, ◌≡◌, ◌<◌, Bool, true, false, List, [], ◌∷◌, Option, Some, None, refl, ◌∙◌, ap, subst, eqb}
 use Rattle.std.proofs.lemmas.Slice.Eq.{bytes_eq-Decides}
-use Rattle.std.specs.Prelude.{if◌then◌else◌, bytes_eq, not, is_some, is_none}
+use Rattle.std.specs.Prelude.{if◌then◌else◌, bytes_eq, not, is_some, is_none, unwrap_or}
 use Rattle.plane_terms.specs.Lists.{Every}
 use Rattle.topology_terms.specs.Feature.{Feature, feature_at}
 use Rattle.topology_terms.specs.Project.{IsOrdered}
@@ -17,7 +17,7 @@ use Rattle.topology_terms.specs.declared.cause.Cause.TheVariants.{NoFeature}
 use Rattle.script_terms.specs.Refusal.{Refusal, HeldBy, NoSession, SessionOpen}
 use Rattle.script_terms.specs.Reply.{Reply}
 use Rattle.script_terms.specs.State.{State, empty_state, is_open}
-use Rattle.script_terms.specs.Refusing.{refusal_of, held, held_by, changes, number_or_0}
+use Rattle.script_terms.specs.Refusing.{refusal_of, held_by, changes}
 use Rattle.script_terms.specs.Answer.{answers_by, IsDone}
 use Rattle.script_terms.specs.Run.{Outcome, Reading, Reads, Faulty, Run, ComesOf, EachKeeping, last_state}
 use Rattle.script_terms.specs.Keeping.{IsKeeping}
@@ -66,12 +66,12 @@ live_below n (f ∷ F) h a e = by (eqb f.handle h) refl e (λ r. live_below n F 
 
 -- an edit of a live handle that is not refused
 pub may_edit : (s : State) (editor : List ℕ) (h : ℕ) (rest : List (Option Refusal)) → IsKeeping s → IsOrdered s.project
-    → first_of (when (not (is_open s editor)) NoSession ∷ changes (delete_cause s.project.features h) ∷ held s editor h ∷ rest) ≡ None
+    → first_of (when (not (is_open s editor)) NoSession ∷ changes (delete_cause s.project.features h) ∷ held_by (holder s.sessions h) editor ∷ rest) ≡ None
     → IsAlone s.sessions editor h × (h < s.project.next)
 may_edit s editor h rest k ord n =
-    let a = first_none (when (not (is_open s editor)) NoSession) (changes (delete_cause s.project.features h) ∷ held s editor h ∷ rest) n in
-    let b = first_none (changes (delete_cause s.project.features h)) (held s editor h ∷ rest) a.1 in
-    let c = first_none (held s editor h) rest b.1 in
+    let a = first_none (when (not (is_open s editor)) NoSession) (changes (delete_cause s.project.features h) ∷ held_by (holder s.sessions h) editor ∷ rest) n in
+    let b = first_none (changes (delete_cause s.project.features h)) (held_by (holder s.sessions h) editor ∷ rest) a.1 in
+    let c = first_none (held_by (holder s.sessions h) editor) rest b.1 in
     let absent = when_none (is_none (feature_at s.project.features h)) NoFeature (changes_none (delete_cause s.project.features h) b.0) in (
       by_none s.sessions (holder s.sessions h) editor h k.apart refl c.0,
       live_below s.project.next s.project.features h ord.next (is_there (feature_at s.project.features h) absent),
@@ -79,7 +79,7 @@ may_edit s editor h rest k ord n =
 
 pub done_keeps : (old : State) (c : Command) (reply : Reply) (new : State) → IsKeeping old → IsOrdered old.project → refusal_of old c ≡ None
     → IsDone old c reply new → IsKeeping new
-done_keeps old Blank reply new k ord n d = equal_keeps old new k d.1.same
+done_keeps old Blank reply new k ord n d = equal_keeps old new k d.1
 done_keeps old (Class name kd) reply new k ord n d = same_keeps old new k d.1.sessions d.1.project.features d.1.project.next
 done_keeps old (Rule r o e) reply new k ord n d = same_keeps old new k d.2.sessions d.2.project.features d.2.project.next
 done_keeps old (DropRule r) reply new k ord n d = same_keeps old new k d.1.sessions d.1.project.features d.1.project.next
@@ -87,7 +87,7 @@ done_keeps old (Begin editor) reply new k ord n d = begun_keeps editor old new k
     (when_none (is_open old editor) SessionOpen (first_none (when (is_open old editor) SessionOpen) _ n).0) d.1
 done_keeps old (End editor) reply new k ord n d = ended_keeps editor old new k d.1
 done_keeps old (Discard editor) reply new k ord n d = discard_keeps editor old new k d.1
-done_keeps old (Add editor class shape) reply new k ord n d = added_keeps editor (number_or_0 (class_number old.project class)) shape d.0
+done_keeps old (Add editor class shape) reply new k ord n d = added_keeps editor (unwrap_or (class_number old.project class) 0) shape d.0
     old new k d.2
 done_keeps old (Change editor h shape) reply new k ord n d = let m = may_edit old editor h _ k ord n
     in altered_keeps editor h (reshaped (feature_at old.project.features h) shape) old new k m.0 m.1 d.1
@@ -95,21 +95,20 @@ done_keeps old (Delete editor h) reply new k ord n d = let m = may_edit old edit
     in altered_keeps editor h None old new k m.0 m.1 d.1
 done_keeps old (Undo editor) reply new k ord n d = undo_keeps editor old new k d.1
 done_keeps old (Redo editor) reply new k ord n d = redo_keeps editor old new k d.1
-done_keeps old (Validate w) reply new k ord n d = same_keeps old new k d.4.sessions d.4.project.validated.features
-    d.4.project.validated.next
+done_keeps old (Validate w) reply new k ord n d = same_keeps old new k d.2.sessions d.2.project.features d.2.project.next
 done_keeps old (Mark r h g) reply new k ord n d = same_keeps old new k d.1.sessions d.1.project.marking.features d.1.project.marking.next
 done_keeps old (Unmark r h g) reply new k ord n d = same_keeps old new k d.1.sessions d.1.project.marking.features d.1.project.marking.next
-done_keeps old Dirty reply new k ord n d = equal_keeps old new k d.1.same
-done_keeps old Errors reply new k ord n d = equal_keeps old new k d.1.same
-done_keeps old Cells reply new k ord n d = equal_keeps old new k d.1.same
-done_keeps old Features reply new k ord n d = equal_keeps old new k d.1.same
-done_keeps old Rules reply new k ord n d = equal_keeps old new k d.1.same
+done_keeps old Dirty reply new k ord n d = equal_keeps old new k d.1
+done_keeps old Errors reply new k ord n d = equal_keeps old new k d.1
+done_keeps old Cells reply new k ord n d = equal_keeps old new k d.1
+done_keeps old Features reply new k ord n d = equal_keeps old new k d.1
+done_keeps old Rules reply new k ord n d = equal_keeps old new k d.1
 
 -- a command that is answered
 pub answers_keep : (old : State) (c : Command) (reply : Reply) (new : State) (o : Option Refusal) → refusal_of old c ≡ o → IsKeeping old
     → IsOrdered old.project → answers_by o old c reply new → IsKeeping new
 answers_keep old c reply new None e k ord a = done_keeps old c reply new k ord e a
-answers_keep old c reply new (Some r) e k ord a = equal_keeps old new k a.1.same
+answers_keep old c reply new (Some r) e k ord a = equal_keeps old new k a.1
 
 comes_keep : (s : State) (r : Reading) (o : Outcome) → IsKeeping s → IsOrdered s.project → ComesOf s r o → IsKeeping o.after
 comes_keep s (Reads c) o k ord a = answers_keep s c a.0 o.after (refusal_of s c) refl k ord a.1

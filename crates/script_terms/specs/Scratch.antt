@@ -1,6 +1,6 @@
 -- The errors of one full validation from scratch, as a list.
 --
--- Found                an error without its mark and its frame
+-- Found                an error without its mark and its frame: its rule, its subject, and what is found
 -- found_of e           what is so of the error e
 -- from_scratch p       of the project p: under each rule in force, of each live feature, what the rule cuts; in the order of the rules'
 --                      numbers, then of the features' handles, then of the partners
@@ -8,30 +8,23 @@
 -- AreFromScratch p es  the errors es are those, marks aside
 --
 -- It names no dirt and no errors that were there before. Source: own.
-use Rattle.std.specs.Prelude.{◌≡◌, ℕ, Bool, true, false, List, map, flat_map, Some}
+use Rattle.std.specs.Prelude.{◌≡◌, ℕ, true, false, List, map, flat_map, Some}
 use Rattle.plane_terms.specs.Lists.{Every}
-use Rattle.plane_terms.specs.Cell.{Cell, IsLeastFrame}
+use Rattle.plane_terms.specs.Cell.{IsLeastFrame}
 use Rattle.topology_terms.specs.Feature.{Feature, feature_at, env}
 use Rattle.topology_terms.specs.Meaning.{Finding}
 use Rattle.topology_terms.specs.Plans.{cutting_of}
 use Rattle.topology_terms.specs.Entry.{Entry}
 use Rattle.topology_terms.specs.Project.{InForce, Project}
 
-pub record Found : Type 0 where
-  pub rule : ℕ
-  pub subject : ℕ
-  pub other : ℕ
-  pub whole : Bool
-  pub cells : List Cell
+abbrev pub Found : Type 0
+Found = ℕ × ℕ × Finding
 
 abbrev pub found_of : Entry → Found
-found_of e = record { rule = e.rule; subject = e.subject; other = e.other; whole = e.whole; cells = e.cells }
-
-abbrev pub found_as : ℕ → ℕ → Finding → Found
-found_as r a x = record { rule = r; subject = a; other = x.other; whole = x.whole; cells = x.cells }
+found_of e = (e.rule, e.subject, record { other = e.other; whole = e.whole; cells = e.cells })
 
 abbrev pub found_under : List Feature → InForce → List Found
-found_under F q = flat_map (λ (f : Feature). map (found_as q.number f.handle) (cutting_of q.row F f)) F
+found_under F q = flat_map (λ (f : Feature). map (λ (x : Finding). (q.number, f.handle, x)) (cutting_of q.row F f)) F
 
 abbrev pub from_scratch : Project → List Found
 from_scratch p = flat_map (found_under p.features) p.rules

@@ -29,13 +29,13 @@ one_step C s line o p a b = by a.reading b.reading a.reads b.reads a.comes b.com
     by : (x y : Reading) → ReadsAs line x → ReadsAs line y → ComesOf s x o → ComesOf s y p → o ≡ p
     by (Reads c) (Faulty r) i j k l = absurd (j.0 c i)
     by (Faulty r) (Reads c) i j k l = absurd (i.0 c j)
-    by (Faulty r) (Faulty q) i j k l = replies o p (Refused (Line r)) (Refused (Line q)) k.1.text k.1.refused l.1.text l.1.refused
+    by (Faulty r) (Faulty q) i j k l = replies o p (Refused (Line r)) (Refused (Line q)) k.1 k.2 l.1 l.2
         (ap (λ x. Refused (Line x)) (one_line_fault line r q i.1 j.1)) (k.0 ∙ sym l.0)
     by (Reads c) (Reads d) i j k l =
         let same : c ≡ d = one_command line c d i j in
         let l' = subst (λ (e : Command). ComesOf s (Reads e) p) (sym same) l in
         let answer = one_answer C s o.after p.after c k.0 l'.0 a.ordered b.ordered k.1 l'.1 in
-        replies o p k.0 l'.0 k.2.text k.2.refused l'.2.text l'.2.refused answer.0 answer.1
+        replies o p k.0 l'.0 k.2 k.3 l'.2 l'.3 answer.0 answer.1
 
 pub one_run : CutsRight poster → (s : State) (lines : List (List ℕ)) (os ps : List Outcome) → Run s lines os
     → Run s lines ps → os ≡ ps

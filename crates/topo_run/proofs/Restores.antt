@@ -29,7 +29,7 @@ command_done s line c o step is free = by step.reading step.reads step.comes
     by (Reads d) reads comes =
         let same : d ≡ c = one_command line d c reads is in
         let k = subst (λ (e : Command). ComesOf s (Reads e) o) same comes in
-        (k.0, done (refusal_of s c) k.0 k.1 (sym k.2.refused ∙ free))
+        (k.0, done (refusal_of s c) k.0 k.1 (sym k.3 ∙ free))
 
 pub undo_there : (s : State) (line editor : List ℕ) (o : Outcome) → IsKeeping s → Step s line o → IsCommandLine line (Undo editor)
     → o.refused ≡ false → IsRestored editor s o.after

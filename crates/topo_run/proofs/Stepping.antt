@@ -53,8 +53,7 @@ none_tried None s t c r done h = done h
 
 tried : (s t : State) (c : Command) (r : replies.Reply) → Answers s c r t → Judges s c (judged_said r)
 tried s t (Validate w) r h =
-    let v = h.4.project in
-    (v.selected, v.those, ap judged_said h.3 ∙ v.judged_is)
+    (h.1.0, h.1.1, ap judged_said h.3 ∙ h.1.2)
 tried s t Blank r h = none_tried (refusal_of s Blank) s t Blank r (λ d. ap judged_said d.0) h
 tried s t (Class name k) r h = none_tried (refusal_of s (Class name k)) s t (Class name k) r (λ d. ap judged_said d.0) h
 tried s t (Rule k o d) r h = none_tried (refusal_of s (Rule k o d)) s t (Rule k o d) r (λ e. ap judged_said e.1) h
@@ -90,7 +89,7 @@ answers s t line c r reads answer ordered keeps = record {
   step = record {
     reading = Reads c;
     reads = reads;
-    comes = (said_of t.project r, answer, record { text = refl; refused = refl });
+    comes = (said_of t.project r, answer, refl, refl);
     ordered = ordered;
   };
   keeps = keeps;
@@ -107,7 +106,7 @@ refuses s line r ordered keeps none fault = record {
   step = record {
     reading = Faulty r;
     reads = (none, fault);
-    comes = (refl, record { text = refl; refused = refl });
+    comes = (refl, refl, refl);
     ordered = ordered;
   };
   keeps = keeps;

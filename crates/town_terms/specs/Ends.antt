@@ -17,26 +17,23 @@
 -- In every state of the run the invariant holds. Source: own.
 use Rattle.std.specs.Prelude.{ℕ, ◌≡◌, ◌⊎◌, Bool, true, false, List, [], ◌∷◌, ◌++◌, length, sum}
 use Rattle.std.specs.Io.KnownBytes.{Appends}
-use Rattle.plane_terms.specs.Lists.{IsThose}
 use Rattle.text_terms.specs.Lines.{lines_of}
-use Rattle.topology_terms.specs.Feature.{Feature}
 use Rattle.topology_terms.specs.Project.{Project}
-use Rattle.topology_terms.specs.Changes.{IsSelected}
-use Rattle.topology_terms.specs.Counts.{raised, judged_of}
+use Rattle.topology_terms.specs.Counts.{raised}
 use Rattle.line_terms.specs.Commands.{Command, Validate}
 use Rattle.outside_terms.specs.Faults.{Rose}
 use Rattle.outside_terms.specs.Reads.{Passage}
 use Rattle.outside_terms.specs.declared.status.Status.{Status}
 use Rattle.outside_terms.specs.declared.status.Status.TheVariants as status
 use Rattle.script_terms.specs.State.{State, empty_state}
+use Rattle.script_terms.specs.Answer.{Tries}
 use Rattle.script_terms.specs.Reply.{reply_text, CellList, FeatureList}
 use Rattle.script_terms.specs.Run.{Reading, Reads, Faulty, ReadsAs, Outcome, Run, any_refused, last_state, EachInvariant, EachKeeping, IsPrefix}
 use Rattle.town_terms.specs.Town.{town_text}
 use Rattle.town_terms.specs.Summary.{TownCounts, summary_text}
 
 abbrev pub Judges : State → Command → ℕ → Type 0
-Judges s (Validate w) j = (selected : List Feature) × IsThose (λ (f : Feature). IsSelected s.project w f.handle) s.project.features selected
-    × (j ≡ judged_of s.project.rules selected)
+Judges s (Validate w) j = Tries s.project w j
 Judges s other j = j ≡ 0
 
 abbrev pub ReadingJudges : State → Reading → ℕ → Type 0

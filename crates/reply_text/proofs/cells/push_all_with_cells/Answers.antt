@@ -1,6 +1,6 @@
 use Rattle.std.proofs.Common.{refl}
 use Rattle.std.proofs.lemmas.Option.{slice_get_read}
-use Rattle.script_terms.specs.Reply.{entry_lines}
+use Rattle.reply_text.specs.Lines.{entry_lines}
 use Rattle.wkt_text.proofs.Pushing.{failed}
 use Rattle.reply_text.proofs.Fronts.{line_cut}
 use Rattle.wkt_text.proofs.Said.{said_more}

@@ -1,6 +1,6 @@
 use Rattle.std.proofs.Common.{◌≡◌, ◌++◌, take}
 use Rattle.std.specs.Prelude.{flat_map}
-use Rattle.script_terms.specs.Reply.{entry_lines}
+use Rattle.reply_text.specs.Lines.{entry_lines}
 use Rattle.reply_text.proofs.cells.push_all_with_cells.Given as goal
 
 abbrev pub invariant-loop-entry : goal.invariant-loop-entry

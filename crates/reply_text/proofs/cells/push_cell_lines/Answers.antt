@@ -1,5 +1,5 @@
 use Rattle.std.proofs.Common.{refl}
-use Rattle.script_terms.specs.Reply.{cell_line}
+use Rattle.reply_text.specs.Lines.{cell_line}
 use Rattle.wkt_text.proofs.Pushing.{failed}
 use Rattle.reply_text.proofs.Fronts.{line_cut}
 use Rattle.wkt_text.proofs.Said.{said_more}

@@ -1,6 +1,6 @@
 use Rattle.std.proofs.Common.{◌≡◌, ◌++◌, take}
 use Rattle.std.specs.Prelude.{flat_map}
-use Rattle.script_terms.specs.Reply.{cell_line}
+use Rattle.reply_text.specs.Lines.{cell_line}
 use Rattle.reply_text.proofs.cells.push_cell_lines.Given as goal
 
 abbrev pub invariant-loop-i : goal.invariant-loop-i

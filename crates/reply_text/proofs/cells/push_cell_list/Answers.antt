@@ -1,6 +1,7 @@
 use Rattle.std.proofs.Common.{ap, refl}
 use Rattle.std.specs.Prelude.{flat_map}
-use Rattle.script_terms.specs.Reply.{entry_lines, total_line}
+use Rattle.script_terms.specs.Reply.{total_line}
+use Rattle.reply_text.specs.Lines.{entry_lines}
 use Rattle.wkt_text.proofs.Pushing.{failed}
 use Rattle.reply_text.proofs.Fronts.{first_cut, last_cut, next_cut}
 use Rattle.reply_text.proofs.cells.push_cell_list.Goals as goal

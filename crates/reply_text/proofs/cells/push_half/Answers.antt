@@ -1,5 +1,5 @@
 use Rattle.std.proofs.Common.{ap, refl, ◌∙◌}
-use Rattle.script_terms.specs.Reply.{op_text}
+use Rattle.project_terms.specs.Written.{op_word}
 use Rattle.wkt_text.proofs.Pushing.{failed}
 use Rattle.reply_text.proofs.Fronts.{first_cut, last_cut, last_said, next_cut, next_said}
 use Rattle.wkt_text.proofs.Values.{constant, x_factor, y_factor}
@@ -59,7 +59,7 @@ returns-in_err-push_text-4 c =
     (next_cut _ _ _ _ _ _ refl c.in_ok-push_text-2.ensures (next_cut _ _ _ _ _ _
     (constant _ _ c.c.ensures.valid c.c.ensures.value) c.in_ok-push_number-3.ensures
     (next_cut _ _ _ _ _ _ refl c.in_ok-push_text-3.ensures (last_cut _ _ _ _
-    (c.op_word.ensures ∙ ap op_text c.op.ensures) c.in_err-push_text-4.ensures)))))))
+    (c.op_word.ensures ∙ ap op_word c.op.ensures) c.in_err-push_text-4.ensures)))))))
 
 pub returns : goal.returns
 returns c =
@@ -69,4 +69,4 @@ returns c =
     (next_said _ _ _ _ _ _ refl c.in_ok-push_text-2.ensures (next_said _ _ _ _ _ _
     (constant _ _ c.c.ensures.valid c.c.ensures.value) c.in_ok-push_number-3.ensures
     (next_said _ _ _ _ _ _ refl c.in_ok-push_text-3.ensures (last_said _ _ _ _
-    (c.op_word.ensures ∙ ap op_text c.op.ensures) c.in_ok-push_text-4.ensures))))))
+    (c.op_word.ensures ∙ ap op_word c.op.ensures) c.in_ok-push_text-4.ensures))))))

@@ -1,5 +1,5 @@
 use Rattle.std.proofs.Common.{refl, arith}
-use Rattle.script_terms.specs.Reply.{half_text}
+use Rattle.reply_text.specs.Lines.{half_text}
 use Rattle.wkt_text.proofs.Pushing.{failed, comma_cut, item_cut, item_done}
 use Rattle.reply_text.proofs.Listings.{comma_next, commas_next}
 use Rattle.reply_text.proofs.cells.push_more_halves.Goals as goal

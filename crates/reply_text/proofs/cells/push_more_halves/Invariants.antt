@@ -1,6 +1,6 @@
 use Rattle.std.proofs.Common.{drop}
 use Rattle.wkt_laws.specs.Commas.{comma_texts}
-use Rattle.script_terms.specs.Reply.{half_text}
+use Rattle.reply_text.specs.Lines.{half_text}
 use Rattle.wkt_text.specs.Appended.{Pushed}
 use Rattle.reply_text.proofs.cells.push_more_halves.Given as goal
 

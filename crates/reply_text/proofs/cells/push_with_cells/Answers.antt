@@ -1,6 +1,6 @@
 use Rattle.std.proofs.Common.{ap, refl}
 use Rattle.std.specs.Prelude.{flat_map}
-use Rattle.script_terms.specs.Reply.{cell_line}
+use Rattle.reply_text.specs.Lines.{cell_line}
 use Rattle.wkt_text.proofs.Pushing.{failed}
 use Rattle.reply_text.proofs.Fronts.{first_cut, last_cut, next_cut}
 use Rattle.reply_text.proofs.cells.push_with_cells.Goals as goal

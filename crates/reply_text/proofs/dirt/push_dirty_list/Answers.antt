@@ -1,6 +1,7 @@
 use Rattle.std.proofs.Common.{ap, refl}
 use Rattle.std.specs.Prelude.{flat_map}
-use Rattle.script_terms.specs.Reply.{dirty_line, total_line}
+use Rattle.project_text.specs.Pushed.{dirty_text}
+use Rattle.script_terms.specs.Reply.{total_line}
 use Rattle.wkt_text.proofs.Pushing.{failed}
 use Rattle.reply_text.proofs.Fronts.{first_cut, last_cut, next_cut}
 use Rattle.reply_text.proofs.dirt.push_dirty_list.Goals as goal
@@ -8,10 +9,10 @@ use Rattle.reply_text.proofs.dirt.push_dirty_list.Goals as goal
 pub returns-in_err-push_dirty_lines : goal.returns-in_err-push_dirty_lines
 returns-in_err-push_dirty_lines c =
     failed c.from_residual.result _ _ _ _ c.from_residual.ensures.0 refl
-    (first_cut _ _ _ _ _ (ap (λ rects. flat_map dirty_line rects) c.rects.ensures.value) c.in_err-push_dirty_lines.ensures)
+    (first_cut _ _ _ _ _ (ap (λ rects. flat_map dirty_text rects) c.rects.ensures.value) c.in_err-push_dirty_lines.ensures)
 
 pub returns-in_err-push_total : goal.returns-in_err-push_total
 returns-in_err-push_total c =
     failed c.from_residual-in_err-push_total.result _ _ _ _ c.from_residual-in_err-push_total.ensures.0 refl
-    (next_cut _ _ _ _ _ _ (ap (λ rects. flat_map dirty_line rects) c.rects.ensures.value) c.in_ok-push_dirty_lines.ensures
+    (next_cut _ _ _ _ _ _ (ap (λ rects. flat_map dirty_text rects) c.rects.ensures.value) c.in_ok-push_dirty_lines.ensures
     (last_cut _ _ _ _ (ap total_line c.len.ensures) c.in_err-push_total.ensures))

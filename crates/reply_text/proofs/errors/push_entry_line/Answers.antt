@@ -1,5 +1,5 @@
 use Rattle.std.proofs.Common.{ap, refl, ◌∙◌}
-use Rattle.script_terms.specs.Reply.{extent_text, mark_text, rect_text}
+use Rattle.reply_text.specs.Lines.{extent_text, mark_text, rect_text}
 use Rattle.wkt_text.proofs.Pushing.{failed}
 use Rattle.reply_text.proofs.Fronts.{first_cut, next_cut}
 use Rattle.reply_text.proofs.errors.push_entry_line.Goals as goal

@@ -1,6 +1,6 @@
 use Rattle.std.proofs.Common.{◌≡◌, ◌++◌, take}
 use Rattle.std.specs.Prelude.{flat_map}
-use Rattle.script_terms.specs.Reply.{entry_line}
+use Rattle.reply_text.specs.Lines.{entry_line}
 use Rattle.reply_text.proofs.errors.push_entry_lines.Given as goal
 
 abbrev pub invariant-loop-entry : goal.invariant-loop-entry

@@ -1,7 +1,8 @@
 use Rattle.std.proofs.Common.{ap, refl}
 use Rattle.std.specs.Prelude.{decimal}
 use Rattle.wkt_terms.specs.Shapes.{shape_text}
-use Rattle.script_terms.specs.Reply.{class_name}
+use Rattle.topology_terms.specs.Lookups.{class_at}
+use Rattle.project_text.specs.Pushed.{name_text}
 use Rattle.wkt_text.proofs.Pushing.{failed}
 use Rattle.reply_text.proofs.Fronts.{first_cut, next_cut}
 use Rattle.reply_text.proofs.features.push_feature_line.Goals as goal
@@ -14,44 +15,39 @@ returns-in_err-push_text c =
 pub returns-in_err-push_number : goal.returns-in_err-push_number
 returns-in_err-push_number c =
     failed c.from_residual-in_err-push_number.result _ _ _ _ c.from_residual-in_err-push_number.ensures.0 refl
-    (next_cut _ _ _ _ _ _ refl c.in_ok-push_text.ensures (first_cut _ _ _ _ _
-    (ap decimal c.handle.ensures) c.in_err-push_number.ensures))
-
-pub returns-in_err-push_text-2 : goal.returns-in_err-push_text-2
-returns-in_err-push_text-2 c =
-    failed c.from_residual-in_err-push_text-2.result _ _ _ _ c.from_residual-in_err-push_text-2.ensures.0 refl
-    (next_cut _ _ _ _ _ _ refl c.in_ok-push_text.ensures (next_cut _ _ _ _ _ _
-    (ap decimal c.handle.ensures) c.in_ok-push_number.ensures (first_cut _ _ _ _ _ refl c.in_err-push_text-2.ensures)))
+    (next_cut _ _ _ _ _ _ refl c.in_ok-push_text.ensures
+    (first_cut _ _ _ _ _ (ap decimal c.handle.ensures) c.in_err-push_number.ensures))
 
 pub returns-in_err-push_class_name : goal.returns-in_err-push_class_name
 returns-in_err-push_class_name c =
     failed c.from_residual-in_err-push_class_name.result _ _ _ _ c.from_residual-in_err-push_class_name.ensures.0 refl
-    (next_cut _ _ _ _ _ _ refl c.in_ok-push_text.ensures (next_cut _ _ _ _ _ _
-    (ap decimal c.handle.ensures) c.in_ok-push_number.ensures (next_cut _ _ _ _ _ _ refl c.in_ok-push_text-2.ensures
-    (first_cut _ _ _ _ _ (ap (λ class. class_name c.args.store.now.classes class) c.class.ensures) c.in_err-push_class_name.ensures))))
+    (next_cut _ _ _ _ _ _ refl c.in_ok-push_text.ensures
+    (next_cut _ _ _ _ _ _ (ap decimal c.handle.ensures) c.in_ok-push_number.ensures
+    (first_cut _ _ _ _ _ (ap (λ n. name_text (class_at c.args.store.now.classes n)) c.class.ensures) c.in_err-push_class_name.ensures)))
 
-pub returns-in_err-push_text-3 : goal.returns-in_err-push_text-3
-returns-in_err-push_text-3 c =
-    failed c.from_residual-in_err-push_text-3.result _ _ _ _ c.from_residual-in_err-push_text-3.ensures.0 refl
-    (next_cut _ _ _ _ _ _ refl c.in_ok-push_text.ensures (next_cut _ _ _ _ _ _
-    (ap decimal c.handle.ensures) c.in_ok-push_number.ensures (next_cut _ _ _ _ _ _ refl c.in_ok-push_text-2.ensures
-    (next_cut _ _ _ _ _ _ (ap (λ class. class_name c.args.store.now.classes class) c.class.ensures) c.in_ok-push_class_name.ensures
-    (first_cut _ _ _ _ _ refl c.in_err-push_text-3.ensures)))))
+pub returns-in_err-push_text-2 : goal.returns-in_err-push_text-2
+returns-in_err-push_text-2 c =
+    failed c.from_residual-in_err-push_text-2.result _ _ _ _ c.from_residual-in_err-push_text-2.ensures.0 refl
+    (next_cut _ _ _ _ _ _ refl c.in_ok-push_text.ensures
+    (next_cut _ _ _ _ _ _ (ap decimal c.handle.ensures) c.in_ok-push_number.ensures
+    (next_cut _ _ _ _ _ _ (ap (λ n. name_text (class_at c.args.store.now.classes n)) c.class.ensures) c.in_ok-push_class_name.ensures
+    (first_cut _ _ _ _ _ refl c.in_err-push_text-2.ensures))))
 
 pub returns-in_err-write_wkt : goal.returns-in_err-write_wkt
 returns-in_err-write_wkt c =
     failed c.from_residual-in_err-write_wkt.result _ _ _ _ c.from_residual-in_err-write_wkt.ensures.0 refl
-    (next_cut _ _ _ _ _ _ refl c.in_ok-push_text.ensures (next_cut _ _ _ _ _ _
-    (ap decimal c.handle.ensures) c.in_ok-push_number.ensures (next_cut _ _ _ _ _ _ refl c.in_ok-push_text-2.ensures
-    (next_cut _ _ _ _ _ _ (ap (λ class. class_name c.args.store.now.classes class) c.class.ensures) c.in_ok-push_class_name.ensures
-    (next_cut _ _ _ _ _ _ refl c.in_ok-push_text-3.ensures (first_cut _ _ _ _ _
-    (ap shape_text c.shape.ensures) c.in_err-write_wkt.ensures.appended))))))
+    (next_cut _ _ _ _ _ _ refl c.in_ok-push_text.ensures
+    (next_cut _ _ _ _ _ _ (ap decimal c.handle.ensures) c.in_ok-push_number.ensures
+    (next_cut _ _ _ _ _ _ (ap (λ n. name_text (class_at c.args.store.now.classes n)) c.class.ensures) c.in_ok-push_class_name.ensures
+    (next_cut _ _ _ _ _ _ refl c.in_ok-push_text-2.ensures
+    (first_cut _ _ _ _ _ (ap shape_text c.shape.ensures) c.in_err-write_wkt.ensures.appended)))))
 
-pub returns-in_err-push_text-4 : goal.returns-in_err-push_text-4
-returns-in_err-push_text-4 c =
-    failed c.from_residual-in_err-push_text-4.result _ _ _ _ c.from_residual-in_err-push_text-4.ensures.0 refl
-    (next_cut _ _ _ _ _ _ refl c.in_ok-push_text.ensures (next_cut _ _ _ _ _ _
-    (ap decimal c.handle.ensures) c.in_ok-push_number.ensures (next_cut _ _ _ _ _ _ refl c.in_ok-push_text-2.ensures
-    (next_cut _ _ _ _ _ _ (ap (λ class. class_name c.args.store.now.classes class) c.class.ensures) c.in_ok-push_class_name.ensures
-    (next_cut _ _ _ _ _ _ refl c.in_ok-push_text-3.ensures (next_cut _ _ _ _ _ _
-    (ap shape_text c.shape.ensures) c.in_ok-write_wkt.ensures.appended c.in_err-push_text-4.ensures))))))
+pub returns-in_err-push_text-3 : goal.returns-in_err-push_text-3
+returns-in_err-push_text-3 c =
+    failed c.from_residual-in_err-push_text-3.result _ _ _ _ c.from_residual-in_err-push_text-3.ensures.0 refl
+    (next_cut _ _ _ _ _ _ refl c.in_ok-push_text.ensures
+    (next_cut _ _ _ _ _ _ (ap decimal c.handle.ensures) c.in_ok-push_number.ensures
+    (next_cut _ _ _ _ _ _ (ap (λ n. name_text (class_at c.args.store.now.classes n)) c.class.ensures) c.in_ok-push_class_name.ensures
+    (next_cut _ _ _ _ _ _ refl c.in_ok-push_text-2.ensures
+    (next_cut _ _ _ _ _ _ (ap shape_text c.shape.ensures) c.in_ok-write_wkt.ensures.appended
+    c.in_err-push_text-3.ensures)))))

@@ -1,7 +1,7 @@
 use Rattle.std.proofs.Common.{ap, refl}
 use Rattle.std.specs.Prelude.{decimal}
 use Rattle.topology_terms.specs.Project.{InForce}
-use Rattle.script_terms.specs.Reply.{row_text}
+use Rattle.reply_text.specs.Lines.{row_text}
 use Rattle.wkt_text.proofs.Pushing.{failed}
 use Rattle.reply_text.proofs.Fronts.{first_cut, next_cut}
 use Rattle.reply_text.proofs.rules.push_rule_line.Goals as goal

@@ -1,6 +1,6 @@
 use Rattle.std.proofs.Common.{◌≡◌, ◌++◌, take}
 use Rattle.std.specs.Prelude.{flat_map}
-use Rattle.script_terms.specs.Reply.{rule_line}
+use Rattle.reply_text.specs.Lines.{rule_line}
 use Rattle.reply_text.proofs.rules.push_rule_lines.Given as goal
 
 abbrev pub invariant-loop-rule : goal.invariant-loop-rule
