@@ -436,9 +436,10 @@ one_done C s t u (Redo editor) reply said v w d e = (d.0 ∙ sym e.0, redo_same 
 one_done C s t u (Validate win) reply said v w (j1, p, l1, is1) (j2, q, l2, is2) =
     let parts = validated_same C win s.project t.project u.project v w l1.project l2.project in
     let chosen = those_one _ s.project.features p.0 q.0 p.1 q.1 in
-    let judged : j1 ≡ j2 = p.2 ∙ (ap (λ fs. judged_of s.project.rules fs) chosen ∙ sym q.2) in
-    (is1 ∙ (judged_same j1 _ _ j2 _ _ judged (ap length parts.entries) (ap length parts.dirt) ∙ sym is2),
-     left_same s t u l1.sessions l2.sessions parts)
+    let judged : j1 ≡ j2 = p.2 ∙ (ap (λ fs. judged_of s.project.rules fs) chosen ∙ sym q.2) in (
+      is1 ∙ (judged_same j1 _ _ j2 _ _ judged (ap length parts.entries) (ap length parts.dirt) ∙ sym is2),
+      left_same s t u l1.sessions l2.sessions parts,
+    )
 one_done C s t u (Mark r a b) reply said v w d e = (
   d.0 ∙ sym e.0,
   left_same s t u d.1.sessions e.1.sessions (marked_same r a b true s.project t.project u.project v w d.1.project
