@@ -99,7 +99,7 @@ set_done p q name ss ts h after w ord may e d =
       here = e.edit.features.here;
       others = e.edit.features.others;
     }) w.keeping.apart a.0 in
-    record { project = e; session = b.session; change = b.change }
+    (b.session, record { project = e; session = b.change })
 
 pub set_world : (p q : Project) (name : List ℕ) (ss ts : List KeptSession) (h : ℕ) (f : Feature) (after : Option Feature)
     → IsStore p.classes p.features p.next → IsWorld p ss → IsOrdered p
@@ -144,7 +144,7 @@ add_done p q name ss ts class shape h w e d =
           e.edit.features.others;
     }) w.keeping.apart alone in
     let n = subst (λ o. IsNoted name (record { handle = h; before = o; after = x }) (seen at ss) (seen bt ts)) e.absent b in
-    record { project = e; session = n.session; change = n.change }
+    (n.session, record { project = e; session = n.change })
 
 pub add_world : (p q : Project) (name : List ℕ) (ss ts : List KeptSession) (class : ℕ) (shape : Shape) (h : ℕ)
     → IsStore p.classes p.features p.next → IsWorld p ss → IsFeatureAdded class shape h p q

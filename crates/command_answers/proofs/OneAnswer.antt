@@ -26,8 +26,9 @@ use Rattle.script_terms.specs.Refusal.{Refusal}
 use Rattle.script_terms.specs.Reply.{Reply, Number, Judged}
 use Rattle.script_terms.specs.State.{State}
 use Rattle.script_terms.proofs.Restoring.{taken_at}
+use Rattle.script_terms.proofs.Runs.{answers_by}
 use Rattle.script_terms.specs.Refusing.{refusal_of}
-use Rattle.script_terms.specs.Answer.{Answers, IsDone, LeavesNoted, IsUndone, IsRedone, IsDiscarded, AreTakenBack, answers_by, added_step}
+use Rattle.script_terms.specs.Answer.{Answers, IsDone, LeavesNoted, IsUndone, IsRedone, IsDiscarded, AreTakenBack, added_step}
 use Rattle.plane_terms.proofs.Truths.{same_by_truth, there_or_not}
 use Rattle.session_terms.proofs.Chains.{end_same, head_same}
 use Rattle.plane_terms.proofs.ListLemmas.{those_one}
@@ -290,9 +291,9 @@ some_same o x y i j = let e : Some x ≡ Some y = sym i ∙ j in cc
 noted_same : {P Q : Project → Project → Type 0} (editor : List ℕ) (s t u : State) (x y : EditStep) → LeavesNoted editor x P s t
     → LeavesNoted editor y Q s u → x ≡ y → AreSame t.project u.project → t ≡ u
 noted_same {P} {Q} editor s t u x y i j step h =
-    let was : i.session ≡ j.session = some_same (session_of s.sessions editor) i.session j.session i.change.there j.change.there in
-    let is : with_step i.session x ≡ with_step j.session y = ap (λ (z : Session). with_step z x) was ∙ ap (with_step j.session) step in
-    same_state t u (by_parts t.project u.project h) (i.change.sessions ∙ (ap (with_session s.sessions) is ∙ sym j.change.sessions))
+    let was : i.0 ≡ j.0 = some_same (session_of s.sessions editor) i.0 j.0 i.1.session.there j.1.session.there in
+    let is : with_step i.0 x ≡ with_step j.0 y = ap (λ (z : Session). with_step z x) was ∙ ap (with_step j.0) step in
+    same_state t u (by_parts t.project u.project h) (i.1.session.sessions ∙ (ap (with_session s.sessions) is ∙ sym j.1.session.sessions))
 
 parts_same : (s u : Session) → s.name ≡ u.name → s.done ≡ u.done → s.undone ≡ u.undone → s ≡ u
 parts_same s u n d k =
@@ -312,8 +313,8 @@ undo_same editor s t u v w i j =
     let left : i.2.undone ≡ j.2.undone = i.3.undone ∙ (ap (λ (z : EditStep). z ∷ i.1.undone) e.1
     ∙ (ap (λ (z : Session). j.0 ∷ z.undone) was ∙ sym j.3.undone)) in
     let is : i.2 ≡ j.2 = parts_same i.2 j.2 (i.3.name ∙ (ap (λ (z : Session). z.name) was ∙ sym j.3.name)) e.0 left in
-    let set = subst (λ (z : EditStep). IsFeatureSet z.handle z.before s.project t.project) e.1 i.4.set in
-    same_state t u (set_project j.0.handle j.0.before s.project t.project u.project v w set j.4.set) (i.4.session.sessions
+    let set = subst (λ (z : EditStep). IsFeatureSet z.handle z.before s.project t.project) e.1 i.4.project in
+    same_state t u (set_project j.0.handle j.0.before s.project t.project u.project v w set j.4.project) (i.4.session.sessions
     ∙ (ap (with_session s.sessions) is ∙ sym j.4.session.sessions))
 
 redo_same : (editor : List ℕ) (s t u : State) → IsOrdered t.project → IsOrdered u.project → IsRedone editor s t → IsRedone editor s u
@@ -325,8 +326,8 @@ redo_same editor s t u v w i j =
     let left : i.2.done ≡ j.2.done = i.3.done ∙ (ap (λ (z : EditStep). i.1.done ++ z ∷ []) e.0
     ∙ (ap (λ (z : Session). z.done ++ j.0 ∷ []) was ∙ sym j.3.done)) in
     let is : i.2 ≡ j.2 = parts_same i.2 j.2 (sym i.3.name ∙ (ap (λ (z : Session). z.name) was ∙ j.3.name)) left e.1 in
-    let set = subst (λ (z : EditStep). IsFeatureSet z.handle z.after s.project t.project) e.0 i.4.set in
-    same_state t u (set_project j.0.handle j.0.after s.project t.project u.project v w set j.4.set) (i.4.session.sessions
+    let set = subst (λ (z : EditStep). IsFeatureSet z.handle z.after s.project t.project) e.0 i.4.project in
+    same_state t u (set_project j.0.handle j.0.after s.project t.project u.project v w set j.4.project) (i.4.session.sessions
     ∙ (ap (with_session s.sessions) is ∙ sym j.4.session.sessions))
 
 -- steps that are taken back: all but the features, and the look-up of those, is told step by step
@@ -414,30 +415,31 @@ one_done C s t u (Begin editor) reply said v w d e = (d.0 ∙ sym e.0, d.1 ∙ s
 one_done C s t u (End editor) reply said v w d e = (d.0 ∙ sym e.0, d.1 ∙ sym e.1)
 one_done C s t u (Discard editor) reply said v w d e = (d.0 ∙ sym e.0, discard_same editor s t u v w d.1 e.1)
 one_done C s t u (Add editor class shape) reply said v w (g, d, i) (h, e, j) =
-    let same : g ≡ h = i.project.number ∙ sym j.project.number in
-    let k = rw same at i.project.edit in (
+    let same : g ≡ h = i.1.project.number ∙ sym j.1.project.number in
+    let k = rw same at i.1.project.edit in (
       d ∙ (ap Number same ∙ sym e),
       noted_same editor s t u _ _ i j (ap (λ (n : ℕ). added_step n (unwrap_or (class_number s.project class) 0) shape) same)
-          (edit_same h _ s.project t.project u.project v w k j.project.edit (i.project.next ∙ sym j.project.next)),
+          (edit_same h _ s.project t.project u.project v w k j.1.project.edit (i.1.project.next ∙ sym j.1.project.next)),
     )
 one_done C s t u (Change editor h shape) reply said v w d e = (
   d.0 ∙ sym e.0,
-  noted_same editor s t u _ _ d.1 e.1 refl (edit_same h _ s.project t.project u.project v w d.1.project.edit
-      e.1.project.edit (d.1.project.next ∙ sym e.1.project.next)),
+  noted_same editor s t u _ _ d.1 e.1 refl (edit_same h _ s.project t.project u.project v w d.1.1.project.edit
+      e.1.1.project.edit (d.1.1.project.next ∙ sym e.1.1.project.next)),
 )
 one_done C s t u (Delete editor h) reply said v w d e = (
   d.0 ∙ sym e.0,
   noted_same editor s t u _ _ d.1 e.1 refl (edit_same h None s.project t.project u.project v w
-      d.1.project.edit e.1.project.edit (d.1.project.next ∙ sym e.1.project.next)),
+      d.1.1.project.edit e.1.1.project.edit (d.1.1.project.next ∙ sym e.1.1.project.next)),
 )
 one_done C s t u (Undo editor) reply said v w d e = (d.0 ∙ sym e.0, undo_same editor s t u v w d.1 e.1)
 one_done C s t u (Redo editor) reply said v w d e = (d.0 ∙ sym e.0, redo_same editor s t u v w d.1 e.1)
 one_done C s t u (Validate win) reply said v w (j1, p, l1, is1) (j2, q, l2, is2) =
     let parts = validated_same C win s.project t.project u.project v w l1.project l2.project in
     let chosen = those_one _ s.project.features p.0 q.0 p.1 q.1 in
-    let judged : j1 ≡ j2 = p.2 ∙ (ap (λ fs. judged_of s.project.rules fs) chosen ∙ sym q.2) in
-    (is1 ∙ (judged_same j1 _ _ j2 _ _ judged (ap length parts.entries) (ap length parts.dirt) ∙ sym is2),
-     left_same s t u l1.sessions l2.sessions parts)
+    let judged : j1 ≡ j2 = p.2 ∙ (ap (λ fs. judged_of s.project.rules fs) chosen ∙ sym q.2) in (
+      is1 ∙ (judged_same j1 _ _ j2 _ _ judged (ap length parts.entries) (ap length parts.dirt) ∙ sym is2),
+      left_same s t u l1.sessions l2.sessions parts,
+    )
 one_done C s t u (Mark r a b) reply said v w d e = (
   d.0 ∙ sym e.0,
   left_same s t u d.1.sessions e.1.sessions (marked_same r a b true s.project t.project u.project v w d.1.project

@@ -8,7 +8,7 @@ use Rattle.topology_terms.specs.declared.cause.Cause.TheVariants.{NoFeature}
 use Rattle.topology_terms.specs.Feature.{Feature, feature_at}
 use Rattle.topology_terms.specs.Poster.{poster}
 use Rattle.topology_terms.specs.Project.{Project}
-use Rattle.topology_terms.specs.Session.{EditStep, Session, session_of}
+use Rattle.topology_terms.specs.Session.{EditStep, Session}
 use Rattle.topology_terms.specs.Settled.{IsSettled}
 use Rattle.topology_terms.specs.Sound.{IsSound}
 use Rattle.line_terms.specs.Commands.{Command, Begin, End, Discard, Delete, Undo, Redo}

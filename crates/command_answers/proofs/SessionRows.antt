@@ -103,22 +103,24 @@ ann_moves : IsDone both (Change ann 2 (point (pos 2) (pos 2))) Done moved
 unfolding feature_at add_dirt envelope_of
 ann_moves = (
   refl,
-  record {
-    project = record {
-      edit = record {
-        features = set_between 2 (well 1 (pos 0) (pos 0) ∷ []) [] (Some (well 2 (pos 1) (pos 1)))
-            (Some (well 2 (pos 2) (pos 2))) (split_2 (well 2 (pos 1) (pos 1)) refl None) (split_2 (well 2 (pos 2) (pos 2)) refl None);
-        dirt =
-            refl;
-        classes = refl;
-        rules = refl;
-        entries = refl;
+  (
+    session ann [] [],
+    record {
+      project = record {
+        edit = record {
+          features = set_between 2 (well 1 (pos 0) (pos 0) ∷ []) [] (Some (well 2 (pos 1) (pos 1)))
+              (Some (well 2 (pos 2) (pos 2))) (split_2 (well 2 (pos 1) (pos 1)) refl None) (split_2 (well 2 (pos 2) (pos 2)) refl None);
+          dirt =
+              refl;
+          classes = refl;
+          rules = refl;
+          entries = refl;
+        };
+        next = refl;
       };
-      next = refl;
-    };
-    session = session ann [] [];
-    change = record { there = refl; name = refl; sessions = refl };
-  },
+      session = record { there = refl; name = refl; sessions = refl };
+    },
+  ),
 )
 
 -- ---- by bob change 2 POINT (3 3)
@@ -151,25 +153,27 @@ unfolding feature_at add_dirt envelope_of
 bob_adds = (
   3,
   refl,
-  record {
-    project = record {
-      number = refl;
-      absent = refl;
-      next = refl;
-      edit = record {
-        features = set_between 3 (well 1 (pos 0) (pos 0) ∷ well 2 (pos 2) (pos 2) ∷ []) [] None
-            (Some (well 3 (pos 4) (pos 4))) (record { before = (omega arith, (omega arith, tt)); own = tt; after = tt })
-            (record { before = (omega arith, (omega arith, tt)); own = refl; after = tt });
-        dirt = refl;
-        classes = refl;
-        rules =
-            refl;
-        entries = refl;
+  (
+    session bob [] [],
+    record {
+      project = record {
+        number = refl;
+        absent = refl;
+        next = refl;
+        edit = record {
+          features = set_between 3 (well 1 (pos 0) (pos 0) ∷ well 2 (pos 2) (pos 2) ∷ []) [] None
+              (Some (well 3 (pos 4) (pos 4))) (record { before = (omega arith, (omega arith, tt)); own = tt; after = tt })
+              (record { before = (omega arith, (omega arith, tt)); own = refl; after = tt });
+          dirt = refl;
+          classes = refl;
+          rules =
+              refl;
+          entries = refl;
+        };
       };
-    };
-    session = session bob [] [];
-    change = record { there = refl; name = refl; sessions = refl };
-  },
+      session = record { there = refl; name = refl; sessions = refl };
+    },
+  ),
 )
 
 -- ---- by ann undo: bob's well stays. What ann held stays held until ann edits again, or ends
@@ -191,7 +195,7 @@ ann_undoes = (
     record { name = refl; done = refl; undone = refl },
     record {
       session = record { there = refl; name = refl; sessions = refl };
-      set = record {
+      project = record {
         edit = record {
           features = set_between 2 (well 1 (pos 0) (pos 0) ∷ []) (well 3 (pos 4) (pos 4) ∷ [])
               (Some (well 2 (pos 2) (pos 2))) (Some (well 2 (pos 1) (pos 1))) (record {
@@ -236,7 +240,7 @@ bob_undoes = (
     record { name = refl; done = refl; undone = refl },
     record {
       session = record { there = refl; name = refl; sessions = refl };
-      set = record {
+      project = record {
         edit = record {
           features = set_between 3 (well 1 (pos 0) (pos 0) ∷ well 2 (pos 1) (pos 1) ∷ []) []
               (Some (well 3 (pos 4) (pos 4))) None (record { before = (omega arith, (omega arith, tt)); own = refl; after = tt })
@@ -267,7 +271,7 @@ bob_redoes = (
     record { name = refl; done = refl; undone = refl },
     record {
       session = record { there = refl; name = refl; sessions = refl };
-      set = record {
+      project = record {
         edit = record {
           features = set_between 3 (well 1 (pos 0) (pos 0) ∷ well 2 (pos 1) (pos 1) ∷ []) [] None
               (Some (well 3 (pos 4) (pos 4))) (record { before = (omega arith, (omega arith, tt)); own = tt; after = tt })
@@ -362,7 +366,7 @@ returns = (
     record { name = refl; done = refl; undone = refl },
     record {
       session = record { there = refl; name = refl; sessions = refl };
-      set = record {
+      project = record {
         edit = record {
           features = set_between 1 [] (lot 2 (pos 5) (pos 15) ∷ []) None (Some (lot 1 (pos 0) (pos 10)))
               (record { before = tt; own = tt; after = (omega arith, tt) }) (record { before = tt; own = refl; after = (omega arith, tt) });

@@ -1,5 +1,5 @@
 -- What the calls of the kept sessions and of the topology leave is what the commands leave.
-use Rattle.std.proofs.Common.{ℕ, ◌≡◌, List, [], ◌∷◌, Option, Some, refl, sym, ◌∙◌, ap, subst}
+use Rattle.std.proofs.Common.{ℕ, ◌≡◌, List, [], ◌∷◌, Option, Some, sym, ◌∙◌, ap, subst}
 use Rattle.std.specs.Prelude.{is_some}
 use Rattle.plane_terms.specs.Lists.{Every}
 use Rattle.topology_terms.specs.Feature.{Feature, feature_at}
@@ -85,7 +85,7 @@ step_done p q name s u ss ts t apart c d =
       seen_session at s,
       seen_session bt u,
       b.1,
-      record { session = b.0; set = d.swap.set },
+      record { session = b.0; project = d.swap.set },
     )
 
 pub undo_done : (p q : Project) (name : List ℕ) (ss ts : List KeptSession) → IsKeeping (state_of p ss)
@@ -106,7 +106,7 @@ redo_done p q name ss ts k d =
       seen_session at d.was,
       seen_session bt d.is,
       b.1,
-      record { session = b.0; set = r.swap.set },
+      record { session = b.0; project = r.swap.set },
     )
 
 -- the session of the name changed so that its steps may stand, and the others' still may

@@ -151,10 +151,10 @@ pub added_keeps : (editor : List ℕ) (class : ℕ) (shape : Shape) (h : ℕ) (o
 added_keeps editor class shape h old new k d =
     let f = feature_at old.project.features in
     let e = feature_at new.project.features in
-    let s = d.session in let ch = d.change in
+    let s = d.0 in let ch = d.1.session in
     let x : Option Feature = Some (record { handle = h; class = class; shape = shape }) in
     let t : EditStep = record { handle = h; before = None; after = x } in
-    let p = d.project in
+    let p = d.1.project in
     let set = p.edit.features in
     let a = named_apart old.sessions editor s ch.there k.apart in
     let c = named_has (IsChained f) old.sessions editor s ch.there k.chained in

@@ -100,30 +100,30 @@ undo_keeps editor old new k d =
     let f = feature_at old.project.features in
     let e = feature_at new.project.features in
     let t = d.0 in let s = d.1 in let u = d.2 in
-    let set = d.4.set.edit.features in
+    let set = d.4.project.edit.features in
     let a = named_apart old.sessions editor s d.4.session.there k.apart in
     let c = named_has (IsChained f) old.sessions editor s d.4.session.there k.chained in
     let b = named_has (IsBelow old.project.next) old.sessions editor s d.4.session.there k.given in
-    changed_keeps old new editor s u t.handle t.before k d.4.session set (each_same old.project.next new.project.next old.sessions d.4.set.next
+    changed_keeps old new editor s u t.handle t.before k d.4.session set (each_same old.project.next new.project.next old.sessions d.4.project.next
     k.given)
     (own_alone old.sessions s t.handle (last_there s u t d.3) a.1) (undo_apart s u t old.sessions d.3 a.1)
     (undo_chained f e s u t d.3 (set_to t.handle t.before old.project.features new.project.features set) c)
-    (undone_below new.project.next s u t d.3 (rw d.4.set.next b))
+    (undone_below new.project.next s u t d.3 (rw d.4.project.next b))
 
 pub redo_keeps : (editor : List ℕ) (old new : State) → IsKeeping old → IsRedone editor old new → IsKeeping new
 redo_keeps editor old new k d =
     let f = feature_at old.project.features in
     let e = feature_at new.project.features in
     let t = d.0 in let s = d.1 in let u = d.2 in
-    let set = d.4.set.edit.features in
+    let set = d.4.project.edit.features in
     let a = named_apart old.sessions editor s d.4.session.there k.apart in
     let c = named_has (IsChained f) old.sessions editor s d.4.session.there k.chained in
     let b = named_has (IsBelow old.project.next) old.sessions editor s d.4.session.there k.given in
-    changed_keeps old new editor s u t.handle t.after k d.4.session set (each_same old.project.next new.project.next old.sessions d.4.set.next
+    changed_keeps old new editor s u t.handle t.after k d.4.session set (each_same old.project.next new.project.next old.sessions d.4.project.next
     k.given)
     (own_alone old.sessions s t.handle (first_there s u t d.3) a.1) (redo_apart s u t old.sessions d.3 a.1)
     (redo_chained f e s u t d.3 (set_to t.handle t.after old.project.features new.project.features set) c)
-    (redone_below new.project.next s u t d.3 (rw d.4.set.next b))
+    (redone_below new.project.next s u t d.3 (rw d.4.project.next b))
 
 -- an edit of a handle that no other session holds
 pub altered_keeps : (editor : List ℕ) (h : ℕ) (x : Option Feature) (old new : State) → IsKeeping old → IsAlone old.sessions editor h
@@ -132,15 +132,15 @@ pub altered_keeps : (editor : List ℕ) (h : ℕ) (x : Option Feature) (old new 
 altered_keeps editor h x old new k alone given d =
     let f = feature_at old.project.features in
     let e = feature_at new.project.features in
-    let s = d.session in let ch = d.change in
+    let s = d.0 in let ch = d.1.session in
     let t : EditStep = record { handle = h; before = feature_at old.project.features h; after = x } in
-    let set = d.project.edit.features in
+    let set = d.1.project.edit.features in
     let a = named_apart old.sessions editor s ch.there k.apart in
     let c = named_has (IsChained f) old.sessions editor s ch.there k.chained in
     let b = named_has (IsBelow old.project.next) old.sessions editor s ch.there k.given in
     let mine : IsAlone old.sessions s.name h = subst (λ n. IsAlone old.sessions n h) (sym a.0) alone in
-    changed_keeps old new editor s (with_step s t) h x k ch set (each_same old.project.next new.project.next old.sessions d.project.next
+    changed_keeps old new editor s (with_step s t) h x k ch set (each_same old.project.next new.project.next old.sessions d.1.project.next
     k.given)
     mine (note_apart s t old.sessions mine a.1)
     (note_chained f e s h x (set_to h x old.project.features new.project.features set) c)
-    (record { done = end_below new.project.next s.done t (rw d.project.next b.done) (rw d.project.next given); undone = tt })
+    (record { done = end_below new.project.next s.done t (rw d.1.project.next b.done) (rw d.1.project.next given); undone = tt })

@@ -23,8 +23,8 @@ undo_restores editor old new k d = record {
   last = d.3.done;
   left = last_left (feature_at old.project.features) d.1 d.2.done d.0 d.3.done
       (named_has (IsChained (feature_at old.project.features)) old.sessions editor d.1 d.4.session.there k.chained);
-  back = d.4.set.edit.features.here;
-  others = d.4.set.edit.features.others;
+  back = d.4.project.edit.features.here;
+  others = d.4.project.edit.features.others;
 }
 
 pub taken_at : (ts : List EditStep) (old new : Project) (k : ℕ) → AreTakenBack ts old new

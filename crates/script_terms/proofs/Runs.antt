@@ -1,7 +1,7 @@
 -- Each line of a run, and so each run, keeps sessions apart and chained.
 use Rattle.std.proofs.Common.{ℕ, ◌≡◌, ◌<◌, Bool, true, false, List, [], ◌∷◌, Option, Some, None, refl, ◌∙◌, ap, subst, eqb}
 use Rattle.std.proofs.lemmas.Slice.Eq.{bytes_eq-Decides}
-use Rattle.std.specs.Prelude.{if◌then◌else◌, bytes_eq, not, is_some, is_none, unwrap_or}
+use Rattle.std.specs.Prelude.{if◌then◌else◌, bytes_eq, not, is_some, is_none, unwrap_or, MatchOption}
 use Rattle.plane_terms.specs.Lists.{Every}
 use Rattle.topology_terms.specs.Feature.{Feature, feature_at}
 use Rattle.topology_terms.specs.Project.{IsOrdered}
@@ -15,10 +15,10 @@ use Rattle.topology_terms.specs.Lookups.{class_number}
 use Rattle.topology_terms.specs.declared.cause.Cause.{Cause}
 use Rattle.topology_terms.specs.declared.cause.Cause.TheVariants.{NoFeature}
 use Rattle.script_terms.specs.Refusal.{Refusal, HeldBy, NoSession, SessionOpen}
-use Rattle.script_terms.specs.Reply.{Reply}
+use Rattle.script_terms.specs.Reply.{Reply, Refused}
 use Rattle.script_terms.specs.State.{State, empty_state, is_open}
 use Rattle.script_terms.specs.Refusing.{refusal_of, held_by, changes}
-use Rattle.script_terms.specs.Answer.{answers_by, IsDone}
+use Rattle.script_terms.specs.Answer.{IsDone}
 use Rattle.script_terms.specs.Run.{Outcome, Reading, Reads, Faulty, Run, ComesOf, EachKeeping, last_state}
 use Rattle.script_terms.specs.Keeping.{IsKeeping}
 use Rattle.script_terms.proofs.Keeping.{undo_keeps, redo_keeps, altered_keeps}
@@ -105,6 +105,9 @@ done_keeps old Features reply new k ord n d = equal_keeps old new k d.1
 done_keeps old Rules reply new k ord n d = equal_keeps old new k d.1
 
 -- a command that is answered
+abbrev pub answers_by : Option Refusal → State → Command → Reply → State → Type 0
+answers_by o old c reply new = MatchOption o (IsDone old c reply new) (λ r. (reply ≡ Refused r) × (new ≡ old))
+
 pub answers_keep : (old : State) (c : Command) (reply : Reply) (new : State) (o : Option Refusal) → refusal_of old c ≡ o → IsKeeping old
     → IsOrdered old.project → answers_by o old c reply new → IsKeeping new
 answers_keep old c reply new None e k ord a = done_keeps old c reply new k ord e a

@@ -3,6 +3,7 @@
 -- IsDone old c reply new  the command is done: this is the reply, and this is what it leaves
 -- Answers old c reply new     refused with the state as it was, or done
 -- Leaves P old new        the project becomes what P says, and the sessions stay
+-- Moves editor s u P old new     the project becomes what P says, and the session of the editor was s and is u
 -- LeavesNoted editor t P old new     the project becomes what P says, and t is the last done step of the editor's session, whose undone
 --                                    ones go
 -- IsUndone, IsRedone      the last done step of the editor's session is undone: its handle has what stood there before it; the first
@@ -13,7 +14,7 @@
 --
 -- A session begins without steps; where it ends, its steps stand. What is not named stays.
 -- Source: editing and validation of a geodatabase topology (Esri).
-use Rattle.std.specs.Prelude.{◌≡◌, ℕ, ◌+◌, true, false, List, [], ◌∷◌, length, Option, Some, None, unwrap_or}
+use Rattle.std.specs.Prelude.{◌≡◌, ℕ, ◌+◌, true, false, List, [], ◌∷◌, length, Option, Some, None, unwrap_or, MatchOption}
 use Rattle.plane_terms.specs.Lists.{IsThose}
 use Rattle.plane_terms.specs.Rectangle.{Rectangle}
 use Rattle.plane_terms.specs.Shape.{Shape}
@@ -27,7 +28,6 @@ use Rattle.topology_terms.specs.Settled.{IsValidatedBy}
 use Rattle.topology_terms.specs.Counts.{judged_of}
 use Rattle.session_terms.specs.Steps.{IsUndoneTo, with_session, with_opened, without}
 use Rattle.line_terms.specs.Commands.{Command, Blank, Class as AClass, Rule, DropRule, Begin, End, Discard, Add, Change, Delete, Undo, Redo, Validate, Mark, Unmark, Dirty, Errors, Cells, Features, Rules}
-use Rattle.script_terms.specs.Refusal.{Refusal}
 use Rattle.script_terms.specs.Reply.{Reply, Nothing, Done, Number, Judged, Refused, DirtyList, ErrorList, CellList, FeatureList, RuleList}
 use Rattle.script_terms.specs.State.{State}
 use Rattle.script_terms.specs.Refusing.{row_of, refusal_of}
@@ -42,10 +42,12 @@ pub record IsSessionChanged (editor : List ℕ) (s u : Session) (old new : List 
   pub name : u.name ≡ s.name
   pub sessions : new ≡ with_session old u
 
-pub record LeavesNoted (editor : List ℕ) (t : EditStep) (P : Project → Project → Type 0) (old new : State) : Type 0 where
+pub record Moves (editor : List ℕ) (s u : Session) (P : Project → Project → Type 0) (old new : State) : Type 0 where
   pub project : P old.project new.project
-  pub session : Session
-  pub change : IsSessionChanged editor session (with_step session t) old.sessions new.sessions
+  pub session : IsSessionChanged editor s u old.sessions new.sessions
+
+abbrev pub LeavesNoted : List ℕ → EditStep → (Project → Project → Type 0) → State → State → Type 0
+LeavesNoted editor t P old new = (s : Session) × Moves editor s (with_step s t) P old new
 
 -- the step of a feature that comes, and that of one that is set or taken away
 abbrev pub added_step : ℕ → ℕ → Shape → EditStep
@@ -54,17 +56,12 @@ added_step h class shape = record { handle = h; before = None; after = Some (rec
 abbrev pub set_step : Project → ℕ → Option Feature → EditStep
 set_step p h after = record { handle = h; before = feature_at p.features h; after = after }
 
--- the session of the editor was s and is u, and the handle gets this
-pub record Moves (editor : List ℕ) (s u : Session) (h : ℕ) (after : Option Feature) (old new : State) : Type 0 where
-  pub session : IsSessionChanged editor s u old.sessions new.sessions
-  pub set : IsFeatureSet h after old.project new.project
-
 abbrev pub IsUndone : List ℕ → State → State → Type 0
-IsUndone editor old new = (t : EditStep) × (s u : Session) × IsUndoneTo s t u × Moves editor s u t.handle t.before old new
+IsUndone editor old new = (t : EditStep) × (s u : Session) × IsUndoneTo s t u × Moves editor s u (IsFeatureSet t.handle t.before) old new
 
 -- a redo is an undo backwards
 abbrev pub IsRedone : List ℕ → State → State → Type 0
-IsRedone editor old new = (t : EditStep) × (s u : Session) × IsUndoneTo u t s × Moves editor s u t.handle t.after old new
+IsRedone editor old new = (t : EditStep) × (s u : Session) × IsUndoneTo u t s × Moves editor s u (IsFeatureSet t.handle t.after) old new
 
 abbrev pub AreTakenBack : List EditStep → Project → Project → Type 0
 AreTakenBack [] old new = new ≡ old
@@ -107,10 +104,6 @@ IsDone old Cells reply new = (reply ≡ CellList old.project) × (new ≡ old)
 IsDone old Features reply new = (reply ≡ FeatureList old.project) × (new ≡ old)
 IsDone old Rules reply new = (reply ≡ RuleList old.project) × (new ≡ old)
 
--- refused, with the state as it was, or done
-abbrev pub answers_by : Option Refusal → State → Command → Reply → State → Type 0
-answers_by (Some r) old c reply new = (reply ≡ Refused r) × (new ≡ old)
-answers_by None old c reply new = IsDone old c reply new
-
+-- done, or refused with the state as it was
 abbrev pub Answers : State → Command → Reply → State → Type 0
-Answers old c reply new = answers_by (refusal_of old c) old c reply new
+Answers old c reply new = MatchOption (refusal_of old c) (IsDone old c reply new) (λ r. (reply ≡ Refused r) × (new ≡ old))

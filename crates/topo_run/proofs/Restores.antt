@@ -7,12 +7,12 @@ use Rattle.script_terms.specs.Refusal.{Refusal}
 use Rattle.script_terms.specs.Refusing.{refusal_of}
 use Rattle.script_terms.specs.Reply.{Reply}
 use Rattle.script_terms.specs.State.{State, empty_state}
-use Rattle.script_terms.specs.Answer.{IsDone, answers_by}
+use Rattle.script_terms.specs.Answer.{IsDone}
 use Rattle.script_terms.specs.Keeping.{IsKeeping}
 use Rattle.script_terms.specs.Restored.{IsRestored, IsAllRestored}
 use Rattle.script_terms.specs.Run.{Reading, Reads, Faulty, Outcome, Step, Run, ComesOf, ReadsAs, last_state, is_refusal}
 use Rattle.script_terms.proofs.Restoring.{undo_restores, discard_restores}
-use Rattle.script_terms.proofs.Runs.{run_keeps, last_keeps, empty_keeps}
+use Rattle.script_terms.proofs.Runs.{answers_by, run_keeps, last_keeps, empty_keeps}
 use Rattle.topo_run.proofs.Runs.{empty_ordered}
 
 -- what a command leaves that is read, answered and not refused

@@ -14,8 +14,9 @@ use Rattle.script_terms.specs.Refusing.{refusal_of}
 use Rattle.script_terms.specs.Reply.{Judged, reply_text}
 use Rattle.script_terms.specs.Reply as replies
 use Rattle.script_terms.specs.State.{State}
-use Rattle.script_terms.specs.Answer.{Answers, IsDone, answers_by}
+use Rattle.script_terms.specs.Answer.{Answers, IsDone}
 use Rattle.script_terms.specs.Headline.{Headline, Invariant}
+use Rattle.script_terms.proofs.Runs.{answers_by}
 use Rattle.script_terms.specs.Run.{Reads, Faulty, Step, is_refusal}
 use Rattle.reply_text.specs.declared.reply.Reply.{Reply}
 use Rattle.reply_text.specs.declared.reply.Reply.TheVariants as reply
