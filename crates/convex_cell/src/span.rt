@@ -21,6 +21,9 @@ fn floor_of(k: i64, m: i64) -> i64
     ensures below { (result *ℤ m) ≤ℤ k }
     ensures fits { unsigned_abs result ≤ 2 ^ 47 }
 {
+    if m == 1 {
+        return k;
+    }
     k.div_euclid(m)
 }
 
