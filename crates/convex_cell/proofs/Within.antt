@@ -65,8 +65,14 @@ sides_hold x y p =
         along = record { after = left_read x.from p.x p.y p.w r.0; before = right_read x.to p.x p.y p.w r.1.0 };
         up = record { after = below_read y.from p.x p.y p.w r.1.1.0; before = above_read y.to p.x p.y p.w r.1.1.1.0 };
       },
-      λ i. All-from_recursion (λ h. Holds h p) sides (left_holds x.from p.x p.y p.w i.along.after, (right_holds x.to p.x p.y p.w
-          i.along.before, (below_holds y.from p.x p.y p.w i.up.after, (above_holds y.to p.x p.y p.w i.up.before, tt)))),
+      λ i. All-from_recursion (λ h. Holds h p) sides (
+        left_holds x.from p.x p.y p.w i.along.after,
+        (
+          right_holds x.to p.x p.y p.w
+              i.along.before,
+          (below_holds y.from p.x p.y p.w i.up.after, (above_holds y.to p.x p.y p.w i.up.before, tt)),
+        ),
+      ),
     )
 
 -- ---- a sum that is below 0 at its greatest

@@ -1,14 +1,20 @@
-ghost use Rattle.std.specs.Prelude.{◌≡◌, ◌↔◌, ℕ, ℤ, pos, ◌<ℤ◌, ◌≤ℤ◌, ◌*ℤ◌, ◌+ℤ◌, ◌≤◌, ◌<◌, ◌+◌, ◌^◌, unsigned_abs, All, IfSome, IfOk, OnOk};
+ghost use Rattle.std.specs.Prelude.{◌≡◌, not, ◌↔◌, ℕ, ℤ, pos, ◌<ℤ◌, ◌≤ℤ◌, ◌*ℤ◌, ◌+ℤ◌, ◌≤◌, ◌<◌, ◌+◌, ◌^◌, unsigned_abs, All, IfSome, IfOk, OnOk};
 ghost use Rattle.std.specs.Bool.{OnTrue};
 ghost use Rattle.plane_terms.specs.Point.{Point};
 ghost use Rattle.plane_terms.specs.HalfPlane.{Holds, value_at};
+ghost use Rattle.plane_terms.specs.Cell.{meet_of};
+ghost use Rattle.plane_terms.specs.Decide.{has_point};
 ghost use Rattle.convex_cell.specs.Span.{IsSpan, InSpan, IsBoundsOf};
 ghost use Rattle.convex_cell.specs.Needed.{FitsReach, Reaches, IsInFrame, SameCells, closed_of};
 
 use crate::bounds::{Bounds, is_small, left_of, right_of};
+use crate::cell::{Cell, is_empty_together};
 use crate::span::{Span, highest};
 use grid_plane::{Half, NoMemory, Op};
 use std::alloc::Global;
+
+/// So many half-planes are few.
+const FEW: usize = 8;
 
 /// Two whole numbers between which something lies.
 #[derive(Clone, Copy)]
@@ -132,21 +138,35 @@ fn framed(alloc: Global, halves: &[Half], x: Reach, y: Reach) -> Result<Vec<Half
     Ok(needed)
 }
 
-/// Half-planes of the same points: the sides of a frame round them, and of these those that say more. Of many half-planes few
-/// are left. Where there is no such frame, all of them.
+/// Of many half-planes few are left: the sides of a frame round the cell, and those that say more. They hold at the same points.
+/// `None` for a cell of few, and where no frame is known.
 pub(crate) fn needed_of(
     alloc: Global,
-    halves: &[Half],
+    cell: &Cell,
     bounds: &Bounds,
-) -> Result<Vec<Half>, NoMemory>
-    requires { IsBoundsOf bounds.now halves.now }
-    ensures { IfOk result (λ needed. SameCells needed.items halves.now) }
+) -> Result<Option<Vec<Half>>, NoMemory>
+    requires { IsBoundsOf bounds.now cell.now }
+    ensures { IfOk result (λ needed. IfSome needed (λ n. SameCells n.items cell.now)) }
 {
+    if cell.len() <= FEW {
+        return Ok(None);
+    }
     let Some(x) = reach_of(bounds.x) else {
-        return Ok(Vec::from_slice(alloc, halves)?);
+        return Ok(None);
     };
     let Some(y) = reach_of(bounds.y) else {
-        return Ok(Vec::from_slice(alloc, halves)?);
+        return Ok(None);
     };
-    framed(alloc, halves, x, y)
+    Ok(Some(framed(alloc, &cell.halves, x, y)?))
+}
+
+/// Whether no point is in both cells. Where half-planes with the points of the first are known, they are asked in its place.
+pub(crate) fn meet_is_empty(cell: &Cell, needed: &Option<Vec<Half>>, other: &Cell) -> bool
+    requires { IfSome needed.now (λ n. SameCells n.items cell.now) }
+    ensures { result ≡ not (has_point (meet_of cell.now other.now)) }
+{
+    match needed {
+        Some(needed) => is_empty_together(needed, &other.halves),
+        None => is_empty_together(&cell.halves, &other.halves),
+    }
 }

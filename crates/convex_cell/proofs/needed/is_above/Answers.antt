@@ -1,4 +1,4 @@
-use Rattle.std.proofs.Common.{◌≡◌, ◌∙◌, to_z, of_z, w64, arith, ap, pos, ◌+ℤ◌, ◌<ℤ◌}
+use Rattle.std.proofs.Common.{◌≡◌, to_z, of_z, w64, arith, ap, pos, ◌+ℤ◌, ◌<ℤ◌}
 use Rattle.std.proofs.lemmas.Int.{ints}
 use Rattle.plane_terms.specs.HalfPlane.{HalfPlane, turned}
 use Rattle.plane_terms.specs.declared.op.Op.TheVariants.{Over}

@@ -1,4 +1,4 @@
-use Rattle.std.proofs.Common.{◌≡◌, ◌∙◌, ◌↔◌, List, [], ◌∷◌, pos, negsuc, neg_ℤ, arith, ap, sym, subst}
+use Rattle.std.proofs.Common.{◌≡◌, ◌∙◌, ◌↔◌, List, [], ◌∷◌, pos, negsuc, arith, ap, sym, subst}
 use Rattle.std.specs.List.{All}
 use Rattle.std.proofs.lemmas.Int.{ints}
 use Rattle.plane_terms.specs.HalfPlane.{HalfPlane, Holds}
@@ -16,5 +16,5 @@ returns c =
     let below : c.closed-below.result ≡ lower_side y = c.closed-below.ensures ∙ ap (closed_of (pos 0) (pos 1)) (omega (arith, ints)) in
     let above : c.closed-above.result ≡ upper_side y = c.closed-above.ensures ∙ ap (closed_of (pos 0) (negsuc 0)) (omega (arith, ints)) in
     let all : c.in_ok-from_slice.field-0.items ≡ left_side x ∷ right_side x ∷ lower_side y ∷ upper_side y ∷ [] =
-        c.in_ok-from_slice.ensures.items ∙ four_same left right below above in
+    c.in_ok-from_slice.ensures.items ∙ four_same left right below above in
     λ p. subst (λ (hs : List HalfPlane). All (λ h. Holds h p) hs ↔ IsInFrame x y p) (sym all) (sides_hold x y p)
