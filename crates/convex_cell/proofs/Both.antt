@@ -12,6 +12,7 @@ use Rattle.cell_laws.specs.Bounds.{Compatible, FlatHolds, PairsHold}
 use Rattle.cell_laws.proofs.Lists.{all_append}
 use Rattle.cell_laws.proofs.Decision.{decided_by}
 use Rattle.cell_laws.proofs.Meets.{meet_points}
+use Rattle.convex_cell.specs.Needed.{SameCells}
 use Rattle.convex_cell.proofs.Ranges.{on_true, on_false}
 
 pub all_of_both : {X : Type 0} (P : X → Type 0) (xs ys : List X) → All P (xs ++ ys) ↔ (All P xs × All P ys)
@@ -68,6 +69,24 @@ pub meet_decided : (r : Bool) (a b : Cell) → OnTrue r (¬ (HasPoint (a ++ b)))
     → r ≡ not (has_point (meet_of a b))
 meet_decided r a b h k =
     decided_by r (meet_of a b) (on_true r _ _ (λ no m. no ((meet_has a b).0 m)) h) (on_false r _ _ (meet_has a b).1 k)
+
+-- the same by half-planes with the points of the first list
+pub meet_decided_by : (r : Bool) (n a b : Cell) → SameCells n a → OnTrue r (¬ (HasPoint (n ++ b))) → OnFalse r (HasPoint (n ++ b))
+    → r ≡ not (has_point (meet_of a b))
+meet_decided_by r n a b same h k =
+    decided_by r (meet_of a b) (on_true r _ _ (λ no m. no (there m)) h) (on_false r _ _ back k)
+  where
+    there : HasPoint (meet_of a b) → HasPoint (n ++ b)
+    there m =
+        let P : HalfPlane → Type 0 = λ g. Holds g m.0 in
+        let s = (meet_points a b m.0).0 m.1 in
+        (m.0, (all_append P n b).1 (recursion_from_All P n ((same m.0).1 (All-from_recursion P a s.0)), s.1))
+
+    back : HasPoint (n ++ b) → HasPoint (meet_of a b)
+    back m =
+        let P : HalfPlane → Type 0 = λ g. Holds g m.0 in
+        let s = (all_append P n b).0 m.1 in
+        (m.0, (meet_points a b m.0).1 (recursion_from_All P a ((same m.0).0 (All-from_recursion P n s.0)), s.1))
 
 -- one of the first list that is apart from the second
 pub none_in_both : (a b : Cell) (i : ℕ) (h : HalfPlane) → i < length a → h ≡ get_or a i h → (r : Bool) → r ≡ true

@@ -12,3 +12,4 @@ pub mod Views
 pub mod Frames
 pub mod Both
 pub mod Steps
+pub mod Within

@@ -47,7 +47,7 @@ fn carved_each(
 {
     let mut made = Cells::new(alloc);
     for i in 0..cells.len() {
-        made.push_met(alloc, cells.cell(i), &own[i], by, bounds, rising)?;
+        made.push_met(alloc, cells.cell(i), &None, &own[i], by, bounds, rising)?;
     }
     Ok(made)
 }

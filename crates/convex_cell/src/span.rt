@@ -21,6 +21,9 @@ fn floor_of(k: i64, m: i64) -> i64
     ensures below { (result *ℤ m) ≤ℤ k }
     ensures fits { unsigned_abs result ≤ 2 ^ 47 }
 {
+    if m == 1 {
+        return k;
+    }
     k.div_euclid(m)
 }
 
@@ -128,7 +131,7 @@ fn sum_at(a: i64, x: i64, c: i64) -> i64
 }
 
 /// The greatest value of `a*x + c` from left to right.
-fn highest(a: i64, c: i64, left: i64, right: i64) -> i64
+pub(crate) fn highest(a: i64, c: i64, left: i64, right: i64) -> i64
     requires a_fits { unsigned_abs a ≤ 2 ^ 23 }
     requires c_fits { unsigned_abs c ≤ 2 ^ 46 }
     requires left_fits { unsigned_abs left ≤ 2 ^ 23 }

@@ -1,0 +1,16 @@
+use Rattle.std.proofs.Common.{arith}
+use Rattle.std.proofs.lemmas.List.{take_all}
+use Rattle.plane_terms.specs.HalfPlane.{Holds}
+use Rattle.convex_cell.proofs.Loops.{all_step, all_end}
+use Rattle.convex_cell.proofs.needed.push_others.Goals as goal
+
+pub push_other-requires-clause-framed : goal.push_other-requires-clause-framed
+push_other-requires-clause-framed c = λ p a. c.requires.framed p ((c.loop-half.invariant p).0 a).0
+
+pub loop-half-preserved : goal.loop-half-preserved
+loop-half-preserved c = λ p. all_step (λ h. Holds h p) c.args.halves.now c.loop-half.half-index c.half-item.result _ _ _
+    c.loop-half-test.true c.half-item.is (c.loop-half.invariant p) (c.in_ok-push_other.ensures p)
+
+pub returns : goal.returns
+returns c = λ p. all_end (λ h. Holds h p) c.args.halves.now c.loop-half.half-index _ _ (take_all _ _ (omega arith))
+    (c.loop-half.invariant p)

@@ -1,0 +1,172 @@
+ghost use Rattle.std.specs.Prelude.{◌≡◌, not, ◌↔◌, ℕ, ℤ, pos, ◌<ℤ◌, ◌≤ℤ◌, ◌*ℤ◌, ◌+ℤ◌, ◌≤◌, ◌<◌, ◌+◌, ◌^◌, unsigned_abs, All, IfSome, IfOk, OnOk};
+ghost use Rattle.std.specs.Bool.{OnTrue};
+ghost use Rattle.plane_terms.specs.Point.{Point};
+ghost use Rattle.plane_terms.specs.HalfPlane.{Holds, value_at};
+ghost use Rattle.plane_terms.specs.Cell.{meet_of};
+ghost use Rattle.plane_terms.specs.Decide.{has_point};
+ghost use Rattle.convex_cell.specs.Span.{IsSpan, InSpan, IsBoundsOf};
+ghost use Rattle.convex_cell.specs.Needed.{FitsReach, Reaches, IsInFrame, SameCells, closed_of};
+
+use crate::bounds::{Bounds, is_small, left_of, right_of};
+use crate::cell::{Cell, is_empty_together};
+use crate::span::{Span, highest};
+use grid_plane::{Half, NoMemory, Op};
+use std::alloc::Global;
+
+/// So many half-planes are few.
+const FEW: usize = 8;
+
+/// Two whole numbers between which something lies.
+#[derive(Clone, Copy)]
+pub struct Reach {
+    pub from: i64,
+    pub to: i64,
+}
+
+/// Whole numbers round a span, where they are small enough.
+fn reach_of(span: Span) -> Option<Reach>
+    requires { IsSpan span }
+    ensures fits { IfSome result FitsReach }
+    ensures sound { IfSome result (λ r. (z : ℤ) → (w : ℕ) → InSpan span z w → Reaches r z w) }
+{
+    let from = left_of(span.from);
+    let to = right_of(span.to);
+    if !is_small(from) {
+        return None;
+    }
+    if !is_small(to) {
+        return None;
+    }
+    Some(Reach { from, to })
+}
+
+fn is_below(first: i64, second: i64) -> bool
+    requires first_fits { unsigned_abs first ≤ 2 ^ 47 }
+    requires second_fits { unsigned_abs second ≤ 2 ^ 47 }
+    ensures { OnTrue result ((first +ℤ second) <ℤ pos 0) }
+{
+    first + second < 0
+}
+
+/// Whether the half-plane is above 0 wherever the frame is: turned round, it is below 0 at each corner.
+fn is_above(half: &Half, x: Reach, y: Reach) -> bool
+    requires x { FitsReach x }
+    requires y { FitsReach y }
+    ensures { OnTrue result ((p : Point) → IsInFrame x y p → pos 0 <ℤ value_at half.now p) }
+{
+    let turned = half.turned(Op::Over);
+    let along = highest(turned.a(), turned.c(), x.from, x.to);
+    let up = highest(turned.b(), 0, y.from, y.to);
+    if is_below(along, up) {
+        return true;
+    }
+    false
+}
+
+/// Whether the half-plane holds wherever the frame does, as its corners show.
+fn holds_within(half: &Half, x: Reach, y: Reach) -> bool
+    requires x { FitsReach x }
+    requires y { FitsReach y }
+    ensures { OnTrue result ((p : Point) → IsInFrame x y p → Holds half.now p) }
+{
+    match half.op() {
+        Op::Over => is_above(half, x, y),
+        Op::AtLeast => is_above(half, x, y),
+        Op::Zero => false,
+    }
+}
+
+/// The half-plane of these numbers, closed.
+fn closed(a: i64, b: i64, c: i64) -> Half
+    requires a { unsigned_abs a ≤ 1 }
+    requires b { unsigned_abs b ≤ 1 }
+    requires slanted { 0 < unsigned_abs a + unsigned_abs b }
+    requires c { unsigned_abs c ≤ 2 ^ 23 }
+    ensures { result ≡ closed_of a b c }
+{
+    Half::of(a, b, c, Op::AtLeast).unwrap()
+}
+
+/// The four sides of a frame: they hold exactly within it.
+fn sides_of(alloc: Global, x: Reach, y: Reach) -> Result<Vec<Half>, NoMemory>
+    requires x { FitsReach x }
+    requires y { FitsReach y }
+    ensures { IfOk result (λ sides. (p : Point) → All (λ h. Holds h p) sides.items ↔ IsInFrame x y p) }
+{
+    let left = closed(1, 0, -x.from);
+    let right = closed(-1, 0, x.to);
+    let below = closed(0, 1, -y.from);
+    let above = closed(0, -1, y.to);
+    Ok(Vec::from_slice(alloc, &[left, right, below, above])?)
+}
+
+/// Adds the half-plane where it says more than the frame does.
+fn push_other(needed: &mut Vec<Half>, half: &Half, x: Reach, y: Reach) -> Result<(), NoMemory>
+    requires x { FitsReach x }
+    requires y { FitsReach y }
+    requires framed { (p : Point) → All (λ h. Holds h p) needed.old.items → IsInFrame x y p }
+    ensures { OnOk result ((p : Point) → All (λ h. Holds h p) needed.new.items ↔ (All (λ h. Holds h p) needed.old.items × Holds half.now p)) }
+{
+    if holds_within(half, x, y) {
+        return Ok(());
+    }
+    needed.push(*half)?;
+    Ok(())
+}
+
+fn push_others(needed: &mut Vec<Half>, halves: &[Half], x: Reach, y: Reach) -> Result<(), NoMemory>
+    requires x { FitsReach x }
+    requires y { FitsReach y }
+    requires framed { (p : Point) → All (λ h. Holds h p) needed.old.items → IsInFrame x y p }
+    ensures { OnOk result ((p : Point) → All (λ h. Holds h p) needed.new.items
+        ↔ (All (λ h. Holds h p) needed.old.items × All (λ h. Holds h p) halves.now)) }
+{
+    for half in halves {
+        push_other(needed, half, x, y)?;
+    }
+    Ok(())
+}
+
+fn framed(alloc: Global, halves: &[Half], x: Reach, y: Reach) -> Result<Vec<Half>, NoMemory>
+    requires x { FitsReach x }
+    requires y { FitsReach y }
+    requires round { (p : Point) → All (λ h. Holds h p) halves.now → IsInFrame x y p }
+    ensures { IfOk result (λ needed. SameCells needed.items halves.now) }
+{
+    let mut needed = sides_of(alloc, x, y)?;
+    push_others(&mut needed, halves, x, y)?;
+    Ok(needed)
+}
+
+/// Of many half-planes few are left: the sides of a frame round the cell, and those that say more. They hold at the same points.
+/// `None` for a cell of few, and where no frame is known.
+pub(crate) fn needed_of(
+    alloc: Global,
+    cell: &Cell,
+    bounds: &Bounds,
+) -> Result<Option<Vec<Half>>, NoMemory>
+    requires { IsBoundsOf bounds.now cell.now }
+    ensures { IfOk result (λ needed. IfSome needed (λ n. SameCells n.items cell.now)) }
+{
+    if cell.len() <= FEW {
+        return Ok(None);
+    }
+    let Some(x) = reach_of(bounds.x) else {
+        return Ok(None);
+    };
+    let Some(y) = reach_of(bounds.y) else {
+        return Ok(None);
+    };
+    Ok(Some(framed(alloc, &cell.halves, x, y)?))
+}
+
+/// Whether no point is in both cells. Where half-planes with the points of the first are known, they are asked in its place.
+pub(crate) fn meet_is_empty(cell: &Cell, needed: &Option<Vec<Half>>, other: &Cell) -> bool
+    requires { IfSome needed.now (λ n. SameCells n.items cell.now) }
+    ensures { result ≡ not (has_point (meet_of cell.now other.now)) }
+{
+    match needed {
+        Some(needed) => is_empty_together(needed, &other.halves),
+        None => is_empty_together(&cell.halves, &other.halves),
+    }
+}
