@@ -9,12 +9,12 @@ use Rattle.grid_index.specs.Cells.{level_of, band_of, IsBlock}
 use Rattle.grid_index.specs.declared.block.Block.{Block}
 
 -- ---- the level of a rectangle
-below_power : (n : ℕ) → n < 2 ^ 32 → n < 2 ^ max 5 (32 - leading_zeros w32 n)
+below_power : (n : ℕ) → n < 2 ^ 32 → n < 2 ^ max 3 (32 - leading_zeros w32 n)
 below_power n h =
     let m = leading_length 32 n h in
     let digits : 32 - leading_zeros w32 n ≡ m.0 = omega (arith, m.1) in
-    let more : m.0 ≤ max 5 (32 - leading_zeros w32 n) = subst (λ k. k ≤ max 5 (32 - leading_zeros w32 n)) digits (le-max_right 5 (32 - leading_zeros w32 n)) in
-    let wider : 2 ^ m.0 ≤ 2 ^ max 5 (32 - leading_zeros w32 n) = pow-le-pow_right {n = 2} (omega arith) more in
+    let more : m.0 ≤ max 3 (32 - leading_zeros w32 n) = subst (λ k. k ≤ max 3 (32 - leading_zeros w32 n)) digits (le-max_right 3 (32 - leading_zeros w32 n)) in
+    let wider : 2 ^ m.0 ≤ 2 ^ max 3 (32 - leading_zeros w32 n) = pow-le-pow_right {n = 2} (omega arith) more in
     let low = m.2 in
     omega arith
 

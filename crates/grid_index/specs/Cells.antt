@@ -1,6 +1,6 @@
 -- Levels and cells: where an index keeps a rectangle.
 --
--- level_of r          the binary digits of the longer side of r, 5 at least: 2 to that power is more than either side
+-- level_of r          the binary digits of the longer side of r, 3 at least: 2 to that power is more than either side
 -- band_of l v         the number of the column, or of the row, of cells of level l in which the coordinate v lies, from the edge
 -- cell_at x y         the cell of the column x and the row y, as one number
 -- cell_of l r         the cell of level l in which the lower corner of r lies
@@ -25,7 +25,7 @@ use Rattle.grid_index.specs.declared.block.Block.{Block}
 use Rattle.grid_index.specs.Near.{Loses}
 
 abbrev pub level_of : Rectangle → ℕ
-level_of r = max 5 (32 - leading_zeros w32 (max (unsigned_abs (r.x1 -ℤ r.x0)) (unsigned_abs (r.y1 -ℤ r.y0))))
+level_of r = max 3 (32 - leading_zeros w32 (max (unsigned_abs (r.x1 -ℤ r.x0)) (unsigned_abs (r.y1 -ℤ r.y0))))
 
 abbrev pub band_of : ℕ → ℤ → ℕ
 band_of l v = unsigned_abs (v -ℤ negsuc 4194303) / 2 ^ l

@@ -3,13 +3,13 @@ ghost use Rattle.grid_index.specs.Cells.{level_of, band_of, cell_at, cell_of};
 
 use grid_plane::Rect;
 
-/// The least level, 5 or more, whose cells are wider and higher than the rectangle: their side is 2 to that power, in grid units.
+/// The least level, 3 or more, whose cells are wider and higher than the rectangle: their side is 2 to that power, in grid units.
 pub(crate) fn level_of(r: &Rect) -> u32
     ensures value { result ≡ level_of r.now }
     ensures bound { result ≤ 32 }
 {
     let longer = r.x1().abs_diff(r.x0()).max(r.y1().abs_diff(r.y0()));
-    5u32.max(32 - longer.leading_zeros())
+    3u32.max(32 - longer.leading_zeros())
 }
 
 /// The number of the band of cells in which a coordinate lies, from the edge of the grid: a column of cells, or a row.
