@@ -51,13 +51,10 @@ IsFaultOf (Change e h t) r = IsTextRefusal t r
 IsFaultOf (Validate v) r = IsWindowFault v r
 IsFaultOf other r = ⊥
 
-abbrev pub HasNoForm : List ℕ → Type 0
-HasNoForm line = (f : Form) → HasForm line f → ⊥
-
 abbrev pub HasFaultyForm : List ℕ → LineRefusal → Type 0
 HasFaultyForm line r = (f : Form) × HasForm line f × IsFaultOf f r
 
 abbrev pub IsLineFault : List ℕ → LineRefusal → Type 0
 IsLineFault line r =
     ((1048576 < length line) × (r ≡ TooLong)) ⊎
-    ((length line ≤ 1048576) × (HasNoForm line × (r ≡ NotALine) ⊎ HasFaultyForm line r))
+    ((length line ≤ 1048576) × (((f : Form) → ¬ (HasForm line f)) × (r ≡ NotALine) ⊎ HasFaultyForm line r))

@@ -5,7 +5,7 @@
 use Rattle.std.proofs.Common.{ℕ, ℤ, pos, negsuc, zero, suc, ◌≡◌, ◌+◌, ◌/◌, ◌%◌, ◌==◌, Bool, true, false, ◌&&◌, nat_le, not, List, [], ◌∷◌, ◌++◌, map, length, append-nil, append_assoc, if◌then◌else◌, refl, sym, ap, ◌∙◌, arith}
 use Rattle.std.specs.Prelude.{nat_lt, codes}
 use Rattle.std.specs.List.{list_all}
-use Rattle.std.specs.Fmt.{decimal, signed_decimal, digits, digits_onto, digit_glyph}
+use Rattle.std.specs.Fmt.{decimal, signed_decimal, digit_glyph}
 use Rattle.std.proofs.lemmas.Bool.{and_parts}
 use Rattle.std.proofs.lemmas.Bool.Decides.{nat_tests}
 use Rattle.std.proofs.lemmas.List.Folds.{list_all-append}
@@ -18,6 +18,7 @@ use Rattle.plane_terms.specs.declared.op.Op.{Op}
 use Rattle.plane_terms.specs.declared.op.Op.TheVariants.{Over, AtLeast, Zero}
 use Rattle.text_terms.specs.Fields.{is_letter, is_name_byte, is_name}
 use Rattle.text_terms.specs.Wkt.{listed}
+use Rattle.text_terms.proofs.Decimals.{decimal_has}
 use Rattle.rule_words.specs.declared.rule_kind.RuleKind.{RuleKind}
 use Rattle.rule_words.specs.declared.rule_kind.RuleKind.TheVariants as rule
 use Rattle.rule_words.specs.Table.{word_of}
@@ -48,21 +49,8 @@ plain_glyph d = by (nat_lt d 10)
     by true = grind (arith, nat_tests)
     by false = grind (arith, nat_tests)
 
-plain_onto : (k n : ℕ) (acc : List ℕ) → IsPlain acc → IsPlain (digits_onto k 10 false n acc)
-plain_onto zero n acc h = h
-plain_onto (suc k) n acc h =
-    let first : IsPlain (digit_glyph false (n % 10) ∷ acc) = rw (plain_glyph (n % 10)) h in
-    by (n / 10 == 0) first (plain_onto k (n / 10) (digit_glyph false (n % 10) ∷ acc) first)
-  where
-    by : (b : Bool) → IsPlain (digit_glyph false (n % 10) ∷ acc)
-        → IsPlain (digits_onto k 10 false (n / 10) (digit_glyph false (n % 10) ∷ acc))
-        → IsPlain (if b then digit_glyph false (n % 10) ∷ acc else digits_onto k 10 false (n / 10) (digit_glyph false (n % 10) ∷ acc))
-    by true here more = here
-    by false here more = more
-
 pub plain_decimal : (n : ℕ) → IsPlain (decimal n)
-unfolding digits
-plain_decimal n = plain_onto 64 n [] refl
+plain_decimal n = decimal_has IsPlain (λ d bs h. rw (plain_glyph d) h) refl n
 
 pub plain_signed : (z : ℤ) → IsPlain (signed_decimal z)
 plain_signed (pos n) = plain_decimal n
@@ -171,10 +159,7 @@ inner_lists : (pss : List (List Place)) → IsInner (lists_text pss)
 inner_lists pss = inner_bracketed (listed (map list_text pss)) (inner_listed (map list_text pss) (inner_each list_text inner_list pss))
 
 inner_written : (g : Geometry) → IsInner (written g)
-inner_written (APoint q) =
-    inner_append (codes "POINT (") (signed_decimal q.x ++ (32 ∷ (signed_decimal q.y ++ 41 ∷ []))) refl
-    (inner_append (signed_decimal q.x) (32 ∷ (signed_decimal q.y ++ 41 ∷ [])) (inner_signed q.x)
-    (inner_append (signed_decimal q.y) (41 ∷ []) (inner_signed q.y) refl))
+inner_written (APoint q) = inner_append (codes "POINT ") (bracketed (place_text q)) refl (inner_bracketed (place_text q) (inner_place q))
 inner_written (ALine ps) = inner_append (codes "LINESTRING ") (list_text ps) refl (inner_list ps)
 inner_written (Lines pss) = inner_append (codes "MULTILINESTRING ") (lists_text pss) refl (inner_lists pss)
 inner_written (APolygon rings) = inner_append (codes "POLYGON ") (lists_text rings) refl (inner_lists rings)

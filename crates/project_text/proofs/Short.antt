@@ -11,7 +11,7 @@ use Rattle.plane_terms.specs.Point.{Place, InReach, IsInReach}
 use Rattle.plane_terms.specs.Shape.{Shape, IsShape, IsPart, IsRing, place_of}
 use Rattle.plane_terms.specs.declared.kind.Kind.{Kind}
 use Rattle.plane_terms.specs.declared.kind.Kind.TheVariants as kind
-use Rattle.text_terms.specs.Wkt.{listed, point_text}
+use Rattle.text_terms.specs.Wkt.{listed}
 use Rattle.wkt_terms.specs.Shapes.{closed, of_lines, of_polygons, shape_text}
 use Rattle.wkt_terms.specs.Written.{place_text, list_text, lists_text, written}
 
@@ -107,15 +107,15 @@ parts_short (part ∷ parts) some h =
     )
 
 -- ---- shapes
-point_short : (s : Shape) → IsInReach (place_of s) → length (point_text (place_of s)) ≤ 1048576
+point_short : (s : Shape) → IsInReach (place_of s) → length (written (APoint (place_of s))) ≤ 1048576
 point_short s h =
     let x = signed_decimal (place_of s).x in
     let y = signed_decimal (place_of s).y in
     omega (
       arith,
-      length-append (codes "POINT (") (x ++ (32 ∷ (y ++ 41 ∷ []))),
-      length-append x (32 ∷ (y ++ 41 ∷ [])),
-      length-append y (41 ∷ []),
+      length-append (codes "POINT (") ((x ++ 32 ∷ y) ++ 41 ∷ []),
+      length-append (x ++ 32 ∷ y) (41 ∷ []),
+      length-append x (32 ∷ y),
       signed_short (place_of s).x h.x,
       signed_short (place_of s).y h.y,
     )

@@ -1,9 +1,10 @@
 -- Which fields need no quotes: numbers, and the words of the report.
 use Rattle.std.proofs.Common.{◌≡◌, ℕ, ◌<◌, ◌≤◌, ◌+◌, ◌%◌, ◌/◌, zero, suc, Bool, true, false, arith, List, [], ◌∷◌, refl, ◌∙◌, ℤ, pos, negsuc, Option, Some, None}
 use Rattle.std.specs.Prelude.{decimal, codes, if◌then◌else◌, ◌||◌, ◌==◌, nat_lt}
-use Rattle.std.specs.Fmt.{digits, digits_onto, digit_glyph, signed_decimal}
+use Rattle.std.specs.Fmt.{digit_glyph, signed_decimal}
 use Rattle.std.proofs.lemmas.Bool.Decides.{nat_tests}
 use Rattle.csv.specs.Writing.{default_writer, needs_byte, needs_quotes}
+use Rattle.text_terms.proofs.Decimals.{decimal_has}
 use Rattle.rule_words.specs.Table.{word_of}
 use Rattle.rule_words.specs.declared.rule_kind.RuleKind.{RuleKind}
 use Rattle.rule_words.specs.declared.rule_kind.RuleKind.TheVariants as kind
@@ -25,20 +26,8 @@ glyph n = by (nat_lt n 10)
     by true = omega arith
     by false = omega arith
 
-plain_either : (t : Bool) (xs ys : List ℕ) → IsPlain xs → IsPlain ys → IsPlain (if t then xs else ys)
-plain_either true xs ys h k = h
-plain_either false xs ys h k = k
-
-onto : (k n : ℕ) (acc : List ℕ) → IsPlain acc → IsPlain (digits_onto k 10 false n acc)
-onto zero n acc h = h
-onto (suc k) n acc h =
-    let more = digit_glyph false (n % 10) ∷ acc in
-    let plain : IsPlain more = plain_cons (digit_glyph false (n % 10)) acc (glyph (n % 10)) h in
-    plain_either (n / 10 == 0) more (digits_onto k 10 false (n / 10) more) plain (onto k (n / 10) more plain)
-
 pub plain_decimal : (n : ℕ) → IsPlain (decimal n)
-unfolding digits
-plain_decimal n = onto 64 n [] refl
+plain_decimal n = decimal_has IsPlain (λ d bs h. plain_cons (digit_glyph false d) bs (glyph d) h) refl n
 
 pub plain_signed : (z : ℤ) → IsPlain (signed_decimal z)
 plain_signed (pos n) = plain_decimal n

@@ -6,18 +6,15 @@ use Rattle.std.specs.Prelude.{◌≡◌, ℕ, ◌<◌, Option, None, Some}
 use Rattle.std.specs.Option.{option_map_or}
 use Rattle.std.specs.NonZero.{non_zero_u16_get}
 use Rattle.std.specs.declared.num.NonZeroU16.{NonZeroU16}
-use Rattle.std.proofs.Common.{zero, suc, refl, ap}
-use Rattle.std.proofs.Math.Nat.{zero-lt-suc, not-suc-le-zero}
-use Rattle.std.proofs.Math.Bridge.{le_prop}
+use Rattle.std.proofs.Common.{refl}
+use Rattle.number_laws.specs.Given.{given_by, given_same}
+
+abbrev made : (n : ℕ) → 0 < n → NonZeroU16
+made n p = record { value = n; ok = p }
 
 abbrev pub given : ℕ → Option NonZeroU16
-given zero = None
-given (suc n) = Some (record { value = suc n; ok = zero-lt-suc n })
-
-made : (n : ℕ) (p : 0 < n) → given n ≡ Some (record { value = n; ok = p })
-made zero p = absurd (not-suc-le-zero p)
-made (suc n) p = λ i. Some (record { value = suc n; ok = le_prop (zero-lt-suc n) p i })
+given n = given_by made n
 
 pub given_back : (o : Option NonZeroU16) → given (option_map_or non_zero_u16_get o 0) ≡ o
 given_back None = refl
-given_back (Some n) = made n.value n.ok
+given_back (Some n) = given_same made n.value n.ok

@@ -10,7 +10,7 @@ use Rattle.wkt_text.proofs.OneFault.{one_fault}
 use Rattle.line_terms.specs.Commands.{Form, Window, All, Numbers}
 use Rattle.line_terms.specs.Commands as form
 use Rattle.line_terms.specs.Forms.{HasForm}
-use Rattle.line_terms.specs.Lines.{IsTextRefusal, IsFaultOf, HasNoForm, HasFaultyForm, IsLineFault}
+use Rattle.line_terms.specs.Lines.{IsTextRefusal, IsFaultOf, HasFaultyForm, IsLineFault}
 use Rattle.line_terms.specs.Windows.{IsWindowFault}
 use Rattle.line_terms.specs.declared.line_refusal.LineRefusal.{LineRefusal}
 use Rattle.line_terms.specs.declared.line_refusal.LineRefusal.TheVariants.{NotALine, TooLong, OffGrid, OutOfReach, Unsupported, NotClosed, Invalid, Reversed}
@@ -75,6 +75,9 @@ faulty : (line : List ℕ) (r q : LineRefusal) → HasFaultyForm line r → HasF
 faulty line r q h k =
     let same : h.0 ≡ k.0 = one_form line h.0 k.0 h.1 k.1 in
     of_form k.0 r q (subst (λ f. IsFaultOf f r) same h.2) k.2
+
+abbrev HasNoForm : List ℕ → Type 0
+HasNoForm line = (f : Form) → ¬ (HasForm line f)
 
 formed : (line : List ℕ) (r q : LineRefusal) → HasNoForm line × (r ≡ NotALine) ⊎ HasFaultyForm line r
     → HasNoForm line × (q ≡ NotALine) ⊎ HasFaultyForm line q → r ≡ q

@@ -16,7 +16,7 @@ use Rattle.sound_laws.proofs.RuleChanges.{no_entry}
 use Rattle.plane_terms.proofs.Truths.{there_or_not}
 
 -- cells that have points, and are not none, hold some point
-some_point : (cs : List Cell) → cs ≢ [] → HavePoints cs → (p : Point) × InCells cs p
+pub some_point : (cs : List Cell) → cs ≢ [] → HavePoints cs → (p : Point) × InCells cs p
 some_point [] n h = absurd (n refl)
 some_point (c ∷ cs) n h = (h.0.0, inl h.0.1)
 

@@ -1,7 +1,7 @@
-ghost use Rattle.std.specs.Prelude.{◌≡◌, ◌<◌, ◌^◌, Some, None, nat_le, IsTrue, if◌then◌else◌};
+ghost use Rattle.std.specs.Prelude.{◌≡◌, ◌<◌, ◌^◌, Some, None, nat_le, ◌==◌, IsTrue, if◌then◌else◌};
 ghost use Rattle.std.specs.List.{list_all};
 ghost use Rattle.text_terms.specs.Fields.{is_digit};
-ghost use Rattle.wkt_terms.specs.Numerals.{value_of, is_negative, unsigned, is_fraction, has_form, is_zero, is_on_grid, within_reach, number_in, number_of};
+ghost use Rattle.wkt_terms.specs.Numerals.{value_of, is_negative, unsigned, is_fraction, has_form, is_on_grid, within_reach, number_in, number_of};
 ghost use Rattle.text_fields.specs.Numbers.{meant};
 
 use crate::bytes::is_digit;
@@ -49,7 +49,7 @@ pub fn value_up_to(limit: u64, digits: &[u8]) -> Option<u64>
 }
 
 fn are_zeros(text: &[u8]) -> bool
-    ensures { result ≡ list_all is_zero text.now }
+    ensures { result ≡ list_all (λ b. b == 48) text.now }
 {
     text.iter().all(|b| *b == b'0')
 }

@@ -1,16 +1,8 @@
 -- Lines and texts, computed from the definitions.
-use Rattle.std.proofs.Common.{◌≡◌, ℤ, pos, negsuc, true, false, [], ◌∷◌, ◌++◌, refl, arith}
-use Rattle.std.proofs.lemmas.Int.{ints}
+use Rattle.std.proofs.Common.{◌≡◌, true, false, [], ◌∷◌, ◌++◌, refl}
 use Rattle.std.specs.Prelude.{codes}
-use Rattle.std.specs.Fmt.{digits}
-use Rattle.plane_terms.specs.Point.{Place}
-use Rattle.plane_terms.specs.Shape.{point_shape}
 use Rattle.text_terms.specs.Lines.{lines_of}
 use Rattle.text_terms.specs.Fields.{HasFields, is_skipped}
-use Rattle.text_terms.specs.Wkt.{point_text, IsWrittenPoint}
-
-abbrev at : ℤ → ℤ → Place
-at x y = record { x = x; y = y }
 
 -- CR LF, LF alone, an empty line, and a rest without an end
 crlf : lines_of true (codes "ab" ++ 13 ∷ 10 ∷ codes "c" ++ 10 ∷ 10 ∷ codes "d") ≡ codes "ab" ∷ codes "c" ∷ [] ∷ codes "d" ∷ []
@@ -31,20 +23,3 @@ spaced = (refl, (refl, (refl, refl)))
 
 remark : is_skipped (codes "  # class") ≡ true
 remark = refl
-
-well_text : point_text (at (pos 3) (negsuc 3)) ≡ codes "POINT (3 -4)"
-unfolding digits
-well_text = refl
-
-written : IsWrittenPoint (codes "POINT (3 4)") (point_shape (at (pos 3) (pos 4)))
-unfolding digits
-written = record {
-  place = at (pos 3) (pos 4);
-  in_reach = record {
-    x = record { low = omega (arith, ints); high = omega (arith, ints) };
-    y =
-        record { low = omega (arith, ints); high = omega (arith, ints) };
-  };
-  written = refl;
-  shape = refl;
-}

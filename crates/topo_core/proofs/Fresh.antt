@@ -13,14 +13,10 @@ use Rattle.topology_terms.specs.Entry.{Entry, entry_at}
 use Rattle.topology_terms.specs.Project.{Project, rule_at}
 use Rattle.topology_terms.specs.Changes.{IsFresh, IsValidated}
 use Rattle.sound_laws.proofs.Dirts.{bool_cases}
+use Rattle.sound_laws.proofs.States.{some_point}
 use Rattle.topo_core.specs.Kinds.{IsPartner, NamesPartners}
 use Rattle.topo_core.specs.Topologies.{IsErrorOf, IsTopology}
 use Rattle.topo_core.proofs.Exchanges.{live_given}
-
--- cells that have points, and are not none, hold some point
-some_point : (cs : List Cell) → cs ≢ [] → HavePoints cs → (p : Point) × InCells cs p
-some_point [] n h = absurd (n refl)
-some_point (c ∷ cs) n h = (h.0.0, inl h.0.1)
 
 -- no cell is the whole plane where a rectangle holds them all
 beyond : Rectangle → Point

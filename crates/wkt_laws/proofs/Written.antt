@@ -145,10 +145,7 @@ whole ft fs P one t x h lead = one t x [] (End ∷ []) [] h (lead ∙ ap skip_bl
 
 pub written_read : (g : Geometry) → IsFull g → IsInGrid g → IsWkt (written g) g
 written_read (APoint p) full h =
-    let text = signed_decimal p.x ++ 32 ∷ (signed_decimal p.y ++ 41 ∷ []) in
-    let lead : Leads text (place_text p ++ 41 ∷ []) =
-    ap skip_blanks (sym (append_assoc (signed_decimal p.x) (32 ∷ signed_decimal p.y) (41 ∷ []))) in
-    (full, (refl, (refl, place_read text p (41 ∷ []) (Close ∷ End ∷ []) [] h lead refl (refl, (refl, refl)))))
+    (full, (refl, (refl, place_read (place_text p ++ 41 ∷ []) p (41 ∷ []) (Close ∷ End ∷ []) [] h refl refl (refl, (refl, refl)))))
 written_read (ALine ps) full h = (full, (refl, whole list_text list (AreGood IsInReach) list_read (32 ∷ list_text ps) ps (h, full) refl))
 written_read (Lines pss) full h = (
   full,

@@ -50,11 +50,7 @@ EndsInNumber front = (before : List Token) × (z : ℤ) × (front ≡ before ++ 
 abbrev pub UnsupportedAt : List Token → Token → Type 0
 UnsupportedAt front (Named w) = (front ≡ []) ⊎ ((w ≡ Modifier) × Wants front Open)
 UnsupportedAt front (Numeral n) = EndsInNumber front × Wants front Close
-UnsupportedAt front Open = ⊥
-UnsupportedAt front Close = ⊥
-UnsupportedAt front Comma = ⊥
-UnsupportedAt front Other = ⊥
-UnsupportedAt front End = ⊥
+UnsupportedAt front other = ⊥
 
 -- such a numeral stands where a number is wanted
 abbrev pub NumeralAt : Number → List Token → Token → Type 0

@@ -41,12 +41,9 @@ is_fraction (b ∷ bs) = (b == 46) && list_all is_digit bs
 abbrev pub has_form : List ℕ → List ℕ → Bool
 has_form whole fraction = is_fraction fraction && nat_lt 1 (2 * length whole + length fraction)
 
-abbrev pub is_zero : ℕ → Bool
-is_zero b = b == 48
-
 -- each digit behind the point is 0
 abbrev pub is_on_grid : List ℕ → Bool
-is_on_grid fraction = list_all is_zero (drop 1 fraction)
+is_on_grid fraction = list_all (λ b. b == 48) (drop 1 fraction)
 
 abbrev pub signed : Bool → ℕ → ℤ
 signed negative n = if negative then neg_ℤ (pos n) else pos n

@@ -1,10 +1,9 @@
 -- What a text says of a shape, and back.
 --
 -- is_closed ring         the ring's first and last places are the same
--- rings_in g             all rings, through all polygons
+-- rings_in g             all rings, through all polygons; a point and lines have none
 -- AreClosed g            each ring is closed
 -- IsOpen ring            the ring is not closed
--- IsFirstOpen rings n    the ring n, counted from 0, is the first that is not closed
 -- kind_in g, parts_in g  the kind and the parts that a geometry says
 -- shape_in g             the shape that these parts make: equal neighbours are kept once, and the last place of a ring, which is its first
 --                        again, goes
@@ -18,7 +17,6 @@ use Rattle.std.specs.Prelude.{ℕ, ◌≡◌, Bool, true, false, List, [], ◌�
 use Rattle.plane_terms.specs.Lists.{Every}
 use Rattle.plane_terms.specs.Point.{Place, same_place}
 use Rattle.plane_terms.specs.Shape.{Shape, IsShape, rings_of, shape_of, place_of, last_of}
-use Rattle.plane_terms.specs.ShapeFaults.{IsFirstOf}
 use Rattle.plane_terms.specs.declared.kind.Kind.{Kind}
 use Rattle.plane_terms.specs.declared.kind.Kind.TheVariants as kind
 use Rattle.wkt_terms.specs.Grammar.{Geometry, APoint, ALine, Lines, APolygon, Polygons, IsWkt}
@@ -32,20 +30,15 @@ is_closed [] = true
 is_closed (p ∷ ps) = same_place p (last_of p ps)
 
 abbrev pub rings_in : Geometry → List (List Place)
-rings_in (APoint p) = []
-rings_in (ALine ps) = []
-rings_in (Lines pss) = []
 rings_in (APolygon rings) = rings
 rings_in (Polygons parts) = flat_map (λ part. part) parts
+rings_in other = []
 
 abbrev pub AreClosed : Geometry → Type 0
 AreClosed g = Every (λ ring. is_closed ring ≡ true) (rings_in g)
 
 abbrev pub IsOpen : List Place → Type 0
 IsOpen ring = is_closed ring ≡ false
-
-abbrev pub IsFirstOpen : List (List Place) → ℕ → Type 0
-IsFirstOpen rings n = IsFirstOf IsOpen rings n
 
 abbrev pub kind_in : Geometry → Kind
 kind_in (APoint p) = kind.Point
@@ -78,14 +71,12 @@ closed [] = []
 closed (p ∷ ps) = p ∷ ps ++ p ∷ []
 
 abbrev pub of_lines : List (List Place) → Geometry
-of_lines [] = Lines []
 of_lines (ps ∷ []) = ALine ps
-of_lines (ps ∷ qs ∷ pss) = Lines (ps ∷ qs ∷ pss)
+of_lines pss = Lines pss
 
 abbrev pub of_polygons : List (List (List Place)) → Geometry
-of_polygons [] = Polygons []
 of_polygons (rings ∷ []) = APolygon (map closed rings)
-of_polygons (rings ∷ more ∷ parts) = Polygons (map (λ part. map closed part) (rings ∷ more ∷ parts))
+of_polygons parts = Polygons (map (λ part. map closed part) parts)
 
 abbrev pub geometry_by : Kind → Shape → Geometry
 geometry_by kind.Point s = APoint (place_of s)

@@ -11,7 +11,7 @@ use Rattle.std.specs.Prelude.{ℕ, List, [], ◌∷◌, ◌++◌, map, codes}
 use Rattle.std.specs.List.{AllByRecursion}
 use Rattle.std.specs.Fmt.{signed_decimal}
 use Rattle.plane_terms.specs.Point.{Place, IsInReach}
-use Rattle.text_terms.specs.Wkt.{listed, point_text}
+use Rattle.text_terms.specs.Wkt.{listed}
 use Rattle.wkt_terms.specs.Grammar.{Geometry, APoint, ALine, Lines, APolygon, Polygons}
 
 abbrev pub place_text : Place → List ℕ
@@ -27,7 +27,7 @@ abbrev pub lists_text : List (List Place) → List ℕ
 lists_text pss = bracketed (listed (map list_text pss))
 
 abbrev pub written : Geometry → List ℕ
-written (APoint q) = point_text q
+written (APoint q) = codes "POINT " ++ bracketed (place_text q)
 written (ALine ps) = codes "LINESTRING " ++ list_text ps
 written (Lines pss) = codes "MULTILINESTRING " ++ lists_text pss
 written (APolygon rings) = codes "POLYGON " ++ lists_text rings

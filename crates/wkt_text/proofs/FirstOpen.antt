@@ -11,7 +11,7 @@ use Rattle.std.specs.Option.{is_some}
 use Rattle.plane_terms.specs.Lists.{Every}
 use Rattle.plane_terms.specs.Point.{Place, same_place}
 use Rattle.plane_terms.specs.Shape.{last_of}
-use Rattle.wkt_terms.specs.Shapes.{is_closed, IsFirstOpen}
+use Rattle.wkt_terms.specs.Shapes.{is_closed, IsOpen}
 use Rattle.shape.specs.Given.{Ring, rings_in as lists_of, polygons_in as parts_of}
 use Rattle.shape.specs.Given.{all_rings}
 use Rattle.wkt_text.specs.Open.{first_open}
@@ -87,7 +87,7 @@ counted parts i p below is =
 record OpenAt (n m : ℕ) (rings : List (List Place)) : Type 0 where
   at : ℕ
   sum : m ≡ n + at
-  first : IsFirstOpen rings at
+  first : IsFirstOf IsOpen rings at
 
 open_from : (n m : ℕ) (rings : List (List Place)) → first_open n rings ≡ Some m → OpenAt n m rings
 open_from n m [] e = cc
@@ -103,11 +103,11 @@ open_from n m (x ∷ xs) e = by_test (is_closed x) refl (open_from (n + 1) m xs)
         record { at = suc r.at; sum = omega (arith, r.sum); first = (λ e. cc, r.first) }
     by_test false t f e = record { at = zero; sum = same e; first = t }
 
-pub open_at : (m : ℕ) (rings : List (List Place)) → first_open 0 rings ≡ Some m → IsFirstOpen rings m
+pub open_at : (m : ℕ) (rings : List (List Place)) → first_open 0 rings ≡ Some m → IsFirstOf IsOpen rings m
 open_at m rings e =
     let r = open_from 0 m rings e in
     let same : r.at ≡ m = omega (arith, r.sum) in
-    subst (λ (k : ℕ). IsFirstOpen rings k) same r.first
+    subst (λ (k : ℕ). IsFirstOf IsOpen rings k) same r.first
 
 none_from : (n : ℕ) (rings : List (List Place)) → first_open n rings ≡ None → Every (λ ring. is_closed ring ≡ true) rings
 none_from n [] e = tt

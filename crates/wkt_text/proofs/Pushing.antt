@@ -187,7 +187,7 @@ more_polygons (r ∷ q ∷ parts) other = ap (λ t. codes "MULTIPOLYGON " ++ bra
 -- ---- places
 
 pub point_is : (q : Place) → written (APoint q) ≡ codes "POINT (" ++ (place_text q ++ 41 ∷ [])
-point_is q = ap (λ t. codes "POINT (" ++ t) (sym (append_assoc (signed_decimal q.x) (32 ∷ signed_decimal q.y) (41 ∷ [])))
+point_is q = refl
 
 pub place_is : (q : Place) (u : List ℕ) → u ≡ signed_decimal q.x → place_text q ≡ u ++ ((32 ∷ []) ++ signed_decimal q.y)
 place_is q u e = ap (λ t. t ++ 32 ∷ signed_decimal q.y) (sym e)

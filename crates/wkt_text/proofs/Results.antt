@@ -9,7 +9,7 @@ use Rattle.plane_terms.specs.Point.{Place}
 use Rattle.plane_terms.specs.Shape.{Shape, IsShape}
 use Rattle.wkt_terms.specs.Faults.{Cause, FirstFault}
 use Rattle.wkt_terms.specs.Grammar.{Geometry, IsWkt}
-use Rattle.wkt_terms.specs.Shapes.{is_closed, AreClosed, IsOpen, IsFirstOpen, rings_in, shape_in, IsShapeText}
+use Rattle.wkt_terms.specs.Shapes.{is_closed, AreClosed, IsOpen, rings_in, shape_in, IsShapeText}
 use Rattle.wkt_laws.proofs.Reading.{no_fault, one_value}
 use Rattle.wkt_terms.specs.WktFaults.{IsWktFault}
 use Rattle.wkt_text.specs.Faults.{IsWholeFault}
@@ -39,7 +39,7 @@ found_from text g (Err e) w h = whole text g e w h
 
 -- ---- one shape at most
 
-pub closed_or_open : (rings : List (List Place)) (n : ℕ) → Every (λ ring. is_closed ring ≡ true) rings → IsFirstOpen rings n → ⊥
+pub closed_or_open : (rings : List (List Place)) (n : ℕ) → Every (λ ring. is_closed ring ≡ true) rings → IsFirstOf IsOpen rings n → ⊥
 closed_or_open rings n closed o =
     none_first IsOpen rings n (every_map (λ ring. is_closed ring ≡ true) (λ ring. ¬ (IsOpen ring)) (λ ring t e. cc) rings closed) o
 

@@ -8,11 +8,11 @@ use Rattle.plane_terms.specs.Lists.{Every}
 use Rattle.plane_terms.specs.Point.{Place}
 use Rattle.plane_terms.specs.Shape.{Shape, shape_of}
 use Rattle.plane_terms.specs.declared.kind.Kind.TheVariants as kind
-use Rattle.plane_terms.specs.ShapeFaults.{IsFault}
+use Rattle.plane_terms.specs.ShapeFaults.{IsFault, IsFirstOf}
 use Rattle.shape.specs.Given.{all_rings}
 use Rattle.plane_terms.specs.declared.shape_fault.ShapeFault.TheVariants as shape
 use Rattle.wkt_terms.specs.Grammar.{Geometry}
-use Rattle.wkt_terms.specs.Shapes.{is_closed, rings_in, shape_in, AreClosed, IsFirstOpen}
+use Rattle.wkt_terms.specs.Shapes.{is_closed, rings_in, shape_in, AreClosed, IsOpen}
 use Rattle.wkt_terms.specs.declared.wkt_fault.WktFault.{WktFault}
 use Rattle.wkt_terms.specs.declared.wkt_fault.WktFault.TheVariants.{Syntax, OffGrid, OutOfReach, Unsupported, NotClosed, Invalid, NoMemory}
 
@@ -36,7 +36,7 @@ IsPolygonFault parts (Syntax at) = ⊥
 IsPolygonFault parts (OffGrid at) = ⊥
 IsPolygonFault parts (OutOfReach at) = ⊥
 IsPolygonFault parts (Unsupported at) = ⊥
-IsPolygonFault parts (NotClosed ring) = IsFirstOpen (all_rings parts) ring
+IsPolygonFault parts (NotClosed ring) = IsFirstOf IsOpen (all_rings parts) ring
 IsPolygonFault parts (Invalid f) = closed_rings parts × IsShapeFault (polygon_by parts) (Invalid f)
 IsPolygonFault parts NoMemory = Unit {0}
 
@@ -45,6 +45,6 @@ IsWholeFault g (Syntax at) = ⊥
 IsWholeFault g (OffGrid at) = ⊥
 IsWholeFault g (OutOfReach at) = ⊥
 IsWholeFault g (Unsupported at) = ⊥
-IsWholeFault g (NotClosed ring) = IsFirstOpen (rings_in g) ring
+IsWholeFault g (NotClosed ring) = IsFirstOf IsOpen (rings_in g) ring
 IsWholeFault g (Invalid f) = AreClosed g × IsShapeFault (shape_in g) (Invalid f)
 IsWholeFault g NoMemory = Unit {0}
