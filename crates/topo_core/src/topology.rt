@@ -170,7 +170,7 @@ impl<R: KindRules> Topology<R> {
     }
 
     /// Puts the rule of this number out of force. It goes with its errors, and nothing becomes dirty. Refused where no rule in
-    /// force has this number. Takes no memory.
+    /// force has this number. Needs no memory.
     pub fn drop_rule(&mut self, number: u16) -> Result<(), NoRule>
         ensures ok { OnOk result (IsRuleDropped number self.old self.new) }
         ensures may { OnOk result (drop_cause self.old.rules number ≡ None) }
