@@ -19,7 +19,7 @@ use Rattle.std.specs.Prelude.{ℕ, ℤ, pos, ◌≡◌, ◌+◌, ◌⊎◌, leng
 use Rattle.text_terms.specs.Fields.{skip_blanks}
 use Rattle.wkt_terms.specs.Grammar.{Geometry, spelling, IsFull}
 use Rattle.wkt_terms.specs.Numerals.{Number, Whole, OffGrid, OutOfReach}
-use Rattle.wkt_terms.specs.Tokens.{Token, Open, Close, Comma, Named, Numeral, Other, End, Modifier, token_at, StartsWith}
+use Rattle.wkt_terms.specs.Tokens.{Token, Open, Close, Named, Numeral, End, Modifier, token_at, StartsWith}
 
 abbrev pub IsBegun : List Token → Type 0
 IsBegun front = (g : Geometry) × (more : List Token) × IsFull g × (front ++ more ≡ spelling g)
@@ -50,7 +50,7 @@ EndsInNumber front = (before : List Token) × (z : ℤ) × (front ≡ before ++ 
 abbrev pub UnsupportedAt : List Token → Token → Type 0
 UnsupportedAt front (Named w) = (front ≡ []) ⊎ ((w ≡ Modifier) × Wants front Open)
 UnsupportedAt front (Numeral n) = EndsInNumber front × Wants front Close
-UnsupportedAt front other = ⊥
+UnsupportedAt front _ = ⊥
 
 -- such a numeral stands where a number is wanted
 abbrev pub NumeralAt : Number → List Token → Token → Type 0
