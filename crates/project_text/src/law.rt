@@ -5,8 +5,8 @@ ghost use Rattle.project_terms.specs.declared.project_cause.ProjectCause as term
 ghost use Rattle.project_terms.specs.Lines.{number};
 ghost use Rattle.project_terms.specs.Texts.{IsProjectText, IsRead, IsFault};
 
-/// The law of texts: a text says one project at most; where it says one, no line of it is wrong; and else one line is the first that
-/// is wrong, of one cause.
+/// The law of texts: a text says one project at most; where it says one, no line of it is wrong; and at most one line is the first
+/// that is wrong, with one cause.
 pub fn one_text_law()
     ensures project { (t : List ℕ) (p q : Project) → IsRead t p → IsRead t q → p ≡ q }
     ensures either { (t : List ℕ) (p : Project) (n : ℕ) (c : terms.ProjectCause) → IsRead t p → ¬ (IsFault t n c) }

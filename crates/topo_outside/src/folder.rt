@@ -79,7 +79,8 @@ fn write_file<R: Files>(files: &R, alloc: Global, path: &str, bytes: &[u8]) -> i
     }
 }
 
-/// The files of the system as a shelf: a name is a path, as it was given. Its count of faults rises at each error.
+/// The files of the system as a shelf: a name is a path, as it was given. Its count of faults rises at each error, except where
+/// memory runs out.
 ///
 /// A path at which nothing stands holds nothing; a file of more than 1,073,741,824 bytes, a folder, and a path through a file are
 /// errors. `put` writes a file of the name with `.new` behind it and moves it to its place, so that where it fails the old file
