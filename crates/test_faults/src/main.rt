@@ -1,6 +1,5 @@
-// Replays a script of ten lines, and the run that saves a project of two lots, where calls to the outside fail, one after another,
-// and counts the runs that end otherwise than they are to. What is expected comes from the replies that stand beside the lines in
-// script.rt.
+// Replays a script of ten lines where calls to the outside fail, one after another, and counts the runs that end otherwise than
+// they are to. What is expected comes from the replies that stand beside the lines in script.rt.
 #![tactic(auto)]
 
 mod kinds;
@@ -12,8 +11,7 @@ mod tally;
 use kinds::{
     AbsentProjects, EmptyWrites, EndlessReads, FailingReads, FailingReadsAndWrites, FailingShelves,
     FailingUsage, FailingWrites, Kind, LateWrites, OtherWords, PlainRuns, RunsInPieces,
-    SavedProjects, SavingOverFaults, SavingReads, SavingRuns, SavingWrites, UnsavedProjects,
-    WrongTexts,
+    SavedProjects, UnsavedProjects, WrongTexts,
 };
 use std::io;
 
@@ -41,9 +39,5 @@ fn main(rt: HostRuntime) -> io::Result<()> {
     make(&rt, &WrongTexts)?;
     make(&rt, &SavedProjects)?;
     make(&rt, &UnsavedProjects)?;
-    make(&rt, &SavingRuns)?;
-    make(&rt, &SavingReads)?;
-    make(&rt, &SavingWrites)?;
-    make(&rt, &SavingOverFaults)?;
     make(&rt, &EndlessReads)
 }
