@@ -1,6 +1,7 @@
 ghost use Rattle.std.specs.Prelude.{◌≤◌};
 
 mod reads;
+mod saving;
 mod shelves;
 mod usage;
 mod whole;
@@ -10,10 +11,11 @@ use crate::script::LINES;
 use crate::statuses::{DONE, REFUSED};
 use crate::tally::Tally;
 pub use reads::{EndlessReads, FailingReads, FailingReadsAndWrites};
+pub use saving::{SavingOverFaults, SavingReads, SavingRuns, SavingWrites};
 pub use shelves::{AbsentProjects, FailingShelves, SavedProjects, UnsavedProjects, WrongTexts};
 use std::alloc::{AllocError, Global};
 use std::collections::BTreeMap;
-use topo_outside::{MemSink, MemSource, Shelf, Sink, Source, SureShelf};
+use topo_outside::{MemShelf, MemSink, MemSource, Shelf, Sink, Source, SureShelf};
 use topo_run::run;
 pub use usage::{FailingUsage, OtherWords};
 pub use whole::{PlainRuns, RunsInPieces};
@@ -91,6 +93,22 @@ fn failing_sink(alloc: Global, piece: usize, call: u64) -> Result<MemSink, Alloc
     requires { 1 ≤ piece }
 {
     Ok(MemSink::new(alloc, piece, vec![in alloc; call]?))
+}
+
+// A sink that takes pieces; the call of this number takes nothing.
+fn idle_sink(alloc: Global, piece: usize, call: u64) -> Result<MemSink, AllocError>
+    requires { 1 ≤ piece }
+{
+    let idle = vec![in alloc; call]?;
+    Ok(MemSink::with_idle(alloc, piece, Vec::new(alloc), idle))
+}
+
+// Whether the shelf holds this text under the name.
+fn holds(shelf: &MemShelf, name: &str, text: &[u8]) -> bool {
+    match shelf.held().get(name) {
+        Some(bytes) => bytes.as_slice() == text,
+        None => false,
+    }
 }
 
 // The same bytes so many times.

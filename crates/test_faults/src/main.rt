@@ -1,5 +1,6 @@
-// Replays a script of ten lines where calls to the outside fail, one after another, and counts the runs that end otherwise than
-// they are to. What is expected comes from the replies that stand beside the lines in script.rt.
+// Replays a script of ten lines, and the run that saves a project of two lots, where calls to the outside fail, one after another,
+// and counts the runs that end otherwise than they are to. What is expected comes from the replies that stand beside the lines in
+// script.rt.
 #![tactic(auto)]
 
 mod kinds;
@@ -11,7 +12,8 @@ mod tally;
 use kinds::{
     AbsentProjects, EmptyWrites, EndlessReads, FailingReads, FailingReadsAndWrites, FailingShelves,
     FailingUsage, FailingWrites, Kind, LateWrites, OtherWords, PlainRuns, RunsInPieces,
-    SavedProjects, UnsavedProjects, WrongTexts,
+    SavedProjects, SavingOverFaults, SavingReads, SavingRuns, SavingWrites, UnsavedProjects,
+    WrongTexts,
 };
 use std::io;
 
@@ -39,5 +41,9 @@ fn main(rt: HostRuntime) -> io::Result<()> {
     make(&rt, &WrongTexts)?;
     make(&rt, &SavedProjects)?;
     make(&rt, &UnsavedProjects)?;
+    make(&rt, &SavingRuns)?;
+    make(&rt, &SavingReads)?;
+    make(&rt, &SavingWrites)?;
+    make(&rt, &SavingOverFaults)?;
     make(&rt, &EndlessReads)
 }

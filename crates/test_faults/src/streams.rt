@@ -1,11 +1,9 @@
-ghost use Rattle.std.specs.Prelude.{◌≡◌, ◌+◌, ◌-◌, ◌^◌, ◌≤◌, [], length, min, None, Some, Ok, IfOk};
-ghost use Rattle.std.specs.Io.{ReadsAtMost, WritesAtMost};
-ghost use Rattle.std.specs.Io.KnownBytes.{ReadConsumes, WriteAppends};
-ghost use Rattle.topo_outside.specs.Causes.{ReadCause, WriteCause};
-ghost use Rattle.topo_outside.specs.Memory.{counted};
+ghost use Rattle.std.specs.Prelude.{◌≡◌, ◌+◌, ◌-◌, ◌^◌, ◌≤◌, length, min, None, IfOk};
+ghost use Rattle.std.specs.Io.{ReadsAtMost};
+ghost use Rattle.std.specs.Io.KnownBytes.{ReadConsumes};
+ghost use Rattle.topo_outside.specs.Causes.{ReadCause};
 
-use std::alloc::Global;
-use topo_outside::{Failed, Sink, SinkFault, Source};
+use topo_outside::{Failed, Source};
 
 /// A source that gives one line again and again, without end.
 #[derive(Drop)]
@@ -69,65 +67,5 @@ impl Source for EndlessSource {
         self.before = self.given;
         self.given = self.given.saturating_add(count as u64);
         Ok(count)
-    }
-}
-
-/// A sink in memory, one call of which takes nothing.
-#[derive(Drop)]
-pub struct StingySink {
-    bytes: Vec<u8>,
-    piece: usize,
-    stingy: u64,
-    calls: u64,
-    faults: u64,
-}
-
-impl StingySink {
-    /// An empty sink, which takes at most `piece` bytes at once; the call of this number, from 1, takes none.
-    pub fn new(alloc: Global, piece: usize, stingy: u64) -> Self
-        ensures empty { result.bytes.items ≡ [] }
-        ensures calls { (result.calls ≡ 0) × (result.faults ≡ 0) }
-        ensures as_given { (result.piece ≡ piece) × (result.stingy ≡ stingy) }
-    {
-        StingySink {
-            bytes: Vec::new(alloc),
-            piece,
-            stingy,
-            calls: 0,
-            faults: 0,
-        }
-    }
-
-    /// What was written.
-    pub fn bytes(&self) -> &Vec<u8>
-        ensures { result.now ≡ self.now.bytes }
-    {
-        &self.bytes
-    }
-}
-
-impl Sink for StingySink {
-    ghost written = { λ s. Some s.bytes.items };
-
-    ghost faults = { λ s. s.faults };
-
-    fn write(&mut self, bytes: &[u8]) -> Result<usize, SinkFault>
-        ensures bound { WritesAtMost result bytes.now }
-        ensures bytes { WriteAppends (Some self.old.bytes.items) (Some self.new.bytes.items) result bytes.now }
-        ensures cause { WriteCause self.old.faults self.new.faults bytes.now result }
-        ensures stingy { counted self.old.calls ≡ self.old.stingy → result ≡ Ok 0 }
-        ensures calls { self.new.calls ≡ counted self.old.calls }
-        ensures as_given { (self.new.piece ≡ self.old.piece) × (self.new.stingy ≡ self.old.stingy) }
-    {
-        self.calls = self.calls.saturating_add(1);
-        if self.calls == self.stingy || self.piece == 0 {
-            self.faults = self.faults.saturating_add(1);
-            return Ok(0);
-        }
-        let count = self.piece.min(bytes.len());
-        match self.bytes.extend_from_slice(&bytes[..count]) {
-            Ok(()) => Ok(count),
-            Err(_) => Err(SinkFault::NoMemory),
-        }
     }
 }

@@ -1,4 +1,6 @@
-use super::{AT_ONCE, Kind, failing_sink, failing_source, first_lines, first_replies, status_on};
+use super::{
+    AT_ONCE, Kind, failing_sink, failing_source, first_lines, first_replies, holds, status_on,
+};
 use crate::script::{LEN, SAVED};
 use crate::statuses::{
     NO_PROJECT, OPEN_FAULT, READ_FAULT, REFUSED, SAVE_FAULT, WRITE_FAULT, WRONG_TEXT,
@@ -26,14 +28,6 @@ fn shelf_with(alloc: Global, text: &[u8], call: u64) -> Result<MemShelf, AllocEr
 
 fn empty_shelf(alloc: Global, call: u64) -> Result<MemShelf, AllocError> {
     Ok(MemShelf::new(BTreeMap::new(alloc), vec![in alloc; call]?))
-}
-
-// Whether the shelf holds this under the name.
-fn holds(shelf: &MemShelf, name: &str, text: &[u8]) -> bool {
-    match shelf.held().get(name) {
-        Some(bytes) => bytes.as_slice() == text,
-        None => false,
-    }
 }
 
 // The words that name a project over this shelf: the status and what is written; nothing is read.

@@ -1,9 +1,10 @@
 ghost use Rattle.std.specs.Prelude.{◌≤◌};
 
-use super::{AT_ONCE, Kind, calls_for, failing_sink, first_lines, first_replies, repeated, replay};
+use super::{
+    AT_ONCE, Kind, calls_for, failing_sink, first_lines, first_replies, idle_sink, repeated, replay,
+};
 use crate::script::LEN;
 use crate::statuses::{REFUSED, WRITE_FAULT};
-use crate::streams::StingySink;
 use crate::tally::Tally;
 use std::alloc::{AllocError, Global};
 use topo_outside::SureSource;
@@ -49,7 +50,7 @@ fn empty_each_write(alloc: Global, piece: usize, tally: &mut Tally) -> Result<()
     for before in 0..calls_for(replies.len(), piece) {
         let taken = before.saturating_mul(piece).min(replies.len());
         let mut source = SureSource::new(first_lines(alloc, LEN)?);
-        let mut sink = StingySink::new(alloc, piece, before as u64 + 1);
+        let mut sink = idle_sink(alloc, piece, before as u64 + 1)?;
         let status = replay(alloc, &mut source, &mut sink)?;
         tally.note(status == WRITE_FAULT && sink.bytes().as_slice() == &replies[..taken]);
     }
