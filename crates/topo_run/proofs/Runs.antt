@@ -37,7 +37,7 @@ pub last_snoc : (s : State) (os : List Outcome) (o : Outcome) → last_state s (
 last_snoc s [] o = refl
 last_snoc s (p ∷ os) o = last_snoc p.after os o
 
-text_snoc : (os : List Outcome) (o : Outcome) → text_of (os ++ o ∷ []) ≡ text_of os ++ o.text
+pub text_snoc : (os : List Outcome) (o : Outcome) → text_of (os ++ o ∷ []) ≡ text_of os ++ o.text
 text_snoc [] o = append-nil o.text
 text_snoc (p ∷ os) o = ap (λ t. p.text ++ t) (text_snoc os o) ∙ sym (append_assoc p.text (text_of os) o.text)
 
