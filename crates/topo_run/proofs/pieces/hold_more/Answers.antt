@@ -14,7 +14,7 @@ returns-clause-ok c =
     let short : length c.args.rest.now.items ≤ 1048578 = held_short c.args.rest.now.items c.requires.held in
     let room : 1048578 - c.len-room.result ≡ 1048578 - length c.args.rest.now.items = omega (arith, count, c.len-room.ensures) in
     c.in_ok-extend_from_slice.ensures.items ∙ held_room c.args.rest.now.items c.args.more.now (1048578 - c.len-room.result) c.min.result short
-        room c.min.ensures
+    room c.min.ensures
 
 pub returns-clause-kept : goal.returns-clause-kept
 returns-clause-kept c =

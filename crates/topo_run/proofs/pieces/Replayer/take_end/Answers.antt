@@ -9,8 +9,8 @@ pub returns-then-holds_none-clause-ok : goal.returns-then-holds_none-clause-ok
 returns-then-holds_none-clause-ok g c =
     let law = c.state_law.ensures in
     λ tail holds. nothing_ends c.args.self.now tail _
-        (keeps_by c.args.self.now.state c.args.self.now.state (λ k. k) (λ k. k) law.sound law.invariant) law.keeping law.ordered
-        (empty_rest c.args.self.now.rest (sym c.holds_none.ensures ∙ c.if-holds_none.true)) holds
+    (keeps_by c.args.self.now.state c.args.self.now.state (λ k. k) (λ k. k) law.sound law.invariant) law.keeping law.ordered
+    (empty_rest c.args.self.now.rest (sym c.holds_none.ensures ∙ c.if-holds_none.true)) holds
 
 pub returns-in_err-end_line-clause-err : goal.returns-in_err-end_line-clause-err
 returns-in_err-end_line-clause-err g c =
@@ -33,15 +33,15 @@ returns-in_err-write_all-clause-broken g c =
     let law = c.state_law.ensures in
     let part = c.in_err-write_all.ensures.err in
     λ failed tail holds. last_breaks tail part.0 part.1.0
-        (keeps_by c.args.self.now.state c.args.self.now.state (λ k. k) (λ k. k) law.sound law.invariant) law.keeping law.ordered
-        (filled_rest c.args.self.now.rest (sym c.holds_none.ensures ∙ c.if-holds_none.false)) holds
-        (rw c.new-gathered.ensures.items at c.in_ok-end_line.ensures) (sym c.deref.ensures.value ∙ part.1.1)
-        (rw c.deref.ensures.value at part.3) part.2
+    (keeps_by c.args.self.now.state c.args.self.now.state (λ k. k) (λ k. k) law.sound law.invariant) law.keeping law.ordered
+    (filled_rest c.args.self.now.rest (sym c.holds_none.ensures ∙ c.if-holds_none.false)) holds
+    (rw c.new-gathered.ensures.items at c.in_ok-end_line.ensures) (sym c.deref.ensures.value ∙ part.1.1)
+    (rw c.deref.ensures.value at part.3) part.2
 
 pub returns-clause-ok : goal.returns-clause-ok
 returns-clause-ok g c =
     let law = c.state_law.ensures in
     λ tail holds. last_ends tail
-        (keeps_by c.args.self.now.state c.args.self.now.state (λ k. k) (λ k. k) law.sound law.invariant) law.keeping law.ordered
-        (filled_rest c.args.self.now.rest (sym c.holds_none.ensures ∙ c.if-holds_none.false)) holds
-        (rw c.new-gathered.ensures.items at c.in_ok-end_line.ensures) c.deref.ensures.value c.in_ok-write_all.ensures.ok
+    (keeps_by c.args.self.now.state c.args.self.now.state (λ k. k) (λ k. k) law.sound law.invariant) law.keeping law.ordered
+    (filled_rest c.args.self.now.rest (sym c.holds_none.ensures ∙ c.if-holds_none.false)) holds
+    (rw c.new-gathered.ensures.items at c.in_ok-end_line.ensures) c.deref.ensures.value c.in_ok-write_all.ensures.ok

@@ -36,8 +36,8 @@ returns-in_err-write_if_many-clause-broken g c =
     let law = c.state_law.ensures in
     let part = c.in_err-write_if_many.ensures.err in
     λ failed tail holds. piece_breaks part.0 part.1.0
-        (piece_on c.in-Some.end.now c.in-Some.after.now (c.loop-end.invariant.far tail holds) c.in-Some.ensures.1 c.in-Some.ensures.0
-        c.in_ok-end_line.ensures) law.keeping law.ordered part.1.1 part.3 part.2
+    (piece_on c.in-Some.end.now c.in-Some.after.now (c.loop-end.invariant.far tail holds) c.in-Some.ensures.1 c.in-Some.ensures.0
+    c.in_ok-end_line.ensures) law.keeping law.ordered part.1.1 part.3 part.2
 
 pub returns-in_err-hold-clause-err : goal.returns-in_err-hold-clause-err
 returns-in_err-hold-clause-err g c = at_err c.from_residual-in_err-hold.result (λ tail holds. piece_stops (c.loop-end.invariant.far tail holds)
@@ -55,7 +55,7 @@ returns-in_err-write_all-clause-broken g c =
     let law = c.state_law.ensures in
     let part = c.in_err-write_all.ensures.err in
     λ failed tail holds. piece_breaks part.0 part.1.0 (c.loop-end.invariant.far tail holds) law.keeping law.ordered
-        (sym c.deref.ensures.value ∙ part.1.1) (rw c.deref.ensures.value at part.3) part.2
+    (sym c.deref.ensures.value ∙ part.1.1) (rw c.deref.ensures.value at part.3) part.2
 
 pub returns-clause-ok : goal.returns-clause-ok
 returns-clause-ok g c = λ tail holds. piece_ends (c.loop-end.invariant.far tail holds) c.in_default.ensures c.state_law.ensures.keeping
