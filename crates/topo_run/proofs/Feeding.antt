@@ -9,7 +9,7 @@ use Rattle.std.specs.Prelude.{◌==◌, Result, Ok, Err, IfOk, IsErrOf}
 use Rattle.std.specs.Io.KnownBytes.{Appends}
 use Rattle.std.proofs.KnownBytes.{Appends-nil}
 use Rattle.topology_terms.specs.Project.{IsOrdered}
-use Rattle.text_terms.specs.Lines.{without_cr, lines_from, lines_of, last_line}
+use Rattle.text_terms.specs.Lines.{without_cr, lines_from, lines_of}
 use Rattle.script_terms.specs.Keeping.{IsKeeping}
 use Rattle.script_terms.specs.State.{State}
 use Rattle.script_terms.specs.Run.{Outcome, Step, WritesPrefix}

@@ -1,14 +1,12 @@
 -- The lines of a text that comes in pieces, and what is held of a line that has not ended yet.
-use Rattle.std.proofs.Common.{ℕ, zero, suc, ◌+◌, ◌-◌, ◌≡◌, ◌≢◌, ◌<◌, ◌≤◌, min, Bool, true, false, List, [], ◌∷◌, ◌++◌, length, take, drop, get_or, refl, sym, ◌∙◌, ap, subst, arith, append_assoc, append-nil, length-append, inl, inr}
+use Rattle.std.proofs.Common.{ℕ, zero, suc, ◌+◌, ◌-◌, ◌≡◌, ◌≢◌, ◌<◌, ◌≤◌, min, Bool, true, false, List, [], ◌∷◌, ◌++◌, length, take, drop, get_or, refl, sym, ◌∙◌, ap, subst, arith, append_assoc, append-nil, inl, inr}
 use Rattle.std.specs.Prelude.{◌==◌, if◌then◌else◌}
 use Rattle.std.proofs.lemmas.Bool.{cases_lt, eqb-true}
 use Rattle.std.proofs.lemmas.List.{take-append-drop, take_all, take-take, take_min, length-take, nil_from_length, take_more}
 use Rattle.std.proofs.Math.Seq.{take-append-add, split_at}
-use Rattle.plane_terms.specs.Lists.{Every}
 use Rattle.plane_terms.proofs.ListLemmas.{every_append, every_left}
 use Rattle.text_terms.specs.Lines.{without_cr, last_line, lines_from, lines_of}
-use Rattle.line_terms.specs.Commands.{Command}
-use Rattle.line_terms.specs.Lines.{IsCommandLine, IsLineFault}
+use Rattle.line_terms.specs.Lines.{IsLineFault}
 use Rattle.line_terms.specs.declared.line_refusal.LineRefusal.{LineRefusal}
 use Rattle.script_terms.specs.State.{State}
 use Rattle.script_terms.specs.Run.{Reading, Reads, Faulty, ReadsAs, ComesOf, Outcome, Step}

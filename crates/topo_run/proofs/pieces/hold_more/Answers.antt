@@ -1,4 +1,4 @@
-use Rattle.std.proofs.Common.{ℕ, ◌≡◌, ◌≤◌, ◌-◌, ◌++◌, List, min, length, take, ◌∙◌, arith, rules, vec_len}
+use Rattle.std.proofs.Common.{◌≡◌, ◌≤◌, ◌-◌, length, ◌∙◌, arith, rules, vec_len}
 use Rattle.topo_run.proofs.Tails.{held_room, held_short, held_kept}
 use Rattle.topo_run.proofs.pieces.hold_more.Goals as goal
 

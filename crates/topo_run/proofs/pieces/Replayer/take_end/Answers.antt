@@ -1,5 +1,4 @@
-use Rattle.std.proofs.Common.{ℕ, ◌≡◌, ◌≢◌, List, [], length, sym, ◌∙◌}
-use Rattle.std.proofs.lemmas.Bool.{eqb-true, eqb-false}
+use Rattle.std.proofs.Common.{sym, ◌∙◌}
 use Rattle.topo_run.proofs.Stepping.{keeps_by}
 use Rattle.topo_run.proofs.Runs.{at_err}
 use Rattle.topo_run.proofs.Feeding.{nothing_ends, last_ends, last_breaks, none_written, empty_rest, filled_rest}
