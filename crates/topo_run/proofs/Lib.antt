@@ -1,5 +1,8 @@
 pub mod Endings
 pub mod Runs
+pub mod Tails
+pub mod Breaking
+pub mod Feeding
 pub mod Stepping
 pub mod Texts
 pub mod Spelling

@@ -8,7 +8,7 @@ use Rattle.std.specs.Prelude.{Result, Ok, Err, OnErr}
 use Rattle.std.specs.Io.KnownBytes.{Appends}
 use Rattle.std.proofs.KnownBytes.{Appends-nil, Appends-trans}
 use Rattle.script_terms.specs.State.{State}
-use Rattle.script_terms.specs.Run.{Outcome, Step, Run, text_of, any_refused, last_state, EachSound, EachInvariant, WritesRun, WritesPrefix}
+use Rattle.script_terms.specs.Run.{Outcome, Step, Run, text_of, any_refused, last_state, EachSound, EachInvariant, WritesPrefix}
 use Rattle.script_terms.specs.Headline.{SoundHeadline, Invariant}
 use Rattle.script_terms.proofs.Runs.{run_keeps}
 use Rattle.script_terms.proofs.Starts.{last_sound, last_settled}
@@ -37,7 +37,7 @@ pub last_snoc : (s : State) (os : List Outcome) (o : Outcome) → last_state s (
 last_snoc s [] o = refl
 last_snoc s (p ∷ os) o = last_snoc p.after os o
 
-text_snoc : (os : List Outcome) (o : Outcome) → text_of (os ++ o ∷ []) ≡ text_of os ++ o.text
+pub text_snoc : (os : List Outcome) (o : Outcome) → text_of (os ++ o ∷ []) ≡ text_of os ++ o.text
 text_snoc [] o = append-nil o.text
 text_snoc (p ∷ os) o = ap (λ t. p.text ++ t) (text_snoc os o) ∙ sym (append_assoc p.text (text_of os) o.text)
 

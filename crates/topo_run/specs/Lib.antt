@@ -1,3 +1,4 @@
+pub mod Replayers
 pub mod Stops
 pub mod Told
 pub mod Unopened

@@ -1,9 +1,10 @@
-ghost use Rattle.std.specs.Prelude.{◌≡◌, ◌<◌, ◌≤◌, [], ◌∷◌, length, take, drop, slice_index, MatchOption};
+ghost use Rattle.std.specs.Prelude.{◌≡◌, ◌<◌, ◌≤◌, [], ◌∷◌, ◌++◌, length, take, drop, slice_index, MatchOption};
 ghost use Rattle.text_terms.specs.Lines.{lines_of, lines_from, without_cr};
+ghost use Rattle.topo_run.specs.Replayers.{HasNoLf};
 
 /// The line without the CR at its end.
 #[tactic(auto, using(crate::proofs::Texts::cuts))]
-fn without_cr(line: &[u8]) -> &[u8]
+pub fn without_cr(line: &[u8]) -> &[u8]
     ensures { result.now ≡ without_cr line.now }
 {
     let len = line.len();
@@ -12,6 +13,31 @@ fn without_cr(line: &[u8]) -> &[u8]
     } else {
         line
     }
+}
+
+/// What comes before the first LF of a text, and what follows it.
+pub fn split_at_lf(text: &[u8]) -> Option<(&[u8], &[u8])>
+    ensures { MatchOption result (HasNoLf text.now) (λ parts. HasNoLf parts.0.now × (text.now ≡ parts.0.now ++ 10 ∷ parts.1.now) × (length parts.1.now < length text.now)) }
+{
+    let end = lf_of(text);
+    if end < text.len() {
+        Some((&text[..end], &text[end + 1..]))
+    } else {
+        None
+    }
+}
+
+// The number of bytes before the first LF, or all.
+fn lf_of(text: &[u8]) -> usize
+    ensures bound { result ≤ length text.now }
+    ensures before { HasNoLf (take result text.now) }
+    ensures found { result < length text.now → slice_index text.now result ≡ 10 }
+{
+    let mut end = 0;
+    while end < text.len() && text[end] != b'\n' {
+        end += 1;
+    }
+    end
 }
 
 /// The first line of a text, and what follows it.

@@ -1,77 +1,25 @@
 ghost use Rattle.std.specs.Prelude.{◌≡◌, ◌≤◌, ◌++◌, ◌||◌, ℕ, List, IfOk, OnOk, OnErr, IsErrOf};
-ghost use Rattle.std.specs.Io.KnownBytes.{Appends};
 ghost use Rattle.text_terms.specs.Lines.{lines_of};
-ghost use Rattle.script_terms.specs.Run.{IsPrefix, WritesPrefix};
+ghost use Rattle.script_terms.specs.Run.{WritesPrefix};
 ghost use Rattle.outside_terms.specs.Faults.{Rose};
 ghost use Rattle.script_terms.specs.Ends.{EndsAs};
 ghost use Rattle.outside_terms.specs.Shelves.{KeepsHeld};
 ghost use Rattle.opening_terms.specs.Replaying.{EndsAsReplayOf};
-ghost use Rattle.topo_run.specs.Stops.{stop_of};
 ghost use Rattle.topo_run.specs.Told.{WritesTo, EndsAt};
 ghost use Rattle.topo_run.specs.Unopened.{IfUnopened};
-ghost use Rattle.topo_run.specs.declared.replay.Stop.TheVariants as stop;
 
 use crate::answer::answer_line;
 use crate::lines::split_line;
 use crate::open::{say_unopened, world_of};
+use crate::pieces::{either, write_if_many};
 use crate::read::read_script;
 use crate::status::{is_at_end, status_of};
+use crate::stops::Stop;
 use crate::write::write_all;
 use command_answers::World;
-use grid_plane::NoMemory;
 use outside_terms::Status;
 use std::alloc::Global;
-use topo_outside::{Shelf, Sink, SinkFault, Source};
-
-// So many bytes of replies are gathered before they are written.
-const GATHERED: usize = 65_536;
-
-/// Why the answering ended early.
-#[derive(Clone, Copy)]
-pub enum Stop {
-    Write,
-    NoMemory,
-}
-
-impl From<SinkFault> for Stop {
-    ghost from_gives = { stop_of };
-
-    fn from(fault: SinkFault) -> Self {
-        match fault {
-            SinkFault::Failed => Stop::Write,
-            SinkFault::NoMemory => Stop::NoMemory,
-        }
-    }
-}
-
-impl From<NoMemory> for Stop {
-    ghost from_gives = { λ _ e. e ≡ stop.NoMemory };
-
-    fn from(_: NoMemory) -> Self {
-        Stop::NoMemory
-    }
-}
-
-fn either(a: bool, b: bool) -> bool
-    ensures { result ≡ (a || b) }
-{
-    a || b
-}
-
-// Writes the replies that are gathered, where they are many; what is left of them is gathered still.
-fn write_if_many<K: Sink>(sink: &mut K, gathered: &mut Vec<u8>) -> Result<(), SinkFault>
-    ensures ok { OnOk result ((front : List ℕ) × (gathered.old.items ≡ front ++ gathered.new.items) × Appends (K.written sink.old) (K.written sink.new) front) }
-    ensures err { OnErr result ((front : List ℕ) × IsPrefix front (gathered.old.items) × Appends (K.written sink.old) (K.written sink.new) front) }
-    ensures later { K.faults sink.old ≤ K.faults sink.new }
-    ensures failed { IsErrOf result SinkFault.Failed → Rose (K.faults sink.old) (K.faults sink.new) }
-{
-    if gathered.len() < GATHERED {
-        return Ok(());
-    }
-    write_all(sink, gathered)?;
-    gathered.clear();
-    Ok(())
-}
+use topo_outside::{Shelf, Sink, Source};
 
 /// Answers the lines of a text, and tells whether one was refused.
 fn answer_all<K: Sink>(
@@ -84,7 +32,7 @@ fn answer_all<K: Sink>(
     ensures ok { IfOk result (λ refused. WritesTo world.old (lines_of whole text.now) (K.written sink.old) (K.written sink.new) refused world.new) }
     ensures err { OnErr result (WritesPrefix world.old (lines_of whole text.now) (K.written sink.old) (K.written sink.new)) }
     ensures later { K.faults sink.old ≤ K.faults sink.new }
-    ensures failed { IsErrOf result Stop.Write → Rose (K.faults sink.old) (K.faults sink.new) }
+    ensures failed { IsErrOf result Stop.WriteFault → Rose (K.faults sink.old) (K.faults sink.new) }
 {
     world.headline_law();
     let mut gathered = Vec::new(alloc);
@@ -118,7 +66,7 @@ pub fn replay_from<S: Source, K: Sink>(
     };
     match answer_all(alloc, world, &script.bytes, is_at_end(script.end), sink) {
         Ok(refused) => status_of(script.end, refused),
-        Err(Stop::Write) => Status::WriteFault,
+        Err(Stop::WriteFault) => Status::WriteFault,
         Err(Stop::NoMemory) => Status::NoMemory,
     }
 }
