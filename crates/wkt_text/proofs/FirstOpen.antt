@@ -11,6 +11,7 @@ use Rattle.std.specs.Option.{is_some}
 use Rattle.plane_terms.specs.Lists.{Every}
 use Rattle.plane_terms.specs.Point.{Place, same_place}
 use Rattle.plane_terms.specs.Shape.{last_of}
+use Rattle.plane_terms.specs.ShapeFaults.{IsFirstOf}
 use Rattle.wkt_terms.specs.Shapes.{is_closed, IsOpen}
 use Rattle.shape.specs.Given.{Ring, rings_in as lists_of, polygons_in as parts_of}
 use Rattle.shape.specs.Given.{all_rings}

@@ -7,6 +7,7 @@ use Rattle.plane_terms.specs.Lists.{Every}
 use Rattle.plane_terms.proofs.ListLemmas.{every_map}
 use Rattle.plane_terms.specs.Point.{Place}
 use Rattle.plane_terms.specs.Shape.{Shape, IsShape}
+use Rattle.plane_terms.specs.ShapeFaults.{IsFirstOf}
 use Rattle.wkt_terms.specs.Faults.{Cause, FirstFault}
 use Rattle.wkt_terms.specs.Grammar.{Geometry, IsWkt}
 use Rattle.wkt_terms.specs.Shapes.{is_closed, AreClosed, IsOpen, rings_in, shape_in, IsShapeText}
