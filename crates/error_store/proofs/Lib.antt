@@ -5,7 +5,7 @@ mod Framing
 mod Leaving
 mod Marking
 mod Merging
-mod Places
+pub mod Places
 mod Selected
 mod Steps
-mod Walking
+pub mod Walking

@@ -9,27 +9,13 @@ use Rattle.topology_terms.specs.Entry.{Entry, by_key, entry_at, IsKeyBelow, IsAs
 use Rattle.sound_laws.proofs.Keyed.{ascending_left, ascending_right}
 use Rattle.sound_laws.proofs.Lists.{keys, Lacks, past_front, before_back}
 use Rattle.sound_check.specs.Pairs.{IsOf}
-use Rattle.project_check.specs.Runs.{is_before, is_upto}
-use Rattle.project_check.proofs.Places.{every_front, every_rest}
-
--- a test that each earlier entry passes too parts the list
-parted : (test : Entry → Bool) → ((e f : Entry) → IsKeyBelow e f → test f ≡ true → test e ≡ true) → (es : List Entry) → IsAscending es
-    → IsPartitionedBy test es
-parted test down [] u i j d upto short t = absurd (omega arith)
-parted test down (e ∷ es) u zero zero d upto short t = t
-parted test down (e ∷ es) u zero (suc j) d upto short t =
-    down e (get_or es j d) (every_at (IsKeyBelow e) es j d u.0 (omega arith)) t
-parted test down (e ∷ es) u (suc i) zero d upto short t = absurd (omega arith)
-parted test down (e ∷ es) u (suc i) (suc j) d upto short t = parted test down es u.1 i j d (omega arith) (omega arith) t
-
-before_too : (r a : ℕ) (e f : Entry) → IsKeyBelow e f → is_before r a f ≡ true → is_before r a e ≡ true
-before_too r a e f l t = grind (arith, nat_tests)
+use Rattle.error_store.specs.Runs.{is_before}
+use Rattle.error_store.proofs.Places.{every_front, every_rest}
+use Rattle.error_store.proofs.Walking.{parted}
+use Rattle.project_check.specs.Runs.{is_upto}
 
 upto_too : (r a : ℕ) (e f : Entry) → IsKeyBelow e f → is_upto r a f ≡ true → is_upto r a e ≡ true
 upto_too r a e f l t = grind (arith, nat_tests)
-
-pub before_parted : (r a : ℕ) (es : List Entry) → IsAscending es → IsPartitionedBy (is_before r a) es
-before_parted r a es u = parted (is_before r a) (before_too r a) es u
 
 pub ascending_rest : (es : List Entry) (i : ℕ) → IsAscending es → IsAscending (drop i es)
 ascending_rest es i u = ascending_right by_key keys (take i es) (drop i es) (subst IsAscending (sym (take-append-drop i es)) u)

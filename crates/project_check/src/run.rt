@@ -4,7 +4,8 @@ ghost use Rattle.plane_terms.specs.Lists.{Every};
 ghost use Rattle.topology_terms.specs.Entry.{entry_at, IsAscending};
 ghost use Rattle.topology_terms.specs.Entry as terms;
 ghost use Rattle.sound_check.specs.Pairs.{IsOf};
-ghost use Rattle.project_check.specs.Runs.{is_before, is_upto};
+ghost use Rattle.error_store.specs.Runs.{is_before};
+ghost use Rattle.project_check.specs.Runs.{is_upto};
 
 use error_store::Entry;
 

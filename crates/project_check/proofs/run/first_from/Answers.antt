@@ -1,7 +1,7 @@
 use Rattle.std.proofs.Common.{rules}
 use Rattle.std.proofs.lemmas.List.Sorted.{IsPartitionPoint-from_clause}
-use Rattle.project_check.specs.Runs.{is_before}
-use Rattle.project_check.proofs.Runs.{before_parted}
+use Rattle.error_store.specs.Runs.{is_before}
+use Rattle.error_store.proofs.Walking.{before_parted}
 use Rattle.project_check.proofs.run.first_from.Goals as goal
 
 pub returns-clause-parted : goal.returns-clause-parted
