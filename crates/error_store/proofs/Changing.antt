@@ -15,7 +15,8 @@ use Rattle.validation_laws.specs.Replaced.{IsRemarked, AreRemarked, IsNewOf, Are
 use Rattle.error_store.specs.Keys as own_keys
 use Rattle.error_store.specs.Runs.{HasNoneOf, IsOf, IsNext}
 use Rattle.error_store.specs.Changing.{parts, IsHere, IsGap, Stood, IsPut, ArePut, Stays, IsThinned}
-use Rattle.error_store.proofs.Merging.{at_push_here, at_push_other}
+use Rattle.error_store.proofs.Merging.{at_push_here, at_push_other, self_remarked}
+use Rattle.error_store.proofs.Places.{late_or_not}
 
 -- ---- one key set
 abbrev IsSplit : Key → List Entry → Option Entry → List Entry → Type 0
@@ -99,9 +100,6 @@ put_here es i k e f n u here is own h =
     (subst (λ j. IsSetTo j (Some e) (Some n) es (set es i n)) same
     (set_here es (set es i n) i e (Some n) here.within is u (same_key f n (Some e) h ∙ sym same) (set_list es i n here.within)))
 
-self_remarked : (f : Entry) → f.marked ≡ false → IsRemarked None f f
-self_remarked f u = record { same = refl; mark = u }
-
 pub put_gap : (es : List Entry) (i : ℕ) (k : own_keys.Key) (f : Entry) → IsAscending es → IsGap k es i → parts k ≡ key_of f
     → f.marked ≡ false → IsPut f es (take i es ++ f ∷ drop i es)
 put_gap es i k f u gap own m =
@@ -176,9 +174,6 @@ thin_none handles fresh es u = record {
   kept = λ r a b h. refl;
   stays = λ k d low high. absurd (omega arith);
 }
-
-late_or_not : (m n : ℕ) → (m < n) ⊎ (n ≤ m)
-late_or_not m n = grind arith
 
 -- up to the next error of the subjects
 stays_up : (handles : List ℕ) (fresh cur : List Entry) (i k : ℕ) → AllWithin (Stays handles fresh) cur 0 i → HasNoneOf handles cur i k

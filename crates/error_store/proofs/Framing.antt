@@ -15,6 +15,7 @@ use Rattle.grid_index.specs.declared.placed.Placed.{Placed}
 use Rattle.grid_index.specs.Near.{HoldsSame, Gains, Loses}
 use Rattle.error_store.specs.Runs.{HasNoneOf, IsOf, IsNext}
 use Rattle.error_store.proofs.Leaving.{selected_or_not}
+use Rattle.error_store.proofs.Places.{late_or_not}
 use Rattle.error_store.specs.Frames.{framed_of, AreFramed}
 
 abbrev pub Holds : List Placed → List Placed → Type 0
@@ -75,9 +76,6 @@ framed_marked ps (x ∷ es) (suc i) e on is f = (f.0, framed_marked ps es i e on
 -- ---- whether one stands
 abbrev pub IsNotAt : Placed → Entry → Type 0
 IsNotAt p e = ¬ (framed_of e ≡ p)
-
-late_or_not : (m n : ℕ) → (m < n) ⊎ (n ≤ m)
-late_or_not m n = grind arith
 
 -- an error of another subject does not stand there
 off_at : (p : Placed) (handles : List ℕ) (e : Entry) → Contains handles p.handle → ¬ (IsOf handles e) → IsNotAt p e

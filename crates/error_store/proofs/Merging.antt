@@ -125,7 +125,7 @@ step_gone sel old0 fresh0 out old fresh e m b c =
       ];
     }
 
-self_remarked : (f : Entry) → f.marked ≡ false → IsRemarked None f f
+pub self_remarked : (f : Entry) → f.marked ≡ false → IsRemarked None f f
 self_remarked f u = record { same = refl; mark = u }
 
 -- a fresh entry of a new key comes

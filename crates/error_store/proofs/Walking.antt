@@ -5,10 +5,12 @@ use Rattle.std.proofs.lemmas.List.{get_or_default}
 use Rattle.std.specs.List.{HoldsAt}
 use Rattle.std.specs.List.Sorted.{IsStrictlyIncreasing, IsPartitionPoint, IsPartitionedBy}
 use Rattle.std.proofs.lemmas.List.Kept.{AllPairs-from_increasing}
+use Rattle.std.proofs.lemmas.Bool.{false≢true}
 use Rattle.std.proofs.lemmas.Bool.Decides.{nat_tests}
 use Rattle.plane_terms.proofs.ListLemmas.{every_at}
 use Rattle.topology_terms.specs.Entry.{Entry, IsKeyBelow, IsAscending}
 use Rattle.error_store.specs.Runs.{is_before, IsOf, IsLeastFrom, HasNoneOf, IsSkip}
+use Rattle.error_store.proofs.Places.{late_or_not}
 
 -- a test that each earlier entry passes too parts the list
 pub parted : (test : Entry → Bool) → ((e f : Entry) → IsKeyBelow e f → test f ≡ true → test e ≡ true) → (es : List Entry) → IsAscending es
@@ -43,17 +45,11 @@ behind (e ∷ es) (suc i) (suc j) d u upto short = behind es i j d u.1 (omega ar
 abbrev pub Parts : ℕ → ℕ → List Entry → ℕ → Type 0
 Parts r s es k = IsPartitionPoint (λ (e : Entry). is_before r s e ≡ true) (λ (e : Entry). is_before r s e ≡ false) es k
 
-late_or_not : (m n : ℕ) → (m < n) ⊎ (n ≤ m)
-late_or_not m n = grind arith
-
-not_both : (t : Bool) → t ≡ true → t ≡ false → ⊥
-not_both t p q = cc
-
 -- an entry before the rule and the subject stands before the place of both
 beyond : (es : List Entry) (r s i k : ℕ) (e : Entry) → i < length es → e ≡ get_or es i e → is_before r s e ≡ true → Parts r s es k → i < k
 beyond es r s i k e l is t p = elim (late_or_not i k) [
   | inl m ↦ m
-  | inr m ↦ absurd (not_both (is_before r s e) t (subst (λ (f : Entry). is_before r s f ≡ false) (sym is) (p.1 i e m l)))
+  | inr m ↦ absurd (false≢true (sym (subst (λ (f : Entry). is_before r s f ≡ false) (sym is) (p.1 i e m l)) ∙ t))
 ]
 
 -- ---- where it is
@@ -156,19 +152,13 @@ handles_parted hs from up i j d upto short t = elim (late_or_not i j) [
 abbrev ArePartedAt : ℕ → List ℕ → ℕ → Type 0
 ArePartedAt from hs i = IsPartitionPoint (λ a. nat_lt a from ≡ true) (λ a. nat_lt a from ≡ false) hs i
 
-below : (a from : ℕ) → nat_lt a from ≡ true → a < from
-below a from t = grind (arith, nat_tests)
-
-not_below : (a from : ℕ) → nat_lt a from ≡ false → from ≤ a
-not_below a from t = grind (arith, nat_tests)
-
 pub least_there : (hs : List ℕ) (from i a : ℕ) → IsStrictlyIncreasing hs → ArePartedAt from hs i → i < length hs → a ≡ get_or hs i a
     → IsLeastFrom hs from a
 least_there hs from i a up p l is = record {
   there = (i, l, sym is);
-  beyond = subst (λ b. from ≤ b) (sym is) (not_below (get_or hs i a) from (p.1 i a (omega arith) l));
+  beyond = subst (λ b. from ≤ b) (sym is) (grind (arith, nat_tests, p.1 i a (omega arith) l));
   least = λ b c far. elim (late_or_not c.0 i) [
-    | inl early ↦ let m = subst (λ n. n < from) c.2 (below (get_or hs c.0 b) from (p.0 c.0 b (omega arith) early)) in absurd (omega arith)
+    | inl early ↦ let m : b < from = subst (λ n. n < from) c.2 (grind (arith, nat_tests, p.0 c.0 b (omega arith) early)) in absurd (omega arith)
     | inr late ↦ elim (late_or_not i c.0) [
       | inl further ↦
           let m = AllPairs-from_increasing hs up i c.0 a further c.1 in
@@ -185,4 +175,4 @@ least_there hs from i a up p l is = record {
 
 pub none_from : (hs : List ℕ) (from i : ℕ) → ArePartedAt from hs i → length hs ≤ i → (a : ℕ) → Contains hs a → a < from
 none_from hs from i p l a c = subst (λ n. n < from) c.2
-    (below (get_or hs c.0 a) from (p.0 c.0 a (omega arith) (omega (arith, c.1, l))))
+    (grind (arith, nat_tests, p.0 c.0 a (omega arith) (omega (arith, c.1, l))))
