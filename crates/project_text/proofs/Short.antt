@@ -12,6 +12,7 @@ use Rattle.plane_terms.specs.Shape.{Shape, IsShape, IsPart, IsRing, place_of}
 use Rattle.plane_terms.specs.declared.kind.Kind.{Kind}
 use Rattle.plane_terms.specs.declared.kind.Kind.TheVariants as kind
 use Rattle.text_terms.specs.Wkt.{listed}
+use Rattle.wkt_terms.specs.Grammar.{APoint}
 use Rattle.wkt_terms.specs.Shapes.{closed, of_lines, of_polygons, shape_text}
 use Rattle.wkt_terms.specs.Written.{place_text, list_text, lists_text, written}
 
