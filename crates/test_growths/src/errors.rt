@@ -26,7 +26,8 @@ fn replace(alloc: Global, errors: &mut Errors, subject: u32) -> Result<Made, NoM
     let mut selected = Handles::new(alloc);
     selected.push(subject)?;
     let key = Key::of_numbers(1, subject, 0);
-    let entry = Entry::new(key, Extent::Whole, false, Rect::whole(), Cells::new(alloc));
+    let cells = Cells::new(alloc);
+    let entry = Entry::new(alloc, key, Extent::Whole, false, Rect::whole(), cells)?;
     let mut fresh = Vec::new(alloc);
     fresh.push(entry)?;
     match errors.replace(alloc, &selected, fresh) {
