@@ -1,4 +1,4 @@
-// Calls each call of the stores and of a topology that takes memory, and says after a refused one whether the value is as before.
+// Makes calls of the stores and of a topology that take memory, and says after a refused one whether the value is as before.
 //
 // A refused call is made once more. So where one growth is refused, each call is done in the end, and the text of the topology,
 // which is written last, is the same. tools/sweep refuses each growth in turn.
