@@ -3,15 +3,6 @@
 -- IsStart held name p          a replay of this name starts from the project p: from the empty one, where the name is `-`, and else from
 --                              the one that stands under the name
 -- start_of p                   the state that it starts from: the project, and no session
--- Replays start s k kept end refused     this was read of the source s, and the reading ended so; the whole text of a run from the start
---                              over its lines was written to the sink k, in which some line was refused, or none
--- ReplaysSome start s k        a prefix of the text of a run over first lines of what was read was written
--- EndsFrom start s k status    a replay from this start ends with this status
---   Done, Refused        the source was read to its end, all lines were answered, and no line, or some line, was refused
---   ReadFault, TooLong   the reading failed, or gave too much; the lines whose LF was kept were answered
---   WriteFault           the sink's count of faults rose; a prefix was written
---   NoMemory             out of memory: the same, or nothing was written
---   others               never
 -- EndsAsReplayOf name s h k status     of the shelf h: it ends as a replay from its start; or the name is not `-`, and no project was opened
 -- IsToldStart held name p      the start, where the shelf tells of it
 -- IsReplayOfComplete name s h k code     from a start that is told, with no count of faults rising:
@@ -19,19 +10,15 @@
 --   long                 of a longer one the lines within the limit are answered, and the status is 10; or it is 5
 --
 -- In every state of a run from a sound start the headline holds, and from a settled one the invariant (`WritesRun`). Source: own.
-use Rattle.std.specs.Prelude.{ℕ, ◌≡◌, ◌≢◌, ◌≤◌, ◌<◌, ◌⊎◌, Bool, true, false, List, [], ◌∷◌, codes, length, take, Option, Some}
-use Rattle.std.specs.Io.KnownBytes.{Appends}
-use Rattle.text_terms.specs.Lines.{lines_of}
+use Rattle.std.specs.Prelude.{ℕ, ◌≡◌, ◌≢◌, ◌≤◌, ◌<◌, ◌⊎◌, Bool, true, false, List, [], codes, length, take, Option, Some}
 use Rattle.topology_terms.specs.Project.{Project, empty_project}
 use Rattle.outside_terms.specs.Faults.{Rose}
-use Rattle.outside_terms.specs.Reads.{Passage, Read, is_at_end, script_limit}
+use Rattle.outside_terms.specs.Reads.{Passage, script_limit}
 use Rattle.outside_terms.specs.Shelves.{Held, Visit}
-use Rattle.outside_terms.specs.declared.end.End.{End}
-use Rattle.outside_terms.specs.declared.end.End.TheVariants.{AtEnd, Failed, TooLong}
+use Rattle.outside_terms.specs.declared.end.End.TheVariants.{AtEnd, TooLong}
 use Rattle.outside_terms.specs.declared.status.Status.{Status}
-use Rattle.outside_terms.specs.declared.status.Status.TheVariants as status
 use Rattle.script_terms.specs.State.{State}
-use Rattle.script_terms.specs.Run.{WritesRun, WritesPrefix}
+use Rattle.script_terms.specs.Ends.{Replays, EndsFrom}
 use Rattle.opening_terms.specs.Opening.{IsUnder, IsToldUnder, EndsUnopened}
 
 abbrev pub IsStart : Option Held → List ℕ → Project → Type 0
@@ -39,25 +26,6 @@ IsStart held name p = ((name ≡ codes "-") × (p ≡ empty_project)) ⊎ ((name
 
 abbrev pub start_of : Project → State
 start_of p = record { project = p; sessions = [] }
-
-pub record Replays (start : State) (s k : Passage) (kept : List ℕ) (end : End) (refused : Bool) : Type 0 where
-  pub read : Read s kept end
-  pub run : WritesRun start (lines_of (is_at_end end) kept) k.old k.new refused
-
-pub record ReplaysSome (start : State) (s k : Passage) : Type 0 where
-  pub kept : List ℕ
-  pub end : End
-  pub read : Read s kept end
-  pub run : WritesPrefix start (lines_of (is_at_end end) kept) k.old k.new
-
-abbrev pub EndsFrom : State → Passage → Passage → Status → Type 0
-EndsFrom start s k status.Done = (kept : List ℕ) × Replays start s k kept AtEnd false
-EndsFrom start s k status.Refused = (kept : List ℕ) × Replays start s k kept AtEnd true
-EndsFrom start s k status.ReadFault = (kept : List ℕ) × (refused : Bool) × Replays start s k kept Failed refused
-EndsFrom start s k status.TooLong = (kept : List ℕ) × (refused : Bool) × Replays start s k kept TooLong refused
-EndsFrom start s k status.WriteFault = Rose k.before k.now × ReplaysSome start s k
-EndsFrom start s k status.NoMemory = ReplaysSome start s k ⊎ Appends k.old k.new []
-EndsFrom start s k other = ⊥
 
 abbrev pub EndsAsReplayOf : List ℕ → Passage → Visit → Passage → Status → Type 0
 EndsAsReplayOf name s h k status = ((p : Project) × IsStart h.old name p × EndsFrom (start_of p) s k status)

@@ -30,9 +30,10 @@ use Rattle.outside_terms.specs.declared.end.End.TheVariants.{AtEnd, TooLong}
 use Rattle.outside_terms.specs.declared.status.Status.{Status}
 use Rattle.outside_terms.specs.declared.status.Status.TheVariants as status
 use Rattle.script_terms.specs.State.{State}
+use Rattle.script_terms.specs.Ends.{Replays, EndsFrom}
 use Rattle.script_terms.specs.Run.{last_state}
 use Rattle.opening_terms.specs.Opening.{EndsUnopened}
-use Rattle.opening_terms.specs.Replaying.{IsStart, IsToldStart, Replays, EndsFrom, start_of}
+use Rattle.opening_terms.specs.Replaying.{IsStart, IsToldStart, start_of}
 
 pub record Saves (h : Visit) (target : List ℕ) (p : Project) : Type 0 where
   pub text : List ℕ

@@ -7,6 +7,7 @@
 --   Failed              all bytes that were given, within the limit, and the count of faults rose
 --   TooLong             the first bytes up to the limit, of more that were given
 -- is_at_end end         the script was read to its end
+-- Taken p given whole   these bytes of a script were taken so far; if they are the whole of it, none is left and they are within the limit
 use Rattle.std.specs.Prelude.{ℕ, ◌≡◌, ◌≤◌, ◌<◌, Bool, true, false, List, length, take, Option}
 use Rattle.std.specs.Io.KnownBytes.{Consumes, IsAtEnd}
 use Rattle.outside_terms.specs.Faults.{Rose}
@@ -36,3 +37,7 @@ abbrev pub is_at_end : End → Bool
 is_at_end AtEnd = true
 is_at_end Failed = false
 is_at_end TooLong = false
+
+pub record Taken (p : Passage) (given : List ℕ) (whole : Bool) : Type 0 where
+  pub consumed : Consumes p.old p.new given
+  pub ended : whole ≡ true → (length given ≤ script_limit) × IsAtEnd p.new

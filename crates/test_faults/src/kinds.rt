@@ -7,7 +7,7 @@ mod usage;
 mod whole;
 mod writes;
 
-use crate::script::LINES;
+use crate::script::{LEN, LINES};
 use crate::statuses::{DONE, REFUSED};
 use crate::tally::Tally;
 pub use reads::{EndlessReads, FailingReads, FailingReadsAndWrites};
@@ -19,7 +19,7 @@ use topo_outside::{MemShelf, MemSink, MemSource, Shelf, Sink, Source, SureShelf}
 use topo_run::run;
 pub use usage::{FailingUsage, OtherWords};
 pub use whole::{PlainRuns, RunsInPieces};
-pub use writes::{EmptyWrites, FailingWrites, LateWrites};
+pub use writes::{EarlyWrites, EmptyWrites, FailingWrites, LateWrites};
 
 /// A kind of runs.
 pub trait Kind {
@@ -134,6 +134,13 @@ fn first_lines(alloc: Global, count: usize) -> Result<Vec<u8>, AllocError> {
         }
         text.extend_from_slice(line.as_bytes())?;
     }
+    Ok(text)
+}
+
+// All lines of the script, each with its LF.
+fn whole_lines(alloc: Global) -> Result<Vec<u8>, AllocError> {
+    let mut text = first_lines(alloc, LEN)?;
+    text.extend_from_slice(b"\n")?;
     Ok(text)
 }
 

@@ -10,10 +10,10 @@ mod streams;
 mod tally;
 
 use kinds::{
-    AbsentProjects, EmptyWrites, EndlessReads, FailingReads, FailingReadsAndWrites, FailingShelves,
-    FailingUsage, FailingWrites, Kind, LateWrites, OtherWords, PlainRuns, RunsInPieces,
-    SavedProjects, SavingOverFaults, SavingReads, SavingRuns, SavingWrites, UnsavedProjects,
-    WrongTexts,
+    AbsentProjects, EarlyWrites, EmptyWrites, EndlessReads, FailingReads, FailingReadsAndWrites,
+    FailingShelves, FailingUsage, FailingWrites, Kind, LateWrites, OtherWords, PlainRuns,
+    RunsInPieces, SavedProjects, SavingOverFaults, SavingReads, SavingRuns, SavingWrites,
+    UnsavedProjects, WrongTexts,
 };
 use std::io;
 
@@ -34,6 +34,7 @@ fn main(rt: HostRuntime) -> io::Result<()> {
     make(&rt, &EmptyWrites)?;
     make(&rt, &FailingReadsAndWrites)?;
     make(&rt, &LateWrites)?;
+    make(&rt, &EarlyWrites)?;
     make(&rt, &OtherWords)?;
     make(&rt, &FailingUsage)?;
     make(&rt, &AbsentProjects)?;

@@ -4,6 +4,7 @@ use Rattle.std.proofs.lemmas.Bool.{cases_lt}
 use Rattle.std.specs.Io.KnownBytes.{Appends}
 use Rattle.std.proofs.KnownBytes.{Appends-trans}
 use Rattle.topology_terms.specs.Project.{IsOrdered}
+use Rattle.script_terms.specs.Ends.{StopsInLast}
 use Rattle.script_terms.specs.Headline.{SoundHeadline, Invariant}
 use Rattle.script_terms.specs.Keeping.{IsKeeping}
 use Rattle.script_terms.specs.State.{State}
@@ -11,7 +12,7 @@ use Rattle.script_terms.specs.Run.{Outcome, Run, text_of, any_refused, last_stat
 use Rattle.script_terms.proofs.Runs.{run_keeps}
 use Rattle.script_terms.proofs.Starts.{last_sound, last_settled}
 use Rattle.topo_run.specs.Told.{WritesTo}
-use Rattle.topo_run.specs.Replayers.{BreaksIn, StopsInLast}
+use Rattle.topo_run.specs.Replayers.{BreaksIn}
 use Rattle.topo_run.proofs.Runs.{SoFar, text_snoc}
 
 -- ---- where a text breaks off

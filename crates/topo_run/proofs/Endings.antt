@@ -1,16 +1,16 @@
 -- How a replay ends: all lines were answered, and what completeness says of each status.
-use Rattle.std.proofs.Common.{ℕ, ◌≡◌, ◌≤◌, ◌<◌, ◌⊎◌, Bool, true, false, List, [], ◌++◌, Option, None, Some, length, take, inl, inr, refl, sym, ◌∙◌, ap, subst, arith, append-nil, length-append}
-use Rattle.std.proofs.lemmas.List.{take-append-le}
+use Rattle.std.proofs.Common.{ℕ, ◌≡◌, ◌≤◌, ◌<◌, ◌⊎◌, Bool, true, false, ◌||◌, List, [], ◌++◌, Option, None, Some, length, take, inl, inr, refl, sym, ◌∙◌, ap, subst, arith, append-nil, length-append}
+use Rattle.std.proofs.lemmas.List.{take-append-le, take_all}
 use Rattle.std.specs.Io.KnownBytes.{Consumes, IsAtEnd}
 use Rattle.text_terms.specs.Lines.{lines_of}
 use Rattle.outside_terms.specs.Faults.{Rose}
 use Rattle.outside_terms.specs.Reads.{Passage, Read, is_at_end, script_limit}
 use Rattle.outside_terms.specs.Statuses.{code_of, status_of}
-use Rattle.script_terms.specs.Ends.{WritesAll, EndsAs, IsComplete, WritesWhole}
+use Rattle.script_terms.specs.Ends.{Replays, ReplaysSome, EndsFrom, EndsAs, IsComplete}
 use Rattle.script_terms.specs.Run.{WritesRun, WritesPrefix, text_of}
 use Rattle.script_terms.specs.State.{State, empty_state}
-use Rattle.script_terms.proofs.Starts.{writes_all, writes_some}
-use Rattle.opening_terms.specs.Replaying.{Replays, ReplaysSome, EndsFrom}
+use Rattle.script_terms.proofs.Starts.{empty_sound, empty_settled}
+use Rattle.topo_run.specs.Replayers.{Replaying, IsNew, AnswersAll}
 use Rattle.topo_run.specs.Told.{WritesTo, ReplaysTo, EndsAt}
 use Rattle.topo_run.specs.Unopened.{IfUnopened}
 use Rattle.outside_terms.specs.declared.end.End.{End}
@@ -25,9 +25,20 @@ all_answered start last s k kept AtEnd false read w = record { kept = kept; all 
 all_answered start last s k kept Failed refused read w = (kept, refused, record { read = read; run = w.run })
 all_answered start last s k kept TooLong refused read w = (kept, refused, record { read = read; run = w.run })
 
-pub some_answered : {start : State} {s k : Passage} {kept : List ℕ} {end : End} → Read s kept end
-    → WritesPrefix start (lines_of (is_at_end end) kept) k.old k.new → ReplaysSome start s k
-some_answered {start} {s} {k} {kept} {end} read run = record { kept = kept; end = end; read = read; run = run }
+-- a replayer that was new did
+pub answered_new : (old new : Replaying) (s k : Passage) (end : End) → IsNew old → AnswersAll old new s k end
+    → EndsAt old.state new.state s k (status_of end new.refused)
+answered_new old new s k end begins a =
+    let flag : a.refused ≡ new.refused = sym (a.flag ∙ ap (λ (b : Bool). b || a.refused) begins.1) in
+    subst (λ (b : Bool). EndsAt old.state new.state s k (status_of end b)) flag
+    (all_answered old.state new.state s k a.kept end a.refused a.read a.run)
+
+-- a replayer that was made of a state
+pub made_new : (r : Replaying) (s : State) → r ≡ record { state = s; rest = []; refused = false } → IsNew r
+made_new r s is = (ap (λ (x : Replaying). x.rest) is, ap (λ (x : Replaying). x.refused) is)
+
+pub made_state : (r : Replaying) (s : State) → r ≡ record { state = s; rest = []; refused = false } → r.state ≡ s
+made_state r s is = ap (λ (x : Replaying). x.state) is
 
 -- the whole text of a run is a prefix of it
 whole_prefix : (start : State) (lines : List (List ℕ)) (old new : Option (List ℕ)) (refused : Bool) → WritesRun start lines old new refused
@@ -45,10 +56,18 @@ whole_prefix start lines old new refused w = record {
   keeping = w.keeping;
 }
 
-pub all_some : (start : State) (s k : Passage) (kept : List ℕ) (end : End) (refused : Bool) → Replays start s k kept end refused
+pub all_some : (start : State) (s k : Passage) (kept : List ℕ) (refused : Bool) → Replays start s k kept AtEnd refused
     → ReplaysSome start s k
-all_some start s k kept end refused r =
-    some_answered r.read (whole_prefix start (lines_of (is_at_end end) kept) k.old k.new refused r.run)
+all_some start s k kept refused r =
+    let fits : length r.read.given ≤ script_limit = r.read.ended.1 in
+    record {
+      given = r.read.given;
+      whole = true;
+      taken = record { consumed = r.read.consumed; ended = λ test. (fits, r.read.ended.2) };
+      run = subst (λ (t : List ℕ). WritesPrefix start (lines_of true t) k.old k.new)
+          (r.read.ended.0 ∙ sym (take_all script_limit r.read.given fits))
+          (whole_prefix start (lines_of true kept) k.old k.new refused r.run);
+    }
 
 -- ---- of a replay from a start
 
@@ -67,24 +86,12 @@ from_there start last s k status.TooLong r = r
 from_there start last s k status.NoProject r = r
 
 -- from the empty state
-empty_ends : (s k : Passage) (t : Status) → EndsFrom empty_state s k t → EndsAs s k t
-empty_ends s k status.Done (kept, r) = (kept, r.read, writes_all r.run)
-empty_ends s k status.Refused (kept, r) = (kept, r.read, writes_all r.run)
-empty_ends s k status.ReadFault (kept, refused, r) = (kept, refused, r.read, writes_all r.run)
-empty_ends s k status.TooLong (kept, refused, r) = (kept, refused, r.read, writes_all r.run)
-empty_ends s k status.WriteFault (rose, r) = (rose, (r.kept, r.end, r.read, writes_some r.run))
-empty_ends s k status.NoMemory (inl r) = inl (r.kept, r.end, r.read, writes_some r.run)
-empty_ends s k status.NoMemory (inr w) = inr w
-empty_ends s k status.Usage r = r
-empty_ends s k status.WrongText r = r
-empty_ends s k status.OpenFault r = r
-empty_ends s k status.SaveFault r = r
-empty_ends s k status.Unsound r = r
-empty_ends s k status.NoProject r = r
-
 pub ends_empty : (start last : State) (s k : Passage) (t : Status) → start ≡ empty_state → EndsAt start last s k t → EndsAs s k t
-ends_empty start last s k t is ends =
-    empty_ends s k t (subst (λ (x : State). EndsFrom x s k t) is (from_there start last s k t ends))
+ends_empty start last s k t is ends = record {
+  sound = empty_sound;
+  settled = empty_settled;
+  ends = subst (λ (x : State). EndsFrom x s k t) is (from_there start last s k t ends);
+}
 
 -- a replay that began does not end as one does that opened nothing
 pub began : (P : Type 0) (start : State) (s k : Passage) (t : Status) → EndsFrom start s k t → IfUnopened t P
@@ -143,31 +150,6 @@ pub kept_front : (s : Passage) (script kept : List ℕ) → s.old ≡ Some scrip
 kept_front s script kept told read =
     read.ended.0 ∙ front_of script read.given s.new (consumes s script kept TooLong told read) read.ended.1
 
-whole : (s k : Passage) (script kept : List ℕ) (refused : Bool) → s.old ≡ Some script → Read s kept AtEnd
-    → WritesAll k (lines_of true kept) refused → WritesWhole s k script refused
-whole s k script kept refused told read written =
-    let same : kept ≡ script = kept_whole s script kept told read in
-    record {
-      read = subst (λ (t : List ℕ). Read s t AtEnd) same read;
-      written = subst (λ (t : List ℕ). WritesAll k (lines_of true t) refused) same written;
-    }
-
-pub completes : (s k : Passage) (t : Status) → EndsAs s k t → IsComplete s k (code_of t)
-completes s k status.Done (kept, read, written) = λ script told short calm quiet. inl (refl, whole s k script kept false told read written)
-completes s k status.Refused (kept, read, written) = λ script told short calm quiet. inr
-    (inl (refl, whole s k script kept true told read written))
-completes s k status.ReadFault (kept, refused, read, written) = λ script told short calm quiet. absurd (calm read.ended.2)
-completes s k status.WriteFault (rose, rest) = λ script told short calm quiet. absurd (quiet rose)
-completes s k status.NoMemory ends = λ script told short calm quiet. inr (inr refl)
-completes s k status.TooLong (kept, refused, read, written) = λ script told short calm quiet.
-    absurd (not_too_long s script kept told short read)
-completes s k status.Usage ends = absurd ends
-completes s k status.WrongText ends = absurd ends
-completes s k status.OpenFault ends = absurd ends
-completes s k status.SaveFault ends = absurd ends
-completes s k status.Unsound ends = absurd ends
-completes s k status.NoProject ends = absurd ends
-
 -- a replay from a start
 pub from_completes : (start : State) (s k : Passage) (t : Status) → EndsFrom start s k t → (script : List ℕ) → s.old ≡ Some script
     → length script ≤ script_limit → ¬ (Rose s.before s.now) → ¬ (Rose k.before k.now)
@@ -188,6 +170,10 @@ from_completes start s k status.OpenFault r script told short calm quiet = absur
 from_completes start s k status.SaveFault r script told short calm quiet = absurd r
 from_completes start s k status.Unsound r script told short calm quiet = absurd r
 from_completes start s k status.NoProject r script told short calm quiet = absurd r
+
+-- from the empty topology
+pub completes : (s k : Passage) (t : Status) → EndsAs s k t → IsComplete s k (code_of t)
+completes s k t ends = λ script told short calm quiet. from_completes empty_state s k t ends.ends script told short calm quiet
 
 -- of a script that is too long
 pub long_completes : (start : State) (s k : Passage) (t : Status) → EndsFrom start s k t → (script : List ℕ) → s.old ≡ Some script

@@ -5,7 +5,7 @@
 use Rattle.std.proofs.Common.{ℕ, ◌≡◌, ◌≢◌, ◌<◌, Bool, true, false, ◌||◌, List, [], ◌∷◌, ◌++◌, Option, length, take, refl, sym, ◌∙◌, ap, subst, append-nil}
 use Rattle.std.proofs.lemmas.Bool.{eqb-true, eqb-false}
 use Rattle.std.proofs.lemmas.List.{nil_from_length}
-use Rattle.std.specs.Prelude.{◌==◌, Result, Ok, Err, IfOk, IsErrOf}
+use Rattle.std.specs.Prelude.{◌==◌, Result, Ok, Err, IfOk, IsErrAnd, IsErrOf}
 use Rattle.std.specs.Io.KnownBytes.{Appends}
 use Rattle.std.proofs.KnownBytes.{Appends-nil}
 use Rattle.topology_terms.specs.Project.{IsOrdered}
@@ -29,7 +29,7 @@ pub record InPiece (old : Replaying) (all : List (List ℕ)) (end : List ℕ) (n
   pub flag : now.refused ≡ (old.refused || any)
   pub tail : tail_from here left ≡ end
 
-or_none : (b : Bool) → b ≡ (b || false)
+pub or_none : (b : Bool) → b ≡ (b || false)
 or_none true = refl
 or_none false = refl
 
@@ -37,7 +37,7 @@ or_more : (a b c : Bool) → ((a || b) || c) ≡ (a || (b || c))
 or_more true b c = refl
 or_more false b c = refl
 
-flag_on : (new now old any more : Bool) → new ≡ (now || more) → now ≡ (old || any) → new ≡ (old || (any || more))
+pub flag_on : (new now old any more : Bool) → new ≡ (now || more) → now ≡ (old || any) → new ≡ (old || (any || more))
 flag_on new now old any more last so_far = last ∙ (ap (λ (b : Bool). b || more) so_far ∙ or_more old any more)
 
 pub piece_begins : (old : Replaying) (tail piece : List ℕ) (before : Option (List ℕ)) → Keeps old.state old.state → Holds tail old.rest
@@ -213,3 +213,8 @@ err_of e = Err e
 
 pub err_again : {A E : Type 0} (e f : E) → e ≡ f → IsErrOf {T = A} {E = E} (Err e) f
 err_again {A} {E} e f is = ap (err_of {A = A} {E = E}) is
+
+-- an error that was passed on
+pub err_through : {A B E : Type 0} (r : Result B E) (e f : E) → IsErrAnd r (λ x. x ≡ e) → IsErrOf r f → IsErrOf {T = A} {E = E} (Err e) f
+err_through (Ok x) e f gives is = absurd gives
+err_through {A} {B} {E} (Err x) e f gives is = err_again e f (sym gives ∙ err_is x f is)

@@ -3,6 +3,7 @@ pub mod Runs
 pub mod Tails
 pub mod Breaking
 pub mod Feeding
+pub mod Reading
 pub mod Stepping
 pub mod Texts
 pub mod Spelling

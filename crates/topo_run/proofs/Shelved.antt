@@ -13,12 +13,12 @@ use Rattle.outside_terms.specs.Statuses.{code_of}
 use Rattle.outside_terms.specs.declared.end.End.TheVariants.{AtEnd, TooLong}
 use Rattle.outside_terms.specs.declared.status.Status.{Status}
 use Rattle.outside_terms.specs.declared.status.Status.TheVariants as status
-use Rattle.script_terms.specs.Ends.{EndsAs}
+use Rattle.script_terms.specs.Ends.{Replays, EndsFrom, EndsAs}
 use Rattle.script_terms.specs.Run.{last_state}
-use Rattle.script_terms.specs.State.{State}
+use Rattle.script_terms.specs.State.{State, empty_state}
 use Rattle.script_terms.proofs.Starts.{last_sound, last_settled}
 use Rattle.opening_terms.specs.Opening.{EndsUnopened, IsOpeningComplete}
-use Rattle.opening_terms.specs.Replaying.{IsStart, IsToldStart, start_of, Replays, EndsFrom, EndsAsReplayOf, IsReplayOfComplete}
+use Rattle.opening_terms.specs.Replaying.{IsStart, IsToldStart, start_of, EndsAsReplayOf, IsReplayOfComplete}
 use Rattle.opening_terms.specs.Saving.{Saves, SavesRun, FailsToSave, EndsSaving, EndsAsReplayTo, IsReplayToComplete}
 use Rattle.topo_run.specs.Told.{ReplaysTo, EndsAt}
 use Rattle.topo_run.specs.Unopened.{IfUnopened, is_answered}
@@ -68,18 +68,7 @@ if_unopened status.TooLong p = tt
 
 -- a plain replay opens nothing
 pub none_opened : (P : Type 0) (s k : Passage) (t : Status) → EndsAs s k t → IfUnopened t P
-none_opened P s k status.WrongText r = absurd r
-none_opened P s k status.OpenFault r = absurd r
-none_opened P s k status.NoProject r = absurd r
-none_opened P s k status.Done r = tt
-none_opened P s k status.Refused r = tt
-none_opened P s k status.Usage r = tt
-none_opened P s k status.ReadFault r = tt
-none_opened P s k status.WriteFault r = tt
-none_opened P s k status.NoMemory r = tt
-none_opened P s k status.SaveFault r = tt
-none_opened P s k status.Unsound r = tt
-none_opened P s k status.TooLong r = tt
+none_opened P s k t r = began P empty_state s k t r.ends
 
 -- by its number
 pub by_code : {P : Type 0} (t : Status) (code : ℕ) → code ≡ code_of t → IfUnopened t P → (code ≡ 6) ⊎ ((code ≡ 7) ⊎ (code ≡ 11)) → P
@@ -182,7 +171,7 @@ pub answered_out : (start last : State) (target : List ℕ) (s : Passage) (h : V
     → (t ≡ status.Done) ⊎ (t ≡ status.Refused) → KeepsHeld h.old h.new → EndsSaving start target s h k status.NoMemory
 answered_out start last target s h k t ends is held =
     let r = all_of start last s k t ends is in
-    (inl (all_some start s k r.0 AtEnd r.1 r.2), held)
+    (all_some start s k r.0 r.1 r.2, held)
 
 -- the project was opened before
 after_saves : (target : List ℕ) (h : Visit) (old : Option Held) (before : ℕ) (p : Project) → KeepsHeld old h.old → Saves h target p

@@ -129,7 +129,7 @@ upto_on b xs x lines plain u = record {
   are = plain_line true b x u.front plain ∙ u.are;
 }
 
-not_there : (first : List (List ℕ)) (line : List ℕ) (later : List (List ℕ)) → [] ≡ first ++ line ∷ later → ⊥
+pub not_there : (first : List (List ℕ)) (line : List ℕ) (later : List (List ℕ)) → [] ≡ first ++ line ∷ later → ⊥
 not_there [] line later e = cc
 not_there (m ∷ first) line later e = cc
 

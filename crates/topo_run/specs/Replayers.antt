@@ -6,16 +6,20 @@
 -- tail_of text           what follows the last LF of a text, or all of it; tail_from: the same, where so much was read before
 -- Holds tail rest        of a line that has not ended yet these bytes are held: all of its tail, or the first up to the limit
 -- Replaying              the state, the rest that is held, and whether some line so far was refused
+-- IsNew r                it holds nothing, and no line was refused
 -- EndsLine old line before now new     it answered this line: the text `before` grew by its reply; nothing of a line is held then
 -- Answers old lines left before now new     a replayer answered these lines: the whole text of a run from its state over them was written;
 --                        its state is the one at the end, it holds what is left, and the flag says whether a line was refused
+-- AnswersAll old new s k end     a replayer answered all lines of a source s whose reading ended so; the flag says whether one was refused
 -- BreaksIn start lines before now     a prefix of this text was written, which ends in the reply to a line, before that reply's end
--- StopsInLast os text    the text of these outcomes was written to a place in the last of them, before its end
-use Rattle.std.specs.Prelude.{ℕ, ◌≡◌, ◌≢◌, ◌==◌, ◌||◌, Bool, List, [], ◌∷◌, ◌++◌, ◌<◌, length, take, Option, if◌then◌else◌}
+use Rattle.std.specs.Prelude.{ℕ, ◌≡◌, ◌≢◌, ◌==◌, ◌||◌, Bool, false, List, [], ◌∷◌, ◌++◌, take, Option, if◌then◌else◌}
 use Rattle.plane_terms.specs.Lists.{Every}
-use Rattle.text_terms.specs.Lines.{without_cr}
+use Rattle.text_terms.specs.Lines.{without_cr, lines_of}
+use Rattle.outside_terms.specs.Reads.{Passage, Read, is_at_end}
+use Rattle.outside_terms.specs.declared.end.End.{End}
 use Rattle.script_terms.specs.State.{State}
-use Rattle.script_terms.specs.Run.{Outcome, Step, WritesPrefix, text_of}
+use Rattle.script_terms.specs.Ends.{StopsInLast}
+use Rattle.script_terms.specs.Run.{Step, WritesPrefix}
 use Rattle.topo_run.specs.Told.{Keeps, WritesTo}
 
 abbrev pub rest_limit : ℕ
@@ -40,6 +44,9 @@ pub record Replaying : Type 0 where
   pub rest : List ℕ
   pub refused : Bool
 
+abbrev pub IsNew : Replaying → Type 0
+IsNew r = (r.rest ≡ []) × (r.refused ≡ false)
+
 pub record EndsLine (old : Replaying) (line before now : List ℕ) (new : Replaying) : Type 0 where
   pub refused : Bool
   pub text : List ℕ
@@ -55,13 +62,12 @@ pub record Answers (old : Replaying) (lines : List (List ℕ)) (left : List ℕ)
   pub holds : Holds left new.rest
   pub flag : new.refused ≡ (old.refused || refused)
 
-pub record StopsInLast (os : List Outcome) (text : List ℕ) : Type 0 where
-  pub before : List Outcome
-  pub last : Outcome
-  pub ends : os ≡ before ++ last ∷ []
-  pub front : List ℕ
-  pub wrote : text ≡ text_of before ++ front
-  pub short : length front < length last.text
+pub record AnswersAll (old new : Replaying) (s k : Passage) (end : End) : Type 0 where
+  pub kept : List ℕ
+  pub refused : Bool
+  pub read : Read s kept end
+  pub run : WritesTo old.state (lines_of (is_at_end end) kept) k.old k.new refused new.state
+  pub flag : new.refused ≡ (old.refused || refused)
 
 pub record BreaksIn (start : State) (lines : List (List ℕ)) (before now : Option (List ℕ)) : Type 0 where
   pub prefix : WritesPrefix start lines before now

@@ -19,12 +19,12 @@ use Rattle.topology_terms.specs.Sound.{IsSound}
 use Rattle.script_terms.specs.State.{State}
 use Rattle.script_terms.specs.Reply.{reply_text}
 use Rattle.script_terms.specs.Headline.{SoundHeadline, Invariant}
+use Rattle.script_terms.specs.Ends.{Replays, EndsFrom}
 use Rattle.script_terms.specs.Run.{Outcome, Run, Step, is_refusal, any_refused, last_state, EachSound, EachInvariant, WritesRun}
 use Rattle.outside_terms.specs.Reads.{Passage}
 use Rattle.outside_terms.specs.declared.end.End.TheVariants.{AtEnd}
 use Rattle.outside_terms.specs.declared.status.Status.{Status}
 use Rattle.outside_terms.specs.declared.status.Status.TheVariants as status
-use Rattle.opening_terms.specs.Replaying.{Replays, EndsFrom}
 use Rattle.town_terms.specs.Ends.{IsJudgedBy, AreJudged}
 
 abbrev pub judged_in : Reply → ℕ

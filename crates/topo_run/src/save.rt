@@ -2,11 +2,12 @@ ghost use Rattle.std.specs.Prelude.{◌≡◌, ◌≤◌, OnOk, IsErrOf};
 ghost use Rattle.outside_terms.specs.Faults.{Rose};
 ghost use Rattle.outside_terms.specs.Shelves.{KeepsHeld, KeepsOthers};
 ghost use Rattle.opening_terms.specs.Saving.{Saves, EndsSaving, EndsAsReplayTo};
+ghost use Rattle.topo_run.specs.Replayers.{IsNew};
 ghost use Rattle.topo_run.specs.Unopened.{IfUnopened, is_answered};
 
 use crate::open::{say_unopened, world_of};
+use crate::pieces::Replayer;
 use crate::replay::replay_from;
-use command_answers::World;
 use outside_terms::Status;
 use project_text::write_project;
 use std::alloc::Global;
@@ -15,17 +16,17 @@ use topo_outside::{Shelf, ShelfFault, Sink, Source};
 // Puts the project of a state under this name.
 fn save<H: Shelf>(
     alloc: Global,
-    world: &World,
+    replayer: &Replayer,
     target: &str,
     shelf: &mut H,
 ) -> Result<(), ShelfFault>
-    ensures saved { OnOk result (Saves (record { old = H.held shelf.old; new = H.held shelf.new; before = H.faults shelf.old; now = H.faults shelf.new }) target.now world.now.project) }
+    ensures saved { OnOk result (Saves (record { old = H.held shelf.old; new = H.held shelf.new; before = H.faults shelf.old; now = H.faults shelf.new }) target.now replayer.now.state.project) }
     ensures others { KeepsOthers (H.held shelf.old) (H.held shelf.new) target.now }
     ensures failed { IsErrOf result ShelfFault.Failed → Rose (H.faults shelf.old) (H.faults shelf.new) }
     ensures no_memory { IsErrOf result ShelfFault.NoMemory → KeepsHeld (H.held shelf.old) (H.held shelf.new) }
     ensures later { H.faults shelf.old ≤ H.faults shelf.new }
 {
-    let Ok(saved) = world.topology().to_data() else {
+    let Ok(saved) = replayer.root().to_data() else {
         return Err(ShelfFault::NoMemory);
     };
     let Ok(text) = write_project(alloc, &saved) else {
@@ -42,24 +43,25 @@ fn is_answered(status: Status) -> bool
 
 fn replay_and_save<S: Source, K: Sink, H: Shelf>(
     alloc: Global,
-    world: &mut World,
+    replayer: &mut Replayer,
     target: &str,
     source: &mut S,
     sink: &mut K,
     shelf: &mut H,
 ) -> Status
-    ensures ends { EndsSaving world.old target.now
+    requires { IsNew replayer.old }
+    ensures ends { EndsSaving replayer.old.state target.now
         (record { old = S.left source.old; new = S.left source.new; before = S.faults source.old; now = S.faults source.new })
         (record { old = H.held shelf.old; new = H.held shelf.new; before = H.faults shelf.old; now = H.faults shelf.new })
         (record { old = K.written sink.old; new = K.written sink.new; before = K.faults sink.old; now = K.faults sink.new })
         result }
     ensures counts { (S.faults source.old ≤ S.faults source.new) × (K.faults sink.old ≤ K.faults sink.new) × (H.faults shelf.old ≤ H.faults shelf.new) }
 {
-    let status = replay_from(alloc, world, source, sink);
+    let status = replay_from(alloc, replayer, source, sink);
     if !is_answered(status) {
         return status;
     }
-    match save(alloc, world, target, shelf) {
+    match save(alloc, replayer, target, shelf) {
         Ok(()) => status,
         Err(ShelfFault::Failed) => Status::SaveFault,
         Err(ShelfFault::NoMemory) => Status::NoMemory,
@@ -84,7 +86,10 @@ pub fn replay_to<S: Source, K: Sink, H: Shelf>(
     ensures counts { (S.faults source.old ≤ S.faults source.new) × (K.faults sink.old ≤ K.faults sink.new) × (H.faults shelf.old ≤ H.faults shelf.new) }
 {
     match world_of(alloc, name, shelf) {
-        Ok(mut world) => replay_and_save(alloc, &mut world, target, source, sink, shelf),
+        Ok(world) => {
+            let mut replayer = Replayer::of(alloc, world);
+            replay_and_save(alloc, &mut replayer, target, source, sink, shelf)
+        }
         Err(why) => say_unopened(alloc, why, sink),
     }
 }

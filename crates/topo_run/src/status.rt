@@ -1,15 +1,7 @@
 ghost use Rattle.std.specs.Prelude.{◌≡◌};
-ghost use Rattle.outside_terms.specs.Reads.{is_at_end};
 ghost use Rattle.outside_terms.specs.Statuses.{code_of, status_of};
 
 use outside_terms::{End, Status};
-
-/// Whether the script was read to its end.
-pub fn is_at_end(end: End) -> bool
-    ensures { result ≡ is_at_end end }
-{
-    matches!(end, End::AtEnd)
-}
 
 /// The status after all lines were answered.
 pub fn status_of(end: End, refused: bool) -> Status

@@ -1,10 +1,12 @@
 ghost use Rattle.std.specs.Prelude.{◌≤◌};
 
 use super::{
-    AT_ONCE, Kind, calls_for, failing_sink, first_lines, first_replies, idle_sink, repeated, replay,
+    AT_ONCE, Kind, calls_for, failing_sink, first_lines, first_replies, idle_sink, repeated,
+    replay, whole_lines,
 };
 use crate::script::LEN;
 use crate::statuses::{REFUSED, WRITE_FAULT};
+use crate::streams::EndlessSource;
 use crate::tally::Tally;
 use std::alloc::{AllocError, Global};
 use topo_outside::SureSource;
@@ -16,11 +18,21 @@ fn fail_each_write(alloc: Global, piece: usize, tally: &mut Tally) -> Result<(),
     let replies = first_replies(alloc, LEN)?;
     for before in 0..calls_for(replies.len(), piece) {
         let taken = before.saturating_mul(piece).min(replies.len());
-        let mut source = SureSource::new(first_lines(alloc, LEN)?);
+        let mut source = SureSource::new(whole_lines(alloc)?);
         let mut sink = failing_sink(alloc, piece, before as u64 + 1)?;
         let status = replay(alloc, &mut source, &mut sink)?;
         tally.note(status == WRITE_FAULT && sink.bytes().as_slice() == &replies[..taken]);
     }
+    Ok(())
+}
+
+// The last line has no LF: its reply is a write of its own, which fails.
+fn fail_last_write(alloc: Global, tally: &mut Tally) -> Result<(), AllocError> {
+    let mut source = SureSource::new(first_lines(alloc, LEN)?);
+    let mut sink = failing_sink(alloc, AT_ONCE, 2)?;
+    let status = replay(alloc, &mut source, &mut sink)?;
+    let expected = first_replies(alloc, LEN - 1)?;
+    tally.note(status == WRITE_FAULT && sink.bytes().as_slice() == expected.as_slice());
     Ok(())
 }
 
@@ -38,6 +50,7 @@ impl Kind for FailingWrites {
         fail_each_write(alloc, 2, &mut tally)?;
         fail_each_write(alloc, 7, &mut tally)?;
         fail_each_write(alloc, AT_ONCE, &mut tally)?;
+        fail_last_write(alloc, &mut tally)?;
         Ok(tally)
     }
 }
@@ -49,7 +62,7 @@ fn empty_each_write(alloc: Global, piece: usize, tally: &mut Tally) -> Result<()
     let replies = first_replies(alloc, LEN)?;
     for before in 0..calls_for(replies.len(), piece) {
         let taken = before.saturating_mul(piece).min(replies.len());
-        let mut source = SureSource::new(first_lines(alloc, LEN)?);
+        let mut source = SureSource::new(whole_lines(alloc)?);
         let mut sink = idle_sink(alloc, piece, before as u64 + 1)?;
         let status = replay(alloc, &mut source, &mut sink)?;
         tally.note(status == WRITE_FAULT && sink.bytes().as_slice() == &replies[..taken]);
@@ -100,6 +113,27 @@ impl Kind for LateWrites {
             longest = written.len();
             tally.note(status == WRITE_FAULT && is_longer && replies.starts_with(written));
         }
+        Ok(tally)
+    }
+}
+
+/// The third byte of the first reply cannot be written, before 200,000 lines: at most 65,536 bytes of them are read.
+pub struct EarlyWrites;
+
+impl Kind for EarlyWrites {
+    fn name(&self) -> &str {
+        "a write that fails before a long rest"
+    }
+
+    fn runs(&self, alloc: Global) -> Result<Tally, AllocError> {
+        let mut tally = Tally::new();
+        let mut script = b"class wells point\n".to_vec(alloc)?;
+        script.extend_from_slice(&repeated(alloc, b"dirty\n", 200_000)?)?;
+        let mut source = EndlessSource::new(script);
+        let mut sink = failing_sink(alloc, 1, 3)?;
+        let status = replay(alloc, &mut source, &mut sink)?;
+        let is_short = source.given() <= 65_536 && sink.bytes().as_slice() == b"ok".as_slice();
+        tally.note(status == WRITE_FAULT && is_short);
         Ok(tally)
     }
 }

@@ -1,10 +1,13 @@
-use Rattle.std.proofs.Common.{inl, inr, subst}
+use Rattle.std.proofs.Common.{inl, inr, subst, ◌∙◌}
 use Rattle.outside_terms.specs.Reads.{Passage}
 use Rattle.outside_terms.specs.Shelves.{Visit}
 use Rattle.script_terms.specs.State.{State}
-use Rattle.opening_terms.specs.Replaying.{EndsFrom}
-use Rattle.topo_run.proofs.Endings.{from_there, began}
+use Rattle.script_terms.specs.Ends.{EndsFrom}
+use Rattle.topo_run.proofs.Endings.{from_there, began, made_new, made_state}
 use Rattle.topo_run.proofs.replay.replay_of.Goals as goal
+
+pub replay_from-requires : goal.replay_from-requires
+replay_from-requires g c = made_new c.of-replayer.result _ c.of-replayer.ensures
 
 pub returns-in-Ok-clause-ends : goal.returns-in-Ok-clause-ends
 returns-in-Ok-clause-ends g c =
@@ -24,8 +27,8 @@ returns-in-Ok-clause-ends g c =
     inl (
       start.0,
       start.1,
-      subst (λ (x : State). EndsFrom x s k c.replay_from.result) start.2
-          (from_there c.in-Ok.world c.replay_from.new.world s k c.replay_from.result c.replay_from.ensures.ends),
+      subst (λ (x : State). EndsFrom x s k c.replay_from.result) (made_state c.of-replayer.result _ c.of-replayer.ensures ∙ start.2)
+          (from_there c.of-replayer.result.state c.replay_from.new.replayer.state s k c.replay_from.result c.replay_from.ensures.ends),
     )
 
 pub returns-in-Ok-clause-unopened : goal.returns-in-Ok-clause-unopened
@@ -42,8 +45,8 @@ returns-in-Ok-clause-unopened g c =
       before = g.K.Sink.faults c.args.sink.now;
       now = g.K.Sink.faults c.replay_from.new.sink;
     } in
-    began _ c.in-Ok.world s k c.replay_from.result
-    (from_there c.in-Ok.world c.replay_from.new.world s k c.replay_from.result c.replay_from.ensures.ends)
+    began _ c.of-replayer.result.state s k c.replay_from.result
+    (from_there c.of-replayer.result.state c.replay_from.new.replayer.state s k c.replay_from.result c.replay_from.ensures.ends)
 
 pub returns-in-Err-clause-ends : goal.returns-in-Err-clause-ends
 returns-in-Err-clause-ends g c =

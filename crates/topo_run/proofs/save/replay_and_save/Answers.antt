@@ -29,7 +29,7 @@ returns-then-not-is_answered-clause-ends g c =
       before = g.H.Shelf.faults c.args.shelf.now;
       now = g.H.Shelf.faults c.args.shelf.now;
     } in
-    not_answered c.args.world.now c.replay_from-status.new.world c.args.target.now s h k c.replay_from-status.result
+    not_answered c.args.replayer.now.state c.replay_from-status.new.replayer.state c.args.target.now s h k c.replay_from-status.result
     c.replay_from-status.ensures.ends (sym c.is_answered.ensures ∙ c.if-not-is_answered.true) (same_held (g.H.Shelf.held c.args.shelf.now))
 
 pub returns-in-Ok-clause-ends : goal.returns-in-Ok-clause-ends
@@ -53,7 +53,7 @@ returns-in-Ok-clause-ends g c =
       now = g.H.Shelf.faults c.save.new.shelf;
     } in
     let done = answered c.replay_from-status.result (sym c.is_answered.ensures ∙ c.if-not-is_answered.false) in
-    answered_saved c.args.world.now c.replay_from-status.new.world c.args.target.now s h k c.replay_from-status.result
+    answered_saved c.args.replayer.now.state c.replay_from-status.new.replayer.state c.args.target.now s h k c.replay_from-status.result
     c.replay_from-status.ensures.ends done c.in-Ok.ensures.saved
 
 pub returns-in-Err-Failed-clause-ends : goal.returns-in-Err-Failed-clause-ends
@@ -77,7 +77,7 @@ returns-in-Err-Failed-clause-ends g c =
       now = g.H.Shelf.faults c.save.new.shelf;
     } in
     let done = answered c.replay_from-status.result (sym c.is_answered.ensures ∙ c.if-not-is_answered.false) in
-    answered_failed c.args.world.now c.replay_from-status.new.world c.args.target.now s h k c.replay_from-status.result
+    answered_failed c.args.replayer.now.state c.replay_from-status.new.replayer.state c.args.target.now s h k c.replay_from-status.result
     c.replay_from-status.ensures.ends done (c.in-Err-Failed.ensures.failed (ap failed c.in-Err-Failed.field-0-is)) c.in-Err-Failed.ensures.others
 
 pub returns-in-Err-NoMemory-clause-ends : goal.returns-in-Err-NoMemory-clause-ends
@@ -101,5 +101,5 @@ returns-in-Err-NoMemory-clause-ends g c =
       now = g.H.Shelf.faults c.save.new.shelf;
     } in
     let done = answered c.replay_from-status.result (sym c.is_answered.ensures ∙ c.if-not-is_answered.false) in
-    answered_out c.args.world.now c.replay_from-status.new.world c.args.target.now s h k c.replay_from-status.result
+    answered_out c.args.replayer.now.state c.replay_from-status.new.replayer.state c.args.target.now s h k c.replay_from-status.result
     c.replay_from-status.ensures.ends done (c.in-Err-NoMemory.ensures.no_memory (ap failed c.in-Err-NoMemory.field-0-is))

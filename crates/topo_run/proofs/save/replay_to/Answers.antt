@@ -1,10 +1,14 @@
-use Rattle.std.proofs.Common.{inl, inr, subst}
+use Rattle.std.proofs.Common.{inl, inr, subst, ◌∙◌}
 use Rattle.outside_terms.specs.Reads.{Passage}
 use Rattle.outside_terms.specs.Shelves.{Visit}
 use Rattle.script_terms.specs.State.{State}
 use Rattle.opening_terms.specs.Saving.{EndsSaving}
+use Rattle.topo_run.proofs.Endings.{made_new, made_state}
 use Rattle.topo_run.proofs.Shelved.{after_opening, began_saving}
 use Rattle.topo_run.proofs.save.replay_to.Goals as goal
+
+pub replay_and_save-requires : goal.replay_and_save-requires
+replay_and_save-requires g c = made_new c.of-replayer.result _ c.of-replayer.ensures
 
 pub returns-in-Ok-clause-ends : goal.returns-in-Ok-clause-ends
 returns-in-Ok-clause-ends g c =
@@ -32,7 +36,8 @@ returns-in-Ok-clause-ends g c =
       start.1,
       after_opening _ c.args.target.now s h k (g.H.Shelf.held c.args.shelf.now) (g.H.Shelf.faults c.args.shelf.now)
           c.replay_and_save.result c.world_of.ensures.kept c.world_of.ensures.later
-          (subst (λ (x : State). EndsSaving x c.args.target.now s h k c.replay_and_save.result) start.2 c.replay_and_save.ensures.ends),
+          (subst (λ (x : State). EndsSaving x c.args.target.now s h k c.replay_and_save.result)
+          (made_state c.of-replayer.result _ c.of-replayer.ensures ∙ start.2) c.replay_and_save.ensures.ends),
     )
 
 pub returns-in-Ok-clause-unopened : goal.returns-in-Ok-clause-unopened
@@ -55,7 +60,7 @@ returns-in-Ok-clause-unopened g c =
       before = g.H.Shelf.faults c.world_of.new.shelf;
       now = g.H.Shelf.faults c.replay_and_save.new.shelf;
     } in
-    began_saving _ c.in-Ok.world c.args.target.now s h k c.replay_and_save.result c.replay_and_save.ensures.ends
+    began_saving _ c.of-replayer.result.state c.args.target.now s h k c.replay_and_save.result c.replay_and_save.ensures.ends
 
 pub returns-in-Err-clause-ends : goal.returns-in-Err-clause-ends
 returns-in-Err-clause-ends g c =

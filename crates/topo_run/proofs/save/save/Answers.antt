@@ -11,6 +11,6 @@ returns-clause-saved g c =
       before = g.H.Shelf.faults c.args.shelf.now;
       now = g.H.Shelf.faults c.put.new.self;
     } in
-    puts h c.args.target.now c.in-Ok-write_project.text.items c.deref.result.now c.args.world.now.project c.in-Ok.saved c.put.result
+    puts h c.args.target.now c.in-Ok-write_project.text.items c.deref.result.now c.args.replayer.now.state.project c.in-Ok.saved c.put.result
     c.put.ensures.stored c.put.ensures.others c.deref.ensures.value c.in-Ok-write_project.ensures
-    (c.in-Ok.ensures.same ∙ c.topology.ensures) c.in-Ok.ensures.valid
+    (c.in-Ok.ensures.same ∙ c.root.ensures) c.in-Ok.ensures.valid
