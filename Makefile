@@ -35,7 +35,7 @@ install: program
 	install -m 644 docs/figures/*.svg "$(DESTDIR)$(doc)/docs/figures"
 	install -m 644 tools/README.md "$(DESTDIR)$(doc)/tools"
 	install -m 644 examples/*.topo examples/*.project examples/Snakefile "$(DESTDIR)$(doc)/examples"
-	install -m 755 examples/make_parcels "$(DESTDIR)$(doc)/examples"
+	install -m 755 examples/make_parcels examples/talk "$(DESTDIR)$(doc)/examples"
 
 uninstall:
 	rm -f "$(DESTDIR)$(bin)/topo" $(addprefix "$(DESTDIR)$(bin)"/,$(commands)) "$(DESTDIR)$(man)/topo.1"
