@@ -11,7 +11,7 @@ from contextlib import contextmanager
 from typing import Iterator
 
 # No reply takes this long, in seconds.
-LONG = 20
+LONG = 60
 
 
 def bytes_in(pipe: int) -> int:
