@@ -1,5 +1,5 @@
 -- What is asked for ends as its words say.
-use Rattle.std.proofs.Common.{ℕ, ◌≡◌, ◌≢◌, List, [], ◌∷◌, refl, sym, ◌∙◌, ap, subst, length, get_or, arith}
+use Rattle.std.proofs.Common.{ℕ, ◌≡◌, ◌≢◌, List, [], ◌∷◌, ap, subst, length, get_or, arith}
 use Rattle.std.specs.Prelude.{codes}
 use Rattle.outside_terms.specs.Reads.{Passage}
 use Rattle.outside_terms.specs.Shelves.{Visit}

@@ -11,7 +11,7 @@ use Rattle.script_terms.specs.Run.{WritesRun, WritesPrefix, text_of}
 use Rattle.script_terms.specs.State.{State, empty_state}
 use Rattle.script_terms.proofs.Starts.{empty_sound, empty_settled}
 use Rattle.topo_run.specs.Replayers.{Replaying, IsNew, AnswersAll}
-use Rattle.topo_run.specs.Told.{WritesTo, ReplaysTo, EndsAt}
+use Rattle.topo_run.specs.Told.{WritesTo, EndsAt}
 use Rattle.topo_run.specs.Unopened.{IfUnopened}
 use Rattle.outside_terms.specs.declared.end.End.{End}
 use Rattle.outside_terms.specs.declared.end.End.TheVariants.{AtEnd, Failed, TooLong}

@@ -7,12 +7,12 @@
 -- some_in_piece, some_at_end, breaks_in_piece, breaks_at_end     why the answering ends early
 use Rattle.std.proofs.Common.{ℕ, ◌+◌, ◌-◌, ◌≡◌, ◌<◌, ◌≤◌, min, Bool, true, false, ◌||◌, List, [], ◌∷◌, ◌++◌, Option, length, take, drop, inl, inr, refl, sym, ◌∙◌, ap, subst, arith, append_assoc, append-nil, length-append}
 use Rattle.std.proofs.lemmas.Bool.{cases_lt}
-use Rattle.std.proofs.lemmas.List.{take-append-drop, take_all, take-take, length-take, length-drop}
+use Rattle.std.proofs.lemmas.List.{take-append-drop, take_all, take-take, length-take}
 use Rattle.std.proofs.Math.ListN.{drop_of_length-le}
 use Rattle.std.proofs.Math.Seq.{take-append-add}
 use Rattle.std.specs.Io.KnownBytes.{Consumes, IsAtEnd, Keeps}
 use Rattle.std.proofs.KnownBytes.{Appends-nil, Consumes-nil, Consumes-trans, Consumes-kept}
-use Rattle.text_terms.specs.Lines.{last_line, lines_from, lines_of}
+use Rattle.text_terms.specs.Lines.{last_line, lines_of}
 use Rattle.topology_terms.specs.Project.{IsOrdered}
 use Rattle.outside_terms.specs.Faults.{Rose}
 use Rattle.outside_terms.specs.Reads.{Passage, script_limit}

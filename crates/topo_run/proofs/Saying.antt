@@ -1,5 +1,5 @@
 -- What is said, and how the words end then.
-use Rattle.std.proofs.Common.{ℕ, ◌≡◌, List, Option, None, Some, inl, inr, refl, sym, subst}
+use Rattle.std.proofs.Common.{ℕ, List, Option, None, Some, inl, inr, refl, sym, subst}
 use Rattle.topology_terms.specs.Poster.{poster}
 use Rattle.topology_terms.specs.Project.{Project}
 use Rattle.outside_terms.specs.Reads.{Passage}

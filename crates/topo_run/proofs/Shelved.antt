@@ -1,14 +1,12 @@
 -- What a shelf holds after calls, one after another; and how a replay ends that saves.
 use Rattle.std.proofs.Common.{ℕ, ◌≡◌, ◌≢◌, ◌≤◌, ◌⊎◌, Bool, true, false, List, Option, None, Some, inl, inr, refl, sym, ◌∙◌, ap, subst, arith, length, take, ◌<◌}
-use Rattle.std.specs.Prelude.{Result, Ok, Err, OnOk, IsErrOf, codes}
-use Rattle.std.specs.Io.KnownBytes.{Appends}
-use Rattle.std.proofs.KnownBytes.{Appends-nil}
-use Rattle.topology_terms.specs.Project.{Project, empty_project}
+use Rattle.std.specs.Prelude.{Result, Ok, Err, OnOk, codes}
+use Rattle.topology_terms.specs.Project.{Project}
 use Rattle.project_terms.specs.Records.{IsRecord}
 use Rattle.project_terms.specs.Written.{project_text}
 use Rattle.outside_terms.specs.Faults.{Rose}
 use Rattle.outside_terms.specs.Reads.{Passage, script_limit}
-use Rattle.outside_terms.specs.Shelves.{Held, Gives, KeepsHeld, KeepsOthers, SetsHeld, Visit}
+use Rattle.outside_terms.specs.Shelves.{Held, KeepsHeld, KeepsOthers, SetsHeld, Visit}
 use Rattle.outside_terms.specs.Statuses.{code_of}
 use Rattle.outside_terms.specs.declared.end.End.TheVariants.{AtEnd, TooLong}
 use Rattle.outside_terms.specs.declared.status.Status.{Status}
@@ -19,7 +17,7 @@ use Rattle.script_terms.specs.State.{State, empty_state}
 use Rattle.script_terms.proofs.Starts.{last_sound, last_settled}
 use Rattle.opening_terms.specs.Opening.{EndsUnopened, IsOpeningComplete}
 use Rattle.opening_terms.specs.Replaying.{IsStart, IsToldStart, start_of, EndsAsReplayOf, IsReplayOfComplete}
-use Rattle.opening_terms.specs.Saving.{Saves, SavesRun, FailsToSave, EndsSaving, EndsAsReplayTo, IsReplayToComplete}
+use Rattle.opening_terms.specs.Saving.{Saves, SavesRun, EndsSaving, EndsAsReplayTo, IsReplayToComplete}
 use Rattle.topo_run.specs.Told.{ReplaysTo, EndsAt}
 use Rattle.topo_run.specs.Unopened.{IfUnopened, is_answered}
 use Rattle.topo_run.proofs.Endings.{all_some, began, kept_whole, not_too_long, not_at_end, from_completes, long_completes}

@@ -1,13 +1,10 @@
 use Rattle.std.proofs.Common.{[], ◌≡◌, ◌<◌, ◌≤◌, ℕ, List, length, take, arith, refl, sym, ◌∙◌, ap, subst, lit<, lit≤}
 use Rattle.std.specs.Io.KnownBytes.{Consumes}
 use Rattle.topo_run.specs.declared.read.TheConstants.{PIECE}
-use Rattle.outside_terms.specs.Reads.{Passage}
-use Rattle.script_terms.specs.State.{State}
-use Rattle.topo_run.specs.Told as told
 use Rattle.topo_run.proofs.Runs.{at_err}
 use Rattle.topo_run.proofs.Feeding.{err_through}
 use Rattle.topo_run.proofs.Stepping.{keeps_by}
-use Rattle.topo_run.proofs.Reading.{taking_begins, takes_on, fed_is, whole_piece, ends_whole, ends_long, ends_failed, none_taken, some_in_piece, some_at_end, breaks_in_piece, breaks_at_end}
+use Rattle.topo_run.proofs.Reading.{taking_begins, takes_on, fed_is, whole_piece, ends_whole, ends_long, none_taken, some_in_piece, some_at_end, breaks_in_piece, breaks_at_end}
 use Rattle.topo_run.proofs.read.answer_script.Goals as goal
 
 pub returns-in_err-piece-clause-err : goal.returns-in_err-piece-clause-err
