@@ -1,12 +1,12 @@
 -- The frames of errors stay in the index.
-use Rattle.std.proofs.Common.{◌≡◌, ◌⊎◌, inl, inr, ℕ, ◌<◌, ◌≤◌, ◌+◌, zero, suc, Bool, List, [], ◌∷◌, Option, Some, None, length, take, get_or, set, arith, refl, sym, ◌∙◌, ap, subst, Contains}
+use Rattle.std.proofs.Common.{◌≡◌, ◌⊎◌, inl, inr, ℕ, ◌<◌, ◌≤◌, ◌+◌, zero, suc, Bool, List, [], ◌∷◌, Option, Some, None, length, take, drop, get_or, set, arith, refl, sym, ◌∙◌, ap, subst, Contains}
 use Rattle.std.specs.Prelude.{OnOk, OnErr}
 use Rattle.std.specs.declared.result.Result.{Result}
 use Rattle.std.specs.declared.result.Result.TheVariants.{Ok, Err}
 use Rattle.std.specs.List.{AllWithin}
-use Rattle.std.proofs.lemmas.List.{take_more, get_or_default}
+use Rattle.std.proofs.lemmas.List.{take_more, take-append-drop, get_or_default}
 use Rattle.plane_terms.specs.Lists.{SomeOf}
-use Rattle.plane_terms.proofs.ListLemmas.{every_map, every_append}
+use Rattle.plane_terms.proofs.ListLemmas.{every_map, every_append, SomeOf-append_left, SomeOf-append_right}
 use Rattle.topology_terms.specs.Entry.{Entry, by_key, entry_at, IsAscending}
 use Rattle.sound_laws.proofs.Keyed.{each_found}
 use Rattle.sound_laws.proofs.Lists.{keys, every_found}
@@ -16,7 +16,7 @@ use Rattle.grid_index.specs.Near.{HoldsSame, Gains, Loses}
 use Rattle.error_store.specs.Runs.{HasNoneOf, IsOf, IsNext}
 use Rattle.error_store.proofs.Leaving.{selected_or_not}
 use Rattle.error_store.proofs.Places.{late_or_not}
-use Rattle.error_store.specs.Frames.{framed_of, AreFramed}
+use Rattle.error_store.specs.Frames.{framed_of, IsFrame, AreFramed}
 
 abbrev pub Holds : List Placed → List Placed → Type 0
 Holds ps qs = (q : Placed) → Contains ps q → Contains qs q
@@ -25,6 +25,11 @@ pub kept_of : {X Y : Type 0} (r : Result X Y) (ps qs : List Placed) (p : Placed)
     → Holds ps qs
 kept_of (Ok x) ps qs p g h = λ q c. (g q).1 (inl c)
 kept_of (Err y) ps qs p g h = λ q c. (h q).1 c
+
+pub only_of : {X Y : Type 0} (r : Result X Y) (ps qs : List Placed) (p : Placed) → OnOk r (Gains ps qs p) → OnErr r (HoldsSame ps qs)
+    → (q : Placed) → Contains qs q → Contains ps q ⊎ (p ≡ q)
+only_of (Ok x) ps qs p g h q c = elim ((g q).0 c) [ inl k ↦ inl k | inr e ↦ inr (sym e) ]
+only_of (Err y) ps qs p g h q c = inl ((h q).0 c)
 
 pub framed_more : (ps qs : List Placed) (es : List Entry) → Holds ps qs → AreFramed ps es → AreFramed qs es
 framed_more ps qs es h f = every_map (λ (e : Entry). Contains ps (framed_of e)) (λ (e : Entry). Contains qs (framed_of e))
@@ -48,6 +53,75 @@ pub framed_next : (ps qs : List Placed) (es : List Entry) (i : ℕ) (e : Entry) 
     → AreFramed ps (take i es) → Contains qs (framed_of e) → AreFramed qs (take (i + 1) es)
 framed_next ps qs es i e l is h f c = rw (take_more es i e l) (every_append (λ (x : Entry). Contains qs (framed_of x)) (take i es)
     (get_or es i e ∷ []) (framed_more ps qs (take i es) h f) (subst (λ (x : Entry). Contains qs (framed_of x)) is c, tt))
+
+pub some_at : (P : Entry → Type 0) (es : List Entry) (i : ℕ) (e : Entry) → i < length es → e ≡ get_or es i e → P e → SomeOf P es
+some_at P [] i e l is p = absurd (omega arith)
+some_at P (x ∷ es) zero e l is p = inl (subst P is p)
+some_at P (x ∷ es) (suc i) e l is p = inr (some_at P es i e (omega arith) is p)
+
+-- ---- nothing else comes in
+some_front : (es : List Entry) (i : ℕ) (q : Placed) → IsFrame (take i es) q → IsFrame es q
+some_front es i q s = subst (λ fs. IsFrame fs q) (take-append-drop i es)
+    (SomeOf-append_left (λ (x : Entry). framed_of x ≡ q) (take i es) (drop i es) s)
+
+pub only_some : (ps qs rs : List Placed) (es : List Entry) (i : ℕ) (e : Entry) → i < length es → e ≡ get_or es i e
+    → ((q : Placed) → Contains qs q → Contains ps q ⊎ IsFrame (take i es) q)
+    → ((q : Placed) → Contains rs q → Contains qs q ⊎ (framed_of e ≡ q))
+    → (q : Placed) → Contains rs q → Contains ps q ⊎ IsFrame es q
+only_some ps qs rs es i e l is before more q c = elim (more q c) [
+  | inl k ↦ elim (before q k) [ inl b ↦ inl b | inr s ↦ inr (some_front es i q s) ]
+  | inr f ↦ inr (some_at (λ (x : Entry). framed_of x ≡ q) es i e l is f)
+]
+
+pub only_next : (ps qs rs : List Placed) (es : List Entry) (i : ℕ) (e : Entry) → i < length es → e ≡ get_or es i e
+    → ((q : Placed) → Contains qs q → Contains ps q ⊎ IsFrame (take i es) q)
+    → ((q : Placed) → Contains rs q → Contains qs q ⊎ (framed_of e ≡ q))
+    → (q : Placed) → Contains rs q → Contains ps q ⊎ IsFrame (take (i + 1) es) q
+only_next ps qs rs es i e l is before more q c = elim (more q c) [
+  | inl k ↦ elim (before q k) [
+    | inl b ↦ inl b
+    | inr s ↦ inr (rw (take_more es i e l) (SomeOf-append_left (λ (x : Entry). framed_of x ≡ q) (take i es) (get_or es i e ∷ []) s))
+  ]
+  | inr f ↦
+      inr (rw (take_more es i e l) (SomeOf-append_right (λ (x : Entry). framed_of x ≡ q) (take i es) (get_or es i e ∷ [])
+      (inl (subst (λ (x : Entry). framed_of x ≡ q) is f))))
+]
+
+pub only_front : (ps qs : List Placed) (es : List Entry) (i : ℕ) → ((q : Placed) → Contains qs q → Contains ps q ⊎ IsFrame (take i es) q)
+    → (q : Placed) → Contains qs q → Contains ps q ⊎ IsFrame es q
+only_front ps qs es i before q c = elim (before q c) [ inl b ↦ inl b | inr s ↦ inr (some_front es i q s) ]
+
+-- what is taken out, unless an error has it
+abbrev pub AreGone : List Placed → List Placed → List Placed → List Entry → ℕ → Type 0
+AreGone ps qs frames es i =
+    (q : Placed) → Contains qs q → Contains ps q × ((j : ℕ) → j < i → get_or frames j q ≡ q → IsFrame es q)
+
+pub gone_next : (ps qs rs frames : List Placed) (es : List Entry) (i : ℕ) (p : Placed) → i < length frames → p ≡ get_or frames i p
+    → AreGone ps qs frames es i → ((q : Placed) → Contains rs q → Contains qs q × (p ≡ q → IsFrame es q))
+    → AreGone ps rs frames es (i + 1)
+gone_next ps qs rs frames es i p l is before more q c =
+    let m = more q c in
+    let b = before q m.0 in (
+      b.0,
+      λ j h e. elim (late_or_not j i) [
+        | inl k ↦ b.1 j k e
+        | inr k ↦
+            let same : j ≡ i = omega arith in
+            m.1 (is ∙ (get_or_default frames i p q l ∙ (ap (λ n. get_or frames n q) (sym same) ∙ e)))
+      ],
+    )
+
+pub gone_all : (ps qs frames : List Placed) (es : List Entry) (i : ℕ) → length frames ≤ i → AreGone ps qs frames es i
+    → (q : Placed) → Contains qs q → Contains ps q × (Contains frames q → IsFrame es q)
+gone_all ps qs frames es i l h q c = let b = h q c in (b.0, λ k. b.1 k.0 (omega (arith, k.1)) k.2)
+
+pub left_of : (ps qs : List Placed) (es : List Entry) (p : Placed) → Loses ps qs p
+    → (q : Placed) → Contains qs q → Contains ps q × (p ≡ q → IsFrame es q)
+left_of ps qs es p l q c = let k = (l q).0 c in (k.0, λ e. absurd (k.1 (sym e)))
+
+pub left_same : (ps : List Placed) (es : List Entry) (p : Placed) → IsFrame es p
+    → (q : Placed) → Contains ps q → Contains ps q × (p ≡ q → IsFrame es q)
+left_same ps es p f q c = (c, λ e. subst (IsFrame es) e f)
 
 -- after a replacement
 came : (ps : List Placed) (fresh : List Entry) (r a b : ℕ) (o f : Option Entry) (n : Entry) → AreFramed ps fresh
@@ -103,8 +177,3 @@ none_of_all P (e ∷ es) h s = elim s [
   | inl p ↦ h 0 e (omega arith) (omega arith) p
   | inr q ↦ none_of_all P es (λ k d low high. h (suc k) d (omega arith) (omega arith)) q
 ]
-
-pub some_at : (P : Entry → Type 0) (es : List Entry) (i : ℕ) (e : Entry) → i < length es → e ≡ get_or es i e → P e → SomeOf P es
-some_at P [] i e l is p = absurd (omega arith)
-some_at P (x ∷ es) zero e l is p = inl (subst P is p)
-some_at P (x ∷ es) (suc i) e l is p = inr (some_at P es i e (omega arith) is p)

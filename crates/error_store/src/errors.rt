@@ -4,7 +4,7 @@ ghost use Rattle.topology_terms.specs.Entry.{entry_at, IsAscending};
 ghost use Rattle.topology_terms.specs.Entry as terms;
 ghost use Rattle.validation_laws.specs.Replaced.{IsReplaced, AreFresh};
 ghost use Rattle.std.specs.List.Sorted.{IsStrictlyIncreasing};
-ghost use Rattle.error_store.specs.Frames.{AreFramed};
+ghost use Rattle.error_store.specs.Frames.{AreFramed, AreFrames};
 ghost use Rattle.error_store.specs.Marking.{IsMarkSet, fault_cause};
 
 use crate::entry::Entry;
@@ -105,6 +105,51 @@ fn replace_in(
     }
 }
 
+// The errors of the selected subjects give way to the fresh ones, and their frames in the index to those of these.
+fn replace_framed(
+    entries: &mut Vec<Entry>,
+    frames: &mut Index,
+    alloc: Global,
+    selected: &Handles,
+    fresh: Vec<Entry>,
+) -> Result<(), NoMemory>
+    requires old_ascending { IsAscending entries.old.items }
+    requires framed { AreFramed frames.old entries.old.items }
+    requires ascending { IsAscending fresh.items }
+    requires new { AreFresh selected.now fresh.items }
+    ensures replaced { OnOk result (IsReplaced selected.now entries.old.items fresh.items entries.new.items) }
+    ensures ascending { IsAscending entries.new.items }
+    ensures err { OnErr result (entries.new.items ≡ entries.old.items) }
+    ensures framed { AreFramed frames.new entries.new.items }
+    ensures only { OnOk result (AreFrames frames.old entries.old.items → AreFrames frames.new entries.new.items) }
+{
+    let subjects = list_of(alloc, selected)?;
+    let gone = frames_of(alloc, entries, &subjects)?;
+    put_frames(frames, entries, &fresh)?;
+    replace_in(entries, alloc, selected, &subjects, fresh)?;
+    drop_frames(frames, entries, &gone);
+    Ok(())
+}
+
+// The errors of the rule go, and their frames in the index, where there is memory to note them.
+fn drop_under(
+    entries: &mut Vec<Entry>,
+    frames: &mut Index,
+    alloc: Global,
+    rule: u16,
+) -> Result<(), NoMemory>
+    requires ascending { IsAscending entries.old.items }
+    requires framed { AreFramed frames.old entries.old.items }
+    ensures left { entries.new.items ≡ filter (λ (e : terms.Entry). not (e.rule == rule)) entries.old.items }
+    ensures framed { AreFramed frames.new entries.new.items }
+    ensures only { OnOk result (AreFrames frames.old entries.old.items → AreFrames frames.new entries.new.items) }
+{
+    let gone = frames_under(alloc, entries, rule);
+    drop_from(entries, rule);
+    drop_frames(frames, entries, &gone?);
+    Ok(())
+}
+
 impl Errors {
     /// No error.
     pub fn new(alloc: Global) -> Errors
@@ -182,13 +227,7 @@ impl Errors {
         ensures ascending { IsAscending self.new }
         ensures err { OnErr result (self.new ≡ self.old) }
     {
-        let _ = &self.entries;
-        let subjects = list_of(alloc, selected)?;
-        let gone = frames_of(alloc, &self.entries, &subjects)?;
-        put_frames(&mut self.frames, &self.entries, &fresh)?;
-        replace_in(&mut self.entries, alloc, selected, &subjects, fresh)?;
-        drop_frames(&mut self.frames, &self.entries, &gone);
-        Ok(())
+        replace_framed(&mut self.entries, &mut self.frames, alloc, selected, fresh)
     }
 
     /// The errors of the rule of this number go, and all others stay in their order. Where there is no memory to note their
@@ -199,9 +238,7 @@ impl Errors {
         ensures kept { (k a b : ℕ) → k ≢ rule → entry_at self.new k a b ≡ entry_at self.old k a b }
         ensures ascending { IsAscending self.new }
     {
-        let gone = frames_under(self.alloc, &self.entries, rule);
-        drop_from(&mut self.entries, rule);
-        drop_frames(&mut self.frames, &self.entries, &gone);
+        let _ = drop_under(&mut self.entries, &mut self.frames, self.alloc, rule);
     }
 
     /// Marks the error of this key as an exception, or takes its mark away; all else stays. Refused where no error has this

@@ -1,10 +1,10 @@
-ghost use Rattle.std.specs.Prelude.{◌≡◌, ◌↔◌, IsTrue, Contains, IfOk, OnOk};
+ghost use Rattle.std.specs.Prelude.{◌≡◌, ◌==◌, ◌↔◌, ◌⊎◌, IsTrue, Contains, IfOk, OnOk};
 ghost use Rattle.std.specs.List.Sorted.{IsStrictlyIncreasing};
-ghost use Rattle.plane_terms.specs.Lists.{SomeOf};
 ghost use Rattle.topology_terms.specs.Entry.{IsAscending};
 ghost use Rattle.topology_terms.specs.Entry as terms;
 ghost use Rattle.grid_index.specs.declared.placed.Placed as placed;
-ghost use Rattle.error_store.specs.Frames.{framed_of, AreFramed};
+ghost use Rattle.error_store.specs.Frames.{framed_of, frames_if, IsFrame, AreFramed};
+ghost use Rattle.error_store.specs.Runs.{is_of};
 
 use crate::entry::{Entry, is_same_rect};
 use crate::walk::next_of;
@@ -31,7 +31,7 @@ fn is_at(e: &Entry, place: &Placed) -> bool
 // Whether an error of the handle has this frame.
 fn stands(entries: &[Entry], place: &Placed) -> bool
     requires { IsAscending entries.now }
-    ensures { IsTrue result ↔ SomeOf (λ (e : terms.Entry). framed_of e ≡ place.now) entries.now }
+    ensures { IsTrue result ↔ IsFrame entries.now place.now }
 {
     let subject = [place.handle];
     let mut from = 0;
@@ -61,6 +61,7 @@ fn put_frame(index: &mut Index, entries: &[Entry], fresh: &Entry) -> Result<(), 
     requires framed { AreFramed index.old entries.now }
     ensures there { OnOk result (Contains index.new (framed_of fresh.now)) }
     ensures kept { (q : placed.Placed) → Contains index.old q → Contains index.new q }
+    ensures only { (q : placed.Placed) → Contains index.new q → Contains index.old q ⊎ (framed_of fresh.now ≡ q) }
 {
     let place = place_of(fresh);
     if stands(entries, &place) {
@@ -75,6 +76,7 @@ pub fn put_frames(index: &mut Index, entries: &[Entry], fresh: &[Entry]) -> Resu
     requires framed { AreFramed index.old entries.now }
     ensures there { OnOk result (AreFramed index.new fresh.now) }
     ensures framed { AreFramed index.new entries.now }
+    ensures only { (q : placed.Placed) → Contains index.new q → Contains index.old q ⊎ IsFrame fresh.now q }
 {
     for e in fresh {
         put_frame(index, entries, e)?;
@@ -90,6 +92,7 @@ pub fn frames_of(
 ) -> Result<Vec<Placed>, NoMemory>
     requires ascending { IsAscending entries.now }
     requires rising { IsStrictlyIncreasing subjects.now }
+    ensures { IfOk result (λ frames. frames.items ≡ frames_if (is_of subjects.now) entries.now) }
 {
     let mut frames = Vec::new(alloc);
     let mut from = 0;
@@ -100,22 +103,30 @@ pub fn frames_of(
     Ok(frames)
 }
 
-/// The frames of the errors of this rule; where there is no memory for all of them, some are left out.
-pub fn frames_under(alloc: Global, entries: &[Entry], rule: u16) -> Vec<Placed> {
-    let mut frames = Vec::new(alloc);
-    for e in entries {
-        if e.key().rule == rule {
-            let _ = frames.push(place_of(e));
-        }
-    }
-    frames
+fn is_under(e: &Entry, rule: u16) -> bool
+    ensures { result ≡ (e.now.rule == rule) }
+{
+    e.key().rule == rule
+}
+
+/// The frames of the errors of this rule.
+pub fn frames_under(alloc: Global, entries: &[Entry], rule: u16) -> Result<Vec<Placed>, NoMemory>
+    ensures { IfOk result (λ frames. frames.items ≡ frames_if (λ (e : terms.Entry). e.rule == rule) entries.now) }
+{
+    let frames = entries
+        .iter()
+        .filter(|e| is_under(e, rule))
+        .map(place_of)
+        .collect(alloc)?;
+    Ok(frames)
 }
 
 // Takes the frame out, unless an error has it.
 fn drop_frame(index: &mut Index, entries: &[Entry], frame: &Placed)
     requires ascending { IsAscending entries.now }
     requires framed { AreFramed index.old entries.now }
-    ensures { AreFramed index.new entries.now }
+    ensures framed { AreFramed index.new entries.now }
+    ensures left { (q : placed.Placed) → Contains index.new q → Contains index.old q × (frame.now ≡ q → IsFrame entries.now q) }
 {
     if stands(entries, frame) {
         return;
@@ -127,7 +138,8 @@ fn drop_frame(index: &mut Index, entries: &[Entry], frame: &Placed)
 pub fn drop_frames(index: &mut Index, entries: &[Entry], frames: &[Placed])
     requires ascending { IsAscending entries.now }
     requires framed { AreFramed index.old entries.now }
-    ensures { AreFramed index.new entries.now }
+    ensures framed { AreFramed index.new entries.now }
+    ensures left { (q : placed.Placed) → Contains index.new q → Contains index.old q × (Contains frames.now q → IsFrame entries.now q) }
 {
     for frame in frames {
         drop_frame(index, entries, frame);

@@ -78,16 +78,16 @@ no_text_refusal t s (refusal.NotClosed ring) m f = let e = no_text_fault t s (te
 no_text_refusal t s (refusal.Invalid fault) m f = let e = no_text_fault t s (text.Invalid fault) m f in cc
 no_text_refusal t s other m f = f
 
-pub reach_x0 : (w : Rectangle) → IsRectangle w → InReach w.x0
+reach_x0 : (w : Rectangle) → IsRectangle w → InReach w.x0
 reach_x0 w h = record { low = omega (arith, ints); high = omega (arith, ints) }
 
-pub reach_y0 : (w : Rectangle) → IsRectangle w → InReach w.y0
+reach_y0 : (w : Rectangle) → IsRectangle w → InReach w.y0
 reach_y0 w h = record { low = omega (arith, ints); high = omega (arith, ints) }
 
-pub reach_x1 : (w : Rectangle) → IsRectangle w → InReach w.x1
+reach_x1 : (w : Rectangle) → IsRectangle w → InReach w.x1
 reach_x1 w h = record { low = omega (arith, ints); high = omega (arith, ints) }
 
-pub reach_y1 : (w : Rectangle) → IsRectangle w → InReach w.y1
+reach_y1 : (w : Rectangle) → IsRectangle w → InReach w.y1
 reach_y1 w h = record { low = omega (arith, ints); high = omega (arith, ints) }
 
 none_out : (at : ℕ) (r : Rectangle) → IsRectangle r → IsFirstOut at (numbers_of r) → ⊥

@@ -1,11 +1,7 @@
 -- What is read of a line is what it spells: of an edit's line, of a window's, and of any.
 use Rattle.std.proofs.Common.{ℕ, ℤ, zero, suc, ◌≡◌, ◌≤◌, true, false, List, [], ◌∷◌, refl, sym, ◌∙◌, ap, subst, inl, inr, Result, Ok, Err, MatchResult}
 use Rattle.std.specs.Prelude.{codes, length, IsTrue, IfOk, IfErr}
-use Rattle.plane_terms.specs.Point.{InReach}
 use Rattle.plane_terms.specs.Rectangle.{Rectangle, IsRectangle, IsProper, IsFirstOut, numbers_of, rect_of}
-use Rattle.grid_plane.specs.Rectangles.{IsRectFault}
-use Rattle.grid_plane.specs.declared.fault.RectFault.{RectFault}
-use Rattle.grid_plane.specs.declared.fault.RectFault.TheVariants as rect
 use Rattle.text_terms.specs.Fields.{is_name, is_skipped, skip_blanks, front_field, behind_field}
 use Rattle.text_terms.specs.Numbers.{IsSigned}
 use Rattle.wkt_terms.specs.WktFaults.{IsWktFault}
@@ -18,7 +14,7 @@ use Rattle.line_terms.specs.Lines.{IsSpelling, IsCommandLine, IsLineFault}
 use Rattle.line_terms.specs.Windows.{IsWindow}
 use Rattle.line_terms.specs.declared.line_refusal.LineRefusal.TheVariants as refusal
 use Rattle.script_text.specs.Edits.{edit_form, behind_editor, IsEditOf, IsEditFault}
-use Rattle.script_text.specs.Faults.{fault_of, window_fault, IsFault, IsRead}
+use Rattle.script_text.specs.Faults.{fault_of, IsFault, IsRead}
 use Rattle.script_text.specs.Groups.{NoneOf, Validations}
 use Rattle.script_text.specs.Seen.{command_of}
 use Rattle.script_text.specs.Wholes.{IsFor, AreFor}
@@ -28,8 +24,8 @@ use Rattle.script_text.specs.declared.edits.Edit.{Edit}
 use Rattle.script_text.specs.declared.edits.Edit.TheVariants as edit
 use Rattle.script_text.specs.declared.fault.LineFault.{LineFault}
 use Rattle.script_text.specs.declared.fault.LineFault.TheVariants.{Refused, NoMemory}
-use Rattle.script_text.proofs.OneCommand.{one_command, only_memory, reach_x0, reach_y0, reach_x1, reach_y1}
-use Rattle.script_text.proofs.Wholes.{within_too, beyond_too, same_rect}
+use Rattle.script_text.specs.declared.whole.Whole.{Whole}
+use Rattle.script_text.proofs.OneCommand.{one_command, only_memory}
 
 abbrev first : List ℕ → List ℕ
 first text = front_field (skip_blanks text)
@@ -83,7 +79,7 @@ edit_read line f (Err (Refused r)) h m = (f, h, m)
 edit_read line f (Err NoMemory) h m = tt
 
 -- ---- windows
-pub numbers_read : (text u v w x : List ℕ) (a b c d : ℤ) → IsFor a (first text) → u ≡ behind text → IsFor b (first u) → v ≡ behind u
+pub numbers_read : (text u v w x : List ℕ) (a b c d : Whole) → IsFor a (first text) → u ≡ behind text → IsFor b (first u) → v ≡ behind u
     → IsFor c (first v) → w ≡ behind v
     → IsFor d (first w) → x ≡ behind w → skip_blanks x ≡ [] → (r : Rectangle) × IsLine text (written (Numbers r)) × AreFor a b c d r
 numbers_read text u v w x a b c d f0 e0 f1 e1 f2 e2 f3 e3 over =
@@ -95,39 +91,6 @@ numbers_read text u v w x a b c d f0 e0 f1 e1 f2 e2 f3 e3 over =
     let g3 = subst (λ t. IsSigned (first t) f3.0) w1 f3.1 in
     let end = subst (λ t. skip_blanks t ≡ []) x1 over in
     (rect_of f0.0 f1.0 f2.0 f3.0, (f0.1, (g1, (g2, (g3, end)))), record { left = f0.2; below = f1.2; right = f2.2; above = f3.2 })
-
-pub window_made : (a b c d : ℤ) (w r : Rectangle) → AreFor a b c d r → w ≡ rect_of a b c d → IsRectangle w → IsWindow (Numbers r) w
-window_made a b c d w r s e h =
-    let q = rect_of a b c d in
-    let i : IsRectangle q = subst IsRectangle e h in
-    let same = same_rect a b c d r s (reach_x0 q i) (reach_y0 q i) (reach_x1 q i) (reach_y1 q i) in
-    (e ∙ same, subst IsRectangle same i)
-
-pub no_window : (a b c d : ℤ) (r : Rectangle) (f : RectFault) (e : LineFault) → AreFor a b c d r → e ≡ window_fault f
-    → IsRectFault f (rect_of a b c d) → IsNoWindow r e
-no_window a b c d r f e s same h = subst (IsNoWindow r) (sym same) (by f h)
-  where
-    out : (at : ℕ) → IsFirstOut at (numbers_of (rect_of a b c d)) → IsFirstOut at (numbers_of r)
-    out zero k = beyond_too a r.x0 s.left k
-    out (suc zero) k = (within_too a r.x0 s.left k.0, beyond_too b r.y0 s.below k.1)
-    out (suc (suc zero)) k = (within_too a r.x0 s.left k.0, (within_too b r.y0 s.below k.1.0, beyond_too c r.x1 s.right k.1.1))
-    out (suc (suc (suc zero))) k = (
-      within_too a r.x0 s.left k.0,
-      (within_too b r.y0 s.below k.1.0, (within_too c r.x1 s.right k.1.1.0, beyond_too d r.y1 s.above k.1.1.1)),
-    )
-    out (suc (suc (suc (suc at)))) k = absurd k.1.1.1.1
-
-    by : (g : RectFault) → IsRectFault g (rect_of a b c d) → IsNoWindow r (window_fault g)
-    by (rect.OutOfReach at) k = out at k
-    by rect.Reversed k =
-        let i = k.0 in
-        let same = same_rect a b c d r s i.0 i.1.0 i.1.1.0 i.1.1.1.0 in (
-          (
-            within_too a r.x0 s.left i.0,
-            (within_too b r.y0 s.below i.1.0, (within_too c r.x1 s.right i.1.1.0, (within_too d r.y1 s.above i.1.1.1.0, tt))),
-          ),
-          subst (λ q. IsProper q → ⊥) same k.1,
-        )
 
 pub no_validation : (line rest : List ℕ) → rest ≡ behind line → (IsLine rest (Word (codes "all") ∷ []) → ⊥)
     → ((r : Rectangle) → IsLine rest (written (Numbers r)) → ⊥)

@@ -1,13 +1,15 @@
 -- Whole numbers of windows: digits, with a `-` before them or without.
-use Rattle.std.proofs.Common.{to_z, of_z, w64, ℕ, ℤ, pos, zero, suc, ◌≡◌, ◌<◌, ◌≤◌, Bool, true, false, List, [], ◌∷◌, refl, sym, ◌∙◌, ap, subst, inl, inr, arith, leb-true, leb-false, eqb-true}
+use Rattle.std.proofs.Common.{ℕ, ℤ, pos, zero, suc, ◌≡◌, ◌<◌, ◌≤◌, Bool, true, false, List, [], ◌∷◌, refl, sym, ◌∙◌, ap, subst, inl, inr, arith, leb-true, leb-false, eqb-true}
 use Rattle.std.proofs.lemmas.Bool.Decides.{nat_tests}
 use Rattle.std.proofs.lemmas.Int.{ints}
 use Rattle.std.specs.Prelude.{codes, nat_le, ◌==◌, neg_ℤ, if◌then◌else◌}
 use Rattle.plane_terms.specs.Point.{InReach}
-use Rattle.plane_terms.specs.Rectangle.{Rectangle}
+use Rattle.plane_terms.specs.Rectangle.{Rectangle, rect_of}
 use Rattle.text_terms.specs.Numbers.{IsSigned}
 use Rattle.wkt_terms.specs.Numerals.{value_of, is_negative, signed}
-use Rattle.script_text.specs.Wholes.{StandsFor, IsFor, AreFor, behind_minus, is_digits, held}
+use Rattle.script_text.specs.Wholes.{StandsFor, IsFor, AreFor, behind_minus, is_digits, whole_of}
+use Rattle.script_text.specs.declared.whole.Whole.{Whole}
+use Rattle.script_text.specs.declared.whole.Whole.TheVariants.{Within, Beyond}
 use Rattle.script_text.proofs.Numbers.{numeral, digits_of}
 
 -- what a whole number's text is made of
@@ -52,17 +54,14 @@ far true zero h i = omega arith
 far true (suc n) h i = omega (arith, ints, i.low)
 far false n h i = omega (arith, ints, i.high)
 
-beyond : InReach (pos 4194305) → ⊥
-beyond i = omega (arith, ints, i.high)
-
-stands : (negative : Bool) (n : ℕ) → StandsFor (held negative n) (signed negative n)
+stands : (negative : Bool) (n : ℕ) → StandsFor (whole_of negative n) (signed negative n)
 stands negative n = by (nat_le n 4194304) refl
   where
-    by : (t : Bool) → nat_le n 4194304 ≡ t → StandsFor (if t then signed negative n else pos 4194305) (signed negative n)
-    by true w = inl (refl, near negative n (leb-true n 4194304 w))
-    by false w = inr (refl, far negative n (leb-false n 4194304 w))
+    by : (t : Bool) → nat_le n 4194304 ≡ t → StandsFor (if t then Within (signed negative n) else Beyond) (signed negative n)
+    by true w = (refl, near negative n (leb-true n 4194304 w))
+    by false w = far negative n (leb-false n 4194304 w)
 
-pub read : (text : List ℕ) → is_digits (behind_minus text) ≡ true → IsFor (held (is_negative text) (value_of (behind_minus text))) text
+pub read : (text : List ℕ) → is_digits (behind_minus text) ≡ true → IsFor (whole_of (is_negative text) (value_of (behind_minus text))) text
 read text e =
     (signed (is_negative text) (value_of (behind_minus text)), whole text e, stands (is_negative text) (value_of (behind_minus text)))
 
@@ -76,37 +75,3 @@ unread text z e h = let d = (parts text z h).digits in cc
 -- the word `all` is no number
 pub all_is_none : (z : ℤ) → IsSigned (codes "all") z → ⊥
 all_is_none z h = let d = (parts (codes "all") z h).digits in cc
-
--- ---- what the numbers that are held say of those that they stand for
-pub same_within : (n z : ℤ) → StandsFor n z → InReach n → n ≡ z
-same_within n z (inl s) i = s.0
-same_within n z (inr s) i = absurd (beyond (subst InReach s.0 i))
-
-pub within_too : (n z : ℤ) → StandsFor n z → InReach n → InReach z
-within_too n z s i = subst InReach (same_within n z s i) i
-
-pub beyond_too : (n z : ℤ) → StandsFor n z → (InReach n → ⊥) → InReach z → ⊥
-beyond_too n z (inl s) out i = out (subst InReach (sym s.0) i)
-beyond_too n z (inr s) out i = s.1 i
-
-pub same_rect : (a b c d : ℤ) (r : Rectangle) → AreFor a b c d r → InReach a → InReach b → InReach c → InReach d
-    → record { x0 = a; y0 = b; x1 = c; y1 = d } ≡ r
-same_rect a b c d r s i0 i1 i2 i3 =
-    let e0 = same_within a r.x0 s.left i0 in
-    let e1 = same_within b r.y0 s.below i1 in
-    let e2 = same_within c r.x1 s.right i2 in
-    let e3 = same_within d r.y1 s.above i3 in
-    λ i. record { x0 = e0 i; y0 = e1 i; x1 = e2 i; y1 = e3 i }
-
--- the code's 64 bits hold them
-fits : (n z : ℤ) → StandsFor n z → to_z w64 (of_z w64 n) ≡ n
-fits n z (inl s) = let i = subst InReach (sym s.0) s.1 in omega (arith, ints, i.low, i.high)
-fits n z (inr s) = subst (λ v. to_z w64 (of_z w64 v) ≡ v) (sym s.0) refl
-
-held_so : (n z : ℤ) → StandsFor n z → StandsFor (to_z w64 (of_z w64 n)) z
-held_so n z s = subst (λ v. StandsFor v z) (sym (fits n z s)) s
-
-pub are_held : (a b c d : ℤ) (r : Rectangle) → AreFor a b c d r
-    → AreFor (to_z w64 (of_z w64 a)) (to_z w64 (of_z w64 b)) (to_z w64 (of_z w64 c)) (to_z w64 (of_z w64 d)) r
-are_held a b c d r s =
-    record { left = held_so a r.x0 s.left; below = held_so b r.y0 s.below; right = held_so c r.x1 s.right; above = held_so d r.y1 s.above }

@@ -1,7 +1,6 @@
 -- The faults of texts and lines as the code answers them; want of memory says nothing.
 --
 -- fault_of e            why a text is no shape's, as a line is refused for it
--- window_fault e        why four numbers are no window's, as a line is refused for it
 -- IsFormFault line e    the line has a form that is no command, and e says why
 -- IsFault line e        the line is no command's, and e says why
 -- IsRead line r         what a reader finds in a line that has a form: the command, or why it is none
@@ -10,8 +9,6 @@ use Rattle.line_terms.specs.Lines.{IsLineFault, HasFaultyForm, IsSpelling}
 use Rattle.line_terms.specs.declared.line_refusal.LineRefusal.TheVariants as refusal
 use Rattle.wkt_terms.specs.declared.wkt_fault.WktFault.{WktFault}
 use Rattle.wkt_terms.specs.declared.wkt_fault.WktFault.TheVariants as text
-use Rattle.grid_plane.specs.declared.fault.RectFault.{RectFault}
-use Rattle.grid_plane.specs.declared.fault.RectFault.TheVariants as rect
 use Rattle.script_text.specs.declared.command.Command.{Command}
 use Rattle.script_text.specs.declared.fault.LineFault.{LineFault}
 use Rattle.script_text.specs.declared.fault.LineFault.TheVariants.{Refused, NoMemory}
@@ -25,10 +22,6 @@ fault_of (text.Unsupported at) = Refused (refusal.Unsupported at)
 fault_of (text.NotClosed ring) = Refused (refusal.NotClosed ring)
 fault_of (text.Invalid fault) = Refused (refusal.Invalid fault)
 fault_of text.NoMemory = NoMemory
-
-abbrev pub window_fault : RectFault → LineFault
-window_fault (rect.OutOfReach at) = Refused (refusal.OutOfReach at)
-window_fault rect.Reversed = Refused refusal.Reversed
 
 abbrev pub IsFormFault : List ℕ → LineFault → Type 0
 IsFormFault line (Refused r) = HasFaultyForm line r

@@ -1,7 +1,6 @@
 ghost use Rattle.std.specs.Prelude.{◌≡◌};
-ghost use Rattle.script_text.specs.Faults.{fault_of, window_fault};
+ghost use Rattle.script_text.specs.Faults.{fault_of};
 
-use grid_plane::RectFault;
 use line_terms::LineRefusal;
 use wkt_terms::WktFault;
 
@@ -26,19 +25,6 @@ impl From<WktFault> for LineFault {
             WktFault::NotClosed { ring } => LineFault::Refused(LineRefusal::NotClosed { ring }),
             WktFault::Invalid(fault) => LineFault::Refused(LineRefusal::Invalid(fault)),
             WktFault::NoMemory => LineFault::NoMemory,
-        }
-    }
-}
-
-impl From<RectFault> for LineFault {
-    ghost from_gives = { λ fault e. e ≡ window_fault fault };
-
-    fn from(fault: RectFault) -> Self {
-        match fault {
-            RectFault::OutOfReach { at } => {
-                LineFault::Refused(LineRefusal::OutOfReach { at: u32::from(at) })
-            }
-            RectFault::Reversed => LineFault::Refused(LineRefusal::Reversed),
         }
     }
 }

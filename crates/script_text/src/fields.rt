@@ -1,10 +1,8 @@
-ghost use Rattle.std.specs.Prelude.{◌≡◌, ℕ, ℤ, IsTrue, MatchOption};
+ghost use Rattle.std.specs.Prelude.{◌≡◌, ℕ, IsTrue, MatchOption};
 ghost use Rattle.text_terms.specs.Fields.{is_name, skip_blanks, front_field, behind_field, skip_end_blanks, is_skipped};
-ghost use Rattle.text_terms.specs.Numbers.{IsSigned, IsWithinText};
-ghost use Rattle.script_text.specs.Wholes.{IsFor};
+ghost use Rattle.text_terms.specs.Numbers.{IsWithinText};
 
 use crate::number::number_within;
-use crate::whole::read_whole;
 use grid_plane::Name;
 use text_fields::{next_field, skip_blanks, skip_end_blanks};
 
@@ -41,15 +39,6 @@ pub fn next_handle(text: &[u8]) -> Option<(u32, &[u8])>
         (λ x. IsWithinText 1 4294967295 (front_field (skip_blanks text.now)) x.0 × (x.1.now ≡ behind_field (skip_blanks text.now))) }
 {
     next_number(text, 1, u32::MAX)
-}
-
-/// The whole number that comes next, held as `read_whole` holds it, and what follows it.
-pub fn next_whole(text: &[u8]) -> Option<(i64, &[u8])>
-    ensures { MatchOption result ((z : ℤ) → IsSigned (front_field (skip_blanks text.now)) z → ⊥)
-        (λ x. IsFor x.0 (front_field (skip_blanks text.now)) × (x.1.now ≡ behind_field (skip_blanks text.now))) }
-{
-    let (field, rest) = next_field(text);
-    Some((read_whole(field)?, rest))
 }
 
 /// What is left of a line, without the blanks at its ends.

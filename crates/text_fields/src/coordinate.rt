@@ -23,7 +23,8 @@ impl Model for Coordinate {
 }
 
 impl Coordinate {
-    pub(crate) fn new(value: i32) -> Coordinate
+    /// The coordinate of this value.
+    pub fn new(value: i32) -> Coordinate
         requires { InReach value }
         ensures { result ≡ value }
     {

@@ -1,17 +1,20 @@
 -- What reading a text gives.
 --
 -- Keeps text rest s     what the loop keeps: the text was read up to rest, and this led to the state s
-use Rattle.std.proofs.Common.{ℕ, ◌≡◌, ◌<◌, ◌≤◌, ◌-◌, List, [], ◌∷◌, length, Result, Ok, Err, Option, Some, None, MatchResult, refl, sym, subst, arith}
+use Rattle.std.proofs.Common.{ℕ, ◌≡◌, ◌<◌, ◌≤◌, ◌-◌, List, [], ◌∷◌, length, Result, Ok, Err, MatchResult, refl, sym, subst, arith}
 use Rattle.text_terms.specs.Fields.{skip_blanks}
 use Rattle.wkt_terms.specs.Grammar as grammar
 use Rattle.wkt_terms.specs.Grammar.{IsWkt}
 use Rattle.wkt_terms.specs.Tokens.{End, token_at, behind_token}
+use Rattle.wkt_terms.specs.Faults.{FirstFault, IsSyntax, IsOffGrid, IsOutOfReach, IsUnsupported}
+use Rattle.wkt_terms.specs.WktFaults.{IsWktFault}
+use Rattle.wkt_terms.specs.declared.wkt_fault.WktFault.{WktFault}
+use Rattle.wkt_terms.specs.declared.wkt_fault.WktFault.TheVariants.{Syntax, OffGrid, OutOfReach, Unsupported, NotClosed, Invalid, NoMemory}
 use Rattle.wkt_laws.specs.Steps.{Cause, State, Start, Over, step}
 use Rattle.wkt_laws.proofs.Reading.{Read, begins, goes_on, stopped, completed, no_fault, one_value, skip_blanks-le, not_end, shorter}
 use Rattle.wkt_text.specs.States.{geometry_of}
-use Rattle.wkt_text.specs.Stops.{Refuses, HasStopped, place_of}
+use Rattle.wkt_text.specs.Stops.{Refuses, HasStopped}
 use Rattle.wkt_text.specs.declared.geometry.Geometry.{Geometry}
-use Rattle.wkt_text.specs.declared.stop.TextFault.{TextFault}
 
 pub record Keeps (text rest : List ℕ) (s : State) : Type 0 where
   pub read : Read text rest s
@@ -28,34 +31,61 @@ keeps text rest now s next k some e f =
       part = omega (arith, k.part, shorter rest now some f);
     }
 
-pub refuses : (text rest : List ℕ) (s : State) (o : Option (Cause × ℕ)) → Read text rest s
-    → HasStopped (step s (token_at rest)) (length text - length rest) o → Refuses text o
-refuses text rest s None r h = tt
-refuses text rest s (Some f) r h = rw h.1 (stopped text rest s f.0 r h.0)
+stopped_at : (text rest : List ℕ) (s : State) (at : ℕ) (c : Cause) → Read text rest s
+    → (step s (token_at rest) ≡ Err c) × (at ≡ length text - length rest) → FirstFault text at c
+stopped_at text rest s at c r h = rw h.1 (stopped text rest s c r h.0)
 
-abbrev pub Found : List ℕ → Result Geometry TextFault → Type 0
-Found text r = MatchResult r (λ g. IsWkt text (geometry_of g)) (λ e. Refuses text (place_of e))
+pub refuses : (text rest : List ℕ) (s : State) (e : WktFault) → Read text rest s
+    → HasStopped (step s (token_at rest)) (length text - length rest) e → Refuses text e
+refuses text rest s (Syntax at) r h = stopped_at text rest s at IsSyntax r h
+refuses text rest s (OffGrid at) r h = stopped_at text rest s at IsOffGrid r h
+refuses text rest s (OutOfReach at) r h = stopped_at text rest s at IsOutOfReach r h
+refuses text rest s (Unsupported at) r h = stopped_at text rest s at IsUnsupported r h
+refuses text rest s (NotClosed ring) r h = absurd h
+refuses text rest s (Invalid f) r h = absurd h
+refuses text rest s NoMemory r h = tt
+
+abbrev pub Found : List ℕ → Result Geometry WktFault → Type 0
+Found text r = MatchResult r (λ g. IsWkt text (geometry_of g)) (λ e. Refuses text e)
 
 nothing_left : (rest : List ℕ) → length rest ≡ 0 → rest ≡ []
 nothing_left [] e = refl
 nothing_left (b ∷ bs) e = absurd (omega arith)
 
-found_at : (text : List ℕ) (s : State) (r : Result Geometry TextFault) → Read text [] s
-    → MatchResult r (λ g. step s End ≡ Ok (Over (geometry_of g))) (λ e. HasStopped (step s End) (length text) (place_of e)) → Found text r
+found_at : (text : List ℕ) (s : State) (r : Result Geometry WktFault) → Read text [] s
+    → MatchResult r (λ g. step s End ≡ Ok (Over (geometry_of g))) (λ e. HasStopped (step s End) (length text) e) → Found text r
 found_at text s (Ok g) k h = completed text s (geometry_of g) k h
 found_at text s (Err e) k h =
     let whole : length text ≡ length text - 0 = omega arith in
-    refuses text [] s (place_of e) k (subst (λ (n : ℕ). HasStopped (step s End) n (place_of e)) whole h)
+    refuses text [] s e k (subst (λ (n : ℕ). HasStopped (step s End) n e) whole h)
 
-pub found : (text rest : List ℕ) (s : State) (r : Result Geometry TextFault) → Keeps text rest s → length rest ≡ 0
-    → MatchResult r (λ g. step s End ≡ Ok (Over (geometry_of g))) (λ e. HasStopped (step s End) (length text) (place_of e)) → Found text r
+pub found : (text rest : List ℕ) (s : State) (r : Result Geometry WktFault) → Keeps text rest s → length rest ≡ 0
+    → MatchResult r (λ g. step s End ≡ Ok (Over (geometry_of g))) (λ e. HasStopped (step s End) (length text) e) → Found text r
 found text rest s r k e h = found_at text s r (subst (λ (l : List ℕ). Read text l s) (nothing_left rest e) k.read) h
 
-none_of : (text : List ℕ) (g : grammar.Geometry) (o : Option (Cause × ℕ)) → IsWkt text g → Refuses text o → o ≡ None
-none_of text g None p h = refl
-none_of text g (Some f) p h = absurd (no_fault text g f.1 h.front h.token p h.place)
+no_stop : (text : List ℕ) (g : grammar.Geometry) (at : ℕ) (c : Cause) → IsWkt text g → FirstFault text at c → ⊥
+no_stop text g at c p h = no_fault text g at h.front h.token p h.place
 
-pub only : (text : List ℕ) (r : Result Geometry TextFault) → Found text r → (g : grammar.Geometry) → IsWkt text g
-    → MatchResult r (λ h. geometry_of h ≡ g) (λ e. place_of e ≡ None)
+none_of : (text : List ℕ) (g : grammar.Geometry) (e : WktFault) → IsWkt text g → Refuses text e → e ≡ NoMemory
+none_of text g (Syntax at) p h = absurd (no_stop text g at IsSyntax p h)
+none_of text g (OffGrid at) p h = absurd (no_stop text g at IsOffGrid p h)
+none_of text g (OutOfReach at) p h = absurd (no_stop text g at IsOutOfReach p h)
+none_of text g (Unsupported at) p h = absurd (no_stop text g at IsUnsupported p h)
+none_of text g (NotClosed ring) p h = absurd h
+none_of text g (Invalid f) p h = absurd h
+none_of text g NoMemory p h = refl
+
+pub only : (text : List ℕ) (r : Result Geometry WktFault) → Found text r → (g : grammar.Geometry) → IsWkt text g
+    → MatchResult r (λ h. geometry_of h ≡ g) (λ e. e ≡ NoMemory)
 only text (Ok h) found g p = one_value text (geometry_of h) g found p
-only text (Err e) found g p = none_of text g (place_of e) p found
+only text (Err e) found g p = none_of text g e p found
+
+-- and this is the fault of the text
+pub refused : (text : List ℕ) (e : WktFault) → Refuses text e → IsWktFault text e
+refused text (Syntax at) h = h
+refused text (OffGrid at) h = h
+refused text (OutOfReach at) h = h
+refused text (Unsupported at) h = h
+refused text (NotClosed ring) h = absurd h
+refused text (Invalid f) h = absurd h
+refused text NoMemory h = tt

@@ -1,30 +1,37 @@
--- Faults with their places.
+-- Faults of tokens.
 --
--- place_of fault       the cause and the place that it tells; None at want of memory
--- place_at stop at     the same of a step that was not done, at this place
--- Refuses text f       the text has its first fault there
--- HasStopped r at f    a step was not done, for this cause and at this place
-use Rattle.std.specs.Prelude.{ℕ, ◌≡◌, List, Option, Some, None, Result, Err}
-use Rattle.wkt_terms.specs.Faults.{Cause, FirstFault}
+-- fault_at stop at     the fault of a text of which a step was not done, at this place
+-- IsOfToken P e        e is the fault of a token, of whose place and cause P holds, and neither a ring's nor a shape's; want of memory may
+--                      come at any time
+-- Refuses text e       the text has its first fault where e says, for the cause that e tells
+-- HasStopped r at e    a step was not done, at this place and for the cause that e tells
+use Rattle.std.specs.Prelude.{ℕ, ◌≡◌, List, Result, Err}
+use Rattle.wkt_terms.specs.Faults.{Cause, IsSyntax, IsOffGrid, IsOutOfReach, IsUnsupported, FirstFault}
+use Rattle.wkt_terms.specs.declared.wkt_fault.WktFault.{WktFault}
+use Rattle.wkt_terms.specs.declared.wkt_fault.WktFault.TheVariants.{Syntax, OffGrid, OutOfReach, Unsupported, NotClosed, Invalid, NoMemory}
 use Rattle.wkt_laws.specs.Steps as steps
+use Rattle.wkt_text.specs.declared.stop.Cause.TheVariants as cause
 use Rattle.wkt_text.specs.declared.stop.Stop.{Stop}
 use Rattle.wkt_text.specs.declared.stop.Stop.TheVariants as stop
-use Rattle.wkt_text.specs.declared.stop.TextFault.{TextFault}
-use Rattle.wkt_text.specs.declared.stop.TextFault.TheVariants as fault
-use Rattle.wkt_text.specs.States.{cause_of}
 
-abbrev pub place_of : TextFault → Option (Cause × ℕ)
-place_of (fault.Token cause at) = Some (cause_of cause, at)
-place_of fault.NoMemory = None
+abbrev pub fault_at : Stop → ℕ → WktFault
+fault_at (stop.Refused cause.Syntax) at = Syntax at
+fault_at (stop.Refused cause.OffGrid) at = OffGrid at
+fault_at (stop.Refused cause.OutOfReach) at = OutOfReach at
+fault_at (stop.Refused cause.Unsupported) at = Unsupported at
+fault_at stop.NoMemory at = NoMemory
 
-abbrev pub place_at : Stop → ℕ → Option (Cause × ℕ)
-place_at (stop.Refused cause) at = Some (cause_of cause, at)
-place_at stop.NoMemory at = None
+abbrev pub IsOfToken : (ℕ → Cause → Type 0) → WktFault → Type 0
+IsOfToken P (Syntax at) = P at IsSyntax
+IsOfToken P (OffGrid at) = P at IsOffGrid
+IsOfToken P (OutOfReach at) = P at IsOutOfReach
+IsOfToken P (Unsupported at) = P at IsUnsupported
+IsOfToken P (NotClosed ring) = ⊥
+IsOfToken P (Invalid f) = ⊥
+IsOfToken P NoMemory = Unit {0}
 
-abbrev pub Refuses : List ℕ → Option (Cause × ℕ) → Type 0
-Refuses text None = Unit {0}
-Refuses text (Some f) = FirstFault text f.1 f.0
+abbrev pub Refuses : List ℕ → WktFault → Type 0
+Refuses text e = IsOfToken (λ at cause. FirstFault text at cause) e
 
-abbrev pub HasStopped : Result steps.State Cause → ℕ → Option (Cause × ℕ) → Type 0
-HasStopped r at None = Unit {0}
-HasStopped r at (Some f) = (r ≡ Err f.0) × (f.1 ≡ at)
+abbrev pub HasStopped : Result steps.State Cause → ℕ → WktFault → Type 0
+HasStopped r at e = IsOfToken (λ place cause. (r ≡ Err cause) × (place ≡ at)) e

@@ -3,7 +3,6 @@ ghost use Rattle.plane_terms.specs.Shape as terms;
 ghost use Rattle.wkt_terms.specs.Shapes.{IsShapeText};
 ghost use Rattle.wkt_terms.specs.WktFaults.{IsWktFault};
 
-use crate::fault::text_fault;
 use crate::parts::shape_of;
 use crate::spelling::read_geometry;
 use shape::Shape;
@@ -14,10 +13,8 @@ fn read_shape(alloc: Global, text: &[u8]) -> Result<Shape, WktFault>
     requires { length text.now ≤ 1048576 }
     ensures { MatchResult result (λ s. IsShapeText text.now s) (λ e. IsWktFault text.now e) }
 {
-    match read_geometry(alloc, text) {
-        Ok(geometry) => shape_of(alloc, geometry),
-        Err(fault) => Err(text_fault(fault)),
-    }
+    let geometry = read_geometry(alloc, text)?;
+    shape_of(alloc, geometry)
 }
 
 /// The shape that a text of at most 1,048,576 bytes writes, or the first fault.

@@ -1,20 +1,22 @@
-ghost use Rattle.std.specs.Prelude.{◌≡◌, ◌≤◌, ◌-◌, length, Ok, None, MatchResult};
+ghost use Rattle.std.specs.Prelude.{◌≡◌, ◌≤◌, ◌-◌, length, Ok, MatchResult};
 ghost use Rattle.text_terms.specs.Fields.{skip_blanks};
 ghost use Rattle.wkt_terms.specs.Grammar as grammar;
 ghost use Rattle.wkt_terms.specs.Grammar.{IsWkt};
 ghost use Rattle.wkt_terms.specs.Tokens as tokens;
 ghost use Rattle.wkt_terms.specs.Tokens.{token_at, behind_token};
+ghost use Rattle.wkt_terms.specs.declared.wkt_fault.WktFault.TheVariants.{NoMemory};
 ghost use Rattle.wkt_laws.specs.Steps as steps;
 ghost use Rattle.wkt_laws.specs.Steps.{step};
 ghost use Rattle.wkt_text.specs.States.{geometry_of, state_of};
-ghost use Rattle.wkt_text.specs.Stops.{place_of, Refuses, HasStopped};
+ghost use Rattle.wkt_text.specs.Stops.{Refuses, HasStopped};
 
 use crate::geometry::Geometry;
 use crate::state::{State, step};
-use crate::stop::{Cause, Stop, TextFault};
+use crate::stop::{Cause, Stop};
 use crate::token::{Token, next_token};
 use std::alloc::Global;
 use text_fields::skip_blanks;
+use wkt_terms::WktFault;
 
 // Takes the token at the front of what is left, which is not empty.
 fn advance<'a>(
@@ -22,12 +24,12 @@ fn advance<'a>(
     text: &[u8],
     rest: &'a [u8],
     state: State,
-) -> Result<(State, &'a [u8]), TextFault>
+) -> Result<(State, &'a [u8]), WktFault>
     requires part { length rest.now ≤ length text.now }
     requires limit { length text.now ≤ 1048576 }
     ensures { MatchResult result
         (λ x. (step (state_of state) (token_at rest.now) ≡ Ok (state_of x.0)) × (x.1.now ≡ skip_blanks (behind_token rest.now)))
-        (λ e. HasStopped (step (state_of state) (token_at rest.now)) (length text.now - length rest.now) (place_of e)) }
+        (λ e. HasStopped (step (state_of state) (token_at rest.now)) (length text.now - length rest.now) e) }
 {
     let (token, behind) = next_token(rest);
     match step(alloc, state, token) {
@@ -37,11 +39,11 @@ fn advance<'a>(
 }
 
 // The end is reached.
-fn finish(alloc: Global, text: &[u8], state: State) -> Result<Geometry, TextFault>
+fn finish(alloc: Global, text: &[u8], state: State) -> Result<Geometry, WktFault>
     requires limit { length text.now ≤ 1048576 }
     ensures { MatchResult result
         (λ g. step (state_of state) tokens.End ≡ Ok (steps.Over (geometry_of g)))
-        (λ e. HasStopped (step (state_of state) tokens.End) (length text.now) (place_of e)) }
+        (λ e. HasStopped (step (state_of state) tokens.End) (length text.now) e) }
 {
     let at = text.len() as u32;
     match step(alloc, state, Token::End) {
@@ -51,9 +53,9 @@ fn finish(alloc: Global, text: &[u8], state: State) -> Result<Geometry, TextFaul
     }
 }
 
-fn read_all(alloc: Global, text: &[u8]) -> Result<Geometry, TextFault>
+fn read_all(alloc: Global, text: &[u8]) -> Result<Geometry, WktFault>
     requires { length text.now ≤ 1048576 }
-    ensures { MatchResult result (λ g. IsWkt text.now (geometry_of g)) (λ e. Refuses text.now (place_of e)) }
+    ensures { MatchResult result (λ g. IsWkt text.now (geometry_of g)) (λ e. Refuses text.now e) }
 {
     let mut state = State::Start;
     let mut rest = skip_blanks(text);
@@ -65,13 +67,13 @@ fn read_all(alloc: Global, text: &[u8]) -> Result<Geometry, TextFault>
     finish(alloc, text, state)
 }
 
-/// The geometry that a text of at most 1,048,576 bytes spells, or the first token that does not fit, with its place and the cause.
+/// The geometry that a text of at most 1,048,576 bytes spells, or the fault of its first token that does not fit.
 ///
 /// The grammar is taken from the well-known text of OGC 06-103r4.
-pub fn read_geometry(alloc: Global, text: &[u8]) -> Result<Geometry, TextFault>
+pub fn read_geometry(alloc: Global, text: &[u8]) -> Result<Geometry, WktFault>
     requires { length text.now ≤ 1048576 }
-    ensures found { MatchResult result (λ g. IsWkt text.now (geometry_of g)) (λ e. Refuses text.now (place_of e)) }
-    ensures only { (g : grammar.Geometry) → IsWkt text.now g → MatchResult result (λ h. geometry_of h ≡ g) (λ e. place_of e ≡ None) }
+    ensures found { MatchResult result (λ g. IsWkt text.now (geometry_of g)) (λ e. Refuses text.now e) }
+    ensures only { (g : grammar.Geometry) → IsWkt text.now g → MatchResult result (λ h. geometry_of h ≡ g) (λ e. e ≡ NoMemory) }
 {
     read_all(alloc, text)
 }

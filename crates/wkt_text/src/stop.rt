@@ -1,8 +1,9 @@
 ghost use Rattle.std.specs.Prelude.{◌≡◌};
-ghost use Rattle.wkt_text.specs.Stops.{place_of, place_at};
+ghost use Rattle.wkt_text.specs.Stops.{fault_at};
 ghost use Rattle.wkt_text.specs.declared.stop.Stop.TheVariants.{NoMemory};
 
 use std::alloc::{AllocError, AllocFailed};
+use wkt_terms::WktFault;
 
 /// Why a token does not fit.
 #[derive(Clone, Copy)]
@@ -40,21 +41,17 @@ impl<T: Drop> From<AllocFailed<T>> for Stop {
     }
 }
 
-/// Why a text is not read.
-#[derive(Clone, Copy)]
-pub enum TextFault {
-    /// The token at the byte `at` does not fit; at the end that is the length of the text.
-    Token { cause: Cause, at: u32 },
-    NoMemory,
-}
-
 impl Stop {
-    pub fn at(self, at: u32) -> TextFault
-        ensures { place_of result ≡ place_at self at }
+    /// The fault of a text whose token at the byte `at` was not taken; at the end that is the length of the text.
+    pub fn at(self, at: u32) -> WktFault
+        ensures { result ≡ fault_at self at }
     {
         match self {
-            Stop::Refused(cause) => TextFault::Token { cause, at },
-            Stop::NoMemory => TextFault::NoMemory,
+            Stop::Refused(Cause::Syntax) => WktFault::Syntax { at },
+            Stop::Refused(Cause::OffGrid) => WktFault::OffGrid { at },
+            Stop::Refused(Cause::OutOfReach) => WktFault::OutOfReach { at },
+            Stop::Refused(Cause::Unsupported) => WktFault::Unsupported { at },
+            Stop::NoMemory => WktFault::NoMemory,
         }
     }
 }

@@ -1,12 +1,15 @@
-use Rattle.std.proofs.Common.{inr, sym}
+use Rattle.std.proofs.Common.{inl, inr, sym}
 use Rattle.std.proofs.lemmas.Result.{on_ok_weaker}
 use Rattle.error_store.specs.Frames.{framed_of}
-use Rattle.error_store.proofs.Framing.{framed_some, kept_of}
+use Rattle.error_store.proofs.Framing.{framed_some, kept_of, only_of}
 use Rattle.error_store.proofs.frames.put_frame.Goals as goal
 
 pub returns-then-stands-clause-there : goal.returns-then-stands-clause-there
 returns-then-stands-clause-there c = rw c.place_of-place.ensures at (framed_some c.args.index.now c.args.entries.now
     c.place_of-place.result c.requires.framed (c.stands.ensures.0 c.if-stands.true))
+
+pub returns-then-stands-clause-only : goal.returns-then-stands-clause-only
+returns-then-stands-clause-only c = λ q k. inl k
 
 pub returns-clause-there : goal.returns-clause-there
 returns-clause-there c = on_ok_weaker c.put.result (λ g. (g (framed_of c.args.fresh.now)).1 (inr (sym c.place_of-place.ensures)))
@@ -14,3 +17,7 @@ returns-clause-there c = on_ok_weaker c.put.result (λ g. (g (framed_of c.args.f
 
 pub returns-clause-kept : goal.returns-clause-kept
 returns-clause-kept c = kept_of c.put.result c.args.index.now c.put.new.self c.place_of-place.result c.put.ensures.ok c.put.ensures.err
+
+pub returns-clause-only : goal.returns-clause-only
+returns-clause-only c = rw (← c.place_of-place.ensures)
+    (only_of c.put.result c.args.index.now c.put.new.self c.place_of-place.result c.put.ensures.ok c.put.ensures.err)

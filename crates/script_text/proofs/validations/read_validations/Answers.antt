@@ -1,6 +1,5 @@
 use Rattle.std.proofs.lemmas.Bool.{false≢true}
 use Rattle.script_text.proofs.Spelled.{no_validation, validation_read}
-use Rattle.script_text.proofs.Wholes.{are_held}
 use Rattle.script_text.proofs.validations.read_validations.Goals as goal
 
 pub returns-in_err-x0 : goal.returns-in_err-x0
@@ -12,6 +11,5 @@ returns-in_err-x0 c =
 pub returns : goal.returns
 returns c =
     let n = c.in_ok-x0.ensures in
-    let held = are_held c.in_ok-x0.x0 c.in_ok-x0.y0 c.in_ok-x0.x1 c.in_ok-x0.y1 n.0 n.2 in
     validation_read c.args.line.now c.in_ok-rest.rest.now n.0 c.validate_of.result c.in_ok-rest.ensures.0 c.in_ok-rest.ensures.1 n.1
-    (c.validate_of.ensures n.0 held)
+    (c.validate_of.ensures n.0 n.2)

@@ -1,7 +1,6 @@
 use Rattle.std.proofs.Common.{arith}
 use Rattle.std.proofs.lemmas.Result.{err_from_is_err_and}
 use Rattle.wkt_text.specs.States.{state_of}
-use Rattle.wkt_text.specs.Stops.{place_of}
 use Rattle.wkt_laws.proofs.Reading.{shorter}
 use Rattle.wkt_text.proofs.Geometries.{starts, keeps, refuses, found}
 use Rattle.wkt_text.proofs.spelling.read_all.Goals as goal
@@ -13,7 +12,7 @@ pub returns-in_err-next : goal.returns-in_err-next
 returns-in_err-next c =
     let p = err_from_is_err_and c.from_residual.result c.from_residual.ensures.1 in
     rw (p.1, p.2)
-    (refuses c.args.text.now c.loop-rest.rest.now (state_of c.loop-rest.state) (place_of c.in_err-next.field-0.0)
+    (refuses c.args.text.now c.loop-rest.rest.now (state_of c.loop-rest.state) c.in_err-next.field-0.0
     c.loop-rest.invariant.read c.in_err-next.ensures)
 
 pub loop-rest-smaller : goal.loop-rest-smaller

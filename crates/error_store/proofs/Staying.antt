@@ -1,0 +1,109 @@
+-- Where each frame in the index is an error's, this stays so when errors go and others come.
+use Rattle.std.proofs.Common.{◌≡◌, ◌⊎◌, inl, inr, ℕ, suc, Bool, true, false, not, cond, ◌==◌, List, [], ◌∷◌, Option, Some, None, arith, refl, sym, ◌∙◌, ap, subst, Contains}
+use Rattle.std.specs.List.{filter}
+use Rattle.std.specs.Prelude.{map}
+use Rattle.std.proofs.lemmas.Bool.{cases_Bool}
+use Rattle.plane_terms.specs.Lists.{SomeOf}
+use Rattle.topology_terms.specs.Entry.{Entry, by_key, entry_at, IsAscending}
+use Rattle.sound_laws.proofs.Keyed.{some_found, found_some}
+use Rattle.sound_laws.proofs.Lists.{keys, every_found}
+use Rattle.validation_laws.specs.Replaced.{AreRemarked, IsReplaced, IsNewOf, AreFresh}
+use Rattle.grid_index.specs.declared.placed.Placed.{Placed}
+use Rattle.error_store.specs.Runs.{is_of}
+use Rattle.error_store.specs.Frames.{framed_of, frames_if, IsFrame, AreFrames}
+use Rattle.error_store.proofs.Dropping.{is_other}
+use Rattle.error_store.proofs.Leaving.{among, selected_or_not}
+
+abbrev IsAt : Placed → Entry → Type 0
+IsAt q e = framed_of e ≡ q
+
+-- the frame of one that passes is noted, and the one stays where those that pass are kept
+some_passed : (P : Entry → Type 0) (p : Entry → Bool) (es : List Entry) → SomeOf (λ (e : Entry). P e × (p e ≡ true)) es
+    → SomeOf P (filter p es)
+some_passed P p [] s = s
+some_passed P p (x ∷ es) s = elim s [
+  | inl k ↦ subst (λ b. SomeOf P (cond b (x ∷ filter p es) (filter p es))) (sym k.1) (inl k.0)
+  | inr k ↦ behind (p x) (some_passed P p es k)
+]
+  where
+    behind : (b : Bool) → SomeOf P (filter p es) → SomeOf P (cond b (x ∷ filter p es) (filter p es))
+    behind true h = inr h
+    behind false h = h
+
+contained : (q : Placed) (es : List Entry) → SomeOf (IsAt q) es → Contains (map framed_of es) q
+contained q [] s = absurd s
+contained q (x ∷ es) s = elim s [
+  | inl e ↦ (0, omega arith, e)
+  | inr k ↦ let c = contained q es k in (suc c.0, omega (arith, c.1), c.2)
+]
+
+noted : (p : Entry → Bool) (es : List Entry) (q : Placed) → SomeOf (λ (e : Entry). IsAt q e × (p e ≡ true)) es → Contains (frames_if p es) q
+noted p es q s = contained q (filter p es) (some_passed (IsAt q) p es s)
+
+-- ---- after a replacement
+at_new : (q : Placed) (o f : Option Entry) (g : Entry) (new : List Entry) (r a b : ℕ) (n : Option Entry) → entry_at new r a b ≡ n
+    → f ≡ Some g → framed_of g ≡ q → AreRemarked o f n → IsFrame new q
+unfolding entry_at
+at_new q o f g new r a b None e t is h = absurd (subst (λ x. AreRemarked o x None) t h)
+at_new q o f g new r a b (Some m) e t is h =
+    let k = subst (λ x. AreRemarked o x (Some m)) t h in
+    found_some by_key keys (IsAt q) new (r, a, b) m e (ap framed_of k.same ∙ is)
+
+came : (selected : List ℕ) (old fresh new : List Entry) (q : Placed) → IsAscending fresh → AreFresh selected fresh
+    → IsReplaced selected old fresh new → IsFrame fresh q → IsFrame new q
+unfolding entry_at
+came selected old fresh new q u v h s =
+    let f = some_found by_key keys (IsAt q) fresh u s in
+    let r = f.0.rule in
+    let a = f.0.subject in
+    let b = f.0.other in
+    let chosen = every_found (IsNewOf selected) fresh r a b f.0 v f.1 in
+    at_new q (entry_at old r a b) (entry_at fresh r a b) f.0 new r a b (entry_at new r a b) refl f.1 f.2 (h.came r a b chosen.chosen)
+
+kept : (selected : List ℕ) (old fresh new : List Entry) (gone : List Placed) (q : Placed) → IsAscending old
+    → IsReplaced selected old fresh new → gone ≡ frames_if (is_of selected) old → (Contains gone q → IsFrame new q) → IsFrame old q
+    → IsFrame new q
+unfolding entry_at
+kept selected old fresh new gone q u h same left s =
+    let f = some_found by_key keys (IsAt q) old u s in
+    let r = f.0.rule in
+    let a = f.0.subject in
+    let b = f.0.other in
+    elim (selected_or_not selected a) [
+      | inl c ↦
+          left (subst (λ ps. Contains ps q) (sym same) (noted (is_of selected) old q
+          (found_some by_key keys (λ (e : Entry). IsAt q e × (is_of selected e ≡ true)) old (r, a, b) f.0 f.1 (f.2, among selected a c))))
+      | inr out ↦ found_some by_key keys (IsAt q) new (r, a, b) f.0 (h.kept r a b out ∙ f.1) f.2
+    ]
+
+pub frames_replaced : (selected : List ℕ) (old fresh new : List Entry) (gone ps qs rs : List Placed) → IsAscending old → IsAscending fresh
+    → AreFresh selected fresh → IsReplaced selected old fresh new → gone ≡ frames_if (is_of selected) old
+    → ((q : Placed) → Contains qs q → Contains ps q ⊎ IsFrame fresh q)
+    → ((q : Placed) → Contains rs q → Contains qs q × (Contains gone q → IsFrame new q))
+    → AreFrames ps old → AreFrames rs new
+frames_replaced selected old fresh new gone ps qs rs u v w h same only left before q c =
+    let l = left q c in
+    elim (only q l.0) [
+      | inl k ↦ kept selected old fresh new gone q u h same l.1 (before q k)
+      | inr s ↦ came selected old fresh new q v w h s
+    ]
+
+-- ---- after a rule was dropped
+stays_or_goes : (n : ℕ) (q : Placed) (es : List Entry) → IsFrame es q
+    → SomeOf (λ (e : Entry). IsAt q e × (is_other n e ≡ true)) es ⊎ SomeOf (λ (e : Entry). IsAt q e × ((e.rule == n) ≡ true)) es
+stays_or_goes n q [] s = absurd s
+stays_or_goes n q (x ∷ es) s = elim s [
+  | inl e ↦ elim (cases_Bool (x.rule == n)) [ inl t ↦ inr (inl (e, t)) | inr t ↦ inl (inl (e, ap not t)) ]
+  | inr k ↦ elim (stays_or_goes n q es k) [ inl h ↦ inl (inr h) | inr h ↦ inr (inr h) ]
+]
+
+pub frames_dropped : (n : ℕ) (old new : List Entry) (gone ps rs : List Placed) → new ≡ filter (is_other n) old
+    → gone ≡ frames_if (λ (e : Entry). e.rule == n) old
+    → ((q : Placed) → Contains rs q → Contains ps q × (Contains gone q → IsFrame new q))
+    → AreFrames ps old → AreFrames rs new
+frames_dropped n old new gone ps rs is same left before q c =
+    let l = left q c in
+    elim (stays_or_goes n q old (before q l.0)) [
+      | inl h ↦ subst (λ es. IsFrame es q) (sym is) (some_passed (IsAt q) (is_other n) old h)
+      | inr h ↦ l.1 (subst (λ ps. Contains ps q) (sym same) (noted (λ (e : Entry). e.rule == n) old q h))
+    ]
