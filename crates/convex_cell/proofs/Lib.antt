@@ -13,3 +13,4 @@ pub mod Frames
 pub mod Both
 pub mod Steps
 pub mod Within
+pub mod Middles

@@ -9,6 +9,7 @@ ghost use Rattle.convex_cell.specs.Needed.{FitsReach, Reaches, IsInFrame, SameCe
 
 use crate::bounds::{Bounds, is_small, left_of, right_of};
 use crate::cell::{Cell, is_empty_together};
+use crate::middle::Middle;
 use crate::span::{Span, highest};
 use grid_plane::{Half, NoMemory, Op};
 use std::alloc::Global;
@@ -161,12 +162,18 @@ pub(crate) fn needed_of(
 }
 
 /// Whether no point is in both cells. Where half-planes with the points of the first are known, they are asked in its place.
-pub(crate) fn meet_is_empty(cell: &Cell, needed: &Option<Vec<Half>>, other: &Cell) -> bool
+/// The given point is tried first.
+pub(crate) fn meet_is_empty(
+    cell: &Cell,
+    needed: &Option<Vec<Half>>,
+    other: &Cell,
+    at: Middle,
+) -> bool
     requires { IfSome needed.now (λ n. SameCells n.items cell.now) }
     ensures { result ≡ not (has_point (meet_of cell.now other.now)) }
 {
     match needed {
-        Some(needed) => is_empty_together(needed, &other.halves),
-        None => is_empty_together(&cell.halves, &other.halves),
+        Some(needed) => is_empty_together(needed, &other.halves, at),
+        None => is_empty_together(&cell.halves, &other.halves, at),
     }
 }

@@ -120,7 +120,7 @@ fn cut_flat(span: Span, half: &Half, strict: bool) -> Span
     cut(span, half.a(), half.c(), strict)
 }
 
-fn sum_at(a: i64, x: i64, c: i64) -> i64
+pub(crate) fn sum_at(a: i64, x: i64, c: i64) -> i64
     requires a_fits { unsigned_abs a ≤ 2 ^ 23 }
     requires x_fits { unsigned_abs x ≤ 2 ^ 23 }
     requires c_fits { unsigned_abs c ≤ 2 ^ 46 }
@@ -186,6 +186,9 @@ fn cut_y(span: Span, half: &Half, left: i64, right: i64) -> Span
     ensures fits { IsSpan result }
     ensures sound { (p : Point) → (left *ℤ pos p.w) ≤ℤ p.x → p.x ≤ℤ (right *ℤ pos p.w) → InSpan span p.y p.w → Holds half.now p → InSpan result p.y p.w }
 {
+    if half.b() == 0 {
+        return span;
+    }
     match half.op() {
         Op::Over => cut_slanted(span, half, left, right, true),
         Op::AtLeast => cut_slanted(span, half, left, right, false),
