@@ -11,6 +11,9 @@ use grid_plane::{NoMemory, Rect};
 use std::alloc::Global;
 use std::marker::Model;
 
+/// There is room for so many handles before a list of found ones grows.
+const FEW: usize = 16;
+
 /// Rectangles with handles, found by where they lie. A handle may have several rectangles, and a rectangle several handles.
 #[derive(Drop)]
 pub struct Index {
@@ -102,7 +105,7 @@ impl Index {
         ensures ascending { IfOk result (λ v. IsStrictlyIncreasing v.items) }
         ensures near { IfOk result (λ v. (a : ℕ) → Contains v.items a ↔ IsNear r.now self.now a) }
     {
-        let mut found = Vec::new(alloc);
+        let mut found = Vec::with_capacity(alloc, FEW)?;
         add_from_each(&self.levels, r, &mut found)?;
         once_each(&mut found);
         Ok(found)
