@@ -1,4 +1,4 @@
-ghost use Rattle.std.specs.Prelude.{◌≡◌, pos, ◌+ℤ◌, ◌-ℤ◌, ◌*ℤ◌, ◌≤ℤ◌, ◌<ℤ◌, ◌≤◌, ◌^◌, unsigned_abs, OnOk, IfOk, IsSortedBy, map};
+ghost use Rattle.std.specs.Prelude.{◌≡◌, pos, ◌+ℤ◌, ◌-ℤ◌, ◌*ℤ◌, ◌≤ℤ◌, ◌<ℤ◌, ◌≤◌, ◌^◌, unsigned_abs, OnOk, IsSortedBy, map};
 ghost use Rattle.std.specs.Ordering.{is_lt};
 ghost use Rattle.std.specs.List.Sorted.{IsStableBy};
 ghost use Rattle.plane_terms.specs.Point.{InReach};
@@ -8,7 +8,6 @@ ghost use Rattle.column_cut.specs.Ranks.{is_under, IsRankOf, segment_of, passes}
 use crate::coordinate::Coordinate;
 use crate::ranked::Ranked;
 use grid_plane::{NoMemory, Seg};
-use std::alloc::Global;
 use std::cmp::Ordering;
 
 fn product(k: i128, m: i128) -> i128
@@ -154,39 +153,47 @@ fn spans(segment: &Seg, left: &Coordinate, right: &Coordinate) -> bool
     segment.lo().x() <= left.value() && right.value() <= segment.hi().x()
 }
 
-fn ranks_of(
-    alloc: Global,
+fn find_ranks(
+    ranks: &mut Vec<Ranked>,
     segments: &[Seg],
     left: &Coordinate,
     right: &Coordinate,
-) -> Result<Vec<Ranked>, NoMemory>
+) -> Result<(), NoMemory>
     requires { left.now <ℤ right.now }
-    ensures { IfOk result (λ v. map segment_of v.items ≡ column left.now right.now segments.now) }
+    ensures { OnOk result (map segment_of ranks.new.items ≡ column left.now right.now segments.now) }
 {
-    let mut ranks = Vec::new(alloc);
+    ranks.clear();
     for segment in segments {
         if spans(segment, left, right) {
             ranks.push(rank(segment, left, right))?;
         }
     }
-    sort(&mut ranks)?;
-    Ok(ranks)
+    sort(ranks)?;
+    Ok(())
 }
 
-/// The segments that go all the way from left to right, from below in the middle. One scan of all segments and a sort.
-pub(crate) fn column_of(
-    alloc: Global,
+fn take_segments(column: &mut Vec<Seg>, ranks: &[Ranked]) -> Result<(), NoMemory>
+    ensures { OnOk result (column.new.items ≡ map segment_of ranks.now) }
+{
+    column.clear();
+    for ranked in ranks {
+        column.push(ranked.segment)?;
+    }
+    Ok(())
+}
+
+/// Leaves in the list the segments that go all the way from left to right, from below in the middle. One scan of all segments
+/// and a sort. The other list is for the work alone.
+pub(crate) fn find_column(
+    found: &mut Vec<Seg>,
+    ranks: &mut Vec<Ranked>,
     segments: &[Seg],
     left: &Coordinate,
     right: &Coordinate,
-) -> Result<Vec<Seg>, NoMemory>
+) -> Result<(), NoMemory>
     requires { left.now <ℤ right.now }
-    ensures { IfOk result (λ v. v.items ≡ column left.now right.now segments.now) }
+    ensures { OnOk result (found.new.items ≡ column left.now right.now segments.now) }
 {
-    let ranks = ranks_of(alloc, segments, left, right)?;
-    let mut column = Vec::new(alloc);
-    for ranked in &ranks {
-        column.push(ranked.segment)?;
-    }
-    Ok(column)
+    find_ranks(ranks, segments, left, right)?;
+    take_segments(found, ranks)
 }

@@ -9,12 +9,13 @@ ghost use Rattle.column_laws.specs.Rising.{IsRising};
 ghost use Rattle.column_cut.specs.Parity.{is_even};
 ghost use Rattle.column_cut.specs.Strips.{strips};
 
-use crate::column::column_of;
+use crate::column::find_column;
 use crate::coordinate::Coordinate;
 use crate::near::near_of;
 use crate::parity::Parity;
 use crate::push::{left_of, push_column, push_kept, push_wall, right_of};
-use crate::slots::slots_of;
+use crate::room::Room;
+use crate::slots::find_slots;
 use crate::vertices::abscissas_of;
 use convex_cell::{Cell, Cells};
 use grid_plane::{NoMemory, Seg};
@@ -26,6 +27,7 @@ const FEW: usize = 8;
 fn push_strip(
     cells: &mut Cells,
     alloc: Global,
+    room: &mut Room,
     parity: Parity,
     segments: &[Seg],
     left: &Coordinate,
@@ -34,29 +36,31 @@ fn push_strip(
     requires { left.now <ℤ right.now }
     ensures { OnOk result (let c = column left.now right.now segments.now in cells.new ≡ cells.old ++ kept (wall (is_even parity) left.now segments.now c ++ in_column left.now right.now (slots (is_even parity) None c))) }
 {
-    let column = column_of(alloc, segments, left, right)?;
-    let slots = slots_of(alloc, parity, &column)?;
-    push_wall(cells, alloc, segments, left, &slots)?;
-    push_column(cells, alloc, left, right, &slots)
+    find_column(&mut room.column, &mut room.ranks, segments, left, right)?;
+    find_slots(&mut room.slots, parity, &room.column)?;
+    push_wall(cells, alloc, &mut room.wall, segments, left, &room.slots)?;
+    push_column(cells, alloc, left, right, &room.slots)
 }
 
 fn push_last_wall(
     cells: &mut Cells,
     alloc: Global,
+    room: &mut Room,
     parity: Parity,
     segments: &[Seg],
     x: &Coordinate,
 ) -> Result<(), NoMemory>
     ensures { OnOk result (cells.new ≡ cells.old ++ kept (wall (is_even parity) x.now segments.now [])) }
 {
-    let slots = slots_of(alloc, parity, &[])?;
-    push_wall(cells, alloc, segments, x, &slots)
+    find_slots(&mut room.slots, parity, &[])?;
+    push_wall(cells, alloc, &mut room.wall, segments, x, &room.slots)
 }
 
 /// Each wall from the first abscissa on, and the column to its right; not the last wall.
 fn push_each(
     cells: &mut Cells,
     alloc: Global,
+    room: &mut Room,
     parity: Parity,
     segments: &[Seg],
     first: &Coordinate,
@@ -67,7 +71,7 @@ fn push_each(
 {
     let mut left = *first;
     for right in rest {
-        push_strip(cells, alloc, parity, segments, &left, right)?;
+        push_strip(cells, alloc, room, parity, segments, &left, right)?;
         left = *right;
     }
     Ok(())
@@ -77,6 +81,7 @@ fn push_each(
 fn push_halves(
     cells: &mut Cells,
     alloc: Global,
+    room: &mut Room,
     parity: Parity,
     segments: &[Seg],
     first: &Coordinate,
@@ -86,14 +91,15 @@ fn push_halves(
     ensures { OnOk result (cells.new ≡ cells.old ++ kept (strips (is_even parity) segments.now first.now rest.now)) }
 {
     if rest.len() <= FEW {
-        return push_each(cells, alloc, parity, segments, first, rest);
+        return push_each(cells, alloc, room, parity, segments, first, rest);
     }
     let near = near_of(alloc, segments, first, rest.last().unwrap_or(first))?;
     let (low, high) = rest.split_at(rest.len() / 2);
-    push_halves(cells, alloc, parity, &near, first, low)?;
+    push_halves(cells, alloc, room, parity, &near, first, low)?;
     push_halves(
         cells,
         alloc,
+        room,
         parity,
         &near,
         low.last().unwrap_or(first),
@@ -113,8 +119,16 @@ fn push_strips(
     requires { IsRising (first.now ∷ rest.now) }
     ensures { OnOk result (cells.new ≡ cells.old ++ kept (cells_from (is_even parity) segments.now first.now rest.now)) }
 {
-    push_halves(cells, alloc, parity, segments, first, rest)?;
-    push_last_wall(cells, alloc, parity, segments, rest.last().unwrap_or(first))
+    let mut room = Room::new(alloc);
+    push_halves(cells, alloc, &mut room, parity, segments, first, rest)?;
+    push_last_wall(
+        cells,
+        alloc,
+        &mut room,
+        parity,
+        segments,
+        rest.last().unwrap_or(first),
+    )
 }
 
 fn push_right_side(

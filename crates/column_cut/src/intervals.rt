@@ -1,13 +1,12 @@
-ghost use Rattle.std.specs.Prelude.{◌≡◌, ◌++◌, ◌∷◌, [], ◌&&◌, cond, map, None, OnOk, IfOk, int_le};
+ghost use Rattle.std.specs.Prelude.{◌≡◌, ◌++◌, ◌∷◌, [], ◌&&◌, cond, map, None, OnOk, int_le};
 ghost use Rattle.plane_terms.specs.HalfPlane.{y_over, y_under};
 ghost use Rattle.plane_terms.specs.Columns.{is_covered, intervals, ordinates};
 ghost use Rattle.column_cut.specs.Covering.{covers};
 ghost use Rattle.column_cut.specs.Pieces.{above, below, stretch_cell};
 
 use crate::coordinate::Coordinate;
-use crate::vertices::ordinates_of;
+use crate::vertices::find_ordinates;
 use grid_plane::{NoMemory, Seg};
-use std::alloc::Global;
 
 fn is_upright_at(segment: &Seg, x: &Coordinate) -> bool
     ensures { result ≡ (int_le segment.now.lo.x x.now && int_le x.now segment.now.lo.x && (int_le segment.now.hi.x x.now && int_le x.now segment.now.hi.x)) }
@@ -66,45 +65,57 @@ fn push_interval(
     push_stretch(stretches, Some(*low), Some(*high))
 }
 
-fn intervals_from(
-    alloc: Global,
+fn find_from(
+    stretches: &mut Vec<Stretch>,
     segments: &[Seg],
     x: &Coordinate,
     first: &Coordinate,
     rest: &[Coordinate],
-) -> Result<Vec<Stretch>, NoMemory>
-    ensures { IfOk result (λ v. map stretch_cell v.items ≡ intervals (is_covered x.now segments.now) None (first.now ∷ rest.now)) }
+) -> Result<(), NoMemory>
+    ensures { OnOk result (map stretch_cell stretches.new.items ≡ intervals (is_covered x.now segments.now) None (first.now ∷ rest.now)) }
 {
-    let mut stretches = Vec::new(alloc);
-    push_stretch(&mut stretches, None, Some(*first))?;
+    stretches.clear();
+    push_stretch(stretches, None, Some(*first))?;
     let mut low = *first;
     for high in rest {
-        push_interval(&mut stretches, segments, x, &low, high)?;
+        push_interval(stretches, segments, x, &low, high)?;
         low = *high;
     }
-    push_stretch(&mut stretches, Some(low), None)?;
-    Ok(stretches)
+    push_stretch(stretches, Some(low), None)
 }
 
-fn whole_wall(alloc: Global) -> Result<Vec<Stretch>, NoMemory>
-    ensures { IfOk result (λ v. map stretch_cell v.items ≡ [] ∷ []) }
+fn whole_wall(stretches: &mut Vec<Stretch>) -> Result<(), NoMemory>
+    ensures { OnOk result (map stretch_cell stretches.new.items ≡ [] ∷ []) }
 {
-    let mut stretches = Vec::new(alloc);
-    push_stretch(&mut stretches, None, None)?;
-    Ok(stretches)
+    stretches.clear();
+    push_stretch(stretches, None, None)
 }
 
-/// The open stretches of a wall between its vertices, from below, without those that an upright segment covers.
-pub(crate) fn intervals_of(
-    alloc: Global,
+fn find_between(
+    stretches: &mut Vec<Stretch>,
     segments: &[Seg],
     x: &Coordinate,
-) -> Result<Vec<Stretch>, NoMemory>
-    ensures { IfOk result (λ v. map stretch_cell v.items ≡ intervals (is_covered x.now segments.now) None (ordinates x.now segments.now)) }
+    ordinates: &[Coordinate],
+) -> Result<(), NoMemory>
+    ensures { OnOk result (map stretch_cell stretches.new.items ≡ intervals (is_covered x.now segments.now) None ordinates.now) }
 {
-    let ordinates = ordinates_of(alloc, segments, x)?;
     match ordinates.split_first() {
-        None => whole_wall(alloc),
-        Some((first, rest)) => intervals_from(alloc, segments, x, first, rest),
+        None => whole_wall(stretches),
+        Some((first, rest)) => find_from(stretches, segments, x, first, rest),
     }
+}
+
+/// Leaves in the list the open stretches of a wall between its vertices, from below, without those that an upright segment
+/// covers. The other lists are for the work alone.
+pub(crate) fn find_intervals(
+    stretches: &mut Vec<Stretch>,
+    vertices: &mut Vec<Coordinate>,
+    values: &mut Vec<i32>,
+    segments: &[Seg],
+    x: &Coordinate,
+) -> Result<(), NoMemory>
+    ensures { OnOk result (map stretch_cell stretches.new.items ≡ intervals (is_covered x.now segments.now) None (ordinates x.now segments.now)) }
+{
+    find_ordinates(vertices, values, segments, x)?;
+    find_between(stretches, segments, x, vertices)
 }

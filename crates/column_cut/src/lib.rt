@@ -11,6 +11,7 @@ mod near;
 mod parity;
 mod push;
 mod ranked;
+mod room;
 mod slots;
 mod vertices;
 

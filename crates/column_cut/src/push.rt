@@ -6,7 +6,8 @@ ghost use Rattle.column_cut.specs.Pieces.{all_of, above, below, slot_cell, stret
 
 use crate::coordinate::Coordinate;
 use crate::heights::are_apart;
-use crate::intervals::{Stretch, intervals_of};
+use crate::intervals::{Stretch, find_intervals};
+use crate::room::WallRoom;
 use crate::slots::Slot;
 use convex_cell::{Cell, Cells};
 use grid_plane::{Half, NoMemory, Seg, x_is, x_over, x_under, y_over, y_under};
@@ -169,14 +170,21 @@ fn push_on_wall(
 pub(crate) fn push_wall(
     cells: &mut Cells,
     alloc: Global,
+    room: &mut WallRoom,
     segments: &[Seg],
     x: &Coordinate,
     slots: &[Slot],
 ) -> Result<(), NoMemory>
     ensures { OnOk result (cells.new ≡ cells.old ++ kept (on_wall x.now (map slot_cell slots.now) (intervals (is_covered x.now segments.now) None (ordinates x.now segments.now)))) }
 {
-    let stretches = intervals_of(alloc, segments, x)?;
-    push_on_wall(cells, alloc, x, slots, &stretches)
+    find_intervals(
+        &mut room.stretches,
+        &mut room.ordinates,
+        &mut room.values,
+        segments,
+        x,
+    )?;
+    push_on_wall(cells, alloc, x, slots, &room.stretches)
 }
 
 /// The cells of a column: each slot between its two walls.

@@ -1,4 +1,4 @@
-ghost use Rattle.std.specs.Prelude.{◌≡◌, ◌++◌, ◌∷◌, [], None, OnOk, IfOk, map};
+ghost use Rattle.std.specs.Prelude.{◌≡◌, ◌++◌, ◌∷◌, [], None, OnOk, map};
 ghost use Rattle.plane_terms.specs.Segment.{right_of};
 ghost use Rattle.plane_terms.specs.Columns.{over, slots};
 ghost use Rattle.column_cut.specs.Parity.{is_even};
@@ -6,7 +6,6 @@ ghost use Rattle.column_cut.specs.Pieces.{all_of, slot_cell};
 
 use crate::parity::Parity;
 use grid_plane::{Half, NoMemory, Seg, left_of, right_of};
-use std::alloc::Global;
 
 /// What lies between two neighbours of a column: over the one and under the other. The lowest slot has nothing below it, and
 /// the highest nothing above it.
@@ -49,22 +48,26 @@ fn push_top(slots: &mut Vec<Slot>, below: &Option<Seg>) -> Result<(), NoMemory>
     push_slot(slots, below, None)
 }
 
-/// What lies between two neighbours of a column, every other one from below.
-pub(crate) fn slots_of(alloc: Global, parity: Parity, column: &[Seg]) -> Result<Vec<Slot>, NoMemory>
-    ensures { IfOk result (λ v. map slot_cell v.items ≡ slots (is_even parity) None column.now) }
+/// Leaves in the list what lies between two neighbours of a column, every other one from below.
+pub(crate) fn find_slots(
+    found: &mut Vec<Slot>,
+    parity: Parity,
+    column: &[Seg],
+) -> Result<(), NoMemory>
+    ensures { OnOk result (map slot_cell found.new.items ≡ slots (is_even parity) None column.now) }
 {
-    let mut slots = Vec::new(alloc);
+    found.clear();
     let mut below = None;
     let mut take = parity.is_even();
     for segment in column {
         if take {
-            push_between(&mut slots, &below, segment)?;
+            push_between(found, &below, segment)?;
         }
         below = Some(*segment);
         take = !take;
     }
     if take {
-        push_top(&mut slots, &below)?;
+        push_top(found, &below)?;
     }
-    Ok(slots)
+    Ok(())
 }

@@ -9,31 +9,32 @@ use grid_plane::{GridPoint, NoMemory, Seg};
 use std::alloc::Global;
 
 /// The numbers, ascending, each once.
-fn distinct(values: Vec<i32>) -> Result<Vec<i32>, NoMemory>
-    ensures { IfOk result (λ v. v.items ≡ ascending values.items) }
+fn distinct(values: &mut Vec<i32>) -> Result<(), NoMemory>
+    ensures { OnOk result (values.new.items ≡ ascending values.old.items) }
 {
-    let mut values = values;
     values.sort()?;
     values.dedup();
-    Ok(values)
+    Ok(())
 }
 
-fn coordinates(alloc: Global, values: &[i32]) -> Result<Vec<Coordinate>, NoMemory>
+/// Leaves these numbers in the list, and nothing else.
+fn coordinates(found: &mut Vec<Coordinate>, values: &[i32]) -> Result<(), NoMemory>
     requires { Every InReach values.now }
-    ensures { IfOk result (λ v. v.items ≡ values.now) }
+    ensures { OnOk result (found.new.items ≡ values.now) }
 {
-    let mut coordinates = Vec::new(alloc);
+    found.clear();
     for value in values {
-        coordinates.push(Coordinate::of(*value))?;
+        found.push(Coordinate::of(*value))?;
     }
-    Ok(coordinates)
+    Ok(())
 }
 
-fn ascending(alloc: Global, values: Vec<i32>) -> Result<Vec<Coordinate>, NoMemory>
-    requires { Every InReach values.items }
-    ensures { IfOk result (λ v. v.items ≡ ascending values.items) }
+fn ascending(found: &mut Vec<Coordinate>, values: &mut Vec<i32>) -> Result<(), NoMemory>
+    requires { Every InReach values.old.items }
+    ensures { OnOk result (found.new.items ≡ ascending values.old.items) }
 {
-    coordinates(alloc, &distinct(values)?)
+    distinct(values)?;
+    coordinates(found, values)
 }
 
 fn push_abscissa(values: &mut Vec<i32>, place: &GridPoint) -> Result<(), NoMemory>
@@ -48,7 +49,7 @@ fn all_abscissas(alloc: Global, segments: &[Seg]) -> Result<Vec<i32>, NoMemory>
     ensures value { IfOk result (λ v. v.items ≡ xs_of segments.now) }
     ensures reach { IfOk result (λ v. Every InReach v.items) }
 {
-    let mut values = Vec::new(alloc);
+    let mut values = Vec::with_capacity(alloc, segments.len().saturating_mul(2))?;
     for segment in segments {
         push_abscissa(&mut values, &segment.lo())?;
         push_abscissa(&mut values, &segment.hi())?;
@@ -60,7 +61,10 @@ fn all_abscissas(alloc: Global, segments: &[Seg]) -> Result<Vec<i32>, NoMemory>
 pub(crate) fn abscissas_of(alloc: Global, segments: &[Seg]) -> Result<Vec<Coordinate>, NoMemory>
     ensures { IfOk result (λ v. v.items ≡ abscissas segments.now) }
 {
-    ascending(alloc, all_abscissas(alloc, segments)?)
+    let mut values = all_abscissas(alloc, segments)?;
+    let mut found = Vec::new(alloc);
+    ascending(&mut found, &mut values)?;
+    Ok(found)
 }
 
 fn push_at(values: &mut Vec<i32>, place: &GridPoint, x: &Coordinate) -> Result<(), NoMemory>
@@ -73,25 +77,27 @@ fn push_at(values: &mut Vec<i32>, place: &GridPoint, x: &Coordinate) -> Result<(
     Ok(())
 }
 
-fn all_ordinates(alloc: Global, segments: &[Seg], x: &Coordinate) -> Result<Vec<i32>, NoMemory>
-    ensures value { IfOk result (λ v. v.items ≡ ys_at x.now segments.now) }
-    ensures reach { IfOk result (λ v. Every InReach v.items) }
+fn all_ordinates(values: &mut Vec<i32>, segments: &[Seg], x: &Coordinate) -> Result<(), NoMemory>
+    ensures value { OnOk result (values.new.items ≡ ys_at x.now segments.now) }
+    ensures reach { OnOk result (Every InReach values.new.items) }
 {
-    let mut values = Vec::new(alloc);
+    values.clear();
     for segment in segments {
-        push_at(&mut values, &segment.hi(), x)?;
-        push_at(&mut values, &segment.lo(), x)?;
+        push_at(values, &segment.hi(), x)?;
+        push_at(values, &segment.lo(), x)?;
     }
-    Ok(values)
+    Ok(())
 }
 
-/// The ordinates of the vertices on the wall, ascending, each once.
-pub(crate) fn ordinates_of(
-    alloc: Global,
+/// Leaves the ordinates of the vertices on the wall in the list, ascending, each once. The other list is for the work alone.
+pub(crate) fn find_ordinates(
+    found: &mut Vec<Coordinate>,
+    values: &mut Vec<i32>,
     segments: &[Seg],
     x: &Coordinate,
-) -> Result<Vec<Coordinate>, NoMemory>
-    ensures { IfOk result (λ v. v.items ≡ ordinates x.now segments.now) }
+) -> Result<(), NoMemory>
+    ensures { OnOk result (found.new.items ≡ ordinates x.now segments.now) }
 {
-    ascending(alloc, all_ordinates(alloc, segments, x)?)
+    all_ordinates(values, segments, x)?;
+    ascending(found, values)
 }

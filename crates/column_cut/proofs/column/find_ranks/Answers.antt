@@ -3,8 +3,8 @@ use Rattle.std.specs.List.{AllZip, filter}
 use Rattle.column_cut.specs.Ranks.{IsRankOf, passes}
 use Rattle.column_cut.proofs.RankLoop.{step_taken, step_left, all_taken}
 use Rattle.column_cut.proofs.SortedColumn.{column_by_sort}
-use Rattle.column_cut.proofs.column.ranks_of.Goals as goal
-use Rattle.column_cut.proofs.column.ranks_of.Goals.{then-spans+in_ok-push, else-spans}
+use Rattle.column_cut.proofs.column.find_ranks.Goals as goal
+use Rattle.column_cut.proofs.column.find_ranks.Goals.{then-spans+in_ok-push, else-spans}
 
 pub loop-segment-preserved : goal.loop-segment-preserved
 loop-segment-preserved c =

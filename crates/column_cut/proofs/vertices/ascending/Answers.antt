@@ -6,4 +6,4 @@ use Rattle.column_cut.proofs.vertices.ascending.Goals as goal
 
 pub coordinates-requires : goal.coordinates-requires
 coordinates-requires c = subst (Every InReach) (sym (c.deref.ensures.value ∙ c.in_ok-distinct.ensures))
-    (every_ascending InReach c.args.values.items c.requires)
+    (every_ascending InReach c.args.values.now.items c.requires)

@@ -2,4 +2,4 @@ use Rattle.std.proofs.Common.{◌≡◌, take}
 use Rattle.column_cut.proofs.vertices.coordinates.Given as goal
 
 abbrev pub invariant-loop-value : goal.invariant-loop-value
-invariant-loop-value l = l.coordinates.items ≡ take l.value-index l.values
+invariant-loop-value l = l.found.items ≡ take l.value-index l.values
