@@ -8,6 +8,10 @@ use Rattle.plane_terms.specs.Lists.{Every, EveryPair}
 use Rattle.plane_terms.specs.declared.kind.Kind.{Kind}
 use Rattle.plane_terms.specs.declared.kind.Kind.TheVariants as kind
 use Rattle.topology_terms.specs.Feature.{Class, Feature, by_handle, feature_at}
+use Rattle.feature_store.specs.declared.slot.Slot.{Slot}
+use Rattle.feature_store.specs.declared.slot.Slot.TheVariants.{Filled}
+use Rattle.feature_store.specs.Slots.{handle_in, by_slot, filled, IsSlotted}
+use Rattle.feature_store.proofs.Filling.{slot_keys, filled_last}
 use Rattle.plane_terms.proofs.ListLemmas.{every_append, every_map}
 use Rattle.sound_laws.proofs.Keyed.{ascending_last}
 use Rattle.sound_laws.proofs.FeatureLists.{handles, handle_of}
@@ -132,6 +136,43 @@ feature_kept cs F next f same of_class simple s =
       from_1 = omega arith;
     }
 
+-- ---- a slot more, and a later handle
+pub slots_later : (S : List Slot) (next later count : ℕ) → next ≤ later → IsSlotted S next count → IsSlotted S later count
+slots_later S next later count upto s = record {
+  ascending = s.ascending;
+  below = every_map (λ (t : Slot). handle_in t < next) (λ (t : Slot). handle_in t < later) (λ t l. omega arith) S s.below;
+  live = s.live;
+}
+
+pub store_later : (cs : List Class) (F : List Feature) (next later : ℕ) → next ≤ later → IsStore cs F next → IsStore cs F later
+store_later cs F next later upto s = let first = s.from_1 in record {
+  few = s.few;
+  names = s.names;
+  ascending = s.ascending;
+  given = given_later next later F upto s.given;
+  kinds = s.kinds;
+  simple = s.simple;
+  from_1 = omega arith;
+}
+
+slots_end : (S : List Slot) (next count : ℕ) (f : Feature) → f.handle ≡ next → IsSlotted S next count
+    → IsSlotted (S ++ Filled f ∷ []) (next + 1) (count + 1)
+slots_end S next count f same s =
+    let l = slots_later S next (next + 1) count (omega arith) s in
+    record {
+      ascending = ascending_last by_slot slot_keys S (Filled f) s.ascending (rw same s.below);
+      below = every_append (λ (t : Slot). handle_in t < next + 1) S (Filled f ∷ []) l.below (omega arith, tt);
+      live = let n = s.live in let e = ap length (filled_last S f) in omega (arith, length-append (filled S) (f ∷ []));
+    }
+
+pub slot_kept : (cs : List Class) (S : List Slot) (next count : ℕ) (f : Feature) → f.handle ≡ next → IsOfClass cs f → HasSimpleSides f
+    → IsStore cs (filled S) next → IsSlotted S next count
+    → IsStore cs (filled (S ++ Filled f ∷ [])) (next + 1) × IsSlotted (S ++ Filled f ∷ []) (next + 1) (count + 1)
+slot_kept cs S next count f same of_class simple s t = (
+  rw filled_last (feature_kept cs (filled S) next f same of_class simple s),
+  slots_end S next count f same t,
+)
+
 -- ---- a live feature
 pub live_own : (F : List Feature) (h : ℕ) → IfSome (feature_at F h) (λ (f : Feature). f.handle ≡ h)
 live_own F h = by (feature_at F h) refl
@@ -146,3 +187,7 @@ live_each P F h all = by (feature_at F h) refl
     by : (o : Option Feature) → feature_at F h ≡ o → IfSome o P
     by None e = tt
     by (Some f) e = each_live P F h f all e
+
+pub given_own : (h next : ℕ) (o : Option Feature) → 1 ≤ h → h < next → IfSome o (λ (f : Feature). f.handle ≡ h) → IfSome o (IsGiven next)
+given_own h next None first l own = tt
+given_own h next (Some f) first l own = record { from_1 = omega arith; before = omega arith }

@@ -1,4 +1,5 @@
 pub mod Stored
+pub mod Slots
 pub mod Places
 pub mod Keeps
 pub mod Faults

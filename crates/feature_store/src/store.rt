@@ -10,7 +10,9 @@ ghost use Rattle.feature_store.specs.Faults.{store_cause};
 
 use crate::class::{Class, class_number, copy_classes};
 use crate::fault::StoreFault;
-use crate::live::{copy_features, exchange, feature_of, kept_law};
+use crate::features::Features;
+use crate::slot::Slot;
+use crate::slots::{copy_slots, count_law, exchange, feature_of, kept_count, kept_law};
 use grid_plane::{Name, NoMemory};
 use shape::{Feature, Kind, Shape};
 use std::alloc::Global;
@@ -20,11 +22,12 @@ use std::marker::Model;
 const CLASS_LIMIT: usize = 64;
 
 /// The classes, numbered from 1, and the live features under their handles: a finite map. Handles are given once, from 1
-/// upwards.
+/// upwards. A feature that goes leaves its slot empty, so that no other moves.
 #[derive(Drop)]
 pub struct Store {
     classes: Vec<Class>,
-    features: Vec<Feature>,
+    slots: Vec<Slot>,
+    live: usize,
     next: u32,
 }
 
@@ -32,12 +35,13 @@ impl Model for Store {
     ghost use Rattle.std.specs.Prelude.{◌-◌, vec_len, vec_capacity};
     ghost use Rattle.feature_store.specs.Stored.{Stored};
     ghost use Rattle.feature_store.specs.Keeps.{IsStore};
+    ghost use Rattle.feature_store.specs.Slots.{filled, IsSlotted};
 
     ghost Value = { Stored };
 
-    ghost view = { λ s. record { classes = s.classes.items; features = s.features.items; next = s.next; room = vec_capacity s.features - vec_len s.features } };
+    ghost view = { λ s. record { classes = s.classes.items; features = filled s.slots.items; next = s.next; room = vec_capacity s.slots - vec_len s.slots } };
 
-    ghost invariant = { λ s. IsStore s.classes.items s.features.items s.next };
+    ghost invariant = { λ s. IsStore s.classes.items (filled s.slots.items) s.next × IsSlotted s.slots.items s.next s.live };
 }
 
 impl Store {
@@ -49,7 +53,8 @@ impl Store {
     {
         Store {
             classes: Vec::new(alloc),
-            features: Vec::new(alloc),
+            slots: Vec::new(alloc),
+            live: 0,
             next: 1,
         }
     }
@@ -144,8 +149,10 @@ impl Store {
     {
         shape.simple_law();
         let handle = self.next;
-        self.features
-            .push_reserved(Feature::new(handle, class, shape));
+        count_law(&self.slots);
+        self.slots
+            .push_reserved(Slot::Filled(Feature::new(handle, class, shape)));
+        self.live += 1;
         self.next = handle + 1;
         handle
     }
@@ -167,34 +174,26 @@ impl Store {
         Ok(self.add_in(class, shape))
     }
 
-    /// The live feature of this handle. Takes steps for the logarithm of their number.
+    /// The live feature of this handle. Takes steps for the logarithm of the number of slots.
     pub fn get(&self, handle: u32) -> Option<&Feature>
         ensures { MatchOption result (feature_at self.now.features handle ≡ None) (λ f. feature_at self.now.features handle ≡ Some f.now) }
     {
-        feature_of(&self.features, handle)
+        feature_of(&self.slots, handle)
     }
 
     /// How many live features there are.
     pub fn len(&self) -> usize
         ensures { result ≡ length self.now.features }
     {
-        self.features.len()
-    }
-
-    /// The live feature at this place, from 0, in order of handles.
-    pub fn feature(&self, i: usize) -> &Feature
-        requires { i < length self.now.features }
-        ensures { slice_get self.now.features i ≡ Some result.now }
-    {
-        &self.features[i]
+        self.live
     }
 
     /// The live features in order of handles.
-    pub fn features(&self) -> &[Feature]
-        ensures value { result.now ≡ self.now.features }
+    pub fn features(&self) -> Features<'_>
+        ensures value { result ≡ self.now.features }
         ensures keeps { IsStore self.now.classes self.now.features self.now.next }
     {
-        &self.features
+        Features::of(&self.slots)
     }
 
     /// The handle that comes next.
@@ -221,7 +220,7 @@ impl Store {
         ensures room { OnOk result (1 ≤ self.new.room) }
         ensures same { IsSame self.old self.new }
     {
-        self.features.reserve(1)?;
+        self.slots.reserve(1)?;
         Ok(())
     }
 
@@ -240,7 +239,10 @@ impl Store {
         ensures fits { IfSome kept.new (IsOfClass self.new.classes) }
     {
         kept_law(kept);
-        exchange(&mut self.features, handle, kept);
+        count_law(&self.slots);
+        let comes = kept_count(kept);
+        exchange(&mut self.slots, handle, kept);
+        self.live = self.live + comes - kept_count(kept);
     }
 
     /// Exchanges the live feature of this handle, or its absence, with the kept one. After a refusal, want of memory,
@@ -270,7 +272,8 @@ impl Store {
     {
         Ok(Store {
             classes: copy_classes(alloc, &self.classes)?,
-            features: copy_features(alloc, &self.features)?,
+            slots: copy_slots(alloc, &self.slots)?,
+            live: self.live,
             next: self.next,
         })
     }
