@@ -1,7 +1,8 @@
 -- Slots by their handles, and the features in those that are filled.
 use Rattle.std.proofs.Common.{ℕ, zero, suc, ◌≡◌, ◌<◌, ◌≤◌, ◌+◌, ◌-◌, List, [], ◌∷◌, ◌++◌, length, take, drop, get_or, append_assoc, length-append, refl, sym, ◌∙◌, ap, subst, arith, Option, Some, None}
-use Rattle.std.proofs.lemmas.List.{take_more, drop_more, take-append-drop, append-nil}
-use Rattle.std.specs.Prelude.{slice_get}
+use Rattle.std.proofs.lemmas.List.{take_more, drop_more, take-append-drop, append-nil, map-append}
+use Rattle.std.proofs.lemmas.Grind.{flat_map-append}
+use Rattle.std.specs.Prelude.{slice_get, map, flat_map}
 use Rattle.std.specs.Option.{option_to_list, IfSome}
 use Rattle.plane_terms.specs.Lists.{Every}
 use Rattle.plane_terms.proofs.ListLemmas.{every_append}
@@ -69,6 +70,27 @@ pub filled_none : (S : List Slot) (i : ℕ) (s : Slot) → i < length S → s �
     → filled (take (i + 1) S) ≡ filled (take i S)
 filled_none S i s l e is = filled_more S i s l e
     ∙ (ap (λ o. filled (take i S) ++ option_to_list o) is ∙ append-nil (filled (take i S)))
+
+-- what holds of each feature so far holds with those of one slot more
+pub every_filled_more : (P : Feature → Type 0) (S : List Slot) (i : ℕ) (s : Slot) → i < length S → s ≡ get_or S i s
+    → Every P (filled (take i S)) → Every P (option_to_list (feature_in s)) → Every P (filled (take (i + 1) S))
+every_filled_more P S i s l e h k = rw (filled_more S i s l e) (every_append P (filled (take i S)) (option_to_list (feature_in s)) h k)
+
+pub map_filled_more : {A : Type 0} (f : Feature → A) (S : List Slot) (i : ℕ) (s : Slot) (start old new : List A) → i < length S
+    → s ≡ get_or S i s → old ≡ start ++ map f (filled (take i S)) → new ≡ old ++ map f (option_to_list (feature_in s))
+    → new ≡ start ++ map f (filled (take (i + 1) S))
+map_filled_more f S i s start old new l e before more =
+    let F = filled (take i S) in
+    let one = option_to_list (feature_in s) in
+    rw (filled_more S i s l e) (more ∙ (ap (λ t. t ++ map f one) before ∙ (append_assoc start (map f F) (map f one)
+    ∙ ap (λ t. start ++ t) (sym (map-append f F one)))))
+
+-- what each slot gives, one behind the other, is what each feature gives
+pub flat_map_filled : {A : Type 0} (f : Feature → List A) (S : List Slot)
+    → flat_map (λ s. flat_map f (option_to_list (feature_in s))) S ≡ flat_map f (filled S)
+flat_map_filled f [] = refl
+flat_map_filled f (s ∷ S) = ap (λ t. flat_map f (option_to_list (feature_in s)) ++ t) (flat_map_filled f S)
+    ∙ sym (flat_map-append f (option_to_list (feature_in s)) (filled S))
 
 -- ---- from the last slot down
 filled_drop : (S : List Slot) (i : ℕ) (s : Slot) → i < length S → s ≡ get_or S i s

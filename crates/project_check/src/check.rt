@@ -14,10 +14,10 @@ use crate::pair::is_sound_at;
 use crate::subjects::subjects_of;
 use dirty_area::Dirt;
 use error_store::{Entry, Errors};
+use feature_store::Features;
 use grid_index::Index;
 use grid_plane::NoMemory;
 use rule_core::{InForce, RuleSet, Work};
-use shape::Feature;
 use std::alloc::Global;
 use validation::FeatureIndex;
 
@@ -63,7 +63,7 @@ pub fn check_project<R: RuleSet>(
     rules: &R,
     alloc: Global,
     in_force: &[InForce],
-    features: &[Feature],
+    features: &Features<'_>,
     index: &Index,
     errors: &Errors,
     dirt: &Dirt,

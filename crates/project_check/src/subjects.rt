@@ -1,20 +1,31 @@
 ghost use Rattle.std.specs.Prelude.{◌≡◌, ◌++◌, map, IfOk, OnOk};
+ghost use Rattle.std.specs.Option.{option_to_list};
 ghost use Rattle.topology_terms.specs.Feature as features_of;
 ghost use Rattle.topology_terms.specs.Entry as entries_of;
+ghost use Rattle.feature_store.specs.Slots.{feature_in, filled};
 ghost use Rattle.validation_laws.specs.Parts.{IsRising};
 ghost use Rattle.project_check.specs.Subjects.{HasSubjects};
 
 use error_store::Entry;
+use feature_store::{Features, Slot};
 use grid_index::once_each;
 use grid_plane::NoMemory;
-use shape::Feature;
 use std::alloc::Global;
 
-fn add_handles(features: &[Feature], subjects: &mut Vec<u32>) -> Result<(), NoMemory>
-    ensures { OnOk result (subjects.new.items ≡ subjects.old.items ++ map (λ (f : features_of.Feature). f.handle) features.now) }
+fn add_handle(slot: &Slot, subjects: &mut Vec<u32>) -> Result<(), NoMemory>
+    ensures { OnOk result (subjects.new.items ≡ subjects.old.items ++ map (λ (f : features_of.Feature). f.handle) (option_to_list (feature_in slot.now))) }
 {
-    for f in features {
+    if let Some(f) = slot.feature() {
         subjects.push(f.handle())?;
+    }
+    Ok(())
+}
+
+fn add_handles(slots: &[Slot], subjects: &mut Vec<u32>) -> Result<(), NoMemory>
+    ensures { OnOk result (subjects.new.items ≡ subjects.old.items ++ map (λ (f : features_of.Feature). f.handle) (filled slots.now)) }
+{
+    for slot in slots {
+        add_handle(slot, subjects)?;
     }
     Ok(())
 }
@@ -32,14 +43,14 @@ fn add_subjects(entries: &[Entry], subjects: &mut Vec<u32>) -> Result<(), NoMemo
 /// its entries, live or not. Goes over both lists once.
 pub fn subjects_of(
     alloc: Global,
-    features: &[Feature],
+    features: &Features<'_>,
     entries: &[Entry],
 ) -> Result<Vec<u32>, NoMemory>
     ensures rising { IfOk result (λ v. IsRising v.items) }
     ensures all { IfOk result (λ v. HasSubjects features.now entries.now v.items) }
 {
     let mut subjects = Vec::new(alloc);
-    add_handles(features, &mut subjects)?;
+    add_handles(features.slots(), &mut subjects)?;
     add_subjects(entries, &mut subjects)?;
     once_each(&mut subjects);
     Ok(subjects)

@@ -20,7 +20,7 @@ use crate::forms::{ErrorForm, FeatureForm, RectForm, RuleForm};
 use crate::numbers::natural;
 use convex_cell::{Cell, Cells};
 use error_store::{Entry, Key};
-use feature_store::Store;
+use feature_store::{Features, Store};
 use grid_plane::{Name, Rect};
 use project_terms::{ProjectCause, Stage};
 use rule_core::{InForce, RuleRow};
@@ -123,7 +123,7 @@ fn last_number(rules: &[InForce]) -> u16
     }
 }
 
-fn last_handle(features: &[Feature]) -> u32
+fn last_handle(features: &Features<'_>) -> u32
     ensures { result ≡ last_in (λ (f : feature_terms.Feature). f.handle) features.now }
 {
     match features.last() {
@@ -230,7 +230,7 @@ impl Draft {
         requires kind { is_kind (kind_of_class self.old.project.classes class) shape.kind ≡ true }
         ensures { Says result (with_feature self.old (record { handle = handle; class = class; shape = shape })) self.new }
     {
-        if last_handle(self.store.features()) >= handle {
+        if last_handle(&self.store.features()) >= handle {
             return Err(LineFault::Wrong(ProjectCause::Order));
         }
         let mut kept = Some(Feature::new(handle, class, shape));

@@ -1,5 +1,7 @@
 ghost use Rattle.std.specs.Prelude.{◌≡◌, ◌++◌, flat_map, IfOk, OnOk};
+ghost use Rattle.std.specs.Option.{option_to_list};
 ghost use Rattle.plane_terms.specs.Cell as terms_cell;
+ghost use Rattle.feature_store.specs.Slots.{feature_in, filled};
 ghost use Rattle.project_text.specs.Pushed.{head_text, class_texts, rule_text, feature_text, dirty_text, cell_text, error_texts, text_of};
 ghost use Rattle.project_terms.specs.Written.{project_text};
 
@@ -11,10 +13,9 @@ use crate::lines::{
 use crate::push::{push_end, push_number, push_text};
 use convex_cell::Cells;
 use error_store::Entry;
-use feature_store::Store;
+use feature_store::{Slot, Store};
 use grid_plane::{NoMemory, Rect};
 use rule_core::InForce;
-use shape::Feature;
 use std::alloc::Global;
 
 fn push_head(out: &mut Vec<u8>, next: u32) -> Result<(), NoMemory>
@@ -46,14 +47,23 @@ fn push_rules(out: &mut Vec<u8>, store: &Store, rules: &[InForce]) -> Result<(),
 fn push_features(out: &mut Vec<u8>, store: &Store) -> Result<(), NoMemory>
     ensures { OnOk result (out.new.items ≡ out.old.items ++ flat_map (feature_text store.now.classes) store.now.features) }
 {
-    push_listed(out, store, store.features())
+    push_listed(out, store, store.features().slots())
 }
 
-fn push_listed(out: &mut Vec<u8>, store: &Store, features: &[Feature]) -> Result<(), NoMemory>
-    ensures { OnOk result (out.new.items ≡ out.old.items ++ flat_map (feature_text store.now.classes) features.now) }
+fn push_slot(out: &mut Vec<u8>, store: &Store, slot: &Slot) -> Result<(), NoMemory>
+    ensures { OnOk result (out.new.items ≡ out.old.items ++ flat_map (feature_text store.now.classes) (option_to_list (feature_in slot.now))) }
 {
-    for feature in features {
-        push_feature_line(out, store, feature)?;
+    match slot.feature() {
+        Some(feature) => push_feature_line(out, store, feature),
+        None => Ok(()),
+    }
+}
+
+fn push_listed(out: &mut Vec<u8>, store: &Store, slots: &[Slot]) -> Result<(), NoMemory>
+    ensures { OnOk result (out.new.items ≡ out.old.items ++ flat_map (feature_text store.now.classes) (filled slots.now)) }
+{
+    for slot in slots {
+        push_slot(out, store, slot)?;
     }
     Ok(())
 }

@@ -1,4 +1,5 @@
-ghost use Rattle.std.specs.Prelude.{◌≡◌, Contains, IfOk, IfSome};
+ghost use Rattle.std.specs.Prelude.{◌≡◌, Contains, IfOk, IfSome, OnOk};
+ghost use Rattle.std.specs.Option.{option_to_list};
 ghost use Rattle.plane_terms.specs.Lists.{Every};
 ghost use Rattle.plane_terms.specs.Cell as cell_terms;
 ghost use Rattle.plane_terms.specs.HalfPlane.{IsHalfPlane};
@@ -8,6 +9,8 @@ ghost use Rattle.topology_terms.specs.Feature as terms;
 ghost use Rattle.topology_terms.specs.Feature.{env};
 ghost use Rattle.topology_terms.specs.Lookups.{class_at};
 ghost use Rattle.project_terms.specs.Records.{IsRecord};
+ghost use Rattle.feature_store.specs.Slots.{feature_in, filled};
+ghost use Rattle.grid_index.specs.declared.placed.Placed as seats;
 ghost use Rattle.validation.specs.Placed.{placed_of};
 ghost use Rattle.topo_core.specs.Topologies.{IsNamed, IsDrawn};
 
@@ -17,22 +20,33 @@ use crate::places::place_of;
 use crate::topology::Topology;
 use convex_cell::{Cell, Cells};
 use error_store::Entry;
-use feature_store::Store;
+use feature_store::{Slot, Store};
 use grid_index::Index;
 use grid_plane::NoMemory;
 use project_text::ProjectData;
-use shape::Feature;
 use std::alloc::Global;
 
-// An index in which each of the features stands; the envelope of each is a rectangle of the grid.
-fn index_of(alloc: Global, features: &[Feature]) -> Result<Index, NoMemory>
-    ensures there { IfOk result (λ index. Every (λ (f : terms.Feature). Contains index (placed_of f)) features.now) }
-    ensures on_grid { IfOk result (λ _. Every (λ (f : terms.Feature). IsRectangle (env f)) features.now) }
+// Puts the place of the feature in the slot, where it is filled, into the index; its envelope is a rectangle of the grid.
+fn put_slot(index: &mut Index, slot: &Slot) -> Result<(), NoMemory>
+    ensures there { OnOk result (Every (λ (f : terms.Feature). Contains index.new (placed_of f)) (option_to_list (feature_in slot.now))) }
+    ensures kept { OnOk result ((q : seats.Placed) → Contains index.old q → Contains index.new q) }
+    ensures on_grid { OnOk result (Every (λ (f : terms.Feature). IsRectangle (env f)) (option_to_list (feature_in slot.now))) }
 {
-    let mut index = Index::new(alloc);
-    for feature in features {
+    if let Some(feature) = slot.feature() {
         feature.shape().env().corner_law();
         index.put(place_of(feature))?;
+    }
+    Ok(())
+}
+
+// An index in which each of the features stands; the envelope of each is a rectangle of the grid.
+fn index_of(alloc: Global, slots: &[Slot]) -> Result<Index, NoMemory>
+    ensures there { IfOk result (λ index. Every (λ (f : terms.Feature). Contains index (placed_of f)) (filled slots.now)) }
+    ensures on_grid { IfOk result (λ _. Every (λ (f : terms.Feature). IsRectangle (env f)) (filled slots.now)) }
+{
+    let mut index = Index::new(alloc);
+    for slot in slots {
+        put_slot(&mut index, slot)?;
     }
     Ok(index)
 }
@@ -55,12 +69,21 @@ fn names_law(store: &Store)
     }
 }
 
-// The law that each feature has a valid shape.
-fn shapes_law(features: &[Feature])
-    ensures { Every (λ (f : terms.Feature). IsShape f.shape) features.now }
+// The law that the feature in a slot, where it is filled, has a valid shape.
+fn shape_law(slot: &Slot)
+    ensures { Every (λ (f : terms.Feature). IsShape f.shape) (option_to_list (feature_in slot.now)) }
 {
-    for feature in features {
+    if let Some(feature) = slot.feature() {
         feature.shape().kind();
+    }
+}
+
+// The law that each feature has a valid shape.
+fn shapes_law(slots: &[Slot])
+    ensures { Every (λ (f : terms.Feature). IsShape f.shape) (filled slots.now) }
+{
+    for slot in slots {
+        shape_law(slot);
     }
 }
 
@@ -101,7 +124,7 @@ impl<R: KindRules> Topology<R> {
         ensures { IfOk result (λ t. t ≡ saved) }
     {
         store_law(&saved.store);
-        let index = index_of(alloc, saved.store.features())?;
+        let index = index_of(alloc, saved.store.features().slots())?;
         Ok(Topology {
             alloc,
             judging,
@@ -119,7 +142,7 @@ impl<R: KindRules> Topology<R> {
     {
         self.store.next_handle();
         names_law(&self.store);
-        shapes_law(self.store.features());
+        shapes_law(self.store.features().slots());
         self.dirt.rects();
         errors_law(self.entries.entries());
     }

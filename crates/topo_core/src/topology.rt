@@ -288,7 +288,8 @@ impl<R: KindRules> Topology<R> {
         ensures err { OnErr result (self.new ≡ self.old) }
     {
         let before = work.judged();
-        let ruled = RuledFeatures::of(&self.rules, self.store.features(), &self.index);
+        let features = self.store.features();
+        let ruled = RuledFeatures::of(&self.rules, &features, &self.index);
         validate(
             &self.judging,
             self.alloc,
@@ -315,7 +316,7 @@ impl<R: KindRules> Topology<R> {
             &self.judging,
             self.alloc,
             &self.rules,
-            self.store.features(),
+            &self.store.features(),
             &self.index,
             &self.entries,
             &self.dirt,

@@ -4,7 +4,6 @@
 mod dirty;
 mod frame;
 mod judge;
-mod lookup;
 mod near;
 mod ruled;
 mod selection;

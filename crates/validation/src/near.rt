@@ -8,7 +8,7 @@ ghost use Rattle.validation_laws.specs.Parts.{live_of};
 ghost use Rattle.validation_laws.specs.Views.{IsView};
 ghost use Rattle.validation.specs.Placed.{ArePlaced};
 
-use crate::lookup::find;
+use feature_store::Features;
 use grid_index::Index;
 use grid_plane::{NoMemory, Rect};
 use rule_core::View;
@@ -19,7 +19,7 @@ use std::marker::Model;
 /// Features in the order of handles, and an index in which each of them stands.
 #[derive(Drop)]
 pub struct FeatureIndex<'a> {
-    features: &'a [Feature],
+    features: &'a Features<'a>,
     index: &'a Index,
 }
 
@@ -36,12 +36,12 @@ impl<'a> Model for FeatureIndex<'a> {
 }
 
 // The live feature of this handle, if its envelope meets the rectangle.
-fn find_near<'a>(features: &'a [Feature], handle: u32, r: &Rect) -> Option<&'a Feature>
+fn find_near<'a>(features: &'a Features<'a>, handle: u32, r: &Rect) -> Option<&'a Feature>
     requires { IsAscending features.now }
     ensures near { MatchOption result (filter (λ (g : terms.Feature). rects_meet r.now (env g)) (option_to_list (feature_at features.now handle)) ≡ []) (λ f. filter (λ (g : terms.Feature). rects_meet r.now (env g)) (option_to_list (feature_at features.now handle)) ≡ f.now ∷ []) }
     ensures live { IfSome result (λ f. feature_at features.now handle ≡ Some f.now) }
 {
-    let f = find(features, handle)?;
+    let f = features.get(handle)?;
     if r.meets(&f.shape().env()) {
         Some(f)
     } else {
@@ -52,7 +52,7 @@ fn find_near<'a>(features: &'a [Feature], handle: u32, r: &Rect) -> Option<&'a F
 // The live features of these handles whose envelope meets the rectangle.
 fn view_among<'a>(
     alloc: Global,
-    features: &'a [Feature],
+    features: &'a Features<'a>,
     handles: &[u32],
     r: &Rect,
 ) -> Result<View<'a>, NoMemory>
@@ -71,7 +71,7 @@ fn view_among<'a>(
 
 impl<'a> FeatureIndex<'a> {
     /// These features, each of which stands in the index.
-    pub fn of(features: &'a [Feature], index: &'a Index) -> FeatureIndex<'a>
+    pub fn of(features: &'a Features<'a>, index: &'a Index) -> FeatureIndex<'a>
         requires { ArePlaced index.now features.now }
         ensures { result ≡ features.now }
     {
@@ -83,7 +83,7 @@ impl<'a> FeatureIndex<'a> {
         requires { IsAscending self.now }
         ensures { MatchOption result (feature_at self.now handle ≡ None) (λ f. feature_at self.now handle ≡ Some f.now) }
     {
-        find(self.features, handle)
+        self.features.get(handle)
     }
 
     /// The features whose envelope meets the subject's. Looks only at those that the index gives for it.

@@ -4,9 +4,9 @@ ghost use Rattle.topology_terms.specs.Project.{AreAscending};
 ghost use Rattle.validation.specs.Placed.{ArePlaced};
 
 use crate::near::FeatureIndex;
+use feature_store::Features;
 use grid_index::Index;
 use rule_core::InForce;
-use shape::Feature;
 use std::marker::Model;
 
 /// What a validation looks at and leaves as it is: rules in force in the order of their numbers, features in the order of their
@@ -14,7 +14,7 @@ use std::marker::Model;
 #[derive(Drop)]
 pub struct RuledFeatures<'a> {
     in_force: &'a [InForce],
-    features: &'a [Feature],
+    features: &'a Features<'a>,
     index: &'a Index,
 }
 
@@ -35,7 +35,7 @@ impl<'a> RuledFeatures<'a> {
     /// These rules and these features, each of which stands in the index.
     pub fn of(
         in_force: &'a [InForce],
-        features: &'a [Feature],
+        features: &'a Features<'a>,
         index: &'a Index,
     ) -> RuledFeatures<'a>
         requires rules { AreAscending in_force.now }
@@ -58,7 +58,7 @@ impl<'a> RuledFeatures<'a> {
     }
 
     /// The features.
-    pub(crate) fn features(&self) -> &'a [Feature]
+    pub(crate) fn features(&self) -> &'a Features<'a>
         ensures { result.now ≡ self.now.features }
     {
         self.features

@@ -13,13 +13,12 @@ ghost use Rattle.plane_terms.specs.Lists.{Every};
 ghost use Rattle.validation.specs.Placed.{HasNear};
 
 use crate::dirty::DirtyParts;
-use crate::lookup::find;
 use crate::ruled::RuledFeatures;
 use dirty_area::Dirt;
 use error_store::{Entry, Errors, next_of};
+use feature_store::Features;
 use grid_index::{Index, once_each};
 use grid_plane::{Handles, NoMemory, Rect};
-use shape::Feature;
 use std::alloc::Global;
 
 fn push_if(found: &mut Vec<u32>, test: bool, handle: u32) -> Result<(), NoMemory>
@@ -33,7 +32,7 @@ fn push_if(found: &mut Vec<u32>, test: bool, handle: u32) -> Result<(), NoMemory
 
 // The live feature of this handle, if its envelope meets what is dirty of the window.
 fn add_feature(
-    features: &[Feature],
+    features: &Features<'_>,
     handle: u32,
     dirty: &DirtyParts,
     found: &mut Vec<u32>,
@@ -41,7 +40,7 @@ fn add_feature(
     requires { features_of.IsAscending features.now }
     ensures { OnOk result (ArePicked (λ (f : features_of.Feature). MeetsDirt dirty.now (env f)) (λ (f : features_of.Feature). f.handle) (option_to_list (feature_at features.now handle)) found.old.items found.new.items) }
 {
-    match find(features, handle) {
+    match features.get(handle) {
         Some(f) => push_if(found, dirty.meets(&f.shape().env()), f.handle()),
         None => Ok(()),
     }
@@ -49,7 +48,7 @@ fn add_feature(
 
 // The live features of these handles whose envelope meets what is dirty of the window.
 fn add_features(
-    features: &[Feature],
+    features: &Features<'_>,
     handles: &[u32],
     dirty: &DirtyParts,
     found: &mut Vec<u32>,

@@ -1,10 +1,19 @@
-use Rattle.std.proofs.Common.{refl}
+use Rattle.std.proofs.Common.{◌++◌, ◌∙◌, refl, ap}
+use Rattle.std.proofs.lemmas.List.{take_all}
 use Rattle.std.proofs.lemmas.Option.{slice_get_read}
+use Rattle.std.specs.Prelude.{flat_map}
+use Rattle.std.specs.Option.{option_to_list}
+use Rattle.feature_store.specs.declared.slot.Slot.{Slot}
+use Rattle.feature_store.specs.Slots.{feature_in}
+use Rattle.feature_store.proofs.Filling.{flat_map_filled}
 use Rattle.project_text.specs.Pushed.{feature_text}
 use Rattle.wkt_text.proofs.Said.{said_more}
 use Rattle.project_text.proofs.write.push_listed.Goals as goal
 
-pub loop-feature-preserved : goal.loop-feature-preserved
-loop-feature-preserved c =
-    said_more (feature_text c.args.store.now.classes) _ _ _ _ _ _ (slice_get_read _ _ _ _ refl c.loop-feature-test.true c.feature-item.is)
-    c.loop-feature.invariant c.in_ok-push_feature_line.ensures
+pub loop-slot-preserved : goal.loop-slot-preserved
+loop-slot-preserved c = said_more (λ (s : Slot). flat_map (feature_text c.args.store.now.classes) (option_to_list (feature_in s))) _ _ _ _ _ _
+    (slice_get_read _ _ _ _ refl c.loop-slot-test.true c.slot-item.is) c.loop-slot.invariant c.in_ok-push_slot.ensures
+
+pub returns : goal.returns
+returns c = (rw (take_all c.loop-slot.slot-index c.args.slots.now c.loop-slot-test.false) at c.loop-slot.invariant)
+    ∙ ap (λ t. c.args.out.now.items ++ t) (flat_map_filled (feature_text c.args.store.now.classes) c.args.slots.now)
