@@ -32,11 +32,13 @@ fn put_slot(index: &mut Index, slot: &Slot) -> Result<(), NoMemory>
     ensures kept { OnOk result ((q : seats.Placed) → Contains index.old q → Contains index.new q) }
     ensures on_grid { OnOk result (Every (λ (f : terms.Feature). IsRectangle (env f)) (option_to_list (feature_in slot.now))) }
 {
-    if let Some(feature) = slot.feature() {
-        feature.shape().env().corner_law();
-        index.put(place_of(feature))?;
+    match slot.feature() {
+        Some(feature) => {
+            feature.shape().env().corner_law();
+            index.put(place_of(feature))
+        }
+        None => Ok(()),
     }
-    Ok(())
 }
 
 // An index in which each of the features stands; the envelope of each is a rectangle of the grid.
@@ -73,8 +75,11 @@ fn names_law(store: &Store)
 fn shape_law(slot: &Slot)
     ensures { Every (λ (f : terms.Feature). IsShape f.shape) (option_to_list (feature_in slot.now)) }
 {
-    if let Some(feature) = slot.feature() {
-        feature.shape().kind();
+    match slot.feature() {
+        Some(feature) => {
+            feature.shape().kind();
+        }
+        None => {}
     }
 }
 

@@ -1,16 +1,22 @@
-use Rattle.topology_terms.specs.Feature.{Feature, env}
+use Rattle.std.proofs.Common.{take, Contains}
 use Rattle.plane_terms.specs.Rectangle.{IsRectangle}
-use Rattle.sound_check.proofs.Pairs.{every_more}
-use Rattle.topo_core.proofs.Indexing.{put_more}
+use Rattle.plane_terms.proofs.ListLemmas.{every_map}
+use Rattle.topology_terms.specs.Feature.{Feature, env}
+use Rattle.feature_store.specs.Slots.{filled}
+use Rattle.feature_store.proofs.Filling.{every_filled_more}
+use Rattle.validation.specs.Placed.{placed_of}
 use Rattle.topo_core.proofs.data.index_of.Goals as goal
 
-pub loop-feature-preserved : goal.loop-feature-preserved
-loop-feature-preserved c =
-    let at = c.loop-feature in
-    let f = c.feature-item.result in
+pub loop-slot-preserved : goal.loop-slot-preserved
+loop-slot-preserved c =
+    let at = c.loop-slot in
+    let slots = c.args.slots.now in
+    let after = c.in_ok-put_slot.ensures in
+    let kept = every_map (λ (f : Feature). Contains at.index (placed_of f)) (λ (f : Feature). Contains c.put_slot.new.index (placed_of f))
+        (λ f k. after.kept (placed_of f) k) (filled (take at.slot-index slots)) at.invariant.there in
     record {
-      there = put_more c.args.features.now at.feature-index f at.index c.put.new.self c.loop-feature-test.true c.feature-item.is
-          (rw c.place_of.ensures at c.in_ok-put.ensures.ok) at.invariant.there;
-      on_grid = every_more (λ (g : Feature). IsRectangle (env g)) c.args.features.now at.feature-index f c.loop-feature-test.true
-          c.feature-item.is at.invariant.on_grid (rw (c.env.ensures, c.shape.ensures) at c.corner_law.ensures);
+      there = every_filled_more (λ (f : Feature). Contains c.put_slot.new.index (placed_of f)) slots at.slot-index c.slot-item.result
+          c.loop-slot-test.true c.slot-item.is kept after.there;
+      on_grid = every_filled_more (λ (f : Feature). IsRectangle (env f)) slots at.slot-index c.slot-item.result c.loop-slot-test.true
+          c.slot-item.is at.invariant.on_grid after.on_grid;
     }

@@ -14,8 +14,8 @@ invariant_of-result g c =
     let index = c.in_ok-index.index in
     let p : Project = project_of s.store s.rules.items s.dirt s.errors in
     record {
-      topology = record_topology p c.store_law.ensures (rw c.features.ensures.value at c.in_ok-index.ensures.on_grid)
+      topology = record_topology p c.store_law.ensures (rw (c.slots.ensures, c.features.ensures.value) at c.in_ok-index.ensures.on_grid)
           (subst IsRecord (sym c.saved.view_is) c.requires);
       placed = λ h f e. live_each (λ (k : Feature). Contains index (placed_of k)) s.store.features h f
-          (rw c.features.ensures.value at c.in_ok-index.ensures.there) e;
+          (rw (c.slots.ensures, c.features.ensures.value) at c.in_ok-index.ensures.there) e;
     }
