@@ -6,5 +6,5 @@ use Rattle.project_check.proofs.Sound.{IsSoundBy}
 use Rattle.project_check.proofs.check.check_project.Given as goal
 
 abbrev pub invariant-loop-rule : goal.invariant-loop-rule
-invariant-loop-rule g l = (p : Project) → HasParts p (record { in_force = l.in_force; features = l.features }) l.dirt l.errors
+invariant-loop-rule g l = (p : Project) → HasParts p (record { in_force = l.in_force; features = l.fn.features }) l.dirt l.errors
     → Every (IsSoundBy g.R.RuleSet.meaning p) (take l.rule-index l.in_force)
