@@ -44,11 +44,7 @@ fn push_slot(out: &mut Vec<u8>, store: &Store, slot: &Slot) -> Result<(), NoMemo
     }
 }
 
-fn push_feature_lines(
-    out: &mut Vec<u8>,
-    store: &Store,
-    slots: &[Slot],
-) -> Result<(), NoMemory>
+fn push_feature_lines(out: &mut Vec<u8>, store: &Store, slots: &[Slot]) -> Result<(), NoMemory>
     ensures { Appends result out.old.items out.new.items (flat_map (feature_text store.now.classes) (filled slots.now)) }
 {
     for slot in slots {

@@ -13,7 +13,7 @@ loop-slot-preserved c =
     let slots = c.args.slots.now in
     let after = c.in_ok-put_slot.ensures in
     let kept = every_map (λ (f : Feature). Contains at.index (placed_of f)) (λ (f : Feature). Contains c.put_slot.new.index (placed_of f))
-        (λ f k. after.kept (placed_of f) k) (filled (take at.slot-index slots)) at.invariant.there in
+    (λ f k. after.kept (placed_of f) k) (filled (take at.slot-index slots)) at.invariant.there in
     record {
       there = every_filled_more (λ (f : Feature). Contains c.put_slot.new.index (placed_of f)) slots at.slot-index c.slot-item.result
           c.loop-slot-test.true c.slot-item.is kept after.there;

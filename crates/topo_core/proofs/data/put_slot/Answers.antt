@@ -11,8 +11,11 @@ pub returns-in-Some-clause-kept : goal.returns-in-Some-clause-kept
 returns-in-Some-clause-kept c = on_ok_weaker c.put.result (λ gains q k. (gains q).1 (inl k)) c.put.ensures.ok
 
 pub returns-in-Some-clause-on_grid : goal.returns-in-Some-clause-on_grid
-returns-in-Some-clause-on_grid c = on_ok_weaker c.put.result (λ gains. rw c.in-Some.ensures (rw (c.env.ensures, c.shape.ensures) at
-    c.corner_law.ensures, tt)) c.put.ensures.ok
+returns-in-Some-clause-on_grid c = on_ok_weaker c.put.result (λ gains. rw c.in-Some.ensures (
+  rw (c.env.ensures, c.shape.ensures) at
+      c.corner_law.ensures,
+  tt,
+)) c.put.ensures.ok
 
 pub returns-in-None : goal.returns-in-None
 returns-in-None c = record { there = rw c.in-None.ensures tt; kept = λ q k. k; on_grid = rw c.in-None.ensures tt }
