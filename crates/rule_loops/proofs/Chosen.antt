@@ -1,5 +1,5 @@
 -- The outsides of the polygons that are chosen from a view.
-use Rattle.std.proofs.Common.{◌≡◌, ℕ, ◌+◌, ◌≤◌, zero, suc, Bool, true, false, List, Option, None, [], ◌∷◌, ◌++◌, Some, refl, sym, ◌∙◌, ap, subst, take, drop, length, cond, map, arith}
+use Rattle.std.proofs.Common.{◌≡◌, ℕ, ◌+◌, ◌≤◌, Bool, true, false, List, Option, None, [], ◌∷◌, ◌++◌, Some, refl, sym, ◌∙◌, ap, subst, drop, length, cond, map, arith}
 use Rattle.std.specs.Prelude.{slice_get, ◌==◌, ◌&&◌}
 use Rattle.std.specs.List.{filter}
 use Rattle.std.proofs.lemmas.List.{drop_all}
@@ -8,13 +8,14 @@ use Rattle.plane_terms.specs.Lists.{Every}
 use Rattle.plane_terms.specs.Point.{Point}
 use Rattle.plane_terms.specs.Cell.{Cell, InCells}
 use Rattle.plane_terms.specs.Carve.{carve_of}
-use Rattle.plane_terms.proofs.ListLemmas.{every_append, every_got, every_filter}
+use Rattle.plane_terms.proofs.ListLemmas.{every_append, every_got}
 use Rattle.topology_terms.specs.Feature.{Feature}
 use Rattle.topology_terms.specs.Cells.{uncovered, inside, outside}
-use Rattle.topology_terms.specs.Plans.{area_left, open_ground}
+use Rattle.topology_terms.specs.Plans.{area_left}
 use Rattle.rule_loops.specs.Apart.{uncovered-nil}
-use Rattle.rule_loops.specs.Open.{chosen, outsides, IsInEach}
-use Rattle.rule_loops.specs.Views.{of_class, other_of}
+use Rattle.cell_laws.proofs.Meets.{carve_points}
+use Rattle.rule_loops.specs.Open.{chosen, outsides, IsInEach, AreAmong}
+use Rattle.rule_loops.specs.Views.{of_class}
 use Rattle.rule_loops.proofs.Rest.{drop_one}
 
 -- ---- one that is chosen
@@ -60,6 +61,20 @@ pub turn_same : (n : ℕ) (o : Option ℕ) (F : List Feature) (i : ℕ) (g : Fea
     → uncovered made (outsides n o (drop (i + 1) F)) ≡ all
 turn_same n o F i g left made all e t m h = ap (λ cs. uncovered cs (outsides n o (drop (i + 1) F))) m
     ∙ (sym (ap (uncovered left) (outsides_from n o F i g false e t)) ∙ h)
+
+-- what is among the polygons before one more is carved out, is among them behind it
+pub among_more : (n : ℕ) (o : Option ℕ) (F : List Feature) (i : ℕ) (g : Feature) (left made kept : List Cell) (near : List (List Cell))
+    → slice_get F i ≡ Some g → chosen n o g ≡ true → made ≡ carve_of left (outside g) → ((p : Point) → InCells kept p → InCells made p)
+    → AreAmong left (outsides n o (drop i F)) near → AreAmong kept (outsides n o (drop (i + 1) F)) near
+among_more n o F i g left made kept near e t m w a p k j =
+    let c = (carve_points left (outside g) p).0 (subst (λ cs. InCells cs p) m (w p k)) in
+    a p c.0 (subst (λ dss. IsInEach dss p) (sym (outsides_from n o F i g true e t)) (c.1, j))
+
+pub among_same : (n : ℕ) (o : Option ℕ) (F : List Feature) (i : ℕ) (g : Feature) (left made : List Cell) (near : List (List Cell))
+    → slice_get F i ≡ Some g → chosen n o g ≡ false → made ≡ left
+    → AreAmong left (outsides n o (drop i F)) near → AreAmong made (outsides n o (drop (i + 1) F)) near
+among_same n o F i g left made near e t m a p k j =
+    a p (subst (λ cs. InCells cs p) m k) (subst (λ dss. IsInEach dss p) (sym (outsides_from n o F i g false e t)) j)
 
 pub turn_none : (dss : List (List Cell)) (left all : List Cell) → length left ≡ 0 → uncovered left dss ≡ all → left ≡ all
 turn_none dss [] all z h = sym (uncovered-nil dss) ∙ h

@@ -9,10 +9,10 @@ use Rattle.std.proofs.lemmas.Option.{get_or_from_slice_get}
 use Rattle.std.proofs.lemmas.Bool.Decides.{nat_tests}
 use Rattle.plane_terms.specs.Rectangle.{rects_meet}
 use Rattle.plane_terms.specs.Segment.{Segment, box_of}
-use Rattle.plane_terms.specs.Cell.{Cell, on_segment, out_of_segment, box_round, weak_of}
+use Rattle.plane_terms.specs.Cell.{Cell, on_segment, out_of_segment, weak_of}
 use Rattle.plane_terms.specs.Carve.{carve_of}
 use Rattle.topology_terms.specs.Feature.{Feature, sides, env}
-use Rattle.topology_terms.specs.Cells.{uncovered, inside, outside, box_meets, out_of_segments}
+use Rattle.topology_terms.specs.Cells.{uncovered, outside, box_meets, out_of_segments}
 use Rattle.topology_terms.specs.Plans.{others, open_ground, gap_cells}
 use Rattle.sound_laws.proofs.FeatureFilters.{kept_twice}
 use Rattle.rule_core.proofs.Partners.{kept_more}

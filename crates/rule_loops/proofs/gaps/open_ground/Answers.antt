@@ -1,4 +1,4 @@
-use Rattle.std.proofs.Common.{◌≡◌, Some, subst, rules}
+use Rattle.std.proofs.Common.{◌≡◌, Some, subst}
 use Rattle.std.specs.Prelude.{IfOk, List}
 use Rattle.plane_terms.specs.Cell.{Cell}
 use Rattle.cell_laws.proofs.Meets.{kept_have_points}

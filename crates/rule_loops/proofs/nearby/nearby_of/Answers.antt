@@ -1,4 +1,4 @@
-use Rattle.std.proofs.Common.{sym, ◌∙◌, ap}
+use Rattle.std.proofs.Common.{sym, ◌∙◌}
 use Rattle.rule_loops.proofs.Chosen.{near_more}
 use Rattle.rule_loops.proofs.nearby.nearby_of.Goals.{then-is_chosen+in_ok-outside+else-count-room+in_ok-push, else-is_chosen}
 use Rattle.rule_loops.proofs.nearby.nearby_of.Goals as goal

@@ -1,4 +1,4 @@
-use Rattle.std.proofs.Common.{◌≡◌, ◌<◌, length, get_or, rules, sym, ◌∙◌, ap}
+use Rattle.std.proofs.Common.{◌<◌, length, rules}
 use Rattle.rule_loops.proofs.Opened.{carved_further}
 use Rattle.rule_loops.proofs.open.carve_piece.Goals as goal
 

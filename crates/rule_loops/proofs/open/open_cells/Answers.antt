@@ -1,4 +1,4 @@
-use Rattle.std.proofs.Common.{◌≡◌, true, refl, sym, ◌∙◌, ap}
+use Rattle.std.proofs.Common.{◌≡◌, true, refl, ◌∙◌}
 use Rattle.std.proofs.lemmas.Bool.{OnTrue_at}
 use Rattle.rule_loops.proofs.Opened.{open_less, open_more, open_within, open_points}
 use Rattle.rule_loops.proofs.open.open_cells.Goals.{then-not-branch+in_ok-try_copy+in_ok-push, else-not-branch}

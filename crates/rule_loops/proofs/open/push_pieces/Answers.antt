@@ -1,4 +1,3 @@
-use Rattle.std.proofs.Common.{sym, ◌∙◌, ap, ◌++◌, ◌∷◌, [], append_assoc, take, refl}
 use Rattle.rule_loops.proofs.Opened.{pushed_more}
 use Rattle.rule_loops.proofs.open.push_pieces.Goals as goal
 
