@@ -1,4 +1,4 @@
-ghost use Rattle.std.specs.Prelude.{◌≡◌, ◌<◌, ◌≤◌, ◌+◌, [], ◌∷◌, ◌++◌, not, filter, OnOk, OnErr, vec_len, vec_capacity};
+ghost use Rattle.std.specs.Prelude.{◌≡◌, ◌<◌, ◌≤◌, ◌+◌, [], ◌∷◌, ◌++◌, not, filter, ◌||◌, OnOk, OnErr, vec_len, vec_capacity};
 ghost use Rattle.std.specs.List.{list_any};
 ghost use Rattle.std.specs.Option.{option_to_list};
 ghost use Rattle.plane_terms.specs.Rectangle.{is_within, rects_meet};
@@ -11,6 +11,20 @@ pub fn meets_any(rects: &[Rect], r: &Rect) -> bool
     ensures { result ≡ list_any (λ s. rects_meet s r.now) rects.now }
 {
     rects.iter().any(|s| s.meets(r))
+}
+
+// Whether one of the two rectangles lies in the other.
+fn are_nested(r: &Rect, s: &Rect) -> bool
+    ensures { result ≡ (is_within r.now s.now || is_within s.now r.now) }
+{
+    s.holds_rect(r) || r.holds_rect(s)
+}
+
+// Whether a rectangle of the list holds this one, or lies in it. Most often none does, and one look tells.
+fn has_nested(rects: &[Rect], r: &Rect) -> bool
+    ensures { result ≡ list_any (λ s. is_within r.now s || is_within s r.now) rects.now }
+{
+    rects.iter().any(|s| are_nested(r, s))
 }
 
 // Whether a rectangle of the list holds this one.
@@ -53,6 +67,10 @@ fn add_in(rects: &mut Vec<Rect>, r: Rect)
     ensures len { vec_len rects.new ≤ vec_len rects.old + 1 }
     ensures capacity { vec_capacity rects.new ≡ vec_capacity rects.old }
 {
+    if !has_nested(rects, &r) {
+        rects.push_reserved(r);
+        return;
+    }
     if !is_held(rects, &r) {
         put_last(rects, r);
     }
@@ -71,8 +89,8 @@ fn add_some(rects: &mut Vec<Rect>, some: Option<Rect>)
     }
 }
 
-/// Adds the rectangle to a list of dirt.
-pub fn add_to(rects: &mut Vec<Rect>, r: Rect) -> Result<(), NoMemory>
+// Adds the rectangle to a list of dirt of which one holds it, or it holds one.
+fn add_nested(rects: &mut Vec<Rect>, r: Rect) -> Result<(), NoMemory>
     ensures ok { OnOk result (rects.new.items ≡ add_dirt rects.old.items r) }
     ensures err { OnErr result (rects.new.items ≡ rects.old.items) }
 {
@@ -81,6 +99,18 @@ pub fn add_to(rects: &mut Vec<Rect>, r: Rect) -> Result<(), NoMemory>
     }
     rects.reserve(1)?;
     put_last(rects, r);
+    Ok(())
+}
+
+/// Adds the rectangle to a list of dirt.
+pub fn add_to(rects: &mut Vec<Rect>, r: Rect) -> Result<(), NoMemory>
+    ensures ok { OnOk result (rects.new.items ≡ add_dirt rects.old.items r) }
+    ensures err { OnErr result (rects.new.items ≡ rects.old.items) }
+{
+    if has_nested(rects, &r) {
+        return add_nested(rects, r);
+    }
+    rects.push(r)?;
     Ok(())
 }
 

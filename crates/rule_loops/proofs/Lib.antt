@@ -2,8 +2,10 @@ mod Beyond
 mod Blocked
 mod Boxes
 mod Carved
+mod Chosen
 mod More
 mod Once
+mod Opened
 mod Parts
 mod Rest
 mod Seen

@@ -9,13 +9,14 @@ use Rattle.std.proofs.lemmas.Option.{get_or_from_slice_get}
 use Rattle.std.proofs.lemmas.Bool.Decides.{nat_tests}
 use Rattle.plane_terms.specs.Rectangle.{rects_meet}
 use Rattle.plane_terms.specs.Segment.{Segment, box_of}
-use Rattle.plane_terms.specs.Cell.{Cell, on_segment, out_of_segment, box_round, weak_of}
+use Rattle.plane_terms.specs.Cell.{Cell, on_segment, out_of_segment, weak_of}
 use Rattle.plane_terms.specs.Carve.{carve_of}
 use Rattle.topology_terms.specs.Feature.{Feature, sides, env}
-use Rattle.topology_terms.specs.Cells.{uncovered, inside, outside, box_meets, out_of_segments}
-use Rattle.topology_terms.specs.Plans.{area_left, others, open_ground}
+use Rattle.topology_terms.specs.Cells.{uncovered, outside, box_meets, out_of_segments}
+use Rattle.topology_terms.specs.Plans.{others, open_ground, gap_cells}
 use Rattle.sound_laws.proofs.FeatureFilters.{kept_twice}
 use Rattle.rule_core.proofs.Partners.{kept_more}
+use Rattle.rule_loops.specs.Open.{outsides}
 use Rattle.rule_loops.specs.Views.{of_class, other_of, beside, left_of_segment}
 use Rattle.rule_loops.proofs.Boxes.{none_beside}
 use Rattle.rule_loops.proofs.Carved.{uncovered-append, stopped}
@@ -36,28 +37,6 @@ class_is m r n e h = grind (arith, nat_tests)
 
 pub class_is_not : (m r n : ℕ) → r ≡ m → (r ≡ n → ⊥) → (m == n) ≡ false
 class_is_not m r n e h = grind (arith, nat_tests)
-
--- ---- what polygons leave of an inside
-pub left_more : (f : Feature) (n : ℕ) (F : List Feature) (i : ℕ) (g : Feature) (cells : List Cell) → slice_get F i ≡ Some g
-    → (g.class == n) ≡ true → cells ≡ area_left f (of_class n (take i F))
-    → carve_of cells (outside g) ≡ area_left f (of_class n (take (i + 1) F))
-left_more f n F i g cells e t h =
-    let gs = of_class n (take i F) in
-    rw h (sym (ap (area_left f) (class_more n F i g true e t)
-    ∙ (ap (uncovered (inside f)) (map-append outside gs (g ∷ []))
-    ∙ uncovered-append (inside f) (map {A = Feature} outside gs) (outside g ∷ []))))
-
-pub left_same : (f : Feature) (n : ℕ) (F : List Feature) (i : ℕ) (g : Feature) (cells : List Cell) → slice_get F i ≡ Some g
-    → (g.class == n) ≡ false → cells ≡ area_left f (of_class n (take i F)) → cells ≡ area_left f (of_class n (take (i + 1) F))
-left_same f n F i g cells e t h = h ∙ sym (ap (area_left f) (class_more n F i g false e t ∙ append-nil (of_class n (take i F))))
-
-pub left_none : (f : Feature) (n : ℕ) (F : List Feature) (i : ℕ) (cells : List Cell) → cells ≡ area_left f (of_class n (take i F))
-    → length cells ≡ 0 → cells ≡ area_left f (of_class n F)
-left_none f n F i cells h z =
-    let gs = of_class n (take i F) in
-    let hs = of_class n (drop i F) in
-    stopped (inside f) cells (map {A = Feature} outside (of_class n F)) (map {A = Feature} outside gs) (map {A = Feature} outside hs)
-    (ap (map {A = Feature} outside) (class_apart n F i) ∙ map-append outside gs hs) h z
 
 -- ---- what segments leave of a segment
 chosen_more : (s : Segment) (ts : List Segment) (i : ℕ) (t : Segment) (b : Bool) → i < length ts → t ≡ get_or ts i t → box_meets s t ≡ b
@@ -136,41 +115,19 @@ segment_none s n F i left h z =
 others_kept : (f : Feature) (n : ℕ) (F : List Feature) → others f (of_class n F) ≡ filter (other_of n f) F
 others_kept f n F = kept_twice (λ (h : Feature). not (h.handle == f.handle)) (λ (h : Feature). h.class == n) F
 
-ground_from : (f : Feature) (gs hs k : List Feature) → others f hs ≡ others f gs ++ k → open_ground f hs
-    ≡ uncovered (open_ground f gs) (map {A = Feature} outside k)
-ground_from f gs hs k e =
-    let start = carve_of (box_round (env f) ∷ []) (outside f) in
-    ap (λ os. uncovered start (map {A = Feature} outside os)) e
-    ∙ (ap (uncovered start) (map-append outside (others f gs) k)
-    ∙ uncovered-append start (map {A = Feature} outside (others f gs)) (map {A = Feature} outside k))
+pub ground_left : (f : Feature) (n : ℕ) (F : List Feature) → uncovered (open_ground f []) (outsides n (Some f.handle) F)
+    ≡ open_ground f (of_class n F)
+ground_left f n F = ap (λ gs. uncovered (open_ground f []) (map {A = Feature} outside gs)) (sym (others_kept f n F))
 
-others_more : (f : Feature) (n : ℕ) (F : List Feature) (i : ℕ) (g : Feature) (b : Bool) → slice_get F i ≡ Some g → other_of n f g ≡ b
-    → others f (of_class n (take (i + 1) F)) ≡ others f (of_class n (take i F)) ++ cond b (g ∷ []) []
-others_more f n F i g b e t = others_kept f n (take (i + 1) F)
-    ∙ (kept_more (other_of n f) F i g b e t ∙ ap (λ gs. gs ++ cond b (g ∷ []) []) (sym (others_kept f n (take i F))))
+-- where there is no ground, there is no gap
+none_near : (cs : List Cell) → carve_of cs [] ≡ []
+none_near [] = refl
+none_near (c ∷ cs) = none_near cs
 
-pub ground_more : (f : Feature) (n : ℕ) (F : List Feature) (i : ℕ) (g : Feature) (ground : List Cell) → slice_get F i ≡ Some g
-    → other_of n f g ≡ true → ground ≡ open_ground f (of_class n (take i F))
-    → carve_of ground (outside g) ≡ open_ground f (of_class n (take (i + 1) F))
-ground_more f n F i g ground e t h = rw h
-    (sym (ground_from f (of_class n (take i F)) (of_class n (take (i + 1) F)) (g ∷ []) (others_more f n F i g true e t)))
-
-pub ground_same : (f : Feature) (n : ℕ) (F : List Feature) (i : ℕ) (g : Feature) (ground : List Cell) → slice_get F i ≡ Some g
-    → other_of n f g ≡ false → ground ≡ open_ground f (of_class n (take i F)) → ground ≡ open_ground f (of_class n (take (i + 1) F))
-ground_same f n F i g ground e t h = h ∙ sym
-    (ground_from f (of_class n (take i F)) (of_class n (take (i + 1) F)) [] (others_more f n F i g false e t))
-
-pub ground_none : (f : Feature) (n : ℕ) (F : List Feature) (i : ℕ) (ground : List Cell) → ground ≡ open_ground f (of_class n (take i F))
-    → length ground ≡ 0 → ground ≡ open_ground f (of_class n F)
-ground_none f n F i ground h z =
-    let start = carve_of (box_round (env f) ∷ []) (outside f) in
-    let gs = filter (other_of n f) (take i F) in
-    let hs = filter (other_of n f) (drop i F) in
-    let left : ground ≡ uncovered start (map {A = Feature} outside gs) = h
-    ∙ ap (λ os. uncovered start (map {A = Feature} outside os)) (others_kept f n (take i F)) in
-    stopped start ground (map {A = Feature} outside (others f (of_class n F))) (map {A = Feature} outside gs)
-    (map {A = Feature} outside hs) (ap (map {A = Feature} outside) (others_kept f n F ∙ kept_apart (other_of n f) F i)
-    ∙ map-append outside gs hs) left z
+pub no_gap : (f : Feature) (gs : List Feature) (ground : List Cell) → ground ≡ open_ground f gs → length ground ≡ 0 → ground ≡ gap_cells f gs
+no_gap f gs [] e z = sym (ap (λ us. carve_of (map {A = Segment} on_segment (sides f)) (map {A = Cell} weak_of us)) (sym e)
+    ∙ none_near (map {A = Segment} on_segment (sides f)))
+no_gap f gs (c ∷ ground) e z = absurd (omega arith)
 
 pub weak_more : (cs : List Cell) (i : ℕ) (c : Cell) → i < length cs → slice_get cs i ≡ Some c → map {A = Cell} weak_of (take (i + 1) cs)
     ≡ map {A = Cell} weak_of (take i cs) ++ weak_of c ∷ []

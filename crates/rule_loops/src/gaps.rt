@@ -1,9 +1,10 @@
 ghost use Rattle.std.specs.Prelude.{◌≡◌, [], IfOk, map};
 ghost use Rattle.plane_terms.specs.Cell as planes;
 ghost use Rattle.topology_terms.specs.Plans as plans;
-ghost use Rattle.rule_loops.specs.Views.{of_class, other_of};
+ghost use Rattle.rule_loops.specs.Views.{of_class};
 
 use crate::polygon::{boundary_of, outside_of};
+use crate::uncovered::left_uncovered;
 use convex_cell::{Cell, Cells};
 use grid_plane::NoMemory;
 use rule_core::{View, Work};
@@ -23,12 +24,6 @@ fn weakened(alloc: Global, cells: &Cells) -> Result<Cells, NoMemory>
     Ok(weak)
 }
 
-fn is_other(class: u16, subject: &Feature, other: &Feature) -> bool
-    ensures { result ≡ other_of class subject.now other.now }
-{
-    other.class() == class && other.handle() != subject.handle()
-}
-
 // What is out of the subject, within a box round it.
 fn ground_round(alloc: Global, subject: &Feature, work: &mut Work) -> Result<Cells, NoMemory>
     ensures ground { IfOk result (λ cells. cells ≡ plans.open_ground subject.now []) }
@@ -40,7 +35,7 @@ fn ground_round(alloc: Global, subject: &Feature, work: &mut Work) -> Result<Cel
     ground.carve_by(alloc, &outside)
 }
 
-// What no polygon of the class that is shown covers round the subject. Stops where nothing is left.
+// What no polygon of the class that is shown covers round the subject.
 fn open_ground(
     alloc: Global,
     class: u16,
@@ -51,18 +46,8 @@ fn open_ground(
     ensures ground { IfOk result (λ cells. cells ≡ plans.open_ground subject.now (of_class class view.now)) }
     ensures uncounted { work.new ≡ work.old }
 {
-    let mut ground = ground_round(alloc, subject, work)?;
-    for i in 0..view.len() {
-        if ground.len() == 0 {
-            return Ok(ground);
-        }
-        let other = view.feature(i);
-        if is_other(class, subject, other) {
-            let outside = outside_of(alloc, other, work)?;
-            ground = ground.carve_by(alloc, &outside)?;
-        }
-    }
-    Ok(ground)
+    let ground = ground_round(alloc, subject, work)?;
+    left_uncovered(alloc, class, Some(subject.handle()), &ground, view, work)
 }
 
 /// The boundary of the subject where open ground comes near.
@@ -77,6 +62,9 @@ pub fn gap_cells(
     ensures uncounted { work.new ≡ work.old }
 {
     let ground = open_ground(alloc, class, subject, view, work)?;
+    if ground.len() == 0 {
+        return Ok(ground);
+    }
     let boundary = boundary_of(alloc, subject)?;
     boundary.carve(alloc, &weakened(alloc, &ground)?)
 }

@@ -10,7 +10,9 @@ mod counts;
 mod crossings;
 mod gaps;
 mod inner;
+mod nearby;
 mod off_places;
+mod open;
 mod own;
 mod pairs;
 mod partners;
@@ -20,6 +22,7 @@ mod shared;
 mod sides;
 mod single;
 mod stretches;
+mod uncovered;
 
 pub use area::area_left;
 pub use around::{AtPlace, EndThere, InsideThere, PointThere, SideThere, contains, none_there};

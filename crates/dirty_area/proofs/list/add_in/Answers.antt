@@ -1,8 +1,14 @@
 use Rattle.std.proofs.Common.{◌≡◌, true, false, sym, ◌∙◌}
+use Rattle.std.specs.Prelude.{◌||◌}
 use Rattle.std.specs.List.{list_any}
 use Rattle.plane_terms.specs.Rectangle.{is_within}
-use Rattle.dirty_area.proofs.Calls.{add_dirt-held, add_dirt-loose}
+use Rattle.dirty_area.proofs.Calls.{add_dirt-held, add_dirt-loose, add_dirt-apart}
 use Rattle.dirty_area.proofs.list.add_in.Goals as goal
+
+pub returns-then-not-has_nested-clause-added : goal.returns-then-not-has_nested-clause-added
+returns-then-not-has_nested-clause-added c =
+    let apart : list_any (λ s. is_within c.args.r s || is_within s c.args.r) c.args.rects.now.items ≡ false = cc in
+    c.push_reserved.ensures.items ∙ sym (add_dirt-apart c.args.rects.now.items c.args.r apart)
 
 pub returns-then-not-is_held-clause-added : goal.returns-then-not-is_held-clause-added
 returns-then-not-is_held-clause-added c =

@@ -1,30 +1,23 @@
-use Rattle.std.proofs.Common.{sym, ◌∙◌, ap}
-use Rattle.plane_terms.specs.Carve.{carve_of}
-use Rattle.rule_loops.proofs.More.{ground_more, ground_same, ground_none}
-use Rattle.rule_loops.proofs.gaps.open_ground.Goals.{then-is_other+in_ok-outside+in_ok-ground-2, else-is_other}
+use Rattle.std.proofs.Common.{◌≡◌, Some, subst}
+use Rattle.std.specs.Prelude.{IfOk, List}
+use Rattle.plane_terms.specs.Cell.{Cell}
+use Rattle.cell_laws.proofs.Meets.{kept_have_points}
+use Rattle.topology_terms.specs.Cells.{uncovered}
+use Rattle.topology_terms.specs.Plans.{open_ground}
+use Rattle.rule_loops.specs.Open.{outsides}
+use Rattle.rule_loops.specs.Views.{of_class}
+use Rattle.rule_loops.proofs.More.{ground_left}
 use Rattle.rule_loops.proofs.gaps.open_ground.Goals as goal
 
-pub returns-then-len-eq0-clause-ground : goal.returns-then-len-eq0-clause-ground
-returns-then-len-eq0-clause-ground c = ground_none c.args.subject.now c.args.class c.args.view.now c.loop-i.i c.loop-i.ground
-    c.loop-i.invariant.ground (sym c.len.ensures ∙ c.if-len-eq0.true)
+pub left_uncovered-requires : goal.left_uncovered-requires
+left_uncovered-requires c = rw (c.in_ok-ground.ensures.ground) (kept_have_points _)
 
-pub loop-i-preserved : goal.loop-i-preserved
-loop-i-preserved c =
+pub returns-clause-ground : goal.returns-clause-ground
+returns-clause-ground c =
     let f = c.args.subject.now in
-    let g = c.feature-other.result.now in
     let n = c.args.class in
     let V = c.args.view.now in
-    let i = c.loop-i.i in
-    elim c.if-is_other.branch [
-      | then-is_other+in_ok-outside+in_ok-ground-2 w ↦ record {
-        ground = w.ground-is ∙ (w.in_ok-ground-2.ensures ∙ (ap (carve_of c.loop-i.ground) (w.deref.ensures ∙ w.in_ok-outside.ensures.cells)
-            ∙ ground_more f n V i g c.loop-i.ground c.feature-other.ensures
-            (sym c.is_other.ensures ∙ w.if-is_other.true) c.loop-i.invariant.ground));
-        uncounted = w.work-is ∙ (w.outside_of.ensures.uncounted ∙ c.loop-i.invariant.uncounted);
-      }
-      | else-is_other w ↦ record {
-        ground = w.ground-is ∙ ground_same f n V i g c.loop-i.ground c.feature-other.ensures
-            (sym c.is_other.ensures ∙ w.if-is_other.false) c.loop-i.invariant.ground;
-        uncounted = w.work-is ∙ c.loop-i.invariant.uncounted;
-      }
-    ]
+    let e : uncovered c.in_ok-ground.ground (outsides n (Some f.handle) V) ≡ open_ground f (of_class n V) =
+    rw (c.in_ok-ground.ensures.ground) (ground_left f n V) in
+    subst (λ (all : List Cell). IfOk c.left_uncovered.result (λ cells. cells ≡ all)) e
+    (rw (c.handle.ensures) at c.left_uncovered.ensures.left)
