@@ -12,13 +12,10 @@ use Rattle.error_store.specs.Frames.{framed_of, frames_if}
 use Rattle.error_store.proofs.Leaving.{within, among}
 
 -- ---- a list is filtered up to a place
-passed_over : {X : Type 0} (b : Bool) (x : X) (xs : List X) → b ≡ false → cond b (x ∷ xs) xs ≡ xs
-passed_over b x xs e = rw e refl
-
 none_passed : {X : Type 0} (p : X → Bool) (xs : List X) (k : ℕ) → AllWithin (λ x. p x ≡ false) xs 0 k → filter p (take k xs) ≡ []
 none_passed p xs zero h = refl
 none_passed p [] (suc k) h = refl
-none_passed p (x ∷ xs) (suc k) h = passed_over (p x) x (filter p (take k xs)) (h 0 x (omega arith) (omega arith))
+none_passed p (x ∷ xs) (suc k) h = ap (λ b. cond b (x ∷ filter p (take k xs)) (filter p (take k xs))) (h 0 x (omega arith) (omega arith))
     ∙ none_passed p xs k (λ j d low high. h (suc j) d (omega arith) (omega arith))
 
 -- what does not pass may be left out

@@ -7,7 +7,7 @@ use Rattle.text_terms.specs.Fields.{is_skipped}
 use Rattle.rule_words.specs.declared.rule_kind.RuleKind.{RuleKind}
 use Rattle.line_terms.specs.Commands.{Command, Form, All}
 use Rattle.line_terms.specs.Commands as form
-use Rattle.line_terms.specs.Forms.{Piece, Word, Name, Rest, HasForm, IsLine, pieces, written, kind_word, second_class, rule_number, handle, partner}
+use Rattle.line_terms.specs.Forms.{Word, Name, Rest, HasForm, IsLine, pieces, written, kind_word, second_class, rule_number, handle, partner}
 use Rattle.line_terms.specs.Lines.{Holds, IsSpelling}
 use Rattle.line_terms.specs.Windows.{IsWindow}
 use Rattle.wkt_terms.specs.Shapes.{IsShapeText}

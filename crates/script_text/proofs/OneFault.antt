@@ -13,10 +13,9 @@ use Rattle.line_terms.specs.Forms.{HasForm}
 use Rattle.line_terms.specs.Lines.{IsTextRefusal, IsFaultOf, HasFaultyForm, IsLineFault}
 use Rattle.line_terms.specs.Windows.{IsWindowFault}
 use Rattle.line_terms.specs.declared.line_refusal.LineRefusal.{LineRefusal}
-use Rattle.line_terms.specs.declared.line_refusal.LineRefusal.TheVariants.{NotALine, TooLong, OffGrid, OutOfReach, Unsupported, NotClosed, Invalid, Reversed}
+use Rattle.line_terms.specs.declared.line_refusal.LineRefusal.TheVariants.{NotALine, OffGrid, OutOfReach, Unsupported, NotClosed, Invalid, Reversed}
 use Rattle.script_text.proofs.OneForm.{one_form}
 use Rattle.script_text.specs.Faults.{fault_of}
-use Rattle.script_text.specs.declared.fault.LineFault.{LineFault}
 use Rattle.script_text.specs.declared.fault.LineFault.TheVariants.{Refused}
 
 -- ---- of a text

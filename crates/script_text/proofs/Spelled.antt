@@ -1,7 +1,7 @@
 -- What is read of a line is what it spells: of an edit's line, of a window's, and of any.
-use Rattle.std.proofs.Common.{ℕ, ℤ, zero, suc, ◌≡◌, ◌≤◌, true, false, List, [], ◌∷◌, refl, sym, ◌∙◌, ap, subst, inl, inr, Result, Ok, Err, MatchResult}
+use Rattle.std.proofs.Common.{ℕ, ◌≡◌, ◌≤◌, true, List, [], ◌∷◌, refl, sym, ◌∙◌, ap, subst, inl, inr, Result, Ok, Err, MatchResult}
 use Rattle.std.specs.Prelude.{codes, length, IsTrue, IfOk, IfErr}
-use Rattle.plane_terms.specs.Rectangle.{Rectangle, IsRectangle, IsProper, IsFirstOut, numbers_of, rect_of}
+use Rattle.plane_terms.specs.Rectangle.{Rectangle, rect_of}
 use Rattle.text_terms.specs.Fields.{is_name, is_skipped, skip_blanks, front_field, behind_field}
 use Rattle.text_terms.specs.Numbers.{IsSigned}
 use Rattle.wkt_terms.specs.WktFaults.{IsWktFault}
@@ -9,9 +9,8 @@ use Rattle.wkt_terms.specs.declared.wkt_fault.WktFault.{WktFault}
 use Rattle.wkt_terms.specs.declared.wkt_fault.WktFault.TheVariants as wkt
 use Rattle.line_terms.specs.Commands as form
 use Rattle.line_terms.specs.Commands.{Form, All, Numbers}
-use Rattle.line_terms.specs.Forms.{Word, Name, Piece, HasForm, IsLine, pieces, Rest, written}
+use Rattle.line_terms.specs.Forms.{Word, Name, HasForm, IsLine, pieces, Rest, written}
 use Rattle.line_terms.specs.Lines.{IsSpelling, IsCommandLine, IsLineFault}
-use Rattle.line_terms.specs.Windows.{IsWindow}
 use Rattle.line_terms.specs.declared.line_refusal.LineRefusal.TheVariants as refusal
 use Rattle.script_text.specs.Edits.{edit_form, behind_editor, IsEditOf, IsEditFault}
 use Rattle.script_text.specs.Faults.{fault_of, IsFault, IsRead}

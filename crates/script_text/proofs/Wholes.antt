@@ -4,11 +4,9 @@ use Rattle.std.proofs.lemmas.Bool.Decides.{nat_tests}
 use Rattle.std.proofs.lemmas.Int.{ints}
 use Rattle.std.specs.Prelude.{codes, nat_le, ◌==◌, neg_ℤ, if◌then◌else◌}
 use Rattle.plane_terms.specs.Point.{InReach}
-use Rattle.plane_terms.specs.Rectangle.{Rectangle, rect_of}
 use Rattle.text_terms.specs.Numbers.{IsSigned}
 use Rattle.wkt_terms.specs.Numerals.{value_of, is_negative, signed}
-use Rattle.script_text.specs.Wholes.{StandsFor, IsFor, AreFor, behind_minus, is_digits, whole_of}
-use Rattle.script_text.specs.declared.whole.Whole.{Whole}
+use Rattle.script_text.specs.Wholes.{StandsFor, IsFor, behind_minus, is_digits, whole_of}
 use Rattle.script_text.specs.declared.whole.Whole.TheVariants.{Within, Beyond}
 use Rattle.script_text.proofs.Numbers.{numeral, digits_of}
 

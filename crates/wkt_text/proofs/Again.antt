@@ -3,7 +3,7 @@
 -- kept, opened_same        a ring of a shape loses nothing when it is read
 -- closed_is_closed, closed_again     its closed form is closed, and makes the ring again
 -- again                    the promise
-use Rattle.std.proofs.Common.{◌≡◌, ◌≤◌, ◌-◌, true, false, cond, List, [], ◌∷◌, ◌++◌, map, length, take, get_or, length-append, refl, sym, ap, ◌∙◌, arith}
+use Rattle.std.proofs.Common.{◌≡◌, ◌≤◌, ◌-◌, true, false, cond, List, [], ◌∷◌, ◌++◌, map, length, get_or, refl, sym, ap, ◌∙◌, arith}
 use Rattle.std.specs.List.{AllByRecursion}
 use Rattle.std.specs.Prelude.{flat_map}
 use Rattle.plane_terms.specs.Lists.{Every}

@@ -3,9 +3,8 @@
 -- real ts                how many of the tokens are not the end
 -- total w xs             the sum of what w weighs of each
 -- countable              the parts of what a text of 1,048,576 bytes spells can be counted
-use Rattle.std.proofs.Common.{ℕ, ◌≡◌, ◌<◌, ◌≤◌, ◌+◌, ◌-◌, ◌^◌, List, [], ◌∷◌, ◌++◌, map, length, length-append, refl, ap, ◌∙◌, sym, subst, arith}
+use Rattle.std.proofs.Common.{ℕ, ◌≡◌, ◌<◌, ◌≤◌, ◌+◌, ◌^◌, List, [], ◌∷◌, ◌++◌, map, length, length-append, refl, ap, ◌∙◌, sym, subst, arith}
 use Rattle.std.specs.Prelude.{flat_map}
-use Rattle.std.proofs.lemmas.List.{length-map}
 use Rattle.plane_terms.specs.Point.{Place}
 use Rattle.shape.specs.Given.{all_rings, all_vertices, IsCountable}
 use Rattle.text_terms.specs.Fields.{skip_blanks}

@@ -2,14 +2,13 @@
 --
 -- polygon_from       the polygon of parts whose rings are closed
 -- lines_whole        the line of parts
-use Rattle.std.proofs.Common.{ℕ, ◌≡◌, List, [], ◌∷◌, ◌++◌, map, length, take, drop, Vec, Result, Ok, Err, MatchResult, refl, sym, ap, ◌∙◌, subst}
-use Rattle.std.specs.Global.{Global}
+use Rattle.std.proofs.Common.{◌≡◌, List, [], ◌∷◌, map, Result, Ok, Err, MatchResult, refl, sym, ap, subst}
 use Rattle.plane_terms.specs.Point.{Place}
 use Rattle.plane_terms.specs.Shape.{Shape, IsShape, shape_of}
 use Rattle.plane_terms.specs.declared.kind.Kind.TheVariants as kind
 use Rattle.shape.specs.Given.{lines_in}
 use Rattle.wkt_terms.specs.Grammar.{Lines}
-use Rattle.shape.specs.Given.{Ring, rings_in as lists_of, polygons_in as parts_of}
+use Rattle.shape.specs.Given.{Ring, rings_in as lists_of}
 use Rattle.wkt_text.specs.Faults.{closed_rings, polygon_by, IsShapeFault, IsPolygonFault}
 use Rattle.wkt_terms.specs.declared.wkt_fault.WktFault.{WktFault}
 use Rattle.wkt_terms.specs.declared.wkt_fault.WktFault.TheVariants.{Syntax, OffGrid, OutOfReach, Unsupported, NotClosed, Invalid, NoMemory}

@@ -3,7 +3,7 @@
 -- IsShapeFault s e       the parts of s make no shape, and e carries the first fault that applies; want of memory may come at any time
 -- IsPolygonFault ps e    the same of the parts ps of a polygon as they are written, or e is the number of the first ring that is not closed
 -- IsWholeFault g e       the same of a geometry
-use Rattle.std.specs.Prelude.{ℕ, ◌≡◌, true, List}
+use Rattle.std.specs.Prelude.{◌≡◌, true, List}
 use Rattle.plane_terms.specs.Lists.{Every}
 use Rattle.plane_terms.specs.Point.{Place}
 use Rattle.plane_terms.specs.Shape.{Shape, shape_of}

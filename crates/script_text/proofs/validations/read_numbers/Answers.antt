@@ -19,8 +19,8 @@ pub returns-in_err-y1 : goal.returns-in_err-y1
 returns-in_err-y1 c =
     rw c.from_residual-in_err-y1.ensures
     (λ r p.
-        (rw (c.next_field-4.ensures.field, c.next_field-3.ensures.rest, c.next_field-2.ensures.rest, c.next_field.ensures.rest)
-        at c.in_err-y1.ensures) r.y1 p.1.1.1.0)
+    (rw (c.next_field-4.ensures.field, c.next_field-3.ensures.rest, c.next_field-2.ensures.rest, c.next_field.ensures.rest)
+    at c.in_err-y1.ensures) r.y1 p.1.1.1.0)
 
 pub returns : goal.returns
 returns c =
