@@ -1,3 +1,5 @@
+ghost use Rattle.std.specs.Prelude.{◌≡◌, []};
+
 use crate::coordinate::Coordinate;
 use crate::intervals::Stretch;
 use crate::ranked::Ranked;
@@ -24,7 +26,11 @@ pub(crate) struct Room {
 
 impl Room {
     /// It takes no memory yet.
-    pub(crate) fn new(alloc: Global) -> Room {
+    pub(crate) fn new(alloc: Global) -> Room
+        ensures ranks { result.ranks.items ≡ [] }
+        ensures column { result.column.items ≡ [] }
+        ensures slots { result.slots.items ≡ [] }
+    {
         Room {
             ranks: Vec::new(alloc),
             column: Vec::new(alloc),

@@ -33,8 +33,11 @@ fn middle_of(first: Span, second: Span) -> i64
     0
 }
 
-/// The middle of what both bounds have in common. No clause says so: a point of both is only looked for there.
-pub(crate) fn middle_of_both(first: &Bounds, second: &Bounds) -> Middle {
+/// The middle of what both bounds have in common. No clause says that it is: a point of both is only looked for there.
+pub(crate) fn middle_of_both(first: &Bounds, second: &Bounds) -> Middle
+    ensures x { unsigned_abs result.x ≤ 2 ^ 23 }
+    ensures y { unsigned_abs result.y ≤ 2 ^ 23 }
+{
     Middle {
         x: middle_of(first.x, second.x),
         y: middle_of(first.y, second.y),

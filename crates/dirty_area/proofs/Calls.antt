@@ -3,7 +3,7 @@ use Rattle.std.proofs.Common.{◌≡◌, ℕ, ◌+◌, ◌<◌, ◌≤ℤ◌, ar
 use Rattle.std.specs.Prelude.{◌↔◌, ◌||◌, IsTrue, int_lt, Option, Some, None, IfSome, Result, Ok, Err, OnOk, OnErr}
 use Rattle.std.specs.Option.{option_to_list}
 use Rattle.std.specs.Int.{int_max, int_min}
-use Rattle.std.proofs.lemmas.Bool.{false≢true, or_cases, or_left, or_right}
+use Rattle.std.proofs.lemmas.Bool.{or_cases, or_left, or_parts, or_right}
 use Rattle.std.proofs.lemmas.Int.{ints, clamps}
 use Rattle.std.specs.List.{list_any, filter}
 use Rattle.std.proofs.lemmas.List.{take_more}
@@ -28,16 +28,12 @@ unfolding add_dirt
 add_dirt-loose d r e = rw e
 
 -- one that none holds and that holds none
-not_nested : (b c : Bool) → (b || c) ≡ false → (b ≡ false) × (c ≡ false)
-not_nested true c e = (e, absurd (false≢true (sym e)))
-not_nested false c e = (refl, e)
-
 none_nested : (d : List Rectangle) (r : Rectangle) → list_any (λ s. is_within r s || is_within s r) d ≡ false
     → (list_any (λ s. is_within r s) d ≡ false) × (filter (λ s. not (is_within s r)) d ≡ d)
 none_nested [] r e = (refl, refl)
 none_nested (s ∷ d) r e =
-    let k = not_nested (is_within r s || is_within s r) (list_any (λ s. is_within r s || is_within s r) d) e in
-    let m = not_nested (is_within r s) (is_within s r) k.0 in
+    let k = or_parts (is_within r s || is_within s r) (list_any (λ s. is_within r s || is_within s r) d) e in
+    let m = or_parts (is_within r s) (is_within s r) k.0 in
     let rest = none_nested d r k.1 in
     (rw (m.0, rest.0) refl, rw (m.1, rest.1) refl)
 

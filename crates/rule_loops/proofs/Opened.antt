@@ -3,9 +3,9 @@ use Rattle.std.proofs.Common.{◌≡◌, inl, inr, ℕ, ◌<◌, ◌+◌, ◌≤
 use Rattle.std.specs.Prelude.{slice_get, flat_map}
 use Rattle.std.specs.Option.{option_to_list}
 use Rattle.std.proofs.lemmas.Grind.{flat_map-append}
-use Rattle.std.proofs.lemmas.List.{take-append-drop, take_more, take_all}
+use Rattle.std.proofs.lemmas.List.{take-append-drop, take_all}
 use Rattle.std.proofs.lemmas.List.Elements.{filter-append}
-use Rattle.std.proofs.lemmas.Option.{get_or_from_slice_get, slice_get_read, slice_get_within}
+use Rattle.std.proofs.lemmas.Option.{slice_get_read}
 use Rattle.plane_terms.specs.Lists.{SomeOf}
 use Rattle.plane_terms.specs.Point.{Point}
 use Rattle.plane_terms.specs.Cell.{Cell, InCell, InCells, HasPoint, HavePoints, meet_of}
@@ -14,6 +14,7 @@ use Rattle.plane_terms.specs.Carve.{kept, carve_of}
 use Rattle.plane_terms.proofs.ListLemmas.{every_append, every_got, SomeOf-append_left, SomeOf-append_right, SomeOf-either}
 use Rattle.topology_terms.specs.Cells.{uncovered}
 use Rattle.cell_laws.proofs.Meets.{carve_points}
+use Rattle.validation_laws.proofs.Joining.{take_one}
 use Rattle.rule_laws.proofs.Uncovered.{uncovered_points, uncovered_have_points}
 use Rattle.rule_loops.specs.Open.{IsInEach, AreAmong}
 use Rattle.rule_loops.proofs.Rest.{drop_one}
@@ -38,10 +39,6 @@ some_at : {A : Type 0} (P : A → Type 0) (xs : List A) (i : ℕ) (x : A) → sl
 some_at P xs i x e h =
     let split : take i xs ++ x ∷ drop (i + 1) xs ≡ xs = ap (λ ys. take i xs ++ ys) (sym (drop_one xs i x e)) ∙ take-append-drop i xs in
     subst (SomeOf P) split (SomeOf-append_right P (take i xs) (x ∷ drop (i + 1) xs) (inl h))
-
-take_one : {A : Type 0} (xs : List A) (i : ℕ) (x : A) → slice_get xs i ≡ Some x → take (i + 1) xs ≡ take i xs ++ x ∷ []
-take_one xs i x e = take_more xs i x (slice_get_within xs i x e)
-    ∙ ap (λ y. take i xs ++ y ∷ []) (get_or_from_slice_get xs i x x e)
 
 alone : (c : Cell) (p : Point) → InCells (c ∷ []) p → InCell c p
 alone c p h = elim h [ inl a ↦ a | inr b ↦ absurd b ]

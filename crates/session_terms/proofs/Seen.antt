@@ -2,6 +2,7 @@
 --
 -- Kept, Sessions are lists by name; `at` is what stands at each handle, `bt` what stands there afterwards.
 use Rattle.std.proofs.Common.{ℕ, ◌≡◌, ◌≢◌, Bool, true, false, List, [], ◌∷◌, ◌++◌, Option, Some, refl, sym, ◌∙◌, ap, arith, eqb}
+use Rattle.std.proofs.lemmas.Bool.{or_parts}
 use Rattle.std.proofs.lemmas.Bool.Decides.{nat_tests}
 use Rattle.std.proofs.lemmas.Slice.Eq.{bytes_eq-Decides}
 use Rattle.std.specs.List.{list_any}
@@ -50,15 +51,11 @@ pub same_seen : (at : ℕ → Option Feature) (s u : KeptSession) → IsSameButR
 same_seen at s u k = rw (k.name, k.done, k.undone) refl
 
 -- ---- handles at which nothing changes
-pub or_false : (a b : Bool) → (a || b) ≡ false → (a ≡ false) × (b ≡ false)
-or_false true b e = cc
-or_false false b e = (refl, e)
-
 pub any_parts : (p : EditStep → Bool) (xs ys : List EditStep) → list_any p (xs ++ ys) ≡ false
     → (list_any p xs ≡ false) × (list_any p ys ≡ false)
 any_parts p [] ys e = (refl, e)
 any_parts p (x ∷ xs) ys e =
-    let o = or_false (p x) (list_any p (xs ++ ys)) e in
+    let o = or_parts (p x) (list_any p (xs ++ ys)) e in
     let r = any_parts p xs ys o.1 in
     (rw (o.0, r.0) refl, r.1)
 
@@ -69,14 +66,14 @@ agree_done : (at bt : ℕ → Option Feature) (h : ℕ) (f : ℕ → Option Feat
     → list_any (λ (t : EditStep). eqb t.handle h) (done_of f ts) ≡ false → AgreeAt ts at bt
 agree_done at bt h f [] o e = tt
 agree_done at bt h f (t ∷ ts) o e =
-    let p = or_false (eqb t.handle h) (list_any (λ (u : EditStep). eqb u.handle h) (done_of f ts)) e in
+    let p = or_parts (eqb t.handle h) (list_any (λ (u : EditStep). eqb u.handle h) (done_of f ts)) e in
     (o t.handle (other t.handle h p.0), agree_done at bt h f ts o p.1)
 
 agree_undone : (at bt : ℕ → Option Feature) (h : ℕ) (f : ℕ → Option Feature) (ts : List KeptStep) → ((k : ℕ) → k ≢ h → bt k ≡ at k)
     → list_any (λ (t : EditStep). eqb t.handle h) (undone_of f ts) ≡ false → AgreeAt ts at bt
 agree_undone at bt h f [] o e = tt
 agree_undone at bt h f (t ∷ ts) o e =
-    let p = or_false (eqb t.handle h) (list_any (λ (u : EditStep). eqb u.handle h) (undone_of (set_at f t.handle t.kept) ts)) e in
+    let p = or_parts (eqb t.handle h) (list_any (λ (u : EditStep). eqb u.handle h) (undone_of (set_at f t.handle t.kept) ts)) e in
     (o t.handle (other t.handle h p.0), agree_undone at bt h (set_at f t.handle t.kept) ts o p.1)
 
 pub other_seen : (at bt : ℕ → Option Feature) (h : ℕ) (s : KeptSession) → ((k : ℕ) → k ≢ h → bt k ≡ at k) → HoldsNone (seen_session at s) h
