@@ -1,0 +1,78 @@
+#!/usr/bin/env python3
+"""Lists the lines of a run of bench/all.py that miss their aims, as a table for docs/performance.md.
+
+usage: bench/misses.py < FILE      FILE is what bench/all.py --baseline printed
+
+The aims are ratios to the baseline: of time 1.5, and 2.0 for a lake and for covering and gaps; of memory 1.0, and 1.5 for covering and
+gaps. Below the table stands how many lines have a ratio, how many of them miss, and how many have none, since a run was stopped or a figure
+is below the noise. The tables of shapes, columns and cells have no aims.
+"""
+import re
+import sys
+
+WITHOUT_AIMS = {'shapes.py', 'columns.py', 'cells.py'}
+# The columns that have a ratio, and whether it is one of memory; None: as the line's name says.
+RATIOS = {'ratio': None, 'ratio of times': False, 'ratio of memory': True}
+
+
+def aim_of(command, name, is_memory):
+    """The greatest ratio that such a line may have."""
+    if command == 'coverings.py':
+        return 1.5 if is_memory else 2.0
+    if is_memory:
+        return 1.0
+    return 2.0 if name.startswith('lake') else 1.5
+
+
+def rows_of(lines):
+    """The rows of all tables: the command, and each cell by the head of its column."""
+    command, head = None, None
+    for line in lines:
+        named = re.match(r'`bench/(\w+\.py)', line)
+        if named:
+            command, head = named[1], None
+        elif line.startswith('|'):
+            cells = [cell.strip() for cell in line.strip().strip('|').split('|')]
+            if head is None:
+                head = cells
+            elif not set(line) <= set('|-: \n'):
+                yield command, dict(zip(head, cells)), head[0]
+
+
+def ratios_of(command, row, first):
+    """The ratios of a row: the line's name, whether it is one of memory, and the ratio, None where there is none."""
+    for column, of_memory in RATIOS.items():
+        if column in row:
+            name = row[first]
+            is_memory = 'memory' in name if of_memory is None else of_memory
+            if of_memory is not None:
+                name += ': memory' if of_memory else ': time'
+            text = row[column]
+            yield name, is_memory, float(text) if re.fullmatch(r'[0-9.]+', text) else None
+
+
+def main():
+    if len(sys.argv) > 1:
+        print(__doc__)
+        return 2
+    missed, judged, without = {}, 0, 0
+    for command, row, first in rows_of(sys.stdin):
+        if command in WITHOUT_AIMS:
+            continue
+        for name, is_memory, ratio in ratios_of(command, row, first):
+            aim = aim_of(command, name, is_memory)
+            if ratio is None:
+                without += 1
+                continue
+            judged += 1
+            if ratio > aim:
+                missed.setdefault((command, aim, is_memory), []).append('%s: %.2f' % (name, ratio))
+    print('| Of bench/ | Line, and its ratio | Aim |\n|---|---|---|')
+    for (command, aim, is_memory), lines in missed.items():
+        print('| `%s` | %s | %s%.1f |' % (command, '; '.join(lines), 'memory ' if is_memory else '', aim))
+    print('\n%d lines have a ratio, %d miss; %d have none' % (judged, sum(map(len, missed.values())), without))
+    return 0
+
+
+if __name__ == '__main__':
+    sys.exit(main())
