@@ -2,16 +2,18 @@
 use Rattle.std.proofs.Common.{◌≡◌, ℕ, ℤ, pos, arith, List, [], ◌∷◌, ◌++◌, Option, Some, None, refl}
 use Rattle.std.specs.Prelude.{codes}
 use Rattle.std.specs.Fmt.{digits}
+use Rattle.std.specs.Option.{option_to_list}
 use Rattle.plane_terms.specs.Point.{Place}
 use Rattle.plane_terms.specs.Rectangle.{Rectangle, rect_of, rect_at}
 use Rattle.plane_terms.specs.Dirt.{add_dirt}
 use Rattle.plane_terms.specs.Shape.{Shape, envelope_of}
 use Rattle.plane_terms.specs.declared.kind.Kind.TheVariants as shapes
-use Rattle.topology_terms.specs.Feature.{Feature, feature_at}
+use Rattle.topology_terms.specs.Feature.{Feature, by_handle, feature_at, IsSetAt}
 use Rattle.topology_terms.specs.Project.{Project}
 use Rattle.topology_terms.specs.Session.{EditStep, Session}
 use Rattle.line_terms.specs.Commands.{Begin, End, Add, Change, Undo, Redo}
-use Rattle.feature_store.proofs.Lists.{IsSplit, set_between}
+use Rattle.sound_laws.proofs.FeatureLists.{handles}
+use Rattle.sound_laws.proofs.Keyed as keyed
 use Rattle.script_terms.specs.Refusal.{HeldBy, SessionOpen, SessionsFull, NoSession, NothingToUndo, NothingToRedo}
 use Rattle.script_terms.specs.Reply.{Done, Number, Refused, FeatureList, DirtyList, reply_text}
 use Rattle.script_terms.specs.State.{State}
@@ -90,6 +92,21 @@ moved = record {
   project = wells (well 1 (pos 0) (pos 0) ∷ well 2 (pos 2) (pos 2) ∷ []) 3 d3;
   sessions =
       session ann (moved_step ∷ []) [] ∷ session bob [] [] ∷ [];
+}
+
+-- another feature of one handle, or none, between the same features
+abbrev IsSplit : ℕ → List Feature → Option Feature → List Feature → Type 0
+IsSplit h pre middle post = keyed.IsSplit by_handle handles h pre middle post
+
+abbrev joined : List Feature → Option Feature → List Feature → List Feature
+joined pre middle post = pre ++ (option_to_list middle ++ post)
+
+set_between : (h : ℕ) (pre post : List Feature) (before after : Option Feature) → IsSplit h pre before post → IsSplit h pre after post
+    → IsSetAt h after (joined pre before post) (joined pre after post)
+unfolding feature_at
+set_between h pre post before after s t = record {
+  here = keyed.split_here by_handle handles h pre after post t;
+  others = λ k n. keyed.set_other by_handle handles h pre post before after s t k n;
 }
 
 split_2 : (x : Feature) → x.handle ≡ 2 → (post : Option Feature) → IsSplit 2 (well 1 (pos 0) (pos 0) ∷ []) (Some x) []
