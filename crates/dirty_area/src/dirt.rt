@@ -93,7 +93,8 @@ impl Dirt {
     }
 
     /// Makes the rectangle dirty: nothing changes where one of the list holds it already; else those that it holds are
-    /// taken out, and it is put last. After an `Err`, want of memory, nothing has changed. Takes steps for each rectangle once.
+    /// taken out, and it is put last. After an `Err`, out of memory, nothing has changed. Looks at each rectangle once where it
+    /// neither lies in one nor holds one, and else up to three times.
     pub fn add(&mut self, r: Rect) -> Result<(), NoMemory>
         ensures ok { OnOk result (self.new ≡ add_dirt self.old r) }
         ensures err { OnErr result (self.new ≡ self.old) }

@@ -89,7 +89,7 @@ fn add_some(rects: &mut Vec<Rect>, some: Option<Rect>)
     }
 }
 
-// Adds the rectangle to a list of dirt of which one holds it, or it holds one.
+// Adds the rectangle to a list of dirt of which one may hold it, and some may lie in it.
 fn add_nested(rects: &mut Vec<Rect>, r: Rect) -> Result<(), NoMemory>
     ensures ok { OnOk result (rects.new.items ≡ add_dirt rects.old.items r) }
     ensures err { OnErr result (rects.new.items ≡ rects.old.items) }

@@ -73,11 +73,12 @@ fn act<S: Source, K: Sink, H: Shelf>(
 
 /// Does all that the program does, and gives its exit status.
 ///
-/// `words` are those after the program's name. `replay` reads the script of `source`, answers each of its lines from the empty
-/// topology and writes the replies to `sink`; `replay PROJECT` does so from the project that the shelf holds under this name, or
-/// from the empty one where it is `-`, and `replay PROJECT TARGET` then puts the project at the end under the name TARGET. `check
-/// PROJECT` writes whether the project is sound, and `report PROJECT` its errors as a table. `town SEED N` runs the script of the
-/// made town and writes its summary; other words have the usage line written.
+/// `words` are those after the program's name. `replay` reads the script of `source` in pieces, answers each of its lines from
+/// the empty topology and writes the replies to `sink`, those to a piece before it reads the next; `replay PROJECT` does so from
+/// the project that the shelf holds under this name, or from the empty one where it is `-`, and `replay PROJECT TARGET` then puts
+/// the project at the end under the name TARGET. `check PROJECT` writes whether the project is sound, and `report PROJECT` its
+/// errors as a table. `town SEED N` runs the script of the made town and writes its summary; other words have the usage line
+/// written.
 ///
 /// The clause `replay` says of each status what was read and written: the replies of a run over the lines read, in every state of
 /// which the topology is sound and settled, the headline holds, and with no dirt the errors are those of a validation from

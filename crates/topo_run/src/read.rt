@@ -10,8 +10,8 @@ use outside_terms::End;
 use std::alloc::Global;
 use topo_outside::{Sink, Source};
 
-/// The greatest number of bytes of a script.
-pub const SCRIPT_LIMIT: usize = 268_435_456;
+// The greatest number of bytes of a script.
+const SCRIPT_LIMIT: usize = 268_435_456;
 
 // The greatest number of bytes that one read asks for.
 const PIECE: usize = 65_536;
@@ -22,8 +22,10 @@ fn zeroes(alloc: Global, len: usize) -> Result<Vec<u8>, NoMemory>
     Ok(vec![in alloc; 0u8; len]?)
 }
 
-/// Reads a source to its end, to a failure or beyond the limit, and has all lines that are whole answered before it reads more.
-/// Of a piece that goes beyond the limit the bytes up to there count. Gives how the reading ended.
+/// Reads a source to its end, to a failure or beyond the limit, and has a replayer that holds nothing answer all lines that are
+/// whole before it reads more. At the end of the source what is held is the last line; what a failure or the limit cuts off is
+/// not answered. Of a piece that goes beyond the limit the bytes up to there count. Gives how the reading ended, or why the
+/// answering ended before: `WriteFault` where the sink failed, or took nothing, and `NoMemory`.
 pub fn answer_script<S: Source, K: Sink>(
     alloc: Global,
     replayer: &mut Replayer,
