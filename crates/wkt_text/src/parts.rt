@@ -56,7 +56,9 @@ fn polygon_of(alloc: Global, parts: Vec<Vec<Vec<GridPoint>>>) -> Result<Shape, W
 fn one_line(alloc: Global, places: Vec<GridPoint>) -> Result<Vec<Vec<GridPoint>>, WktFault>
     ensures { MatchResult result (λ parts. parts.items ≡ places ∷ []) (λ e. e ≡ WktFault.NoMemory) }
 {
-    let mut parts = Vec::new(alloc);
+    let Ok(mut parts) = Vec::with_capacity(alloc, 1) else {
+        return Err(WktFault::NoMemory);
+    };
     match parts.push(places) {
         Ok(()) => Ok(parts),
         Err(_) => Err(WktFault::NoMemory),
@@ -69,7 +71,9 @@ fn one_polygon(
 ) -> Result<Vec<Vec<Vec<GridPoint>>>, WktFault>
     ensures { MatchResult result (λ parts. parts.items ≡ rings ∷ []) (λ e. e ≡ WktFault.NoMemory) }
 {
-    let mut parts = Vec::new(alloc);
+    let Ok(mut parts) = Vec::with_capacity(alloc, 1) else {
+        return Err(WktFault::NoMemory);
+    };
     match parts.push(rings) {
         Ok(()) => Ok(parts),
         Err(_) => Err(WktFault::NoMemory),

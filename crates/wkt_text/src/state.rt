@@ -1,4 +1,4 @@
-ghost use Rattle.std.specs.Prelude.{◌≡◌, Ok, Err};
+ghost use Rattle.std.specs.Prelude.{◌≡◌, ◌++◌, ◌∷◌, [], Ok, Err, MatchResult};
 ghost use Rattle.wkt_laws.specs.Steps.{at_open, closed, ended, after_comma, step};
 ghost use Rattle.text_fields.specs.Numbers.{meant};
 ghost use Rattle.wkt_terms.specs.Tokens as tokens;
@@ -138,10 +138,33 @@ fn at_y(
     }
 }
 
+// Puts the positions last. Most often no others come: the first take room for themselves alone.
+fn push_positions(lists: &mut Vec<Vec<GridPoint>>, positions: Vec<GridPoint>) -> Result<(), Stop>
+    ensures { MatchResult result (λ _. lists_of lists.new.items ≡ lists_of lists.old.items ++ positions.items ∷ []) (λ stop. stop ≡ Stop.NoMemory) }
+{
+    if lists.is_empty() {
+        lists.reserve_exact(1)?;
+    }
+    lists.push(positions)?;
+    Ok(())
+}
+
+// Puts the lists last, in the same way.
+fn push_lists(parts: &mut Vec<Vec<Vec<GridPoint>>>, lists: Vec<Vec<GridPoint>>) -> Result<(), Stop>
+    ensures { MatchResult result (λ _. parts_of parts.new.items ≡ parts_of parts.old.items ++ lists_of lists.items ∷ []) (λ stop. stop ≡ Stop.NoMemory) }
+{
+    if parts.is_empty() {
+        parts.reserve_exact(1)?;
+    }
+    parts.push(lists)?;
+    Ok(())
+}
+
 // The bracket that closes positions.
-fn closed(owner: Owner, positions: Vec<GridPoint>) -> Result<State, Stop>
+fn closed(owner: Owner, mut positions: Vec<GridPoint>) -> Result<State, Stop>
     ensures { Gives state_of result (Ok (closed (owner_of owner) positions.items)) }
 {
+    positions.shrink_to_fit();
     match owner {
         Owner::Point => match positions.first() {
             Some(p) => Ok(State::Complete(Geometry::Point(*p))),
@@ -149,7 +172,7 @@ fn closed(owner: Owner, positions: Vec<GridPoint>) -> Result<State, Stop>
         },
         Owner::Line => Ok(State::Complete(Geometry::Line(positions))),
         Owner::OneOf(group, mut lists) => {
-            lists.push(positions)?;
+            push_positions(&mut lists, positions)?;
             Ok(State::AfterList(group, lists))
         }
     }
@@ -163,7 +186,7 @@ fn ended(group: Group, lists: Vec<Vec<GridPoint>>) -> Result<State, Stop>
         Group::Lines => Ok(State::Complete(Geometry::Lines(lists))),
         Group::Polygon => Ok(State::Complete(Geometry::Polygon(lists))),
         Group::Part(mut parts) => {
-            parts.push(lists)?;
+            push_lists(&mut parts, lists)?;
             Ok(State::AfterPart(parts))
         }
     }
