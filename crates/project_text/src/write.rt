@@ -12,7 +12,8 @@ use crate::lines::{
 };
 use crate::push::{push_end, push_number, push_text};
 use convex_cell::Cells;
-use error_store::Entry;
+use dirty_area::Dirt;
+use error_store::{Entry, Errors};
 use feature_store::{Slot, Store};
 use grid_plane::{NoMemory, Rect};
 use rule_core::InForce;
@@ -121,17 +122,30 @@ fn push_project(
     Ok(())
 }
 
+/// The text of the project of these parts, format 1: for each project one text. The parts stay as they are.
+pub fn write_parts(
+    alloc: Global,
+    store: &Store,
+    rules: &[InForce],
+    dirt: &Dirt,
+    errors: &Errors,
+) -> Result<Vec<u8>, NoMemory>
+    ensures { IfOk result (λ text. text.items ≡ project_text (record { classes = store.now.classes; rules = rules.now; features = store.now.features; next = store.now.next; dirt = dirt.now; entries = errors.now })) }
+{
+    let mut out = Vec::new(alloc);
+    push_project(&mut out, store, rules, dirt.rects(), errors.entries())?;
+    Ok(out)
+}
+
 /// The text of a project, format 1: for each project one text.
 pub fn write_project(alloc: Global, project: &ProjectData) -> Result<Vec<u8>, NoMemory>
     ensures { IfOk result (λ text. text.items ≡ project_text project.now) }
 {
-    let mut out = Vec::new(alloc);
-    push_project(
-        &mut out,
+    write_parts(
+        alloc,
         &project.store,
         &project.rules,
-        project.dirt.rects(),
-        project.errors.entries(),
-    )?;
-    Ok(out)
+        &project.dirt,
+        &project.errors,
+    )
 }

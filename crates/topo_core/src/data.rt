@@ -9,6 +9,7 @@ ghost use Rattle.topology_terms.specs.Feature as terms;
 ghost use Rattle.topology_terms.specs.Feature.{env};
 ghost use Rattle.topology_terms.specs.Lookups.{class_at};
 ghost use Rattle.project_terms.specs.Records.{IsRecord};
+ghost use Rattle.project_terms.specs.Written.{project_text};
 ghost use Rattle.feature_store.specs.Slots.{feature_in, filled};
 ghost use Rattle.grid_index.specs.declared.placed.Placed as seats;
 ghost use Rattle.validation.specs.Placed.{placed_of};
@@ -23,7 +24,7 @@ use error_store::Entry;
 use feature_store::{Slot, Store};
 use grid_index::Index;
 use grid_plane::NoMemory;
-use project_text::ProjectData;
+use project_text::{ProjectData, write_parts};
 use std::alloc::Global;
 
 // Puts the place of the feature in the slot, where it is filled, into the index; its envelope is a rectangle of the grid.
@@ -150,6 +151,19 @@ impl<R: KindRules> Topology<R> {
         shapes_law(self.store.features().slots());
         self.dirt.rects();
         errors_law(self.entries.entries());
+    }
+
+    /// The text of what is saved of the topology.
+    pub fn to_text(&self) -> Result<Vec<u8>, NoMemory>
+        ensures { IfOk result (λ text. text.items ≡ project_text self.now) }
+    {
+        write_parts(
+            self.alloc,
+            &self.store,
+            &self.rules,
+            &self.dirt,
+            &self.entries,
+        )
     }
 
     /// What is saved of the topology: a copy, which a later change of the topology leaves as it is.

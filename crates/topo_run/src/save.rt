@@ -9,7 +9,6 @@ use crate::open::{say_unopened, world_of};
 use crate::pieces::Replayer;
 use crate::replay::replay_from;
 use outside_terms::Status;
-use project_text::write_project;
 use std::alloc::Global;
 use topo_outside::{Shelf, ShelfFault, Sink, Source};
 
@@ -26,10 +25,9 @@ fn save<H: Shelf>(
     ensures no_memory { IsErrOf result ShelfFault.NoMemory → KeepsHeld (H.held shelf.old) (H.held shelf.new) }
     ensures later { H.faults shelf.old ≤ H.faults shelf.new }
 {
-    let Ok(saved) = replayer.root().to_data() else {
-        return Err(ShelfFault::NoMemory);
-    };
-    let Ok(text) = write_project(alloc, &saved) else {
+    let topology = replayer.root();
+    topology.record_law();
+    let Ok(text) = topology.to_text() else {
         return Err(ShelfFault::NoMemory);
     };
     shelf.put(alloc, target, &text)

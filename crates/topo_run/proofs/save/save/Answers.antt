@@ -1,4 +1,3 @@
-use Rattle.std.proofs.Common.{◌∙◌}
 use Rattle.outside_terms.specs.Shelves.{Visit}
 use Rattle.topo_run.proofs.Shelved.{puts}
 use Rattle.topo_run.proofs.save.save.Goals as goal
@@ -11,6 +10,6 @@ returns-clause-saved g c =
       before = g.H.Shelf.faults c.args.shelf.now;
       now = g.H.Shelf.faults c.put.new.self;
     } in
-    puts h c.args.target.now c.in-Ok-write_project.text.items c.deref.result.now c.args.replayer.now.state.project c.in-Ok.saved c.put.result
-    c.put.ensures.stored c.put.ensures.others c.deref.ensures.value c.in-Ok-write_project.ensures
-    (c.in-Ok.ensures.same ∙ c.root.ensures) c.in-Ok.ensures.valid
+    puts h c.args.target.now c.in-Ok.text.items c.deref.result.now c.args.replayer.now.state.project c.root-topology.result.now c.put.result
+    c.put.ensures.stored c.put.ensures.others c.deref.ensures.value c.in-Ok.ensures
+    c.root-topology.ensures c.record_law.ensures
