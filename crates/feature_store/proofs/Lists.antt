@@ -1,5 +1,5 @@
 -- Lists of slots in parts: before a handle, at it, after it.
-use Rattle.std.proofs.Common.{ℕ, zero, suc, ◌≡◌, ◌≢◌, ◌<◌, ◌≤◌, ◌+◌, true, false, List, [], ◌∷◌, ◌++◌, length, take, drop, get_or, slice_set, ltb, drop-cons, add-one, append_assoc, length-append, refl, sym, ◌∙◌, ap, subst, arith, Option, Some, None}
+use Rattle.std.proofs.Common.{ℕ, zero, suc, ◌≡◌, ◌≢◌, ◌<◌, ◌≤◌, ◌+◌, true, false, List, [], ◌∷◌, ◌++◌, length, take, drop, get_or, slice_set, ltb, drop-cons, add-one, length-append, refl, sym, ◌∙◌, ap, subst, arith, Option, Some, None}
 use Rattle.std.proofs.lemmas.Bool.Decides.{nat_tests}
 use Rattle.std.proofs.lemmas.Option.{slice_get-get_or}
 use Rattle.std.proofs.lemmas.List.{take-append-drop}
@@ -8,13 +8,13 @@ use Rattle.std.specs.Option.{option_map, option_to_list, IfSome}
 use Rattle.std.specs.List.{AllWithin}
 use Rattle.std.specs.List.Sorted.{IsNonDecreasingBy, IsPartitionPoint}
 use Rattle.plane_terms.specs.Lists.{Every}
-use Rattle.plane_terms.proofs.ListLemmas.{every_append, every_left, every_right, every_at}
+use Rattle.plane_terms.proofs.ListLemmas.{every_append, every_left, every_right, every_map, every_at}
 use Rattle.topology_terms.specs.Feature.{Feature, by_handle, feature_at, IsSetAt}
 use Rattle.sound_laws.proofs.Keyed as keyed
 use Rattle.sound_laws.proofs.Keyed.{after_later}
 use Rattle.sound_laws.proofs.FeatureLists.{handles}
 use Rattle.feature_store.specs.declared.slot.Slot.{Slot}
-use Rattle.feature_store.specs.declared.slot.Slot.TheVariants.{Filled, Empty}
+use Rattle.feature_store.specs.declared.slot.Slot.TheVariants.{Filled}
 use Rattle.feature_store.specs.Slots.{handle_in, feature_in, slot_of, by_slot, filled}
 use Rattle.feature_store.specs.Places.{AreSlots, IsPlace, IsHere, IsGap}
 use Rattle.feature_store.proofs.Filling.{slot_keys, handle_of_slot, feature_of_slot, own_feature, filled_append, filled_handles}
@@ -59,6 +59,22 @@ back t (s ∷ S) (suc i) h = back t S i (within_rest (λ (r : Slot). ltb (handle
 pub placed : (t : ℕ) (S : List Slot) (i : ℕ) → i ≤ length S → IsPartitionPoint (λ (s : Slot). ltb (handle_in s) t ≡ true)
     (λ (s : Slot). ltb (handle_in s) t ≡ false) S i → IsPlace t S i
 placed t S i within h = record { within = within; before = front t S i h.0 within; after = back t S i h.1 }
+
+-- a slot of the handle stands at its place
+pub exact : (h : ℕ) (S : List Slot) (i : ℕ) (s : Slot) → AreSlots S → i < length S → s ≡ get_or S i s → handle_in s ≡ h → IsPlace h S i
+exact h [] i s u l is same = absurd (omega arith)
+exact h (t ∷ S) zero s u l is same =
+    let e : handle_in t ≡ h = ap handle_in (sym is) ∙ same in
+    record {
+      within = omega arith;
+      before = tt;
+      after = (omega arith, every_map (λ (r : Slot). handle_in t < handle_in r) (λ (r : Slot). h ≤ handle_in r) (λ r k. omega arith) S u.0);
+    }
+exact h (t ∷ S) (suc i) s u l is same =
+    let p = exact h S i s u.1 (omega arith) is same in
+    let below : handle_in t < handle_in (get_or S i s) = every_at (λ (r : Slot). handle_in t < handle_in r) S i s u.0 (omega arith) in
+    let e : handle_in (get_or S i s) ≡ h = ap handle_in (sym is) ∙ same in
+    record { within = omega (arith, p.within); before = (omega arith, p.before); after = p.after }
 
 -- ---- what stands at a place
 head_above : (h : ℕ) (s : Slot) (S : List Slot) → AreSlots (s ∷ S) → h ≤ handle_in s → handle_in s ≢ h

@@ -1,4 +1,4 @@
-ghost use Rattle.std.specs.Prelude.{◌≡◌, ◌<◌, ◌≤◌, ◌+◌, ◌-◌, ◌^◌, ◌++◌, ◌∷◌, [], ℕ, List, length, take, drop, slice_get, Some, None, MatchOption, IfSome, IfOk, vec_len, vec_capacity};
+ghost use Rattle.std.specs.Prelude.{◌≡◌, ◌<◌, ◌≤◌, ◌+◌, ◌-◌, ◌^◌, ◌++◌, ◌∷◌, [], ℕ, List, true, length, take, drop, slice_get, Some, None, MatchOption, IfSome, IfOk, vec_len, vec_capacity};
 ghost use Rattle.std.specs.Option.{option_map, option_to_list};
 ghost use Rattle.plane_terms.specs.Lists.{Every};
 ghost use Rattle.topology_terms.specs.Feature.{Class, feature_at, IsSetAt};
@@ -14,16 +14,28 @@ use shape::Feature;
 use std::alloc::Global;
 use std::mem;
 
-// How many of the slots have handles below this one; they come first.
+// Whether the slot of this handle stands at this place.
+fn is_at(slots: &[Slot], place: usize, handle: u32) -> bool
+    requires { AreSlots slots.now }
+    ensures { result ≡ true → IsPlace handle slots.now place }
+{
+    place < slots.len() && slots[place].handle() == handle
+}
+
+// How many of the slots have handles below this one; they come first. Where no slot before it is gone, one look tells.
 fn place_of(slots: &[Slot], handle: u32) -> usize
     requires { AreSlots slots.now }
     ensures { IsPlace handle slots.now result }
 {
+    let place = handle.saturating_sub(1) as usize;
+    if is_at(slots, place, handle) {
+        return place;
+    }
     slots.partition_point(|s| s.handle() < handle)
 }
 
-/// The place of the slot of this handle; where there is none, the place at which it would stand. Takes steps for the
-/// logarithm of their number.
+/// The place of the slot of this handle; where there is none, the place at which it would stand. Takes one step where no slot
+/// before it is gone, else steps for the logarithm of their number.
 pub fn find(slots: &[Slot], handle: u32) -> Result<usize, usize>
     requires { AreSlots slots.now }
     ensures { IsFound handle slots.now result }

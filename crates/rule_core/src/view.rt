@@ -1,4 +1,4 @@
-ghost use Rattle.std.specs.Prelude.{◌≡◌, ◌<◌, [], ◌∷◌, ◌++◌, length, map, slice_get, Some, None, IsSome, MatchOption, OnOk, OnErr};
+ghost use Rattle.std.specs.Prelude.{◌≡◌, ◌<◌, [], ◌∷◌, ◌++◌, length, map, slice_get, Some, None, IsSome, MatchOption, IfOk, OnOk, OnErr};
 ghost use Rattle.std.specs.Ordering.{MatchOrdering};
 ghost use Rattle.plane_terms.specs.Lists.{Every};
 ghost use Rattle.topology_terms.specs.Feature as terms;
@@ -51,13 +51,13 @@ fn find_in<'a>(features: &[&'a Feature], handle: u32) -> Option<&'a Feature>
 }
 
 impl<'a> View<'a> {
-    /// No feature.
-    pub fn new(alloc: Global) -> View<'a>
-        ensures { result ≡ [] }
+    /// No feature, with room for so many.
+    pub fn with_room(alloc: Global, room: usize) -> Result<View<'a>, NoMemory>
+        ensures { IfOk result (λ v. v ≡ []) }
     {
-        View {
-            features: Vec::new(alloc),
-        }
+        Ok(View {
+            features: Vec::with_capacity(alloc, room)?,
+        })
     }
 
     /// How many features there are.

@@ -1,8 +1,6 @@
 -- Of the errors of an index's handles those whose frames meet the dirt are picked, as of all errors.
-use Rattle.std.proofs.Common.{◌≡◌, ◌↔◌, ℕ, zero, suc, ◌<◌, ◌≤◌, ◌+◌, ◌-◌, Bool, true, false, List, [], ◌∷◌, ◌++◌, append-nil, add-one, refl, sym, ◌∙◌, subst, arith, take, length, get_or, Contains}
-use Rattle.std.specs.Prelude.{IsTrue}
+use Rattle.std.proofs.Common.{◌≡◌, ℕ, zero, suc, ◌<◌, ◌≤◌, ◌+◌, ◌-◌, true, false, List, [], ◌∷◌, append-nil, refl, sym, subst, arith, take, length, get_or, Contains}
 use Rattle.std.specs.List.{AllWithin}
-use Rattle.std.proofs.lemmas.List.{get_or_default}
 use Rattle.plane_terms.specs.Lists.{Every}
 use Rattle.plane_terms.proofs.ListLemmas.{every_map, every_at}
 use Rattle.plane_terms.specs.Rectangle.{Rectangle}
@@ -12,7 +10,7 @@ use Rattle.validation_laws.specs.Picked.{ArePicked}
 use Rattle.validation_laws.proofs.Selecting.{picked_more}
 use Rattle.grid_index.specs.declared.placed.Placed.{Placed}
 use Rattle.error_store.specs.Frames.{framed_of, AreFramed}
-use Rattle.error_store.specs.Runs.{HasNoneOf, IsOf}
+use Rattle.error_store.specs.Runs.{HasNoneOf}
 use Rattle.validation.specs.Placed.{HasNear}
 use Rattle.validation.proofs.Picking.{covered_meets}
 

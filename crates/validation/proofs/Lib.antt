@@ -4,6 +4,7 @@ mod Elements
 mod Filters
 mod Framed
 mod Nearby
+mod Parted
 mod Picking
 mod TooFar
 pub mod Settled

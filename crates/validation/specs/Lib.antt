@@ -1,3 +1,4 @@
+pub mod Parted
 pub mod Placed
 pub mod Projects
 pub mod Sorted

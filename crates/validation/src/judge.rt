@@ -5,16 +5,16 @@ ghost use Rattle.plane_terms.specs.Cell.{IsLeastFrame};
 ghost use Rattle.topology_terms.specs.Feature.{feature_at, env, IsAscending};
 ghost use Rattle.topology_terms.specs.Broken.{judged};
 ghost use Rattle.topology_terms.specs.Entry as terms;
-ghost use Rattle.topology_terms.specs.Project as projects;
-ghost use Rattle.validation_laws.specs.Parts.{IsNewEntry, IsSubjectPart, IsRulePart, IsJudging, live_of};
+ghost use Rattle.validation_laws.specs.Parts.{IsNewEntry, IsSubjectPart};
+ghost use Rattle.validation_laws.specs.Views.{IsView};
 ghost use Rattle.validation_laws.specs.Framed.{IsFramable};
-ghost use Rattle.topology_terms.specs.Counts.{raised, judged_of};
+ghost use Rattle.topology_terms.specs.Counts.{raised};
 
 use crate::frame::frame_of;
 use crate::near::FeatureIndex;
 use error_store::{Entry, Key};
-use grid_plane::{Handles, NoMemory, Rect};
-use rule_core::{Finding, InForce, RuleSet, Work};
+use grid_plane::{NoMemory, Rect};
+use rule_core::{Finding, InForce, RuleSet, View, Work};
 use shape::Feature;
 use std::alloc::Global;
 use topology_terms::Extent;
@@ -62,6 +62,31 @@ fn add_findings(
     Ok(())
 }
 
+/// Puts the new entries of a live feature, where the rule judges it, as it is shown here.
+pub(crate) fn judge_shown<R: RuleSet>(
+    rules: &R,
+    alloc: Global,
+    rule: &InForce,
+    view: &View<'_>,
+    f: &Feature,
+    out: &mut Vec<Entry>,
+    work: &mut Work,
+) -> Result<(), NoMemory>
+    requires live { feature_at view.now f.now.handle ≡ Some f.now }
+    requires near { IsView view.now f.now view.now }
+    requires fits { R.meaning.Fits rule.now.row view.now }
+    ensures part { OnOk result ((es : List terms.Entry) × (out.new.items ≡ out.old.items ++ es) × IsSubjectPart R.meaning view.now rule.now.number rule.now.row f.now.handle es) }
+    ensures judged { OnOk result (work.new ≡ raised work.old (how_many (judged rule.now.row) (f.now ∷ []))) }
+    ensures stopped { OnErr result (work.new ≤ raised work.old (how_many (judged rule.now.row) (f.now ∷ []))) }
+{
+    f.shape().env().corner_law();
+    if !rule.row.judges(f.class()) {
+        return Ok(());
+    }
+    let findings = rules.judge_row(alloc, &rule.row, view, f.handle(), work)?;
+    add_findings(alloc, rule.number, f, findings.into_list(), out)
+}
+
 fn judge_live<R: RuleSet>(
     rules: &R,
     alloc: Global,
@@ -78,13 +103,11 @@ fn judge_live<R: RuleSet>(
     ensures judged { OnOk result (work.new ≡ raised work.old (how_many (judged rule.now.row) (f.now ∷ []))) }
     ensures stopped { OnErr result (work.new ≤ raised work.old (how_many (judged rule.now.row) (f.now ∷ []))) }
 {
-    f.shape().env().corner_law();
     if !rule.row.judges(f.class()) {
         return Ok(());
     }
     let view = features.view_of(alloc, f)?;
-    let findings = rules.judge_row(alloc, &rule.row, &view, f.handle(), work)?;
-    add_findings(alloc, rule.number, f, findings.into_list(), out)
+    judge_shown(rules, alloc, rule, &view, f, out, work)
 }
 
 /// Puts the new entries of the subject, in the order of partners; where it is not live there are none. The count of judgements
@@ -108,47 +131,4 @@ pub fn judge_subject<R: RuleSet>(
         Some(f) => judge_live(rules, alloc, rule, features, f, out, work),
         None => Ok(()),
     }
-}
-
-fn judge_rule<R: RuleSet>(
-    rules: &R,
-    alloc: Global,
-    rule: &InForce,
-    features: &FeatureIndex<'_>,
-    selected: &Handles,
-    out: &mut Vec<Entry>,
-    work: &mut Work,
-) -> Result<(), NoMemory>
-    requires ascending { IsAscending features.now }
-    requires fits { R.meaning.Fits rule.now.row features.now }
-    ensures part { OnOk result ((es : List terms.Entry) × (out.new.items ≡ out.old.items ++ es) × IsRulePart R.meaning features.now selected.now rule.now es) }
-    ensures judged { OnOk result (work.new ≡ raised work.old (how_many (judged rule.now.row) (live_of features.now selected.now))) }
-    ensures stopped { OnErr result (work.new ≤ raised work.old (how_many (judged rule.now.row) (live_of features.now selected.now))) }
-{
-    for i in 0..selected.len() {
-        judge_subject(rules, alloc, rule, features, selected.at(i), out, work)?;
-    }
-    Ok(())
-}
-
-/// Puts the new entries of the selected subjects: rule by rule, subject by subject, in the order of partners.
-pub fn judge_all<R: RuleSet>(
-    rules: &R,
-    alloc: Global,
-    in_force: &[InForce],
-    features: &FeatureIndex<'_>,
-    selected: &Handles,
-    out: &mut Vec<Entry>,
-    work: &mut Work,
-) -> Result<(), NoMemory>
-    requires ascending { IsAscending features.now }
-    requires fits { Every (λ (q : projects.InForce). R.meaning.Fits q.row features.now) in_force.now }
-    ensures part { OnOk result ((es : List terms.Entry) × (out.new.items ≡ out.old.items ++ es) × IsJudging R.meaning features.now in_force.now selected.now es) }
-    ensures judged { OnOk result (work.new ≡ raised work.old (judged_of in_force.now (live_of features.now selected.now))) }
-    ensures stopped { OnErr result (work.new ≤ raised work.old (judged_of in_force.now (live_of features.now selected.now))) }
-{
-    for rule in in_force {
-        judge_rule(rules, alloc, rule, features, selected, out, work)?;
-    }
-    Ok(())
 }

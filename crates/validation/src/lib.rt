@@ -5,6 +5,7 @@ mod dirty;
 mod frame;
 mod judge;
 mod near;
+mod parts;
 mod ruled;
 mod selection;
 mod sorted;

@@ -60,7 +60,7 @@ fn view_among<'a>(
     requires handles { IsStrictlyIncreasing handles.now }
     ensures { IfOk result (λ v. v ≡ filter (λ (g : terms.Feature). rects_meet r.now (env g)) (live_of features.now handles.now)) }
 {
-    let mut view = View::new(alloc);
+    let mut view = View::with_room(alloc, handles.len())?;
     for handle in handles {
         if let Some(f) = find_near(features, *handle, r) {
             view.push(f)?;

@@ -11,7 +11,7 @@ ghost use Rattle.validation_laws.specs.Parts.{IsRising, IsJudging, live_of};
 ghost use Rattle.topology_terms.specs.Counts.{raised, judged_of};
 ghost use Rattle.validation.specs.Projects.{HasParts, with_parts};
 
-use crate::judge::judge_all;
+use crate::parts::judge_all;
 use crate::ruled::RuledFeatures;
 use crate::selection::select;
 use dirty_area::Dirt;

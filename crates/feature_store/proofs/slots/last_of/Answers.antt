@@ -1,4 +1,4 @@
-use Rattle.std.proofs.Common.{◌≡◌, ◌+◌, ◌-◌, [], drop, subst, sym, arith}
+use Rattle.std.proofs.Common.{◌≡◌, ◌+◌, ◌-◌, [], drop, subst, arith}
 use Rattle.feature_store.specs.Slots.{filled}
 use Rattle.feature_store.proofs.Filling.{last_filled}
 use Rattle.feature_store.proofs.slots.last_of.Goals as goal

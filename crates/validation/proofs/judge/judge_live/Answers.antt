@@ -2,11 +2,9 @@ use Rattle.std.proofs.Common.{◌≡◌, ◌∙◌, sym, ap, [], false, append-n
 use Rattle.std.proofs.lemmas.Result.{on_ok_weaker}
 use Rattle.topology_terms.specs.Project.{InForce}
 use Rattle.topology_terms.specs.Broken.{judged}
-use Rattle.plane_terms.specs.Rectangle.{IsRectangle}
-use Rattle.topology_terms.specs.Feature.{env}
-use Rattle.validation_laws.proofs.Parts.{part_idle, part_judged}
+use Rattle.validation_laws.proofs.Parts.{part_idle}
 use Rattle.validation_laws.proofs.Viewed.{subject_seen, view_fits}
-use Rattle.validation_laws.proofs.Frames.{framable}
+use Rattle.validation.proofs.Parted.{view_own, part_seen}
 use Rattle.validation.proofs.judge.judge_live.Goals as goal
 
 pub returns-then-not-judges-clause-part : goal.returns-then-not-judges-clause-part
@@ -20,55 +18,23 @@ returns-then-not-judges-clause-part g c =
           c.args.rule.now.row c.args.f.now.handle c.args.f.now c.requires.live t,
     )
 
-pub judge_row-requires-clause-shown : goal.judge_row-requires-clause-shown
-judge_row-requires-clause-shown g c =
-    let f = c.args.f.now in
-    let v = c.in_ok-view.ensures in
-    record {
-      subject = f;
-      live = rw c.handle.ensures (subject_seen c.args.features.now c.in_ok-view.view f.handle f c.requires.live v);
-      judged = sym (c.judges.ensures f (sym c.class.ensures)) ∙ c.if-not-judges.false;
-      near = λ h x e. (v.forth h x e).1;
-      ascending = v.ascending;
-    }
+pub judge_shown-requires-clause-live : goal.judge_shown-requires-clause-live
+judge_shown-requires-clause-live g c = subject_seen c.args.features.now c.in_ok-view.view c.args.f.now.handle c.args.f.now c.requires.live
+    c.in_ok-view.ensures
 
-pub judge_row-requires-clause-fits : goal.judge_row-requires-clause-fits
-judge_row-requires-clause-fits g c =
-    let row = ap (λ (q : InForce). q.row) c.rule.view_is in
-    rw row (view_fits g.R.RuleSet.meaning g.met.R.RuleSet.views c.args.rule.now.row c.args.features.now c.in_ok-view.view c.args.f.now
-    c.in_ok-view.ensures c.requires.fits)
+pub judge_shown-requires-clause-near : goal.judge_shown-requires-clause-near
+judge_shown-requires-clause-near g c = view_own c.args.features.now c.in_ok-view.view c.args.f.now c.in_ok-view.ensures
 
-pub add_findings-requires : goal.add_findings-requires
-add_findings-requires g c =
-    let M = g.R.RuleSet.meaning in
-    let L = g.met.R.RuleSet.laws in
-    let F = c.args.features.now in
-    let V = c.in_ok-view.view in
-    let f = c.args.f.now in
-    let row = ap (λ (q : InForce). q.row) c.rule.view_is in
-    let v = c.in_ok-view.ensures in
-    let fits = view_fits M g.met.R.RuleSet.views c.args.rule.now.row F V f v c.requires.fits in
-    let cut = rw (row, c.handle.ensures) at c.in_ok-findings.ensures.cut in
-    let proper : IsRectangle (env f) = rw (c.env.ensures, c.shape.ensures) at c.corner_law.ensures in
-    rw c.into_list.ensures.list (framable M L g.met.R.RuleSet.right c.args.rule.now.row V f.handle f c.in_ok-findings.findings v.ascending
-    fits (subject_seen F V f.handle f c.requires.live v) proper cut c.into_list.ensures.order)
+pub judge_shown-requires-clause-fits : goal.judge_shown-requires-clause-fits
+judge_shown-requires-clause-fits g c = view_fits g.R.RuleSet.meaning g.met.R.RuleSet.views c.args.rule.now.row c.args.features.now
+    c.in_ok-view.view c.args.f.now c.in_ok-view.ensures c.requires.fits
 
 pub returns-clause-part : goal.returns-clause-part
-returns-clause-part g c =
-    let M = g.R.RuleSet.meaning in
-    let F = c.args.features.now in
-    let V = c.in_ok-view.view in
-    let f = c.args.f.now in
-    let r = c.args.rule.now.number in
-    let row = ap (λ (q : InForce). q.row) c.rule.view_is in
-    let number = ap (λ (q : InForce). q.number) c.rule.view_is in
-    let cut = rw (row, c.handle.ensures) at c.in_ok-findings.ensures.cut in
-    on_ok_weaker c.add_findings.result
+returns-clause-part g c = on_ok_weaker c.judge_shown.result
     (λ h. (
       h.0,
       h.1,
-      part_judged M g.met.R.RuleSet.laws g.met.R.RuleSet.views F V r c.args.rule.now.row f.handle f c.in_ok-findings.findings h.0
-          c.requires.ascending c.requires.fits c.requires.live c.in_ok-view.ensures cut c.into_list.ensures.order
-          (rw (number, c.into_list.ensures.list) at h.2),
+      part_seen g.R.RuleSet.meaning g.met.R.RuleSet.laws g.met.R.RuleSet.views c.args.features.now c.in_ok-view.view c.args.f.now
+          c.requires.ascending c.requires.live c.in_ok-view.ensures c.args.rule.now.number c.args.rule.now.row h.0 c.requires.fits h.2,
     ))
-    c.add_findings.ensures
+    c.judge_shown.ensures.part

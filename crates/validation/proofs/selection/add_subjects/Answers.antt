@@ -1,4 +1,4 @@
-use Rattle.std.proofs.Common.{◌+◌, ap, ◌∙◌, arith, length, subst}
+use Rattle.std.proofs.Common.{ap, ◌∙◌, arith, length}
 use Rattle.std.proofs.lemmas.List.{take_all}
 use Rattle.topology_terms.specs.Entry.{Entry}
 use Rattle.plane_terms.specs.Dirt.{MeetsDirt}

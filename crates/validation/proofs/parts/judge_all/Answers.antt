@@ -1,0 +1,38 @@
+use Rattle.std.proofs.Common.{◌≡◌, ◌∙◌, ap, subst, length, arith}
+use Rattle.std.proofs.lemmas.Result.{on_ok_weaker}
+use Rattle.shape.proofs.Changed.{written}
+use Rattle.validation_laws.specs.Parts.{IsJudging}
+use Rattle.validation.specs.Parted.{rules_of, entries_of}
+use Rattle.validation.proofs.Parted.{length_rules, rules_empty, done_empty, judging_parts}
+use Rattle.validation.proofs.parts.judge_all.Goals as goal
+
+pub judge_selected-requires-clause-fits : goal.judge_selected-requires-clause-fits
+judge_selected-requires-clause-fits g c = rw (c.deref_mut.ensures.value, c.in_ok-parts.ensures, rules_empty c.args.in_force.now) c.requires.fits
+
+pub judge_selected-requires-clause-new : goal.judge_selected-requires-clause-new
+judge_selected-requires-clause-new g c = rw (c.deref_mut.ensures.value, c.in_ok-parts.ensures) (done_empty g.R.RuleSet.meaning
+    c.args.features.now c.args.in_force.now)
+
+pub returns-clause-part : goal.returns-clause-part
+returns-clause-part g c =
+    let M = g.R.RuleSet.meaning in
+    let F = c.args.features.now in
+    let s = c.args.selected.now in
+    let new = c.judge_selected.new.parts in
+    let was = c.deref_mut.ensures.value in
+    let kept = c.in_ok-judge_selected.ensures.rules in
+    let rules : rules_of new ≡ c.args.in_force.now = kept ∙ (ap rules_of (was ∙ c.in_ok-parts.ensures) ∙ rules_empty c.args.in_force.now) in
+    let same : length new ≡ length c.in_ok-parts.parts.items = omega (
+      arith,
+      ap (λ rs. length rs) (kept ∙ ap rules_of was),
+      length_rules new,
+      length_rules c.in_ok-parts.parts.items,
+    ) in
+    let all = written c.in_ok-parts.parts.len new c.in_ok-parts.parts.items same (omega (arith, c.in_ok-parts.parts.ok)) in
+    on_ok_weaker c.put_parts.result
+    (λ h. (
+      entries_of new,
+      rw all at h,
+      subst (λ rs. IsJudging M F rs s (entries_of new)) rules (judging_parts M F s new c.in_ok-judge_selected.ensures.done),
+    ))
+    c.put_parts.ensures

@@ -1,0 +1,43 @@
+use Rattle.std.proofs.Common.{◌≡◌, ◌<◌, ◌∙◌, refl, sym, length, get_or, arith}
+use Rattle.std.proofs.lemmas.List.{get_or_default}
+use Rattle.grid_index.proofs.Levels.{on_err}
+use Rattle.validation_laws.proofs.Counting.{raised_none}
+use Rattle.validation.specs.Parted.{rules_of}
+use Rattle.validation.proofs.Parted.{judged_nothing, done_more, rules_kept, judged_subject_more, judged_subject_within}
+use Rattle.validation.proofs.parts.judge_selected.Goals as goal
+
+pub loop-i-init : goal.loop-i-init
+loop-i-init g c = (
+  c.requires.new,
+  refl,
+  rw (judged_nothing (rules_of c.args.parts.now)) (sym (raised_none c.args.work.now)),
+)
+
+pub judge_by_each-requires-clause-fits : goal.judge_by_each-requires-clause-fits
+judge_by_each-requires-clause-fits g c = rw c.loop-i.invariant.1 c.requires.fits
+
+pub returns-in_err-judge_by_each-clause-stopped : goal.returns-in_err-judge_by_each-clause-stopped
+returns-in_err-judge_by_each-clause-stopped g c =
+    let s = c.args.selected.now in
+    let i = c.loop-i.i in
+    let a = c.at.result in
+    let l : i < length s = omega (arith, c.len-i-end.ensures.value, c.loop-i-test.true) in
+    let e : a ≡ get_or s i a = c.at.ensures ∙ get_or_default s i 0 a l in
+    on_err c.from_residual.result _ (judged_subject_within (rules_of c.args.parts.now) c.args.features.now s i a c.args.work.now
+    c.loop-i.work c.judge_by_each.new.work l e c.loop-i.invariant.2 (rw c.loop-i.invariant.1 at c.in_err-judge_by_each.ensures.stopped))
+
+pub loop-i-preserved : goal.loop-i-preserved
+loop-i-preserved g c =
+    let M = g.R.RuleSet.meaning in
+    let F = c.args.features.now in
+    let s = c.args.selected.now in
+    let i = c.loop-i.i in
+    let a = c.at.result in
+    let l : i < length s = omega (arith, c.len-i-end.ensures.value, c.loop-i-test.true) in
+    let e : a ≡ get_or s i a = c.at.ensures ∙ get_or_default s i 0 a l in
+    let grown = c.in_ok-judge_by_each.ensures.grown in (
+      done_more M F s i a c.loop-i.parts c.judge_by_each.new.parts l e c.loop-i.invariant.0 grown,
+      rules_kept M F a c.loop-i.parts c.judge_by_each.new.parts grown ∙ c.loop-i.invariant.1,
+      judged_subject_more (rules_of c.args.parts.now) F s i a c.args.work.now c.loop-i.work c.judge_by_each.new.work l e
+          c.loop-i.invariant.2 (rw c.loop-i.invariant.1 at c.in_ok-judge_by_each.ensures.judged),
+    )

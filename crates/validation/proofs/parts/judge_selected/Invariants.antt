@@ -1,0 +1,11 @@
+use Rattle.std.proofs.Common.{◌≡◌, take}
+use Rattle.plane_terms.specs.Lists.{Every}
+use Rattle.topology_terms.specs.Counts.{raised, judged_of}
+use Rattle.validation_laws.specs.Parts.{live_of}
+use Rattle.validation.specs.Parted.{rules_of, IsDone}
+use Rattle.validation.proofs.parts.judge_selected.Given as goal
+
+abbrev pub invariant-loop-i : goal.invariant-loop-i
+invariant-loop-i g l = Every (IsDone g.R.RuleSet.meaning l.features (take l.i l.selected)) l.parts
+    × (rules_of l.parts ≡ rules_of l.initial.parts)
+    × (l.work ≡ raised l.initial.work (judged_of (rules_of l.initial.parts) (live_of l.features (take l.i l.selected))))

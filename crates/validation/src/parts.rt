@@ -1,0 +1,226 @@
+ghost use Rattle.std.specs.Prelude.{◌≡◌, ◌≤◌, ◌++◌, [], ◌∷◌, List, map, IfOk, OnOk, OnErr};
+ghost use Rattle.std.specs.List.{list_any};
+ghost use Rattle.std.specs.Option.{option_to_list};
+ghost use Rattle.plane_terms.specs.Lists.{Every, how_many};
+ghost use Rattle.topology_terms.specs.Feature.{feature_at, IsAscending};
+ghost use Rattle.topology_terms.specs.Broken.{judged};
+ghost use Rattle.topology_terms.specs.Entry as entries;
+ghost use Rattle.topology_terms.specs.Project as projects;
+ghost use Rattle.topology_terms.specs.Counts.{raised, judged_of};
+ghost use Rattle.validation_laws.specs.Parts.{IsJudging, live_of};
+ghost use Rattle.validation_laws.specs.Views.{IsView};
+ghost use Rattle.validation.specs.Parted.{IsGrown, AreGrown, IsDone, rules_of, entries_of};
+ghost use Rattle.validation.specs.Parted as terms;
+
+use crate::judge::judge_shown;
+use crate::near::FeatureIndex;
+use error_store::Entry;
+use grid_plane::{Handles, NoMemory};
+use rule_core::{InForce, RuleSet, View, Work};
+use shape::Feature;
+use std::alloc::Global;
+use std::marker::Model;
+
+// A rule in force, and its new entries: of the subjects so far, one after another.
+#[derive(Drop)]
+struct RulePart {
+    rule: InForce,
+    entries: Vec<Entry>,
+}
+
+impl Model for RulePart {
+    ghost use Rattle.validation.specs.Parted as terms;
+
+    ghost Value = { terms.RulePart };
+
+    ghost view = { λ p. record { rule = p.rule; entries = p.entries.items } };
+}
+
+impl RulePart {
+    // No entry yet.
+    fn new(alloc: Global, rule: InForce) -> RulePart
+        ensures { result ≡ record { rule = rule; entries = [] } }
+    {
+        RulePart {
+            rule,
+            entries: Vec::new(alloc),
+        }
+    }
+
+    // Whether the rule judges the feature.
+    fn judges(&self, f: &Feature) -> bool
+        ensures { result ≡ judged self.now.rule.row f.now }
+    {
+        self.rule.row.judges(f.class())
+    }
+
+    // Puts the new entries of the subject last, as it is shown here.
+    fn judge<R: RuleSet>(
+        &mut self,
+        rules: &R,
+        alloc: Global,
+        view: &View<'_>,
+        f: &Feature,
+        work: &mut Work,
+    ) -> Result<(), NoMemory>
+        requires live { feature_at view.now f.now.handle ≡ Some f.now }
+        requires near { IsView view.now f.now view.now }
+        requires fits { R.meaning.Fits self.old.rule.row view.now }
+        ensures grown { OnOk result (IsGrown R.meaning view.now f.now.handle self.old self.new) }
+        ensures judged { OnOk result (work.new ≡ raised work.old (how_many (judged self.old.rule.row) (f.now ∷ []))) }
+        ensures stopped { OnErr result (work.new ≤ raised work.old (how_many (judged self.old.rule.row) (f.now ∷ []))) }
+    {
+        judge_shown(rules, alloc, &self.rule, view, f, &mut self.entries, work)
+    }
+}
+
+// A part for each rule, with no entry yet.
+fn empty_parts(alloc: Global, in_force: &[InForce]) -> Result<Vec<RulePart>, NoMemory>
+    ensures { IfOk result (λ v. v.items ≡ map (λ (q : projects.InForce). record { rule = q; entries = [] }) in_force.now) }
+{
+    let mut parts = Vec::with_capacity(alloc, in_force.len())?;
+    for rule in in_force {
+        parts.push(RulePart::new(alloc, *rule))?;
+    }
+    Ok(parts)
+}
+
+// Whether one of the rules judges the feature.
+fn judges_any(parts: &[RulePart], f: &Feature) -> bool
+    ensures { result ≡ list_any (λ (p : terms.RulePart). judged p.rule.row f.now) parts.now }
+{
+    parts.iter().any(|p| p.judges(f))
+}
+
+// Each rule judges the subject, as it is shown here.
+fn judge_shown_by_each<R: RuleSet>(
+    rules: &R,
+    alloc: Global,
+    parts: &mut [RulePart],
+    view: &View<'_>,
+    f: &Feature,
+    work: &mut Work,
+) -> Result<(), NoMemory>
+    requires live { feature_at view.now f.now.handle ≡ Some f.now }
+    requires near { IsView view.now f.now view.now }
+    requires fits { Every (λ (q : projects.InForce). R.meaning.Fits q.row view.now) (rules_of parts.old) }
+    ensures grown { OnOk result (AreGrown R.meaning view.now f.now.handle parts.old parts.new) }
+    ensures judged { OnOk result (work.new ≡ raised work.old (judged_of (rules_of parts.old) (f.now ∷ []))) }
+    ensures stopped { OnErr result (work.new ≤ raised work.old (judged_of (rules_of parts.old) (f.now ∷ []))) }
+{
+    for part in parts.iter_mut() {
+        part.judge(rules, alloc, view, f, work)?;
+    }
+    Ok(())
+}
+
+// Each rule judges the live feature. What lies near it is looked up once, and only where some rule judges it.
+fn judge_live_by_each<R: RuleSet>(
+    rules: &R,
+    alloc: Global,
+    parts: &mut [RulePart],
+    features: &FeatureIndex<'_>,
+    f: &Feature,
+    work: &mut Work,
+) -> Result<(), NoMemory>
+    requires ascending { IsAscending features.now }
+    requires live { feature_at features.now f.now.handle ≡ Some f.now }
+    requires fits { Every (λ (q : projects.InForce). R.meaning.Fits q.row features.now) (rules_of parts.old) }
+    ensures grown { OnOk result (AreGrown R.meaning features.now f.now.handle parts.old parts.new) }
+    ensures judged { OnOk result (work.new ≡ raised work.old (judged_of (rules_of parts.old) (f.now ∷ []))) }
+    ensures stopped { OnErr result (work.new ≤ raised work.old (judged_of (rules_of parts.old) (f.now ∷ []))) }
+{
+    if !judges_any(parts, f) {
+        return Ok(());
+    }
+    let view = features.view_of(alloc, f)?;
+    judge_shown_by_each(rules, alloc, parts, &view, f, work)
+}
+
+// Each rule judges the subject; where it is not live, none has an entry more.
+fn judge_by_each<R: RuleSet>(
+    rules: &R,
+    alloc: Global,
+    parts: &mut [RulePart],
+    features: &FeatureIndex<'_>,
+    subject: u32,
+    work: &mut Work,
+) -> Result<(), NoMemory>
+    requires ascending { IsAscending features.now }
+    requires fits { Every (λ (q : projects.InForce). R.meaning.Fits q.row features.now) (rules_of parts.old) }
+    ensures grown { OnOk result (AreGrown R.meaning features.now subject parts.old parts.new) }
+    ensures judged { OnOk result (work.new ≡ raised work.old (judged_of (rules_of parts.old) (option_to_list (feature_at features.now subject)))) }
+    ensures stopped { OnErr result (work.new ≤ raised work.old (judged_of (rules_of parts.old) (option_to_list (feature_at features.now subject)))) }
+{
+    match features.find(subject) {
+        Some(f) => judge_live_by_each(rules, alloc, parts, features, f, work),
+        None => Ok(()),
+    }
+}
+
+// Each rule judges each of the selected subjects, of which there was no entry yet.
+fn judge_selected<R: RuleSet>(
+    rules: &R,
+    alloc: Global,
+    parts: &mut [RulePart],
+    features: &FeatureIndex<'_>,
+    selected: &Handles,
+    work: &mut Work,
+) -> Result<(), NoMemory>
+    requires ascending { IsAscending features.now }
+    requires fits { Every (λ (q : projects.InForce). R.meaning.Fits q.row features.now) (rules_of parts.old) }
+    requires new { Every (IsDone R.meaning features.now []) parts.old }
+    ensures done { OnOk result (Every (IsDone R.meaning features.now selected.now) parts.new) }
+    ensures rules { OnOk result (rules_of parts.new ≡ rules_of parts.old) }
+    ensures judged { OnOk result (work.new ≡ raised work.old (judged_of (rules_of parts.old) (live_of features.now selected.now))) }
+    ensures stopped { OnErr result (work.new ≤ raised work.old (judged_of (rules_of parts.old) (live_of features.now selected.now))) }
+{
+    for i in 0..selected.len() {
+        judge_by_each(rules, alloc, parts, features, selected.at(i), work)?;
+    }
+    Ok(())
+}
+
+// Puts the entries last. Where there were none, none is moved.
+fn put_last(out: &mut Vec<Entry>, mut entries: Vec<Entry>) -> Result<(), NoMemory>
+    ensures { OnOk result (out.new.items ≡ out.old.items ++ entries.items) }
+{
+    if out.is_empty() {
+        *out = entries;
+        return Ok(());
+    }
+    out.append(&mut entries)?;
+    Ok(())
+}
+
+// Puts the entries of each rule last, in the order of the rules.
+fn put_parts(out: &mut Vec<Entry>, parts: Vec<RulePart>) -> Result<(), NoMemory>
+    ensures { OnOk result (out.new.items ≡ out.old.items ++ entries_of parts.items) }
+{
+    for part in parts {
+        put_last(out, part.entries)?;
+    }
+    Ok(())
+}
+
+/// Puts the new entries of the selected subjects: rule by rule, subject by subject, in the order of partners. It goes subject by
+/// subject, so that what lies near one is looked up once for all rules.
+pub fn judge_all<R: RuleSet>(
+    rules: &R,
+    alloc: Global,
+    in_force: &[InForce],
+    features: &FeatureIndex<'_>,
+    selected: &Handles,
+    out: &mut Vec<Entry>,
+    work: &mut Work,
+) -> Result<(), NoMemory>
+    requires ascending { IsAscending features.now }
+    requires fits { Every (λ (q : projects.InForce). R.meaning.Fits q.row features.now) in_force.now }
+    ensures part { OnOk result ((es : List entries.Entry) × (out.new.items ≡ out.old.items ++ es) × IsJudging R.meaning features.now in_force.now selected.now es) }
+    ensures judged { OnOk result (work.new ≡ raised work.old (judged_of in_force.now (live_of features.now selected.now))) }
+    ensures stopped { OnErr result (work.new ≤ raised work.old (judged_of in_force.now (live_of features.now selected.now))) }
+{
+    let mut parts = empty_parts(alloc, in_force)?;
+    judge_selected(rules, alloc, &mut parts, features, selected, work)?;
+    put_parts(out, parts)
+}
