@@ -15,6 +15,7 @@ use Rattle.shape.specs.Kept.{rings_by, parts_by, IsClosing}
 use Rattle.plane_terms.specs.ShapeFaults.{IsPair, AreBad, IsFault, IsFlawless}
 use Rattle.shape.specs.Counts.{IsFull}
 use Rattle.shape.specs.Form.{line_shape, polygon_shape, IsDrawn}
+use Rattle.shape.specs.Frames.{AreFrames}
 use Rattle.shape.specs.Sweep.{IsPairFault}
 use Rattle.plane_terms.specs.declared.shape_fault.ShapeFault.{ShapeFault}
 use Rattle.plane_terms.specs.declared.shape_fault.ShapeFault.TheVariants.{TooFew, TooMany, Cross, Along, NoMemory}
@@ -224,10 +225,10 @@ ringed_parts : (parts : List (List (List Place))) → ¬ (SomeOf (λ part. part 
 ringed_parts [] n = tt
 ringed_parts (part ∷ parts) n = (not_empty part (λ e. n (inl e)), ringed_parts parts (λ h. n (inr h)))
 
-pub line_drawn : (ps : List Ring) (segs : List Segment) (env : Rectangle) → IsFull (line_shape ps) → Every NextDiffer (rings_in ps)
+pub line_drawn : (ps : List Ring) (segs : List Segment) (env : Rectangle) (frames : List Rectangle) → IsFull (line_shape ps) → Every NextDiffer (rings_in ps)
     → Every IsInReach (vertices_of (line_shape ps)) → segs ≡ flat_map path (rings_in ps) → env ≡ envelope_of (line_shape ps)
-    → IsDrawn (line_shape ps) segs env
-line_drawn ps segs env f d r s e =
+    → AreFrames frames segs → IsDrawn (line_shape ps) segs env frames
+line_drawn ps segs env frames f d r s e k =
     record {
       valid = record {
         some = not_empty (lines_in ps) (λ h. f.ringed (inl h));
@@ -240,13 +241,14 @@ line_drawn ps segs env f d r s e =
       };
       segments = s ∙ ap (λ (rs : List (List Place)). flat_map path rs) (sym (line_rings ps));
       envelope = e;
+      framed = k;
     }
 
-pub polygon_drawn : (ps : List (Vec Ring Global)) (segs : List Segment) (env : Rectangle) → IsFull (polygon_shape ps)
+pub polygon_drawn : (ps : List (Vec Ring Global)) (segs : List Segment) (env : Rectangle) (frames : List Rectangle) → IsFull (polygon_shape ps)
     → Every IsClosing (all_rings (polygons_in ps)) → Every IsInReach (vertices_of (polygon_shape ps))
     → segs ≡ segments_of (polygon_shape ps) → EveryPair AreSimple segs → env ≡ envelope_of (polygon_shape ps)
-    → IsDrawn (polygon_shape ps) segs env
-polygon_drawn ps segs env f d r s a e =
+    → AreFrames frames segs → IsDrawn (polygon_shape ps) segs env frames
+polygon_drawn ps segs env frames f d r s a e k =
     record {
       valid = record {
         some = not_empty (polygons_in ps) (λ h. f.ringed (inl h));
@@ -258,6 +260,7 @@ polygon_drawn ps segs env f d r s a e =
       };
       segments = s;
       envelope = e;
+      framed = k;
     }
 
 -- ---- faults

@@ -5,6 +5,7 @@ ghost use Rattle.plane_terms.specs.Segment.{IsSegment};
 ghost use Rattle.plane_terms.specs.Polygon.{IsSimpleList};
 ghost use Rattle.plane_terms.specs.Shape.{point_shape, shape_of, place_of, segments_of, ends_of, envelope_of, IsShape};
 ghost use Rattle.plane_terms.specs.declared.kind.Kind.TheVariants as kind;
+ghost use Rattle.shape.specs.Frames.{AreFrames};
 ghost use Rattle.shape.specs.Given.{lines_in, polygons_in, IsCountable};
 ghost use Rattle.plane_terms.specs.ShapeFaults.{IsFault, IsFlawless};
 
@@ -155,6 +156,17 @@ impl Shape {
             Form::Point(_) => &[],
             Form::Line(line) => &line.segs,
             Form::Polygon(polygon) => &polygon.segs,
+        }
+    }
+
+    /// Of more than 64 segments a rectangle round each block of 32; of fewer there are none.
+    pub fn frames(&self) -> &[Rect]
+        ensures { AreFrames result.now (segments_of self.now) }
+    {
+        match &self.form {
+            Form::Point(_) => &[],
+            Form::Line(line) => &line.frames,
+            Form::Polygon(polygon) => &polygon.frames,
         }
     }
 
