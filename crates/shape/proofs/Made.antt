@@ -6,7 +6,7 @@ use Rattle.std.specs.List.{flat_map}
 use Rattle.plane_terms.specs.Lists.{Every, EveryPair, SomeOf}
 use Rattle.plane_terms.specs.Point.{Place, IsInReach, same_place}
 use Rattle.plane_terms.specs.Rectangle.{Rectangle}
-use Rattle.plane_terms.specs.Segment.{Segment}
+use Rattle.plane_terms.specs.Segment.{Segment, IsSegment}
 use Rattle.plane_terms.specs.Shape.{Shape, shape_of, rings_of, vertices_of, segments_of, envelope_of, without_repeats, skip_equal, opened, ring_by, AreUnlike, NextDiffer, path, closed_path, IsPart, AreSimple}
 use Rattle.plane_terms.specs.declared.kind.Kind.{Kind}
 use Rattle.plane_terms.specs.declared.kind.Kind.TheVariants as kind
@@ -227,8 +227,8 @@ ringed_parts (part ∷ parts) n = (not_empty part (λ e. n (inl e)), ringed_part
 
 pub line_drawn : (ps : List Ring) (segs : List Segment) (env : Rectangle) (frames : List Rectangle) → IsFull (line_shape ps) → Every NextDiffer (rings_in ps)
     → Every IsInReach (vertices_of (line_shape ps)) → segs ≡ flat_map path (rings_in ps) → env ≡ envelope_of (line_shape ps)
-    → AreFrames frames segs → IsDrawn (line_shape ps) segs env frames
-line_drawn ps segs env frames f d r s e k =
+    → Every IsSegment segs → AreFrames frames segs → IsDrawn (line_shape ps) segs env frames
+line_drawn ps segs env frames f d r s e u k =
     record {
       valid = record {
         some = not_empty (lines_in ps) (λ h. f.ringed (inl h));
@@ -240,6 +240,7 @@ line_drawn ps segs env frames f d r s e k =
         simple = tt;
       };
       segments = s ∙ ap (λ (rs : List (List Place)). flat_map path rs) (sym (line_rings ps));
+      proper = u;
       envelope = e;
       framed = k;
     }
@@ -247,8 +248,8 @@ line_drawn ps segs env frames f d r s e k =
 pub polygon_drawn : (ps : List (Vec Ring Global)) (segs : List Segment) (env : Rectangle) (frames : List Rectangle) → IsFull (polygon_shape ps)
     → Every IsClosing (all_rings (polygons_in ps)) → Every IsInReach (vertices_of (polygon_shape ps))
     → segs ≡ segments_of (polygon_shape ps) → EveryPair AreSimple segs → env ≡ envelope_of (polygon_shape ps)
-    → AreFrames frames segs → IsDrawn (polygon_shape ps) segs env frames
-polygon_drawn ps segs env frames f d r s a e k =
+    → Every IsSegment segs → AreFrames frames segs → IsDrawn (polygon_shape ps) segs env frames
+polygon_drawn ps segs env frames f d r s a e u k =
     record {
       valid = record {
         some = not_empty (polygons_in ps) (λ h. f.ringed (inl h));
@@ -259,6 +260,7 @@ polygon_drawn ps segs env frames f d r s a e k =
         simple = subst (λ (ss : List Segment). EveryPair AreSimple ss) s a;
       };
       segments = s;
+      proper = u;
       envelope = e;
       framed = k;
     }

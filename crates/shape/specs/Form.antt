@@ -2,13 +2,15 @@
 --
 -- line_shape, polygon_shape     the shape of these parts
 -- shape_in form       the shape that is kept
--- IsDrawn s segs env frames     segs are the segments of the shape s, env its envelope, and the frames are round blocks of segs; s is a shape
+-- IsDrawn s segs env frames     s is a shape; segs are its segments, the lower end of each before its upper one; env is its envelope;
+--                     the frames are round blocks of the segments
 -- IsFormed form       what is kept beside the parts belongs to them
 use Rattle.std.specs.Prelude.{◌≡◌, Vec, List}
 use Rattle.std.specs.Global.{Global}
+use Rattle.plane_terms.specs.Lists.{Every}
 use Rattle.plane_terms.specs.Point.{IsInReach}
 use Rattle.plane_terms.specs.Rectangle.{Rectangle}
-use Rattle.plane_terms.specs.Segment.{Segment}
+use Rattle.plane_terms.specs.Segment.{Segment, IsSegment}
 use Rattle.plane_terms.specs.Shape.{Shape, point_shape, segments_of, envelope_of, IsShape}
 use Rattle.plane_terms.specs.declared.kind.Kind.TheVariants as kind
 use Rattle.shape.specs.declared.form.Form.{Form}
@@ -30,6 +32,7 @@ shape_in (form.Polygon polygon) = polygon_shape polygon.parts.items
 pub record IsDrawn (s : Shape) (segs : List Segment) (env : Rectangle) (frames : List Rectangle) : Type 0 where
   pub valid : IsShape s
   pub segments : segs ≡ segments_of s
+  pub proper : Every IsSegment segs
   pub envelope : env ≡ envelope_of s
   pub framed : AreFrames frames segs
 

@@ -10,7 +10,7 @@ use crate::counts::check_line;
 use crate::envelope::box_of_line;
 use crate::frames::frames_of;
 use crate::same::copy_of_rings;
-use crate::segments::push_paths;
+use crate::segments::{push_paths, segments_law};
 use crate::vertices::kept_parts;
 use grid_plane::{GridPoint, NoMemory, Rect, Seg};
 use plane_terms::ShapeFault;
@@ -37,6 +37,7 @@ fn line_of(alloc: Global, parts: Vec<Vec<GridPoint>>) -> Result<Line, ShapeFault
     check_line(&parts)?;
     let mut segs = Vec::new(alloc);
     push_paths(&mut segs, &parts)?;
+    segments_law(&segs);
     let frames = frames_of(alloc, &segs)?;
     let env = box_of_line(&parts);
     Ok(Line {

@@ -12,7 +12,7 @@ use crate::counts::check_polygon;
 use crate::envelope::box_of_polygon;
 use crate::frames::frames_of;
 use crate::same::copy_of_parts;
-use crate::segments::push_polygons;
+use crate::segments::{push_polygons, segments_law};
 use crate::sweep::check_pairs;
 use crate::vertices::closed_parts;
 use grid_plane::{GridPoint, NoMemory, Rect, Seg};
@@ -41,6 +41,7 @@ fn polygon_of(alloc: Global, parts: Vec<Vec<Vec<GridPoint>>>) -> Result<Polygon,
     let mut segs = Vec::new(alloc);
     push_polygons(&mut segs, &parts)?;
     check_pairs(alloc, &segs)?;
+    segments_law(&segs);
     let frames = frames_of(alloc, &segs)?;
     let env = box_of_polygon(&parts);
     Ok(Polygon {

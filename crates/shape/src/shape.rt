@@ -13,7 +13,6 @@ use crate::form::Form;
 use crate::line::Line;
 use crate::polygon::Polygon;
 use crate::same::{are_same_parts, are_same_rings};
-use crate::segments::segments_law;
 use grid_plane::{GridPoint, NoMemory, Rect, Seg};
 use plane_terms::{Kind, ShapeFault};
 use std::alloc::Global;
@@ -150,6 +149,7 @@ impl Shape {
     /// The segments, part by part and ring by ring: each goes from a vertex to the next, the last of a ring back to the first.
     pub fn segs(&self) -> &[Seg]
         ensures value { result.now ≡ segments_of self.now }
+        ensures proper { Every IsSegment result.now }
         ensures valid { IsShape self.now }
     {
         match &self.form {
@@ -177,7 +177,7 @@ impl Shape {
         ensures simple { self.now.kind ≡ kind.Polygon → IsSimpleList (segments_of self.now) }
         ensures boundary { self.now.kind ≡ kind.Polygon → segments_of self.now ≢ [] }
     {
-        segments_law(self.segs());
+        self.segs();
     }
 
     /// The number of segments; of a point it is 0.
