@@ -28,7 +28,7 @@ use Rattle.rule_laws.proofs.Pairs.{PairRule}
 use Rattle.rule_laws.proofs.Alone.{AloneRule}
 
 -- ---- two segments
-in_common_points : (s t : Segment) (p : Point) → IsSegment s → IsSegment t → InCells (in_common s t) p ↔ BothOn p s t
+pub in_common_points : (s t : Segment) (p : Point) → IsSegment s → IsSegment t → InCells (in_common s t) p ↔ BothOn p s t
 in_common_points s t p g h =
     let a = kept_points (meet_of (on_segment s) (on_segment t) ∷ []) p in
     let b = one_cell (meet_of (on_segment s) (on_segment t)) p in
@@ -73,7 +73,7 @@ off_each : (s t : Segment) (qs : List Place) (p : Point) → IsSegment s → IsS
 off_each s t [] p g h o = (λ k. k, λ k. k)
 off_each s t (q ∷ qs) p g h o = off_picked s t q qs p (on_both s t q) refl g h o (off_each s t qs p g h o)
 
-off_points : (es : List Place) (s t : Segment) (p : Point) → IsSegment s → IsSegment t
+pub off_points : (es : List Place) (s t : Segment) (p : Point) → IsSegment s → IsSegment t
     → InCells (off_places es s t) p ↔ (BothOn p s t × ¬ (SomeOf (λ q. IsAt q p) es))
 off_points es s t p g h =
     let x = uncovered_points (in_common s t) (map {A = Place} out_of_place (filter (on_both s t) es)) p in
@@ -83,7 +83,7 @@ off_points es s t p g h =
       λ k. x.1 (c.1 k.0, (off_each s t es p g h k.0).1 (n.1 k.1)),
     )
 
-off_have_points : (es : List Place) (s t : Segment) → HavePoints (off_places es s t)
+pub off_have_points : (es : List Place) (s t : Segment) → HavePoints (off_places es s t)
 off_have_points es s t =
     uncovered_have_points (in_common s t) (map {A = Place} out_of_place (filter (on_both s t) es))
     (kept_have_points (meet_of (on_segment s) (on_segment t) ∷ []))

@@ -53,15 +53,14 @@ module _ (paths : List Place → List Segment) (parts : List Ring) (k : ℕ) (pa
   later_left rest n h a = ap (drop n) (joined rest h) ∙ drop_at (paths part.items) later n a
 
 pub crossings_more : (parts : List Ring) (k : ℕ) (part : Ring) → k < length parts → part ≡ get_or parts k part
-    → (es : List Place) (cells more new all : List Cell) → more ≡ in_part es (path part.items)
-    (flat_map path (rings_in (drop (k + 1) parts)))
-    → new ≡ cells ++ more → cells ++ later_crossings es (rings_in (drop k parts)) ≡ all
+    → (es : List Place) (cells new all : List Cell)
+    → new ≡ cells ++ in_part es (path part.items) (flat_map path (rings_in (drop (k + 1) parts))) → cells ++ later_crossings es (rings_in (drop k parts)) ≡ all
     → new ++ later_crossings es (rings_in (drop (k + 1) parts)) ≡ all
-crossings_more parts k part l e es cells more new all a b h =
+crossings_more parts k part l e es cells new all b h =
     let rest = later_crossings es (rings_in (drop (k + 1) parts)) in
     let next = ap rings_in (item_dropped parts k part l e) in
-    ap (λ cs. cs ++ rest) b ∙ (append_assoc cells more rest
-    ∙ (ap (λ ms. cells ++ (ms ++ rest)) a ∙ (sym (ap (λ rs. cells ++ later_crossings es rs) next) ∙ h)))
+    ap (λ cs. cs ++ rest) b ∙ (append_assoc cells (in_part es (path part.items) (flat_map path (rings_in (drop (k + 1) parts)))) rest
+    ∙ (sym (ap (λ rs. cells ++ later_crossings es rs) next) ∙ h))
 
 pub paths_more : (parts : List Ring) (k : ℕ) (part : Ring) → k < length parts → part ≡ get_or parts k part
     → (done more new all : List Segment) → more ≡ path part.items → new ≡ done ++ more

@@ -25,7 +25,7 @@ none_kept c n = by_test (has_point c) refl
     by_test true e = absurd (n ((has_point-true c).0 e))
     by_test false e = refl
 
-pub nothing_shared : (s t : Segment) → IsSegment s → IsSegment t → ¬ (SharePoint s t) → in_common s t ≡ []
+nothing_shared : (s t : Segment) → IsSegment s → IsSegment t → ¬ (SharePoint s t) → in_common s t ≡ []
 nothing_shared s t g h n = none_kept (meet_of (on_segment s) (on_segment t)) none
   where
     none : ¬ (HasPoint (meet_of (on_segment s) (on_segment t)))
@@ -48,7 +48,10 @@ cond_none false cs e = refl
 pub along_apart : (s t : Segment) → IsSegment s → IsSegment t → box_meets s t ≡ false → along s t ≡ []
 along_apart s t g h e = cond_none (overlap s t) (in_common s t) (apart s t g h e)
 
-pub off_apart : (es : List Place) (s t : Segment) → IsSegment s → IsSegment t → box_meets s t ≡ false → off_places es s t ≡ []
-off_apart es s t g h e =
+pub off_nothing : (es : List Place) (s t : Segment) → IsSegment s → IsSegment t → ¬ (SharePoint s t) → off_places es s t ≡ []
+off_nothing es s t g h n =
     let outs = map {A = Place} out_of_place (filter (on_both s t) es) in
-    ap (λ cs. uncovered cs outs) (apart s t g h e) ∙ uncovered-nil outs
+    ap (λ cs. uncovered cs outs) (nothing_shared s t g h n) ∙ uncovered-nil outs
+
+pub off_apart : (es : List Place) (s t : Segment) → IsSegment s → IsSegment t → box_meets s t ≡ false → off_places es s t ≡ []
+off_apart es s t g h e = off_nothing es s t g h (boxes_apart s t g h e)

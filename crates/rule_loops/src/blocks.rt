@@ -1,7 +1,7 @@
-ghost use Rattle.std.specs.Prelude.{◌≡◌, ◌<◌, take, drop, length, flat_map, IfOk};
+ghost use Rattle.std.specs.Prelude.{◌≡◌, ◌<◌, ◌++◌, take, drop, length, flat_map, IfOk, OnOk};
 ghost use Rattle.rule_loops.specs.Blocks.{IsRound, AreRound};
 
-use crate::pairs::{Crossing, row};
+use crate::pairs::{Crossing, push_row};
 use convex_cell::Cells;
 use grid_plane::{NoMemory, Rect, Seg};
 use std::alloc::Global;
@@ -46,27 +46,27 @@ pub(crate) fn frames_of(alloc: Global, segments: &[Seg]) -> Result<Vec<Rect>, No
     Ok(frames)
 }
 
-/// What a segment gives with each of these, of which the frames are round the blocks. Blocks that do not come near are passed
-/// over.
-pub(crate) fn row_in_blocks<C: Crossing>(
+/// Puts last what a segment gives with each of these, of which the frames are round the blocks. Blocks that do not come near
+/// are passed over.
+pub(crate) fn push_in_blocks<C: Crossing>(
     alloc: Global,
     crossing: &C,
+    cells: &mut Cells,
     segment: &Seg,
     others: &[Seg],
     frames: &[Rect],
-) -> Result<Cells, NoMemory>
+) -> Result<(), NoMemory>
     requires { AreRound frames.now others.now }
-    ensures { IfOk result (λ cells. cells ≡ flat_map (C.crossing crossing.now segment.now) others.now) }
+    ensures { OnOk result (cells.new ≡ cells.old ++ flat_map (C.crossing crossing.now segment.now) others.now) }
 {
-    let mut cells = Cells::new(alloc);
     let own = segment.env();
     let mut rest = others;
     for frame in frames {
         let (block, later) = split_block(rest);
         rest = later;
         if own.meets(frame) {
-            cells.append(row(alloc, crossing, segment, block)?)?;
+            push_row(alloc, crossing, cells, segment, block)?;
         }
     }
-    Ok(cells)
+    Ok(())
 }

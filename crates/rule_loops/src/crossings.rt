@@ -1,70 +1,86 @@
-ghost use Rattle.std.specs.Prelude.{◌≡◌, [], flat_map, if◌then◌else◌, IfOk};
+ghost use Rattle.std.specs.Prelude.{◌≡◌, ◌++◌, [], flat_map, if◌then◌else◌, IfOk, OnOk};
 ghost use Rattle.plane_terms.specs.Segment.{overlap};
 ghost use Rattle.plane_terms.specs.Shape.{path};
 ghost use Rattle.shape.specs.Given.{rings_in};
 ghost use Rattle.topology_terms.specs.Cells as terms;
 
-use crate::off_places::OffPlaces;
-use crate::pairs::{Crossing, row};
+use crate::off_ends::OffEnds;
+use crate::pairs::{Crossing, push_row};
 use crate::shared::is_overlap;
 use convex_cell::Cells;
 use grid_plane::{GridPoint, NoMemory, Seg};
 use std::alloc::Global;
 
-// What a segment gives with the next of its part: nothing where they do not overlap.
-fn with_next(alloc: Global, off: &OffPlaces, segment: &Seg, next: &Seg) -> Result<Cells, NoMemory>
-    ensures { IfOk result (λ cells. cells ≡ (if overlap segment.now next.now then terms.off_places off.now segment.now next.now else [])) }
+// Puts last what a segment gives with the next of its part: nothing where they do not overlap.
+fn push_with_next(
+    alloc: Global,
+    off: &OffEnds<'_>,
+    cells: &mut Cells,
+    segment: &Seg,
+    next: &Seg,
+) -> Result<(), NoMemory>
+    ensures { OnOk result (cells.new ≡ cells.old ++ (if overlap segment.now next.now then terms.off_places off.now segment.now next.now else [])) }
 {
     if is_overlap(segment, next) {
-        return off.cells(alloc, segment, next);
+        return off.push_cells(alloc, cells, segment, next);
     }
-    Ok(Cells::new(alloc))
+    Ok(())
 }
 
-// What a segment gives with those that come after it in its part.
-fn with_own(alloc: Global, off: &OffPlaces, segment: &Seg, rest: &[Seg]) -> Result<Cells, NoMemory>
-    ensures { IfOk result (λ cells. cells ≡ terms.crossings_of off.now segment.now rest.now []) }
+// Puts last what a segment gives with those that come after it in its part.
+fn push_with_own(
+    alloc: Global,
+    off: &OffEnds<'_>,
+    cells: &mut Cells,
+    segment: &Seg,
+    rest: &[Seg],
+) -> Result<(), NoMemory>
+    ensures { OnOk result (cells.new ≡ cells.old ++ terms.crossings_of off.now segment.now rest.now []) }
 {
     match rest {
-        [] => Ok(Cells::new(alloc)),
+        [] => Ok(()),
         [next, others @ ..] => {
-            let mut cells = with_next(alloc, off, segment, next)?;
-            cells.append(row(alloc, off, segment, others)?)?;
-            Ok(cells)
+            push_with_next(alloc, off, cells, segment, next)?;
+            push_row(alloc, off, cells, segment, others)
         }
     }
 }
 
-// What a segment gives with those that come after it in its part, and with those of later parts.
-fn crossings_of(
+// Puts last what a segment gives with those that come after it in its part, and with those of later parts.
+fn push_crossings(
     alloc: Global,
-    off: &OffPlaces,
+    off: &OffEnds<'_>,
+    cells: &mut Cells,
     segment: &Seg,
     rest: &[Seg],
     later: &[Seg],
-) -> Result<Cells, NoMemory>
-    ensures { IfOk result (λ cells. cells ≡ terms.crossings_of off.now segment.now rest.now later.now) }
+) -> Result<(), NoMemory>
+    ensures { OnOk result (cells.new ≡ cells.old ++ terms.crossings_of off.now segment.now rest.now later.now) }
 {
-    let mut cells = with_own(alloc, off, segment, rest)?;
-    cells.append(row(alloc, off, segment, later)?)?;
-    Ok(cells)
+    push_with_own(alloc, off, cells, segment, rest)?;
+    push_row(alloc, off, cells, segment, later)
 }
 
-// What the segments of a part give with later ones.
-fn in_part(alloc: Global, off: &OffPlaces, part: &[Seg], later: &[Seg]) -> Result<Cells, NoMemory>
-    ensures { IfOk result (λ cells. cells ≡ terms.in_part off.now part.now later.now) }
+// Puts last what the segments of a part give with later ones.
+fn push_part(
+    alloc: Global,
+    off: &OffEnds<'_>,
+    cells: &mut Cells,
+    part: &[Seg],
+    later: &[Seg],
+) -> Result<(), NoMemory>
+    ensures { OnOk result (cells.new ≡ cells.old ++ terms.in_part off.now part.now later.now) }
 {
-    let mut cells = Cells::new(alloc);
     for i in 0..part.len() {
-        cells.append(crossings_of(alloc, off, &part[i], &part[i + 1..], later)?)?;
+        push_crossings(alloc, off, cells, &part[i], &part[i + 1..], later)?;
     }
-    Ok(cells)
+    Ok(())
 }
 
 // Part by part, what the segments give with later ones.
 pub(crate) fn later_crossings(
     alloc: Global,
-    off: &OffPlaces,
+    off: &OffEnds<'_>,
     parts: &[Vec<GridPoint>],
     segments: &[Seg],
 ) -> Result<Cells, NoMemory>
@@ -75,7 +91,7 @@ pub(crate) fn later_crossings(
     let mut rest = segments;
     for part in parts {
         let (own, later) = rest.split_at(part.len().saturating_sub(1));
-        cells.append(in_part(alloc, off, own, later)?)?;
+        push_part(alloc, off, &mut cells, own, later)?;
         rest = later;
     }
     Ok(cells)

@@ -1,60 +1,21 @@
-ghost use Rattle.std.specs.Prelude.{◌≡◌, ◌++◌, filter, IfOk, OnOk};
-ghost use Rattle.plane_terms.specs.Shape.{ends_of};
+ghost use Rattle.std.specs.Prelude.{◌≡◌, IfOk};
 ghost use Rattle.topology_terms.specs.Plans as plans;
-ghost use Rattle.topology_terms.specs.Tests as tests;
-ghost use Rattle.topology_terms.specs.Together.{ends};
 
-use crate::off_places::OffPlaces;
+use crate::off_ends::{OffEnds, Spared};
 use crate::pairs::each_pair;
-use crate::places::has_end_at;
 use convex_cell::Cells;
-use grid_plane::{GridPoint, NoMemory};
-use shape::{Feature, Shape};
+use grid_plane::NoMemory;
+use shape::Feature;
 use std::alloc::Global;
-
-/// Puts the ends of a line last, in the order of its parts; of the other kinds there are none.
-pub(crate) fn push_ends(places: &mut Vec<GridPoint>, shape: &Shape) -> Result<(), NoMemory>
-    ensures { OnOk result (places.new.items ≡ places.old.items ++ ends_of shape.now) }
-{
-    for i in 0..shape.end_count() {
-        places.push(shape.end(i))?;
-    }
-    Ok(())
-}
-
-fn ends_of_both(
-    alloc: Global,
-    subject: &Feature,
-    partner: &Feature,
-) -> Result<Vec<GridPoint>, NoMemory>
-    ensures { IfOk result (λ places. places.items ≡ ends subject.now ++ ends partner.now) }
-{
-    let mut places = Vec::new(alloc);
-    push_ends(&mut places, subject.shape())?;
-    push_ends(&mut places, partner.shape())?;
-    Ok(places)
-}
-
-// The ends of the first that are ends of the second too.
-fn shared_ends(alloc: Global, first: &Shape, second: &Shape) -> Result<Vec<GridPoint>, NoMemory>
-    ensures { IfOk result (λ places. places.items ≡ filter (tests.has_end_at (ends_of second.now)) (ends_of first.now)) }
-{
-    let mut places = Vec::new(alloc);
-    for i in 0..first.end_count() {
-        let place = first.end(i);
-        if has_end_at(second, place) {
-            places.push(place)?;
-        }
-    }
-    Ok(places)
-}
 
 /// What two lines have in common, but for the ends of both.
 pub fn common_inner(alloc: Global, subject: &Feature, partner: &Feature) -> Result<Cells, NoMemory>
     ensures { IfOk result (λ cells. cells ≡ plans.common_inner subject.now partner.now) }
 {
-    let off = OffPlaces {
-        places: ends_of_both(alloc, subject, partner)?,
+    let off = OffEnds {
+        first: subject.shape(),
+        second: partner.shape(),
+        spared: Spared::OfEither,
     };
     each_pair(alloc, &off, subject.shape().segs(), partner.shape().segs())
 }
@@ -67,8 +28,10 @@ pub fn common_but_ends(
 ) -> Result<Cells, NoMemory>
     ensures { IfOk result (λ cells. cells ≡ plans.common_but_ends subject.now partner.now) }
 {
-    let off = OffPlaces {
-        places: shared_ends(alloc, subject.shape(), partner.shape())?,
+    let off = OffEnds {
+        first: subject.shape(),
+        second: partner.shape(),
+        spared: Spared::OfBoth,
     };
     each_pair(alloc, &off, subject.shape().segs(), partner.shape().segs())
 }

@@ -6,8 +6,7 @@ ghost use Rattle.topology_terms.specs.Cells as terms;
 ghost use Rattle.topology_terms.specs.Plans as plans;
 
 use crate::crossings::later_crossings;
-use crate::inner::push_ends;
-use crate::off_places::OffPlaces;
+use crate::off_ends::{OffEnds, Spared};
 use convex_cell::Cells;
 use grid_plane::{GridPoint, NoMemory, Seg};
 use plane_terms::Kind;
@@ -15,7 +14,7 @@ use shape::{Feature, Shape};
 use std::alloc::Global;
 
 // A point has no segments.
-fn point_crossings(alloc: Global, off: &OffPlaces, point: &Shape) -> Result<Cells, NoMemory>
+fn point_crossings(alloc: Global, off: &OffEnds<'_>, point: &Shape) -> Result<Cells, NoMemory>
     requires { point.now.kind ≡ kind.Point }
     ensures { IfOk result (λ cells. cells ≡ terms.later_crossings off.now (rings_of point.now)) }
 {
@@ -23,7 +22,7 @@ fn point_crossings(alloc: Global, off: &OffPlaces, point: &Shape) -> Result<Cell
     Ok(Cells::new(alloc))
 }
 
-fn line_crossings(alloc: Global, off: &OffPlaces, line: &Shape) -> Result<Cells, NoMemory>
+fn line_crossings(alloc: Global, off: &OffEnds<'_>, line: &Shape) -> Result<Cells, NoMemory>
     requires { line.now.kind ≡ kind.Line }
     ensures { IfOk result (λ cells. cells ≡ terms.later_crossings off.now (rings_of line.now)) }
 {
@@ -87,7 +86,7 @@ fn open_paths(
 }
 
 // Of the rings of a polygon as if each were a part of a line, from its first vertex to its last.
-fn polygon_crossings(alloc: Global, off: &OffPlaces, polygon: &Shape) -> Result<Cells, NoMemory>
+fn polygon_crossings(alloc: Global, off: &OffEnds<'_>, polygon: &Shape) -> Result<Cells, NoMemory>
     requires { polygon.now.kind ≡ kind.Polygon }
     ensures { IfOk result (λ cells. cells ≡ terms.later_crossings off.now (rings_of polygon.now)) }
 {
@@ -96,7 +95,7 @@ fn polygon_crossings(alloc: Global, off: &OffPlaces, polygon: &Shape) -> Result<
     later_crossings(alloc, off, &rings, &segments)
 }
 
-fn shape_crossings(alloc: Global, off: &OffPlaces, shape: &Shape) -> Result<Cells, NoMemory>
+fn shape_crossings(alloc: Global, off: &OffEnds<'_>, shape: &Shape) -> Result<Cells, NoMemory>
     ensures { IfOk result (λ cells. cells ≡ terms.later_crossings off.now (rings_of shape.now)) }
 {
     match shape.kind() {
@@ -111,7 +110,10 @@ pub fn own_crossings(alloc: Global, subject: &Feature) -> Result<Cells, NoMemory
     ensures { IfOk result (λ cells. cells ≡ plans.own_crossings subject.now []) }
 {
     let shape = subject.shape();
-    let mut places = Vec::new(alloc);
-    push_ends(&mut places, shape)?;
-    shape_crossings(alloc, &OffPlaces { places }, shape)
+    let off = OffEnds {
+        first: shape,
+        second: shape,
+        spared: Spared::OfFirst,
+    };
+    shape_crossings(alloc, &off, shape)
 }

@@ -1,9 +1,9 @@
-ghost use Rattle.std.specs.Prelude.{◌≡◌, false, [], List, flat_map, IfOk};
+ghost use Rattle.std.specs.Prelude.{◌≡◌, ◌++◌, false, [], List, flat_map, IfOk, OnOk};
 ghost use Rattle.plane_terms.specs.Cell as planes;
 ghost use Rattle.plane_terms.specs.Segment.{Segment, IsSegment};
 ghost use Rattle.topology_terms.specs.Cells as terms;
 
-use crate::blocks::{frames_of, row_in_blocks};
+use crate::blocks::{frames_of, push_in_blocks};
 use convex_cell::Cells;
 use grid_plane::{NoMemory, Seg};
 use std::alloc::Global;
@@ -12,30 +12,36 @@ use std::alloc::Global;
 pub trait Crossing {
     ghost crossing: { Self → Segment → Segment → List planes.Cell };
 
-    /// The cells that the two segments give.
-    fn cells(&self, alloc: Global, first: &Seg, second: &Seg) -> Result<Cells, NoMemory>
-        ensures { IfOk result (λ cells. cells ≡ crossing self.now first.now second.now) };
+    /// Puts the cells that the two segments give last.
+    fn push_cells(
+        &self,
+        alloc: Global,
+        cells: &mut Cells,
+        first: &Seg,
+        second: &Seg,
+    ) -> Result<(), NoMemory>
+        ensures { OnOk result (cells.new ≡ cells.old ++ crossing self.now first.now second.now) };
 
     ghost apart: { (x : Self) (s t : Segment) → IsSegment s → IsSegment t → terms.box_meets s t ≡ false → crossing x s t ≡ [] };
 }
 
-// What a segment gives with each of these. Those whose box does not meet its own are passed over.
-pub(crate) fn row<C: Crossing>(
+// Puts last what a segment gives with each of these. Those whose box does not meet its own are passed over.
+pub(crate) fn push_row<C: Crossing>(
     alloc: Global,
     crossing: &C,
+    cells: &mut Cells,
     segment: &Seg,
     others: &[Seg],
-) -> Result<Cells, NoMemory>
-    ensures { IfOk result (λ cells. cells ≡ flat_map (C.crossing crossing.now segment.now) others.now) }
+) -> Result<(), NoMemory>
+    ensures { OnOk result (cells.new ≡ cells.old ++ flat_map (C.crossing crossing.now segment.now) others.now) }
 {
-    let mut cells = Cells::new(alloc);
     let own = segment.env();
     for other in others {
         if own.meets(&other.env()) {
-            cells.append(crossing.cells(alloc, segment, other)?)?;
+            crossing.push_cells(alloc, cells, segment, other)?;
         }
     }
-    Ok(cells)
+    Ok(())
 }
 
 /// What each of these segments gives with each of the others.
@@ -50,7 +56,7 @@ pub fn each_pair<C: Crossing>(
     let frames = frames_of(alloc, others)?;
     let mut cells = Cells::new(alloc);
     for segment in segments {
-        cells.append(row_in_blocks(alloc, crossing, segment, others, &frames)?)?;
+        push_in_blocks(alloc, crossing, &mut cells, segment, others, &frames)?;
     }
     Ok(cells)
 }
@@ -65,7 +71,13 @@ pub fn each_later<C: Crossing>(
 {
     let mut cells = Cells::new(alloc);
     for i in 0..segments.len() {
-        cells.append(row(alloc, crossing, &segments[i], &segments[i + 1..])?)?;
+        push_row(
+            alloc,
+            crossing,
+            &mut cells,
+            &segments[i],
+            &segments[i + 1..],
+        )?;
     }
     Ok(cells)
 }

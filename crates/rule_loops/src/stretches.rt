@@ -4,7 +4,7 @@ ghost use Rattle.topology_terms.specs.Plans as plans;
 ghost use Rattle.rule_loops.specs.Apart.{along_apart};
 
 use crate::pairs::{Crossing, each_later, each_pair};
-use crate::shared::along;
+use crate::shared::push_along;
 use convex_cell::Cells;
 use grid_plane::{NoMemory, Seg};
 use shape::Feature;
@@ -16,8 +16,14 @@ struct Along;
 impl Crossing for Along {
     ghost crossing = { λ x s t. terms.along s t };
 
-    fn cells(&self, alloc: Global, first: &Seg, second: &Seg) -> Result<Cells, NoMemory> {
-        along(alloc, first, second)
+    fn push_cells(
+        &self,
+        alloc: Global,
+        cells: &mut Cells,
+        first: &Seg,
+        second: &Seg,
+    ) -> Result<(), NoMemory> {
+        push_along(alloc, cells, first, second)
     }
 
     ghost apart = { λ x s t g h e. along_apart s t g h e };

@@ -7,6 +7,7 @@ pub mod Changed
 pub mod Dropped
 pub mod Ends
 pub mod Filled
+pub mod Framed
 pub mod Held
 pub mod Made
 pub mod Opening

@@ -6,7 +6,7 @@ use Rattle.std.specs.List.{flat_map}
 use Rattle.plane_terms.specs.Lists.{Every, EveryPair, SomeOf}
 use Rattle.plane_terms.specs.Point.{Place, IsInReach, same_place}
 use Rattle.plane_terms.specs.Rectangle.{Rectangle}
-use Rattle.plane_terms.specs.Segment.{Segment}
+use Rattle.plane_terms.specs.Segment.{Segment, IsSegment}
 use Rattle.plane_terms.specs.Shape.{Shape, shape_of, rings_of, vertices_of, segments_of, envelope_of, without_repeats, skip_equal, opened, ring_by, AreUnlike, NextDiffer, path, closed_path, IsPart, AreSimple}
 use Rattle.plane_terms.specs.declared.kind.Kind.{Kind}
 use Rattle.plane_terms.specs.declared.kind.Kind.TheVariants as kind
@@ -15,6 +15,7 @@ use Rattle.shape.specs.Kept.{rings_by, parts_by, IsClosing}
 use Rattle.plane_terms.specs.ShapeFaults.{IsPair, AreBad, IsFault, IsFlawless}
 use Rattle.shape.specs.Counts.{IsFull}
 use Rattle.shape.specs.Form.{line_shape, polygon_shape, IsDrawn}
+use Rattle.shape.specs.Frames.{AreFrames}
 use Rattle.shape.specs.Sweep.{IsPairFault}
 use Rattle.plane_terms.specs.declared.shape_fault.ShapeFault.{ShapeFault}
 use Rattle.plane_terms.specs.declared.shape_fault.ShapeFault.TheVariants.{TooFew, TooMany, Cross, Along, NoMemory}
@@ -224,10 +225,10 @@ ringed_parts : (parts : List (List (List Place))) → ¬ (SomeOf (λ part. part 
 ringed_parts [] n = tt
 ringed_parts (part ∷ parts) n = (not_empty part (λ e. n (inl e)), ringed_parts parts (λ h. n (inr h)))
 
-pub line_drawn : (ps : List Ring) (segs : List Segment) (env : Rectangle) → IsFull (line_shape ps) → Every NextDiffer (rings_in ps)
+pub line_drawn : (ps : List Ring) (segs : List Segment) (env : Rectangle) (frames : List Rectangle) → IsFull (line_shape ps) → Every NextDiffer (rings_in ps)
     → Every IsInReach (vertices_of (line_shape ps)) → segs ≡ flat_map path (rings_in ps) → env ≡ envelope_of (line_shape ps)
-    → IsDrawn (line_shape ps) segs env
-line_drawn ps segs env f d r s e =
+    → Every IsSegment segs → AreFrames frames segs → IsDrawn (line_shape ps) segs env frames
+line_drawn ps segs env frames f d r s e u k =
     record {
       valid = record {
         some = not_empty (lines_in ps) (λ h. f.ringed (inl h));
@@ -239,14 +240,16 @@ line_drawn ps segs env f d r s e =
         simple = tt;
       };
       segments = s ∙ ap (λ (rs : List (List Place)). flat_map path rs) (sym (line_rings ps));
+      proper = u;
       envelope = e;
+      framed = k;
     }
 
-pub polygon_drawn : (ps : List (Vec Ring Global)) (segs : List Segment) (env : Rectangle) → IsFull (polygon_shape ps)
+pub polygon_drawn : (ps : List (Vec Ring Global)) (segs : List Segment) (env : Rectangle) (frames : List Rectangle) → IsFull (polygon_shape ps)
     → Every IsClosing (all_rings (polygons_in ps)) → Every IsInReach (vertices_of (polygon_shape ps))
     → segs ≡ segments_of (polygon_shape ps) → EveryPair AreSimple segs → env ≡ envelope_of (polygon_shape ps)
-    → IsDrawn (polygon_shape ps) segs env
-polygon_drawn ps segs env f d r s a e =
+    → Every IsSegment segs → AreFrames frames segs → IsDrawn (polygon_shape ps) segs env frames
+polygon_drawn ps segs env frames f d r s a e u k =
     record {
       valid = record {
         some = not_empty (polygons_in ps) (λ h. f.ringed (inl h));
@@ -257,7 +260,9 @@ polygon_drawn ps segs env f d r s a e =
         simple = subst (λ (ss : List Segment). EveryPair AreSimple ss) s a;
       };
       segments = s;
+      proper = u;
       envelope = e;
+      framed = k;
     }
 
 -- ---- faults

@@ -1,5 +1,6 @@
 pub mod Counts
 pub mod Form
+pub mod Frames
 pub mod Given
 pub mod Kept
 pub mod Sweep

@@ -5,6 +5,7 @@ mod counts;
 mod envelope;
 mod feature;
 mod form;
+mod frames;
 mod line;
 mod numbered;
 mod pair;

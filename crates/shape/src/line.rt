@@ -8,8 +8,9 @@ ghost use Rattle.shape.specs.Form.{line_shape, IsDrawn};
 
 use crate::counts::check_line;
 use crate::envelope::box_of_line;
+use crate::frames::frames_of;
 use crate::same::copy_of_rings;
-use crate::segments::push_paths;
+use crate::segments::{push_paths, segments_law};
 use crate::vertices::kept_parts;
 use grid_plane::{GridPoint, NoMemory, Rect, Seg};
 use plane_terms::ShapeFault;
@@ -21,6 +22,7 @@ pub(crate) struct Line {
     pub(crate) parts: Vec<Vec<GridPoint>>,
     pub(crate) segs: Vec<Seg>,
     pub(crate) env: Rect,
+    pub(crate) frames: Vec<Rect>,
 }
 
 /// The line of parts of which the vertices are those that are kept.
@@ -28,22 +30,29 @@ fn line_of(alloc: Global, parts: Vec<Vec<GridPoint>>) -> Result<Line, ShapeFault
     requires countable { IsCountable (lines_in parts.items) }
     requires differ { Every NextDiffer (rings_in parts.items) }
     ensures parts { IfOk result (λ l. l.parts.items ≡ parts.items) }
-    ensures drawn { IfOk result (λ l. IsDrawn (line_shape parts.items) l.segs.items l.env) }
+    ensures drawn { IfOk result (λ l. IsDrawn (line_shape parts.items) l.segs.items l.env l.frames.items) }
     ensures flawless { IfOk result (λ _. IsFlawless (line_shape parts.items)) }
     ensures refused { IfErr result (λ fault. IsFault (line_shape parts.items) fault) }
 {
     check_line(&parts)?;
     let mut segs = Vec::new(alloc);
     push_paths(&mut segs, &parts)?;
+    segments_law(&segs);
+    let frames = frames_of(alloc, &segs)?;
     let env = box_of_line(&parts);
-    Ok(Line { parts, segs, env })
+    Ok(Line {
+        parts,
+        segs,
+        env,
+        frames,
+    })
 }
 
 impl Line {
     pub(crate) fn of(alloc: Global, parts: Vec<Vec<GridPoint>>) -> Result<Line, ShapeFault>
         requires { IsCountable (lines_in parts.items) }
         ensures made { IfOk result (λ l. line_shape l.parts.items ≡ shape_of kind.Line (lines_in parts.items)) }
-        ensures drawn { IfOk result (λ l. IsDrawn (line_shape l.parts.items) l.segs.items l.env) }
+        ensures drawn { IfOk result (λ l. IsDrawn (line_shape l.parts.items) l.segs.items l.env l.frames.items) }
         ensures flawless { IfOk result (λ _. IsFlawless (shape_of kind.Line (lines_in parts.items))) }
         ensures refused { IfErr result (λ fault. IsFault (shape_of kind.Line (lines_in parts.items)) fault) }
     {
@@ -68,11 +77,13 @@ impl Line {
         ensures parts { IfOk result (λ l. line_shape l.parts.items ≡ line_shape self.now.parts.items) }
         ensures segs { IfOk result (λ l. l.segs.items ≡ self.now.segs.items) }
         ensures env { IfOk result (λ l. l.env ≡ self.now.env) }
+        ensures frames { IfOk result (λ l. l.frames.items ≡ self.now.frames.items) }
     {
         Ok(Line {
             parts: copy_of_rings(alloc, &self.parts)?,
             segs: Vec::from_slice(alloc, &self.segs)?,
             env: self.env,
+            frames: Vec::from_slice(alloc, &self.frames)?,
         })
     }
 }

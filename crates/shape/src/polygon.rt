@@ -10,8 +10,9 @@ ghost use Rattle.shape.specs.Form.{polygon_shape, IsDrawn};
 
 use crate::counts::check_polygon;
 use crate::envelope::box_of_polygon;
+use crate::frames::frames_of;
 use crate::same::copy_of_parts;
-use crate::segments::push_polygons;
+use crate::segments::{push_polygons, segments_law};
 use crate::sweep::check_pairs;
 use crate::vertices::closed_parts;
 use grid_plane::{GridPoint, NoMemory, Rect, Seg};
@@ -24,6 +25,7 @@ pub(crate) struct Polygon {
     pub(crate) parts: Vec<Vec<Vec<GridPoint>>>,
     pub(crate) segs: Vec<Seg>,
     pub(crate) env: Rect,
+    pub(crate) frames: Vec<Rect>,
 }
 
 /// The polygon of parts of which the vertices are those that are kept.
@@ -31,7 +33,7 @@ fn polygon_of(alloc: Global, parts: Vec<Vec<Vec<GridPoint>>>) -> Result<Polygon,
     requires countable { IsCountable (polygons_in parts.items) }
     requires closing { IsFull (polygon_shape parts.items) → Every IsClosing (all_rings (polygons_in parts.items)) }
     ensures parts { IfOk result (λ g. g.parts.items ≡ parts.items) }
-    ensures drawn { IfOk result (λ g. IsDrawn (polygon_shape parts.items) g.segs.items g.env) }
+    ensures drawn { IfOk result (λ g. IsDrawn (polygon_shape parts.items) g.segs.items g.env g.frames.items) }
     ensures flawless { IfOk result (λ _. IsFlawless (polygon_shape parts.items)) }
     ensures refused { IfErr result (λ fault. IsFault (polygon_shape parts.items) fault) }
 {
@@ -39,15 +41,22 @@ fn polygon_of(alloc: Global, parts: Vec<Vec<Vec<GridPoint>>>) -> Result<Polygon,
     let mut segs = Vec::new(alloc);
     push_polygons(&mut segs, &parts)?;
     check_pairs(alloc, &segs)?;
+    segments_law(&segs);
+    let frames = frames_of(alloc, &segs)?;
     let env = box_of_polygon(&parts);
-    Ok(Polygon { parts, segs, env })
+    Ok(Polygon {
+        parts,
+        segs,
+        env,
+        frames,
+    })
 }
 
 impl Polygon {
     pub(crate) fn of(alloc: Global, parts: Vec<Vec<Vec<GridPoint>>>) -> Result<Polygon, ShapeFault>
         requires { IsCountable (polygons_in parts.items) }
         ensures made { IfOk result (λ g. polygon_shape g.parts.items ≡ shape_of kind.Polygon (polygons_in parts.items)) }
-        ensures drawn { IfOk result (λ g. IsDrawn (polygon_shape g.parts.items) g.segs.items g.env) }
+        ensures drawn { IfOk result (λ g. IsDrawn (polygon_shape g.parts.items) g.segs.items g.env g.frames.items) }
         ensures flawless { IfOk result (λ _. IsFlawless (shape_of kind.Polygon (polygons_in parts.items))) }
         ensures refused { IfErr result (λ fault. IsFault (shape_of kind.Polygon (polygons_in parts.items)) fault) }
     {
@@ -58,11 +67,13 @@ impl Polygon {
         ensures parts { IfOk result (λ g. polygon_shape g.parts.items ≡ polygon_shape self.now.parts.items) }
         ensures segs { IfOk result (λ g. g.segs.items ≡ self.now.segs.items) }
         ensures env { IfOk result (λ g. g.env ≡ self.now.env) }
+        ensures frames { IfOk result (λ g. g.frames.items ≡ self.now.frames.items) }
     {
         Ok(Polygon {
             parts: copy_of_parts(alloc, &self.parts)?,
             segs: Vec::from_slice(alloc, &self.segs)?,
             env: self.env,
+            frames: Vec::from_slice(alloc, &self.frames)?,
         })
     }
 }

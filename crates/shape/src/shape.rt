@@ -5,6 +5,7 @@ ghost use Rattle.plane_terms.specs.Segment.{IsSegment};
 ghost use Rattle.plane_terms.specs.Polygon.{IsSimpleList};
 ghost use Rattle.plane_terms.specs.Shape.{point_shape, shape_of, place_of, segments_of, ends_of, envelope_of, IsShape};
 ghost use Rattle.plane_terms.specs.declared.kind.Kind.TheVariants as kind;
+ghost use Rattle.shape.specs.Frames.{AreFrames};
 ghost use Rattle.shape.specs.Given.{lines_in, polygons_in, IsCountable};
 ghost use Rattle.plane_terms.specs.ShapeFaults.{IsFault, IsFlawless};
 
@@ -12,7 +13,6 @@ use crate::form::Form;
 use crate::line::Line;
 use crate::polygon::Polygon;
 use crate::same::{are_same_parts, are_same_rings};
-use crate::segments::segments_law;
 use grid_plane::{GridPoint, NoMemory, Rect, Seg};
 use plane_terms::{Kind, ShapeFault};
 use std::alloc::Global;
@@ -149,12 +149,24 @@ impl Shape {
     /// The segments, part by part and ring by ring: each goes from a vertex to the next, the last of a ring back to the first.
     pub fn segs(&self) -> &[Seg]
         ensures value { result.now ≡ segments_of self.now }
+        ensures proper { Every IsSegment result.now }
         ensures valid { IsShape self.now }
     {
         match &self.form {
             Form::Point(_) => &[],
             Form::Line(line) => &line.segs,
             Form::Polygon(polygon) => &polygon.segs,
+        }
+    }
+
+    /// Of more than 64 segments a rectangle round each block of 32; of fewer there are none.
+    pub fn frames(&self) -> &[Rect]
+        ensures { AreFrames result.now (segments_of self.now) }
+    {
+        match &self.form {
+            Form::Point(_) => &[],
+            Form::Line(line) => &line.frames,
+            Form::Polygon(polygon) => &polygon.frames,
         }
     }
 
@@ -165,7 +177,7 @@ impl Shape {
         ensures simple { self.now.kind ≡ kind.Polygon → IsSimpleList (segments_of self.now) }
         ensures boundary { self.now.kind ≡ kind.Polygon → segments_of self.now ≢ [] }
     {
-        segments_law(self.segs());
+        self.segs();
     }
 
     /// The number of segments; of a point it is 0.

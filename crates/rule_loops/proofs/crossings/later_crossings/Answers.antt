@@ -27,7 +27,6 @@ loop-part-preserved c =
     let own = c.split_at.ensures.front ∙ own_taken path P k p l e rest n h m in
     record {
       rest = later;
-      cells = crossings_more P k p l e c.args.off.now c.loop-part.cells c.in_ok-in_part.field-0 c.append.new.self
-          (terms.later_crossings c.args.off.now (rings_in P)) (rw (own, later) at c.in_ok-in_part.ensures) c.in_ok-append.ensures.ok
-          c.loop-part.invariant.cells;
+      cells = crossings_more P k p l e c.args.off.now c.loop-part.cells c.push_part.new.cells (terms.later_crossings c.args.off.now (rings_in P))
+          (rw (own, later) at c.in_ok-push_part.ensures) c.loop-part.invariant.cells;
     }

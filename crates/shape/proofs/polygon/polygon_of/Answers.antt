@@ -2,12 +2,13 @@ use Rattle.std.proofs.Common.{◌∙◌, ap, sym, subst, List, Vec, ◌++◌, fl
 use Rattle.std.specs.Global.{Global}
 use Rattle.plane_terms.specs.Lists.{Every, EveryPair}
 use Rattle.plane_terms.specs.Point.{IsInReach}
-use Rattle.plane_terms.specs.Segment.{Segment}
+use Rattle.plane_terms.specs.Segment.{Segment, IsSegment}
 use Rattle.plane_terms.specs.Shape.{closed_path, vertices_of, segments_of, envelope_of, AreSimple}
 use Rattle.shape.specs.Given.{Ring, polygons_in, all_rings}
 use Rattle.shape.specs.Kept.{IsClosing}
 use Rattle.shape.specs.Counts.{IsFull}
 use Rattle.plane_terms.specs.ShapeFaults.{IsPair, AreBad, IsFault}
+use Rattle.shape.specs.Frames.{AreFrames}
 use Rattle.shape.specs.Form.{polygon_shape}
 use Rattle.shape.specs.Sweep.{IsPairFault}
 use Rattle.shape.proofs.Made.{in_parts, segments_count, polygon_drawn, full_flawless, pair_fault}
@@ -60,11 +61,13 @@ returns-clause-drawn c =
     ∙ ap (λ (ss : List Segment). ss ++ flat_map closed_path (all_rings (polygons_in c.deref-2.result.now))) c.new-segs.ensures.items
     ∙ ap (λ (qs : List (Vec Ring Global)). flat_map closed_path (all_rings (polygons_in qs))) c.deref-2.ensures.value in
     let reach =
-    subst (λ (qs : List (Vec Ring Global)). Every IsInReach (vertices_of (polygon_shape qs))) c.deref-4.ensures.value
+    subst (λ (qs : List (Vec Ring Global)). Every IsInReach (vertices_of (polygon_shape qs))) c.deref-6.ensures.value
     c.box_of_polygon-env.ensures.reach in
     let simple = subst (λ (ss : List Segment). EveryPair AreSimple ss) c.deref-3.ensures.value c.in_ok-check_pairs.ensures.simple in
-    polygon_drawn ps c.push_polygons.new.segs.items c.box_of_polygon-env.result full (c.requires.closing full) reach segs simple
-    (c.box_of_polygon-env.ensures.value ∙ ap (λ (qs : List (Vec Ring Global)). envelope_of (polygon_shape qs)) c.deref-4.ensures.value)
+    polygon_drawn ps c.push_polygons.new.segs.items c.box_of_polygon-env.result c.in_ok-frames.frames.items full (c.requires.closing full) reach segs simple
+    (c.box_of_polygon-env.ensures.value ∙ ap (λ (qs : List (Vec Ring Global)). envelope_of (polygon_shape qs)) c.deref-6.ensures.value)
+    (subst (Every IsSegment) c.deref-4.ensures.value c.segments_law.ensures)
+    (subst (AreFrames c.in_ok-frames.frames.items) c.deref-5.ensures.value c.in_ok-frames.ensures)
 
 pub returns-clause-flawless : goal.returns-clause-flawless
 returns-clause-flawless c =

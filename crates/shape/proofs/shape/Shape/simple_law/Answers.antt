@@ -15,7 +15,7 @@ each_pair (s ∷ ss) h = (with_one s ss h.0, each_pair ss h.1)
 
 pub returns-clause-simple : goal.returns-clause-simple
 returns-clause-simple c = λ e. record {
-  proper = subst (Every IsSegment) c.segs.ensures.value c.segments_law.ensures;
+  proper = subst (Every IsSegment) c.segs.ensures.value c.segs.ensures.proper;
   simple = each_pair (segments_of c.args.self.now) (subst (λ k. IsSimple k (segments_of c.args.self.now)) e c.segs.ensures.valid.simple);
 }
 

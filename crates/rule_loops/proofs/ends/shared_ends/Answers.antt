@@ -5,8 +5,8 @@ use Rattle.plane_terms.specs.Shape.{ends_of}
 use Rattle.shape.specs.Given.{Ring}
 use Rattle.topology_terms.specs.Tests.{has_end_at}
 use Rattle.rule_loops.proofs.Rest.{passing_more, passing_same}
-use Rattle.rule_loops.proofs.inner.shared_ends.Goals.{then-has_end_at+in_ok-push, else-has_end_at}
-use Rattle.rule_loops.proofs.inner.shared_ends.Goals as goal
+use Rattle.rule_loops.proofs.ends.shared_ends.Goals.{then-has_end_at+in_ok-push, else-has_end_at}
+use Rattle.rule_loops.proofs.ends.shared_ends.Goals as goal
 
 pub loop-i-preserved : goal.loop-i-preserved
 loop-i-preserved c =

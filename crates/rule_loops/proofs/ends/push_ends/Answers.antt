@@ -1,7 +1,7 @@
 use Rattle.std.proofs.Common.{[], ◌∷◌, ◌∙◌, take, append_assoc}
 use Rattle.plane_terms.specs.Shape.{ends_of}
 use Rattle.validation_laws.proofs.Joining.{take_one}
-use Rattle.rule_loops.proofs.inner.push_ends.Goals as goal
+use Rattle.rule_loops.proofs.ends.push_ends.Goals as goal
 
 pub loop-i-preserved : goal.loop-i-preserved
 loop-i-preserved c =

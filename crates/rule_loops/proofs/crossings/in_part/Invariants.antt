@@ -1,6 +1,0 @@
-use Rattle.std.proofs.Common.{◌≡◌, ◌++◌, drop}
-use Rattle.topology_terms.specs.Cells as terms
-use Rattle.rule_loops.proofs.crossings.in_part.Given as goal
-
-abbrev pub invariant-loop-i : goal.invariant-loop-i
-invariant-loop-i l = l.cells ++ terms.in_part l.off (drop l.i l.part) l.later ≡ terms.in_part l.off l.part l.later

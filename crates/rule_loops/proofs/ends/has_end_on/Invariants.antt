@@ -1,0 +1,8 @@
+use Rattle.std.proofs.Common.{◌≡◌, false, take}
+use Rattle.std.specs.List.{list_any}
+use Rattle.plane_terms.specs.Shape.{ends_of}
+use Rattle.topology_terms.specs.Cells.{on_both}
+use Rattle.rule_loops.proofs.ends.has_end_on.Given as goal
+
+abbrev pub invariant-loop-i : goal.invariant-loop-i
+invariant-loop-i l = list_any (on_both l.first l.second) (take l.i (ends_of l.line)) ≡ false

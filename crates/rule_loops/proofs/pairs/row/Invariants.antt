@@ -1,6 +1,0 @@
-use Rattle.std.proofs.Common.{◌≡◌, take}
-use Rattle.std.specs.Prelude.{flat_map}
-use Rattle.rule_loops.proofs.pairs.row.Given as goal
-
-abbrev pub invariant-loop-other : goal.invariant-loop-other
-invariant-loop-other g l = l.cells ≡ flat_map (g.C.Crossing.crossing l.crossing l.segment) (take l.other-index l.others)
