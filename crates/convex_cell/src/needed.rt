@@ -116,7 +116,12 @@ fn push_other(needed: &mut Vec<Half>, half: &Half, x: Reach, y: Reach) -> Result
     Ok(())
 }
 
-pub(crate) fn push_others(needed: &mut Vec<Half>, halves: &[Half], x: Reach, y: Reach) -> Result<(), NoMemory>
+pub(crate) fn push_others(
+    needed: &mut Vec<Half>,
+    halves: &[Half],
+    x: Reach,
+    y: Reach,
+) -> Result<(), NoMemory>
     requires x { FitsReach x }
     requires y { FitsReach y }
     requires framed { (p : Point) → All (λ h. Holds h p) needed.old.items → IsInFrame x y p }

@@ -207,12 +207,13 @@ impl Piece {
         if is_clear_of(&self.halves, &self.bounds, other, &other_bounds) {
             return Ok(None);
         }
+        let len = self.halves.len();
         let mark = Mark {
-            len: self.halves.len(),
+            len,
             bounds: self.bounds,
         };
         if let Err(full) = push_more(&mut self.halves, &self.bounds, &other.halves) {
-            self.halves.truncate(mark.len);
+            self.halves.truncate(len);
             return Err(full);
         }
         self.bounds = common_bounds(&mark.bounds, &other_bounds);

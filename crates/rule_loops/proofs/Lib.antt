@@ -9,5 +9,6 @@ mod Opened
 mod Parts
 mod Rest
 mod Seen
+mod Shut
 mod Spots
 mod Tested

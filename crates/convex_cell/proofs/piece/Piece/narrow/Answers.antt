@@ -28,8 +28,8 @@ returns-clause-some c = λ d e.
     let all : Cell = c.push_more.new.halves.items in
     let same : d ≡ c.cell-other.result.now = cc in
     let is : more ≡ d = c.deref-2.ensures.value ∙ (c.other.view_is ∙ sym same) in
-    let long : c.len.result ≡ length own = search rules in
-    let made : IsNarrowed (record { len = c.len.result; bounds = c.self.inside.bounds }) own more all = record {
+    let long : c.len-len.result ≡ length own = search rules in
+    let made : IsNarrowed (record { len = c.len-len.result; bounds = c.self.inside.bounds }) own more all = record {
       points = in_both own more all c.in_default.ensures.points;
       begins = c.in_default.ensures.begins;
       mark = record { long = long; bounds = c.self.invariant };
