@@ -14,3 +14,4 @@ pub mod Both
 pub mod Steps
 pub mod Within
 pub mod Middles
+pub mod Pieces

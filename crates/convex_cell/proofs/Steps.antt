@@ -21,7 +21,7 @@ use Rattle.cell_laws.specs.Bounds.{Above}
 use Rattle.cell_laws.proofs.Outside.{turned_value}
 use Rattle.convex_cell.proofs.Spans.{floor_at, rounded_holds}
 use Rattle.convex_cell.specs.declared.bounds.Bounds.{Bounds}
-use Rattle.convex_cell.specs.Span.{After, Before, IsBoundsOf, AreApart, Follows, AreRisingTo}
+use Rattle.convex_cell.specs.Span.{After, Before, IsSpan, InBounds, IsBoundsOf, AreApart, Follows, AreRisingTo}
 use Rattle.std.proofs.lemmas.Bool.{cases_Bool}
 use Rattle.plane_terms.specs.Decide.{has_point}
 use Rattle.cell_laws.proofs.Decision.{has_point-true}
@@ -67,7 +67,7 @@ after_over u t w h = record {
     through a b c h k = omega (arith, ints)
 
 -- the same, seen from the other side
-scaled_neg : (v : ℤ) (w : ℕ) → neg_ℤ v *ℤ pos w ≡ neg_ℤ (v *ℤ pos w)
+pub scaled_neg : (v : ℤ) (w : ℕ) → neg_ℤ v *ℤ pos w ≡ neg_ℤ (v *ℤ pos w)
 scaled_neg v w = same_by (neg (num v) ⊗ num (pos w)) (neg (num v ⊗ num (pos w))) (omega arith)
 
 pub before_from_after : (k t : ℤ) (w : ℕ) → After k (neg_ℤ t) w → Before (neg_ℤ k) t w
@@ -209,15 +209,21 @@ no_meet c d never = elim (cases_Bool (has_point (meet_of c d))) [
   | inr e ↦ e
 ]
 
+pub never_in : (b e : Bounds) → AreApart b e → IsSpan b.x → IsSpan b.y → IsSpan e.x → IsSpan e.y → (p : Point) → InBounds b p → InBounds e p
+    → ⊥
+never_in b e (inl h) bx by ex ey p m n = never_both b.x.to e.x.from p.x p.w h bx.to_low ex.from_high m.along.before n.along.after
+never_in b e (inr (inl h)) bx by ex ey p m n = never_both e.x.to b.x.from p.x p.w h ex.to_low bx.from_high n.along.before m.along.after
+never_in b e (inr (inr (inl h))) bx by ex ey p m n = never_both b.y.to e.y.from p.y p.w h by.to_low ey.from_high m.up.before n.up.after
+never_in b e (inr (inr (inr h))) bx by ex ey p m n = never_both e.y.to b.y.from p.y p.w h ey.to_low by.from_high n.up.before m.up.after
+
+pub in_bounds : (b : Bounds) (c : Cell) → IsBoundsOf b c → (p : Point) → InCell c p → InBounds b p
+in_bounds b c i p m = record { along = i.x p m; up = i.y p m }
+
+pub never_in_cells : (b e : Bounds) (c d : Cell) → AreApart b e → IsBoundsOf b c → IsBoundsOf e d → (p : Point) → InCell c p → ¬ (InCell d p)
+never_in_cells b e c d h i j p m n = never_in b e h i.x_fits i.y_fits j.x_fits j.y_fits p (in_bounds b c i p m) (in_bounds e d j p n)
+
 pub apart : (b e : Bounds) (c d : Cell) → AreApart b e → IsBoundsOf b c → IsBoundsOf e d → has_point (meet_of c d) ≡ false
-apart b e c d (inl h) i j = no_meet c d (λ p m n. never_both b.x.to e.x.from p.x p.w h i.x_fits.to_low j.x_fits.from_high (i.x p m).before
-    (j.x p n).after)
-apart b e c d (inr (inl h)) i j = no_meet c d (λ p m n. never_both e.x.to b.x.from p.x p.w h j.x_fits.to_low i.x_fits.from_high
-    (j.x p n).before (i.x p m).after)
-apart b e c d (inr (inr (inl h))) i j = no_meet c d (λ p m n. never_both b.y.to e.y.from p.y p.w h i.y_fits.to_low j.y_fits.from_high
-    (i.y p m).before (j.y p n).after)
-apart b e c d (inr (inr (inr h))) i j = no_meet c d (λ p m n. never_both e.y.to b.y.from p.y p.w h j.y_fits.to_low i.y_fits.from_high
-    (j.y p n).before (i.y p m).after)
+apart b e c d h i j = no_meet c d (never_in_cells b e c d h i j)
 
 -- what may be passed over adds nothing
 pub none_kept : (b e : Bounds) (c d : Cell) (cs : List Cell) → AreApart b e → IsBoundsOf b c → IsBoundsOf e d

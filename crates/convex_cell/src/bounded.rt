@@ -1,10 +1,13 @@
-ghost use Rattle.std.specs.Prelude.{◌≡◌, ◌<◌, length, IfOk};
+ghost use Rattle.std.specs.Prelude.{◌≡◌, ℕ, ◌⊎◌, ◌<◌, ◌≤◌, List, length, slice_get, Some, IfOk};
 ghost use Rattle.std.specs.Bool.{OnTrue};
 ghost use Rattle.std.specs.List.{AllZip};
+ghost use Rattle.plane_terms.specs.Point.{Point};
+ghost use Rattle.plane_terms.specs.HalfPlane.{HalfPlane};
+ghost use Rattle.plane_terms.specs.Cell.{InCell};
 ghost use Rattle.plane_terms.specs.Carve.{carve_of};
 ghost use Rattle.convex_cell.specs.Span.{IsBoundsOf, AreRisingTo};
 
-use crate::bounds::{Bounds, are_rising};
+use crate::bounds::{Bounds, Window, are_rising, window_of};
 use crate::cells::{Cells, all_bounds, carved_by};
 use grid_plane::NoMemory;
 use std::alloc::Global;
@@ -71,6 +74,23 @@ impl BoundedCells {
         ensures { result.now ≡ self.now }
     {
         &self.cells
+    }
+
+    /// The bounds of a cell of the list.
+    pub(crate) fn bounds_at(&self, i: usize) -> Bounds
+        requires { i < length self.now }
+        ensures { (d : List HalfPlane) → slice_get self.now i ≡ Some d → IsBoundsOf result d }
+    {
+        self.bounds[i]
+    }
+
+    /// The places of all cells that may have a point in common with a cell of these bounds.
+    pub(crate) fn window(&self, own: &Bounds) -> Window
+        ensures fits { result.last ≤ length self.now }
+        ensures clear { (c : List HalfPlane) → IsBoundsOf own.now c → (k : ℕ) → (d : List HalfPlane) → slice_get self.now k ≡ Some d
+            → (k < result.first) ⊎ (result.last ≤ k) → (p : Point) → InCell c p → ¬ (InCell d p) }
+    {
+        window_of(&self.bounds, own, self.rising)
     }
 
     /// What `Cells::carve` makes of this list and the other.

@@ -1,4 +1,4 @@
-ghost use Rattle.std.specs.Prelude.{◌≡◌, not, ◌↔◌, ℕ, ℤ, pos, ◌<ℤ◌, ◌≤ℤ◌, ◌*ℤ◌, ◌+ℤ◌, ◌≤◌, ◌<◌, ◌+◌, ◌^◌, unsigned_abs, All, IfSome, IfOk, OnOk};
+ghost use Rattle.std.specs.Prelude.{◌≡◌, not, ◌↔◌, ℕ, ℤ, pos, ◌<ℤ◌, ◌≤ℤ◌, ◌*ℤ◌, ◌+ℤ◌, ◌≤◌, ◌<◌, ◌+◌, ◌^◌, unsigned_abs, length, take, All, IfSome, IfOk, OnOk};
 ghost use Rattle.std.specs.Bool.{OnTrue};
 ghost use Rattle.plane_terms.specs.Point.{Point};
 ghost use Rattle.plane_terms.specs.HalfPlane.{Holds, value_at};
@@ -25,7 +25,7 @@ pub struct Reach {
 }
 
 /// Whole numbers round a span, where they are small enough.
-fn reach_of(span: Span) -> Option<Reach>
+pub(crate) fn reach_of(span: Span) -> Option<Reach>
     requires { IsSpan span }
     ensures fits { IfSome result FitsReach }
     ensures sound { IfSome result (λ r. (z : ℤ) → (w : ℕ) → InSpan span z w → Reaches r z w) }
@@ -106,7 +106,8 @@ fn push_other(needed: &mut Vec<Half>, half: &Half, x: Reach, y: Reach) -> Result
     requires x { FitsReach x }
     requires y { FitsReach y }
     requires framed { (p : Point) → All (λ h. Holds h p) needed.old.items → IsInFrame x y p }
-    ensures { OnOk result ((p : Point) → All (λ h. Holds h p) needed.new.items ↔ (All (λ h. Holds h p) needed.old.items × Holds half.now p)) }
+    ensures points { OnOk result ((p : Point) → All (λ h. Holds h p) needed.new.items ↔ (All (λ h. Holds h p) needed.old.items × Holds half.now p)) }
+    ensures begins { take (length needed.old.items) needed.new.items ≡ needed.old.items }
 {
     if holds_within(half, x, y) {
         return Ok(());
@@ -115,12 +116,18 @@ fn push_other(needed: &mut Vec<Half>, half: &Half, x: Reach, y: Reach) -> Result
     Ok(())
 }
 
-fn push_others(needed: &mut Vec<Half>, halves: &[Half], x: Reach, y: Reach) -> Result<(), NoMemory>
+pub(crate) fn push_others(
+    needed: &mut Vec<Half>,
+    halves: &[Half],
+    x: Reach,
+    y: Reach,
+) -> Result<(), NoMemory>
     requires x { FitsReach x }
     requires y { FitsReach y }
     requires framed { (p : Point) → All (λ h. Holds h p) needed.old.items → IsInFrame x y p }
-    ensures { OnOk result ((p : Point) → All (λ h. Holds h p) needed.new.items
+    ensures points { OnOk result ((p : Point) → All (λ h. Holds h p) needed.new.items
         ↔ (All (λ h. Holds h p) needed.old.items × All (λ h. Holds h p) halves.now)) }
+    ensures begins { take (length needed.old.items) needed.new.items ≡ needed.old.items }
 {
     for half in halves {
         push_other(needed, half, x, y)?;

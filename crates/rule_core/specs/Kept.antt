@@ -46,7 +46,7 @@ abbrev pub most_features : ℕ
 most_features = 1024
 
 abbrev pub most_halves : ℕ
-most_halves = 1048576
+most_halves = 131072
 
 pub record Keeping : Type 0 where
   pub entries : List (ℕ × KeptShape)

@@ -19,7 +19,7 @@ use std::rc::Rc;
 const MOST_FEATURES: usize = 1_024;
 
 /// So many half-planes are kept in all, at most: 32 bytes each.
-const MOST_HALVES: usize = 1_048_576;
+const MOST_HALVES: usize = 131_072;
 
 /// Cells of polygons by handle, each beside its shape. What was least recently used goes first where there is too much.
 #[derive(Drop)]

@@ -10,5 +10,6 @@ mod Parts
 mod Rest
 mod Seen
 mod Sharing
+mod Shut
 mod Spots
 mod Tested

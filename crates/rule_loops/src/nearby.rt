@@ -1,9 +1,9 @@
-ghost use Rattle.std.specs.Prelude.{◌≡◌, ◌<◌, length, IfSome, IfOk};
+ghost use Rattle.std.specs.Prelude.{◌≡◌, ◌<◌, ◌≤◌, length, IfSome, IfOk};
 ghost use Rattle.plane_terms.specs.Point.{Point};
 ghost use Rattle.rule_loops.specs.Open.{chosen, outsides, IsInEach};
 
 use crate::polygon::outside_of;
-use convex_cell::{BoundedCells, Cell};
+use convex_cell::{BoundedCells, Piece};
 use grid_plane::{Half, NoMemory, Op, Rect};
 use rule_core::{View, Work};
 use shape::Feature;
@@ -93,23 +93,20 @@ fn is_off(half: &Half, env: &Rect) -> bool {
     }
 }
 
-// Whether no half-plane of the cell leaves out the box. No answer rests on it, only how long an answer takes.
-fn is_near(cell: &Cell, env: &Rect) -> bool {
-    for i in 0..cell.len() {
-        if is_off(&cell.half(i), env) {
-            return false;
-        }
-    }
-    true
+// Whether neither the bounds of the piece nor one of its half-planes leaves out the box. No answer rests on it, only how long an
+// answer takes.
+fn is_near(piece: &Piece, env: &Rect) -> bool {
+    !piece.is_off(env) && !piece.halves().iter().any(|half| is_off(half, env))
 }
 
-/// The first of the polygons near the cell, from this place of the list on.
-pub(crate) fn next_near(cell: &Cell, near: &[Nearby], from: usize) -> Option<usize>
-    ensures { IfSome result (λ k. k < length near.now) }
+/// The first of the polygons near the piece, from this place of the list on.
+pub(crate) fn next_near(piece: &Piece, near: &[Nearby], from: usize) -> Option<usize>
+    ensures later { IfSome result (λ k. from ≤ k) }
+    ensures within { IfSome result (λ k. k < length near.now) }
 {
     for k in from..near.len() {
         let nearby = &near[k];
-        if is_near(cell, &nearby.env) {
+        if is_near(piece, &nearby.env) {
             return Some(k);
         }
     }
