@@ -12,7 +12,7 @@ use crate::fault::MarkFault;
 use crate::few::replace_few;
 use crate::frames::{drop_frames, frames_of, frames_under, index_of, put_frames};
 use crate::key::Key;
-use crate::list::{copy_of, drop_from, drop_selected, find_in, list_of, place_of};
+use crate::list::{copy_of, drop_from, drop_selected, find_in, place_of};
 use crate::merge::merge;
 use grid_index::Index;
 use grid_plane::{Handles, NoMemory};
@@ -123,10 +123,10 @@ fn replace_framed(
     ensures framed { AreFramed frames.new entries.new.items }
     ensures only { OnOk result (AreFrames frames.old entries.old.items → AreFrames frames.new entries.new.items) }
 {
-    let subjects = list_of(alloc, selected)?;
-    let gone = frames_of(alloc, entries, &subjects)?;
+    let subjects = selected.items();
+    let gone = frames_of(alloc, entries, subjects)?;
     put_frames(frames, entries, &fresh)?;
-    replace_in(entries, alloc, selected, &subjects, fresh)?;
+    replace_in(entries, alloc, selected, subjects, fresh)?;
     drop_frames(frames, entries, &gone);
     Ok(())
 }

@@ -1,6 +1,5 @@
 ghost use Rattle.std.specs.Prelude.{◌≡◌, ◌==◌, ◌<◌, ◌↔◌, IsTrue, Contains, nat_eq, not, filter, length, slice_get, None, Some, IfOk, MatchOption};
 ghost use Rattle.std.specs.List.{list_any};
-ghost use Rattle.std.specs.List.Sorted.{IsStrictlyIncreasing};
 ghost use Rattle.topology_terms.specs.Entry.{entry_at};
 ghost use Rattle.topology_terms.specs.Entry as terms;
 
@@ -80,16 +79,4 @@ pub fn copy_of(alloc: Global, entries: &[Entry]) -> Result<Vec<Entry>, NoMemory>
         copy.push(e.try_copy(alloc)?)?;
     }
     Ok(copy)
-}
-
-/// The handles, as a list.
-pub fn list_of(alloc: Global, handles: &Handles) -> Result<Vec<u32>, NoMemory>
-    ensures same { IfOk result (λ v. v.items ≡ handles.now) }
-    ensures rising { IfOk result (λ v. IsStrictlyIncreasing v.items) }
-{
-    let mut list = Vec::new(alloc);
-    for i in 0..handles.len() {
-        list.push(handles.at(i))?;
-    }
-    Ok(list)
 }

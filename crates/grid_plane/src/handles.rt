@@ -38,6 +38,22 @@ impl Handles {
         }
     }
 
+    /// These handles, which ascend.
+    pub fn of(items: Vec<u32>) -> Handles
+        requires { IsStrictlyIncreasing items.items }
+        ensures { result ≡ items.items }
+    {
+        Handles { items }
+    }
+
+    /// The handles as a list.
+    pub fn items(&self) -> &[u32]
+        ensures value { result.now ≡ self.now }
+        ensures ascending { IsStrictlyIncreasing self.now }
+    {
+        &self.items
+    }
+
     pub fn len(&self) -> usize
         ensures value { result ≡ length self.now }
         ensures ascending { IsStrictlyIncreasing self.now }

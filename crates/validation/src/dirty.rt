@@ -5,6 +5,7 @@ ghost use Rattle.plane_terms.specs.Rectangle.{Rectangle, IsRectangle, IsWithin, 
 ghost use Rattle.plane_terms.specs.Dirt.{Covers, MeetsDirt};
 ghost use Rattle.validation.specs.Placed.{HasNear};
 
+use crate::lists::put_behind;
 use crate::sorted::SortedRects;
 use dirty_area::Dirt;
 use grid_index::Index;
@@ -65,8 +66,8 @@ fn near_each(alloc: Global, index: &Index, rects: &[Rect]) -> Result<Vec<u32>, N
 {
     let mut found = Vec::new(alloc);
     for r in rects {
-        let mut near = index.query(alloc, r)?;
-        found.append(&mut near)?;
+        let near = index.query(alloc, r)?;
+        put_behind(&mut found, near)?;
     }
     Ok(found)
 }

@@ -4,6 +4,7 @@
 mod dirty;
 mod frame;
 mod judge;
+mod lists;
 mod near;
 mod parts;
 mod ruled;

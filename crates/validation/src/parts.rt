@@ -13,6 +13,7 @@ ghost use Rattle.validation.specs.Parted.{IsGrown, AreGrown, IsDone, rules_of, e
 ghost use Rattle.validation.specs.Parted as terms;
 
 use crate::judge::judge_shown;
+use crate::lists::put_behind;
 use crate::near::FeatureIndex;
 use error_store::Entry;
 use grid_plane::{Handles, NoMemory};
@@ -181,24 +182,12 @@ fn judge_selected<R: RuleSet>(
     Ok(())
 }
 
-// Puts the entries last. Where there were none, none is moved.
-fn put_last(out: &mut Vec<Entry>, mut entries: Vec<Entry>) -> Result<(), NoMemory>
-    ensures { OnOk result (out.new.items ≡ out.old.items ++ entries.items) }
-{
-    if out.is_empty() {
-        *out = entries;
-        return Ok(());
-    }
-    out.append(&mut entries)?;
-    Ok(())
-}
-
 // Puts the entries of each rule last, in the order of the rules.
 fn put_parts(out: &mut Vec<Entry>, parts: Vec<RulePart>) -> Result<(), NoMemory>
     ensures { OnOk result (out.new.items ≡ out.old.items ++ entries_of parts.items) }
 {
     for part in parts {
-        put_last(out, part.entries)?;
+        put_behind(out, part.entries)?;
     }
     Ok(())
 }

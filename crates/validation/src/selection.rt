@@ -94,18 +94,6 @@ fn near_of(alloc: Global, dirty: &DirtyParts, index: &Index) -> Result<Vec<u32>,
     Ok(near)
 }
 
-// The numbers once each, ascending.
-fn handles_of(alloc: Global, found: &[u32]) -> Result<Handles, NoMemory>
-    requires { IsStrictlyIncreasing found.now }
-    ensures { IfOk result (λ h. h ≡ found.now) }
-{
-    let mut handles = Handles::new(alloc);
-    for handle in found {
-        handles.push(*handle)?;
-    }
-    Ok(handles)
-}
-
 /// The handles that the window and the dirt select: of live features by their envelope, and of subjects of errors by the
 /// error's frame. It looks only at those features and errors that the indexes give.
 pub fn select(
@@ -126,5 +114,5 @@ pub fn select(
     add_features(ruled.features(), &near, &dirty, &mut found)?;
     add_subjects(errors.entries(), &framed, &dirty, &mut found)?;
     once_each(&mut found);
-    handles_of(alloc, &found)
+    Ok(Handles::of(found))
 }

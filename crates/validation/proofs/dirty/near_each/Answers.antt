@@ -1,13 +1,11 @@
-use Rattle.std.proofs.Common.{◌≡◌, ◌++◌, rules}
 use Rattle.std.proofs.lemmas.List.{take_all}
 use Rattle.validation.proofs.Nearby.{near_more}
 use Rattle.validation.proofs.dirty.near_each.Goals as goal
 
 pub loop-r-preserved : goal.loop-r-preserved
 loop-r-preserved c =
-    let grown : c.append.new.self.items ≡ c.loop-r.found.items ++ c.in_ok-near.near.items = search rules in
     near_more c.args.index.now c.args.rects.now c.loop-r.r-index c.r-item.result c.loop-r.found.items c.in_ok-near.near.items
-    c.append.new.self.items c.loop-r-test.true c.r-item.is c.loop-r.invariant c.in_ok-near.ensures.near grown
+    c.put_behind.new.out.items c.loop-r-test.true c.r-item.is c.loop-r.invariant c.in_ok-near.ensures.near c.in_ok-put_behind.ensures
 
 pub returns : goal.returns
 returns c = λ q k. rw (take_all c.loop-r.r-index c.args.rects.now c.loop-r-test.false) at (c.loop-r.invariant q k)

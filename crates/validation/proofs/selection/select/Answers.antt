@@ -1,11 +1,8 @@
-use Rattle.std.proofs.Common.{◌≡◌, ◌↔◌, ◌∙◌, ℕ, [], Contains, sym, subst}
-use Rattle.std.proofs.lemmas.Result.{IfOk-weaker}
+use Rattle.std.proofs.Common.{[]}
 use Rattle.topology_terms.specs.Feature.{Feature, env}
 use Rattle.topology_terms.specs.Entry.{Entry}
-use Rattle.topology_terms.specs.Project.{Project}
-use Rattle.topology_terms.specs.Changes.{IsSelected}
 use Rattle.plane_terms.specs.Dirt.{MeetsDirt, MeetsPart}
-use Rattle.validation_laws.specs.Parts.{IsRising, live_of}
+use Rattle.validation_laws.specs.Parts.{live_of}
 use Rattle.validation_laws.specs.Picked.{ArePicked}
 use Rattle.validation_laws.proofs.Handles.{rising}
 use Rattle.validation_laws.proofs.Selecting.{selected_picked}
@@ -15,14 +12,10 @@ use Rattle.validation.proofs.Framed.{frames_near}
 use Rattle.validation.proofs.selection.select.Goals as goal
 
 pub returns-clause-rising : goal.returns-clause-rising
-returns-clause-rising c = IfOk-weaker c.handles_of.result _ IsRising (λ s h. subst IsRising (sym (h ∙ c.deref-3.ensures.value))
-    (rising c.once_each.new.found.items c.once_each.ensures.ascending)) c.handles_of.ensures
+returns-clause-rising c = rw c.of-2.ensures (rising c.once_each.new.found.items c.once_each.ensures.ascending)
 
 pub returns-clause-chosen : goal.returns-clause-chosen
-returns-clause-chosen c = IfOk-weaker c.handles_of.result _
-    (λ s. (p : Project) → p.features ≡ c.args.ruled.now.features → p.dirt ≡ c.args.dirt.now → p.entries ≡ c.args.errors.now → (a : ℕ)
-    → Contains s a ↔ IsSelected p c.args.window.now a)
-    (λ s h p ef ed ee a.
+returns-clause-chosen c = λ p ef ed ee a.
     let w = c.args.window.now in
     let early = c.add_features.new.found.items in
     let late = c.add_subjects.new.found.items in
@@ -40,8 +33,7 @@ returns-clause-chosen c = IfOk-weaker c.handles_of.result _
     late (λ e. meets e.frame) (rw c.entries.ensures.value at c.in_ok-add_subjects.ensures)) in
     let chosen = selected_picked p w early late (rw ef c.order_law.ensures.features) (rw ee c.entries.ensures.ascending) first second a in
     let once = c.once_each.ensures.same a in
-    subst (λ t. Contains t a ↔ IsSelected p w a) (sym (h ∙ c.deref-3.ensures.value)) ((λ k. chosen.0 (once.0 k)), (λ k. once.1 (chosen.1 k))))
-    c.handles_of.ensures
+    rw c.of-2.ensures ((λ k. chosen.0 (once.0 k)), (λ k. once.1 (chosen.1 k)))
 
 pub add_subjects-requires-clause-enough : goal.add_subjects-requires-clause-enough
 add_subjects-requires-clause-enough c = rw (c.deref-2.ensures.value, c.entries.ensures.value) (frames_near c.frames.result.now
