@@ -3,7 +3,7 @@ use Rattle.std.proofs.Common.{◌≡◌, ◌⊎◌, inl, inr, refl, sym, ap, ◌
 use Rattle.std.specs.Prelude.{◌↔◌}
 use Rattle.std.proofs.lemmas.Bool.{false≢true}
 use Rattle.std.proofs.lemmas.List.{take_more, append-nil}
-use Rattle.std.proofs.lemmas.List.Elements.{Contains-append_left, Contains-push, Contains-push_cases}
+use Rattle.std.proofs.lemmas.List.Elements.{Contains-append_left, Contains-append_right, Contains-append_cases, Contains-push, Contains-push_cases}
 use Rattle.plane_terms.specs.Rectangle.{Rectangle, rects_meet}
 use Rattle.grid_index.specs.declared.placed.Placed.{Placed}
 use Rattle.grid_index.specs.Near.{IsMet, IsNear, Adds}
@@ -76,3 +76,11 @@ once_near r ps ns ms adds same = λ a. (
   (λ h. elim ((adds a).0 ((same a).0 h)) [ inl k ↦ absurd (contains_none a k) | inr m ↦ m ]),
   (λ h. (same a).1 ((adds a).1 (inr h))),
 )
+
+-- what two lists have is added
+pub adds_joined : (r : Rectangle) (ps qs : List Placed) (ns ms ks : List ℕ) → Adds r (Contains ps) ns ms → Adds r (Contains qs) ms ks
+    → Adds r (Contains (ps ++ qs)) ns ks
+adds_joined r ps qs ns ms ks first second = adds_both r (Contains ps) (Contains qs) (Contains (ps ++ qs)) ns ms ks first second
+    (λ p h. Contains-append_cases ps qs p h)
+    (λ p h. Contains-append_left ps qs p h)
+    (λ p h. Contains-append_right ps qs p h)

@@ -1,8 +1,9 @@
 -- What a list of placed rectangles contains, one more and one less.
-use Rattle.std.proofs.Common.{◌≡◌, ◌≢◌, inl, inr, refl, sym, ap, ◌∙◌, subst, Bool, true, false, not, cond, List, [], ◌∷◌, ◌++◌, Contains}
+use Rattle.std.proofs.Common.{◌≡◌, ◌≢◌, inl, inr, refl, sym, ap, ◌∙◌, subst, ℕ, ◌+◌, ◌<◌, Bool, true, false, not, cond, List, [], ◌∷◌, ◌++◌, Contains, take, length, get_or}
 use Rattle.std.specs.List.{filter}
 use Rattle.std.proofs.lemmas.Bool.{false≢true}
 use Rattle.std.proofs.lemmas.Bool.Decides.{Decides-and, Decides-eqb, Decides-int_eq}
+use Rattle.std.proofs.lemmas.List.{take_more}
 use Rattle.std.proofs.lemmas.List.Elements.{Contains-append_left, Contains-push, Contains-push_cases}
 use Rattle.plane_terms.proofs.ListLemmas.{IsAmong, among_at, contains_among}
 use Rattle.grid_index.specs.declared.placed.Placed.{Placed}
@@ -80,3 +81,19 @@ gained ps qs p e = λ q. (
 
 pub same_held : (ps qs : List Placed) → qs ≡ ps → HoldsSame ps qs
 same_held ps qs e = λ q. ((λ h. subst (λ l. Contains l q) e h), (λ h. subst (λ l. Contains l q) (sym e) h))
+
+-- one more of a list
+pub same_more : (ps : List Placed) (i : ℕ) (p : Placed) (qs ss : List Placed) → i < length ps → p ≡ get_or ps i p → HoldsSame (take i ps) qs → Gains qs ss p
+    → HoldsSame (take (i + 1) ps) ss
+same_more ps i p qs ss l is same gains =
+    let more : take (i + 1) ps ≡ take i ps ++ p ∷ [] = take_more ps i p l ∙ ap (λ q. take i ps ++ q ∷ []) (sym is) in
+    subst (λ ls. HoldsSame ls ss) (sym more) (λ q. (
+      (λ h. elim ((gains q).0 h) [
+        | inl k ↦ Contains-append_left (take i ps) (p ∷ []) q ((same q).0 k)
+        | inr e ↦ subst (λ o. Contains (take i ps ++ p ∷ []) o) (sym e) (Contains-push (take i ps) p)
+      ]),
+      (λ h. elim (Contains-push_cases (take i ps) p q h) [
+        | inl k ↦ (gains q).1 (inl ((same q).1 k))
+        | inr e ↦ (gains q).1 (inr (sym e))
+      ]),
+    ))

@@ -1,2 +1,3 @@
-pub mod Cells
 pub mod Near
+pub mod Nodes
+pub mod Quarters

@@ -1,13 +1,12 @@
 // An index of rectangles by where they lie: a question about a small rectangle looks at few of very many.
 #![tactic(auto)]
 
-mod block;
-mod cell;
-mod cells;
 mod index;
-mod level;
+mod node;
 mod once;
 mod placed;
+mod quarter;
+mod reach;
 
 pub use index::Index;
 pub use once::once_each;

@@ -1,0 +1,94 @@
+-- Rectangles that hold others, and what they do not reach.
+use Rattle.std.proofs.Common.{◌≡◌, inl, inr, sym, ap, ◌∙◌, subst, ℕ, ◌+◌, ◌<◌, true, false, List, [], ◌∷◌, ◌++◌, take, length, get_or, Contains, Option, None, Some, Result, Ok, Err, arith}
+use Rattle.std.specs.Prelude.{OnOk, OnErr}
+use Rattle.std.specs.Option.{unwrap_or}
+use Rattle.std.proofs.lemmas.Bool.{false≢true}
+use Rattle.std.proofs.lemmas.Int.{ints}
+use Rattle.std.proofs.lemmas.List.{append-nil, take_more}
+use Rattle.std.proofs.lemmas.List.Elements.{Contains-append_cases}
+use Rattle.plane_terms.specs.Rectangle.{Rectangle, IsWithin, is_within, rects_meet, join_of}
+use Rattle.grid_plane.specs.Rectangles.{IsJoin}
+use Rattle.sound_laws.proofs.Planes.{within_self, within_trans}
+use Rattle.validation_laws.proofs.Frames.{within_join_left, within_join_right}
+use Rattle.grid_index.specs.declared.placed.Placed.{Placed}
+use Rattle.grid_index.specs.Near.{HoldsSame, Gains, Loses, Adds}
+use Rattle.grid_index.specs.Nodes.{NodeView, all_items, AreWithin, IsReach, reach_with, reach_of_both}
+use Rattle.grid_index.proofs.Adding.{adds_none, adds_same, contains_none}
+use Rattle.grid_index.proofs.Members.{among}
+use Rattle.grid_index.proofs.Nodes.{items_more}
+
+-- ---- what a rectangle holds
+pub none_within : (r : Rectangle) (ps : List Placed) → ps ≡ [] → AreWithin r ps
+none_within r ps e q h = absurd (contains_none q (subst (λ l. Contains l q) e h))
+
+pub all_wider : (r s : Rectangle) (ps : List Placed) → IsWithin r s → AreWithin r ps → AreWithin s ps
+all_wider r s ps w all q h = within_trans q.rect r s (all q h) w
+
+pub all_joined : (r : Rectangle) (ps qs : List Placed) → AreWithin r ps → AreWithin r qs → AreWithin r (ps ++ qs)
+all_joined r ps qs first second q h = elim (Contains-append_cases ps qs q h) [ inl k ↦ first q k | inr k ↦ second q k ]
+
+pub all_gained : (r : Rectangle) (ps qs : List Placed) (p : Placed) → AreWithin r ps → IsWithin p.rect r → Gains ps qs p → AreWithin r qs
+all_gained r ps qs p all one gains q h = elim ((gains q).0 h) [
+  | inl k ↦ all q k
+  | inr e ↦ subst (λ (o : Placed). IsWithin o.rect r) (sym e) one
+]
+
+pub all_same : (r : Rectangle) (ps qs : List Placed) → AreWithin r ps → HoldsSame ps qs → AreWithin r qs
+all_same r ps qs all same q h = all q ((same q).0 h)
+
+-- ---- what it does not hold, and what it does not meet
+meets_wider : (r s t : Rectangle) → IsWithin s t → rects_meet r s ≡ true → rects_meet r t ≡ true
+meets_wider r s t w e = grind (arith, ints)
+
+held_test : (r s : Rectangle) → IsWithin r s → is_within r s ≡ true
+held_test r s w = grind (arith, ints)
+
+pub adds_beyond : (r s : Rectangle) (ps : List Placed) (ns : List ℕ) → AreWithin s ps → rects_meet r s ≡ false → Adds r (Contains ps) ns ns
+adds_beyond r s ps ns all apart = adds_same r (λ p. ⊥) (Contains ps) ns ns (adds_none r (λ p. ⊥) ns (λ p h. h))
+    (λ p h. absurd h)
+    (λ p h e. absurd (false≢true (sym apart ∙ meets_wider r p.rect s (all p h) e)))
+
+pub lost_beyond : (s : Rectangle) (ps : List Placed) (p : Placed) → AreWithin s ps → is_within p.rect s ≡ false → Loses ps ps p
+lost_beyond s ps p all out q = (
+  (λ h. (h, λ e. false≢true (sym out ∙ held_test p.rect s (subst (λ (o : Placed). IsWithin o.rect s) e (all q h))))),
+  (λ h. h.0),
+)
+
+-- ---- the reach of several
+pub reach_more : (o : Option Rectangle) (r : Rectangle) (ps qs : List Placed) → IsReach o ps → AreWithin r qs → IsReach (reach_with o r) (ps ++ qs)
+reach_more None r ps qs e all = subst (λ l. AreWithin r (l ++ qs)) (sym e) all
+reach_more (Some q) r ps qs first second = all_joined (join_of q r) ps qs
+    (all_wider q (join_of q r) ps (within_join_left q r) first)
+    (all_wider r (join_of q r) qs (within_join_right q r) second)
+
+pub reach_both : (o u : Option Rectangle) (ps qs : List Placed) → IsReach o ps → IsReach u qs → IsReach (reach_of_both o u) (ps ++ qs)
+reach_both o None ps qs first e = subst (λ l. IsReach o (ps ++ l)) (sym e) (subst (IsReach o) (sym (append-nil ps)) first)
+reach_both o (Some r) ps qs first second = reach_more o r ps qs first second
+
+pub reach_kept : (o : Option Rectangle) (r s : Rectangle) (ps : List Placed) → s ≡ unwrap_or o r → IsReach o ps → AreWithin s ps
+reach_kept None r s ps e none = none_within s ps none
+reach_kept (Some q) r s ps e all = subst (λ t. AreWithin t ps) (sym e) all
+
+one_within : (p : Placed) → AreWithin p.rect (p ∷ [])
+one_within p q h = elim (among (p ∷ []) q h) [ inl e ↦ subst (λ (o : Placed). IsWithin o.rect p.rect) (sym e) (within_self p.rect) | inr k ↦ absurd k ]
+
+pub reach_placed : (o u : Option Rectangle) (ps : List Placed) (i : ℕ) (p : Placed) → i < length ps → p ≡ get_or ps i p → u ≡ reach_with o p.rect
+    → IsReach o (take i ps) → IsReach u (take (i + 1) ps)
+reach_placed o u ps i p l is e reach =
+    let more : take (i + 1) ps ≡ take i ps ++ p ∷ [] = take_more ps i p l ∙ ap (λ q. take i ps ++ q ∷ []) (sym is) in
+    subst (λ t. IsReach t (take (i + 1) ps)) (sym e)
+    (subst (IsReach (reach_with o p.rect)) (sym more) (reach_more o p.rect (take i ps) (p ∷ []) reach (one_within p)))
+
+pub reach_node : (o u : Option Rectangle) (ns : List NodeView) (i : ℕ) (n : NodeView) (r : Rectangle) → i < length ns → n ≡ get_or ns i n
+    → u ≡ reach_with o r → AreWithin r n.items → IsReach o (all_items (take i ns)) → IsReach u (all_items (take (i + 1) ns))
+reach_node o u ns i n r l is e all reach =
+    let more : all_items (take (i + 1) ns) ≡ all_items (take i ns) ++ n.items =
+    items_more ns i n l ∙ ap (λ (m : NodeView). all_items (take i ns) ++ m.items) (sym is) in
+    subst (λ t. IsReach t (all_items (take (i + 1) ns))) (sym e)
+    (subst (IsReach (reach_with o r)) (sym more) (reach_more o r (all_items (take i ns)) n.items reach all))
+
+-- ---- what a node holds after a change that may be refused
+pub within_through : {T E : Type 0} (o : Result T E) (r s : Rectangle) (ps qs : List Placed) (p : Placed) → IsJoin s r p.rect → AreWithin r ps
+    → OnOk o (Gains ps qs p) → OnErr o (HoldsSame ps qs) → AreWithin s qs
+within_through (Ok x) r s ps qs p join all ok err = all_gained s ps qs p (all_wider r s ps join.first all) join.second ok
+within_through (Err e) r s ps qs p join all ok err = all_same s ps qs (all_wider r s ps join.first all) err

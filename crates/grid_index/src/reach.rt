@@ -1,0 +1,36 @@
+ghost use Rattle.std.specs.Prelude.{◌≡◌};
+ghost use Rattle.grid_index.specs.Nodes.{IsReach, reach_with, reach_of_both};
+
+use crate::placed::Placed;
+use grid_plane::Rect;
+
+/// The least rectangle that holds both; the second alone where there is no first.
+pub(crate) fn reach_with(reach: Option<Rect>, r: &Rect) -> Option<Rect>
+    ensures { result ≡ reach_with reach r.now }
+{
+    match reach {
+        Some(held) => Some(held.join(r)),
+        None => Some(*r),
+    }
+}
+
+/// The least rectangle that holds both; one alone where there is no other.
+pub(crate) fn reach_of_both(first: Option<Rect>, second: Option<Rect>) -> Option<Rect>
+    ensures { result ≡ reach_of_both first second }
+{
+    match second {
+        Some(r) => reach_with(first, &r),
+        None => first,
+    }
+}
+
+/// A rectangle that holds those of the list; none where the list is empty.
+pub(crate) fn reach_of(list: &[Placed]) -> Option<Rect>
+    ensures { IsReach result list.now }
+{
+    let mut reach = None;
+    for placed in list {
+        reach = reach_with(reach, &placed.rect);
+    }
+    reach
+}
