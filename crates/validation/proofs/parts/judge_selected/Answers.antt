@@ -1,6 +1,6 @@
 use Rattle.std.proofs.Common.{◌≡◌, ◌<◌, ◌∙◌, refl, sym, length, get_or, arith}
 use Rattle.std.proofs.lemmas.List.{get_or_default}
-use Rattle.grid_index.proofs.Levels.{on_err}
+use Rattle.grid_index.proofs.Nodes.{on_err}
 use Rattle.validation_laws.proofs.Counting.{raised_none}
 use Rattle.validation.specs.Parted.{rules_of}
 use Rattle.validation.proofs.Parted.{judged_nothing, done_more, rules_kept, judged_subject_more, judged_subject_within}

@@ -1,7 +1,7 @@
 use Rattle.std.proofs.Common.{◌<◌, ◌∷◌, [], subst, sym, length, arith}
 use Rattle.topology_terms.specs.Project.{InForce}
 use Rattle.plane_terms.proofs.ListLemmas.{every_at}
-use Rattle.grid_index.proofs.Levels.{on_err}
+use Rattle.grid_index.proofs.Nodes.{on_err}
 use Rattle.validation_laws.proofs.Counting.{judged_rule_more, judged_rule_within}
 use Rattle.validation.specs.Parted.{RulePart, rules_of}
 use Rattle.validation.proofs.Parted.{length_rules, rule_there, grown_more}
