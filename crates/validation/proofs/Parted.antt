@@ -222,3 +222,7 @@ pub judging_parts : (M : Meaning) (F : List Feature) (selected : List ℕ) (ps :
     → IsJudging M F (rules_of ps) selected (entries_of ps)
 judging_parts M F selected [] h = refl
 judging_parts M F selected (p ∷ ps) h = (p.entries, (entries_of ps, (refl, h.0, judging_parts M F selected ps h.1)))
+
+pub judging_none : (M : Meaning) (F : List Feature) (rules : List InForce) → IsJudging M F rules [] []
+judging_none M F [] = refl
+judging_none M F (r ∷ rules) = ([], ([], (refl, refl, judging_none M F rules)))

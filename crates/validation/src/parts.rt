@@ -209,6 +209,9 @@ pub fn judge_all<R: RuleSet>(
     ensures judged { OnOk result (work.new ≡ raised work.old (judged_of in_force.now (live_of features.now selected.now))) }
     ensures stopped { OnErr result (work.new ≤ raised work.old (judged_of in_force.now (live_of features.now selected.now))) }
 {
+    if selected.len() == 0 {
+        return Ok(());
+    }
     let mut parts = empty_parts(alloc, in_force)?;
     judge_selected(rules, alloc, &mut parts, features, selected, work)?;
     put_parts(out, parts)

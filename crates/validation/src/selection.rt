@@ -110,7 +110,7 @@ pub fn select(
     let near = near_of(alloc, &dirty, ruled.index())?;
     let framed = near_of(alloc, &dirty, errors.frames())?;
     ruled.order_law();
-    let mut found = Vec::new(alloc);
+    let mut found = Vec::with_capacity(alloc, near.len())?;
     add_features(ruled.features(), &near, &dirty, &mut found)?;
     add_subjects(errors.entries(), &framed, &dirty, &mut found)?;
     once_each(&mut found);

@@ -1,9 +1,10 @@
-use Rattle.std.proofs.Common.{◌≡◌, ◌∙◌, ap, subst, length, arith}
+use Rattle.std.proofs.Common.{◌≡◌, ◌∙◌, ℕ, List, [], ◌∷◌, append-nil, refl, ap, sym, subst, length, arith}
 use Rattle.std.proofs.lemmas.Result.{on_ok_weaker}
 use Rattle.shape.proofs.Changed.{written}
 use Rattle.validation_laws.specs.Parts.{IsJudging}
+use Rattle.validation_laws.proofs.Counting.{raised_none}
 use Rattle.validation.specs.Parted.{rules_of, entries_of}
-use Rattle.validation.proofs.Parted.{length_rules, rules_empty, done_empty, judging_parts}
+use Rattle.validation.proofs.Parted.{length_rules, rules_empty, done_empty, judging_none, judging_parts, judged_nothing}
 use Rattle.validation.proofs.parts.judge_all.Goals as goal
 
 pub judge_selected-requires-clause-fits : goal.judge_selected-requires-clause-fits
@@ -12,6 +13,21 @@ judge_selected-requires-clause-fits g c = rw (c.deref_mut.ensures.value, c.in_ok
 pub judge_selected-requires-clause-new : goal.judge_selected-requires-clause-new
 judge_selected-requires-clause-new g c = rw (c.deref_mut.ensures.value, c.in_ok-parts.ensures) (done_empty g.R.RuleSet.meaning
     c.args.features.now c.args.in_force.now)
+
+-- nothing is selected
+none : (s : List ℕ) → length s ≡ 0 → s ≡ []
+none [] e = refl
+none (a ∷ s) e = absurd (omega (arith, e))
+
+pub returns-then-len-eq0-clause-part : goal.returns-then-len-eq0-clause-part
+returns-then-len-eq0-clause-part g c =
+    let e = none c.args.selected.now (omega (arith, c.len.ensures.value, c.if-len-eq0.true)) in
+    ([], sym (append-nil c.args.out.now.items), rw e (judging_none g.R.RuleSet.meaning c.args.features.now c.args.in_force.now))
+
+pub returns-then-len-eq0-clause-judged : goal.returns-then-len-eq0-clause-judged
+returns-then-len-eq0-clause-judged g c =
+    let e = none c.args.selected.now (omega (arith, c.len.ensures.value, c.if-len-eq0.true)) in
+    rw (e, judged_nothing c.args.in_force.now) (sym (raised_none c.args.work.now))
 
 pub returns-clause-part : goal.returns-clause-part
 returns-clause-part g c =

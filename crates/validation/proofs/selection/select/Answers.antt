@@ -24,7 +24,7 @@ returns-clause-chosen c = λ p ef ed ee a.
     let F = c.args.ruled.now.features in
     let enough = dirty_near c.index.result.now F c.in_ok-dirty.dirty c.in_ok-near.near.items c.index.ensures c.in_ok-near.ensures.near in
     let among : ArePicked dirty (λ (f : Feature). f.handle) (live_of F c.in_ok-near.near.items) [] early =
-    rw (c.new-found.ensures.items, c.deref.ensures.value, c.features.ensures) at c.in_ok-add_features.ensures in
+    rw (c.in_ok-found.ensures.items, c.deref.ensures.value, c.features.ensures) at c.in_ok-add_features.ensures in
     let first : ArePicked (λ (f : Feature). MeetsPart p.dirt w (env f)) (λ (f : Feature). f.handle) p.features [] early =
     rw (ef, ed) (picked_as dirty (λ (f : Feature). MeetsPart c.args.dirt.now w (env f)) (λ (f : Feature). f.handle) F [] early
     (λ f. meets (env f)) (picked_near dirty F c.in_ok-near.near.items [] early c.order_law.ensures.features enough among)) in
