@@ -21,6 +21,9 @@ box_within t r h = let a = h.0 in let b = h.1 in record {
 pub meets_wider : (b c r : Rectangle) → IsWithin c r → rects_meet b c ≡ true → rects_meet b r ≡ true
 meets_wider b c r w h = grind (arith, ints)
 
+pub wider_meets : (b c r : Rectangle) → IsWithin b r → rects_meet b c ≡ true → rects_meet r c ≡ true
+wider_meets b c r w h = grind (arith, ints)
+
 off_box : (s t : Segment) (r : Rectangle) → BothEnds (LiesIn r) t → rects_meet (box_of s) r ≡ false → box_meets s t ≡ false
 off_box s t r h n = by_test (box_meets s t) refl
   where

@@ -1,3 +1,4 @@
+mod Below
 mod Beyond
 mod Blocked
 mod Boxes

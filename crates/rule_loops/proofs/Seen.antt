@@ -80,15 +80,15 @@ module _ {A : Type 0} (test : A → Bool) (items : Feature → List A) (n : ℕ)
   all_same t = let a = all_with false t in omega (arith, a)
 
 -- those whose envelope does not hold the place have nothing there
-none_many : {A : Type 0} (test : A → Bool) (P : A → Type 0) → ((x : A) → P x → test x ≡ false) → (xs : List A) → Every P xs
+pub none_many : {A : Type 0} (test : A → Bool) (P : A → Type 0) → ((x : A) → P x → test x ≡ false) → (xs : List A) → Every P xs
     → how_many test xs ≡ 0
 none_many test P m [] u = refl
 none_many test P m (x ∷ xs) u = rw (m x u.0) (none_many test P m xs u.1)
 
-held_wider : (q : Place) (c r : Rectangle) → IsWithin c r → box_holds c q ≡ true → is_within (rect_at q) r ≡ true
+pub held_wider : (q : Place) (c r : Rectangle) → IsWithin c r → box_holds c q ≡ true → is_within (rect_at q) r ≡ true
 held_wider q c r w h = grind (arith, ints)
 
-not_from : (b c : Bool) → (b ≡ true → c ≡ true) → c ≡ false → b ≡ false
+pub not_from : (b c : Bool) → (b ≡ true → c ≡ true) → c ≡ false → b ≡ false
 not_from true c m e = sym (m refl) ∙ e
 not_from false c m e = refl
 

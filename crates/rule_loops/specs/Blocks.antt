@@ -1,16 +1,26 @@
--- Segments in blocks of 32, each with a rectangle round it.
+-- The segments of a shape in blocks: 32 in each, the last maybe of fewer; or all in one, where there are no more than 64.
 --
--- IsRound r ts         each of these segments has its lower end before its upper one, and lies in the rectangle r
--- AreRound rs ts       the first of the rectangles rs is round the first 32 of the segments, or all where they are fewer; the next
---                      round the next 32, and so on to the last
-use Rattle.std.specs.Prelude.{◌≡◌, List, [], ◌∷◌, take, drop}
-use Rattle.plane_terms.specs.Lists.{Every}
-use Rattle.plane_terms.specs.Rectangle.{Rectangle, IsWithin}
-use Rattle.plane_terms.specs.Segment.{Segment, IsSegment, box_of}
+-- block_size ts       how many segments a block has at most
+-- block_count ts      how many blocks there are, one at least
+-- left_from k ts      the segments from the block of number k on
+-- block_of k ts       those of the block of number k
+-- reaches_below r q   a segment in the rectangle r may run below the place q: the span of r along x holds q, and r begins below q
+use Rattle.std.specs.Prelude.{ℕ, ◌+◌, ◌*◌, ◌/◌, nat_lt, int_le, int_lt, Bool, ◌&&◌, List, length, take, drop, if◌then◌else◌}
+use Rattle.plane_terms.specs.Point.{Place}
+use Rattle.plane_terms.specs.Rectangle.{Rectangle}
+use Rattle.plane_terms.specs.Segment.{Segment}
 
-abbrev pub IsRound : Rectangle → List Segment → Type 0
-IsRound r ts = Every (λ (t : Segment). IsSegment t × IsWithin (box_of t) r) ts
+abbrev pub block_size : List Segment → ℕ
+block_size ts = if nat_lt 64 (length ts) then 32 else 64
 
-abbrev pub AreRound : List Rectangle → List Segment → Type 0
-AreRound [] ts = ts ≡ []
-AreRound (r ∷ rs) ts = IsRound r (take 32 ts) × AreRound rs (drop 32 ts)
+abbrev pub block_count : List Segment → ℕ
+block_count ts = if nat_lt 64 (length ts) then (length ts + 31) / 32 else 1
+
+abbrev pub left_from : ℕ → List Segment → List Segment
+left_from k ts = drop (block_size ts * k) ts
+
+abbrev pub block_of : ℕ → List Segment → List Segment
+block_of k ts = take (block_size ts) (left_from k ts)
+
+abbrev pub reaches_below : Rectangle → Place → Bool
+reaches_below r q = int_le r.x0 q.x && (int_lt q.x r.x1 && int_lt r.y0 q.y)

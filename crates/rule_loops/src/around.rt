@@ -4,7 +4,8 @@ ghost use Rattle.topology_terms.specs.Feature as terms;
 ghost use Rattle.topology_terms.specs.Plans as plans;
 ghost use Rattle.rule_loops.specs.Views.{of_class};
 
-use crate::places::{has_end_at, holds_at, is_inside_at};
+use crate::blocks_at::{holds_at, is_inside_at};
+use crate::places::has_end_at;
 use grid_plane::GridPoint;
 use rule_core::View;
 use shape::Feature;
@@ -36,7 +37,7 @@ impl AtPlace for SideThere {
     ghost at = { plans.has_side_at };
 
     fn is_at(feature: &Feature, place: GridPoint) -> bool {
-        holds_at(feature.shape().segs(), place)
+        holds_at(feature.shape(), place)
     }
 }
 
@@ -47,7 +48,7 @@ impl AtPlace for InsideThere {
     ghost at = { plans.is_round };
 
     fn is_at(feature: &Feature, place: GridPoint) -> bool {
-        is_inside_at(feature.shape().segs(), place)
+        is_inside_at(feature.shape(), place)
     }
 }
 

@@ -1,72 +1,46 @@
-ghost use Rattle.std.specs.Prelude.{◌≡◌, ◌<◌, ◌++◌, take, drop, length, flat_map, IfOk, OnOk};
-ghost use Rattle.rule_loops.specs.Blocks.{IsRound, AreRound};
+ghost use Rattle.std.specs.Prelude.{◌≡◌, ◌<◌};
+ghost use Rattle.plane_terms.specs.Shape.{segments_of};
+ghost use Rattle.shape.specs.Frames.{IsRound};
+ghost use Rattle.rule_loops.specs.Blocks.{block_count, block_of};
 
-use crate::pairs::{Crossing, push_row};
-use convex_cell::Cells;
-use grid_plane::{NoMemory, Rect, Seg};
-use std::alloc::Global;
+use grid_plane::{Rect, Seg};
+use shape::Shape;
 
-// How many segments a block has; the last of a list may have fewer.
+// How many segments a block of a shape with frames has; the last may have fewer.
 const BLOCK: usize = 32;
 
-// The first block, and what comes after it.
-fn split_block(segments: &[Seg]) -> (&[Seg], &[Seg])
-    ensures block { result.0.now ≡ take 32 segments.now }
-    ensures later { result.1.now ≡ drop 32 segments.now }
+/// How many blocks the segments of the shape stand in, one at least.
+pub(crate) fn block_count(shape: &Shape) -> usize
+    ensures { result ≡ block_count (segments_of shape.now) }
 {
-    if segments.len() < BLOCK {
-        return (segments, &[]);
-    }
-    segments.split_at(BLOCK)
+    shape.frames().len().max(1)
 }
 
-// A rectangle round these segments.
-fn frame_of(segments: &[Seg]) -> Rect
-    requires { 0 < length segments.now }
-    ensures { IsRound result segments.now }
+/// The segments of the block of this number.
+pub(crate) fn block(shape: &Shape, k: usize) -> &[Seg]
+    requires { k < block_count (segments_of shape.now) }
+    ensures { result.now ≡ block_of k (segments_of shape.now) }
 {
-    let mut frame = segments[0].env();
-    for segment in segments {
-        frame = frame.join(&segment.env());
+    let segments = shape.segs();
+    if shape.frames().is_empty() {
+        return segments;
     }
-    frame
+    let (_, rest) = segments.split_at(BLOCK * k);
+    if rest.len() < BLOCK {
+        return rest;
+    }
+    &rest[..BLOCK]
 }
 
-/// A rectangle round each block of these segments.
-pub(crate) fn frames_of(alloc: Global, segments: &[Seg]) -> Result<Vec<Rect>, NoMemory>
-    ensures { IfOk result (λ frames. AreRound frames.items segments.now) }
+/// A rectangle round the block of this number.
+pub(crate) fn block_frame(shape: &Shape, k: usize) -> Rect
+    requires { k < block_count (segments_of shape.now) }
+    ensures { IsRound result (block_of k (segments_of shape.now)) }
 {
-    let mut frames = Vec::new(alloc);
-    let mut rest = segments;
-    while rest.len() > 0 {
-        let (block, later) = split_block(rest);
-        frames.push(frame_of(block))?;
-        rest = later;
+    let frames = shape.frames();
+    if frames.is_empty() {
+        shape.simple_law();
+        return shape.env();
     }
-    Ok(frames)
-}
-
-/// Puts last what a segment gives with each of these, of which the frames are round the blocks. Blocks that do not come near
-/// are passed over.
-pub(crate) fn push_in_blocks<C: Crossing>(
-    alloc: Global,
-    crossing: &C,
-    cells: &mut Cells,
-    segment: &Seg,
-    others: &[Seg],
-    frames: &[Rect],
-) -> Result<(), NoMemory>
-    requires { AreRound frames.now others.now }
-    ensures { OnOk result (cells.new ≡ cells.old ++ flat_map (C.crossing crossing.now segment.now) others.now) }
-{
-    let own = segment.env();
-    let mut rest = others;
-    for frame in frames {
-        let (block, later) = split_block(rest);
-        rest = later;
-        if own.meets(frame) {
-            push_row(alloc, crossing, cells, segment, block)?;
-        }
-    }
-    Ok(())
+    frames[k]
 }

@@ -2,7 +2,8 @@ ghost use Rattle.std.specs.Prelude.{◌≡◌};
 ghost use Rattle.topology_terms.specs.Tests as terms;
 ghost use Rattle.rule_loops.specs.Views.{of_class, round_of, up_to_three};
 
-use crate::places::{count_ends, count_on};
+use crate::blocks_at::count_on;
+use crate::places::{count_ends, up_to_three};
 use grid_plane::GridPoint;
 use rule_core::View;
 use shape::Feature;
@@ -13,12 +14,6 @@ fn is_round(class: u16, place: GridPoint, other: &Feature) -> bool
     other.class() == class && other.shape().env().holds_point(place)
 }
 
-fn up_to_three(count: usize) -> usize
-    ensures { result ≡ up_to_three count }
-{
-    if count < 3 { count } else { 3 }
-}
-
 /// How many segments of the features of the class that are shown hold the place, up to three.
 pub fn segments_at(class: u16, view: &View<'_>, place: GridPoint) -> usize
     ensures { result ≡ up_to_three (terms.segments_at (of_class class view.now) place) }
@@ -27,8 +22,7 @@ pub fn segments_at(class: u16, view: &View<'_>, place: GridPoint) -> usize
     for i in 0..view.len() {
         let other = view.feature(i);
         if is_round(class, place, other) {
-            let more = up_to_three(count_on(other.shape().segs(), place));
-            count = up_to_three(count + more);
+            count = up_to_three(count + count_on(other.shape(), place));
         }
     }
     count

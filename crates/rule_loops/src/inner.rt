@@ -17,7 +17,7 @@ pub fn common_inner(alloc: Global, subject: &Feature, partner: &Feature) -> Resu
         second: partner.shape(),
         spared: Spared::OfEither,
     };
-    each_pair(alloc, &off, subject.shape().segs(), partner.shape().segs())
+    each_pair(alloc, &off, subject.shape(), partner.shape())
 }
 
 /// What two lines have in common, but for places that are ends of both.
@@ -33,5 +33,5 @@ pub fn common_but_ends(
         second: partner.shape(),
         spared: Spared::OfBoth,
     };
-    each_pair(alloc, &off, subject.shape().segs(), partner.shape().segs())
+    each_pair(alloc, &off, subject.shape(), partner.shape())
 }

@@ -5,6 +5,7 @@ mod area;
 mod around;
 mod bad;
 mod blocks;
+mod blocks_at;
 mod common;
 mod counts;
 mod crossings;

@@ -1,11 +1,13 @@
 ghost use Rattle.std.specs.Prelude.{◌≡◌, ◌++◌, false, [], List, flat_map, IfOk, OnOk};
 ghost use Rattle.plane_terms.specs.Cell as planes;
 ghost use Rattle.plane_terms.specs.Segment.{Segment, IsSegment};
+ghost use Rattle.plane_terms.specs.Shape.{segments_of};
 ghost use Rattle.topology_terms.specs.Cells as terms;
 
-use crate::blocks::{frames_of, push_in_blocks};
+use crate::blocks::{block, block_count, block_frame};
 use convex_cell::Cells;
 use grid_plane::{NoMemory, Seg};
+use shape::Shape;
 use std::alloc::Global;
 
 /// What two segments give, as one rule takes it: nothing where their boxes do not meet.
@@ -44,19 +46,57 @@ pub(crate) fn push_row<C: Crossing>(
     Ok(())
 }
 
-/// What each of these segments gives with each of the others.
+// Puts last what a segment gives with each of the shape's. Blocks that do not come near are passed over.
+fn push_with_shape<C: Crossing>(
+    alloc: Global,
+    crossing: &C,
+    cells: &mut Cells,
+    segment: &Seg,
+    shape: &Shape,
+) -> Result<(), NoMemory>
+    ensures { OnOk result (cells.new ≡ cells.old ++ flat_map (C.crossing crossing.now segment.now) (segments_of shape.now)) }
+{
+    let own = segment.env();
+    for k in 0..block_count(shape) {
+        if own.meets(&block_frame(shape, k)) {
+            push_row(alloc, crossing, cells, segment, block(shape, k))?;
+        }
+    }
+    Ok(())
+}
+
+// Puts last what each of these segments gives with each of the shape's.
+fn push_rows<C: Crossing>(
+    alloc: Global,
+    crossing: &C,
+    cells: &mut Cells,
+    segments: &[Seg],
+    shape: &Shape,
+) -> Result<(), NoMemory>
+    ensures { OnOk result (cells.new ≡ cells.old ++ terms.each_pair (C.crossing crossing.now) segments.now (segments_of shape.now)) }
+{
+    for segment in segments {
+        push_with_shape(alloc, crossing, cells, segment, shape)?;
+    }
+    Ok(())
+}
+
+/// What each segment of a shape gives with each of another. Blocks that do not come near the other are passed over.
 pub fn each_pair<C: Crossing>(
     alloc: Global,
     crossing: &C,
-    segments: &[Seg],
-    others: &[Seg],
+    shape: &Shape,
+    other: &Shape,
 ) -> Result<Cells, NoMemory>
-    ensures { IfOk result (λ cells. cells ≡ terms.each_pair (C.crossing crossing.now) segments.now others.now) }
+    ensures { IfOk result (λ cells. cells ≡ terms.each_pair (C.crossing crossing.now) (segments_of shape.now) (segments_of other.now)) }
 {
-    let frames = frames_of(alloc, others)?;
     let mut cells = Cells::new(alloc);
-    for segment in segments {
-        push_in_blocks(alloc, crossing, &mut cells, segment, others, &frames)?;
+    let env = other.env();
+    other.simple_law();
+    for k in 0..block_count(shape) {
+        if block_frame(shape, k).meets(&env) {
+            push_rows(alloc, crossing, &mut cells, block(shape, k), other)?;
+        }
     }
     Ok(cells)
 }

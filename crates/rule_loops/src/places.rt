@@ -6,6 +6,7 @@ ghost use Rattle.plane_terms.specs.Polygon.{counts};
 ghost use Rattle.plane_terms.proofs.Points.{point_at};
 ghost use Rattle.plane_terms.specs.Shape as planes;
 ghost use Rattle.topology_terms.specs.Tests as terms;
+ghost use Rattle.rule_loops.specs.Views.{up_to_three};
 
 use grid_plane::{GridPoint, Seg};
 use shape::Shape;
@@ -18,14 +19,14 @@ pub(crate) fn is_on(segment: &Seg, place: GridPoint) -> bool
 }
 
 /// Whether one of the segments holds the place.
-pub fn holds_at(segments: &[Seg], place: GridPoint) -> bool
+pub(crate) fn holds_in(segments: &[Seg], place: GridPoint) -> bool
     ensures { result ≡ terms.holds_at segments.now place }
 {
     segments.iter().any(|segment| is_on(segment, place))
 }
 
 /// How many of the segments hold the place.
-pub fn count_on(segments: &[Seg], place: GridPoint) -> usize
+pub(crate) fn count_in(segments: &[Seg], place: GridPoint) -> usize
     ensures { result ≡ how_many (λ t. holds_place t place) segments.now }
 {
     segments
@@ -47,8 +48,8 @@ fn is_below(segment: &Seg, place: GridPoint) -> bool
     is_from_to(segment.lo().x(), place.x(), segment.hi().x()) && segment.side(place) > 0
 }
 
-// Whether an odd number of the segments run below the place.
-fn are_odd_below(segments: &[Seg], place: GridPoint) -> bool
+/// Whether an odd number of the segments run below the place.
+pub(crate) fn are_odd_in(segments: &[Seg], place: GridPoint) -> bool
     ensures { result ≡ is_odd (how_many (λ s. counts s (point_at place)) segments.now) }
 {
     let mut odd = false;
@@ -60,11 +61,11 @@ fn are_odd_below(segments: &[Seg], place: GridPoint) -> bool
     odd
 }
 
-/// Whether the place is inside the polygon of these segments, not on its boundary.
-pub fn is_inside_at(segments: &[Seg], place: GridPoint) -> bool
-    ensures { result ≡ terms.is_inside_at segments.now place }
+/// The count, or three where it is more: no rule asks for more than two of a place.
+pub(crate) fn up_to_three(count: usize) -> usize
+    ensures { result ≡ up_to_three count }
 {
-    !holds_at(segments, place) && are_odd_below(segments, place)
+    if count < 3 { count } else { 3 }
 }
 
 fn is_same(place: GridPoint, other: GridPoint) -> bool
@@ -74,14 +75,14 @@ fn is_same(place: GridPoint, other: GridPoint) -> bool
 }
 
 /// Whether the place is one of these.
-pub fn is_among(places: &[GridPoint], place: GridPoint) -> bool
+pub(crate) fn is_among(places: &[GridPoint], place: GridPoint) -> bool
     ensures { result ≡ terms.has_end_at places.now place }
 {
     places.iter().any(|other| is_same(place, *other))
 }
 
 /// Whether the place is an end of the line.
-pub fn has_end_at(line: &Shape, place: GridPoint) -> bool
+pub(crate) fn has_end_at(line: &Shape, place: GridPoint) -> bool
     ensures { result ≡ terms.has_end_at (planes.ends_of line.now) place }
 {
     for i in 0..line.end_count() {
@@ -93,7 +94,7 @@ pub fn has_end_at(line: &Shape, place: GridPoint) -> bool
 }
 
 /// How many of the line's ends are at the place; one that is there twice counts twice.
-pub fn count_ends(line: &Shape, place: GridPoint) -> usize
+pub(crate) fn count_ends(line: &Shape, place: GridPoint) -> usize
     ensures { result ≡ how_many (same_place place) (planes.ends_of line.now) }
 {
     let mut count = 0;

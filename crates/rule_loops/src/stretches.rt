@@ -37,12 +37,7 @@ pub fn common_stretches(
 ) -> Result<Cells, NoMemory>
     ensures { IfOk result (λ cells. cells ≡ plans.common_stretches subject.now partner.now) }
 {
-    each_pair(
-        alloc,
-        &Along,
-        subject.shape().segs(),
-        partner.shape().segs(),
-    )
+    each_pair(alloc, &Along, subject.shape(), partner.shape())
 }
 
 /// Where segments of a line overlap.

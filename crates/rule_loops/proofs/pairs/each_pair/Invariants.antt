@@ -1,7 +1,11 @@
-use Rattle.std.proofs.Common.{◌≡◌, take}
+use Rattle.std.proofs.Common.{◌≡◌, ◌++◌}
+use Rattle.plane_terms.specs.Shape.{segments_of}
 use Rattle.topology_terms.specs.Cells as terms
+use Rattle.rule_loops.specs.Blocks.{left_from}
 use Rattle.rule_loops.proofs.pairs.each_pair.Given as goal
 
-abbrev pub invariant-loop-segment : goal.invariant-loop-segment
-invariant-loop-segment g l =
-    l.cells ≡ terms.each_pair (g.C.Crossing.crossing l.crossing) (take l.segment-index l.segments) l.others
+abbrev pub invariant-loop-k : goal.invariant-loop-k
+invariant-loop-k g l =
+    let crossing = g.C.Crossing.crossing l.crossing in
+    l.cells ++ terms.each_pair crossing (left_from l.k (segments_of l.shape)) (segments_of l.other)
+    ≡ terms.each_pair crossing (segments_of l.shape) (segments_of l.other)

@@ -3,8 +3,8 @@ use Rattle.plane_terms.specs.Segment.{Segment}
 use Rattle.plane_terms.specs.Polygon.{counts}
 use Rattle.plane_terms.proofs.Points.{point_at}
 use Rattle.rule_loops.proofs.Spots.{odd_more}
-use Rattle.rule_loops.proofs.places.are_odd_below.Goals.{then-is_below, else-is_below}
-use Rattle.rule_loops.proofs.places.are_odd_below.Goals as goal
+use Rattle.rule_loops.proofs.places.are_odd_in.Goals.{then-is_below, else-is_below}
+use Rattle.rule_loops.proofs.places.are_odd_in.Goals as goal
 
 pub loop-segment-preserved : goal.loop-segment-preserved
 loop-segment-preserved c =

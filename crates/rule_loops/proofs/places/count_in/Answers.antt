@@ -5,7 +5,7 @@ use Rattle.std.proofs.lemmas.Iterator.Consumers.{YieldsList-from_filter, count_f
 use Rattle.plane_terms.specs.Line.{holds_place}
 use Rattle.plane_terms.specs.Segment.{Segment}
 use Rattle.plane_terms.proofs.ListLemmas.{how_many-filter}
-use Rattle.rule_loops.proofs.places.count_on.Goals as goal
+use Rattle.rule_loops.proofs.places.count_in.Goals as goal
 
 pub returns : goal.returns
 returns c =
