@@ -1,7 +1,7 @@
 -- What several nodes hold, where one of them changes.
 use Rattle.std.proofs.Common.{◌≡◌, Bool, true, false, inl, inr, refl, sym, ap, ◌∙◌, subst, ℕ, ◌+◌, ◌<◌, zero, suc, List, [], ◌∷◌, ◌++◌, Contains, length, take, set, get_or, Option, None, Some, Result, Ok, Err, arith}
 use Rattle.std.specs.Prelude.{slice_get, OnErr, IsSomeAnd}
-use Rattle.std.specs.List.{flat_map, items_where_true}
+use Rattle.std.specs.List.{items_where_true}
 use Rattle.std.specs.List.Retain.{IsFiltered, ReturnsInTurn}
 use Rattle.std.proofs.lemmas.Option.{slice_get_within}
 use Rattle.std.proofs.lemmas.List.{take_more, take_more_set, append-nil}
@@ -9,10 +9,11 @@ use Rattle.std.proofs.lemmas.List.Concat.{flat_map-append}
 use Rattle.std.proofs.lemmas.List.Elements.{Contains-append_left, Contains-append_right, Contains-append_cases}
 use Rattle.grid_index.specs.declared.placed.Placed.{Placed}
 use Rattle.plane_terms.specs.Rectangle.{Rectangle}
+use Rattle.plane_terms.proofs.ListLemmas.{contains_among}
 use Rattle.grid_index.specs.Near.{HoldsSame, Gains, Loses, Adds}
-use Rattle.grid_index.specs.Nodes.{NodeView, all_items}
+use Rattle.grid_index.specs.Nodes.{NodeView, all_items, height_over}
 use Rattle.grid_index.proofs.Adding.{contains_none, adds_joined}
-use Rattle.grid_index.proofs.Members.{gained}
+use Rattle.grid_index.proofs.Members.{among, gained}
 
 -- ---- two lists joined
 pub held_itself : (ps : List Placed) → HoldsSame ps ps
@@ -168,3 +169,21 @@ gained_divided ps qs ns ms os p none empty same gains =
     subst (λ (l : List NodeView). Gains (ps ++ all_items l) (qs ++ all_items os) p) (sym none)
     (subst (λ l. Gains l (qs ++ all_items os) p) (sym (append-nil ps))
     (subst (λ l. Gains ps (l ++ all_items os) p) (sym empty) (gains_after ps (all_items ms) (all_items os) p same gains)))
+
+pub none_below : (ns : List NodeView) → height_over ns ≡ 0 → ns ≡ []
+none_below [] e = refl
+none_below (n ∷ ns) e = absurd (omega arith)
+
+-- beside what a node held stands a node with one more
+gained_first : (ps : List Placed) (p : Placed) → Gains ps (p ∷ ps) p
+gained_first ps p = λ q. (
+  (λ h. elim (among (p ∷ ps) q h) [ inl e ↦ inr e | inr k ↦ inl (contains_among ps q k) ]),
+  (λ h. contains_among (p ∷ ps) q (elim h [ inl k ↦ inr (among ps q k) | inr e ↦ inl e ])),
+)
+
+pub gained_beside : (ps qs : List Placed) (ns ms os : List NodeView) (n m : NodeView) (p : Placed) → qs ≡ [] → ns ≡ [] → ms ≡ ns ++ n ∷ []
+    → os ≡ ms ++ m ∷ [] → n.items ≡ p ∷ [] → m.items ≡ ps → Gains ps (qs ++ all_items os) p
+gained_beside ps qs ns ms os n m p empty none first second one held =
+    let single : all_items ms ≡ p ∷ [] = ap all_items first ∙ (items_pushed ns n ∙ (ap (λ l. all_items l ++ n.items) none ∙ one)) in
+    let both : all_items os ≡ p ∷ ps = ap all_items second ∙ (items_pushed ms m ∙ (ap (λ l. l ++ m.items) single ∙ ap (λ l. p ∷ l) held)) in
+    subst (λ l. Gains ps l p) (sym (ap (λ l. l ++ all_items os) empty ∙ both)) (gained_first ps p)

@@ -1,3 +1,3 @@
+pub mod Middles
 pub mod Near
 pub mod Nodes
-pub mod Quarters

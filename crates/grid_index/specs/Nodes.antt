@@ -1,22 +1,20 @@
 -- What is seen of a node of the tree, and how far the rectangles under it reach.
 --
--- NodeView          which quarter a node is, what it holds, and how many nodes stand on the longest way down from it
+-- NodeView          the middle of its first rectangle, what it holds, how many nodes stand on the longest way down from it
 -- all_items ns      what the nodes hold
 -- AreWithin r ps    r holds each rectangle of ps
--- IsCrowded ps r    ps are 16 or more, and the middle of r is not that of the first
 -- IsReach o ps      o is a rectangle that holds each of ps, or there is none and ps has nothing
 -- reach_with o r    the least rectangle that holds o and r; r where there is no o
 -- reach_of_both     the least rectangle that holds both; one where there is no other
-use Rattle.std.specs.Prelude.{◌≡◌, ℕ, ◌+◌, ◌≤◌, List, [], ◌∷◌, length, Contains, Option, None, Some, MatchOption}
+use Rattle.std.specs.Prelude.{◌≡◌, ℕ, ◌+◌, List, [], Contains, Option, None, Some, MatchOption}
 use Rattle.std.specs.List.{flat_map}
 use Rattle.plane_terms.specs.Rectangle.{Rectangle, IsWithin, join_of}
 use Rattle.grid_index.specs.declared.placed.Placed.{Placed}
-use Rattle.grid_index.specs.Quarters.{IsApart}
-use Rattle.grid_index.specs.declared.quarter.Quarter.{Quarter}
+use Rattle.grid_index.specs.declared.middle.Middle.{Middle}
 use denote.Param.Weighed.{most}
 
 pub record NodeView : Type 0 where
-  pub quarter : Quarter
+  pub middle : Middle
   pub items : List Placed
   pub height : ℕ
 
@@ -25,10 +23,6 @@ all_items ns = flat_map (λ (n : NodeView). n.items) ns
 
 abbrev pub height_over : List NodeView → ℕ
 height_over ns = most (λ (n : NodeView). n.height + 1) ns
-
-abbrev pub IsCrowded : List Placed → Rectangle → Type 0
-IsCrowded [] r = ⊥
-IsCrowded (p ∷ ps) r = (16 ≤ length (p ∷ ps)) × IsApart p.rect r
 
 abbrev pub AreWithin : Rectangle → List Placed → Type 0
 AreWithin r ps = (q : Placed) → Contains ps q → IsWithin q.rect r

@@ -2,16 +2,19 @@ ghost use Rattle.std.specs.Prelude.{◌≡◌, ◌↔◌, ◌<◌, ◌≤◌, �
 ghost use Rattle.std.specs.List.Sorted.{IsStrictlyIncreasing};
 ghost use Rattle.grid_index.specs.Near.{HoldsSame, Gains, Loses, IsNear, Adds};
 
-use crate::node::{Node, add_from_each, put_in, take_from};
+use crate::node::Node;
+use crate::siblings::{add_from_each, put_in, take_from};
 use crate::once::once_each;
 use crate::placed::Placed;
-use crate::quarter::HIGHEST;
 use grid_plane::{NoMemory, Rect};
 use std::alloc::Global;
 use std::marker::Model;
 
 /// There is room for so many handles before a list of found ones grows.
 const FEW: usize = 16;
+
+/// The middles of the grid, doubled, have fewer binary digits.
+const WHOLE: u32 = 25;
 
 /// Rectangles with handles, found by where they lie. A handle may have several rectangles, and a rectangle several handles.
 #[derive(Drop)]
@@ -47,7 +50,7 @@ impl Index {
         ensures ok { OnOk result (Gains self.old self.new placed) }
         ensures err { OnErr result (HoldsSame self.old self.new) }
     {
-        put_in(self.alloc, &mut self.nodes, &placed, HIGHEST)
+        put_in(self.alloc, &mut self.nodes, &placed, WHOLE)
     }
 
     /// Takes the rectangle out from under its handle; nothing changes where it is not there. Takes no memory.

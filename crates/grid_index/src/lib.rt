@@ -2,11 +2,12 @@
 #![tactic(auto)]
 
 mod index;
+mod middle;
 mod node;
 mod once;
 mod placed;
-mod quarter;
 mod reach;
+mod siblings;
 
 pub use index::Index;
 pub use once::once_each;

@@ -4,7 +4,7 @@ use Rattle.std.proofs.lemmas.Result.{on_ok_weaker, on_err_weaker}
 use Rattle.grid_index.specs.Near.{HoldsSame, Gains}
 use Rattle.grid_index.specs.Nodes.{NodeView}
 use Rattle.grid_index.proofs.Nodes.{gained_at, same_at}
-use Rattle.grid_index.proofs.node.push_at.Goals as goal
+use Rattle.grid_index.proofs.siblings.push_at.Goals as goal
 
 pub returns-clause-ok : goal.returns-clause-ok
 returns-clause-ok c = on_ok_weaker c.push.result

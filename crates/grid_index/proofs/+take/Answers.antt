@@ -5,13 +5,13 @@ use Rattle.grid_index.specs.Nodes.{NodeView, all_items, IsReach}
 use Rattle.grid_index.proofs.Members.{lost}
 use Rattle.grid_index.proofs.Nodes.{lost_more, lost_none, lost_joined}
 use Rattle.grid_index.proofs.Reaches.{lost_beyond, reach_both, reach_kept}
-use Rattle.grid_index.proofs.node.+take.Goals as goal
+use Rattle.grid_index.proofs.+take.Goals as goal
 
-pub take_from_each-loop-node-init : goal.take_from_each-loop-node-init
-take_from_each-loop-node-init t c = (lost_none c.args.placed.now, (refl, λ k d l. refl))
+pub siblings::take_from_each-loop-node-init : goal.siblings::take_from_each-loop-node-init
+siblings::take_from_each-loop-node-init t c = (lost_none c.args.placed.now, (refl, λ k d l. refl))
 
-pub take_from_each-loop-node-preserved : goal.take_from_each-loop-node-preserved
-take_from_each-loop-node-preserved t c = (
+pub siblings::take_from_each-loop-node-preserved : goal.siblings::take_from_each-loop-node-preserved
+siblings::take_from_each-loop-node-preserved t c = (
   lost_more c.args.nodes.now c.loop-node.node-items c.loop-node.node-index c.node-item.result c.take.new.self c.args.placed.now
       (omega arith) (omega arith) c.loop-node.invariant.0
       (sym (c.loop-node.invariant.1.1 c.loop-node.node-index c.node-item.result (omega arith)))
@@ -23,14 +23,14 @@ take_from_each-loop-node-preserved t c = (
   ),
 )
 
-pub take_from_each-returns : goal.take_from_each-returns
-take_from_each-returns t c = subst (λ ns. Loses (all_items ns) (all_items c.loop-node.node-items) c.args.placed.now)
+pub siblings::take_from_each-returns : goal.siblings::take_from_each-returns
+siblings::take_from_each-returns t c = subst (λ ns. Loses (all_items ns) (all_items c.loop-node.node-items) c.args.placed.now)
     (take_all c.loop-node.node-index c.args.nodes.now (omega arith))
     (subst (λ ns. Loses (all_items (take c.loop-node.node-index c.args.nodes.now)) (all_items ns) c.args.placed.now)
     (take_all c.loop-node.node-index c.loop-node.node-items (omega arith)) c.loop-node.invariant.0)
 
-pub take_from-returns : goal.take_from-returns
-take_from-returns t c =
+pub siblings::take_from-returns : goal.siblings::take_from-returns
+siblings::take_from-returns t c =
     let nodes = c.args.nodes.now in
     let after = c.take_from_each.new.nodes in
     subst (λ ps. Loses (all_items nodes.items) ps c.args.placed.now) (sym c.drop_empty.ensures)
@@ -38,21 +38,24 @@ take_from-returns t c =
     (rw c.deref_mut.ensures.value at c.take_from_each.ensures))
 
 -- ---- one node
-pub Node::take-invariant_of-self : goal.Node::take-invariant_of-self
-Node::take-invariant_of-self t c = reach_kept c.reach_of_both-reach.result c.self.inside.reach c.unwrap_or-self-inside.result
+pub node::Node::take-invariant_of-self : goal.node::Node::take-invariant_of-self
+node::Node::take-invariant_of-self t c = (
+  reach_kept c.reach_of_both-reach.result c.self.inside.reach c.unwrap_or-self-inside.result
     (c.drop_placed.new.list.items ++ all_items c.take_from.new.nodes.items) c.unwrap_or-self-inside.ensures
     (subst (λ o. IsReach o (c.drop_placed.new.list.items ++ all_items c.take_from.new.nodes.items)) (sym c.reach_of_both-reach.ensures)
     (reach_both c.reach_of.result c.reach_of_nodes.result c.drop_placed.new.list.items (all_items c.take_from.new.nodes.items)
-    (rw c.deref.ensures.value at c.reach_of.ensures) (rw c.deref-then-holds_rect.ensures.value at c.reach_of_nodes.ensures)))
+    (rw c.deref.ensures.value at c.reach_of.ensures) (rw c.deref-then-holds_rect.ensures.value at c.reach_of_nodes.ensures))),
+  c.self.invariant.1,
+)
 
-pub Node::take-returns-then-holds_rect : goal.Node::take-returns-then-holds_rect
-Node::take-returns-then-holds_rect t c = subst
+pub node::Node::take-returns-then-holds_rect : goal.node::Node::take-returns-then-holds_rect
+node::Node::take-returns-then-holds_rect t c = subst
     (λ (n : NodeView). Loses n.items (c.drop_placed.new.list.items ++ all_items c.take_from.new.nodes.items) c.args.placed.now) c.self.view_is
     (lost_joined c.self.inside.placed.items c.drop_placed.new.list.items (all_items c.self.inside.quarters.items)
     (all_items c.take_from.new.nodes.items) c.args.placed.now
     (lost c.self.inside.placed.items c.drop_placed.new.list.items c.args.placed.now c.drop_placed.ensures) c.take_from.ensures)
 
-pub Node::take-returns-else-holds_rect : goal.Node::take-returns-else-holds_rect
-Node::take-returns-else-holds_rect t c = subst (λ (n : NodeView). Loses n.items n.items c.args.placed.now) c.self.view_is
+pub node::Node::take-returns-else-holds_rect : goal.node::Node::take-returns-else-holds_rect
+node::Node::take-returns-else-holds_rect t c = subst (λ (n : NodeView). Loses n.items n.items c.args.placed.now) c.self.view_is
     (lost_beyond c.self.inside.reach (c.self.inside.placed.items ++ all_items c.self.inside.quarters.items) c.args.placed.now
-    c.self.invariant (sym c.holds_rect.ensures.value ∙ c.if-holds_rect.false))
+    c.self.invariant.0 (sym c.holds_rect.ensures.value ∙ c.if-holds_rect.false))

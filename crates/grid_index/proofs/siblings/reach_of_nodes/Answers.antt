@@ -1,5 +1,5 @@
 use Rattle.grid_index.proofs.Reaches.{reach_node}
-use Rattle.grid_index.proofs.node.reach_of_nodes.Goals as goal
+use Rattle.grid_index.proofs.siblings.reach_of_nodes.Goals as goal
 
 pub loop-node-preserved : goal.loop-node-preserved
 loop-node-preserved c = reach_node c.loop-node.reach c.reach_with-reach.result c.args.nodes.now c.loop-node.node-index c.node-item.result

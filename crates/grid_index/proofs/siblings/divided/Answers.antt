@@ -3,7 +3,7 @@ use Rattle.std.proofs.lemmas.List.{take_all}
 use Rattle.grid_index.specs.Near.{HoldsSame}
 use Rattle.grid_index.specs.Nodes.{all_items}
 use Rattle.grid_index.proofs.Members.{same_more}
-use Rattle.grid_index.proofs.node.divide.Goals as goal
+use Rattle.grid_index.proofs.siblings.divided.Goals as goal
 
 pub loop-placed-preserved : goal.loop-placed-preserved
 loop-placed-preserved c = same_more c.args.list.now c.loop-placed.placed-index c.placed-item.result (all_items c.loop-placed.nodes.items)
