@@ -141,7 +141,7 @@ out_picked s t ts p true e g h o rest =
 out_picked s t ts p false e g h o rest =
     (λ k. ((λ i. let m = boxes_share s t p g h o i in absurd cc), rest.0 k), λ k. rest.1 k.1)
 
-out_points : (s : Segment) (ts : List Segment) (p : Point) → IsSegment s → Every IsSegment ts → OnSegment s p
+pub out_points : (s : Segment) (ts : List Segment) (p : Point) → IsSegment s → Every IsSegment ts → OnSegment s p
     → Every (λ ds. InCells ds p) (out_of_segments s ts) ↔ Every (λ t. ¬ (OnSegment t p)) ts
 out_points s [] p g u o = (λ h. h, λ h. h)
 out_points s (t ∷ ts) p g u o = out_picked s t ts p (box_meets s t) refl g u.0 o (out_points s ts p g u.1 o)

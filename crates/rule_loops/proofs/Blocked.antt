@@ -15,7 +15,7 @@ use Rattle.topology_terms.specs.Cells.{box_meets}
 use Rattle.shape.specs.Frames.{IsRound, frame_count}
 use Rattle.rule_laws.proofs.Envelopes.{BothEnds, LiesIn, segments_ends}
 use Rattle.rule_loops.specs.Blocks.{block_size, block_count, left_from, block_of}
-use Rattle.rule_loops.proofs.Boxes.{box_within, meets_wider, wider_meets}
+use Rattle.rule_loops.proofs.Boxes.{box_within, wider_meets, off_box}
 
 -- ---- how many there are
 pub record Many (ts : List Segment) : Type 0 where
@@ -118,17 +118,10 @@ round_env s u = round_all (envelope_of s) (segments_of s) u (segments_ends s)
 -- ---- a block that comes near, or not
 module _ (f : Segment → Segment → List Cell)
     (apart : (s t : Segment) → IsSegment s → IsSegment t → box_meets s t ≡ false → f s t ≡ []) where
-  far : (s t : Segment) (r : Rectangle) → IsWithin (box_of t) r → rects_meet (box_of s) r ≡ false → box_meets s t ≡ false
-  far s t r w n = by_test (box_meets s t) refl
-    where
-      by_test : (b : Bool) → box_meets s t ≡ b → b ≡ false
-      by_test true e = absurd (false≢true (sym n ∙ meets_wider (box_of s) (box_of t) r w e))
-      by_test false e = refl
-
   pub none_near : (s : Segment) (r : Rectangle) (ts : List Segment) → IsSegment s → IsRound r ts → rects_meet (box_of s) r ≡ false
       → flat_map (f s) ts ≡ []
   none_near s r [] g h n = refl
-  none_near s r (t ∷ ts) g h n = rw (apart s t g h.0.0 (far s t r h.0.1 n)) (none_near s r ts g h.1 n)
+  none_near s r (t ∷ ts) g h n = rw (apart s t g h.0.0 (off_box s t r h.0.1 n)) (none_near s r ts g h.1 n)
 
   nowhere : (s : Segment) (r env : Rectangle) → IsWithin (box_of s) r → rects_meet r env ≡ false → rects_meet (box_of s) env ≡ false
   nowhere s r env w n = by_test (rects_meet (box_of s) env) refl

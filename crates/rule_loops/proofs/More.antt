@@ -1,5 +1,5 @@
 -- A loop over a view or over segments: what has been made with one feature more, and where nothing is left to carve.
-use Rattle.std.proofs.Common.{◌≡◌, ℕ, ◌+◌, ◌<◌, Bool, true, false, List, [], ◌∷◌, ◌++◌, Some, refl, sym, ◌∙◌, ap, take, drop, length, get_or, cond, map, append-nil, arith}
+use Rattle.std.proofs.Common.{◌≡◌, ℕ, ◌+◌, ◌<◌, ◌≤◌, Bool, true, false, List, [], ◌∷◌, ◌++◌, Some, refl, sym, ◌∙◌, ap, take, drop, length, get_or, cond, map, append-nil, arith}
 use Rattle.std.specs.Prelude.{slice_get, not, ◌==◌, ◌&&◌, flat_map}
 use Rattle.std.specs.List.{filter}
 use Rattle.std.proofs.lemmas.Grind.{flat_map-append}
@@ -7,7 +7,7 @@ use Rattle.std.proofs.lemmas.List.{map-append, map_more, take-append-drop}
 use Rattle.std.proofs.lemmas.List.Elements.{filter_more, filter-append}
 use Rattle.std.proofs.lemmas.Option.{get_or_from_slice_get}
 use Rattle.std.proofs.lemmas.Bool.Decides.{nat_tests}
-use Rattle.plane_terms.specs.Rectangle.{rects_meet}
+use Rattle.plane_terms.specs.Rectangle.{Rectangle, rects_meet}
 use Rattle.plane_terms.specs.Segment.{Segment, box_of}
 use Rattle.plane_terms.specs.Cell.{Cell, on_segment, out_of_segment, weak_of}
 use Rattle.plane_terms.specs.Carve.{carve_of}
@@ -15,10 +15,13 @@ use Rattle.topology_terms.specs.Feature.{Feature, sides, env}
 use Rattle.topology_terms.specs.Cells.{uncovered, outside, box_meets, out_of_segments}
 use Rattle.topology_terms.specs.Plans.{others, open_ground, gap_cells}
 use Rattle.sound_laws.proofs.FeatureFilters.{kept_twice}
+use Rattle.shape.specs.Frames.{IsRound}
 use Rattle.rule_core.proofs.Partners.{kept_more}
 use Rattle.rule_loops.specs.Open.{outsides}
 use Rattle.rule_loops.specs.Views.{of_class, other_of, beside, left_of_segment}
-use Rattle.rule_loops.proofs.Boxes.{none_beside}
+use Rattle.rule_loops.specs.Blocks.{block_count, left_from, block_of}
+use Rattle.rule_loops.proofs.Blocked.{left_block, left_none}
+use Rattle.rule_loops.proofs.Boxes.{none_beside, none_in_frame}
 use Rattle.rule_loops.proofs.Carved.{uncovered-append, stopped}
 
 -- ---- the features that pass a test
@@ -29,7 +32,7 @@ pub class_more : (n : ℕ) (F : List Feature) (i : ℕ) (g : Feature) (b : Bool)
     → of_class n (take (i + 1) F) ≡ of_class n (take i F) ++ cond b (g ∷ []) []
 class_more n F i g b e t = kept_more (λ (h : Feature). h.class == n) F i g b e t
 
-class_apart : (n : ℕ) (F : List Feature) (i : ℕ) → of_class n F ≡ of_class n (take i F) ++ of_class n (drop i F)
+pub class_apart : (n : ℕ) (F : List Feature) (i : ℕ) → of_class n F ≡ of_class n (take i F) ++ of_class n (drop i F)
 class_apart n F i = kept_apart (λ (h : Feature). h.class == n) F i
 
 pub class_is : (m r n : ℕ) → r ≡ m → r ≡ n → (m == n) ≡ true
@@ -69,6 +72,31 @@ off_none s ts i cs left h z =
     stopped cs left (out_of_segments s ts) (map {A = Segment} out_of_segment us) (map {A = Segment} out_of_segment vs)
     (ap (map {A = Segment} out_of_segment) (kept_apart (box_meets s) ts i) ∙ map-append out_of_segment us vs) h z
 
+-- ---- block by block
+pub off_block : (s : Segment) (k : ℕ) (ts : List Segment) (left new all : List Cell) → new ≡ uncovered left (out_of_segments s (block_of k ts))
+    → uncovered left (out_of_segments s (left_from k ts)) ≡ all → uncovered new (out_of_segments s (left_from (k + 1) ts)) ≡ all
+off_block s k ts left new all n h =
+    let own = filter (box_meets s) (block_of k ts) in
+    let later = filter (box_meets s) (left_from (k + 1) ts) in
+    let both : out_of_segments s (left_from k ts) ≡ out_of_segments s (block_of k ts) ++ out_of_segments s (left_from (k + 1) ts) =
+    ap (λ us. map {A = Segment} out_of_segment (filter (box_meets s) us)) (left_block k ts)
+    ∙ (ap (map {A = Segment} out_of_segment) (filter-append (box_meets s) (block_of k ts) (left_from (k + 1) ts))
+    ∙ map-append out_of_segment own later) in
+    ap (λ cs. uncovered cs (out_of_segments s (left_from (k + 1) ts))) n
+    ∙ (sym (ap (uncovered left) both
+    ∙ uncovered-append left (out_of_segments s (block_of k ts)) (out_of_segments s (left_from (k + 1) ts))) ∙ h)
+
+-- none of a block that does not come near
+pub off_far : (s : Segment) (k : ℕ) (ts : List Segment) (r : Rectangle) (left new all : List Cell) → IsRound r (block_of k ts)
+    → rects_meet (box_of s) r ≡ false → new ≡ left
+    → uncovered left (out_of_segments s (left_from k ts)) ≡ all → uncovered new (out_of_segments s (left_from (k + 1) ts)) ≡ all
+off_far s k ts r left new all u n e h = off_block s k ts left new all
+    (e ∙ sym (ap (uncovered left) (none_in_frame s r (block_of k ts) u n))) h
+
+pub off_blocks : (s : Segment) (k : ℕ) (ts : List Segment) (left all : List Cell) → block_count ts ≤ k
+    → uncovered left (out_of_segments s (left_from k ts)) ≡ all → left ≡ all
+off_blocks s k ts left all l h = sym (ap (λ us. uncovered left (out_of_segments s us)) (left_none k ts l)) ∙ h
+
 -- ---- what features leave of a segment
 by_class : (s : Segment) (n : ℕ) (F : List Feature) (i : ℕ) (g : Feature) (left : List Cell) → slice_get F i ≡ Some g → (g.class == n)
     ≡ true → left ≡ left_of_segment (of_class n (take i F)) s
@@ -80,7 +108,7 @@ by_class s n F i g left e t h =
     ∙ (ap (uncovered (on_segment s ∷ [])) (flat_map-append outs gs (g ∷ []) ∙ ap (λ l. flat_map outs gs ++ l) (append-nil (outs g)))
     ∙ uncovered-append (on_segment s ∷ []) (flat_map outs gs) (outs g))))
 
-of_beside : (n : ℕ) (s : Segment) (g : Feature) → beside n s g ≡ true → (g.class == n) ≡ true
+pub of_beside : (n : ℕ) (s : Segment) (g : Feature) → beside n s g ≡ true → (g.class == n) ≡ true
 of_beside n s g e = both (g.class == n) (rects_meet (box_of s) (env g)) e
   where
     both : (b c : Bool) → (b && c) ≡ true → b ≡ true

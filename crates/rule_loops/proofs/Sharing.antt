@@ -62,7 +62,7 @@ picked_at (q ∷ es) s t m p o k e = by_test (on_both s t q) refl (λ n. picked_
         inl (at_same q m.at p (m.only p o k) here)
     by_test false f more e = inr (more e)
 
-no_cells : (cs : List Cell) → HavePoints cs → ((p : Point) → InCells cs p → ⊥) → cs ≡ []
+pub no_cells : (cs : List Cell) → HavePoints cs → ((p : Point) → InCells cs p → ⊥) → cs ≡ []
 no_cells [] h n = refl
 no_cells (c ∷ cs) h n = absurd (n h.0.0 (inl h.0.1))
 

@@ -7,11 +7,12 @@
 -- up_to_three n        n, or 3 where it is more: no rule asks for more than two of a place
 -- is_out r s           the lower end of the segment s is out of the rectangle r
 -- beside n s g         g is of the class n, and its envelope meets the box of the segment s
+-- IsHeldBy s t         each point of the segment s is on the segment t
 -- left_of_segment gs s what the features gs leave of the segment s: one of the lists of `sides_left`
 use Rattle.std.specs.Prelude.{ℕ, nat_lt, not, Bool, ◌==◌, ◌&&◌, List, [], ◌∷◌, flat_map, filter, if◌then◌else◌}
-use Rattle.plane_terms.specs.Point.{Place}
+use Rattle.plane_terms.specs.Point.{Place, Point}
 use Rattle.plane_terms.specs.Rectangle.{Rectangle, rects_meet, rect_at, is_within}
-use Rattle.plane_terms.specs.Segment.{Segment, box_of}
+use Rattle.plane_terms.specs.Segment.{Segment, OnSegment, box_of}
 use Rattle.plane_terms.specs.Cell.{Cell, on_segment}
 use Rattle.topology_terms.specs.Feature.{Feature, sides, env}
 use Rattle.topology_terms.specs.Cells.{uncovered, out_of_segments}
@@ -36,6 +37,9 @@ up_to_three n = if nat_lt n 3 then n else 3
 
 abbrev pub beside : ℕ → Segment → Feature → Bool
 beside n s g = g.class == n && rects_meet (box_of s) (env g)
+
+abbrev pub IsHeldBy : Segment → Segment → Type 0
+IsHeldBy s t = (p : Point) → OnSegment s p → OnSegment t p
 
 abbrev pub left_of_segment : List Feature → Segment → List Cell
 left_of_segment gs s = uncovered (on_segment s ∷ []) (flat_map (λ (g : Feature). out_of_segments s (sides g)) gs)

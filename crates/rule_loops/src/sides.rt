@@ -1,12 +1,15 @@
 ghost use Rattle.std.specs.Prelude.{◌≡◌, IfOk};
+ghost use Rattle.plane_terms.specs.Shape.{segments_of};
 ghost use Rattle.topology_terms.specs.Cells.{uncovered, out_of_segments};
 ghost use Rattle.topology_terms.specs.Plans as plans;
-ghost use Rattle.rule_loops.specs.Views.{of_class, beside, left_of_segment};
+ghost use Rattle.rule_loops.specs.Views.{of_class, left_of_segment};
 
+use crate::alongside::{is_beside, is_covered_at_once};
+use crate::blocks::{block, block_count, block_frame};
 use convex_cell::{Cell, Cells};
 use grid_plane::{NoMemory, Seg};
 use rule_core::View;
-use shape::Feature;
+use shape::{Feature, Shape};
 use std::alloc::Global;
 
 // What these segments leave of the cells of a segment. Stops where nothing is left.
@@ -30,14 +33,22 @@ fn off_segments(
     Ok(left)
 }
 
-fn is_beside(class: u16, segment: &Seg, other: &Feature) -> bool
-    ensures { result ≡ beside class segment.now other.now }
+// What a shape leaves of the cells of a segment. Blocks that do not come near are passed over.
+fn off_shape(alloc: Global, cells: Cells, segment: &Seg, shape: &Shape) -> Result<Cells, NoMemory>
+    ensures { IfOk result (λ left. left ≡ uncovered cells (out_of_segments segment.now (segments_of shape.now))) }
 {
-    other.class() == class && segment.env().meets(&other.shape().env())
+    let mut left = cells;
+    let own = segment.env();
+    for k in 0..block_count(shape) {
+        if own.meets(&block_frame(shape, k)) {
+            left = off_segments(alloc, left, segment, block(shape, k))?;
+        }
+    }
+    Ok(left)
 }
 
-// What the features of the class that are shown leave of a segment. Stops where nothing is left.
-fn segment_left(
+// The cell of a segment, carved by the features of the class that are shown. Stops where nothing is left.
+fn carved_segment(
     alloc: Global,
     class: u16,
     segment: &Seg,
@@ -53,10 +64,25 @@ fn segment_left(
         }
         let other = view.feature(i);
         if is_beside(class, segment, other) {
-            left = off_segments(alloc, left, segment, other.shape().segs())?;
+            left = off_shape(alloc, left, segment, other.shape())?;
         }
     }
     Ok(left)
+}
+
+// What the features of the class that are shown leave of a segment.
+fn segment_left(
+    alloc: Global,
+    class: u16,
+    segment: &Seg,
+    view: &View<'_>,
+) -> Result<Cells, NoMemory>
+    ensures { IfOk result (λ left. left ≡ left_of_segment (of_class class view.now) segment.now) }
+{
+    if is_covered_at_once(class, segment, view) {
+        return Ok(Cells::new(alloc));
+    }
+    carved_segment(alloc, class, segment, view)
 }
 
 /// What the features of the class that are shown leave of the subject's segments.

@@ -1,9 +1,10 @@
 use Rattle.std.proofs.Common.{◌≡◌, sym, ◌∙◌, ap, refl}
+use Rattle.plane_terms.specs.Shape.{Shape, segments_of}
 use Rattle.topology_terms.specs.Feature.{sides}
 use Rattle.topology_terms.specs.Cells.{uncovered, out_of_segments}
 use Rattle.rule_loops.proofs.More.{segment_more, segment_same, segment_none}
-use Rattle.rule_loops.proofs.sides.segment_left.Goals.{then-is_beside+in_ok-left, else-is_beside}
-use Rattle.rule_loops.proofs.sides.segment_left.Goals as goal
+use Rattle.rule_loops.proofs.sides.carved_segment.Goals.{then-is_beside+in_ok-left, else-is_beside}
+use Rattle.rule_loops.proofs.sides.carved_segment.Goals as goal
 
 pub returns-then-len-eq0 : goal.returns-then-len-eq0
 returns-then-len-eq0 c = segment_none c.args.segment.now c.args.class c.args.view.now c.loop-i.i c.loop-i.left c.loop-i.invariant
@@ -18,9 +19,8 @@ loop-i-preserved c =
     let i = c.loop-i.i in
     elim c.if-is_beside.branch [
       | then-is_beside+in_ok-left w ↦
-          let of : w.segs.result.now ≡ sides g = rw (w.segs.ensures.value, w.shape.ensures) refl in
           w.left-is ∙ (w.in_ok-left.ensures
-          ∙ (ap (λ ts. uncovered c.loop-i.left (out_of_segments s ts)) of
+          ∙ (ap (λ (h : Shape). uncovered c.loop-i.left (out_of_segments s (segments_of h))) w.shape.ensures
           ∙ segment_more s n V i g c.loop-i.left c.feature-other.ensures
           (sym c.is_beside.ensures ∙ w.if-is_beside.true) c.loop-i.invariant))
       | else-is_beside w ↦ w.left-is ∙ segment_same s n V i g c.loop-i.left c.feature-other.ensures
