@@ -1,18 +1,20 @@
 -- A list that begins with another, and a piece of a cell.
-use Rattle.std.proofs.Common.{◌≡◌, ◌↔◌, ◌≤◌, ◌<◌, ◌∙◌, ℕ, ℤ, pos, neg_ℤ, ◌*ℤ◌, ◌≤ℤ◌, ◌<ℤ◌, List, ◌++◌, arith, refl, ap, sym, subst, inl, inr, length, take, drop, to_z, of_z, w32, w64}
+use Rattle.std.proofs.Common.{◌≡◌, ◌↔◌, ◌≤◌, ◌<◌, ◌∙◌, ℕ, ℤ, pos, neg_ℤ, ◌*ℤ◌, ◌≤ℤ◌, ◌<ℤ◌, List, [], ◌∷◌, ◌++◌, false, arith, refl, ap, sym, subst, inl, inr, length, take, drop, to_z, of_z, w32, w64}
 use Rattle.std.specs.Int.{int_max, int_min}
-use Rattle.std.specs.List.{All}
+use Rattle.std.specs.List.{All, AllZip}
+use Rattle.std.proofs.lemmas.Slice.Zip.{all_zipped_more}
 use Rattle.std.proofs.lemmas.Int.{ints, int_max_is, int_min_is}
-use Rattle.std.proofs.lemmas.List.{take-append-drop, take-append-le, length-take}
+use Rattle.std.proofs.lemmas.List.{take-append-drop, take-append-le, length-take, length-append}
 use Rattle.std.proofs.lemmas.List.Elements.{All-from_recursion, recursion_from_All}
 use Rattle.plane_terms.specs.Point.{Point, InReach}
 use Rattle.plane_terms.specs.HalfPlane.{Holds}
-use Rattle.plane_terms.specs.Cell.{Cell, InCell, HasPoint}
+use Rattle.plane_terms.specs.Cell.{Cell, InCell, HasPoint, meet_of}
 use Rattle.number_laws.proofs.Order.{cases_order_ℤ}
 use Rattle.cell_laws.proofs.Lists.{all_append}
+use Rattle.cell_laws.proofs.Meets.{meet_points}
 use Rattle.convex_cell.specs.declared.span.Span.{Span}
 use Rattle.convex_cell.specs.declared.bounds.Bounds.{Bounds}
-use Rattle.convex_cell.specs.Span.{After, Before, IsSpan, InSpan, InBounds, IsBoundsOf}
+use Rattle.convex_cell.specs.Span.{After, Before, IsSpan, InSpan, InBounds, IsBoundsOf, IsBounded}
 use Rattle.convex_cell.specs.Needed.{SameCells}
 use Rattle.convex_cell.proofs.Steps.{after_at, before_from_after, scaled_neg, in_bounds}
 
@@ -120,4 +122,22 @@ bounds_same b c d s i = record {
   y_fits = i.y_fits;
   x = λ p m. i.x p ((held_in c p).0 ((s p).0 ((held_in d p).1 m)));
   y = λ p m. i.y p ((held_in c p).0 ((s p).0 ((held_in d p).1 m)));
+}
+
+-- ---- bounds of what is carved
+pub bounds_met : (b o r : Bounds) (c d e : Cell) → e ≡ meet_of c d → IsBoundsOf b c → IsBoundsOf o d → IsSpan r.x → IsSpan r.y
+    → ((p : Point) → InBounds b p → InBounds o p → InBounds r p) → IsBoundsOf r e
+bounds_met b o r c d e is i j x y f = record { x_fits = x; y_fits = y; x = λ p m. (within p m).along; y = λ p m. (within p m).up }
+  where
+    within : (p : Point) → InCell e p → InBounds r p
+    within p m =
+        let a = (meet_points c d p).0 (subst (λ (hs : Cell). InCell hs p) is m) in
+        f p (in_bounds b c i p a.0) (in_bounds o d j p a.1)
+
+pub bounded_more : (bs ds : List Bounds) (cs es : List Cell) (b : Bounds) (c : Cell) → AllZip IsBoundsOf bs cs → length bs ≡ length cs
+    → IsBoundsOf b c → ds ≡ bs ++ b ∷ [] → es ≡ cs ++ c ∷ [] → IsBounded ds es false
+bounded_more bs ds cs es b c z s i j k = record {
+  bounds = rw (j, k) (all_zipped_more IsBoundsOf bs cs b c z i);
+  same = rw (j, k) (omega (arith, s, length-append bs (b ∷ []), length-append cs (c ∷ [])));
+  rising = tt;
 }

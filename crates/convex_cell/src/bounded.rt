@@ -1,15 +1,19 @@
-ghost use Rattle.std.specs.Prelude.{◌≡◌, ℕ, ◌⊎◌, ◌<◌, ◌≤◌, List, length, slice_get, Some, IfOk};
+ghost use Rattle.std.specs.Prelude.{◌≡◌, ℕ, ◌⊎◌, ◌<◌, ◌≤◌, ◌++◌, ◌∷◌, [], map, List, length, slice_get, Some, IfOk, IfSome, OnOk, OnErr};
 ghost use Rattle.std.specs.Bool.{OnTrue};
 ghost use Rattle.std.specs.List.{AllZip};
 ghost use Rattle.plane_terms.specs.Point.{Point};
 ghost use Rattle.plane_terms.specs.HalfPlane.{HalfPlane};
-ghost use Rattle.plane_terms.specs.Cell.{InCell};
-ghost use Rattle.plane_terms.specs.Carve.{carve_of};
+ghost use Rattle.plane_terms.specs.Cell as terms;
+ghost use Rattle.plane_terms.specs.Cell.{InCell, meet_of};
+ghost use Rattle.plane_terms.specs.Carve.{kept, carve_of};
 ghost use Rattle.convex_cell.specs.Span.{IsBoundsOf, AreRisingTo};
+ghost use Rattle.convex_cell.specs.Needed.{SameCells};
 
-use crate::bounds::{Bounds, Window, are_rising, window_of};
-use crate::cells::{Cells, all_bounds, carved_by};
-use grid_plane::NoMemory;
+use crate::bounds::{Bounds, Window, are_rising, common_bounds, window_of};
+use crate::cell::Cell;
+use crate::cells::{Cells, all_bounds, cell_bounds};
+use crate::needed::meets;
+use grid_plane::{Half, NoMemory};
 use std::alloc::Global;
 use std::marker::Model;
 
@@ -40,7 +44,7 @@ fn carved_each(
     by: &Cells,
     bounds: &[Bounds],
     rising: bool,
-) -> Result<Cells, NoMemory>
+) -> Result<BoundedCells, NoMemory>
     requires own { AllZip IsBoundsOf own.now cells.now }
     requires own_same { length own.now ≡ length cells.now }
     requires bounds { AllZip IsBoundsOf bounds.now by.now }
@@ -48,11 +52,39 @@ fn carved_each(
     requires rising { OnTrue rising (AreRisingTo (length bounds.now) bounds.now) }
     ensures { IfOk result (λ made. made ≡ carve_of cells.now by.now) }
 {
-    let mut made = Cells::new(alloc);
+    let mut made = BoundedCells::with_capacity(alloc, cells.len())?;
     for i in 0..cells.len() {
-        made.push_met(alloc, cells.cell(i), &None, &own[i], by, bounds, rising)?;
+        made.push_met(alloc, cells.cell(i), &own[i], by, bounds, rising)?;
     }
     Ok(made)
+}
+
+fn carved_by(
+    alloc: Global,
+    cells: &Cells,
+    by: &Cells,
+    bounds: &[Bounds],
+    rising: bool,
+) -> Result<BoundedCells, NoMemory>
+    requires bounds { AllZip IsBoundsOf bounds.now by.now }
+    requires same { length bounds.now ≡ length by.now }
+    requires rising { OnTrue rising (AreRisingTo (length bounds.now) bounds.now) }
+    ensures { IfOk result (λ made. made ≡ carve_of cells.now by.now) }
+{
+    let mut made = BoundedCells::with_capacity(alloc, cells.len())?;
+    for i in 0..cells.len() {
+        let cell = cells.cell(i);
+        made.push_met(alloc, cell, &cell_bounds(cell), by, bounds, rising)?;
+    }
+    Ok(made)
+}
+
+pub(crate) fn carved(alloc: Global, cells: &Cells, by: &Cells) -> Result<Cells, NoMemory>
+    ensures { IfOk result (λ made. made ≡ carve_of cells.now by.now) }
+{
+    let bounds = all_bounds(alloc, by)?;
+    let rising = are_rising(&bounds);
+    Ok(carved_by(alloc, cells, by, &bounds, rising)?.into_cells())
 }
 
 impl BoundedCells {
@@ -67,6 +99,95 @@ impl BoundedCells {
             bounds,
             rising,
         })
+    }
+
+    /// No cell yet, and room for so many.
+    fn with_capacity(alloc: Global, count: usize) -> Result<BoundedCells, NoMemory>
+        ensures { IfOk result (λ bounded. bounded ≡ []) }
+    {
+        Ok(BoundedCells {
+            cells: Cells::with_capacity(alloc, count)?,
+            bounds: Vec::with_capacity(alloc, count)?,
+            rising: false,
+        })
+    }
+
+    /// Puts a cell of these bounds at the end; where memory runs out the list stays as it was.
+    fn push(&mut self, cell: Cell, bounds: Bounds) -> Result<(), NoMemory>
+        requires { IsBoundsOf bounds cell }
+        ensures ok { OnOk result (self.new ≡ self.old ++ cell ∷ []) }
+        ensures err { OnErr result (self.new ≡ self.old) }
+    {
+        self.rising = false;
+        self.bounds.push(bounds)?;
+        if let Err(full) = self.cells.push(cell) {
+            self.bounds.pop();
+            return Err(full);
+        }
+        Ok(())
+    }
+
+    fn push_meet(
+        &mut self,
+        alloc: Global,
+        cell: &Cell,
+        needed: &mut Option<Vec<Half>>,
+        own: &Bounds,
+        other: &Cell,
+        bounds: &Bounds,
+    ) -> Result<(), NoMemory>
+        requires needed { IfSome needed.old (λ n. SameCells n.items cell.now) }
+        requires own { IsBoundsOf own.now cell.now }
+        requires other { IsBoundsOf bounds.now other.now }
+        ensures made { OnOk result (self.new ≡ self.old ++ kept (meet_of cell.now other.now ∷ [])) }
+        ensures needed { OnOk result (IfSome needed.new (λ n. SameCells n.items cell.now)) }
+    {
+        if meets(alloc, cell, needed, own, other, bounds)? {
+            self.push(cell.meet(alloc, other)?, common_bounds(own, bounds))?;
+        }
+        Ok(())
+    }
+
+    fn push_met(
+        &mut self,
+        alloc: Global,
+        cell: &Cell,
+        own: &Bounds,
+        others: &Cells,
+        bounds: &[Bounds],
+        rising: bool,
+    ) -> Result<(), NoMemory>
+        requires own { IsBoundsOf own.now cell.now }
+        requires bounds { AllZip IsBoundsOf bounds.now others.now }
+        requires same { length bounds.now ≡ length others.now }
+        requires rising { OnTrue rising (AreRisingTo (length bounds.now) bounds.now) }
+        ensures { OnOk result (self.new ≡ self.old ++ kept (map {A = terms.Cell} (meet_of cell.now) others.now)) }
+    {
+        let mut needed = None;
+        let window = window_of(bounds, own, rising);
+        for i in window.first..window.last {
+            self.push_meet(alloc, cell, &mut needed, own, others.cell(i), &bounds[i])?;
+        }
+        Ok(())
+    }
+
+    /// The number of cells.
+    pub fn len(&self) -> usize
+        ensures { result ≡ length self.now }
+    {
+        self.cells.len()
+    }
+
+    /// The cells alone.
+    pub fn into_cells(self) -> Cells
+        ensures { result ≡ self }
+    {
+        let BoundedCells {
+            cells,
+            bounds: _,
+            rising: _,
+        } = self;
+        cells
     }
 
     /// The cells alone.
@@ -93,8 +214,8 @@ impl BoundedCells {
         window_of(&self.bounds, own, self.rising)
     }
 
-    /// What `Cells::carve` makes of this list and the other.
-    pub fn carve(&self, alloc: Global, by: &BoundedCells) -> Result<Cells, NoMemory>
+    /// What `Cells::carve` makes of this list and the other, with its bounds.
+    pub fn carve_again(&self, alloc: Global, by: &BoundedCells) -> Result<BoundedCells, NoMemory>
         ensures { IfOk result (λ made. made ≡ carve_of self.now by.now) }
     {
         carved_each(
@@ -106,6 +227,13 @@ impl BoundedCells {
             by.rising,
         )
     }
+
+    /// What `Cells::carve` makes of this list and the other.
+    pub fn carve(&self, alloc: Global, by: &BoundedCells) -> Result<Cells, NoMemory>
+        ensures { IfOk result (λ made. made ≡ carve_of self.now by.now) }
+    {
+        Ok(self.carve_again(alloc, by)?.into_cells())
+    }
 }
 
 impl Cells {
@@ -113,6 +241,6 @@ impl Cells {
     pub fn carve_by(&self, alloc: Global, by: &BoundedCells) -> Result<Cells, NoMemory>
         ensures { IfOk result (λ made. made ≡ carve_of self.now by.now) }
     {
-        carved_by(alloc, self, &by.cells, &by.bounds, by.rising)
+        Ok(carved_by(alloc, self, &by.cells, &by.bounds, by.rising)?.into_cells())
     }
 }

@@ -7,10 +7,10 @@ ghost use Rattle.plane_terms.specs.Decide.{has_point};
 ghost use Rattle.convex_cell.specs.Span.{IsSpan, InSpan, IsBoundsOf};
 ghost use Rattle.convex_cell.specs.Needed.{FitsReach, Reaches, IsInFrame, SameCells, closed_of};
 
-use crate::bounds::{Bounds, is_small, left_of, right_of};
+use crate::bounds::{Bounds, are_apart, is_small, left_of, right_of};
 use crate::cell::{Cell, is_empty_together};
-use crate::middle::Middle;
 use crate::span::{Span, highest};
+use crate::trials::{is_in_both, middle_of_both};
 use grid_plane::{Half, NoMemory, Op};
 use std::alloc::Global;
 
@@ -169,18 +169,41 @@ pub(crate) fn needed_of(
 }
 
 /// Whether no point is in both cells. Where half-planes with the points of the first are known, they are asked in its place.
-/// The given point is tried first.
-pub(crate) fn meet_is_empty(
-    cell: &Cell,
-    needed: &Option<Vec<Half>>,
-    other: &Cell,
-    at: Middle,
-) -> bool
+fn meet_is_empty(cell: &Cell, needed: &Option<Vec<Half>>, other: &Cell) -> bool
     requires { IfSome needed.now (λ n. SameCells n.items cell.now) }
     ensures { result ≡ not (has_point (meet_of cell.now other.now)) }
 {
     match needed {
-        Some(needed) => is_empty_together(needed, &other.halves, at),
-        None => is_empty_together(&cell.halves, &other.halves, at),
+        Some(needed) => is_empty_together(needed, &other.halves),
+        None => is_empty_together(&cell.halves, &other.halves),
     }
+}
+
+/// Whether a point is in both cells: the middle of what their bounds have in common is tried first. The half-planes that are
+/// needed of the first cell are found only if it is no such point, and kept for the next call.
+pub(crate) fn meets(
+    alloc: Global,
+    cell: &Cell,
+    needed: &mut Option<Vec<Half>>,
+    bounds: &Bounds,
+    other: &Cell,
+    other_bounds: &Bounds,
+) -> Result<bool, NoMemory>
+    requires needed { IfSome needed.old (λ n. SameCells n.items cell.now) }
+    requires cell { IsBoundsOf bounds.now cell.now }
+    requires other { IsBoundsOf other_bounds.now other.now }
+    ensures meets { IfOk result (λ meets. meets ≡ has_point (meet_of cell.now other.now)) }
+    ensures needed { IfOk result (λ _. IfSome needed.new (λ n. SameCells n.items cell.now)) }
+{
+    if are_apart(bounds, other_bounds) {
+        return Ok(false);
+    }
+    let at = middle_of_both(bounds, other_bounds);
+    if is_in_both(&cell.halves, &other.halves, at) {
+        return Ok(true);
+    }
+    if needed.is_none() {
+        *needed = needed_of(alloc, cell, bounds)?;
+    }
+    Ok(!meet_is_empty(cell, needed, other))
 }

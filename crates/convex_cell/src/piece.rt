@@ -9,11 +9,11 @@ ghost use Rattle.convex_cell.specs.Needed.{SameCells};
 ghost use Rattle.convex_cell.specs.Piece.{IsMarkOf, IsNarrowed};
 
 use crate::bounded::BoundedCells;
-use crate::bounds::{Bounds, Window, are_apart, bounds_of};
+use crate::bounds::{Bounds, Window, are_apart, bounds_of, common_bounds};
 use crate::cell::{Cell, is_empty_together};
 use crate::needed::{needed_of, push_others, reach_of};
 use crate::span::Span;
-use crate::trials::middle_of_both;
+use crate::trials::{is_in_both, middle_of_both};
 use grid_plane::{Half, NoMemory, Rect};
 use std::alloc::Global;
 use std::marker::Model;
@@ -44,34 +44,6 @@ pub struct Mark {
     bounds: Bounds,
 }
 
-fn common_span(first: Span, second: Span) -> Span
-    requires first { IsSpan first }
-    requires second { IsSpan second }
-    ensures fits { IsSpan result }
-    ensures sound { (z : ℤ) → (w : ℕ) → InSpan first z w → InSpan second z w → InSpan result z w }
-{
-    Span {
-        from: first.from.max(second.from),
-        to: first.to.min(second.to),
-    }
-}
-
-/// Bounds of what lies within both.
-fn common_bounds(first: &Bounds, second: &Bounds) -> Bounds
-    requires first_x { IsSpan first.now.x }
-    requires first_y { IsSpan first.now.y }
-    requires second_x { IsSpan second.now.x }
-    requires second_y { IsSpan second.now.y }
-    ensures x_fits { IsSpan result.x }
-    ensures y_fits { IsSpan result.y }
-    ensures sound { (p : Point) → InBounds first.now p → InBounds second.now p → InBounds result p }
-{
-    Bounds {
-        x: common_span(first.x, second.x),
-        y: common_span(first.y, second.y),
-    }
-}
-
 /// Whether no point is both in the cell of these half-planes and in the other.
 fn is_clear_of(halves: &[Half], bounds: &Bounds, other: &Cell, other_bounds: &Bounds) -> bool
     requires own { IsBoundsOf bounds.now halves.now }
@@ -82,7 +54,14 @@ fn is_clear_of(halves: &[Half], bounds: &Bounds, other: &Cell, other_bounds: &Bo
     if are_apart(bounds, other_bounds) {
         return true;
     }
-    is_empty_together(halves, &other.halves, middle_of_both(bounds, other_bounds))
+    if is_in_both(
+        halves,
+        &other.halves,
+        middle_of_both(bounds, other_bounds),
+    ) {
+        return false;
+    }
+    is_empty_together(halves, &other.halves)
 }
 
 /// Adds the half-planes that say more than the bounds of those that are there, or all where the bounds are far.

@@ -8,13 +8,18 @@ ghost use Rattle.rule_loops.specs.Open.{outsides, AreAmong};
 use crate::nearby::{Nearby, is_chosen, nearby_of};
 use crate::open::open_cells;
 use crate::polygon::outside_of;
-use convex_cell::Cells;
+use convex_cell::{BoundedCells, Cells};
 use grid_plane::NoMemory;
 use rule_core::{View, Work};
 use std::alloc::Global;
 
 // The cells, where they are so many at most; else those of them that the polygons may leave open.
-fn still_open(alloc: Global, cells: Cells, near: &[Nearby], most: usize) -> Result<Cells, NoMemory>
+fn still_open(
+    alloc: Global,
+    cells: BoundedCells,
+    near: &[Nearby],
+    most: usize,
+) -> Result<BoundedCells, NoMemory>
     requires { HavePoints cells }
     ensures same { IfOk result (λ kept. (dss : List (List planes.Cell)) → AreAmong cells dss near.now → uncovered kept dss ≡ uncovered cells dss) }
     ensures within { IfOk result (λ kept. (p : Point) → InCells kept p → InCells cells p) }
@@ -22,7 +27,7 @@ fn still_open(alloc: Global, cells: Cells, near: &[Nearby], most: usize) -> Resu
     if cells.len() <= most {
         return Ok(cells);
     }
-    open_cells(alloc, &cells, near)
+    BoundedCells::of(alloc, open_cells(alloc, cells.cells(), near)?)
 }
 
 // How many cells may be left before they are tried again.
@@ -49,19 +54,19 @@ pub(crate) fn left_uncovered(
 {
     let polygons = nearby_of(alloc, class, except, view, work)?;
     let near: &[Nearby] = &polygons;
-    let mut left = open_cells(alloc, cells, near)?;
+    let mut left = BoundedCells::of(alloc, open_cells(alloc, cells, near)?)?;
     let mut most = left.len();
     for i in 0..view.len() {
         if left.len() == 0 {
-            return Ok(left);
+            return Ok(left.into_cells());
         }
         let other = view.feature(i);
         if is_chosen(class, except, other) {
             let outside = outside_of(alloc, other, work)?;
-            let made = left.carve_by(alloc, &outside)?;
+            let made = left.carve_again(alloc, &outside)?;
             left = still_open(alloc, made, near, most)?;
             most = raised(most, left.len());
         }
     }
-    Ok(left)
+    Ok(left.into_cells())
 }

@@ -1,7 +1,7 @@
 use Rattle.std.proofs.Common.{sym, subst}
 use Rattle.convex_cell.specs.Span.{IsSpan, InSpan}
 use Rattle.convex_cell.proofs.Pieces.{common_code, common_is_span, within_both}
-use Rattle.convex_cell.proofs.piece.common_span.Goals as goal
+use Rattle.convex_cell.proofs.bounds.common_span.Goals as goal
 
 pub returns-clause-fits : goal.returns-clause-fits
 returns-clause-fits c =

@@ -1,0 +1,18 @@
+use Rattle.std.proofs.Common.{◌++◌, sym}
+use Rattle.plane_terms.specs.Cell.{Cell, HasPoint, meet_of}
+use Rattle.cell_laws.proofs.Decision.{has_point-true}
+use Rattle.convex_cell.proofs.Both.{meet_has}
+use Rattle.convex_cell.proofs.Steps.{apart}
+use Rattle.convex_cell.proofs.needed.meets.Goals as goal
+
+pub returns-then-are_apart-clause-meets : goal.returns-then-are_apart-clause-meets
+returns-then-are_apart-clause-meets c = sym (apart c.args.bounds.now c.args.other_bounds.now c.args.cell.now c.args.other.now
+    c.if-are_apart.ensures c.requires.cell c.requires.other)
+
+pub returns-then-is_in_both-clause-meets : goal.returns-then-is_in_both-clause-meets
+returns-then-is_in_both-clause-meets c =
+    let own : Cell = c.args.cell.now in
+    let other : Cell = c.args.other.now in
+    let some : HasPoint (own ++ other) = rw (← c.cell.view_is, ← c.other.view_is, ← c.deref.ensures.value, ← c.deref-2.ensures.value)
+    c.if-is_in_both.ensures in
+    sym ((has_point-true (meet_of own other)).1 ((meet_has own other).1 some))
