@@ -1,7 +1,7 @@
 -- A place and the blocks of a shape: frames that a place is out of, and what is counted block by block.
 use Rattle.std.proofs.Common.{◌≡◌, ℕ, zero, suc, ◌+◌, ◌≤◌, ℤ, pos, negsuc, ◌-ℤ◌, ◌*ℤ◌, ◌≤ℤ◌, ◌<ℤ◌, Bool, true, false, List, [], ◌∷◌, refl, sym, ◌∙◌, ap, cond, arith, inl, inr, zero-add}
-use Rattle.std.specs.Prelude.{not, ◌||◌, ◌&&◌, int_lt, int_le}
-use Rattle.std.specs.Int.{int_min, int_max, int_signum}
+use Rattle.std.specs.Prelude.{not, ◌||◌, int_lt}
+use Rattle.std.specs.Int.{int_signum}
 use Rattle.std.specs.List.{list_any}
 use Rattle.std.proofs.lemmas.Bool.{false≢true}
 use Rattle.std.proofs.lemmas.Bool.Decides.{Decides-and, nat_tests}
@@ -19,7 +19,7 @@ use Rattle.plane_terms.proofs.Points.{point_at}
 use Rattle.plane_terms.proofs.Truths.{both_parts}
 use Rattle.number_laws.proofs.Order.{product_at_least, cases_order_ℤ}
 use Rattle.number_laws.proofs.Ring.{num, ◌⊖◌, ◌⊗◌, same_by}
-use Rattle.number_laws.proofs.Tests.{Decides-int_le, Decides-int_lt, int_lt_false}
+use Rattle.number_laws.proofs.Tests.{Decides-int_le, Decides-int_lt}
 use Rattle.cell_laws.proofs.Counted.{counted, not_counted}
 use Rattle.cell_laws.proofs.OnLine.{at_itself}
 use Rattle.shape.specs.Frames.{IsRound}

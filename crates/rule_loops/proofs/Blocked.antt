@@ -1,5 +1,5 @@
 -- The segments of a shape in blocks: how many there are, what is left from one on, and a block that does not come near.
-use Rattle.std.proofs.Common.{◌≡◌, ◌⊎◌, inl, inr, ℕ, max, suc, ◌+◌, ◌*◌, ◌/◌, ◌<◌, ◌≤◌, Bool, true, false, List, [], ◌∷◌, ◌++◌, refl, sym, ◌∙◌, ap, cond, take, drop, length, arith, add-one, append-nil, append_assoc}
+use Rattle.std.proofs.Common.{◌≡◌, ◌⊎◌, inl, inr, ℕ, max, ◌+◌, ◌*◌, ◌/◌, ◌<◌, ◌≤◌, Bool, true, false, List, [], ◌∷◌, ◌++◌, refl, sym, ◌∙◌, ap, cond, take, drop, length, arith, add-one, append-nil, append_assoc}
 use Rattle.std.specs.Prelude.{flat_map, nat_lt, ◌==◌}
 use Rattle.std.proofs.Math.Nat.{mul-suc, mul-zero}
 use Rattle.std.proofs.lemmas.Bool.{false≢true}
@@ -30,7 +30,7 @@ pub record Few (ts : List Segment) : Type 0 where
   pub blocks : block_count ts ≡ 1
   pub frames : frame_count ts ≡ 0
 
-pub many_or_few : (ts : List Segment) → Many ts ⊎ Few ts
+many_or_few : (ts : List Segment) → Many ts ⊎ Few ts
 many_or_few ts = by_test (nat_lt 64 (length ts)) refl
   where
     by_test : (b : Bool) → nat_lt 64 (length ts) ≡ b → Many ts ⊎ Few ts

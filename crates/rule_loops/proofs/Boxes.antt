@@ -20,7 +20,7 @@ box_within t r h = let a = h.0 in let b = h.1 in record {
   above = omega (arith, ints, clamps);
 }
 
-pub meets_wider : (b c r : Rectangle) → IsWithin c r → rects_meet b c ≡ true → rects_meet b r ≡ true
+meets_wider : (b c r : Rectangle) → IsWithin c r → rects_meet b c ≡ true → rects_meet b r ≡ true
 meets_wider b c r w h = grind (arith, ints)
 
 pub wider_meets : (b c r : Rectangle) → IsWithin b r → rects_meet b c ≡ true → rects_meet r c ≡ true

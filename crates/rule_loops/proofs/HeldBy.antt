@@ -1,13 +1,12 @@
 -- A segment of which both ends are on another lies on it, and where it lies on one nothing is left of it.
-use Rattle.std.proofs.Common.{◌≡◌, inl, inr, ℕ, ◌+◌, ◌<◌, ℤ, pos, ◌*◌, ◌+ℤ◌, ◌*ℤ◌, ◌≤ℤ◌, Bool, true, false, List, [], ◌∷◌, ◌++◌, Some, refl, sym, ◌∙◌, ap, subst, take, drop, length, get_or, cond, arith}
+use Rattle.std.proofs.Common.{◌≡◌, inl, inr, ℕ, ◌+◌, ◌<◌, ℤ, pos, ◌*◌, ◌+ℤ◌, ◌*ℤ◌, ◌≤ℤ◌, Bool, true, false, List, [], ◌∷◌, Some, refl, sym, ◌∙◌, ap, subst, take, drop, length, get_or, cond, arith}
 use Rattle.std.specs.Prelude.{slice_get, flat_map, ◌==◌}
 use Rattle.std.specs.Bool.{OnTrue}
-use Rattle.std.specs.List.{filter}
 use Rattle.std.proofs.lemmas.Int.{ints}
 use Rattle.std.proofs.lemmas.List.{take-append-drop}
 use Rattle.std.proofs.lemmas.Option.{slice_get_read}
 use Rattle.plane_terms.specs.Lists.{Every, SomeOf}
-use Rattle.plane_terms.specs.Point.{Place, Point}
+use Rattle.plane_terms.specs.Point.{Point}
 use Rattle.plane_terms.specs.Segment.{Segment, IsSegment, IsBetween, OnSegment, cross}
 use Rattle.plane_terms.specs.Share.{turn}
 use Rattle.plane_terms.specs.Line.{holds_place}
@@ -15,7 +14,7 @@ use Rattle.plane_terms.specs.Cell.{Cell, InCells, on_segment}
 use Rattle.plane_terms.proofs.Points.{point_at}
 use Rattle.plane_terms.proofs.ListLemmas.{every_right, SomeOf-append_left, SomeOf-append_right}
 use Rattle.topology_terms.specs.Feature.{Feature, sides}
-use Rattle.topology_terms.specs.Cells.{uncovered, out_of_segments}
+use Rattle.topology_terms.specs.Cells.{out_of_segments}
 use Rattle.number_laws.proofs.Order.{scaled_le, zero_unscaled}
 use Rattle.cell_laws.proofs.AtPlaces.{turn_on}
 use Rattle.cell_laws.proofs.Meeting.{weighted_cross, times_zero}
@@ -65,7 +64,7 @@ between_both a b c d v w (inr h) (inl k) o =
     )
 
 -- ---- a segment on another
-pub held_by_ends : (s t : Segment) → IsSegment s → holds_place t s.lo ≡ true → holds_place t s.hi ≡ true → IsHeldBy s t
+held_by_ends : (s t : Segment) → IsSegment s → holds_place t s.lo ≡ true → holds_place t s.hi ≡ true → IsHeldBy s t
 held_by_ends s t g a b p o =
     let lo = place_from t s.lo (point_at s.lo) (at_itself s.lo) a in
     let hi = place_from t s.hi (point_at s.hi) (at_itself s.hi) b in

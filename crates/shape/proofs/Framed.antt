@@ -1,5 +1,5 @@
 -- Rectangles round blocks of segments: a rectangle round one segment more, and one block more.
-use Rattle.std.proofs.Common.{◌≡◌, inl, inr, length-append, length-drop, ℕ, ◌+◌, ◌*◌, ◌/◌, ◌<◌, ◌≤◌, Bool, true, false, List, [], ◌∷◌, ◌++◌, Some, refl, sym, ◌∙◌, ap, cond, take, drop, length, get_or, subst, arith}
+use Rattle.std.proofs.Common.{◌≡◌, inl, inr, length-append, length-drop, ℕ, ◌+◌, ◌*◌, ◌/◌, ◌<◌, ◌≤◌, Bool, true, List, [], ◌∷◌, ◌++◌, Some, sym, ◌∙◌, ap, cond, take, drop, length, get_or, subst, arith}
 use Rattle.std.specs.Prelude.{slice_get, nat_lt}
 use Rattle.std.proofs.lemmas.Bool.{cases_lt}
 use Rattle.std.proofs.lemmas.Bool.Decides.{nat_tests}
@@ -10,7 +10,7 @@ use Rattle.plane_terms.specs.Segment.{Segment, IsSegment, box_of}
 use Rattle.plane_terms.proofs.ListLemmas.{every_append, every_map}
 use Rattle.grid_plane.specs.Rectangles.{IsJoin}
 use Rattle.sound_laws.proofs.Planes.{within_trans}
-use Rattle.shape.specs.Frames.{IsRound, AreFrames, frame_count}
+use Rattle.shape.specs.Frames.{IsRound, frame_count}
 
 -- ---- a rectangle round segments
 pub round_more : (r j : Rectangle) (ts : List Segment) (i : ℕ) (t : Segment) → i < length ts → t ≡ get_or ts i t → IsSegment t

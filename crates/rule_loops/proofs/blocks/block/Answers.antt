@@ -1,6 +1,5 @@
-use Rattle.std.proofs.Common.{◌≡◌, ◌*◌, ◌<◌, List, sym, ◌∙◌, ap, take, drop, length, arith}
+use Rattle.std.proofs.Common.{◌*◌, sym, ◌∙◌, ap, take, drop, length, arith}
 use Rattle.std.proofs.lemmas.List.{take_all}
-use Rattle.plane_terms.specs.Segment.{Segment}
 use Rattle.plane_terms.specs.Shape.{segments_of}
 use Rattle.rule_loops.proofs.Blocked.{are_many, are_few, begins_within, only_block, block_is}
 use Rattle.rule_loops.proofs.blocks.block.Goals as goal

@@ -1,9 +1,6 @@
-use Rattle.std.proofs.Common.{◌≡◌, ◌*◌, ◌<◌, refl, List, sym, ◌∙◌, ap, subst, take, drop, length, arith}
+use Rattle.std.proofs.Common.{refl, length}
 use Rattle.std.proofs.lemmas.Option.{slice_get_read}
-use Rattle.plane_terms.specs.Lists.{Every}
-use Rattle.plane_terms.specs.Segment.{Segment, IsSegment}
 use Rattle.plane_terms.specs.Shape.{segments_of}
-use Rattle.shape.specs.Frames.{IsRound}
 use Rattle.rule_loops.proofs.Blocked.{are_many, are_few, only_block, block_is, frame_within, round_env}
 use Rattle.rule_loops.proofs.blocks.block_frame.Goals as goal
 

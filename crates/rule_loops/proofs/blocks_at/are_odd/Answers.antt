@@ -1,6 +1,5 @@
 use Rattle.std.proofs.Common.{sym, ◌∙◌, ap}
 use Rattle.plane_terms.specs.Lists.{is_odd}
-use Rattle.plane_terms.specs.Segment.{Segment}
 use Rattle.plane_terms.specs.Shape.{segments_of}
 use Rattle.rule_loops.specs.Blocks.{block_of}
 use Rattle.rule_loops.proofs.Below.{none_below}

@@ -1,11 +1,9 @@
-use Rattle.std.proofs.Common.{◌≡◌, ◌+◌, Bool, true, false, cond, sym, ◌∙◌, ap, arith}
+use Rattle.std.proofs.Common.{Bool, cond, sym, ◌∙◌, ap, arith}
 use Rattle.std.specs.Prelude.{not}
-use Rattle.plane_terms.specs.Lists.{how_many, is_odd}
 use Rattle.plane_terms.specs.Polygon.{counts}
 use Rattle.plane_terms.specs.Segment.{Segment}
 use Rattle.plane_terms.specs.Shape.{segments_of}
 use Rattle.plane_terms.proofs.Points.{point_at}
-use Rattle.rule_loops.proofs.Blocked.{left_all}
 use Rattle.rule_loops.proofs.Below.{odd_first, odd_later, odd_end}
 use Rattle.rule_loops.proofs.blocks_at.are_odd_below.Goals.{then-are_odd, else-are_odd}
 use Rattle.rule_loops.proofs.blocks_at.are_odd_below.Goals as goal

@@ -1,11 +1,9 @@
-use Rattle.std.proofs.Common.{◌≡◌, ◌≤◌, ℕ, ◌+◌, sym, ◌∙◌, ap, arith}
+use Rattle.std.proofs.Common.{◌+◌, arith}
 use Rattle.plane_terms.specs.Lists.{how_many}
 use Rattle.plane_terms.specs.Line.{holds_place}
 use Rattle.plane_terms.specs.Segment.{Segment}
 use Rattle.plane_terms.specs.Shape.{segments_of}
 use Rattle.rule_loops.specs.Blocks.{block_of}
-use Rattle.rule_loops.specs.Views.{up_to_three}
-use Rattle.rule_loops.proofs.Blocked.{left_all}
 use Rattle.rule_loops.proofs.Below.{three_later, three_end, three_first, three_few}
 use Rattle.rule_loops.proofs.blocks_at.count_on.Goals as goal
 

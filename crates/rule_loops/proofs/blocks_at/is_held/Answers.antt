@@ -1,7 +1,5 @@
-use Rattle.std.proofs.Common.{sym, ◌∙◌, ap}
-use Rattle.plane_terms.specs.Segment.{Segment}
+use Rattle.std.proofs.Common.{sym, ◌∙◌}
 use Rattle.plane_terms.specs.Shape.{segments_of}
-use Rattle.topology_terms.specs.Tests.{holds_at}
 use Rattle.rule_loops.specs.Blocks.{block_of}
 use Rattle.rule_loops.proofs.Below.{none_holds}
 use Rattle.rule_loops.proofs.blocks_at.is_held.Goals as goal

@@ -1,10 +1,10 @@
-use Rattle.std.proofs.Common.{◌≡◌, ◌+◌, false, List, ◌++◌, refl, sym, ◌∙◌, ap, arith}
+use Rattle.std.proofs.Common.{◌≡◌, false, List, ◌++◌, sym, ◌∙◌, ap, arith}
 use Rattle.std.specs.Prelude.{flat_map}
 use Rattle.plane_terms.specs.Rectangle.{rects_meet}
 use Rattle.plane_terms.specs.Segment.{Segment, box_of}
 use Rattle.plane_terms.specs.Shape.{segments_of}
 use Rattle.plane_terms.specs.Cell.{Cell}
-use Rattle.rule_loops.specs.Blocks.{left_from, block_of}
+use Rattle.rule_loops.specs.Blocks.{block_of}
 use Rattle.rule_loops.proofs.Blocked.{left_all, none_near, block_more, block_same, blocks_done}
 use Rattle.rule_loops.proofs.pairs.push_with_shape.Goals.{then-meets+in_ok-push_row, else-meets}
 use Rattle.rule_loops.proofs.pairs.push_with_shape.Goals as goal

@@ -1,6 +1,5 @@
-use Rattle.std.proofs.Common.{◌≡◌, sym, ◌∙◌, ap, refl}
+use Rattle.std.proofs.Common.{sym, ◌∙◌, ap}
 use Rattle.plane_terms.specs.Shape.{Shape, segments_of}
-use Rattle.topology_terms.specs.Feature.{sides}
 use Rattle.topology_terms.specs.Cells.{uncovered, out_of_segments}
 use Rattle.rule_loops.proofs.More.{segment_more, segment_same, segment_none}
 use Rattle.rule_loops.proofs.sides.carved_segment.Goals.{then-is_beside+in_ok-left, else-is_beside}

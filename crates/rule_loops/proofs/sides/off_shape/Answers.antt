@@ -1,9 +1,8 @@
-use Rattle.std.proofs.Common.{◌≡◌, ◌+◌, false, sym, ◌∙◌, ap, arith}
+use Rattle.std.proofs.Common.{◌≡◌, false, sym, ◌∙◌, ap, arith}
 use Rattle.plane_terms.specs.Rectangle.{rects_meet}
-use Rattle.plane_terms.specs.Segment.{Segment, box_of}
+use Rattle.plane_terms.specs.Segment.{box_of}
 use Rattle.plane_terms.specs.Shape.{segments_of}
 use Rattle.topology_terms.specs.Cells.{uncovered, out_of_segments}
-use Rattle.rule_loops.specs.Blocks.{left_from, block_of}
 use Rattle.rule_loops.proofs.Blocked.{left_all}
 use Rattle.rule_loops.proofs.More.{off_block, off_far, off_blocks}
 use Rattle.rule_loops.proofs.sides.off_shape.Goals.{then-meets+in_ok-left, else-meets}

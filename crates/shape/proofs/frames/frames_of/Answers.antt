@@ -1,6 +1,5 @@
-use Rattle.std.proofs.Common.{ap, sym, ◌∙◌, length, length-drop, length-append, arith, ◌+◌, ◌≡◌, ◌*◌, ◌≤◌, ◌++◌, ◌∷◌, [], subst, List}
+use Rattle.std.proofs.Common.{ap, sym, ◌∙◌, length, length-drop, length-append, arith, ◌+◌, ◌≡◌, ◌*◌, ◌≤◌, ◌∷◌, [], subst}
 use Rattle.std.specs.Prelude.{slice_get}
-use Rattle.plane_terms.specs.Rectangle.{Rectangle}
 use Rattle.shape.specs.Frames.{IsRound}
 use Rattle.shape.proofs.Framed.{rest_more, frame_more, counted}
 use Rattle.shape.proofs.frames.frames_of.Goals as goal
