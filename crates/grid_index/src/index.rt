@@ -3,9 +3,9 @@ ghost use Rattle.std.specs.List.Sorted.{IsStrictlyIncreasing};
 ghost use Rattle.grid_index.specs.Near.{HoldsSame, Gains, Loses, IsNear, Adds};
 
 use crate::node::Node;
-use crate::siblings::{add_from_each, put_in, take_from};
 use crate::once::once_each;
 use crate::placed::Placed;
+use crate::siblings::{add_from_each, put_in, take_from};
 use grid_plane::{NoMemory, Rect};
 use std::alloc::Global;
 use std::marker::Model;

@@ -4,9 +4,9 @@ ghost use Rattle.grid_index.specs.Middles.{middle_of, IsCrowded};
 ghost use Rattle.grid_index.specs.Nodes.{AreWithin};
 
 use crate::middle::Middle;
-use crate::siblings::{add_from_each, divided, push_in, put_in, reach_of_nodes, take_from};
 use crate::placed::{Placed, add_met, drop_placed};
 use crate::reach::{reach_of, reach_of_both};
+use crate::siblings::{add_from_each, divided, push_in, put_in, reach_of_nodes, take_from};
 use grid_plane::{NoMemory, Rect};
 use std::alloc::Global;
 use std::marker::Model;
