@@ -15,7 +15,7 @@ use Rattle.grid_index.specs.declared.middle.Middle.{Middle}
 abbrev pub middle_of : Rectangle → Middle
 middle_of r = record {
   x = unsigned_abs (r.x0 -ℤ negsuc 4194303) + unsigned_abs (r.x1 -ℤ negsuc 4194303);
-  y = unsigned_abs (r.y0 -ℤ negsuc 4194303) + unsigned_abs (r.y1 -ℤ negsuc 4194303)
+  y = unsigned_abs (r.y0 -ℤ negsuc 4194303) + unsigned_abs (r.y1 -ℤ negsuc 4194303);
 }
 
 abbrev pub apart : Middle → Middle → ℕ

@@ -68,12 +68,7 @@ pub(crate) fn divided(alloc: Global, list: &[Placed], digit: u32) -> Result<Vec<
 }
 
 #[cycle(put)]
-fn put_at(
-    alloc: Global,
-    nodes: &mut Vec<Node>,
-    i: usize,
-    placed: &Placed,
-) -> Result<(), NoMemory>
+fn put_at(alloc: Global, nodes: &mut Vec<Node>, i: usize, placed: &Placed) -> Result<(), NoMemory>
     requires { i < length nodes.old.items }
     ensures ok { OnOk result (Gains (all_items nodes.old.items) (all_items nodes.new.items) placed.now) }
     ensures err { OnErr result (HoldsSame (all_items nodes.old.items) (all_items nodes.new.items)) }
@@ -137,11 +132,7 @@ pub(crate) fn reach_of_nodes(nodes: &[Node]) -> Option<Rect>
 
 /// Adds the handles of the rectangles that this one meets.
 #[cycle(near)]
-pub(crate) fn add_from_each(
-    nodes: &[Node],
-    r: &Rect,
-    found: &mut Vec<u32>,
-) -> Result<(), NoMemory>
+pub(crate) fn add_from_each(nodes: &[Node], r: &Rect, found: &mut Vec<u32>) -> Result<(), NoMemory>
     ensures { OnOk result (Adds r.now (Contains (all_items nodes.now)) found.old.items found.new.items) }
 {
     for node in nodes {

@@ -24,8 +24,8 @@ same t c = on_err_weaker c.put_in.result
 pub node::Node::put-invariant_of-self : goal.node::Node::put-invariant_of-self
 node::Node::put-invariant_of-self t c = (
   within_through c.put_in.result c.self.inside.reach c.join-self-inside.result
-    (c.self.inside.placed.items ++ all_items c.self.inside.quarters.items) (c.self.inside.placed.items ++ all_items c.put_in.new.nodes.items)
-    c.args.placed.now c.join-self-inside.ensures.meaning c.self.invariant.0 (more t c) (same t c),
+      (c.self.inside.placed.items ++ all_items c.self.inside.quarters.items) (c.self.inside.placed.items ++ all_items c.put_in.new.nodes.items)
+      c.args.placed.now c.join-self-inside.ensures.meaning c.self.invariant.0 (more t c) (same t c),
   c.self.invariant.1,
 )
 

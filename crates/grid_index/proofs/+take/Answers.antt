@@ -41,10 +41,10 @@ siblings::take_from-returns t c =
 pub node::Node::take-invariant_of-self : goal.node::Node::take-invariant_of-self
 node::Node::take-invariant_of-self t c = (
   reach_kept c.reach_of_both-reach.result c.self.inside.reach c.unwrap_or-self-inside.result
-    (c.drop_placed.new.list.items ++ all_items c.take_from.new.nodes.items) c.unwrap_or-self-inside.ensures
-    (subst (λ o. IsReach o (c.drop_placed.new.list.items ++ all_items c.take_from.new.nodes.items)) (sym c.reach_of_both-reach.ensures)
-    (reach_both c.reach_of.result c.reach_of_nodes.result c.drop_placed.new.list.items (all_items c.take_from.new.nodes.items)
-    (rw c.deref.ensures.value at c.reach_of.ensures) (rw c.deref-then-holds_rect.ensures.value at c.reach_of_nodes.ensures))),
+      (c.drop_placed.new.list.items ++ all_items c.take_from.new.nodes.items) c.unwrap_or-self-inside.ensures
+      (subst (λ o. IsReach o (c.drop_placed.new.list.items ++ all_items c.take_from.new.nodes.items)) (sym c.reach_of_both-reach.ensures)
+      (reach_both c.reach_of.result c.reach_of_nodes.result c.drop_placed.new.list.items (all_items c.take_from.new.nodes.items)
+      (rw c.deref.ensures.value at c.reach_of.ensures) (rw c.deref-then-holds_rect.ensures.value at c.reach_of_nodes.ensures))),
   c.self.invariant.1,
 )
 

@@ -1,4 +1,4 @@
-use Rattle.grid_index.proofs.Levels.{on_err}
+use Rattle.grid_index.proofs.Nodes.{on_err}
 use Rattle.topo_core.proofs.Exchanges.{envelopes_added}
 use Rattle.topo_core.proofs.Standing.{still_placed, placed_back}
 use Rattle.topo_core.proofs.growth.dirty_both.Goals as goal

@@ -1,4 +1,4 @@
-use Rattle.grid_index.proofs.Levels.{on_err}
+use Rattle.grid_index.proofs.Nodes.{on_err}
 use Rattle.topo_core.proofs.Whole.{none_given}
 use Rattle.topo_core.proofs.Standing.{still_placed, next_back}
 use Rattle.topo_core.proofs.growth.dirty_next.Goals as goal

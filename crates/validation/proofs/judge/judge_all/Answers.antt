@@ -1,7 +1,7 @@
 use Rattle.validation_laws.specs.Parts.{IsRulePart, live_of}
 use Rattle.validation_laws.proofs.Joining.{part_more}
 use Rattle.validation_laws.proofs.Counting.{judged_rule_more, judged_rule_within}
-use Rattle.grid_index.proofs.Levels.{on_err}
+use Rattle.grid_index.proofs.Nodes.{on_err}
 use Rattle.validation.proofs.judge.judge_all.Goals as goal
 
 pub loop-rule-preserved : goal.loop-rule-preserved

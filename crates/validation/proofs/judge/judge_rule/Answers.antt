@@ -3,7 +3,7 @@ use Rattle.std.proofs.lemmas.List.{get_or_default}
 use Rattle.validation_laws.specs.Parts.{IsSubjectPart}
 use Rattle.validation_laws.proofs.Joining.{part_more}
 use Rattle.validation_laws.proofs.Counting.{judged_more, judged_within}
-use Rattle.grid_index.proofs.Levels.{on_err}
+use Rattle.grid_index.proofs.Nodes.{on_err}
 use Rattle.validation.proofs.judge.judge_rule.Goals as goal
 
 pub loop-i-preserved : goal.loop-i-preserved

@@ -1,7 +1,7 @@
 use Rattle.std.proofs.Common.{◌≡◌}
 use Rattle.validation_laws.proofs.Judging.{judging_ascends}
 use Rattle.sound_laws.proofs.RuleLists.{each_rule}
-use Rattle.grid_index.proofs.Levels.{on_err}
+use Rattle.grid_index.proofs.Nodes.{on_err}
 use Rattle.validation.proofs.window.rejudge.Goals as goal
 
 pub judge_all-requires-clause-fits : goal.judge_all-requires-clause-fits

@@ -4,7 +4,7 @@ use Rattle.validation_laws.proofs.Validating.{parts_kept_valid, parts_kept_sound
 use Rattle.validation.specs.Projects.{with_parts}
 use Rattle.topology_terms.specs.Counts.{judged_of}
 use Rattle.validation_laws.proofs.Counting.{not_raised}
-use Rattle.grid_index.proofs.Levels.{on_err}
+use Rattle.grid_index.proofs.Nodes.{on_err}
 use Rattle.validation.proofs.Settled.{validated, selected_live, judged_upto, le_of_eq}
 use Rattle.validation.proofs.window.validate.Goals as goal
 

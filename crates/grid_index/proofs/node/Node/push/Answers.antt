@@ -18,8 +18,8 @@ more c = gained_left c.self.inside.placed.items c.push.new.self.items (all_items
 pub invariant_of-self : goal.invariant_of-self
 invariant_of-self c = (
   all_same c.join-self-inside.result (c.self.inside.placed.items ++ all_items c.self.inside.quarters.items)
-    (c.push.new.self.items ++ all_items c.self.inside.quarters.items)
-    (all_wider c.self.inside.reach c.join-self-inside.result _ c.join-self-inside.ensures.meaning.first c.self.invariant.0) (same c),
+      (c.push.new.self.items ++ all_items c.self.inside.quarters.items)
+      (all_wider c.self.inside.reach c.join-self-inside.result _ c.join-self-inside.ensures.meaning.first c.self.invariant.0) (same c),
   c.self.invariant.1,
 )
 
@@ -30,8 +30,8 @@ returns-in_err-push-clause-err c = on_err c.from_residual.result _
 pub invariant_of-self-2 : goal.invariant_of-self-2
 invariant_of-self-2 c = (
   all_gained c.join-self-inside.result (c.self.inside.placed.items ++ all_items c.self.inside.quarters.items)
-    (c.push.new.self.items ++ all_items c.self.inside.quarters.items) c.args.placed.now
-    (all_wider c.self.inside.reach c.join-self-inside.result _ c.join-self-inside.ensures.meaning.first c.self.invariant.0)
+      (c.push.new.self.items ++ all_items c.self.inside.quarters.items) c.args.placed.now
+      (all_wider c.self.inside.reach c.join-self-inside.result _ c.join-self-inside.ensures.meaning.first c.self.invariant.0)
       c.join-self-inside.ensures.meaning.second (more c),
   c.self.invariant.1,
 )

@@ -8,7 +8,7 @@ use Rattle.topology_terms.specs.Counts.{raised, judged_of}
 use Rattle.topo_core.specs.Topologies.{project_of}
 use Rattle.topo_core.proofs.Whole.{ordered, fitting}
 use Rattle.topo_core.proofs.Kept.{parts_of, validated_keeps, validated_sound_kept, validated_settled_kept}
-use Rattle.grid_index.proofs.Levels.{on_err}
+use Rattle.grid_index.proofs.Nodes.{on_err}
 use Rattle.topo_core.proofs.topology.Topology.validate.Goals as goal
 
 pub validate-requires : goal.validate-requires
