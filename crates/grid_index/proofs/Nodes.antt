@@ -148,9 +148,6 @@ gains_after ps qs ss p same gains = λ q. (
   (λ h. elim h [ inl k ↦ (gains q).1 (inl ((same q).1 k)) | inr e ↦ (gains q).1 (inr e) ]),
 )
 
-pub same_after : (ps qs ss : List Placed) → HoldsSame ps qs → HoldsSame qs ss → HoldsSame ps ss
-same_after ps qs ss first second = λ q. ((λ h. (first q).0 ((second q).0 h)), (λ h. (second q).1 ((first q).1 h)))
-
 pub on_err : {A E : Type 0} (r : Result A E) (P : Type 0) → P → OnErr r P
 on_err (Ok x) P p = tt
 on_err (Err e) P p = p

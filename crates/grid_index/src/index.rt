@@ -13,7 +13,7 @@ use std::marker::Model;
 /// There is room for so many handles before a list of found ones grows.
 const FEW: usize = 16;
 
-/// The middles of the grid, doubled, have fewer binary digits.
+/// Twice a middle has so many binary digits.
 const WHOLE: u32 = 25;
 
 /// Rectangles with handles, found by where they lie. A handle may have several rectangles, and a rectangle several handles.
@@ -60,8 +60,8 @@ impl Index {
         take_from(&mut self.nodes, placed);
     }
 
-    /// The handles of the rectangles that meet this one, once each, ascending; touching is meeting. It looks only
-    /// where what lies under a node reaches.
+    /// The handles of the rectangles that meet this one, once each, ascending; touching is meeting. It looks
+    /// only into nodes whose reach meets this rectangle.
     pub fn query(&self, alloc: Global, r: &Rect) -> Result<Vec<u32>, NoMemory>
         ensures ascending { IfOk result (λ v. IsStrictlyIncreasing v.items) }
         ensures near { IfOk result (λ v. (a : ℕ) → Contains v.items a ↔ IsNear r.now self.now a) }

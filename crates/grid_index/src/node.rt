@@ -15,12 +15,14 @@ use std::mem;
 /// A node that holds so many rectangles itself is divided before it takes one that lies elsewhere.
 const FULL: usize = 16;
 
-/// A node of the tree. It holds rectangles whose middles lie in one square: itself, or in the nodes of the square's quarters.
-/// All of them lie in its reach. What a question finds rests on the reaches alone; where a rectangle is put makes it quick.
+/// A node of the tree: rectangles whose middles lie in one square, and whose reach holds them all. It holds them itself, or by
+/// the quarters of the square. What a question finds rests on the reaches alone; where a rectangle is put makes it quick.
 #[derive(Drop)]
 pub(crate) struct Node {
     reach: Rect,
+    // Of the first rectangle.
     middle: Middle,
+    // By which the quarters are told apart: the square's side, doubled like the middles, is 2 to the power `digit + 1`.
     digit: u32,
     placed: Vec<Placed>,
     quarters: Vec<Node>,
@@ -109,7 +111,7 @@ impl Node {
         Ok(())
     }
 
-    // Puts a rectangle into a node without quarters. It is divided where it is crowded and the digits of the middles part them.
+    // Puts a rectangle into a node without quarters.
     fn put_whole(&mut self, alloc: Global, placed: &Placed) -> Result<(), NoMemory>
         requires { self.old.height ≡ 0 }
         ensures ok { OnOk result (Gains self.old.items self.new.items placed.now) }
@@ -125,7 +127,7 @@ impl Node {
         }
     }
 
-    // Puts a rectangle that lies outside of the node's square beside it, into a node round both.
+    // Puts a rectangle in that lies outside of the square: the node becomes one of the quarters of a larger square.
     fn put_outside(&mut self, alloc: Global, placed: &Placed, digit: u32) -> Result<(), NoMemory>
         requires { digit < 32 }
         ensures ok { OnOk result (Gains self.old.items self.new.items placed.now) }
