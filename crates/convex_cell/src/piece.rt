@@ -54,11 +54,7 @@ fn is_clear_of(halves: &[Half], bounds: &Bounds, other: &Cell, other_bounds: &Bo
     if are_apart(bounds, other_bounds) {
         return true;
     }
-    if is_in_both(
-        halves,
-        &other.halves,
-        middle_of_both(bounds, other_bounds),
-    ) {
+    if is_in_both(halves, &other.halves, middle_of_both(bounds, other_bounds)) {
         return false;
     }
     is_empty_together(halves, &other.halves)

@@ -9,6 +9,7 @@ mod Opened
 mod Parts
 mod Rest
 mod Seen
+mod Shares
 mod Shut
 mod Spots
 mod Tested

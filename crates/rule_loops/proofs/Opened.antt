@@ -31,11 +31,11 @@ uncovered_joined cs ds (es ∷ dss) =
     ap (λ us. uncovered us dss) (carve_append cs ds es) ∙ uncovered_joined (carve_of cs es) (carve_of ds es) dss
 
 -- ---- a cell that is covered
-none_left : (cs : List Cell) → HavePoints cs → ((p : Point) → ¬ (InCells cs p)) → cs ≡ []
+pub none_left : (cs : List Cell) → HavePoints cs → ((p : Point) → ¬ (InCells cs p)) → cs ≡ []
 none_left [] h n = refl
 none_left (c ∷ cs) h n = absurd (n h.0.0 (inl h.0.1))
 
-some_at : {A : Type 0} (P : A → Type 0) (xs : List A) (i : ℕ) (x : A) → slice_get xs i ≡ Some x → P x → SomeOf P xs
+pub some_at : {A : Type 0} (P : A → Type 0) (xs : List A) (i : ℕ) (x : A) → slice_get xs i ≡ Some x → P x → SomeOf P xs
 some_at P xs i x e h =
     let split : take i xs ++ x ∷ drop (i + 1) xs ≡ xs = ap (λ ys. take i xs ++ ys) (sym (drop_one xs i x e)) ∙ take-append-drop i xs in
     subst (SomeOf P) split (SomeOf-append_right P (take i xs) (x ∷ drop (i + 1) xs) (inl h))
