@@ -116,6 +116,9 @@ bounds_narrowed b o r c d e h i j x y f = record { x_fits = x; y_fits = y; x = �
 pub both_held : (c d : Cell) (p : Point) → InCell c p → InCell d p → HasPoint (c ++ d)
 both_held c d p m n = (p, (all_append (λ h. Holds h p) c d).1 (m, n))
 
+pub some_left : (c d e : Cell) → HoldBoth c d e → HasPoint (c ++ d) → HasPoint e
+some_left c d e h m = (m.0, (in_both c d e h m.0).1 ((all_append (λ g. Holds g m.0) c d).0 m.1))
+
 pub bounds_same : (b : Bounds) (c d : Cell) → SameCells d c → IsBoundsOf b c → IsBoundsOf b d
 bounds_same b c d s i = record {
   x_fits = i.x_fits;

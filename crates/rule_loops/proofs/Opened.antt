@@ -31,7 +31,7 @@ uncovered_joined cs ds (es ∷ dss) =
     ap (λ us. uncovered us dss) (carve_append cs ds es) ∙ uncovered_joined (carve_of cs es) (carve_of ds es) dss
 
 -- ---- a cell that is covered
-none_left : (cs : List Cell) → HavePoints cs → ((p : Point) → ¬ (InCells cs p)) → cs ≡ []
+pub none_left : (cs : List Cell) → HavePoints cs → ((p : Point) → ¬ (InCells cs p)) → cs ≡ []
 none_left [] h n = refl
 none_left (c ∷ cs) h n = absurd (n h.0.0 (inl h.0.1))
 

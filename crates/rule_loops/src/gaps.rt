@@ -1,10 +1,12 @@
-ghost use Rattle.std.specs.Prelude.{◌≡◌, [], IfOk, map};
+ghost use Rattle.std.specs.Prelude.{◌≡◌, IfOk, map};
 ghost use Rattle.plane_terms.specs.Cell as planes;
 ghost use Rattle.topology_terms.specs.Plans as plans;
 ghost use Rattle.rule_loops.specs.Views.{of_class};
 
+use crate::nearby::nearby_of;
+use crate::open::open_parts;
 use crate::polygon::{boundary_of, outside_of};
-use crate::uncovered::left_uncovered;
+use crate::uncovered::left_by_turns;
 use convex_cell::{Cell, Cells};
 use grid_plane::NoMemory;
 use rule_core::{View, Work};
@@ -24,18 +26,7 @@ fn weakened(alloc: Global, cells: &Cells) -> Result<Cells, NoMemory>
     Ok(weak)
 }
 
-// What is out of the subject, within a box round it.
-fn ground_round(alloc: Global, subject: &Feature, work: &mut Work) -> Result<Cells, NoMemory>
-    ensures ground { IfOk result (λ cells. cells ≡ plans.open_ground subject.now []) }
-    ensures uncounted { work.new ≡ work.old }
-{
-    let mut ground = Cells::new(alloc);
-    ground.push(Cell::box_round(alloc, &subject.shape().env())?)?;
-    let outside = outside_of(alloc, subject, work)?;
-    ground.carve_by(alloc, &outside)
-}
-
-// What no polygon of the class that is shown covers round the subject.
+// What no polygon of the class that is shown covers round the subject: out of it, within a box round it.
 fn open_ground(
     alloc: Global,
     class: u16,
@@ -46,8 +37,12 @@ fn open_ground(
     ensures ground { IfOk result (λ cells. cells ≡ plans.open_ground subject.now (of_class class view.now)) }
     ensures uncounted { work.new ≡ work.old }
 {
-    let ground = ground_round(alloc, subject, work)?;
-    left_uncovered(alloc, class, Some(subject.handle()), &ground, view, work)
+    let except = Some(subject.handle());
+    let near = nearby_of(alloc, class, except, view, work)?;
+    let round = Cell::box_round(alloc, &subject.shape().env())?;
+    let outside = outside_of(alloc, subject, work)?;
+    let open = open_parts(alloc, &round, &outside, &near)?;
+    left_by_turns(alloc, class, except, open, &near, view, work)
 }
 
 /// The boundary of the subject where open ground comes near.

@@ -1,8 +1,9 @@
-ghost use Rattle.std.specs.Prelude.{◌≡◌, List, IfOk};
-ghost use Rattle.std.specs.Bool.{OnTrue};
+ghost use Rattle.std.specs.Prelude.{◌≡◌, ◌↔◌, ◌<◌, ◌∷◌, [], List, length, slice_get, Some, IfOk, OnOk};
+ghost use Rattle.std.specs.Bool.{OnTrue, OnFalse};
 ghost use Rattle.plane_terms.specs.Point.{Point};
 ghost use Rattle.plane_terms.specs.Cell as planes;
-ghost use Rattle.plane_terms.specs.Cell.{InCell, InCells, HavePoints};
+ghost use Rattle.plane_terms.specs.Cell.{InCell, InCells, HasPoint, HavePoints, meet_of};
+ghost use Rattle.plane_terms.specs.Carve.{carve_of};
 ghost use Rattle.topology_terms.specs.Cells.{uncovered};
 ghost use Rattle.rule_loops.specs.Open.{IsInEach, AreAmong};
 
@@ -45,6 +46,54 @@ fn is_shut(
         piece.widen(mark);
     }
     Ok(true)
+}
+
+// Whether the piece and this cell of the list have a point in common, and the polygons may leave open what they have in common. The
+// piece is where the cell is, before and after.
+fn is_open_part(
+    alloc: Global,
+    piece: &mut Piece,
+    cell: &Cell,
+    by: &BoundedCells,
+    i: usize,
+    near: &[Nearby],
+) -> Result<bool, NoMemory>
+    requires within { i < length by.now }
+    requires same { (p : Point) → InCell piece.old p ↔ InCell cell.now p }
+    ensures same { OnOk result ((p : Point) → InCell piece.new p ↔ InCell cell.now p) }
+    ensures shut { IfOk result (λ part. OnFalse part ((d : planes.Cell) → slice_get by.now i ≡ Some d → (p : Point) → InCell cell.now p → InCell d p → ¬ (IsInEach near.now p))) }
+    ensures some { IfOk result (λ part. OnTrue part ((d : planes.Cell) → slice_get by.now i ≡ Some d → HasPoint (meet_of cell.now d))) }
+{
+    let Some(mark) = piece.narrow(by, i)? else {
+        return Ok(false);
+    };
+    let mut steps = MOST_STEPS;
+    if is_shut(piece, near, 0, &mut steps)? {
+        piece.widen(mark);
+        return Ok(false);
+    }
+    piece.start(alloc, cell)?;
+    Ok(true)
+}
+
+/// Of the cells that `carve` makes of the one cell and the list, those that the polygons may leave open, in order.
+pub(crate) fn open_parts(
+    alloc: Global,
+    cell: &Cell,
+    by: &BoundedCells,
+    near: &[Nearby],
+) -> Result<Cells, NoMemory>
+    ensures same { IfOk result (λ kept. (dss : List (List planes.Cell)) → AreAmong (carve_of (cell.now ∷ []) by.now) dss near.now → uncovered kept dss ≡ uncovered (carve_of (cell.now ∷ []) by.now) dss) }
+{
+    let mut left = Cells::new(alloc);
+    let mut piece = Piece::new(alloc);
+    piece.start(alloc, cell)?;
+    for i in 0..by.len() {
+        if is_open_part(alloc, &mut piece, cell, by, i, near)? {
+            left.push(cell.meet(alloc, by.cells().cell(i))?)?;
+        }
+    }
+    Ok(left)
 }
 
 // Whether the polygons are found to cover the cell.

@@ -38,24 +38,23 @@ fn raised(most: usize, left: usize) -> usize {
     most
 }
 
-/// What is left of the cells, carved by the outsides of the chosen polygons in turn. Cells that are found to be covered are left
-/// out before that, and where the cells become more. Stops where nothing is left.
-pub(crate) fn left_uncovered(
+/// What is left of open cells, carved by the outsides of the chosen polygons in turn. They are tried again where they become more.
+/// Stops where nothing is left.
+pub(crate) fn left_by_turns(
     alloc: Global,
     class: u16,
     except: Option<u32>,
-    cells: &Cells,
+    cells: Cells,
+    near: &[Nearby],
     view: &View<'_>,
     work: &mut Work,
 ) -> Result<Cells, NoMemory>
-    requires { HavePoints cells.now }
-    ensures left { IfOk result (λ left. left ≡ uncovered cells.now (outsides class except view.now)) }
+    requires { AreAmong cells (outsides class except view.now) near.now }
+    ensures left { IfOk result (λ left. left ≡ uncovered cells (outsides class except view.now)) }
     ensures uncounted { work.new ≡ work.old }
 {
-    let polygons = nearby_of(alloc, class, except, view, work)?;
-    let near: &[Nearby] = &polygons;
-    let mut left = BoundedCells::of(alloc, open_cells(alloc, cells, near)?)?;
-    let mut most = left.len();
+    let mut most = cells.len();
+    let mut left = BoundedCells::of(alloc, cells)?;
     for i in 0..view.len() {
         if left.len() == 0 {
             return Ok(left.into_cells());
@@ -69,4 +68,23 @@ pub(crate) fn left_uncovered(
         }
     }
     Ok(left.into_cells())
+}
+
+/// What is left of the cells, carved by the outsides of the chosen polygons in turn. Cells that are found to be covered are left
+/// out before that.
+pub(crate) fn left_uncovered(
+    alloc: Global,
+    class: u16,
+    except: Option<u32>,
+    cells: &Cells,
+    view: &View<'_>,
+    work: &mut Work,
+) -> Result<Cells, NoMemory>
+    requires { HavePoints cells.now }
+    ensures left { IfOk result (λ left. left ≡ uncovered cells.now (outsides class except view.now)) }
+    ensures uncounted { work.new ≡ work.old }
+{
+    let near = nearby_of(alloc, class, except, view, work)?;
+    let open = open_cells(alloc, cells, &near)?;
+    left_by_turns(alloc, class, except, open, &near, view, work)
 }

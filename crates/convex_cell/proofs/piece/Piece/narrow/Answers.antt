@@ -1,8 +1,8 @@
-use Rattle.std.proofs.Common.{◌≡◌, ◌∙◌, length, rules, sym, subst}
-use Rattle.plane_terms.specs.Cell.{Cell, InCell}
+use Rattle.std.proofs.Common.{◌≡◌, ◌∙◌, ◌++◌, length, rules, sym, subst}
+use Rattle.plane_terms.specs.Cell.{Cell, InCell, HasPoint}
 use Rattle.convex_cell.specs.Span.{IsBoundsOf}
 use Rattle.convex_cell.specs.Piece.{IsNarrowed}
-use Rattle.convex_cell.proofs.Pieces.{in_both, bounds_narrowed, both_held}
+use Rattle.convex_cell.proofs.Pieces.{in_both, bounds_narrowed, both_held, some_left}
 use Rattle.convex_cell.proofs.piece.Piece.narrow.Goals as goal
 
 pub returns-then-is_clear_of-clause-clear : goal.returns-then-is_clear_of-clause-clear
@@ -28,9 +28,12 @@ returns-clause-some c = λ d e.
     let all : Cell = c.push_more.new.halves.items in
     let same : d ≡ c.cell-other.result.now = cc in
     let is : more ≡ d = c.deref-2.ensures.value ∙ (c.other.view_is ∙ sym same) in
+    let there : HasPoint (own ++ more) = rw (← c.deref.ensures.value, c.deref-2.ensures.value, c.other.view_is)
+    c.if-is_clear_of.ensures.point in
     let long : c.len-len.result ≡ length own = search rules in
     let made : IsNarrowed (record { len = c.len-len.result; bounds = c.self.inside.bounds }) own more all = record {
       points = in_both own more all c.in_default.ensures.points;
+      some = some_left own more all c.in_default.ensures.points there;
       begins = c.in_default.ensures.begins;
       mark = record { long = long; bounds = c.self.invariant };
     } in
