@@ -11,11 +11,8 @@ mod Opened
 mod Parts
 mod Rest
 mod Seen
-<<<<<<< HEAD
 mod Sharing
-=======
 mod Shares
->>>>>>> 479bc360d302c1935d3a758b213225e0dbadcb69
 mod Shut
 mod Spots
 mod Tested
