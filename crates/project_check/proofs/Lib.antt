@@ -3,4 +3,5 @@ mod Runs
 mod EachSubject
 mod Judged
 mod Sound
+mod Seen
 mod Rows

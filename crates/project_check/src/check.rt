@@ -1,16 +1,17 @@
-ghost use Rattle.std.specs.Prelude.{◌≡◌, ℕ, Some, IfOk, MatchOption};
+ghost use Rattle.std.specs.Prelude.{◌≡◌, ℕ, Some, IfOk};
 ghost use Rattle.topology_terms.specs.Feature as features_of;
+ghost use Rattle.plane_terms.specs.Lists.{Every};
 ghost use Rattle.topology_terms.specs.Broken.{Row};
 ghost use Rattle.topology_terms.specs.Entry as entries_of;
+ghost use Rattle.topology_terms.specs.Project as projects;
 ghost use Rattle.topology_terms.specs.Project.{Project, AreAscending, rule_at};
-ghost use Rattle.topology_terms.specs.Sound.{IsSoundAt};
 ghost use Rattle.validation_laws.specs.Parts.{IsRising};
 ghost use Rattle.validation.specs.Placed.{ArePlaced};
+ghost use Rattle.project_check.specs.Subjects.{HasLists, HasSubjects};
 ghost use Rattle.validation.specs.Projects.{HasParts};
-ghost use Rattle.project_check.specs.Subjects.{HasLists, HasSubjects, IsFirstNot};
 ghost use Rattle.project_check.specs.Checked.{IsChecked};
 
-use crate::pair::is_sound_at;
+use crate::pair::first_rule;
 use crate::subjects::subjects_of;
 use dirty_area::Dirt;
 use error_store::{Entry, Errors};
@@ -28,37 +29,52 @@ pub struct Unsound {
     pub subject: u32,
 }
 
-// The first of the subjects at which the project is not sound by this rule.
-fn first_subject<R: RuleSet>(
+// Of these subjects and rules the first rule, and then the first subject, at which the project is not sound. Where it is not
+// sound at a subject, only the rules before go on.
+fn first_unsound<R: RuleSet>(
     rules: &R,
     alloc: Global,
-    rule: &InForce,
+    in_force: &[InForce],
     features: &FeatureIndex<'_>,
     entries: &[Entry],
     dirt: &Dirt,
     subjects: &[u32],
     work: &mut Work,
-) -> Result<Option<u32>, NoMemory>
+) -> Result<Option<Unsound>, NoMemory>
+    requires rules { AreAscending in_force.now }
     requires features { features_of.IsAscending features.now }
     requires entries { entries_of.IsAscending entries.now }
-    requires fits { R.meaning.Fits rule.now.row features.now }
+    requires fits { Every (λ (q : projects.InForce). R.meaning.Fits q.row features.now) in_force.now }
     requires rising { IsRising subjects.now }
     requires all { HasSubjects features.now entries.now subjects.now }
-    ensures { IfOk result (λ found. (p : Project) → HasLists p features.now dirt.now entries.now → MatchOption found ((a : ℕ) → IsSoundAt R.meaning p rule.now.number rule.now.row a) (IsFirstNot (λ a. IsSoundAt R.meaning p rule.now.number rule.now.row a))) }
+    ensures { IfOk result (λ found. (p : Project) → HasLists p features.now dirt.now entries.now → p.rules ≡ in_force.now → IsChecked R.meaning p found) }
 {
+    let mut left = in_force.len();
+    let mut found = None;
     for subject in subjects {
-        if !is_sound_at(rules, alloc, rule, features, entries, dirt, *subject, work)? {
-            return Ok(Some(*subject));
-        }
+        let earlier = &in_force[..left];
+        let place = first_rule(
+            rules, alloc, earlier, features, entries, dirt, *subject, work,
+        )?;
+        let Some(place) = place else {
+            continue;
+        };
+        let rule = &in_force[place];
+        found = Some(Unsound {
+            rule: rule.number,
+            subject: *subject,
+        });
+        left = place;
     }
-    Ok(None)
+    Ok(found)
 }
 
 /// `None` where the project of these rules in force, features, errors and dirt is sound; else the first rule and subject at
 /// which it is not, in order of rules, then of subjects. Each live feature stands in the index, which says where to look for
 /// features; other pairs that stand there change nothing. An `Err` is want of memory.
 ///
-/// Every number may be a subject: at one that is neither a live feature nor has an error, a project is sound.
+/// Every number may be a subject: at one that is neither a live feature nor has an error, a project is sound. It goes subject by
+/// subject, so that what lies near one is looked up once for all rules.
 pub fn check_project<R: RuleSet>(
     rules: &R,
     alloc: Global,
@@ -78,16 +94,7 @@ pub fn check_project<R: RuleSet>(
     let subjects = subjects_of(alloc, features, entries)?;
     let indexed = FeatureIndex::of(features, index);
     let mut work = Work::new();
-    for rule in in_force {
-        let found = first_subject(
-            rules, alloc, rule, &indexed, entries, dirt, &subjects, &mut work,
-        )?;
-        if let Some(subject) = found {
-            return Ok(Some(Unsound {
-                rule: rule.number,
-                subject,
-            }));
-        }
-    }
-    Ok(None)
+    first_unsound(
+        rules, alloc, in_force, &indexed, entries, dirt, &subjects, &mut work,
+    )
 }

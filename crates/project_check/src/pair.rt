@@ -1,11 +1,13 @@
-ghost use Rattle.std.specs.Prelude.{◌≡◌, ◌↔◌, IsTrue, IfOk};
+ghost use Rattle.std.specs.Prelude.{◌≡◌, ◌<◌, length, IfSome, IfOk};
 ghost use Rattle.std.specs.Option.{option_map};
+ghost use Rattle.plane_terms.specs.Lists.{Every};
 ghost use Rattle.topology_terms.specs.Feature.{feature_at, env};
 ghost use Rattle.topology_terms.specs.Feature as features_of;
 ghost use Rattle.topology_terms.specs.Entry as entries_of;
+ghost use Rattle.topology_terms.specs.Project as projects;
 ghost use Rattle.topology_terms.specs.Project.{Project};
-ghost use Rattle.topology_terms.specs.Sound.{IsSoundAt};
-ghost use Rattle.project_check.specs.Subjects.{HasLists};
+ghost use Rattle.sound_check.specs.Pairs.{IsOf};
+ghost use Rattle.project_check.specs.Subjects.{HasLists, IsCompared, IsFirstRule};
 
 use crate::run::entries_of;
 use dirty_area::Dirt;
@@ -14,7 +16,7 @@ use grid_plane::{NoMemory, Rect};
 use rule_core::{InForce, RuleSet, Work};
 use sound_check::is_sound_pair;
 use std::alloc::Global;
-use validation::{FeatureIndex, judge_subject};
+use validation::{FeatureIndex, RulePart, judge_subject};
 
 // The envelope of the live feature of this handle.
 fn envelope_of(features: &FeatureIndex<'_>, handle: u32) -> Option<Rect>
@@ -27,26 +29,57 @@ fn envelope_of(features: &FeatureIndex<'_>, handle: u32) -> Option<Rect>
     }
 }
 
-/// Whether the project is sound at the rule and the subject, live or not: judges the subject afresh, and compares what is found
-/// with its stored entries. An `Err` is want of memory.
-pub fn is_sound_at<R: RuleSet>(
+// Whether the stored entries of the rule and the subject are sound beside these, which are found afresh.
+fn is_sound_part(
+    alloc: Global,
+    fresh: &RulePart,
+    subject: u32,
+    envelope: Option<Rect>,
+    entries: &[Entry],
+    dirt: &Dirt,
+) -> Result<bool, NoMemory>
+    requires entries { entries_of.IsAscending entries.now }
+    requires fresh { entries_of.IsAscending fresh.now.entries }
+    requires own { Every (IsOf fresh.now.rule.number subject) fresh.now.entries }
+    ensures { IfOk result (IsCompared dirt.now envelope entries.now fresh.now subject) }
+{
+    let rule = fresh.rule().number;
+    let stored = entries_of(entries, rule, subject);
+    is_sound_pair(
+        alloc,
+        rule,
+        subject,
+        envelope,
+        fresh.entries(),
+        stored,
+        dirt,
+    )
+}
+
+/// The place of the first of these rules by which the project is not sound at the subject, live or not: each judges the subject
+/// afresh, and what is found is compared with its stored entries. `None` where it is sound by all. An `Err` is want of memory.
+pub fn first_rule<R: RuleSet>(
     rules: &R,
     alloc: Global,
-    rule: &InForce,
+    in_force: &[InForce],
     features: &FeatureIndex<'_>,
     entries: &[Entry],
     dirt: &Dirt,
     subject: u32,
     work: &mut Work,
-) -> Result<bool, NoMemory>
+) -> Result<Option<usize>, NoMemory>
     requires features { features_of.IsAscending features.now }
     requires entries { entries_of.IsAscending entries.now }
-    requires fits { R.meaning.Fits rule.now.row features.now }
-    ensures { IfOk result (λ yes. (p : Project) → HasLists p features.now dirt.now entries.now → IsTrue yes ↔ IsSoundAt R.meaning p rule.now.number rule.now.row subject) }
+    requires fits { Every (λ (q : projects.InForce). R.meaning.Fits q.row features.now) in_force.now }
+    ensures within { IfOk result (λ place. IfSome place (λ k. k < length in_force.now)) }
+    ensures first { IfOk result (λ place. (p : Project) → HasLists p features.now dirt.now entries.now → IsFirstRule R.meaning p in_force.now subject place) }
 {
-    let mut fresh = Vec::new(alloc);
-    judge_subject(rules, alloc, rule, features, subject, &mut fresh, work)?;
+    let fresh = judge_subject(rules, alloc, in_force, features, subject, work)?;
     let envelope = envelope_of(features, subject);
-    let stored = entries_of(entries, rule.number, subject);
-    is_sound_pair(alloc, rule.number, subject, envelope, &fresh, stored, dirt)
+    for i in 0..fresh.len() {
+        if !is_sound_part(alloc, &fresh[i], subject, envelope, entries, dirt)? {
+            return Ok(Some(i));
+        }
+    }
+    Ok(None)
 }

@@ -1,12 +1,12 @@
 -- New entries of several rules at once, put together subject by subject.
-use Rattle.std.proofs.Common.{◌≡◌, ℕ, ◌<◌, ◌≤◌, ◌+◌, Bool, true, false, cond, List, [], ◌∷◌, ◌++◌, Some, None, map, refl, sym, ◌∙◌, ap, arith, take, drop, length, set, get_or, append-nil}
+use Rattle.std.proofs.Common.{◌≡◌, ℕ, ◌<◌, ◌≤◌, ◌+◌, Bool, true, false, cond, List, [], ◌∷◌, ◌++◌, Some, None, map, refl, sym, ◌∙◌, ap, subst, arith, take, drop, length, set, get_or, append-nil}
 use Rattle.std.specs.Prelude.{◌||◌}
 use Rattle.std.specs.Option.{option_to_list}
 use Rattle.std.specs.List.{list_any}
 use Rattle.std.proofs.lemmas.List.{take_more, take_more_set, take_all, get_or-set_other, get_or-map, length-map, take-append-drop}
 use Rattle.std.proofs.lemmas.List.Sums.{sum_by-cons}
 use Rattle.std.proofs.lemmas.Grind.{flat_map-append}
-use Rattle.plane_terms.specs.Lists.{Every, how_many}
+use Rattle.plane_terms.specs.Lists.{Every, Paired, how_many}
 use Rattle.plane_terms.proofs.ListLemmas.{how_many_joined}
 use Rattle.topology_terms.specs.Feature.{Feature, feature_at, IsAscending}
 use Rattle.topology_terms.specs.Broken.{Row, judged}
@@ -20,7 +20,7 @@ use Rattle.validation_laws.proofs.Joining.{joined_more, paired_more}
 use Rattle.validation_laws.proofs.Viewed.{subject_seen, view_cut, view_fits}
 use Rattle.validation_laws.proofs.Parts.{part_dead, part_idle}
 use Rattle.validation_laws.proofs.Counting.{raised_more, raised_upto}
-use Rattle.validation.specs.Parted.{RulePart, rules_of, entries_of, IsGrown, AreGrown, IsDone}
+use Rattle.validation.specs.Parted.{RulePart, rules_of, entries_of, IsPartOf, IsGrown, AreGrown, IsDone}
 
 -- ---- by a view
 -- what a view shows is a view of itself
@@ -226,3 +226,14 @@ judging_parts M F selected (p ∷ ps) h = (p.entries, (entries_of ps, (refl, h.0
 pub judging_none : (M : Meaning) (F : List Feature) (rules : List InForce) → IsJudging M F rules [] []
 judging_none M F [] = refl
 judging_none M F (r ∷ rules) = ([], ([], (refl, refl, judging_none M F rules)))
+
+-- ---- of one subject
+part_grown : (M : Meaning) (F : List Feature) (a : ℕ) (r : InForce) (p : RulePart) → IsGrown M F a (empty_part r) p → IsPartOf M F a r p
+part_grown M F a r p g = record { rule = g.rule; own = subst (λ es. IsSubjectPart M F r.number r.row a es) (sym g.put) g.own }
+
+pub parts_grown : (M : Meaning) (F : List Feature) (a : ℕ) (rules : List InForce) (ps : List RulePart)
+    → AreGrown M F a (map empty_part rules) ps → Paired (IsPartOf M F a) rules ps
+parts_grown M F a [] [] g = tt
+parts_grown M F a [] (p ∷ ps) g = absurd g
+parts_grown M F a (r ∷ rules) [] g = absurd g
+parts_grown M F a (r ∷ rules) (p ∷ ps) g = (part_grown M F a r p g.0, parts_grown M F a rules ps g.1)

@@ -3,6 +3,7 @@
 -- RulePart             a rule in force, and new entries of it
 -- rules_of ps          the rules, in their order
 -- entries_of ps        the entries of the first, then those of the second, and so on
+-- IsPartOf M F a q p   p is of the rule q, and its entries are those of the subject a
 -- IsGrown M F a p q    q is p with the new entries of its rule and the subject a behind
 -- AreGrown M F a ps qs     each of ps has grown so
 -- IsDone M F selected p    the entries of p are those of its rule and of the selected subjects
@@ -23,6 +24,10 @@ rules_of ps = map (λ (p : RulePart). p.rule) ps
 
 abbrev pub entries_of : List RulePart → List Entry
 entries_of ps = flat_map (λ (p : RulePart). p.entries) ps
+
+pub record IsPartOf (M : Meaning) (F : List Feature) (a : ℕ) (q : InForce) (p : RulePart) : Type 0 where
+  pub rule : p.rule ≡ q
+  pub own : IsSubjectPart M F q.number q.row a p.entries
 
 pub record IsGrown (M : Meaning) (F : List Feature) (a : ℕ) (p q : RulePart) : Type 0 where
   pub rule : q.rule ≡ p.rule

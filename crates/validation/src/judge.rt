@@ -1,8 +1,7 @@
 ghost use Rattle.std.specs.Prelude.{◌≡◌, ◌≤◌, ◌++◌, [], ◌∷◌, List, true, false, Some, IfOk, OnOk, OnErr};
-ghost use Rattle.std.specs.Option.{option_to_list};
 ghost use Rattle.plane_terms.specs.Lists.{Every, Paired, how_many};
 ghost use Rattle.plane_terms.specs.Cell.{IsLeastFrame};
-ghost use Rattle.topology_terms.specs.Feature.{feature_at, env, IsAscending};
+ghost use Rattle.topology_terms.specs.Feature.{feature_at, env};
 ghost use Rattle.topology_terms.specs.Broken.{judged};
 ghost use Rattle.topology_terms.specs.Entry as terms;
 ghost use Rattle.validation_laws.specs.Parts.{IsNewEntry, IsSubjectPart};
@@ -11,7 +10,6 @@ ghost use Rattle.validation_laws.specs.Framed.{IsFramable};
 ghost use Rattle.topology_terms.specs.Counts.{raised};
 
 use crate::frame::frame_of;
-use crate::near::FeatureIndex;
 use error_store::{Entry, Key};
 use grid_plane::{NoMemory, Rect};
 use rule_core::{Finding, InForce, RuleSet, View, Work};
@@ -85,50 +83,4 @@ pub(crate) fn judge_shown<R: RuleSet>(
     }
     let findings = rules.judge_row(alloc, &rule.row, view, f.handle(), work)?;
     add_findings(alloc, rule.number, f, findings.into_list(), out)
-}
-
-fn judge_live<R: RuleSet>(
-    rules: &R,
-    alloc: Global,
-    rule: &InForce,
-    features: &FeatureIndex<'_>,
-    f: &Feature,
-    out: &mut Vec<Entry>,
-    work: &mut Work,
-) -> Result<(), NoMemory>
-    requires ascending { IsAscending features.now }
-    requires live { feature_at features.now f.now.handle ≡ Some f.now }
-    requires fits { R.meaning.Fits rule.now.row features.now }
-    ensures part { OnOk result ((es : List terms.Entry) × (out.new.items ≡ out.old.items ++ es) × IsSubjectPart R.meaning features.now rule.now.number rule.now.row f.now.handle es) }
-    ensures judged { OnOk result (work.new ≡ raised work.old (how_many (judged rule.now.row) (f.now ∷ []))) }
-    ensures stopped { OnErr result (work.new ≤ raised work.old (how_many (judged rule.now.row) (f.now ∷ []))) }
-{
-    if !rule.row.judges(f.class()) {
-        return Ok(());
-    }
-    let view = features.view_of(alloc, f)?;
-    judge_shown(rules, alloc, rule, &view, f, out, work)
-}
-
-/// Puts the new entries of the subject, in the order of partners; where it is not live there are none. The count of judgements
-/// rises by one where it is live and the rule judges it. After an `Err`, want of memory, it has risen by no more.
-pub fn judge_subject<R: RuleSet>(
-    rules: &R,
-    alloc: Global,
-    rule: &InForce,
-    features: &FeatureIndex<'_>,
-    subject: u32,
-    out: &mut Vec<Entry>,
-    work: &mut Work,
-) -> Result<(), NoMemory>
-    requires ascending { IsAscending features.now }
-    requires fits { R.meaning.Fits rule.now.row features.now }
-    ensures part { OnOk result ((es : List terms.Entry) × (out.new.items ≡ out.old.items ++ es) × IsSubjectPart R.meaning features.now rule.now.number rule.now.row subject es) }
-    ensures judged { OnOk result (work.new ≡ raised work.old (how_many (judged rule.now.row) (option_to_list (feature_at features.now subject)))) }
-    ensures stopped { OnErr result (work.new ≤ raised work.old (how_many (judged rule.now.row) (option_to_list (feature_at features.now subject)))) }
-{
-    match features.find(subject) {
-        Some(f) => judge_live(rules, alloc, rule, features, f, out, work),
-        None => Ok(()),
-    }
 }

@@ -12,7 +12,7 @@ mod selection;
 mod sorted;
 mod window;
 
-pub use judge::judge_subject;
 pub use near::FeatureIndex;
+pub use parts::{RulePart, judge_subject};
 pub use ruled::RuledFeatures;
 pub use window::validate;

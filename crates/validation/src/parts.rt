@@ -1,7 +1,7 @@
 ghost use Rattle.std.specs.Prelude.{◌≡◌, ◌≤◌, ◌++◌, [], ◌∷◌, List, map, IfOk, OnOk, OnErr};
 ghost use Rattle.std.specs.List.{list_any};
 ghost use Rattle.std.specs.Option.{option_to_list};
-ghost use Rattle.plane_terms.specs.Lists.{Every, how_many};
+ghost use Rattle.plane_terms.specs.Lists.{Every, Paired, how_many};
 ghost use Rattle.topology_terms.specs.Feature.{feature_at, IsAscending};
 ghost use Rattle.topology_terms.specs.Broken.{judged};
 ghost use Rattle.topology_terms.specs.Entry as entries;
@@ -9,7 +9,7 @@ ghost use Rattle.topology_terms.specs.Project as projects;
 ghost use Rattle.topology_terms.specs.Counts.{raised, judged_of};
 ghost use Rattle.validation_laws.specs.Parts.{IsJudging, live_of};
 ghost use Rattle.validation_laws.specs.Views.{IsView};
-ghost use Rattle.validation.specs.Parted.{IsGrown, AreGrown, IsDone, rules_of, entries_of};
+ghost use Rattle.validation.specs.Parted.{IsPartOf, IsGrown, AreGrown, IsDone, rules_of, entries_of};
 ghost use Rattle.validation.specs.Parted as terms;
 
 use crate::judge::judge_shown;
@@ -22,9 +22,9 @@ use shape::Feature;
 use std::alloc::Global;
 use std::marker::Model;
 
-// A rule in force, and its new entries: of the subjects so far, one after another.
+/// A rule in force, and its new entries: of the subjects so far, one after another.
 #[derive(Drop)]
-struct RulePart {
+pub struct RulePart {
     rule: InForce,
     entries: Vec<Entry>,
 }
@@ -46,6 +46,20 @@ impl RulePart {
             rule,
             entries: Vec::new(alloc),
         }
+    }
+
+    /// The rule.
+    pub fn rule(&self) -> &InForce
+        ensures { result.now ≡ self.now.rule }
+    {
+        &self.rule
+    }
+
+    /// Its new entries.
+    pub fn entries(&self) -> &[Entry]
+        ensures { result.now ≡ self.now.entries }
+    {
+        &self.entries
     }
 
     // Whether the rule judges the feature.
@@ -157,6 +171,28 @@ fn judge_by_each<R: RuleSet>(
         Some(f) => judge_live_by_each(rules, alloc, parts, features, f, work),
         None => Ok(()),
     }
+}
+
+/// The new entries of the subject under each of these rules, in their order; where it is not live there are none. What lies near
+/// it is looked up once. The count of judgements rises by one for each rule that judges the subject, where it is live. After an
+/// `Err`, want of memory, it has risen by no more.
+pub fn judge_subject<R: RuleSet>(
+    rules: &R,
+    alloc: Global,
+    in_force: &[InForce],
+    features: &FeatureIndex<'_>,
+    subject: u32,
+    work: &mut Work,
+) -> Result<Vec<RulePart>, NoMemory>
+    requires ascending { IsAscending features.now }
+    requires fits { Every (λ (q : projects.InForce). R.meaning.Fits q.row features.now) in_force.now }
+    ensures parts { IfOk result (λ v. Paired (IsPartOf R.meaning features.now subject) in_force.now v.items) }
+    ensures judged { IfOk result (λ _. work.new ≡ raised work.old (judged_of in_force.now (option_to_list (feature_at features.now subject)))) }
+    ensures stopped { OnErr result (work.new ≤ raised work.old (judged_of in_force.now (option_to_list (feature_at features.now subject)))) }
+{
+    let mut parts = empty_parts(alloc, in_force)?;
+    judge_by_each(rules, alloc, &mut parts, features, subject, work)?;
+    Ok(parts)
 }
 
 // Each rule judges each of the selected subjects, of which there was no entry yet.
