@@ -44,16 +44,9 @@ fn is_sound_part(
     ensures { IfOk result (IsCompared dirt.now envelope entries.now fresh.now subject) }
 {
     let rule = fresh.rule().number;
+    let found = fresh.entries();
     let stored = entries_of(entries, rule, subject);
-    is_sound_pair(
-        alloc,
-        rule,
-        subject,
-        envelope,
-        fresh.entries(),
-        stored,
-        dirt,
-    )
+    is_sound_pair(alloc, rule, subject, envelope, found, stored, dirt)
 }
 
 /// The place of the first of these rules by which the project is not sound at the subject, live or not: each judges the subject

@@ -9,6 +9,6 @@ returns c =
     IfOk-weaker c.is_sound_pair.result _ _ (λ yes t. record {
       stored = c.entries_of-stored.result.now;
       same = rw (number, c.rule.ensures) at c.entries_of-stored.ensures.same;
-      told = rw (number, c.rule.ensures, c.entries.ensures) at t;
+      told = rw (number, c.rule.ensures, c.entries-found.ensures) at t;
     })
     c.is_sound_pair.ensures
