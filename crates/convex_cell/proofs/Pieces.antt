@@ -95,6 +95,12 @@ whole_code v f h e = omega (arith, ints)
 pub held_in : (c : Cell) (p : Point) → All (λ h. Holds h p) c ↔ InCell c p
 held_in c p = (recursion_from_All (λ h. Holds h p) c, All-from_recursion (λ h. Holds h p) c)
 
+pub in_same : (c d : Cell) → SameCells c d → (p : Point) → InCell c p ↔ InCell d p
+in_same c d s p = (
+  λ m. (held_in d p).0 ((s p).0 ((held_in c p).1 m)),
+  λ m. (held_in c p).0 ((s p).1 ((held_in d p).1 m)),
+)
+
 abbrev pub HoldBoth : Cell → Cell → Cell → Type 0
 HoldBoth c d e = (p : Point) → All (λ h. Holds h p) e ↔ (All (λ h. Holds h p) c × All (λ h. Holds h p) d)
 
@@ -123,8 +129,8 @@ pub bounds_same : (b : Bounds) (c d : Cell) → SameCells d c → IsBoundsOf b c
 bounds_same b c d s i = record {
   x_fits = i.x_fits;
   y_fits = i.y_fits;
-  x = λ p m. i.x p ((held_in c p).0 ((s p).0 ((held_in d p).1 m)));
-  y = λ p m. i.y p ((held_in c p).0 ((s p).0 ((held_in d p).1 m)));
+  x = λ p m. i.x p ((in_same d c s p).0 m);
+  y = λ p m. i.y p ((in_same d c s p).0 m);
 }
 
 -- ---- bounds of what is carved

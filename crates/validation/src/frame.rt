@@ -7,27 +7,28 @@ ghost use Rattle.plane_terms.specs.Cell as terms;
 
 use convex_cell::Cells;
 use grid_plane::Rect;
+use std::alloc::Global;
 
 // The frame of the cell at this place.
-fn frame_at(cells: &Cells, i: usize) -> Rect
+fn frame_at(alloc: Global, cells: &Cells, i: usize) -> Rect
     requires short { i < length cells.now }
     requires points { HavePoints cells.now }
     requires on_grid { Every (λ (c : terms.Cell). (p : Point) → InCell c p → RectHolds whole_grid p) cells.now }
     ensures { (c : terms.Cell) → slice_get cells.now i ≡ Some c → IsLeastFrame result (c ∷ []) }
 {
-    cells.cell(i).frame()
+    cells.cell(i).frame(alloc)
 }
 
-/// The least rectangle of the grid that holds every point of the cells. It takes no memory.
-pub fn frame_of(cells: &Cells) -> Rect
+/// The least rectangle of the grid that holds every point of the cells.
+pub fn frame_of(alloc: Global, cells: &Cells) -> Rect
     requires some { cells.now ≢ [] }
     requires points { HavePoints cells.now }
     requires on_grid { Every (λ (c : terms.Cell). (p : Point) → InCell c p → RectHolds whole_grid p) cells.now }
     ensures { IsLeastFrame result cells.now }
 {
-    let mut frame = frame_at(cells, 0);
+    let mut frame = frame_at(alloc, cells, 0);
     for i in 1..cells.len() {
-        frame = frame.join(&frame_at(cells, i));
+        frame = frame.join(&frame_at(alloc, cells, i));
     }
     frame
 }

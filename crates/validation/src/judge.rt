@@ -18,14 +18,14 @@ use std::alloc::Global;
 use topology_terms::Extent;
 
 // The least frame of its cells, or the envelope of the subject that breaks the rule as a whole.
-fn frame_for(f: &Feature, x: &Finding) -> Rect
+fn frame_for(alloc: Global, f: &Feature, x: &Finding) -> Rect
     requires { IsFramable x.now }
     ensures least { x.now.whole ≡ false → IsLeastFrame result x.now.cells }
     ensures envelope { x.now.whole ≡ true → result ≡ env f.now }
 {
     match x.extent {
         Extent::Whole => f.shape().env(),
-        Extent::Cells => frame_of(&x.cells),
+        Extent::Cells => frame_of(alloc, &x.cells),
     }
 }
 
@@ -33,7 +33,7 @@ fn entry_of(alloc: Global, rule: u16, f: &Feature, x: Finding) -> Result<Entry, 
     requires { IsFramable x }
     ensures { IfOk result (IsNewEntry rule f.now.handle f.now x) }
 {
-    let frame = frame_for(f, &x);
+    let frame = frame_for(alloc, f, &x);
     let key = Key {
         rule,
         subject: f.handle(),
