@@ -110,6 +110,11 @@ in_both c d e h p = (
   λ m. (held_in e p).0 ((h p).1 ((held_in c p).1 m.0, (held_in d p).1 m.1)),
 )
 
+-- half-planes that hold within bounds of the cell
+pub in_bounds_held : (b : Bounds) (c d : Cell) → IsBoundsOf b c → ((p : Point) → InBounds b p → All (λ h. Holds h p) d) → (p : Point)
+    → InCell c p ↔ (InCell c p × InCell d p)
+in_bounds_held b c d i h p = (λ m. (m, (held_in d p).0 (h p (in_bounds b c i p m))), λ m. m.0)
+
 pub bounds_narrowed : (b o r : Bounds) (c d e : Cell) → HoldBoth c d e → IsBoundsOf b c → IsBoundsOf o d → IsSpan r.x → IsSpan r.y
     → ((p : Point) → InBounds b p → InBounds o p → InBounds r p) → IsBoundsOf r e
 bounds_narrowed b o r c d e h i j x y f = record { x_fits = x; y_fits = y; x = λ p m. (within p m).along; y = λ p m. (within p m).up }

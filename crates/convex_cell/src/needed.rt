@@ -77,6 +77,20 @@ fn holds_within(half: &Half, x: Reach, y: Reach) -> bool
     }
 }
 
+/// Whether all the half-planes hold wherever the frame does.
+pub(crate) fn hold_within(halves: &[Half], x: Reach, y: Reach) -> bool
+    requires x { FitsReach x }
+    requires y { FitsReach y }
+    ensures { OnTrue result ((p : Point) → IsInFrame x y p → All (λ h. Holds h p) halves.now) }
+{
+    for half in halves {
+        if !holds_within(half, x, y) {
+            return false;
+        }
+    }
+    true
+}
+
 /// The half-plane of these numbers, closed.
 fn closed(a: i64, b: i64, c: i64) -> Half
     requires a { unsigned_abs a ≤ 1 }

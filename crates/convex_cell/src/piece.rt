@@ -11,7 +11,7 @@ ghost use Rattle.convex_cell.specs.Piece.{IsMarkOf, IsNarrowed};
 use crate::bounded::BoundedCells;
 use crate::bounds::{Bounds, Window, are_apart, bounds_of, common_bounds};
 use crate::cell::{Cell, is_empty_together};
-use crate::needed::{needed_of, push_others, reach_of};
+use crate::needed::{hold_within, needed_of, push_others, reach_of};
 use crate::span::Span;
 use crate::trials::{is_in_both, middle_of_both};
 use grid_plane::{Half, NoMemory, Rect};
@@ -24,17 +24,19 @@ use std::marker::Model;
 pub struct Piece {
     halves: Vec<Half>,
     bounds: Bounds,
+    // Whether it is known to have a point.
+    is_some: bool,
 }
 
 impl Model for Piece {
     ghost use Rattle.plane_terms.specs.Cell as terms;
-    ghost use Rattle.convex_cell.specs.Span.{IsBoundsOf};
+    ghost use Rattle.convex_cell.specs.Piece.{IsPiece};
 
     ghost Value = { terms.Cell };
 
     ghost view = { λ p. p.halves.items };
 
-    ghost invariant = { λ p. IsBoundsOf p.bounds p.halves.items };
+    ghost invariant = { λ p. IsPiece p.bounds p.is_some p.halves.items };
 }
 
 /// How wide a piece was.
@@ -42,6 +44,7 @@ impl Model for Piece {
 pub struct Mark {
     len: usize,
     bounds: Bounds,
+    is_some: bool,
 }
 
 /// Whether no point is both in the cell of these half-planes and in the other.
@@ -73,6 +76,21 @@ fn push_more(halves: &mut Vec<Half>, bounds: &Bounds, more: &[Half]) -> Result<(
     }
     halves.extend_from_slice(more)?;
     Ok(())
+}
+
+/// Whether the half-planes hold wherever the bounds reach, as the corners of a frame round them show.
+fn hold_in(halves: &[Half], bounds: &Bounds) -> bool
+    requires x { IsSpan bounds.now.x }
+    requires y { IsSpan bounds.now.y }
+    ensures { OnTrue result ((p : Point) → InBounds bounds.now p → All (λ h. Holds h p) halves.now) }
+{
+    match reach_of(bounds.x) {
+        Some(x) => match reach_of(bounds.y) {
+            Some(y) => hold_within(halves, x, y),
+            None => false,
+        },
+        None => false,
+    }
 }
 
 /// They say nothing.
@@ -137,6 +155,7 @@ impl Piece {
         Piece {
             halves: Vec::new(alloc),
             bounds: everywhere(),
+            is_some: false,
         }
     }
 
@@ -147,6 +166,17 @@ impl Piece {
         &self.halves
     }
 
+    /// How wide it is.
+    fn mark(&self) -> Mark
+        ensures { IsMarkOf result self.now }
+    {
+        Mark {
+            len: self.halves.len(),
+            bounds: self.bounds,
+            is_some: self.is_some,
+        }
+    }
+
     /// Makes it the cell; the whole plane where memory runs out.
     pub fn start(&mut self, alloc: Global, cell: &Cell) -> Result<(), NoMemory>
         ensures ok { OnOk result ((p : Point) → InCell self.new p ↔ InCell cell.now p) }
@@ -154,6 +184,7 @@ impl Piece {
     {
         self.halves.clear();
         self.bounds = everywhere();
+        self.is_some = false;
         let bounds = bounds_of(&cell.halves);
         start_with(alloc, &mut self.halves, cell, &bounds)?;
         self.bounds = bounds;
@@ -178,20 +209,21 @@ impl Piece {
         ensures err { OnErr result (self.new ≡ self.old) }
     {
         let other = by.cells().cell(i);
+        let mark = self.mark();
+        if self.is_some && hold_in(&other.halves, &self.bounds) {
+            return Ok(Some(mark));
+        }
         let other_bounds = by.bounds_at(i);
         if is_clear_of(&self.halves, &self.bounds, other, &other_bounds) {
             return Ok(None);
         }
-        let len = self.halves.len();
-        let mark = Mark {
-            len,
-            bounds: self.bounds,
-        };
+        let len = mark.len;
         if let Err(full) = push_more(&mut self.halves, &self.bounds, &other.halves) {
             self.halves.truncate(len);
             return Err(full);
         }
         self.bounds = common_bounds(&mark.bounds, &other_bounds);
+        self.is_some = true;
         Ok(Some(mark))
     }
 
@@ -203,6 +235,7 @@ impl Piece {
     {
         self.halves.truncate(mark.len);
         self.bounds = mark.bounds;
+        self.is_some = mark.is_some;
     }
 
     /// Whether its bounds show that it has no point in the rectangle.

@@ -3,9 +3,9 @@ ghost use Rattle.plane_terms.specs.Cell as planes;
 ghost use Rattle.topology_terms.specs.Plans as plans;
 ghost use Rattle.rule_loops.specs.Views.{of_class};
 
-use crate::nearby::nearby_of;
-use crate::open::open_parts;
-use crate::polygon::{boundary_of, outside_of};
+use crate::nearby::{nearby, nearby_of};
+use crate::polygon::boundary_of;
+use crate::remainder::left_of_cell;
 use crate::uncovered::left_by_turns;
 use convex_cell::{Cell, Cells};
 use grid_plane::NoMemory;
@@ -38,11 +38,12 @@ fn open_ground(
     ensures uncounted { work.new ≡ work.old }
 {
     let except = Some(subject.handle());
-    let near = nearby_of(alloc, class, except, view, work)?;
+    let mut own = Vec::new(alloc);
+    own.push(nearby(alloc, subject, work)?)?;
+    let near = nearby_of(alloc, own, class, except, view, work)?;
     let round = Cell::box_round(alloc, &subject.shape().env())?;
-    let outside = outside_of(alloc, subject, work)?;
-    let open = open_parts(alloc, &round, &outside, &near)?;
-    left_by_turns(alloc, class, except, open, &near, view, work)
+    let left = left_of_cell(alloc, &round, &near.held)?;
+    left_by_turns(alloc, class, except, left, near.rest, view, work)
 }
 
 /// The boundary of the subject where open ground comes near.

@@ -21,6 +21,7 @@ mod pairs;
 mod partners;
 mod places;
 mod polygon;
+mod remainder;
 mod shared;
 mod sides;
 mod single;

@@ -14,11 +14,21 @@ use std::rc::Rc;
 /// Polygons of so many cells are held at once, at most: 160 bytes each.
 const MOST_CELLS: usize = 65_536;
 
+/// And so many polygons, since each may take a call of its own.
+const MOST_POLYGONS: usize = 1_024;
+
 /// A polygon round the subject: a box round it, and the cells of what is closed out of it.
 #[derive(Drop)]
 pub(crate) struct Nearby {
     env: Rect,
     pub(crate) outside: Rc<BoundedCells>,
+}
+
+impl Nearby {
+    /// Whether the polygon may be near the piece.
+    pub(crate) fn is_near(&self, piece: &Piece) -> bool {
+        is_near(piece, &self.env)
+    }
 }
 
 impl Model for Nearby {
@@ -41,33 +51,50 @@ pub(crate) fn is_chosen(class: u16, except: Option<u32>, other: &Feature) -> boo
         }
 }
 
-/// The polygons that are chosen, or the first of them where they have too many cells.
+/// A polygon with the cells of what is closed out of it.
+pub(crate) fn nearby(alloc: Global, polygon: &Feature, work: &mut Work) -> Result<Nearby, NoMemory>
+    ensures outside { IfOk result (λ n. n ≡ outside polygon.now) }
+    ensures uncounted { work.new ≡ work.old }
+{
+    let outside = outside_of(alloc, polygon, work)?;
+    let env = polygon.shape().env();
+    Ok(Nearby { env, outside })
+}
+
+/// Polygons that are held at once, and the place in the view from which on they are not.
+#[derive(Drop)]
+pub(crate) struct NearPolygons {
+    pub(crate) held: Vec<Nearby>,
+    pub(crate) rest: usize,
+}
+
+/// Behind these polygons those that are chosen, or the first of them where they are too many or have too many cells.
 pub(crate) fn nearby_of(
     alloc: Global,
+    first: Vec<Nearby>,
     class: u16,
     except: Option<u32>,
     view: &View<'_>,
     work: &mut Work,
-) -> Result<Vec<Nearby>, NoMemory>
-    ensures among { IfOk result (λ near. (p : Point) → IsInEach (outsides class except view.now) p → IsInEach near.items p) }
+) -> Result<NearPolygons, NoMemory>
+    ensures all { IfOk result (λ near. near.held.items ++ outsides class except (drop near.rest view.now) ≡ first.items ++ outsides class except view.now) }
     ensures uncounted { work.new ≡ work.old }
 {
-    let mut near = Vec::new(alloc);
+    let mut held = first;
     let mut room = MOST_CELLS;
     for i in 0..view.len() {
         let other = view.feature(i);
         if is_chosen(class, except, other) {
-            let outside = outside_of(alloc, other, work)?;
-            let count = outside.cells().len();
-            if count > room {
-                return Ok(near);
+            let near = nearby(alloc, other, work)?;
+            let count = near.outside.cells().len();
+            if count > room || held.len() >= MOST_POLYGONS {
+                return Ok(NearPolygons { held, rest: i });
             }
             room -= count;
-            let env = other.shape().env();
-            near.push(Nearby { env, outside })?;
+            held.push(near)?;
         }
     }
-    Ok(near)
+    Ok(NearPolygons { held, rest: view.len() })
 }
 
 // The greatest product of the factor and a number from low to high.

@@ -1,77 +1,48 @@
-ghost use Rattle.std.specs.Prelude.{◌≡◌, List, IfOk};
-ghost use Rattle.plane_terms.specs.Point.{Point};
-ghost use Rattle.plane_terms.specs.Cell as planes;
-ghost use Rattle.plane_terms.specs.Cell.{InCells, HavePoints};
+ghost use Rattle.std.specs.Prelude.{◌≡◌, ◌++◌, drop, List, IfOk};
+ghost use Rattle.plane_terms.specs.Cell.{HavePoints};
 ghost use Rattle.topology_terms.specs.Cells.{uncovered};
-ghost use Rattle.rule_loops.specs.Open.{outsides, AreAmong};
+ghost use Rattle.rule_loops.specs.Open.{outsides};
 
-use crate::nearby::{Nearby, is_chosen, nearby_of};
-use crate::open::open_cells;
+use crate::nearby::{is_chosen, nearby_of};
 use crate::polygon::outside_of;
+use crate::remainder::left_of_cells;
 use convex_cell::{BoundedCells, Cells};
 use grid_plane::NoMemory;
 use rule_core::{View, Work};
 use std::alloc::Global;
 
-// The cells, where they are so many at most; else those of them that the polygons may leave open.
-fn still_open(
-    alloc: Global,
-    cells: BoundedCells,
-    near: &[Nearby],
-    most: usize,
-) -> Result<BoundedCells, NoMemory>
-    requires { HavePoints cells }
-    ensures same { IfOk result (λ kept. (dss : List (List planes.Cell)) → AreAmong cells dss near.now → uncovered kept dss ≡ uncovered cells dss) }
-    ensures within { IfOk result (λ kept. (p : Point) → InCells kept p → InCells cells p) }
-{
-    if cells.len() <= most {
-        return Ok(cells);
-    }
-    BoundedCells::of(alloc, open_cells(alloc, cells.cells(), near)?)
-}
-
-// How many cells may be left before they are tried again.
-fn raised(most: usize, left: usize) -> usize {
-    if left > most {
-        return left.saturating_mul(2);
-    }
-    most
-}
-
-/// What is left of open cells, carved by the outsides of the chosen polygons in turn. They are tried again where they become more.
-/// Stops where nothing is left.
+/// What is left of the cells, carved by the outsides of the chosen polygons in turn, from this place of the view on. Stops where nothing is
+/// left.
 pub(crate) fn left_by_turns(
     alloc: Global,
     class: u16,
     except: Option<u32>,
     cells: Cells,
-    near: &[Nearby],
+    from: usize,
     view: &View<'_>,
     work: &mut Work,
 ) -> Result<Cells, NoMemory>
-    requires { AreAmong cells (outsides class except view.now) near.now }
-    ensures left { IfOk result (λ left. left ≡ uncovered cells (outsides class except view.now)) }
+    ensures left { IfOk result (λ left. left ≡ uncovered cells (outsides class except (drop from view.now))) }
     ensures uncounted { work.new ≡ work.old }
 {
-    let mut most = cells.len();
+    if from >= view.len() {
+        return Ok(cells);
+    }
     let mut left = BoundedCells::of(alloc, cells)?;
-    for i in 0..view.len() {
+    for i in from..view.len() {
         if left.len() == 0 {
             return Ok(left.into_cells());
         }
         let other = view.feature(i);
         if is_chosen(class, except, other) {
             let outside = outside_of(alloc, other, work)?;
-            let made = left.carve_again(alloc, &outside)?;
-            left = still_open(alloc, made, near, most)?;
-            most = raised(most, left.len());
+            left = left.carve_again(alloc, &outside)?;
         }
     }
     Ok(left.into_cells())
 }
 
-/// What is left of the cells, carved by the outsides of the chosen polygons in turn. Cells that are found to be covered are left
-/// out before that.
+/// What is left of the cells, carved by the outsides of the chosen polygons in turn.
 pub(crate) fn left_uncovered(
     alloc: Global,
     class: u16,
@@ -84,7 +55,7 @@ pub(crate) fn left_uncovered(
     ensures left { IfOk result (λ left. left ≡ uncovered cells.now (outsides class except view.now)) }
     ensures uncounted { work.new ≡ work.old }
 {
-    let near = nearby_of(alloc, class, except, view, work)?;
-    let open = open_cells(alloc, cells, &near)?;
-    left_by_turns(alloc, class, except, open, &near, view, work)
+    let near = nearby_of(alloc, Vec::new(alloc), class, except, view, work)?;
+    let left = left_of_cells(alloc, cells, &near.held)?;
+    left_by_turns(alloc, class, except, left, near.rest, view, work)
 }

@@ -6,7 +6,7 @@ use Rattle.convex_cell.proofs.piece.Piece.is_off.Goals as goal
 
 pub returns : goal.returns
 returns c =
-    let i = c.self.invariant in
+    let i = c.self.invariant.bounds in
     let round = c.bounds_round.ensures in
     let own : Cell = c.self.inside.halves.items in
     on_true c.are_apart.result _ _ (λ a p m h. never_in c.self.inside.bounds c.bounds_round.result a i.x_fits i.y_fits round.x_fits round.y_fits p
