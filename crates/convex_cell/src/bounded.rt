@@ -20,9 +20,9 @@ use std::marker::Model;
 /// A list of cells that is carved by often, or often carved: it keeps roughly how far each cell reaches.
 #[derive(Drop)]
 pub struct BoundedCells {
-    cells: Cells,
-    bounds: Vec<Bounds>,
-    rising: bool,
+    pub(crate) cells: Cells,
+    pub(crate) bounds: Vec<Bounds>,
+    pub(crate) rising: bool,
 }
 
 impl Model for BoundedCells {
@@ -113,7 +113,7 @@ impl BoundedCells {
     }
 
     /// Puts a cell of these bounds at the end; where memory runs out the list stays as it was.
-    fn push(&mut self, cell: Cell, bounds: Bounds) -> Result<(), NoMemory>
+    pub(crate) fn push(&mut self, cell: Cell, bounds: Bounds) -> Result<(), NoMemory>
         requires { IsBoundsOf bounds cell }
         ensures ok { OnOk result (self.new ≡ self.old ++ cell ∷ []) }
         ensures err { OnErr result (self.new ≡ self.old) }

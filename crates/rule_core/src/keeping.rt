@@ -2,6 +2,7 @@ ghost use Rattle.std.specs.Prelude.{◌≡◌, ◌≢◌, ◌<◌, ◌≤◌, �
 ghost use Rattle.std.specs.NonZero.{non_zero_usize_get};
 ghost use Rattle.std.specs.Map.{lookup};
 ghost use Rattle.lru.specs.LruCache.{put_entries};
+ghost use Rattle.topology_terms.specs.Feature.{sides};
 ghost use Rattle.rule_core.specs.Kept.{cells_of, halves_in, made_of, size_of, kept_at, looked, total, most_features, most_halves, IsPut};
 
 use crate::kept::Kept;
@@ -21,7 +22,7 @@ const MOST_FEATURES: usize = 1_024;
 /// So many half-planes are kept in all, at most: 32 bytes each.
 const MOST_HALVES: usize = 131_072;
 
-/// Cells of polygons by handle, each beside its shape. What was least recently used goes first where there is too much.
+/// Cells of polygons by handle, each beside its segments. What was least recently used goes first where there is too much.
 #[derive(Drop)]
 pub(crate) struct Keeping {
     cache: LruCache<u32, Kept>,
@@ -109,10 +110,10 @@ fn found_in(
     region: Region,
     f: &Feature,
 ) -> Result<Option<Rc<BoundedCells>>, NoMemory>
-    ensures { IfOk result (λ found. MatchOption found (lookup (nat_eq f.now.handle) cache.now.entries ≢ Some (made_of region f.now.shape)) (λ cells. (lookup (nat_eq f.now.handle) cache.now.entries ≡ Some (made_of region f.now.shape)) × (cells.value ≡ cells_of region f.now.shape))) }
+    ensures { IfOk result (λ found. MatchOption found (lookup (nat_eq f.now.handle) cache.now.entries ≢ Some (made_of region (sides f.now))) (λ cells. (lookup (nat_eq f.now.handle) cache.now.entries ≡ Some (made_of region (sides f.now))) × (cells.value ≡ cells_of region f.now.shape))) }
 {
     match cache.peek(&f.handle()) {
-        Some(kept) => kept.cells(region, f.shape()),
+        Some(kept) => kept.cells(region, f.shape().segs()),
         None => Ok(None),
     }
 }
@@ -128,13 +129,13 @@ impl Keeping {
         })
     }
 
-    /// The cells of this region of the feature, where they are kept for its handle and were made of an equal shape.
+    /// The cells of this region of the feature, where they are kept for its handle and were made of equal segments.
     pub(crate) fn look(
         &mut self,
         region: Region,
         f: &Feature,
     ) -> Result<Option<Rc<BoundedCells>>, NoMemory>
-        ensures found { IfOk result (λ found. MatchOption found (kept_at self.old f.now.handle ≢ Some (made_of region f.now.shape)) (λ cells. (kept_at self.old f.now.handle ≡ Some (made_of region f.now.shape)) × (cells.value ≡ cells_of region f.now.shape))) }
+        ensures found { IfOk result (λ found. MatchOption found (kept_at self.old f.now.handle ≢ Some (made_of region (sides f.now))) (λ cells. (kept_at self.old f.now.handle ≡ Some (made_of region (sides f.now))) × (cells.value ≡ cells_of region f.now.shape))) }
         ensures after { IfOk result (λ found. self.new ≡ looked (is_some found) self.old f.now.handle) }
         ensures err { OnErr result (self.new ≡ self.old) }
     {
@@ -155,13 +156,14 @@ impl Keeping {
         cells: &Rc<BoundedCells>,
     ) -> Result<(), NoMemory>
         requires { cells.now.value ≡ cells_of region f.now.shape }
-        ensures kept { OnOk result (size_of (made_of region f.now.shape) ≤ most_halves → kept_at self.new f.now.handle ≡ Some (made_of region f.now.shape)) }
-        ensures recent { OnOk result (size_of (made_of region f.now.shape) ≤ most_halves → IsPut self.old.entries f.now.handle (made_of region f.now.shape) self.new.entries) }
+        ensures kept { OnOk result (size_of (made_of region (sides f.now)) ≤ most_halves → kept_at self.new f.now.handle ≡ Some (made_of region (sides f.now))) }
+        ensures recent { OnOk result (size_of (made_of region (sides f.now)) ≤ most_halves → IsPut self.old.entries f.now.handle (made_of region (sides f.now)) self.new.entries) }
     {
         let Some(halves) = count_halves(cells.cells()) else {
             return Ok(());
         };
-        let kept = Kept::of(region, f.shape().try_copy(alloc)?, cells.clone()?, halves);
+        let segments = Vec::from_slice(alloc, f.shape().segs())?;
+        let kept = Kept::of(region, segments, cells.clone()?, halves);
         self.halves = make_room(&mut self.cache, self.halves, halves);
         self.halves = put(&mut self.cache, self.halves, f.handle(), kept)?;
         Ok(())

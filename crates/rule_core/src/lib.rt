@@ -8,6 +8,7 @@ mod kept;
 mod region;
 mod row;
 mod rule;
+mod same;
 mod view;
 mod work;
 

@@ -1,4 +1,4 @@
-use Rattle.std.proofs.Common.{◌≡◌, ◌∙◌, ◌<◌, ◌++◌, length, arith, inl, inr, ap, sym}
+use Rattle.std.proofs.Common.{◌∙◌, ◌++◌, arith, inl, inr, ap, sym}
 use Rattle.std.proofs.lemmas.Option.{get_or_from_slice_get, slice_get_within}
 use Rattle.convex_cell.proofs.Carves.{met_more}
 use Rattle.convex_cell.proofs.Steps.{bounds_at, apart_at, unchanged, none_after}

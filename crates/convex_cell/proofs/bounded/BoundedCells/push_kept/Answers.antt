@@ -1,0 +1,14 @@
+use Rattle.std.proofs.Common.{◌≡◌, ◌++◌, ◌∷◌, [], OnOk, true, append-nil, subst, sym}
+use Rattle.plane_terms.specs.Cell.{Cell}
+use Rattle.plane_terms.specs.Decide.{has_point}
+use Rattle.cell_laws.proofs.Decision.{has_point-true}
+use Rattle.convex_cell.proofs.Empty.{no_point}
+use Rattle.convex_cell.proofs.bounded.BoundedCells.push_kept.Goals as goal
+
+pub returns-then-is_empty_within-clause-ok : goal.returns-then-is_empty_within-clause-ok
+returns-then-is_empty_within-clause-ok c = rw (no_point c.args.halves.now c.if-is_empty_within.ensures.empty) (sym (append-nil c.args.self.now))
+
+pub returns-clause-ok : goal.returns-clause-ok
+returns-clause-ok c =
+    let some : has_point c.args.halves.now ≡ true = (has_point-true c.args.halves.now).1 c.if-is_empty_within.ensures.point in
+    rw some (subst (λ (cell : Cell). OnOk c.push.result (c.push.new.self ≡ c.args.self.now ++ cell ∷ [])) c.in_ok-of.ensures c.push.ensures.ok)
