@@ -32,7 +32,7 @@ pub value_goes_on : (n : ℕ) (text : List ℕ) (i : ℕ) → i < length text
     → value_from n (drop i text) ≡ value_from (n * 10 + (get_or text i 0 - 48)) (drop (i + 1) text)
 value_goes_on n text i below = rw (add-one, drop-cons text i 0 below) refl
 
-all_of_front : (p : ℕ → Bool) (text : List ℕ) → list_all p (front_of p text) ≡ true
+pub all_of_front : (p : ℕ → Bool) (text : List ℕ) → list_all p (front_of p text) ≡ true
 all_of_front p [] = refl
 all_of_front p (b ∷ bs) = at (p b) refl (all_of_front p bs)
   where

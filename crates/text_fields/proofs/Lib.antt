@@ -1,3 +1,4 @@
 pub mod Fronts
 mod Ends
 pub mod Printed
+pub mod Short

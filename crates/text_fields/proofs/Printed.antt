@@ -25,7 +25,7 @@ no_fraction negative d ds =
     let k : ltb 1 (2 * length (d ∷ ds) + length {A = ℕ} []) ≡ true = grind (arith, nat_tests) in
     rw k refl
 
-digits_number : (negative : Bool) (ds : List ℕ) → list_all is_digit ds ≡ true → 0 < length ds
+pub digits_number : (negative : Bool) (ds : List ℕ) → list_all is_digit ds ≡ true → 0 < length ds
     → number_in negative (front_of is_digit ds) (behind is_digit ds) ≡ within_reach negative (value_of ds)
 digits_number negative [] h some = absurd (omega arith)
 digits_number negative (d ∷ ds) h some =
@@ -37,12 +37,12 @@ unsign : (ds : List ℕ) → list_all is_digit ds ≡ true → (unsigned ds ≡ 
 unsign [] h = (refl, refl)
 unsign (d ∷ ds) h = (grind (arith, nat_tests), grind (arith, nat_tests))
 
-number_of_digits : (ds : List ℕ) → list_all is_digit ds ≡ true → 0 < length ds → number_of ds ≡ within_reach false (value_of ds)
+pub number_of_digits : (ds : List ℕ) → list_all is_digit ds ≡ true → 0 < length ds → number_of ds ≡ within_reach false (value_of ds)
 number_of_digits ds h some =
     let u = unsign ds h in
     rw (u.0, u.1) (digits_number false ds h some)
 
-in_reach : (negative : Bool) (n : ℕ) → n ≤ 4194304 → within_reach negative n ≡ Whole (signed negative n)
+pub in_reach : (negative : Bool) (n : ℕ) → n ≤ 4194304 → within_reach negative n ≡ Whole (signed negative n)
 in_reach negative n le = let k : leb n 4194304 ≡ true = grind (arith, nat_tests) in rw k refl
 
 pub printed : (z : ℤ) → InReach z → number_of (signed_decimal z) ≡ Whole z

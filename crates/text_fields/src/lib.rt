@@ -5,6 +5,7 @@ mod bytes;
 mod coordinate;
 mod fields;
 mod number;
+mod numeral;
 mod runs;
 
 pub use bytes::{is_blank, is_digit, is_letter, is_number_byte};
@@ -13,4 +14,5 @@ pub use fields::{
     behind_word, is_only, is_over, next_field, skip_blanks, skip_end_blanks, split_field,
 };
 pub use number::{Number, are_digits, read_number, value_up_to};
+pub use numeral::next_number;
 pub use runs::{Class, spells, split_run};

@@ -1,15 +1,15 @@
-ghost use Rattle.std.specs.Prelude.{◌≡◌, ◌<◌, ◌^◌, Some, None, nat_le, ◌==◌, IsTrue, if◌then◌else◌};
+ghost use Rattle.std.specs.Prelude.{◌≡◌, ◌<◌, ◌≤◌, ◌^◌, Some, None, nat_le, ◌==◌, IsTrue, if◌then◌else◌};
 ghost use Rattle.std.specs.List.{list_all};
 ghost use Rattle.text_terms.specs.Fields.{is_digit};
-ghost use Rattle.wkt_terms.specs.Numerals.{value_of, is_negative, unsigned, is_fraction, has_form, is_on_grid, within_reach, number_in, number_of};
+ghost use Rattle.wkt_terms.specs.Numerals.{value_of, is_negative, unsigned, is_fraction, has_form, is_on_grid, signed, within_reach, number_in, number_of};
 ghost use Rattle.text_fields.specs.Numbers.{meant};
 
 use crate::bytes::is_digit;
 use crate::coordinate::Coordinate;
 use crate::runs::{Class, split_run};
 
-// The greatest coordinate, in grid units.
-const REACH: u64 = 4_194_304;
+/// The greatest coordinate, in grid units.
+pub(crate) const REACH: u64 = 4_194_304;
 
 /// What a numeral means on the grid.
 #[derive(Clone, Copy)]
@@ -105,6 +105,15 @@ fn has_form(whole: &[u8], fraction: &[u8]) -> bool
     is_fraction(fraction) && (!whole.is_empty() || fraction.len() > 1)
 }
 
+/// The number with this sign.
+pub(crate) fn signed(negative: bool, n: u32) -> Coordinate
+    requires { n ≤ 4194304 }
+    ensures { result ≡ signed negative n }
+{
+    let n = n as i32;
+    Coordinate::new(if negative { -n } else { n })
+}
+
 fn within_reach(negative: bool, whole: &[u8]) -> Number
     requires { IsTrue (list_all is_digit whole.now) }
     ensures { meant result ≡ within_reach negative (value_of whole.now) }
@@ -112,8 +121,7 @@ fn within_reach(negative: bool, whole: &[u8]) -> Number
     let Some(n) = value_up_to(REACH, whole) else {
         return Number::OutOfReach;
     };
-    let n = n as i32;
-    Number::Whole(Coordinate::new(if negative { -n } else { n }))
+    Number::Whole(signed(negative, n as u32))
 }
 
 fn number_in(negative: bool, whole: &[u8], fraction: &[u8]) -> Number

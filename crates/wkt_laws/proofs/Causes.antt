@@ -9,8 +9,8 @@ use Rattle.wkt_terms.specs.Grammar.{Geometry, APoint, ALine, Lines, APolygon, Po
 use Rattle.wkt_terms.specs.Numerals.{Number}
 use Rattle.wkt_terms.specs.Numerals as number
 use Rattle.wkt_terms.specs.Tokens.{Word, Point, LineString, MultiLineString, Polygon, MultiPolygon, Modifier, Strange, Token, Open, Close, Comma, Named, Numeral, Other, End}
-use Rattle.wkt_laws.specs.Steps.{Cause, IsSyntax, Group, OfLines, OfPolygon, OfPart, Owner, OfPoint, OfLine, OneOf, State, Start, BeforeParts, BeforeLists, BeforeList, BeforeX, BeforeY, AfterPosition, AfterList, AfterPart, Complete, Over, at_open, step, run}
-use Rattle.wkt_laws.proofs.Grammar.{Gives, Adds, adds, run-append, fits, stops, IsOpen, so_far, Holds, Closes, lead, head, before_next}
+use Rattle.wkt_laws.specs.Steps.{Cause, IsSyntax, Group, OfLines, OfPolygon, OfPart, Owner, OfPoint, OfLine, OneOf, State, Start, BeforeParts, BeforeLists, BeforeList, BeforeX, BeforeY, AfterPosition, AfterList, AfterPart, Complete, Over, at_open, step, run, IsOpen}
+use Rattle.wkt_laws.proofs.Grammar.{Gives, Adds, adds, run-append, fits, stops, so_far, Holds, Closes, lead, head, before_next}
 
 pub record At (front : List Token) (s : State) : Type 0 where
   pub ran : run Start front ≡ Ok s

@@ -2,7 +2,6 @@
 --
 -- so_far s          the tokens that lead to the state
 -- Holds s           what a state keeps: a point has one position, and no list is empty
--- IsOpen s          the end was not read
 -- adds              a step adds its token to what is so far
 -- reads, again      what is run is what is spelled, and back
 -- fits, stops       what was read begins a spelling, and with a refused token it begins none
@@ -14,11 +13,11 @@ use Rattle.wkt_terms.specs.Grammar.{Geometry, APoint, ALine, Lines, APolygon, Po
 use Rattle.wkt_terms.specs.Numerals.{Number}
 use Rattle.wkt_terms.specs.Numerals as number
 use Rattle.wkt_terms.specs.Tokens.{Point, LineString, MultiLineString, Polygon, MultiPolygon, Modifier, Strange, Token, Open, Close, Comma, Named, Numeral, Other, End}
-use Rattle.wkt_laws.specs.Steps.{Cause, Group, OfLines, OfPolygon, OfPart, Owner, OfPoint, OfLine, OneOf, State, Start, BeforeParts, BeforeLists, BeforeList, BeforeX, BeforeY, AfterPosition, AfterList, AfterPart, Complete, Over, place, closed, ended, after_comma, at_open, step, run, ◌>>=◌}
+use Rattle.wkt_laws.specs.Steps.{Cause, Group, OfLines, OfPolygon, OfPart, Owner, OfPoint, OfLine, OneOf, State, Start, BeforeParts, BeforeLists, BeforeList, BeforeX, BeforeY, AfterPosition, AfterList, AfterPart, Complete, Over, place, closed, ended, after_comma, at_open, step, run, ◌>>=◌, IsOpen}
 
 -- ---- lists with commas
 
-commas-snoc : {A : Type 0} (f : A → List Token) (xs : List A) (y : A) → commas f (xs ++ y ∷ []) ≡ commas f xs ++ Comma ∷ f y
+pub commas-snoc : {A : Type 0} (f : A → List Token) (xs : List A) (y : A) → commas f (xs ++ y ∷ []) ≡ commas f xs ++ Comma ∷ f y
 commas-snoc f [] y = ap (λ t. Comma ∷ t) (append-nil (f y))
 commas-snoc f (x ∷ xs) y =
     ap (λ t. Comma ∷ f x ++ t) (commas-snoc f xs y) ∙ ap (λ t. Comma ∷ t) (sym (append_assoc (f x) (commas f xs) (Comma ∷ f y)))
@@ -88,10 +87,6 @@ Holds (AfterList group pss) = KeepsGroup group × AreSome pss
 Holds (AfterPart parts) = IsSome parts × AllByRecursion AreSome parts
 Holds (Complete g) = IsFull g
 Holds (Over g) = IsFull g
-
-abbrev pub IsOpen : State → Type 0
-IsOpen (Over g) = ⊥
-IsOpen s = Unit {0}
 
 -- ---- a step adds its token
 
@@ -251,7 +246,7 @@ reads s (t ∷ ts) last h e =
 
 -- ---- what is the grammar's is read
 
-run_commas : (owner : Owner) (many : (ps : List Place) → after_comma owner ps ≡ Ok (BeforeX owner ps)) (ps qs : List Place)
+pub run_commas : (owner : Owner) (many : (ps : List Place) → after_comma owner ps ≡ Ok (BeforeX owner ps)) (ps qs : List Place)
     (rest : List Token) → run (AfterPosition owner ps) (commas position qs ++ rest) ≡ run (AfterPosition owner (ps ++ qs)) rest
 run_commas owner many ps [] rest = ap (λ x. run (AfterPosition owner x) rest) (sym (append-nil ps))
 run_commas owner many ps (q ∷ qs) rest =

@@ -10,10 +10,10 @@ use Rattle.wkt_terms.specs.Faults.{IsBegun, StopsAt, FirstFault}
 use Rattle.wkt_terms.specs.Grammar.{Geometry, IsFull, IsWkt, spelling}
 use Rattle.wkt_terms.specs.Numerals.{number_of}
 use Rattle.wkt_terms.specs.Tokens.{Token, End, Open, Close, Comma, Named, Numeral, Other, StartsWith, word_of, token_at, behind_token}
-use Rattle.wkt_laws.specs.Steps.{Cause, State, Start, Over, step, run}
+use Rattle.wkt_laws.specs.Steps.{Cause, State, Start, Over, step, run, IsOpen}
 use Rattle.text_fields.proofs.Fronts.{behind-le}
 use Rattle.wkt_laws.proofs.Causes.{CauseOk, caused}
-use Rattle.wkt_laws.proofs.Grammar.{Gives, Adds, adds, reads, again, run-append, fits, stops, IsOpen, so_far}
+use Rattle.wkt_laws.proofs.Grammar.{Gives, Adds, adds, reads, again, run-append, fits, stops, so_far}
 
 pub record Read (text rest : List ℕ) (s : State) : Type 0 where
   pub done : List Token
@@ -40,7 +40,7 @@ behind_token-le (b ∷ bs) = at (is_letter b) (is_number_byte b)
     at false true = behind-le is_number_byte (b ∷ bs)
     at false false = omega arith
 
-StartsWith-le : (text : List ℕ) (ts : List Token) (rest : List ℕ) → StartsWith text ts rest → length rest ≤ length text
+pub StartsWith-le : (text : List ℕ) (ts : List Token) (rest : List ℕ) → StartsWith text ts rest → length rest ≤ length text
 StartsWith-le text [] rest h = omega (arith, ap length h)
 StartsWith-le text (t ∷ ts) rest h =
     omega (arith, StartsWith-le (behind_token (skip_blanks text)) ts rest h.1, behind_token-le (skip_blanks text), skip_blanks-le text)
@@ -191,7 +191,7 @@ not_end (b ∷ bs) some e = at (is_letter b) (is_number_byte b) (b == 40) (b == 
     at false false false false true h = cc
     at false false false false false h = cc
 
-behind_token-lt : (rest : List ℕ) → 0 < length rest → length (behind_token rest) < length rest
+pub behind_token-lt : (rest : List ℕ) → 0 < length rest → length (behind_token rest) < length rest
 behind_token-lt [] some = omega arith
 behind_token-lt (b ∷ bs) some = at (is_letter b) (is_number_byte b) refl refl
   where

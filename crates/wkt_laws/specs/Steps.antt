@@ -6,12 +6,15 @@
 -- State            what was read, and what is expected next
 -- step s t         the state behind the token t, or why t does not fit
 -- run s ts         the same for tokens one after another
-use Rattle.std.specs.Prelude.{ℤ, List, [], ◌∷◌, ◌++◌, Result, Ok, Err}
+-- IsOpen s         the end was not read
+-- More old new text left      the text begins with positions behind commas, new is old and these, and left follows them
+-- Passes s text next left     tokens at the front of the text lead from s to next, not past the end, and left follows them
+use Rattle.std.specs.Prelude.{ℕ, ℤ, ◌≡◌, List, [], ◌∷◌, ◌++◌, Result, Ok, Err}
 use Rattle.plane_terms.specs.Point.{Place}
 pub use Rattle.wkt_terms.specs.Faults.{Cause, IsSyntax, IsOffGrid, IsOutOfReach, IsUnsupported}
-use Rattle.wkt_terms.specs.Grammar.{Geometry, APoint, ALine, Lines, APolygon, Polygons}
+use Rattle.wkt_terms.specs.Grammar.{Geometry, APoint, ALine, Lines, APolygon, Polygons, position, commas}
 use Rattle.wkt_terms.specs.Numerals.{Number, Whole, OffGrid, OutOfReach, NoNumber}
-use Rattle.wkt_terms.specs.Tokens.{Word, Point, LineString, MultiLineString, Polygon, MultiPolygon, Modifier, Strange, Token, Open, Close, Comma, Named, Numeral, End}
+use Rattle.wkt_terms.specs.Tokens.{Word, Point, LineString, MultiLineString, Polygon, MultiPolygon, Modifier, Strange, Token, Open, Close, Comma, Named, Numeral, End, StartsWith}
 
 pub data Group : Type 0 where
   OfLines : Group
@@ -111,3 +114,18 @@ abbrev pub ◌>>=◌ : {A B : Type 0} → Result A Cause → (A → Result B Cau
 abbrev pub run : State → List Token → Result State Cause
 run s [] = Ok s
 run s (t ∷ ts) = step s t >>= λ next. run next ts
+
+abbrev pub IsOpen : State → Type 0
+IsOpen (Over g) = ⊥
+IsOpen s = Unit {0}
+
+pub record More (old new : List Place) (text left : List ℕ) : Type 0 where
+  pub others : List Place
+  pub added : new ≡ old ++ others
+  pub begins : StartsWith text (commas position others) left
+
+pub record Passes (s : State) (text : List ℕ) (next : State) (left : List ℕ) : Type 0 where
+  pub done : List Token
+  pub begins : StartsWith text done left
+  pub ran : run s done ≡ Ok next
+  pub unended : IsOpen s → IsOpen next

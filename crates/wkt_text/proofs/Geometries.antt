@@ -1,7 +1,8 @@
 -- What reading a text gives.
 --
--- Keeps text rest s     what the loop keeps: the text was read up to rest, and this led to the state s
-use Rattle.std.proofs.Common.{ℕ, ◌≡◌, ◌<◌, ◌≤◌, ◌-◌, List, [], ◌∷◌, length, Result, Ok, Err, MatchResult, refl, sym, subst, arith}
+-- Keeps text rest s          what the loop keeps: the text was read up to rest, and this led to the state s
+-- Goes text rest now next    what a turn of it gives
+use Rattle.std.proofs.Common.{ℕ, ◌≡◌, ◌<◌, ◌≤◌, ◌-◌, List, [], ◌∷◌, length, Result, Ok, Err, MatchResult, refl, sym, ap, subst, arith}
 use Rattle.text_terms.specs.Fields.{skip_blanks}
 use Rattle.wkt_terms.specs.Grammar as grammar
 use Rattle.wkt_terms.specs.Grammar.{IsWkt}
@@ -10,8 +11,9 @@ use Rattle.wkt_terms.specs.Faults.{FirstFault, IsSyntax, IsOffGrid, IsOutOfReach
 use Rattle.wkt_terms.specs.WktFaults.{IsWktFault}
 use Rattle.wkt_terms.specs.declared.wkt_fault.WktFault.{WktFault}
 use Rattle.wkt_terms.specs.declared.wkt_fault.WktFault.TheVariants.{Syntax, OffGrid, OutOfReach, Unsupported, NotClosed, Invalid, NoMemory}
-use Rattle.wkt_laws.specs.Steps.{Cause, State, Start, Over, step}
-use Rattle.wkt_laws.proofs.Reading.{Read, begins, goes_on, stopped, completed, no_fault, one_value, skip_blanks-le, not_end, shorter}
+use Rattle.wkt_laws.specs.Steps.{Cause, State, Start, Over, step, Passes}
+use Rattle.wkt_laws.proofs.Reading.{Read, begins, goes_on, stopped, completed, no_fault, one_value, skip_blanks-le, behind_token-lt, not_end}
+use Rattle.wkt_laws.proofs.Passing.{passes_on, passes_le}
 use Rattle.wkt_text.specs.States.{geometry_of}
 use Rattle.wkt_text.specs.Stops.{Refuses, HasStopped}
 use Rattle.wkt_text.specs.declared.geometry.Geometry.{Geometry}
@@ -23,12 +25,25 @@ pub record Keeps (text rest : List ℕ) (s : State) : Type 0 where
 pub starts : (text rest : List ℕ) → rest ≡ skip_blanks text → Keeps text rest Start
 starts text rest e = subst (λ (r : List ℕ). Keeps text r Start) (sym e) (record { read = begins text; part = skip_blanks-le text })
 
-pub keeps : (text rest now : List ℕ) (s next : State) → Keeps text rest s → 0 < length rest → step s (token_at rest) ≡ Ok next
-    → now ≡ skip_blanks (behind_token rest) → Keeps text now next
-keeps text rest now s next k some e f =
+-- one token, and then all that is passed at once
+pub record Goes (text rest now : List ℕ) (next : State) : Type 0 where
+  pub keeps : Keeps text now next
+  pub shorter : length now < length rest
+
+pub keeps : (text rest behind left now : List ℕ) (s middle next : State) → Keeps text rest s → 0 < length rest
+    → step s (token_at rest) ≡ Ok middle → behind ≡ behind_token rest → Passes middle behind next left → now ≡ skip_blanks left
+    → Goes text rest now next
+keeps text rest behind left now s middle next k some e f p g =
+    let r : Read text (skip_blanks behind) middle =
+    subst (λ (b : List ℕ). Read text (skip_blanks b) middle) (sym f) (goes_on text rest s middle k.read (not_end rest some) e) in
+    let less : length now < length rest =
+    omega (arith, ap length g, skip_blanks-le left, passes_le middle next behind left p, ap length f, behind_token-lt rest some) in
     record {
-      read = subst (λ (r : List ℕ). Read text r next) (sym f) (goes_on text rest s next k.read (not_end rest some) e);
-      part = omega (arith, k.part, shorter rest now some f);
+      keeps = record {
+        read = subst (λ (l : List ℕ). Read text l next) (sym g) (passes_on text behind middle next left r p);
+        part = omega (arith, k.part);
+      };
+      shorter = less;
     }
 
 stopped_at : (text rest : List ℕ) (s : State) (at : ℕ) (c : Cause) → Read text rest s

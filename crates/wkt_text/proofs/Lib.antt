@@ -6,6 +6,7 @@ pub mod Polygons
 pub mod Writing
 pub mod Again
 pub mod Geometries
+pub mod Places
 pub mod Pushing
 pub mod Said
 pub mod Values

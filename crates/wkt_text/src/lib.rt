@@ -7,6 +7,7 @@ mod geometry;
 mod lists;
 mod parts;
 mod place;
+mod positions;
 mod read;
 mod rings;
 mod spelling;

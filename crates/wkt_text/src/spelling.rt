@@ -1,16 +1,16 @@
 ghost use Rattle.std.specs.Prelude.{◌≡◌, ◌≤◌, ◌-◌, length, Ok, MatchResult};
-ghost use Rattle.text_terms.specs.Fields.{skip_blanks};
 ghost use Rattle.wkt_terms.specs.Grammar as grammar;
 ghost use Rattle.wkt_terms.specs.Grammar.{IsWkt};
 ghost use Rattle.wkt_terms.specs.Tokens as tokens;
 ghost use Rattle.wkt_terms.specs.Tokens.{token_at, behind_token};
 ghost use Rattle.wkt_terms.specs.declared.wkt_fault.WktFault.TheVariants.{NoMemory};
 ghost use Rattle.wkt_laws.specs.Steps as steps;
-ghost use Rattle.wkt_laws.specs.Steps.{step};
+ghost use Rattle.wkt_laws.specs.Steps.{step, Passes};
 ghost use Rattle.wkt_text.specs.States.{geometry_of, state_of};
 ghost use Rattle.wkt_text.specs.Stops.{Refuses, HasStopped};
 
 use crate::geometry::Geometry;
+use crate::positions::read_positions;
 use crate::state::{State, step};
 use crate::stop::{Cause, Stop};
 use crate::token::{Token, next_token};
@@ -28,13 +28,26 @@ fn advance<'a>(
     requires part { length rest.now ≤ length text.now }
     requires limit { length text.now ≤ 1048576 }
     ensures { MatchResult result
-        (λ x. (step (state_of state) (token_at rest.now) ≡ Ok (state_of x.0)) × (x.1.now ≡ skip_blanks (behind_token rest.now)))
+        (λ x. (step (state_of state) (token_at rest.now) ≡ Ok (state_of x.0)) × (x.1.now ≡ behind_token rest.now))
         (λ e. HasStopped (step (state_of state) (token_at rest.now)) (length text.now - length rest.now) e) }
 {
     let (token, behind) = next_token(rest);
     match step(alloc, state, token) {
-        Ok(next) => Ok((next, skip_blanks(behind))),
+        Ok(next) => Ok((next, behind)),
         Err(stop) => Err(stop.at((text.len() - rest.len()) as u32)),
+    }
+}
+
+// Reads positions at once, where they are expected.
+fn go_on(state: State, text: &[u8]) -> Result<(State, &[u8]), WktFault>
+    ensures { MatchResult result (λ x. Passes (state_of state) text.now (state_of x.0) x.1.now) (λ e. e ≡ NoMemory) }
+{
+    let State::BeforeX(owner, positions) = state else {
+        return Ok((state, text));
+    };
+    match read_positions(owner, positions, text) {
+        Ok(found) => Ok(found),
+        Err(_) => Err(WktFault::NoMemory),
     }
 }
 
@@ -60,9 +73,10 @@ fn read_all(alloc: Global, text: &[u8]) -> Result<Geometry, WktFault>
     let mut state = State::Start;
     let mut rest = skip_blanks(text);
     while !rest.is_empty() {
-        let (next, behind) = advance(alloc, text, rest, state)?;
+        let (middle, behind) = advance(alloc, text, rest, state)?;
+        let (next, left) = go_on(middle, behind)?;
         state = next;
-        rest = behind;
+        rest = skip_blanks(left);
     }
     finish(alloc, text, state)
 }

@@ -111,8 +111,8 @@ fn at_x(owner: Owner, positions: Vec<GridPoint>, token: Token) -> Result<State, 
     }
 }
 
-// The place with these coordinates; it is always within the reach.
-fn place(x: Coordinate, y: Coordinate) -> Result<GridPoint, Stop>
+/// The place with these coordinates; it is always within the reach.
+pub fn place(x: Coordinate, y: Coordinate) -> Result<GridPoint, Stop>
     ensures { result ≡ Ok (steps.place x y) }
 {
     match GridPoint::at(i64::from(x.get()), i64::from(y.get())) {

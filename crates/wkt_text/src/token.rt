@@ -2,7 +2,7 @@ ghost use Rattle.std.specs.Prelude.{◌≡◌};
 ghost use Rattle.wkt_terms.specs.Tokens.{is_modifier, word_of, token_at, behind_token};
 ghost use Rattle.wkt_text.specs.Meanings.{word_meant, token_meant};
 
-use text_fields::{Class, Number, is_letter, is_number_byte, read_number, spells, split_run};
+use text_fields::{Class, Number, is_letter, is_number_byte, next_number, spells, split_run};
 
 /// A word of well-known text.
 #[derive(Clone, Copy)]
@@ -71,8 +71,8 @@ pub fn next_token(text: &[u8]) -> (Token, &[u8])
         return (Token::Named(word_of(word)), rest);
     }
     if is_number_byte(*first) {
-        let (number, rest) = split_run(Class::Number, text);
-        return (Token::Numeral(read_number(number)), rest);
+        let (number, rest) = next_number(text);
+        return (Token::Numeral(number), rest);
     }
     match *first {
         b'(' => (Token::Open, rest),
