@@ -9,7 +9,9 @@ use crate::middle::Middle;
 use crate::placed::{Placed, add_met, any_found, drop_placed};
 use crate::reach::{reach_of, reach_of_both};
 use crate::relation::Relation;
-use crate::siblings::{add_from_each, any_has, divided, push_in, put_in, reach_of_nodes, take_from};
+use crate::siblings::{
+    add_from_each, any_has, divided, push_in, put_in, reach_of_nodes, take_from,
+};
 use grid_plane::{NoMemory, Rect};
 use std::alloc::Global;
 use std::marker::Model;

@@ -1,4 +1,4 @@
-use Rattle.std.proofs.Common.{◌≡◌, ◌++◌, ◌∙◌, true, false, ap, sym, subst}
+use Rattle.std.proofs.Common.{◌≡◌, ◌++◌, ◌∙◌, false, sym, subst}
 use Rattle.std.specs.List.{list_any}
 use Rattle.grid_index.specs.Nodes.{NodeView, all_items}
 use Rattle.grid_index.specs.Relations.{is_found}
