@@ -1,5 +1,5 @@
 -- A rectangle beside the window is put last as it stands: what was left so far neither holds it nor lies in it.
-use Rattle.std.proofs.Common.{◌≡◌, ℕ, zero, suc, ◌<◌, ◌+◌, arith, Bool, true, false, not, refl, List, [], ◌∷◌, ◌++◌, length, take, get_or}
+use Rattle.std.proofs.Common.{◌≡◌, ℕ, zero, suc, ◌<◌, arith, Bool, true, false, not, refl, List, [], ◌∷◌, ◌++◌, length, take, get_or}
 use Rattle.std.specs.Prelude.{int_lt}
 use Rattle.std.specs.Int.{int_max, int_min}
 use Rattle.std.specs.List.{list_any, filter}
@@ -9,7 +9,7 @@ use Rattle.plane_terms.specs.Rectangle.{Rectangle, IsProper, IsWithin, is_within
 use Rattle.plane_terms.specs.Dirt.{AreLoose, IsLoose, add_dirt, add_all, cut_from, pieces, piece_if}
 use Rattle.sound_laws.proofs.Planes.{within_from_test}
 use Rattle.sound_laws.proofs.Pieces.{meeting, every_added}
-use Rattle.dirty_area.proofs.Calls.{add_dirt-loose, add_all-one, add_all-four, pieces-apart, pieces_round, cut_more}
+use Rattle.dirty_area.proofs.Calls.{add_dirt-loose, add_all-one, add_all-four, pieces-apart, pieces_round}
 
 -- ---- one piece
 -- a part of y that meets the window, and a rectangle beside the window that is loose from y
@@ -110,18 +110,10 @@ none_dropped (s ∷ d) x h = let e = none_dropped d x h.1 in rw (h.0.left, e) re
 put_last : (d : List Rectangle) (x : Rectangle) → Every (λ s. AreLoose s x) d → add_dirt d x ≡ d ++ x ∷ []
 put_last d x h = rw (add_dirt-loose d x (not_held d x h), none_dropped d x h) refl
 
--- what the loop owes for one rectangle more: its pieces are added where it meets the window, else it is put last
-pub cut_step : (xs old new : List Rectangle) (w x : Rectangle) (i : ℕ) → IsLoose xs → IsProper w → old ≡ cut_from [] (take i xs) w
-    → i < length xs → x ≡ get_or xs i x
-    → (rects_meet x w ≡ true → new ≡ add_all old (pieces x w)) → (rects_meet x w ≡ false → new ≡ old ++ x ∷ [])
-    → new ≡ cut_from [] (take (i + 1) xs) w
-cut_step xs old new w x i l v h k e met beside = cut_more xs old new w x i h k e (by (rects_meet x w) refl)
-  where
-    by : (b : Bool) → rects_meet x w ≡ b → new ≡ add_all old (pieces x w)
-    by true t = met t
-    by false t =
-        let before : Every (λ y. AreLoose y x) (take i xs) = rw e (before_loose xs i x l k) in
-        let loose : Every (λ s. AreLoose s x) old = rw h (left_loose [] (take i xs) x w v t before tt) in
-        let p = put_last old x loose in
-        let q = beside t in
-        rw (pieces-apart x w t, add_all-one, p) q
+-- one of the list that lies beside the window is put behind what is left of those before it
+pub beside_last : (xs old : List Rectangle) (w x : Rectangle) (i : ℕ) → IsLoose xs → IsProper w → old ≡ cut_from [] (take i xs) w
+    → i < length xs → x ≡ get_or xs i x → rects_meet x w ≡ false → add_dirt old x ≡ old ++ x ∷ []
+beside_last xs old w x i l v h k e t =
+    let before : Every (λ y. AreLoose y x) (take i xs) = rw e (before_loose xs i x l k) in
+    let loose : Every (λ s. AreLoose s x) old = rw h (left_loose [] (take i xs) x w v t before tt) in
+    put_last old x loose

@@ -1,6 +1,6 @@
 -- What the calls cite: one rectangle more, and a window less, step by step.
 use Rattle.std.proofs.Common.{◌≡◌, ℕ, ◌+◌, ◌<◌, ◌≤ℤ◌, arith, Bool, true, false, not, refl, sym, ap, ◌∙◌, inl, inr, List, [], ◌∷◌, ◌++◌, length, take, get_or}
-use Rattle.std.specs.Prelude.{◌↔◌, ◌||◌, IsTrue, int_lt, Option, Some, None, IfSome, Result, Ok, Err, OnOk, OnErr}
+use Rattle.std.specs.Prelude.{◌↔◌, ◌||◌, IsTrue, int_lt, Option, Some, None, IfSome}
 use Rattle.std.specs.Option.{option_to_list}
 use Rattle.std.specs.Int.{int_max, int_min}
 use Rattle.std.proofs.lemmas.Bool.{or_cases, or_left, or_parts, or_right}
@@ -10,11 +10,9 @@ use Rattle.std.proofs.lemmas.List.{take_more}
 use Rattle.plane_terms.specs.Lists.{Every}
 use Rattle.plane_terms.specs.Point.{Point}
 use Rattle.plane_terms.specs.Rectangle.{Rectangle, RectHolds, RectsMeet, IsRectangle, is_within, rects_meet, rect_of, part_of}
-use Rattle.plane_terms.specs.Dirt.{MeetsPart, Covers, MeetsDirt, add_dirt, add_all, cut_from, cut_dirt, pieces, piece_if}
-use Rattle.sound_laws.proofs.Pieces.{meeting, every_added, add_loose, cut_loose}
-use Rattle.sound_laws.proofs.Cuts.{cut_rectangles}
+use Rattle.plane_terms.specs.Dirt.{MeetsPart, Covers, MeetsDirt, add_dirt, add_all, cut_from, pieces, piece_if}
+use Rattle.sound_laws.proofs.Pieces.{meeting, every_added, add_loose}
 use Rattle.sound_laws.proofs.Meetings.{meets_test, meets_from_test}
-use Rattle.grid_plane.specs.declared.memory.NoMemory.{NoMemory}
 use Rattle.dirty_area.specs.Parts.{IsDirt, IsCommon}
 
 -- ---- one rectangle more
@@ -153,24 +151,9 @@ meets_part_by d w r m t same meets = (
 )
 
 -- ---- the invariant
-pub dirt_added : (d e : List Rectangle) (r : Rectangle) (o : Result (Unit {0}) NoMemory) → OnOk o (e ≡ add_dirt d r) → OnErr o (e ≡ d)
-    → IsDirt d → IsRectangle r → IsDirt e
-dirt_added d e r (Ok u) h k i j = rw h (record { loose = add_loose d r i.loose; on_grid = every_added IsRectangle d r i.on_grid j })
-dirt_added d e r (Err u) h k i j = rw k i
+pub dirt_added : (d e : List Rectangle) (r : Rectangle) → e ≡ add_dirt d r → IsDirt d → IsRectangle r → IsDirt e
+dirt_added d e r h i j = rw h (record { loose = add_loose d r i.loose; on_grid = every_added IsRectangle d r i.on_grid j })
 
-one_added : (d : List Rectangle) (o : Option Rectangle) → IfSome o IsRectangle → IsDirt d → IsDirt (add_all d (option_to_list o))
-one_added d None h i = rw (add_all-none d) i
-one_added d (Some r) h i = rw (add_all-one d r) (record {
-  loose = add_loose d r i.loose;
-  on_grid =
-      every_added IsRectangle d r i.on_grid h;
-})
-
-pub dirt_two : (d e : List Rectangle) (a b : Option Rectangle) (o : Result (Unit {0}) NoMemory)
-    → OnOk o (e ≡ add_all (add_all d (option_to_list a)) (option_to_list b)) → OnErr o (e ≡ d)
-    → IsDirt d → IfSome a IsRectangle → IfSome b IsRectangle → IsDirt e
-dirt_two d e a b (Ok u) h k i ha hb = rw h (one_added (add_all d (option_to_list a)) b hb (one_added d a ha i))
-dirt_two d e a b (Err u) h k i ha hb = rw k i
-
-pub dirt_cut : (d e : List Rectangle) (w : Rectangle) → e ≡ cut_dirt d w → IsDirt d → IsRectangle w → IsDirt e
-dirt_cut d e w h i j = rw h (record { loose = cut_loose d w; on_grid = cut_rectangles d w i.on_grid j })
+pub some_added : (d e : List Rectangle) (o : Option Rectangle) → e ≡ add_all d (option_to_list o) → IfSome o IsRectangle → IsDirt d → IsDirt e
+some_added d e None h k i = rw (h, add_all-none d) i
+some_added d e (Some r) h k i = dirt_added d e r (h ∙ add_all-one d r) i k

@@ -7,7 +7,9 @@ ghost use Rattle.plane_terms.specs.Dirt.{MeetsPart, Covers, MeetsDirt, add_dirt,
 ghost use Rattle.dirty_area.specs.Parts.{IsDirt};
 
 use crate::cut::cut_of;
-use crate::list::{add_to, add_two_to, meets_any};
+use crate::finder::Finder;
+use crate::list::{add_in, add_some};
+use grid_index::Relation;
 use grid_plane::{NoMemory, Rect};
 use std::alloc::Global;
 use std::marker::Model;
@@ -17,18 +19,21 @@ use std::marker::Model;
 #[derive(Drop)]
 pub struct Dirt {
     rects: Vec<Rect>,
+    finder: Finder,
 }
 
 impl Model for Dirt {
     ghost use Rattle.std.specs.Prelude.{List};
     ghost use Rattle.plane_terms.specs.Rectangle.{Rectangle};
+    ghost use Rattle.std.specs.Prelude.{IfSome};
     ghost use Rattle.dirty_area.specs.Parts.{IsDirt};
+    ghost use Rattle.dirty_area.specs.Indexed.{IsIndexed};
 
     ghost Value = { List Rectangle };
 
     ghost view = { λ d. d.rects.items };
 
-    ghost invariant = { λ d. IsDirt d.rects.items };
+    ghost invariant = { λ d. IsDirt d.rects.items × IfSome d.finder (λ ps. IsIndexed d.rects.items ps) };
 }
 
 // The law that a rectangle is one of the grid.
@@ -47,6 +52,7 @@ impl Dirt {
     {
         Dirt {
             rects: Vec::new(alloc),
+            finder: Finder::new(alloc),
         }
     }
 
@@ -79,7 +85,7 @@ impl Dirt {
         ensures meaning { IsTrue result ↔ MeetsDirt self.now r.now }
     {
         r.corner_law();
-        meets_any(&self.rects, r)
+        self.finder.has(&self.rects, r, Relation::Meets)
     }
 
     /// Whether some dirty rectangle, the window and this rectangle have a common point.
@@ -93,18 +99,20 @@ impl Dirt {
     }
 
     /// Makes the rectangle dirty: nothing changes where one of the list holds it already; else those that it holds are
-    /// taken out, and it is put last. After an `Err`, out of memory, nothing has changed. Looks at each rectangle once where it
-    /// neither lies in one nor holds one, and else up to three times.
+    /// taken out, and it is put last. After an `Err`, out of memory, nothing has changed. Once many have been added to a long list,
+    /// an index tells which rectangles are near it.
     pub fn add(&mut self, r: Rect) -> Result<(), NoMemory>
         ensures ok { OnOk result (self.new ≡ add_dirt self.old r) }
         ensures err { OnErr result (self.new ≡ self.old) }
     {
         r.corner_law();
-        add_to(&mut self.rects, r)
+        self.rects.reserve(1)?;
+        add_in(&mut self.rects, &mut self.finder, r);
+        Ok(())
     }
 
     /// Makes a rectangle dirty that no rectangle of the list holds and that holds none, so that `add` would put it behind them
-    /// all: it is put there. After an `Err`, want of memory, nothing has changed. Takes one step.
+    /// all: it is put there. After an `Err`, want of memory, nothing has changed. Compares it with nothing.
     pub fn add_loose(&mut self, r: Rect) -> Result<(), NoMemory>
         requires { add_dirt self.old r ≡ self.old ++ r ∷ [] }
         ensures ok { OnOk result (self.new ≡ self.old ++ r ∷ []) }
@@ -112,6 +120,7 @@ impl Dirt {
     {
         r.corner_law();
         self.rects.push(r)?;
+        self.finder.put(r);
         Ok(())
     }
 
@@ -123,7 +132,10 @@ impl Dirt {
     {
         corner_laws(&first);
         corner_laws(&second);
-        add_two_to(&mut self.rects, first, second)
+        self.rects.reserve(2)?;
+        add_some(&mut self.rects, &mut self.finder, first);
+        add_some(&mut self.rects, &mut self.finder, second);
+        Ok(())
     }
 
     /// What is left without the window: of each rectangle, in order, the pieces that lie outside the window are added to what
@@ -134,9 +146,7 @@ impl Dirt {
         ensures only { IfOk result (λ d. (p : Point) → Covers d p → Covers self.now p) }
     {
         window.corner_law();
-        Ok(Dirt {
-            rects: cut_of(alloc, &self.rects, window)?,
-        })
+        cut_of(alloc, &self.rects, window)
     }
 
     /// An equal value.
@@ -145,6 +155,7 @@ impl Dirt {
     {
         Ok(Dirt {
             rects: Vec::from_slice(alloc, &self.rects)?,
+            finder: Finder::new(alloc),
         })
     }
 }

@@ -3,6 +3,7 @@
 
 mod cut;
 mod dirt;
+mod finder;
 mod list;
 mod pieces;
 

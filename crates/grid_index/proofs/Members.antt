@@ -13,7 +13,7 @@ pub among : {A : Type 0} (xs : List A) (x : A) → Contains xs x → IsAmong x x
 among xs x h = among_at xs h.0 x h.1 h.2
 
 -- ---- a filter
-filtered_from : {A : Type 0} (test : A → Bool) (xs : List A) (x : A) → IsAmong x (filter test xs) → IsAmong x xs × (test x ≡ true)
+pub filtered_from : {A : Type 0} (test : A → Bool) (xs : List A) (x : A) → IsAmong x (filter test xs) → IsAmong x xs × (test x ≡ true)
 filtered_from test [] x m = absurd m
 filtered_from {A} test (y ∷ ys) x m = pick (test y) refl m (filtered_from test ys x)
   where
@@ -23,7 +23,7 @@ filtered_from {A} test (y ∷ ys) x m = pick (test y) refl m (filtered_from test
     pick true e (inr k) rest = let t = rest k in (inr t.0, t.1)
     pick false e k rest = let t = rest k in (inr t.0, t.1)
 
-filtered_to : {A : Type 0} (test : A → Bool) (xs : List A) (x : A) → IsAmong x xs → test x ≡ true → IsAmong x (filter test xs)
+pub filtered_to : {A : Type 0} (test : A → Bool) (xs : List A) (x : A) → IsAmong x xs → test x ≡ true → IsAmong x (filter test xs)
 filtered_to test [] x m t = absurd m
 filtered_to {A} test (y ∷ ys) x m t = pick (test y) refl m (λ k. filtered_to test ys x k t)
   where

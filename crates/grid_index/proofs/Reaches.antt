@@ -37,7 +37,7 @@ pub all_same : (r : Rectangle) (ps qs : List Placed) → AreWithin r ps → Hold
 all_same r ps qs all same q h = all q ((same q).0 h)
 
 -- ---- what it does not hold, and what it does not meet
-meets_wider : (r s t : Rectangle) → IsWithin s t → rects_meet r s ≡ true → rects_meet r t ≡ true
+pub meets_wider : (r s t : Rectangle) → IsWithin s t → rects_meet r s ≡ true → rects_meet r t ≡ true
 meets_wider r s t w e = grind (arith, ints)
 
 held_test : (r s : Rectangle) → IsWithin r s → is_within r s ≡ true

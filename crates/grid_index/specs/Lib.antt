@@ -1,3 +1,4 @@
 pub mod Middles
 pub mod Near
 pub mod Nodes
+pub mod Relations

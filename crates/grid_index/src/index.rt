@@ -1,11 +1,14 @@
 ghost use Rattle.std.specs.Prelude.{◌≡◌, ◌↔◌, ◌<◌, ◌≤◌, ℕ, [], length, slice_get, Contains, IfOk, OnOk, OnErr, IsSomeAnd};
+ghost use Rattle.std.specs.List.{list_any};
 ghost use Rattle.std.specs.List.Sorted.{IsStrictlyIncreasing};
 ghost use Rattle.grid_index.specs.Near.{HoldsSame, Gains, Loses, IsNear, Adds};
+ghost use Rattle.grid_index.specs.Relations.{is_found};
 
 use crate::node::Node;
 use crate::once::once_each;
 use crate::placed::Placed;
-use crate::siblings::{add_from_each, put_in, take_from};
+use crate::relation::Relation;
+use crate::siblings::{add_from_each, any_has, put_in, take_from};
 use grid_plane::{NoMemory, Rect};
 use std::alloc::Global;
 use std::marker::Model;
@@ -70,5 +73,13 @@ impl Index {
         add_from_each(&self.nodes, r, &mut found)?;
         once_each(&mut found);
         Ok(found)
+    }
+
+    /// Whether a rectangle meets this one, and stands to it as the relation says. It looks only into nodes whose reach meets this
+    /// rectangle, and no further once it has found one. Takes no memory.
+    pub fn has(&self, r: &Rect, relation: Relation) -> bool
+        ensures { result ≡ list_any (is_found relation r.now) self.now }
+    {
+        any_has(&self.nodes, r, relation)
     }
 }

@@ -7,8 +7,10 @@ mod node;
 mod once;
 mod placed;
 mod reach;
+mod relation;
 mod siblings;
 
 pub use index::Index;
 pub use once::once_each;
 pub use placed::Placed;
+pub use relation::Relation;

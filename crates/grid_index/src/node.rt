@@ -1,12 +1,17 @@
 ghost use Rattle.std.specs.Prelude.{◌≡◌, ◌<◌, ◌∷◌, [], true, IsTrue, ◌↔◌, Contains, IfOk, OnOk, OnErr};
+ghost use Rattle.std.specs.List.{list_any};
 ghost use Rattle.grid_index.specs.Near.{HoldsSame, Gains, Loses, Adds};
 ghost use Rattle.grid_index.specs.Middles.{middle_of, IsCrowded};
 ghost use Rattle.grid_index.specs.Nodes.{AreWithin};
+ghost use Rattle.grid_index.specs.Relations.{is_found};
 
 use crate::middle::Middle;
-use crate::placed::{Placed, add_met, drop_placed};
+use crate::placed::{Placed, add_met, any_found, drop_placed};
 use crate::reach::{reach_of, reach_of_both};
-use crate::siblings::{add_from_each, divided, push_in, put_in, reach_of_nodes, take_from};
+use crate::relation::Relation;
+use crate::siblings::{
+    add_from_each, any_has, divided, push_in, put_in, reach_of_nodes, take_from,
+};
 use grid_plane::{NoMemory, Rect};
 use std::alloc::Global;
 use std::marker::Model;
@@ -190,5 +195,16 @@ impl Node {
         }
         add_met(&self.placed, r, found)?;
         add_from_each(&self.quarters, r, found)
+    }
+
+    /// Whether it holds a rectangle that meets this one, and stands to it as the relation says.
+    #[cycle(found)]
+    pub(crate) fn has(&self, r: &Rect, relation: Relation) -> bool
+        ensures { result ≡ list_any (is_found relation r.now) self.now.items }
+    {
+        if !r.meets(&self.reach) {
+            return false;
+        }
+        any_found(&self.placed, r, relation) || any_has(&self.quarters, r, relation)
     }
 }

@@ -1,6 +1,9 @@
 ghost use Rattle.std.specs.Prelude.{◌≡◌, [], ◌∷◌, ◌++◌, if◌then◌else◌, not, filter, Contains, OnOk};
+ghost use Rattle.std.specs.List.{list_any};
 ghost use Rattle.grid_index.specs.Near.{is_placed, Adds};
+ghost use Rattle.grid_index.specs.Relations.{is_found};
 
+use crate::relation::Relation;
 use grid_plane::{NoMemory, Rect};
 
 /// A rectangle, in grid units, and the handle under which it lies there.
@@ -59,4 +62,18 @@ pub(crate) fn add_met(list: &[Placed], r: &Rect, found: &mut Vec<u32>) -> Result
         push_if(found, r.meets(&placed.rect), placed.handle)?;
     }
     Ok(())
+}
+
+// Whether the placed rectangle meets this one, and stands to it as the relation says.
+fn is_found(placed: &Placed, r: &Rect, relation: Relation) -> bool
+    ensures { result ≡ is_found relation r.now placed.now }
+{
+    r.meets(&placed.rect) && relation.is_between(&placed.rect, r)
+}
+
+/// Whether one of the list meets this rectangle, and stands to it as the relation says.
+pub(crate) fn any_found(list: &[Placed], r: &Rect, relation: Relation) -> bool
+    ensures { result ≡ list_any (is_found relation r.now) list.now }
+{
+    list.iter().any(|placed| is_found(placed, r, relation))
 }

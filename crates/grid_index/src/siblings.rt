@@ -1,12 +1,15 @@
 ghost use Rattle.std.specs.Prelude.{◌≡◌, ◌<◌, true, length, slice_get, Contains, IfOk, OnOk, OnErr, IfSome, IsSomeAnd};
+ghost use Rattle.std.specs.List.{list_any};
 ghost use Rattle.grid_index.specs.Near.{HoldsSame, Gains, Loses, Adds};
 ghost use Rattle.grid_index.specs.Middles.{is_beside};
 ghost use Rattle.grid_index.specs.Nodes.{all_items, IsReach};
+ghost use Rattle.grid_index.specs.Relations.{is_found};
 
 use crate::middle::Middle;
 use crate::node::Node;
 use crate::placed::Placed;
 use crate::reach::reach_with;
+use crate::relation::Relation;
 use grid_plane::{NoMemory, Rect};
 use std::alloc::Global;
 
@@ -139,4 +142,17 @@ pub(crate) fn add_from_each(nodes: &[Node], r: &Rect, found: &mut Vec<u32>) -> R
         node.add_near(r, found)?;
     }
     Ok(())
+}
+
+/// Whether a node holds a rectangle that meets this one, and stands to it as the relation says.
+#[cycle(found)]
+pub(crate) fn any_has(nodes: &[Node], r: &Rect, relation: Relation) -> bool
+    ensures { result ≡ list_any (is_found relation r.now) (all_items nodes.now) }
+{
+    for node in nodes {
+        if node.has(r, relation) {
+            return true;
+        }
+    }
+    false
 }

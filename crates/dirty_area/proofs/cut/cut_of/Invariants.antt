@@ -3,4 +3,4 @@ use Rattle.plane_terms.specs.Dirt.{cut_from}
 use Rattle.dirty_area.proofs.cut.cut_of.Given as goal
 
 abbrev pub invariant-loop-r : goal.invariant-loop-r
-invariant-loop-r l = l.left.items ≡ cut_from [] (take l.r-index l.rects) l.w
+invariant-loop-r l = l.left ≡ cut_from [] (take l.r-index l.rects) l.w

@@ -5,17 +5,17 @@ use Rattle.plane_terms.specs.Rectangle.{is_within}
 use Rattle.dirty_area.proofs.Calls.{add_dirt-held, add_dirt-loose, add_dirt-apart}
 use Rattle.dirty_area.proofs.list.add_in.Goals as goal
 
-pub returns-then-not-has_nested-clause-added : goal.returns-then-not-has_nested-clause-added
-returns-then-not-has_nested-clause-added c =
+pub returns-then-not-has-clause-added : goal.returns-then-not-has-clause-added
+returns-then-not-has-clause-added c =
     let apart : list_any (λ s. is_within c.args.r s || is_within s c.args.r) c.args.rects.now.items ≡ false = cc in
-    c.push_reserved.ensures.items ∙ sym (add_dirt-apart c.args.rects.now.items c.args.r apart)
+    c.put_last.ensures.put ∙ sym (add_dirt-apart c.args.rects.now.items c.args.r apart)
 
-pub returns-then-not-is_held-clause-added : goal.returns-then-not-is_held-clause-added
-returns-then-not-is_held-clause-added c =
+pub returns-then-not-has-2-clause-added : goal.returns-then-not-has-2-clause-added
+returns-then-not-has-2-clause-added c =
     let loose : list_any (λ s. is_within c.args.r s) c.args.rects.now.items ≡ false = cc in
-    c.put_last.ensures.put ∙ sym (add_dirt-loose c.args.rects.now.items c.args.r loose)
+    c.put_round.ensures.put ∙ sym (add_dirt-loose c.args.rects.now.items c.args.r loose)
 
-pub returns-else-not-is_held-clause-added : goal.returns-else-not-is_held-clause-added
-returns-else-not-is_held-clause-added c =
+pub returns-else-not-has-2-clause-added : goal.returns-else-not-has-2-clause-added
+returns-else-not-has-2-clause-added c =
     let held : list_any (λ s. is_within c.args.r s) c.args.rects.now.items ≡ true = cc in
     sym (add_dirt-held c.args.rects.now.items c.args.r held)

@@ -6,7 +6,5 @@ use Rattle.dirty_area.proofs.dirt.Dirt.meets.Goals as goal
 
 pub returns-clause-meaning : goal.returns-clause-meaning
 returns-clause-meaning c =
-    let e : c.meets_any.result ≡ list_any (λ s. rects_meet s c.args.r.now) c.self.inside.rects.items =
-    rw c.deref.ensures.value at c.meets_any.ensures in
-    rw (← c.self.view_is) (meets_dirt c.self.inside.rects.items c.args.r.now c.meets_any.result c.self.invariant.on_grid
-    c.corner_law.ensures e)
+    let e : c.has.result ≡ list_any (λ s. rects_meet s c.args.r.now) c.self.inside.rects.items = rw c.deref.ensures.value at c.has.ensures in
+    rw (← c.self.view_is) (meets_dirt c.self.inside.rects.items c.args.r.now c.has.result c.self.invariant.0.on_grid c.corner_law.ensures e)
