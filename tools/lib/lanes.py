@@ -6,10 +6,12 @@ that takes the libraries that are built by links, and hands on its own so. What 
 from __future__ import annotations
 
 import contextlib
+import fcntl
 import os
 import shutil
 import subprocess
-from typing import TextIO
+import sys
+from typing import Iterable, Iterator, TextIO
 
 from lib.crates import ROOT, dependencies
 
@@ -49,6 +51,30 @@ def hand_on(name: str, source: str, target: str) -> None:
 def start(words: list[str], folder: str, log: TextIO) -> subprocess.Popen[bytes]:
     """Starts rt in the folder; what it says goes to the log."""
     return subprocess.Popen(['rt', *words], cwd=folder, stdin=subprocess.DEVNULL, stdout=log, stderr=subprocess.STDOUT)
+
+
+def lock(held: int) -> None:
+    """Waits until no other rt works in this folder."""
+    try:
+        fcntl.flock(held, fcntl.LOCK_EX | fcntl.LOCK_NB)
+    except BlockingIOError:
+        sys.stderr.write('topo: waiting for another run of rt to end\n')
+        fcntl.flock(held, fcntl.LOCK_EX)
+
+
+@contextlib.contextmanager
+def alone(names: Iterable[str]) -> Iterator[None]:
+    """Keeps other runs of rt out of these crates, as rt itself does."""
+    held = [os.open(os.path.join(CRATES, name), os.O_RDONLY) for name in sorted(names)]
+    try:
+        for it in held:
+            # (some file systems have no locks)
+            with contextlib.suppress(OSError):
+                lock(it)
+        yield
+    finally:
+        for it in held:
+            os.close(it)
 
 
 class Lane:
@@ -122,7 +148,7 @@ class Lanes:
         self.runs.append(Run(name, lane, jobs))
 
     def begin_all(self, ready: list[str]) -> list[str]:
-        """Begins these crates in their order, as long as a processor is idle; the first get more where not all are wanted. Answers which."""
+        """Begins these crates in their order, as long as a processor is idle; the first get those that are not wanted. Answers which."""
         begun: list[str] = []
         for name in ready:
             idle = self.processors - sum(run.jobs for run in self.runs)

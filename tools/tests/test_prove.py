@@ -66,7 +66,8 @@ class Proves(Case):
         with self.start(**more) as run:
             self.told = run.communicate()[1].decode()
         self.assertEqual(run.returncode, status, self.told)
-        self.assertEqual([it for it in os.listdir(self.path('kept/lanes')) if os.path.exists(self.path('kept/lanes/%s/crates.txt' % it))], [])
+        lists = [self.path('kept/lanes/%s/crates.txt' % it) for it in os.listdir(self.path('kept/lanes'))]
+        self.assertFalse(any(map(os.path.exists, lists)))
         with open(self.path('notes'), encoding='utf-8') as file:
             rows = [line.split() for line in file]
         return {name: (last, float(began), float(ended)) for name, last, began, ended in rows}
