@@ -1,5 +1,5 @@
 -- The outsides of the polygons that are chosen from a view.
-use Rattle.std.proofs.Common.{◌≡◌, ℕ, ◌+◌, ◌≤◌, Bool, true, false, List, Option, None, [], ◌∷◌, ◌++◌, Some, refl, sym, ◌∙◌, ap, subst, drop, length, cond, map, arith}
+use Rattle.std.proofs.Common.{◌≡◌, ℕ, ◌+◌, ◌≤◌, Bool, true, false, List, Option, None, [], ◌∷◌, ◌++◌, Some, refl, sym, ◌∙◌, ap, drop, length, cond, map, append_assoc, arith}
 use Rattle.std.specs.Prelude.{slice_get, ◌==◌, ◌&&◌}
 use Rattle.std.specs.List.{filter}
 use Rattle.std.proofs.lemmas.List.{drop_all}
@@ -14,31 +14,9 @@ use Rattle.topology_terms.specs.Cells.{uncovered, inside, outside}
 use Rattle.topology_terms.specs.Plans.{area_left}
 use Rattle.rule_loops.specs.Apart.{uncovered-nil}
 use Rattle.cell_laws.proofs.Meets.{carve_points}
-use Rattle.rule_loops.specs.Open.{chosen, outsides, IsInEach, AreAmong}
+use Rattle.rule_loops.specs.Open.{chosen, outsides}
 use Rattle.rule_loops.specs.Views.{of_class}
 use Rattle.rule_loops.proofs.Rest.{drop_one}
-
--- ---- one that is chosen
-chosen_in : (n : ℕ) (o : Option ℕ) (P : List Cell → Type 0) (F : List Feature) → Every P (outsides n o F)
-    → Every (λ g. chosen n o g ≡ true → P (outside g)) F
-chosen_in n o P [] h = tt
-chosen_in n o P (g ∷ F) h = by_test (chosen n o g) refl (λ k. chosen_in n o P F k) h
-  where
-    by_test : (b : Bool) → chosen n o g ≡ b
-        → (Every P (outsides n o F) → Every (λ g. chosen n o g ≡ true → P (outside g)) F)
-        → Every P (map {A = Feature} outside (cond b (g ∷ filter (chosen n o) F) (filter (chosen n o) F)))
-        → (chosen n o g ≡ true → P (outside g)) × Every (λ g. chosen n o g ≡ true → P (outside g)) F
-    by_test true e rest k = ((λ t. k.0), rest k.1)
-    by_test false e rest k = ((λ t. absurd (false≢true (sym e ∙ t))), rest k)
-
-pub near_more : (n : ℕ) (o : Option ℕ) (F : List Feature) (i : ℕ) (g : Feature) (d : List Cell) (near new : List (List Cell))
-    → slice_get F i ≡ Some g → chosen n o g ≡ true → d ≡ outside g → new ≡ near ++ d ∷ []
-    → ((p : Point) → IsInEach (outsides n o F) p → IsInEach near p)
-    → (p : Point) → IsInEach (outsides n o F) p → IsInEach new p
-near_more n o F i g d near new e t is l h p k =
-    let own : InCells d p = subst (λ ds. InCells ds p) (sym is)
-    (every_got (λ (g : Feature). chosen n o g ≡ true → InCells (outside g) p) F i g (chosen_in n o (λ ds. InCells ds p) F k) e t) in
-    subst (λ dss. IsInEach dss p) (sym l) (every_append (λ ds. InCells ds p) near (d ∷ []) (h p k) (own, tt))
 
 -- ---- those that are still to come
 outsides_from : (n : ℕ) (o : Option ℕ) (F : List Feature) (i : ℕ) (g : Feature) (b : Bool) → slice_get F i ≡ Some g → chosen n o g ≡ b
@@ -49,6 +27,24 @@ outsides_from n o F i g b e t = ap (outsides n o) (drop_one F i g e) ∙ by_test
         → outsides n o (g ∷ drop (i + 1) F) ≡ cond b (outside g ∷ outsides n o (drop (i + 1) F)) (outsides n o (drop (i + 1) F))
     by_test true t = ap (λ (c : Bool). map {A = Feature} outside (cond c (g ∷ filter (chosen n o) (drop (i + 1) F)) (filter (chosen n o) (drop (i + 1) F)))) t
     by_test false t = ap (λ (c : Bool). map {A = Feature} outside (cond c (g ∷ filter (chosen n o) (drop (i + 1) F)) (filter (chosen n o) (drop (i + 1) F)))) t
+
+-- one that is held
+pub held_more : (n : ℕ) (o : Option ℕ) (F : List Feature) (i : ℕ) (g : Feature) (d : List Cell) (held new all : List (List Cell))
+    → slice_get F i ≡ Some g → chosen n o g ≡ true → d ≡ outside g → new ≡ held ++ d ∷ [] → held ++ outsides n o (drop i F) ≡ all
+    → new ++ outsides n o (drop (i + 1) F) ≡ all
+held_more n o F i g d held new all e t is l h =
+    let rest = outsides n o (drop (i + 1) F) in
+    ap (λ dss. dss ++ rest) (l ∙ ap (λ ds. held ++ ds ∷ []) is) ∙ (append_assoc held (outside g ∷ []) rest
+    ∙ (ap (λ dss. held ++ dss) (sym (outsides_from n o F i g true e t)) ∙ h))
+
+pub held_same : (n : ℕ) (o : Option ℕ) (F : List Feature) (i : ℕ) (g : Feature) (held new all : List (List Cell)) → slice_get F i ≡ Some g
+    → chosen n o g ≡ false → new ≡ held → held ++ outsides n o (drop i F) ≡ all → new ++ outsides n o (drop (i + 1) F) ≡ all
+held_same n o F i g held new all e t l h =
+    ap (λ dss. dss ++ outsides n o (drop (i + 1) F)) l ∙ (ap (λ dss. held ++ dss) (sym (outsides_from n o F i g false e t)) ∙ h)
+
+pub held_all : (n : ℕ) (o : Option ℕ) (F : List Feature) (i k : ℕ) (held all : List (List Cell)) → length F ≤ i → length F ≤ k
+    → held ++ outsides n o (drop i F) ≡ all → held ++ outsides n o (drop k F) ≡ all
+held_all n o F i k held all l m h = ap (λ G. held ++ outsides n o G) (drop_all k F m ∙ sym (drop_all i F l)) ∙ h
 
 pub turn_more : (n : ℕ) (o : Option ℕ) (F : List Feature) (i : ℕ) (g : Feature) (left made all : List Cell) → slice_get F i ≡ Some g
     → chosen n o g ≡ true → made ≡ carve_of left (outside g) → uncovered left (outsides n o (drop i F)) ≡ all
@@ -61,20 +57,6 @@ pub turn_same : (n : ℕ) (o : Option ℕ) (F : List Feature) (i : ℕ) (g : Fea
     → uncovered made (outsides n o (drop (i + 1) F)) ≡ all
 turn_same n o F i g left made all e t m h = ap (λ cs. uncovered cs (outsides n o (drop (i + 1) F))) m
     ∙ (sym (ap (uncovered left) (outsides_from n o F i g false e t)) ∙ h)
-
--- what is among the polygons before one more is carved out, is among them behind it
-pub among_more : (n : ℕ) (o : Option ℕ) (F : List Feature) (i : ℕ) (g : Feature) (left made kept : List Cell) (near : List (List Cell))
-    → slice_get F i ≡ Some g → chosen n o g ≡ true → made ≡ carve_of left (outside g) → ((p : Point) → InCells kept p → InCells made p)
-    → AreAmong left (outsides n o (drop i F)) near → AreAmong kept (outsides n o (drop (i + 1) F)) near
-among_more n o F i g left made kept near e t m w a p k j =
-    let c = (carve_points left (outside g) p).0 (subst (λ cs. InCells cs p) m (w p k)) in
-    a p c.0 (subst (λ dss. IsInEach dss p) (sym (outsides_from n o F i g true e t)) (c.1, j))
-
-pub among_same : (n : ℕ) (o : Option ℕ) (F : List Feature) (i : ℕ) (g : Feature) (left made : List Cell) (near : List (List Cell))
-    → slice_get F i ≡ Some g → chosen n o g ≡ false → made ≡ left
-    → AreAmong left (outsides n o (drop i F)) near → AreAmong made (outsides n o (drop (i + 1) F)) near
-among_same n o F i g left made near e t m a p k j =
-    a p (subst (λ cs. InCells cs p) m k) (subst (λ dss. IsInEach dss p) (sym (outsides_from n o F i g false e t)) j)
 
 pub turn_none : (dss : List (List Cell)) (left all : List Cell) → length left ≡ 0 → uncovered left dss ≡ all → left ≡ all
 turn_none dss [] all z h = sym (uncovered-nil dss) ∙ h

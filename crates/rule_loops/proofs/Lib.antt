@@ -4,6 +4,7 @@ mod Blocked
 mod Boxes
 mod Carved
 mod Chosen
+mod Depth
 mod HeldBy
 mod More
 mod Once

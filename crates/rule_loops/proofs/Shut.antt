@@ -1,5 +1,5 @@
 -- A piece of a cell, which is narrowed by one cell of a polygon's outside after the other, and widened again.
-use Rattle.std.proofs.Common.{◌≡◌, ◌↔◌, Bool, true, false, ◌∙◌, ◌≤◌, ◌<◌, ◌+◌, ◌⊎◌, inl, inr, ℕ, zero, suc, List, [], ◌∷◌, Some, arith, refl, ap, sym, subst, length, get_or, take}
+use Rattle.std.proofs.Common.{◌≡◌, ◌↔◌, Bool, true, false, ◌∙◌, ◌≤◌, ◌<◌, ◌+◌, ◌⊎◌, inl, inr, ℕ, zero, suc, List, [], ◌∷◌, Some, arith, refl, ap, sym, subst, length, get_or, take, drop}
 use Rattle.std.specs.Prelude.{slice_get, Result, IfOk}
 use Rattle.std.specs.Bool.{OnTrue}
 use Rattle.std.proofs.lemmas.Result.{IfOk-weaker}
@@ -11,6 +11,7 @@ use Rattle.plane_terms.specs.Point.{Point}
 use Rattle.plane_terms.specs.Cell.{Cell, InCell, InCells}
 use Rattle.plane_terms.proofs.ListLemmas.{every_got}
 use Rattle.rule_loops.specs.Open.{IsInEach}
+use Rattle.rule_loops.proofs.Rest.{drop_one}
 
 -- no point of c that is in each of the lists near is in d
 abbrev pub IsShutIn : List (List Cell) → Cell → Cell → Type 0
@@ -35,11 +36,12 @@ some_index p (d ∷ ds) (inl h) = (0, d, refl, h)
 some_index p (d ∷ ds) (inr h) = let k = some_index p ds h in (suc k.0, k.1, k.2, k.3)
 
 -- those before n are shut, and the others are clear of the piece
-pub all_shut : (near : List (List Cell)) (c : Cell) (ds : List Cell) (n k : ℕ) → slice_get near k ≡ Some ds → AreShut near c ds n
+pub all_shut : (near : List (List Cell)) (c : Cell) (ds : List Cell) (n : ℕ) → ((p : Point) → IsInEach near p → InCells ds p)
+    → AreShut near c ds n
     → ((j : ℕ) → (d : Cell) → slice_get ds j ≡ Some d → n ≤ j → (p : Point) → InCell c p → ¬ (InCell d p)) → (p : Point) → InCell c p
     → ¬ (IsInEach near p)
-all_shut near c ds n k e h f p m i =
-    let s = some_index p ds (every_got (λ ds. InCells ds p) near k ds i e) in
+all_shut near c ds n e h f p m i =
+    let s = some_index p ds (e p i) in
     elim (before_or_not s.0 n) [ inl b ↦ h s.0 s.1 b s.2 p m s.3 i | inr a ↦ f s.0 s.1 s.2 a p m s.3 ]
   where
     before_or_not : (j n : ℕ) → (j < n) ⊎ (n ≤ j)
@@ -55,14 +57,18 @@ begins_within c e h = omega (arith, length-take (length c) e, ap length h)
 pub restored : (c e g w : Cell) (n : ℕ) → n ≡ length c → take (length c) e ≡ c → g ≡ e → w ≡ take n g → w ≡ c
 restored c e g w n l b s h = h ∙ (ap (take n) s ∙ (ap (λ m. take m e) l ∙ b))
 
--- ---- a piece with the points of a cell
-shut_same : (near : List (List Cell)) (c e : Cell) → ((p : Point) → InCell e p ↔ InCell c p) → (b : Bool)
-    → OnTrue b ((p : Point) → InCell e p → ¬ (IsInEach near p)) → OnTrue b ((p : Point) → InCell c p → ¬ (IsInEach near p))
-shut_same near c e s true h = λ p m. h p ((s p).1 m)
-shut_same near c e s false h = h
+-- ---- polygons from a place of the list on
+each_from : (near : List (List Cell)) (k : ℕ) (p : Point) → IsInEach near p → IsInEach (drop k near) p
+each_from near zero p h = h
+each_from [] (suc k) p h = tt
+each_from (ds ∷ near) (suc k) p h = each_from near k p h.1
 
-pub shut_started : (near : List (List Cell)) (c e : Cell) (r : Result Bool NoMemory) → ((p : Point) → InCell e p ↔ InCell c p)
-    → IfOk r (λ b. OnTrue b ((p : Point) → InCell e p → ¬ (IsInEach near p)))
-    → IfOk r (λ b. OnTrue b ((p : Point) → InCell c p → ¬ (IsInEach near p)))
-shut_started near c e r s h = IfOk-weaker r (λ b. OnTrue b ((p : Point) → InCell e p → ¬ (IsInEach near p)))
-    (λ b. OnTrue b ((p : Point) → InCell c p → ¬ (IsInEach near p))) (shut_same near c e s) h
+pub each_later : (near : List (List Cell)) (j k : ℕ) (p : Point) → j ≤ k → IsInEach (drop j near) p → IsInEach (drop k near) p
+each_later near zero k p l h = each_from near k p h
+each_later near (suc j) zero p l h = absurd (omega arith)
+each_later [] (suc j) (suc k) p l h = tt
+each_later (ds ∷ near) (suc j) (suc k) p l h = each_later near j k p (omega arith) h
+
+pub in_one : (near : List (List Cell)) (j k : ℕ) (ds : List Cell) → j ≤ k → slice_get near k ≡ Some ds → (p : Point) → IsInEach (drop j near) p
+    → InCells ds p
+in_one near j k ds l e p h = (subst (λ dss. IsInEach dss p) (drop_one near k ds e) (each_later near j k p l h)).0

@@ -3,7 +3,6 @@
 -- chosen n e g           g is of the class n, and is not the feature of the handle e, where one is given
 -- outsides n e F         of each feature of F that is chosen, the cells of what is closed out of it
 -- IsInEach dss p         p is in each of these lists of cells
--- AreAmong cs dss ess    a point of the cells cs that is in each list of dss is in each of ess
 use Rattle.std.specs.Prelude.{ℕ, Bool, true, not, ◌==◌, ◌&&◌, List, Option, None, Some, map, filter}
 use Rattle.plane_terms.specs.Lists.{Every}
 use Rattle.plane_terms.specs.Point.{Point}
@@ -23,6 +22,3 @@ outsides n e F = map {A = Feature} outside (filter (chosen n e) F)
 
 abbrev pub IsInEach : List (List Cell) → Point → Type 0
 IsInEach dss p = Every (λ ds. InCells ds p) dss
-
-abbrev pub AreAmong : List Cell → List (List Cell) → List (List Cell) → Type 0
-AreAmong cs dss ess = (p : Point) → InCells cs p → IsInEach dss p → IsInEach ess p

@@ -3,7 +3,7 @@ ghost use Rattle.plane_terms.specs.Cell as planes;
 ghost use Rattle.topology_terms.specs.Plans as plans;
 ghost use Rattle.rule_loops.specs.Views.{of_class};
 
-use crate::nearby::{nearby, nearby_of};
+use crate::nearby::{nearby_of, polygon_nearby};
 use crate::polygon::boundary_of;
 use crate::remainder::left_of_cell;
 use crate::uncovered::left_by_turns;
@@ -39,7 +39,7 @@ fn open_ground(
 {
     let except = Some(subject.handle());
     let mut own = Vec::new(alloc);
-    own.push(nearby(alloc, subject, work)?)?;
+    own.push(polygon_nearby(alloc, subject, work)?)?;
     let near = nearby_of(alloc, own, class, except, view, work)?;
     let round = Cell::box_round(alloc, &subject.shape().env())?;
     let left = left_of_cell(alloc, &round, &near.held)?;

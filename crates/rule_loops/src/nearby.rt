@@ -1,6 +1,6 @@
-ghost use Rattle.std.specs.Prelude.{◌≡◌, ◌<◌, ◌≤◌, length, IfSome, IfOk};
-ghost use Rattle.plane_terms.specs.Point.{Point};
-ghost use Rattle.rule_loops.specs.Open.{chosen, outsides, IsInEach};
+ghost use Rattle.std.specs.Prelude.{◌≡◌, ◌<◌, ◌≤◌, ◌++◌, drop, length, IfSome, IfOk};
+ghost use Rattle.topology_terms.specs.Cells.{outside};
+ghost use Rattle.rule_loops.specs.Open.{chosen, outsides};
 
 use crate::polygon::outside_of;
 use convex_cell::{BoundedCells, Piece};
@@ -24,13 +24,6 @@ pub(crate) struct Nearby {
     pub(crate) outside: Rc<BoundedCells>,
 }
 
-impl Nearby {
-    /// Whether the polygon may be near the piece.
-    pub(crate) fn is_near(&self, piece: &Piece) -> bool {
-        is_near(piece, &self.env)
-    }
-}
-
 impl Model for Nearby {
     ghost use Rattle.std.specs.Prelude.{List};
     ghost use Rattle.plane_terms.specs.Cell as planes;
@@ -52,7 +45,7 @@ pub(crate) fn is_chosen(class: u16, except: Option<u32>, other: &Feature) -> boo
 }
 
 /// A polygon with the cells of what is closed out of it.
-pub(crate) fn nearby(alloc: Global, polygon: &Feature, work: &mut Work) -> Result<Nearby, NoMemory>
+pub(crate) fn polygon_nearby(alloc: Global, polygon: &Feature, work: &mut Work) -> Result<Nearby, NoMemory>
     ensures outside { IfOk result (λ n. n ≡ outside polygon.now) }
     ensures uncounted { work.new ≡ work.old }
 {
@@ -85,7 +78,7 @@ pub(crate) fn nearby_of(
     for i in 0..view.len() {
         let other = view.feature(i);
         if is_chosen(class, except, other) {
-            let near = nearby(alloc, other, work)?;
+            let near = polygon_nearby(alloc, other, work)?;
             let count = near.outside.cells().len();
             if count > room || held.len() >= MOST_POLYGONS {
                 return Ok(NearPolygons { held, rest: i });

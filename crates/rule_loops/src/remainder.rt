@@ -1,8 +1,9 @@
 ghost use Rattle.std.specs.Prelude.{◌≡◌, ◌↔◌, ◌++◌, ◌∷◌, [], drop, IfOk, OnOk};
+ghost use Rattle.std.specs.Bool.{OnTrue};
 ghost use Rattle.plane_terms.specs.Point.{Point};
-ghost use Rattle.plane_terms.specs.Cell as planes;
 ghost use Rattle.plane_terms.specs.Cell.{InCell, HasPoint, HavePoints};
 ghost use Rattle.topology_terms.specs.Cells.{uncovered};
+ghost use Rattle.rule_loops.specs.Open.{IsInEach};
 
 use crate::nearby::Nearby;
 use crate::open::is_covered;
@@ -10,8 +11,21 @@ use convex_cell::{BoundedCells, Cell, Cells, Piece};
 use grid_plane::NoMemory;
 use std::alloc::Global;
 
-// Puts what the polygons from this place of the list on leave of the cell, in order. The piece is where the cell is, and both are as they
-// were in the end.
+// Whether the polygons from this place of the list on are found to cover the piece. That is asked of the parts that the first polygon
+// leaves, and of no others.
+fn is_over(piece: &mut Piece, near: &[Nearby], from: usize) -> Result<bool, NoMemory>
+    ensures covered { IfOk result (λ covered. OnTrue covered ((p : Point) → InCell piece.old p → ¬ (IsInEach (drop from near.now) p))) }
+    ensures same { OnOk result (piece.new ≡ piece.old) }
+{
+    if from > 1 {
+        return Ok(false);
+    }
+    is_covered(piece, near, from)
+}
+
+// Puts what the polygons from this place of the list on leave of the cell: the cells that it becomes, carved by the outside of each in
+// turn. They are found in depth, so none is made but those that are left. The piece is where the cell is, and both are as they were in
+// the end.
 fn push_left(
     alloc: Global,
     cell: &mut Cell,
@@ -20,24 +34,22 @@ fn push_left(
     from: usize,
     left: &mut Cells,
 ) -> Result<(), NoMemory>
-    requires same { (p : Point) → InCell piece.old p ↔ InCell cell.old p }
+    requires { (p : Point) → InCell piece.old p ↔ InCell cell.old p }
     ensures left { OnOk result (left.new ≡ left.old ++ uncovered (cell.old ∷ []) (drop from near.now)) }
     ensures cell { OnOk result (cell.new ≡ cell.old) }
     ensures piece { OnOk result (piece.new ≡ piece.old) }
 {
     let Some(nearby) = near.get(from) else {
-        left.push(cell.try_copy(alloc)?)?;
-        return Ok(());
+        return left.push(cell.try_copy(alloc)?);
     };
     let outside: &BoundedCells = &nearby.outside;
-    let is_first = from == 0;
+    let len = cell.len();
     let window = piece.window(outside);
     for i in window.first..window.last {
         let Some(mark) = piece.narrow(outside, i)? else {
             continue;
         };
-        if !(is_first && is_covered(piece, near, from + 1)?) {
-            let len = cell.len();
+        if !is_over(piece, near, from + 1)? {
             cell.narrow(outside.cells().cell(i))?;
             push_left(alloc, cell, piece, near, from + 1, left)?;
             cell.truncate(len);
@@ -47,18 +59,19 @@ fn push_left(
     Ok(())
 }
 
-/// What the polygons leave of the cell: the cells that it becomes, carved by the outside of each in turn.
+/// What the polygons leave of the cell, carved by the outside of each in turn.
 pub(crate) fn left_of_cell(alloc: Global, cell: &Cell, near: &[Nearby]) -> Result<Cells, NoMemory>
     ensures { IfOk result (λ left. left ≡ uncovered (cell.now ∷ []) near.now) }
 {
     let mut left = Cells::new(alloc);
     let mut piece = Piece::new(alloc);
+    let mut own = cell.try_copy(alloc)?;
     piece.start(alloc, cell)?;
-    push_left(alloc, &mut cell.try_copy(alloc)?, &mut piece, near, 0, &mut left)?;
+    push_left(alloc, &mut own, &mut piece, near, 0, &mut left)?;
     Ok(left)
 }
 
-// Puts what the polygons leave of the cell.
+// Puts what the polygons leave of the cell. Most often they cover it, and nothing is copied.
 fn push_left_of(
     alloc: Global,
     cell: &Cell,
@@ -73,11 +86,16 @@ fn push_left_of(
     if is_covered(piece, near, 0)? {
         return Ok(());
     }
-    push_left(alloc, &mut cell.try_copy(alloc)?, piece, near, 0, left)
+    let mut own = cell.try_copy(alloc)?;
+    push_left(alloc, &mut own, piece, near, 0, left)
 }
 
 /// What the polygons leave of the cells, carved by the outside of each in turn.
-pub(crate) fn left_of_cells(alloc: Global, cells: &Cells, near: &[Nearby]) -> Result<Cells, NoMemory>
+pub(crate) fn left_of_cells(
+    alloc: Global,
+    cells: &Cells,
+    near: &[Nearby],
+) -> Result<Cells, NoMemory>
     requires { HavePoints cells.now }
     ensures { IfOk result (λ left. left ≡ uncovered cells.now near.now) }
 {

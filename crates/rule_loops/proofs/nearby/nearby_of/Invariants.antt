@@ -1,10 +1,9 @@
-use Rattle.std.proofs.Common.{◌≡◌}
-use Rattle.plane_terms.specs.Point.{Point}
-use Rattle.rule_loops.specs.Open.{outsides, IsInEach}
+use Rattle.std.proofs.Common.{◌≡◌, ◌++◌, drop}
+use Rattle.rule_loops.specs.Open.{outsides}
 use Rattle.rule_loops.proofs.nearby.nearby_of.Given as goal
 
 abbrev pub invariant-loop-i : goal.invariant-loop-i
 invariant-loop-i l = record {
-  among : (p : Point) → IsInEach (outsides l.class l.except l.view) p → IsInEach l.near.items p;
+  all : l.held.items ++ outsides l.class l.except (drop l.i l.view) ≡ l.fn.first.items ++ outsides l.class l.except l.view;
   uncounted : l.work ≡ l.fn.work;
 }

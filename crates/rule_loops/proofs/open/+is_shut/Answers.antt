@@ -1,10 +1,10 @@
-use Rattle.std.proofs.Common.{◌≡◌, ◌∙◌, ◌≤◌, ◌<◌, ◌+◌, inl, inr, true, Some, arith, rules, refl, sym, subst, length, get_or, [], take, List}
+use Rattle.std.proofs.Common.{◌≡◌, ◌∙◌, ◌≤◌, ◌<◌, ◌+◌, inl, inr, true, Some, arith, rules, refl, sym, subst, length, get_or, [], take, drop, List}
 use Rattle.std.specs.Prelude.{slice_get}
 use Rattle.std.proofs.lemmas.Bool.{OnTrue_at}
 use Rattle.std.proofs.lemmas.Option.{slice_get_read}
 use Rattle.plane_terms.specs.Cell.{Cell, InCell}
-use Rattle.convex_cell.specs.Piece.{IsMarkOf, IsNarrowed}
-use Rattle.rule_loops.proofs.Shut.{IsShutIn, AreShut, shut_more, all_shut, at_index, begins_within, restored}
+use Rattle.convex_cell.specs.Piece.{IsMarkOf}
+use Rattle.rule_loops.proofs.Shut.{shut_more, all_shut, at_index, begins_within, restored, each_later, in_one}
 use Rattle.rule_loops.proofs.open.+is_shut.Goals as goal
 
 pub loop-i-init : goal.loop-i-init
@@ -15,11 +15,10 @@ loop-i-init t c = record {
 
 pub loop-i-preserved-in_default-2 : goal.loop-i-preserved-in_default-2
 loop-i-preserved-in_default-2 t c =
-    let old = c.loop-i.piece in
     let same = c.loop-i.invariant.same in
     record {
       same = (rw c.in_default-2.is at (c.in_ok-mark.ensures.none)) ∙ same;
-      shut = shut_more c.args.near.now c.args.piece.now c.deref-outside.result.now c.loop-i.i c.loop-i.invariant.shut
+      shut = shut_more (drop c.args.from c.args.near.now) c.args.piece.now c.deref-outside.result.now c.loop-i.i c.loop-i.invariant.shut
           (λ d e p m n i. (rw c.in_default-2.is at (c.in_ok-mark.ensures.clear)) d e p (subst (λ (hs : Cell). InCell hs p) (sym same) m) n);
     }
 
@@ -28,7 +27,7 @@ widen-requires-clause-long t c =
     let ds : List Cell = c.deref-outside.result.now in
     let within : c.loop-i.i < length ds = omega (arith, c.window-window.ensures.fits) in
     let made = (rw c.in-Some-2.is at (c.in_ok-mark.ensures.some)) (get_or ds c.loop-i.i []) (at_index ds c.loop-i.i within) in
-    let back : c.is_shut.new.piece ≡ c.narrow.new.self = OnTrue_at c.if-not-branch.false c.in_ok-is_shut.ensures.same in
+    let back : c.is_shut.new.piece ≡ c.narrow.new.self = c.in_ok-shut.ensures.same in
     rw (back, made.mark.long) (begins_within c.loop-i.piece c.narrow.new.self made.begins)
 
 pub widen-requires-clause-mark : goal.widen-requires-clause-mark
@@ -36,32 +35,47 @@ widen-requires-clause-mark t c =
     let ds : List Cell = c.deref-outside.result.now in
     let within : c.loop-i.i < length ds = omega (arith, c.window-window.ensures.fits) in
     let made = (rw c.in-Some-2.is at (c.in_ok-mark.ensures.some)) (get_or ds c.loop-i.i []) (at_index ds c.loop-i.i within) in
-    let back : c.is_shut.new.piece ≡ c.narrow.new.self = OnTrue_at c.if-not-branch.false c.in_ok-is_shut.ensures.same in
+    let back : c.is_shut.new.piece ≡ c.narrow.new.self = c.in_ok-shut.ensures.same in
     subst (IsMarkOf c.in-Some-2.mark) (sym (restored c.loop-i.piece c.narrow.new.self c.is_shut.new.piece (take c.in-Some-2.mark.len c.is_shut.new.piece) c.in-Some-2.mark.len made.mark.long made.begins back refl)) made.mark
+
+pub returns-then-not-shut-clause-same : goal.returns-then-not-shut-clause-same
+returns-then-not-shut-clause-same t c =
+    let ds : List Cell = c.deref-outside.result.now in
+    let within : c.loop-i.i < length ds = omega (arith, c.window-window.ensures.fits) in
+    let made = (rw c.in-Some-2.is at (c.in_ok-mark.ensures.some)) (get_or ds c.loop-i.i []) (at_index ds c.loop-i.i within) in
+    restored c.loop-i.piece c.narrow.new.self c.is_shut.new.piece c.widen.new.self c.in-Some-2.mark.len made.mark.long made.begins
+        c.in_ok-shut.ensures.same c.widen.ensures
+        ∙ c.loop-i.invariant.same
 
 pub loop-i-preserved : goal.loop-i-preserved
 loop-i-preserved t c =
     let ds : List Cell = c.deref-outside.result.now in
+    let near = c.args.near.now in
     let i = c.loop-i.i in
     let same = c.loop-i.invariant.same in
     let within : i < length ds = omega (arith, c.window-window.ensures.fits) in
     let narrowed = rw c.in-Some-2.is at (c.in_ok-mark.ensures.some) in
     let made = narrowed (get_or ds i []) (at_index ds i within) in
-    let t : c.in_ok-is_shut.field-0 ≡ true = c.if-not-branch.false in
-    let back : c.is_shut.new.piece ≡ c.narrow.new.self = OnTrue_at t c.in_ok-is_shut.ensures.same in
+    let t : c.in_ok-shut.shut ≡ true = c.if-not-shut.false in
+    let later : c.args.from ≤ c.in-Some.k + 1 = search rules in
     record {
-      same = restored c.loop-i.piece c.narrow.new.self c.is_shut.new.piece c.widen.new.self c.in-Some-2.mark.len made.mark.long made.begins back
-          c.widen.ensures
+      same = restored c.loop-i.piece c.narrow.new.self c.is_shut.new.piece c.widen.new.self c.in-Some-2.mark.len made.mark.long made.begins
+          c.in_ok-shut.ensures.same c.widen.ensures
           ∙ same;
-      shut = shut_more c.args.near.now c.args.piece.now ds i c.loop-i.invariant.shut (λ d e p m n.
-          OnTrue_at t c.in_ok-is_shut.ensures.shut p (((narrowed d e).points p).1 (subst (λ (hs : Cell). InCell hs p) (sym same) m, n)));
+      shut = shut_more (drop c.args.from near) c.args.piece.now ds i c.loop-i.invariant.shut (λ d e p m n h.
+          OnTrue_at t c.in_ok-shut.ensures.shut p (((narrowed d e).points p).1 (subst (λ (hs : Cell). InCell hs p) (sym same) m, n))
+              (each_later near c.args.from (c.in-Some.k + 1) p later h));
     }
 
 pub returns-clause-shut : goal.returns-clause-shut
 returns-clause-shut t c =
-    let within : c.in-Some.k < length c.args.near.now = search rules in
-    let read : slice_get c.args.near.now c.in-Some.k ≡ Some c.index-near-k.result =
-    slice_get_read c.args.near.now (length c.args.near.now) c.in-Some.k c.index-near-k.result refl within c.index-near-k.is in
+    let near = c.args.near.now in
+    let k = c.in-Some.k in
+    let within : k < length near = search rules in
+    let later : c.args.from ≤ k = search rules in
+    let read : slice_get near k ≡ Some c.index-near-k.result =
+    slice_get_read near (length near) k c.index-near-k.result refl within c.index-near-k.is in
     let same : c.index-near-k.result ≡ c.deref-outside.result.now = sym (c.deref-outside.ensures ∙ c.nearby.view_is) in
-    all_shut c.args.near.now c.args.piece.now c.deref-outside.result.now c.loop-i.i c.in-Some.k (rw same at read) c.loop-i.invariant.shut
+    all_shut (drop c.args.from near) c.args.piece.now c.deref-outside.result.now c.loop-i.i
+    (λ p h. in_one near c.args.from k c.deref-outside.result.now later (rw same at read) p h) c.loop-i.invariant.shut
     (λ j d e a. c.window-window.ensures.clear j d e (inr (omega arith)))

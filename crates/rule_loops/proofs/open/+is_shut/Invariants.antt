@@ -1,4 +1,4 @@
-use Rattle.std.proofs.Common.{◌≡◌, ◌-◌, ◌≤◌, ◌<◌, ℕ, List, Some, length}
+use Rattle.std.proofs.Common.{◌≡◌, ◌-◌, ◌≤◌, ◌<◌, ℕ, List, Some, length, drop}
 use Rattle.std.specs.Prelude.{slice_get}
 use Rattle.plane_terms.specs.Point.{Point}
 use Rattle.plane_terms.specs.Cell.{Cell, InCell}
@@ -12,5 +12,5 @@ abbrev pub invariant-loop-i : goal.invariant-loop-i
 invariant-loop-i l = record {
   same : l.piece ≡ l.fn.piece;
   shut : (j : ℕ) → (d : Cell) → j < l.i → slice_get l.outside j ≡ Some d → (p : Point) → InCell l.fn.piece p → InCell d p
-      → ¬ (IsInEach l.near p);
+      → ¬ (IsInEach (drop l.from l.near) p);
 }
