@@ -16,6 +16,7 @@ use Rattle.rule_loops.specs.Apart.{uncovered-nil}
 use Rattle.cell_laws.proofs.Meets.{carve_points}
 use Rattle.rule_loops.specs.Open.{chosen, outsides}
 use Rattle.rule_loops.specs.Views.{of_class}
+use Rattle.rule_loops.proofs.Carved.{uncovered-append}
 use Rattle.rule_loops.proofs.Rest.{drop_one}
 
 -- ---- those that are still to come
@@ -57,6 +58,11 @@ pub turn_same : (n : ℕ) (o : Option ℕ) (F : List Feature) (i : ℕ) (g : Fea
     → uncovered made (outsides n o (drop (i + 1) F)) ≡ all
 turn_same n o F i g left made all e t m h = ap (λ cs. uncovered cs (outsides n o (drop (i + 1) F))) m
     ∙ (sym (ap (uncovered left) (outsides_from n o F i g false e t)) ∙ h)
+
+-- what those that are held leave, and then the rest
+pub left_in_turn : (cells left : List Cell) (held rest all : List (List Cell)) → left ≡ uncovered cells held → held ++ rest ≡ all
+    → uncovered left rest ≡ uncovered cells all
+left_in_turn cells left held rest all l a = ap (λ us. uncovered us rest) l ∙ (sym (uncovered-append cells held rest) ∙ ap (uncovered cells) a)
 
 pub turn_none : (dss : List (List Cell)) (left all : List Cell) → length left ≡ 0 → uncovered left dss ≡ all → left ≡ all
 turn_none dss [] all z h = sym (uncovered-nil dss) ∙ h

@@ -1,6 +1,6 @@
 -- What polygons leave of a cell, part by part: the first of them leaves the parts that the cell shares with the cells of its outside, and
 -- those behind it carve each part.
-use Rattle.std.proofs.Common.{◌≡◌, ◌∙◌, ◌≤◌, ◌<◌, ◌+◌, inl, inr, ℕ, Bool, List, [], ◌∷◌, ◌++◌, Some, true, false, refl, ap, sym, length, get_or, map, take, append-nil, append_assoc}
+use Rattle.std.proofs.Common.{◌≡◌, ◌↔◌, ◌∙◌, ◌≤◌, ◌<◌, ◌+◌, inl, inr, ℕ, Bool, List, [], ◌∷◌, ◌++◌, Some, true, false, refl, ap, sym, length, get_or, map, take, append-nil, append_assoc}
 use Rattle.std.specs.Prelude.{slice_get}
 use Rattle.std.proofs.lemmas.Option.{slice_get-get_or}
 use Rattle.plane_terms.specs.Point.{Point}
@@ -83,3 +83,11 @@ one_with c ds rest i d before left new e p n h =
 pub cell_none : (c : Cell) (near : List (List Cell)) → HasPoint c → ((p : Point) → InCell c p → ¬ (IsInEach near p)) → uncovered (c ∷ []) near ≡ []
 cell_none c near h n = none_left (uncovered (c ∷ []) near) (uncovered_have_points (c ∷ []) near (h, tt))
     (λ p k. let m = (uncovered_points (c ∷ []) near p).0 k in n p (alone c p m.0) m.1)
+
+-- the points of a piece that is narrowed, and of the cell
+pub same_met : (c o d e : Cell) → ((p : Point) → InCell o p ↔ InCell c p) → ((p : Point) → InCell e p ↔ (InCell o p × InCell d p)) → (p : Point)
+    → InCell e p ↔ InCell (meet_of c d) p
+same_met c o d e s n p = (
+  λ m. let k = (n p).0 m in (meet_points c d p).1 ((s p).0 k.0, k.1),
+  λ m. let k = (meet_points c d p).0 m in (n p).1 ((s p).1 k.0, k.1),
+)

@@ -30,6 +30,9 @@ pub shares_more : (c : Cell) (ds : List Cell) (i : ℕ) (d : Cell) → slice_get
     → carve_of (c ∷ []) (take (i + 1) ds) ≡ carve_of (c ∷ []) (take i ds) ++ carve_of (c ∷ []) (d ∷ [])
 shares_more c ds i d e = ap (carve_of (c ∷ [])) (take_one ds i d e) ∙ shares_joined c (take i ds) (d ∷ [])
 
+pub kept_one : (c d : Cell) → HasPoint (meet_of c d) → carve_of (c ∷ []) (d ∷ []) ≡ meet_of c d ∷ []
+kept_one c d h = rw ((has_point-true (meet_of c d)).1 h) refl
+
 -- where a piece has the points of the cell
 pub point_shared : (c o d e : Cell) → ((p : Point) → InCell o p ↔ InCell c p) → ((p : Point) → InCell e p ↔ (InCell o p × InCell d p))
     → HasPoint e → HasPoint (meet_of c d)

@@ -1,25 +1,29 @@
-use Rattle.std.proofs.Common.{◌≡◌, ◌∙◌, [], ◌∷◌, Some, rules, ap, subst}
+use Rattle.std.proofs.Common.{◌≡◌, ◌∙◌, ◌++◌, [], ◌∷◌, Some, ap, drop, rules, subst}
 use Rattle.std.specs.Prelude.{IfOk, List}
 use Rattle.plane_terms.specs.Cell.{Cell}
 use Rattle.plane_terms.specs.Carve.{carve_of}
-use Rattle.topology_terms.specs.Cells.{uncovered}
+use Rattle.topology_terms.specs.Cells.{uncovered, outside}
 use Rattle.topology_terms.specs.Plans.{open_ground}
 use Rattle.rule_loops.specs.Open.{outsides}
 use Rattle.rule_loops.specs.Views.{of_class}
+use Rattle.rule_loops.proofs.Chosen.{left_in_turn}
 use Rattle.rule_loops.proofs.More.{ground_left}
 use Rattle.rule_loops.proofs.gaps.open_ground.Goals as goal
-
-pub left_by_turns-requires : goal.left_by_turns-requires
-left_by_turns-requires c = λ p i k. rw (c.deref-3.ensures.value) (c.in_ok-near.ensures.among p k)
 
 pub returns-clause-ground : goal.returns-clause-ground
 returns-clause-ground c =
     let f = c.args.subject.now in
     let n = c.args.class in
+    let o = Some c.handle.result in
     let V = c.args.view.now in
-    let same = c.in_ok-open.ensures.same (outsides n (Some c.handle.result) V)
-    (λ p i k. rw (c.deref-2.ensures.value) (c.in_ok-near.ensures.among p k)) in
-    let ground : carve_of (c.in_ok-round.round ∷ []) c.deref.result.now ≡ open_ground f [] = search rules in
-    let all : uncovered c.in_ok-open.open (outsides n (Some c.handle.result) V) ≡ open_ground f (of_class n V) =
-    same ∙ (ap (λ cs. uncovered cs (outsides n (Some c.handle.result) V)) ground ∙ rw (c.handle.ensures) (ground_left f n V)) in
+    let round : List Cell = c.in_ok-round.round ∷ [] in
+    let near = c.in_ok-near.near in
+    let first : c.push.new.self.items ≡ outside f ∷ [] = c.in_ok-push.ensures.items
+    ∙ (ap (λ dss. dss ++ c.in_ok-polygon_nearby.field-0 ∷ []) c.new-own.ensures.items ∙ ap (λ ds. ds ∷ []) c.in_ok-polygon_nearby.ensures.outside) in
+    let turns = left_in_turn round c.in_ok-left.left near.held.items (outsides n o (drop near.rest V)) (outside f ∷ outsides n o V)
+    (c.in_ok-left.ensures ∙ ap (uncovered round) c.deref.ensures.value)
+    (c.in_ok-near.ensures.all ∙ ap (λ dss. dss ++ outsides n o V) first) in
+    let ground : carve_of round (outside f) ≡ open_ground f [] = search rules in
+    let all : uncovered c.in_ok-left.left (outsides n o (drop near.rest V)) ≡ open_ground f (of_class n V) =
+    turns ∙ (ap (λ cs. uncovered cs (outsides n o V)) ground ∙ rw (c.handle.ensures) (ground_left f n V)) in
     subst (λ (all : List Cell). IfOk c.left_by_turns.result (λ cells. cells ≡ all)) all c.left_by_turns.ensures.left
