@@ -81,6 +81,15 @@ fn push_stretch(halves: &mut Vec<Half>, stretch: &Stretch) -> Result<(), NoMemor
     push_halves(halves, half_above(&stretch.low), half_below(&stretch.high))
 }
 
+/// Leaves the half-plane alone in the list.
+fn begin(halves: &mut Vec<Half>, half: Half) -> Result<(), NoMemory>
+    ensures { OnOk result (halves.new.items ≡ half ∷ []) }
+{
+    halves.clear();
+    halves.push(half)?;
+    Ok(())
+}
+
 /// Leaves in the list the half-planes of the cell of a slot and a stretch on the wall at x.
 fn find_wall_cell(
     halves: &mut Vec<Half>,
@@ -90,8 +99,7 @@ fn find_wall_cell(
 ) -> Result<(), NoMemory>
     ensures { OnOk result (halves.new.items ≡ x_is x.now ∷ slot_cell slot.now ++ stretch_cell stretch.now) }
 {
-    halves.clear();
-    halves.push(on(x))?;
+    begin(halves, on(x))?;
     push_slot(halves, slot)?;
     push_stretch(halves, stretch)
 }
@@ -105,8 +113,7 @@ fn find_column_cell(
 ) -> Result<(), NoMemory>
     ensures { OnOk result (halves.new.items ≡ x_over left.now ∷ x_under right.now ∷ slot_cell slot.now) }
 {
-    halves.clear();
-    halves.push(right_of(left))?;
+    begin(halves, right_of(left))?;
     halves.push(left_of(right))?;
     push_slot(halves, slot)
 }
