@@ -45,8 +45,8 @@ fn carved(alloc: Global, segments: &[Seg]) -> Result<Cells, NoMemory> {
 
 fn cells_of(alloc: Global, wanted: &Wanted, segments: &[Seg]) -> Result<Cells, NoMemory> {
     match wanted {
-        Wanted::Inside => inside(alloc, segments),
-        Wanted::Outside => outside(alloc, segments),
+        Wanted::Inside => Ok(inside(alloc, segments)?.into_cells()),
+        Wanted::Outside => Ok(outside(alloc, segments)?.into_cells()),
         Wanted::Carved => carved(alloc, segments),
     }
 }

@@ -1,17 +1,13 @@
 -- Heights on an upright line: where a half-plane holds nowhere, and a slot with a stretch that it does not reach.
-use Rattle.std.proofs.Common.{◌≡◌, ◌≤◌, ◌^◌, ℤ, pos, ◌+ℤ◌, ◌-ℤ◌, ◌*ℤ◌, neg_ℤ, ◌≤ℤ◌, ◌<ℤ◌, arith, sym, subst, inl, inr, unsigned_abs, true}
-use Rattle.std.proofs.Common.{false, FitsSigned, to_z, of_z, w64, int_le}
+use Rattle.std.proofs.Common.{◌≡◌, ◌≤◌, ◌^◌, ℤ, pos, ◌+ℤ◌, ◌-ℤ◌, ◌*ℤ◌, neg_ℤ, ◌≤ℤ◌, ◌<ℤ◌, arith, sym, subst, unsigned_abs, true}
+use Rattle.std.proofs.Common.{FitsSigned, to_z, of_z, w64, int_le}
 use Rattle.std.proofs.lemmas.Int.{ints}
 use Rattle.plane_terms.specs.Point.{Point}
 use Rattle.plane_terms.specs.HalfPlane.{HalfPlane, Holds, Says, value_at, x_is, y_over, y_under}
-use Rattle.plane_terms.specs.Cell.{Cell, HasPoint}
-use Rattle.plane_terms.specs.Decide.{has_point}
 use Rattle.plane_terms.specs.declared.op.Op.{Op}
 use Rattle.plane_terms.specs.declared.op.Op.TheVariants.{Over, AtLeast, Zero}
 use Rattle.number_laws.proofs.Ring.{num, neg, ◌⊕◌, ◌⊖◌, ◌⊗◌, same_by}
 use Rattle.number_laws.proofs.Order.{turned_at_least, product_over, product_at_least}
-use Rattle.std.proofs.lemmas.Bool.{cases_Bool}
-use Rattle.cell_laws.proofs.Decision.{has_point-true}
 use Rattle.cell_laws.proofs.GridLines.{x_is_holds, y_over_holds, y_under_holds}
 
 less : (v u t : ℤ) → v ≡ neg_ℤ u -ℤ t → pos 0 <ℤ u → pos 0 ≤ℤ t → v <ℤ pos 0
@@ -68,6 +64,3 @@ module _ (p q r : ℤ) (f : unsigned_abs p ≤ 2 ^ 46) (g : unsigned_abs q ≤ 2
 
 pub read_under : (r v : ℤ) → unsigned_abs r ≤ 2 ^ 48 → r ≡ v → int_le (to_z w64 (of_z w64 r)) (pos 0) ≡ true → v ≤ℤ pos 0
 read_under r v f e t = omega (arith, ints)
-
-pub no_point : (c : Cell) → ¬ (HasPoint c) → has_point c ≡ false
-no_point c n = elim (cases_Bool (has_point c)) [ inl e ↦ absurd (n ((has_point-true c).0 e)) | inr e ↦ e ]

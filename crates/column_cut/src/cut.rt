@@ -13,11 +13,11 @@ use crate::column::find_column;
 use crate::coordinate::Coordinate;
 use crate::near::near_of;
 use crate::parity::Parity;
-use crate::push::{left_of, push_column, push_kept, push_wall, right_of};
+use crate::push::{left_of, push_column, push_wall, right_of};
 use crate::room::Room;
 use crate::slots::find_slots;
 use crate::vertices::abscissas_of;
-use convex_cell::{Cell, Cells};
+use convex_cell::BoundedCells;
 use grid_plane::{NoMemory, Seg};
 use std::alloc::Global;
 
@@ -25,7 +25,7 @@ use std::alloc::Global;
 const FEW: usize = 8;
 
 fn push_strip(
-    cells: &mut Cells,
+    cells: &mut BoundedCells,
     alloc: Global,
     room: &mut Room,
     parity: Parity,
@@ -39,11 +39,18 @@ fn push_strip(
     find_column(&mut room.column, &mut room.ranks, segments, left, right)?;
     find_slots(&mut room.slots, parity, &room.column)?;
     push_wall(cells, alloc, &mut room.wall, segments, left, &room.slots)?;
-    push_column(cells, alloc, left, right, &room.slots)
+    push_column(
+        cells,
+        alloc,
+        &mut room.wall.halves,
+        left,
+        right,
+        &room.slots,
+    )
 }
 
 fn push_last_wall(
-    cells: &mut Cells,
+    cells: &mut BoundedCells,
     alloc: Global,
     room: &mut Room,
     parity: Parity,
@@ -58,7 +65,7 @@ fn push_last_wall(
 
 /// Each wall from the first abscissa on, and the column to its right; not the last wall.
 fn push_each(
-    cells: &mut Cells,
+    cells: &mut BoundedCells,
     alloc: Global,
     room: &mut Room,
     parity: Parity,
@@ -79,7 +86,7 @@ fn push_each(
 
 /// The same, half by half: each half looks only at the segments that reach all that lies between its walls.
 fn push_halves(
-    cells: &mut Cells,
+    cells: &mut BoundedCells,
     alloc: Global,
     room: &mut Room,
     parity: Parity,
@@ -109,7 +116,7 @@ fn push_halves(
 
 /// From the first abscissa on: each wall, and the column to its right.
 fn push_strips(
-    cells: &mut Cells,
+    cells: &mut BoundedCells,
     alloc: Global,
     parity: Parity,
     segments: &[Seg],
@@ -132,7 +139,7 @@ fn push_strips(
 }
 
 fn push_right_side(
-    cells: &mut Cells,
+    cells: &mut BoundedCells,
     alloc: Global,
     first: &Coordinate,
     rest: &[Coordinate],
@@ -140,38 +147,40 @@ fn push_right_side(
     ensures { OnOk result (cells.new ≡ cells.old ++ kept ((x_over (last first.now rest.now) ∷ []) ∷ [])) }
 {
     let greatest = rest.last().unwrap_or(first);
-    push_kept(cells, Cell::of(alloc, &[right_of(greatest)])?)
+    cells.push_kept(alloc, &[right_of(greatest)])
 }
 
-fn inside_of(alloc: Global, segments: &[Seg]) -> Result<Cells, NoMemory>
+fn inside_of(alloc: Global, segments: &[Seg]) -> Result<BoundedCells, NoMemory>
     ensures { IfOk result (λ cells. cells ≡ inside_cells segments.now) }
 {
-    let mut cells = Cells::new(alloc);
+    let mut cells = BoundedCells::new(alloc);
     let abscissas = abscissas_of(alloc, segments)?;
     if let Some((first, rest)) = abscissas.split_first() {
         push_strips(&mut cells, alloc, Parity::Odd, segments, first, rest)?;
     }
+    cells.settle();
     Ok(cells)
 }
 
-fn outside_of(alloc: Global, segments: &[Seg]) -> Result<Cells, NoMemory>
+fn outside_of(alloc: Global, segments: &[Seg]) -> Result<BoundedCells, NoMemory>
     ensures { IfOk result (λ cells. cells ≡ outside_cells segments.now) }
 {
-    let mut cells = Cells::new(alloc);
+    let mut cells = BoundedCells::new(alloc);
     let abscissas = abscissas_of(alloc, segments)?;
     let Some((first, rest)) = abscissas.split_first() else {
-        push_kept(&mut cells, Cell::of(alloc, &[])?)?;
+        cells.push_kept(alloc, &[])?;
         return Ok(cells);
     };
-    push_kept(&mut cells, Cell::of(alloc, &[left_of(first)])?)?;
+    cells.push_kept(alloc, &[left_of(first)])?;
     push_strips(&mut cells, alloc, Parity::Even, segments, first, rest)?;
     push_right_side(&mut cells, alloc, first, rest)?;
+    cells.settle();
     Ok(cells)
 }
 
 /// The cells of the inside of a polygon, over the list of its segments: column by column from the left, in each first its
 /// wall. Of a list whose segments meet at ends alone they hold exactly the points inside. The only error is out of memory.
-pub fn inside(alloc: Global, segments: &[Seg]) -> Result<Cells, NoMemory>
+pub fn inside(alloc: Global, segments: &[Seg]) -> Result<BoundedCells, NoMemory>
     ensures value { IfOk result (λ cells. cells ≡ inside_cells segments.now) }
     ensures points { IfOk result (λ cells. IsSimpleList segments.now → (p : Point) → InCells cells p ↔ IsInside segments.now p) }
 {
@@ -181,7 +190,7 @@ pub fn inside(alloc: Global, segments: &[Seg]) -> Result<Cells, NoMemory>
 /// The cells of what is neither inside a polygon nor on its boundary: first all that is left of it, then column by column,
 /// last all that is right of it. Of a list whose segments meet at ends alone they hold exactly those points.
 /// The only error is out of memory.
-pub fn outside(alloc: Global, segments: &[Seg]) -> Result<Cells, NoMemory>
+pub fn outside(alloc: Global, segments: &[Seg]) -> Result<BoundedCells, NoMemory>
     ensures value { IfOk result (λ cells. cells ≡ outside_cells segments.now) }
     ensures points { IfOk result (λ cells. IsSimpleList segments.now → (p : Point) → InCells cells p ↔ IsOutside segments.now p) }
 {

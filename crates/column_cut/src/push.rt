@@ -1,4 +1,4 @@
-ghost use Rattle.std.specs.Prelude.{◌≡◌, ◌++◌, ◌∷◌, [], None, OnOk, IfOk, map};
+ghost use Rattle.std.specs.Prelude.{◌≡◌, ◌++◌, ◌∷◌, [], None, OnOk, map};
 ghost use Rattle.plane_terms.specs.HalfPlane.{x_is, x_over, x_under};
 ghost use Rattle.plane_terms.specs.Carve.{kept};
 ghost use Rattle.plane_terms.specs.Columns.{at_wall, on_wall, in_column, intervals, is_covered, ordinates};
@@ -9,19 +9,9 @@ use crate::heights::are_apart;
 use crate::intervals::{Stretch, find_intervals};
 use crate::room::WallRoom;
 use crate::slots::Slot;
-use convex_cell::{Cell, Cells};
+use convex_cell::BoundedCells;
 use grid_plane::{Half, NoMemory, Seg, x_is, x_over, x_under, y_over, y_under};
 use std::alloc::Global;
-
-/// Puts the cell at the end where it has a point.
-pub(crate) fn push_kept(cells: &mut Cells, cell: Cell) -> Result<(), NoMemory>
-    ensures { OnOk result (cells.new ≡ cells.old ++ kept (cell ∷ [])) }
-{
-    if cell.is_empty() {
-        return Ok(());
-    }
-    cells.push(cell)
-}
 
 fn on(x: &Coordinate) -> Half
     ensures { result ≡ x_is x.now }
@@ -91,39 +81,47 @@ fn push_stretch(halves: &mut Vec<Half>, stretch: &Stretch) -> Result<(), NoMemor
     push_halves(halves, half_above(&stretch.low), half_below(&stretch.high))
 }
 
-fn wall_cell(
-    alloc: Global,
+/// Leaves the half-plane alone in the list.
+fn begin(halves: &mut Vec<Half>, half: Half) -> Result<(), NoMemory>
+    ensures { OnOk result (halves.new.items ≡ half ∷ []) }
+{
+    halves.clear();
+    halves.push(half)?;
+    Ok(())
+}
+
+/// Leaves in the list the half-planes of the cell of a slot and a stretch on the wall at x.
+fn find_wall_cell(
+    halves: &mut Vec<Half>,
     x: &Coordinate,
     slot: &Slot,
     stretch: &Stretch,
-) -> Result<Cell, NoMemory>
-    ensures { IfOk result (λ cell. cell ≡ x_is x.now ∷ slot_cell slot.now ++ stretch_cell stretch.now) }
+) -> Result<(), NoMemory>
+    ensures { OnOk result (halves.new.items ≡ x_is x.now ∷ slot_cell slot.now ++ stretch_cell stretch.now) }
 {
-    let mut halves = Vec::with_capacity(alloc, 5)?;
-    halves.push(on(x))?;
-    push_slot(&mut halves, slot)?;
-    push_stretch(&mut halves, stretch)?;
-    Ok(Cell::from_halves(halves))
+    begin(halves, on(x))?;
+    push_slot(halves, slot)?;
+    push_stretch(halves, stretch)
 }
 
-fn column_cell(
-    alloc: Global,
+/// Leaves in the list the half-planes of the cell of a slot between the walls.
+fn find_column_cell(
+    halves: &mut Vec<Half>,
     left: &Coordinate,
     right: &Coordinate,
     slot: &Slot,
-) -> Result<Cell, NoMemory>
-    ensures { IfOk result (λ cell. cell ≡ x_over left.now ∷ x_under right.now ∷ slot_cell slot.now) }
+) -> Result<(), NoMemory>
+    ensures { OnOk result (halves.new.items ≡ x_over left.now ∷ x_under right.now ∷ slot_cell slot.now) }
 {
-    let mut halves = Vec::with_capacity(alloc, 4)?;
-    halves.push(right_of(left))?;
+    begin(halves, right_of(left))?;
     halves.push(left_of(right))?;
-    push_slot(&mut halves, slot)?;
-    Ok(Cell::from_halves(halves))
+    push_slot(halves, slot)
 }
 
 fn push_piece(
-    cells: &mut Cells,
+    cells: &mut BoundedCells,
     alloc: Global,
+    halves: &mut Vec<Half>,
     x: &Coordinate,
     slot: &Slot,
     stretch: &Stretch,
@@ -133,12 +131,14 @@ fn push_piece(
     if are_apart(x, slot, stretch) {
         return Ok(());
     }
-    push_kept(cells, wall_cell(alloc, x, slot, stretch)?)
+    find_wall_cell(halves, x, slot, stretch)?;
+    cells.push_kept(alloc, halves)
 }
 
 fn push_at_wall(
-    cells: &mut Cells,
+    cells: &mut BoundedCells,
     alloc: Global,
+    halves: &mut Vec<Half>,
     x: &Coordinate,
     slot: &Slot,
     stretches: &[Stretch],
@@ -146,14 +146,15 @@ fn push_at_wall(
     ensures { OnOk result (cells.new ≡ cells.old ++ kept (at_wall x.now (slot_cell slot.now) (map stretch_cell stretches.now))) }
 {
     for stretch in stretches {
-        push_piece(cells, alloc, x, slot, stretch)?;
+        push_piece(cells, alloc, halves, x, slot, stretch)?;
     }
     Ok(())
 }
 
 fn push_on_wall(
-    cells: &mut Cells,
+    cells: &mut BoundedCells,
     alloc: Global,
+    halves: &mut Vec<Half>,
     x: &Coordinate,
     slots: &[Slot],
     stretches: &[Stretch],
@@ -161,14 +162,14 @@ fn push_on_wall(
     ensures { OnOk result (cells.new ≡ cells.old ++ kept (on_wall x.now (map slot_cell slots.now) (map stretch_cell stretches.now))) }
 {
     for slot in slots {
-        push_at_wall(cells, alloc, x, slot, stretches)?;
+        push_at_wall(cells, alloc, halves, x, slot, stretches)?;
     }
     Ok(())
 }
 
 /// The cells of a wall: each slot with each of the wall's stretches.
 pub(crate) fn push_wall(
-    cells: &mut Cells,
+    cells: &mut BoundedCells,
     alloc: Global,
     room: &mut WallRoom,
     segments: &[Seg],
@@ -184,13 +185,14 @@ pub(crate) fn push_wall(
         segments,
         x,
     )?;
-    push_on_wall(cells, alloc, x, slots, &room.stretches)
+    push_on_wall(cells, alloc, &mut room.halves, x, slots, &room.stretches)
 }
 
 /// The cells of a column: each slot between its two walls.
 pub(crate) fn push_column(
-    cells: &mut Cells,
+    cells: &mut BoundedCells,
     alloc: Global,
+    halves: &mut Vec<Half>,
     left: &Coordinate,
     right: &Coordinate,
     slots: &[Slot],
@@ -198,7 +200,8 @@ pub(crate) fn push_column(
     ensures { OnOk result (cells.new ≡ cells.old ++ kept (in_column left.now right.now (map slot_cell slots.now))) }
 {
     for slot in slots {
-        push_kept(cells, column_cell(alloc, left, right, slot)?)?;
+        find_column_cell(halves, left, right, slot)?;
+        cells.push_kept(alloc, halves)?;
     }
     Ok(())
 }

@@ -4,12 +4,13 @@ use crate::coordinate::Coordinate;
 use crate::intervals::Stretch;
 use crate::ranked::Ranked;
 use crate::slots::Slot;
-use grid_plane::Seg;
+use grid_plane::{Half, Seg};
 use std::alloc::Global;
 
 /// Lists for the work on a wall. What they have between two walls means nothing: they keep their memory for the next.
 #[derive(Drop)]
 pub(crate) struct WallRoom {
+    pub(crate) halves: Vec<Half>,
     pub(crate) values: Vec<i32>,
     pub(crate) ordinates: Vec<Coordinate>,
     pub(crate) stretches: Vec<Stretch>,
@@ -36,6 +37,7 @@ impl Room {
             column: Vec::new(alloc),
             slots: Vec::new(alloc),
             wall: WallRoom {
+                halves: Vec::new(alloc),
                 values: Vec::new(alloc),
                 ordinates: Vec::new(alloc),
                 stretches: Vec::new(alloc),

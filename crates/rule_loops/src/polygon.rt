@@ -20,7 +20,7 @@ use shape::Feature;
 use std::alloc::Global;
 use std::rc::Rc;
 
-fn made_anew(alloc: Global, region: Region, polygon: &Feature) -> Result<Cells, NoMemory>
+fn made_anew(alloc: Global, region: Region, polygon: &Feature) -> Result<BoundedCells, NoMemory>
     ensures { IfOk result (λ cells. cells ≡ cells_of region polygon.now.shape) }
 {
     match region {
@@ -42,8 +42,7 @@ fn kept_or_made(
     if let Some(cells) = work.look(region, polygon)? {
         return Ok(cells);
     }
-    let made = made_anew(alloc, region, polygon)?;
-    let cells = Rc::new(alloc, BoundedCells::of(alloc, made)?)?;
+    let cells = Rc::new(alloc, made_anew(alloc, region, polygon)?)?;
     let _ = work.keep(alloc, region, polygon, &cells);
     Ok(cells)
 }
@@ -79,7 +78,7 @@ pub fn own_inside(alloc: Global, polygon: &Feature, work: &mut Work) -> Result<C
 {
     match work.look(Region::Inside, polygon)? {
         Some(cells) => cells.cells().try_copy(alloc),
-        None => made_anew(alloc, Region::Inside, polygon),
+        None => Ok(made_anew(alloc, Region::Inside, polygon)?.into_cells()),
     }
 }
 

@@ -1,6 +1,6 @@
 use Rattle.std.proofs.Common.{append-nil, sym}
 use Rattle.std.proofs.lemmas.Bool.{OnTrue_at}
-use Rattle.column_cut.proofs.Fails.{no_point}
+use Rattle.convex_cell.proofs.Empty.{no_point}
 use Rattle.column_cut.proofs.push.push_piece.Goals as goal
 
 pub returns-then-are_apart : goal.returns-then-are_apart
