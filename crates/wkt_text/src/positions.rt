@@ -70,9 +70,9 @@ fn read_more<'a>(
         (λ stop. stop ≡ Stop.NoMemory) }
 {
     match owner {
-        Owner::Point => Ok(text),
         Owner::Line => read_others(positions, text),
         Owner::OneOf(..) => read_others(positions, text),
+        Owner::Point => Ok(text),
     }
 }
 
