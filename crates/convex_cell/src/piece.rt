@@ -78,6 +78,14 @@ fn push_more(halves: &mut Vec<Half>, bounds: &Bounds, more: &[Half]) -> Result<(
     Ok(())
 }
 
+/// Whether the first bounds lie in the second. No answer rests on it, only how long an answer takes.
+fn are_nested(first: &Bounds, second: &Bounds) -> bool {
+    second.x.from <= first.x.from
+        && first.x.to <= second.x.to
+        && second.y.from <= first.y.from
+        && first.y.to <= second.y.to
+}
+
 /// Whether the half-planes hold wherever the bounds reach, as the corners of a frame round them show.
 fn hold_in(halves: &[Half], bounds: &Bounds) -> bool
     requires x { IsSpan bounds.now.x }
@@ -177,6 +185,20 @@ impl Piece {
         }
     }
 
+    /// Whether it is known to have a point, and to lie in the other cell. What the bounds of that one tell is looked at first.
+    fn is_within(&self, other: &Cell, other_bounds: &Bounds) -> bool
+        ensures some { OnTrue result (HasPoint self.now) }
+        ensures within { OnTrue result ((p : Point) → InCell self.now p → InCell other.now p) }
+    {
+        if !self.is_some {
+            return false;
+        }
+        if !are_nested(&self.bounds, other_bounds) {
+            return false;
+        }
+        hold_in(&other.halves, &self.bounds)
+    }
+
     /// Makes it the cell; the whole plane where memory runs out.
     pub fn start(&mut self, alloc: Global, cell: &Cell) -> Result<(), NoMemory>
         ensures ok { OnOk result ((p : Point) → InCell self.new p ↔ InCell cell.now p) }
@@ -209,11 +231,11 @@ impl Piece {
         ensures err { OnErr result (self.new ≡ self.old) }
     {
         let other = by.cells().cell(i);
+        let other_bounds = by.bounds_at(i);
         let mark = self.mark();
-        if self.is_some && hold_in(&other.halves, &self.bounds) {
+        if self.is_within(other, &other_bounds) {
             return Ok(Some(mark));
         }
-        let other_bounds = by.bounds_at(i);
         if is_clear_of(&self.halves, &self.bounds, other, &other_bounds) {
             return Ok(None);
         }

@@ -7,36 +7,33 @@ use Rattle.convex_cell.specs.Piece.{IsMarkOf, IsNarrowed}
 use Rattle.convex_cell.proofs.Pieces.{in_both, in_bounds_held, bounds_narrowed, both_held, some_left}
 use Rattle.convex_cell.proofs.piece.Piece.narrow.Goals as goal
 
-pub returns-then-hold_in-clause-some : goal.returns-then-hold_in-clause-some
-returns-then-hold_in-clause-some c = λ d e.
-    let own : Cell = c.self.inside.halves.items in
-    let more : Cell = c.deref.result.now in
+pub returns-then-is_within-clause-some : goal.returns-then-is_within-clause-some
+returns-then-is_within-clause-some c = λ d e.
     let same : d ≡ c.cell-other.result.now = cc in
-    let is : more ≡ d = c.deref.ensures.value ∙ (c.other.view_is ∙ sym same) in
-    let held = in_bounds_held c.self.inside.bounds own more c.self.invariant.bounds c.if-hold_in.ensures in
-    let made : IsNarrowed c.mark-mark.result own more own = record {
-      points = held;
-      some = OnTrue_at c.if-self.true c.self.invariant.some;
+    let own : Cell = c.args.self.now in
+    let made : IsNarrowed c.mark-mark.result own c.cell-other.result.now own = record {
+      points = λ p. (λ m. (m, c.if-is_within.ensures.within p m), λ m. m.0);
+      some = c.if-is_within.ensures.some;
       begins = take_all (length own) own (omega arith);
-      mark = rw (c.self.view_is) c.mark-mark.ensures;
+      mark = c.mark-mark.ensures;
     } in
-    rw (← c.self.view_is, ← is) made
+    rw same made
 
 pub returns-then-is_clear_of-clause-clear : goal.returns-then-is_clear_of-clause-clear
 returns-then-is_clear_of-clause-clear c = λ d e p m n.
-    let own : Cell = c.deref-2.result.now in
+    let own : Cell = c.deref.result.now in
     let same : d ≡ c.cell-other.result.now = cc in
-    let at : InCell own p = rw (c.deref-2.ensures.value) (subst (λ (hs : Cell). InCell hs p) (sym c.self.view_is) m) in
+    let at : InCell own p = rw (c.deref.ensures.value) (subst (λ (hs : Cell). InCell hs p) (sym c.self.view_is) m) in
     c.if-is_clear_of.ensures.clear (both_held own c.cell-other.result.now p at (rw same at n))
 
 pub invariant_of-self-2 : goal.invariant_of-self-2
 invariant_of-self-2 c =
     let own : Cell = c.self.inside.halves.items in
-    let more : Cell = c.deref-3.result.now in
-    let is : more ≡ c.cell-other.result.now = c.deref-3.ensures.value ∙ c.other.view_is in
+    let more : Cell = c.deref-2.result.now in
+    let is : more ≡ c.cell-other.result.now = c.deref-2.ensures.value ∙ c.other.view_is in
     let round : IsBoundsOf c.bounds_at-other_bounds.result more = rw is (c.bounds_at-other_bounds.ensures c.cell-other.result.now cc) in
     let both = c.common_bounds-self-inside.ensures in
-    let there : HasPoint (own ++ more) = rw (← c.deref-2.ensures.value, c.deref-3.ensures.value, c.other.view_is)
+    let there : HasPoint (own ++ more) = rw (← c.deref.ensures.value, c.deref-2.ensures.value, c.other.view_is)
     c.if-is_clear_of.ensures.point in
     let mark : IsMarkOf c.mark-mark.result own = rw (c.self.view_is) c.mark-mark.ensures in
     record {
@@ -48,11 +45,11 @@ invariant_of-self-2 c =
 pub returns-clause-some : goal.returns-clause-some
 returns-clause-some c = λ d e.
     let own : Cell = c.self.inside.halves.items in
-    let more : Cell = c.deref-3.result.now in
+    let more : Cell = c.deref-2.result.now in
     let all : Cell = c.push_more.new.halves.items in
     let same : d ≡ c.cell-other.result.now = cc in
-    let is : more ≡ d = c.deref-3.ensures.value ∙ (c.other.view_is ∙ sym same) in
-    let there : HasPoint (own ++ more) = rw (← c.deref-2.ensures.value, c.deref-3.ensures.value, c.other.view_is)
+    let is : more ≡ d = c.deref-2.ensures.value ∙ (c.other.view_is ∙ sym same) in
+    let there : HasPoint (own ++ more) = rw (← c.deref.ensures.value, c.deref-2.ensures.value, c.other.view_is)
     c.if-is_clear_of.ensures.point in
     let made : IsNarrowed c.mark-mark.result own more all = record {
       points = in_both own more all c.in_default.ensures.points;
