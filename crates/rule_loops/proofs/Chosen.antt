@@ -3,17 +3,12 @@ use Rattle.std.proofs.Common.{◌≡◌, ℕ, ◌+◌, ◌≤◌, Bool, true, fa
 use Rattle.std.specs.Prelude.{slice_get, ◌==◌, ◌&&◌}
 use Rattle.std.specs.List.{filter}
 use Rattle.std.proofs.lemmas.List.{drop_all}
-use Rattle.std.proofs.lemmas.Bool.{false≢true}
-use Rattle.plane_terms.specs.Lists.{Every}
-use Rattle.plane_terms.specs.Point.{Point}
-use Rattle.plane_terms.specs.Cell.{Cell, InCells}
+use Rattle.plane_terms.specs.Cell.{Cell}
 use Rattle.plane_terms.specs.Carve.{carve_of}
-use Rattle.plane_terms.proofs.ListLemmas.{every_append, every_got}
 use Rattle.topology_terms.specs.Feature.{Feature}
 use Rattle.topology_terms.specs.Cells.{uncovered, inside, outside}
 use Rattle.topology_terms.specs.Plans.{area_left}
 use Rattle.rule_loops.specs.Apart.{uncovered-nil}
-use Rattle.cell_laws.proofs.Meets.{carve_points}
 use Rattle.rule_loops.specs.Open.{chosen, outsides}
 use Rattle.rule_loops.specs.Views.{of_class}
 use Rattle.rule_loops.proofs.Carved.{uncovered-append}

@@ -1,12 +1,12 @@
 -- What polygons leave of a cell, part by part: the first of them leaves the parts that the cell shares with the cells of its outside, and
 -- those behind it carve each part.
-use Rattle.std.proofs.Common.{◌≡◌, ◌↔◌, ◌∙◌, ◌≤◌, ◌<◌, ◌+◌, inl, inr, ℕ, Bool, List, [], ◌∷◌, ◌++◌, Some, true, false, refl, ap, sym, length, get_or, map, take, append-nil, append_assoc}
+use Rattle.std.proofs.Common.{◌≡◌, ◌↔◌, ◌∙◌, ◌≤◌, ◌<◌, ◌+◌, inl, inr, ℕ, Bool, List, [], ◌∷◌, ◌++◌, Some, true, false, refl, ap, sym, get_or, take, append-nil, append_assoc}
 use Rattle.std.specs.Prelude.{slice_get}
 use Rattle.std.proofs.lemmas.Option.{slice_get-get_or}
 use Rattle.plane_terms.specs.Point.{Point}
-use Rattle.plane_terms.specs.Cell.{Cell, InCell, InCells, HasPoint, HavePoints, meet_of}
+use Rattle.plane_terms.specs.Cell.{Cell, InCell, InCells, HasPoint, meet_of}
 use Rattle.plane_terms.specs.Decide.{has_point}
-use Rattle.plane_terms.specs.Carve.{kept, carve_of}
+use Rattle.plane_terms.specs.Carve.{carve_of}
 use Rattle.topology_terms.specs.Cells.{uncovered}
 use Rattle.cell_laws.proofs.Decision.{has_point-true}
 use Rattle.cell_laws.proofs.Meets.{carve_points, kept_have_points, meet_points}

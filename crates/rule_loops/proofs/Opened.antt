@@ -1,21 +1,16 @@
 -- Carving is cell by cell, and where no point is left, no cell is.
-use Rattle.std.proofs.Common.{◌≡◌, inl, inr, ℕ, ◌<◌, ◌+◌, ◌≤◌, List, Option, [], ◌∷◌, ◌++◌, Some, refl, sym, ◌∙◌, ap, subst, take, drop, length, get_or, map, append-nil, append_assoc, arith}
+use Rattle.std.proofs.Common.{◌≡◌, inl, ℕ, ◌+◌, List, [], ◌∷◌, ◌++◌, Some, refl, sym, ◌∙◌, ap, subst, take, drop, map}
 use Rattle.std.specs.Prelude.{slice_get, flat_map}
-use Rattle.std.specs.Option.{option_to_list}
 use Rattle.std.proofs.lemmas.Grind.{flat_map-append}
-use Rattle.std.proofs.lemmas.List.{take-append-drop, take_all}
+use Rattle.std.proofs.lemmas.List.{take-append-drop}
 use Rattle.std.proofs.lemmas.List.Elements.{filter-append}
-use Rattle.std.proofs.lemmas.Option.{slice_get_read}
 use Rattle.plane_terms.specs.Lists.{SomeOf}
 use Rattle.plane_terms.specs.Point.{Point}
-use Rattle.plane_terms.specs.Cell.{Cell, InCell, InCells, HasPoint, HavePoints, meet_of}
+use Rattle.plane_terms.specs.Cell.{Cell, InCells, HavePoints, meet_of}
 use Rattle.plane_terms.specs.Decide.{has_point}
 use Rattle.plane_terms.specs.Carve.{kept, carve_of}
-use Rattle.plane_terms.proofs.ListLemmas.{every_append, every_got, SomeOf-append_left, SomeOf-append_right, SomeOf-either}
+use Rattle.plane_terms.proofs.ListLemmas.{SomeOf-append_right}
 use Rattle.topology_terms.specs.Cells.{uncovered}
-use Rattle.cell_laws.proofs.Meets.{carve_points}
-use Rattle.validation_laws.proofs.Joining.{take_one}
-use Rattle.rule_laws.proofs.Uncovered.{uncovered_points, uncovered_have_points}
 use Rattle.rule_loops.proofs.Rest.{drop_one}
 
 -- ---- cell by cell

@@ -1,21 +1,15 @@
 -- What one cell and the cells of a list have in common, cell by cell: those of which the polygons leave nothing are left out.
-use Rattle.std.proofs.Common.{◌≡◌, ◌↔◌, ◌∙◌, ◌≤◌, ◌+◌, inl, inr, ℕ, List, [], ◌∷◌, ◌++◌, Some, arith, refl, ap, sym, subst, map, length, take, append-nil}
+use Rattle.std.proofs.Common.{◌≡◌, ◌↔◌, ◌∙◌, ◌+◌, ℕ, List, [], ◌∷◌, ◌++◌, Some, refl, ap, sym, map, take, append-nil}
 use Rattle.std.specs.Prelude.{slice_get}
-use Rattle.std.proofs.lemmas.List.{map-append, take_all}
+use Rattle.std.proofs.lemmas.List.{map-append}
 use Rattle.std.proofs.lemmas.List.Elements.{filter-append}
-use Rattle.plane_terms.specs.Lists.{SomeOf}
 use Rattle.plane_terms.specs.Point.{Point}
-use Rattle.plane_terms.specs.Cell.{Cell, InCell, InCells, HasPoint, meet_of}
+use Rattle.plane_terms.specs.Cell.{Cell, InCell, HasPoint, meet_of}
 use Rattle.plane_terms.specs.Decide.{has_point}
 use Rattle.plane_terms.specs.Carve.{kept, carve_of}
-use Rattle.topology_terms.specs.Cells.{uncovered}
 use Rattle.cell_laws.proofs.Decision.{has_point-true}
-use Rattle.cell_laws.proofs.Meets.{carve_points, kept_have_points, meet_points}
+use Rattle.cell_laws.proofs.Meets.{meet_points}
 use Rattle.validation_laws.proofs.Joining.{take_one}
-use Rattle.rule_laws.proofs.Uncovered.{uncovered_points, uncovered_have_points}
-use Rattle.rule_loops.specs.Apart.{uncovered-nil}
-use Rattle.rule_loops.proofs.Opened.{uncovered_joined, none_left, some_at}
-use Rattle.rule_loops.proofs.Shut.{IsShutIn}
 
 pub one_cell : (c : Cell) (ds : List Cell) → carve_of (c ∷ []) ds ≡ kept (map {A = Cell} (meet_of c) ds)
 one_cell c ds = ap kept (append-nil (map {A = Cell} (meet_of c) ds))

@@ -1,15 +1,10 @@
 -- A piece of a cell, which is narrowed by one cell of a polygon's outside after the other, and widened again.
-use Rattle.std.proofs.Common.{◌≡◌, ◌↔◌, Bool, true, false, ◌∙◌, ◌≤◌, ◌<◌, ◌+◌, ◌⊎◌, inl, inr, ℕ, zero, suc, List, [], ◌∷◌, Some, arith, refl, ap, sym, subst, length, get_or, take, drop}
-use Rattle.std.specs.Prelude.{slice_get, Result, IfOk}
-use Rattle.std.specs.Bool.{OnTrue}
-use Rattle.std.proofs.lemmas.Result.{IfOk-weaker}
-use Rattle.grid_plane.specs.declared.memory.NoMemory.{NoMemory}
+use Rattle.std.proofs.Common.{◌≡◌, ◌∙◌, ◌≤◌, ◌<◌, ◌+◌, ◌⊎◌, inl, inr, ℕ, zero, suc, List, [], ◌∷◌, Some, arith, refl, ap, subst, length, get_or, take, drop}
+use Rattle.std.specs.Prelude.{slice_get}
 use Rattle.std.proofs.lemmas.List.{length-take}
 use Rattle.std.proofs.lemmas.Option.{slice_get-get_or}
-use Rattle.plane_terms.specs.Lists.{SomeOf}
 use Rattle.plane_terms.specs.Point.{Point}
 use Rattle.plane_terms.specs.Cell.{Cell, InCell, InCells}
-use Rattle.plane_terms.proofs.ListLemmas.{every_got}
 use Rattle.rule_loops.specs.Open.{IsInEach}
 use Rattle.rule_loops.proofs.Rest.{drop_one}
 

@@ -45,7 +45,11 @@ pub(crate) fn is_chosen(class: u16, except: Option<u32>, other: &Feature) -> boo
 }
 
 /// A polygon with the cells of what is closed out of it.
-pub(crate) fn polygon_nearby(alloc: Global, polygon: &Feature, work: &mut Work) -> Result<Nearby, NoMemory>
+pub(crate) fn polygon_nearby(
+    alloc: Global,
+    polygon: &Feature,
+    work: &mut Work,
+) -> Result<Nearby, NoMemory>
     ensures outside { IfOk result (λ n. n ≡ outside polygon.now) }
     ensures uncounted { work.new ≡ work.old }
 {
@@ -87,7 +91,10 @@ pub(crate) fn nearby_of(
             held.push(near)?;
         }
     }
-    Ok(NearPolygons { held, rest: view.len() })
+    Ok(NearPolygons {
+        held,
+        rest: view.len(),
+    })
 }
 
 // The greatest product of the factor and a number from low to high.

@@ -46,11 +46,7 @@ fn is_shut(
 }
 
 /// Whether the polygons from this place of the list on are found to cover the piece, which stays as it is.
-pub(crate) fn is_covered(
-    piece: &mut Piece,
-    near: &[Nearby],
-    from: usize,
-) -> Result<bool, NoMemory>
+pub(crate) fn is_covered(piece: &mut Piece, near: &[Nearby], from: usize) -> Result<bool, NoMemory>
     ensures covered { IfOk result (λ covered. OnTrue covered ((p : Point) → InCell piece.old p → ¬ (IsInEach (drop from near.now) p))) }
     ensures same { OnOk result (piece.new ≡ piece.old) }
 {

@@ -44,8 +44,8 @@ returns-then-not-shut-clause-same t c =
     let within : c.loop-i.i < length ds = omega (arith, c.window-window.ensures.fits) in
     let made = (rw c.in-Some-2.is at (c.in_ok-mark.ensures.some)) (get_or ds c.loop-i.i []) (at_index ds c.loop-i.i within) in
     restored c.loop-i.piece c.narrow.new.self c.is_shut.new.piece c.widen.new.self c.in-Some-2.mark.len made.mark.long made.begins
-        c.in_ok-shut.ensures.same c.widen.ensures
-        ∙ c.loop-i.invariant.same
+    c.in_ok-shut.ensures.same c.widen.ensures
+    ∙ c.loop-i.invariant.same
 
 pub loop-i-preserved : goal.loop-i-preserved
 loop-i-preserved t c =
@@ -64,7 +64,7 @@ loop-i-preserved t c =
           ∙ same;
       shut = shut_more (drop c.args.from near) c.args.piece.now ds i c.loop-i.invariant.shut (λ d e p m n h.
           OnTrue_at t c.in_ok-shut.ensures.shut p (((narrowed d e).points p).1 (subst (λ (hs : Cell). InCell hs p) (sym same) m, n))
-              (each_later near c.args.from (c.in-Some.k + 1) p later h));
+          (each_later near c.args.from (c.in-Some.k + 1) p later h));
     }
 
 pub returns-clause-shut : goal.returns-clause-shut

@@ -1,4 +1,4 @@
-use Rattle.std.proofs.Common.{◌≡◌, ◌∙◌, ◌++◌, ◌∷◌, [], ap, sym, take}
+use Rattle.std.proofs.Common.{◌∙◌, ◌++◌, ◌∷◌, [], ap, sym, take}
 use Rattle.plane_terms.specs.Cell.{Cell, HasPoint}
 use Rattle.plane_terms.proofs.ListLemmas.{every_got}
 use Rattle.topology_terms.specs.Cells.{uncovered}

@@ -1,10 +1,9 @@
 use Rattle.std.proofs.Common.{◌≡◌, ◌∙◌, ◌++◌, length, sym, subst, arith}
 use Rattle.std.proofs.lemmas.List.{take_all}
-use Rattle.std.proofs.lemmas.Bool.{OnTrue_at}
 use Rattle.plane_terms.specs.Cell.{Cell, InCell, HasPoint}
 use Rattle.convex_cell.specs.Span.{IsBoundsOf}
 use Rattle.convex_cell.specs.Piece.{IsMarkOf, IsNarrowed}
-use Rattle.convex_cell.proofs.Pieces.{in_both, in_bounds_held, bounds_narrowed, both_held, some_left}
+use Rattle.convex_cell.proofs.Pieces.{in_both, bounds_narrowed, both_held, some_left}
 use Rattle.convex_cell.proofs.piece.Piece.narrow.Goals as goal
 
 pub returns-then-is_within-clause-some : goal.returns-then-is_within-clause-some
