@@ -24,6 +24,12 @@ use std::alloc::Global;
 /// So many columns are made from one list of segments.
 const FEW: usize = 8;
 
+/// Room for so many cells is taken for each abscissa of an inside: on the wall, and in the column behind it. A convex polygon has no more.
+const INSIDE: usize = 2;
+
+/// And of an outside: below and above, on the wall and in the column.
+const OUTSIDE: usize = 4;
+
 fn push_strip(
     cells: &mut BoundedCells,
     alloc: Global,
@@ -153,8 +159,8 @@ fn push_right_side(
 fn inside_of(alloc: Global, segments: &[Seg]) -> Result<BoundedCells, NoMemory>
     ensures { IfOk result (λ cells. cells ≡ inside_cells segments.now) }
 {
-    let mut cells = BoundedCells::new(alloc);
     let abscissas = abscissas_of(alloc, segments)?;
+    let mut cells = BoundedCells::with_capacity(alloc, abscissas.len().saturating_mul(INSIDE))?;
     if let Some((first, rest)) = abscissas.split_first() {
         push_strips(&mut cells, alloc, Parity::Odd, segments, first, rest)?;
     }
@@ -165,8 +171,8 @@ fn inside_of(alloc: Global, segments: &[Seg]) -> Result<BoundedCells, NoMemory>
 fn outside_of(alloc: Global, segments: &[Seg]) -> Result<BoundedCells, NoMemory>
     ensures { IfOk result (λ cells. cells ≡ outside_cells segments.now) }
 {
-    let mut cells = BoundedCells::new(alloc);
     let abscissas = abscissas_of(alloc, segments)?;
+    let mut cells = BoundedCells::with_capacity(alloc, abscissas.len().saturating_mul(OUTSIDE))?;
     let Some((first, rest)) = abscissas.split_first() else {
         cells.push_kept(alloc, &[])?;
         return Ok(cells);

@@ -102,7 +102,7 @@ impl BoundedCells {
     }
 
     /// No cell yet, and room for so many.
-    fn with_capacity(alloc: Global, count: usize) -> Result<BoundedCells, NoMemory>
+    pub fn with_capacity(alloc: Global, count: usize) -> Result<BoundedCells, NoMemory>
         ensures { IfOk result (λ bounded. bounded ≡ []) }
     {
         Ok(BoundedCells {

@@ -5,23 +5,11 @@ ghost use Rattle.plane_terms.specs.Carve.{kept};
 use crate::bounded::BoundedCells;
 use crate::bounds::{are_rising, bounds_of};
 use crate::cell::Cell;
-use crate::cells::Cells;
 use crate::emptiness::is_empty_within;
 use grid_plane::{Half, NoMemory};
 use std::alloc::Global;
 
 impl BoundedCells {
-    /// No cell yet. It takes no memory.
-    pub fn new(alloc: Global) -> BoundedCells
-        ensures { result ≡ [] }
-    {
-        BoundedCells {
-            cells: Cells::new(alloc),
-            bounds: Vec::new(alloc),
-            rising: false,
-        }
-    }
-
     /// Puts the cell of these half-planes at the end where it has a point; no other takes memory. Where memory runs out the list
     /// stays as it was.
     pub fn push_kept(&mut self, alloc: Global, halves: &[Half]) -> Result<(), NoMemory>
