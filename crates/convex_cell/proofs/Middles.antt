@@ -1,5 +1,5 @@
 -- A point of half units, tried on half-planes.
-use Rattle.std.proofs.Common.{◌≡◌, ◌<◌, ◌≤◌, ◌+◌, ◌^◌, ℕ, ℤ, pos, ◌+ℤ◌, ◌*ℤ◌, arith, lit<, List, ◌++◌, length, get_or, take, unsigned_abs, to_z, of_z, w64}
+use Rattle.std.proofs.Common.{◌≡◌, ◌≤◌, ◌^◌, ℤ, pos, ◌+ℤ◌, ◌*ℤ◌, arith, lit<, ◌++◌, unsigned_abs, to_z, of_z, w64}
 use Rattle.std.specs.Prelude.{FitsSigned}
 use Rattle.std.proofs.lemmas.Int.{ints}
 use Rattle.std.specs.List.{All}
@@ -10,17 +10,10 @@ use Rattle.plane_terms.specs.Cell.{Cell, HasPoint}
 use Rattle.number_laws.proofs.Ring.{num, ◌⊕◌, ◌⊗◌, same_by}
 use Rattle.convex_cell.specs.declared.middle.Middle.{Middle}
 use Rattle.convex_cell.specs.Middle.{HoldsAt}
-use Rattle.convex_cell.proofs.Loops.{all_step}
 
 pub twice : (a x b y c : ℤ) → (a *ℤ x +ℤ c) +ℤ (b *ℤ y +ℤ c) ≡ a *ℤ x +ℤ b *ℤ y +ℤ c *ℤ pos 2
 twice a x b y c = same_by ((num a ⊗ num x ⊕ num c) ⊕ (num b ⊗ num y ⊕ num c)) (num a ⊗ num x ⊕ num b ⊗ num y ⊕ num c ⊗ num (pos 2))
     (omega arith)
-
-pub one_more_holds : {X : Type 0} (P : X → Type 0) (xs : List X) (i : ℕ) (x : X) → i < length xs → x ≡ get_or xs i x → All P (take i xs)
-    → P x → All P (take (i + 1) xs)
-one_more_holds P xs i x h e a p =
-    let T : Type 0 = All P (take i xs) in
-    ((all_step P xs i x (Unit {0}) T (T × P x) h e (λ k. (tt, k), λ k. k.1) (λ k. k, λ k. k)).0 (a, p)).1
 
 pub point_at : (m : Middle) (a b : Cell) → All (HoldsAt m) a → All (HoldsAt m) b → HasPoint (a ++ b)
 point_at m a b f g =
