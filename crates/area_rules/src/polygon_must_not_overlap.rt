@@ -31,7 +31,6 @@ impl Kinded for LaterOverlaps {
         view: &View<'_>,
         work: &mut Work,
     ) -> Result<Findings, NoMemory> {
-        let overlap = Overlap::of(alloc, subject, work)?;
-        with_later(alloc, &overlap, origin, subject, view, work)
+        with_later(alloc, &Overlap { subject }, origin, subject, view, work)
     }
 }

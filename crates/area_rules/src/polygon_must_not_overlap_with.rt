@@ -30,7 +30,6 @@ impl Kinded for SecondOverlaps {
         view: &View<'_>,
         work: &mut Work,
     ) -> Result<Findings, NoMemory> {
-        let overlap = Overlap::of(alloc, subject, work)?;
-        with_class(alloc, &overlap, dest, view, work)
+        with_class(alloc, &Overlap { subject }, dest, view, work)
     }
 }

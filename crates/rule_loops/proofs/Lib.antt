@@ -7,6 +7,7 @@ mod Chosen
 mod Depth
 mod HeldBy
 mod More
+mod Neighbours
 mod Once
 mod Opened
 mod Parts

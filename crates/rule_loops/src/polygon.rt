@@ -127,7 +127,7 @@ fn is_polygon(feature: &Feature) -> bool
     shape.kind() == Kind::Polygon
 }
 
-fn are_polygons(subject: &Feature, polygon: &Feature) -> bool
+pub(crate) fn are_polygons(subject: &Feature, polygon: &Feature) -> bool
     ensures subject { OnTrue result (IsFit kind.Polygon subject.now) }
     ensures polygon { OnTrue result (IsFit kind.Polygon polygon.now) }
 {
