@@ -12,10 +12,10 @@ use std::marker::Model;
 use std::rc::Rc;
 
 /// Polygons of so many cells are held at once, at most: 160 bytes each.
-const MOST_CELLS: usize = 65_536;
+const MOST_CELLS: usize = 262_144;
 
-/// And so many polygons, since each may take a call of its own.
-const MOST_POLYGONS: usize = 1_024;
+/// And so many polygons, since each may take a call in the call for the one before it: some 400 bytes of the stack.
+const MOST_POLYGONS: usize = 8_192;
 
 /// A polygon round the subject: a box round it, and the cells of what is closed out of it.
 #[derive(Drop)]
