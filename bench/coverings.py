@@ -8,9 +8,9 @@ usage: bench/coverings.py [--baseline WORDS] [--lines NAME ..] [--turns N] [--se
 
 Parcels and municipalities are those of bench/borders.py: they lie in a square and share their borders, a parcel with a vertex
 between two corners, a municipality with 50 segments a side. Of each twenty parcels one has drawn a corner back and leaves a slit. A
-zone has 200 vertices and lies over a hundred parcels; its border and theirs are not the same. A road of 2,000 vertices runs along
-the lower borders of twenty areas of 400 vertices; one vertex in 500 lies beside the border. An edit moves a vertex of a
-parcel, of a municipality, of an area or of a path, and validates a window round it.
+zone has 200 vertices and lies over a hundred parcels, or over all of them; its border and theirs are not the same. A road of 2,000
+vertices runs along the lower borders of twenty areas of 400 vertices; one vertex in 500 lies beside the border. An edit moves a vertex
+of a parcel, of a municipality, of an area or of a path, and validates a window round it.
 """
 import sys
 
@@ -39,10 +39,10 @@ def gaps(rings, times):
     return GAPS + added('areas', rings), edits(rings, times)
 
 
-def zoned(rows, rule, times):
-    """Parcels and zones, under a rule between the two."""
+def zoned(rows, rule, times, across=10):
+    """Parcels, and zones over so many rows of as many of them, under a rule between the two."""
     rings = parcels(rows)
-    zones = Country(rows // 10, width=100000).rings()
+    zones = Country(rows // across, width=10000 * across).rings()
     return head(rule, ('parcels', 'polygon'), ('zones', 'polygon')) + added('parcels', rings) + added('zones', zones), edits(rings, times)
 
 
@@ -84,6 +84,9 @@ def maps():
         rule = 'polygon_must_be_covered_by_feature_class_of '
         yield 'parcels covered, ' + name, lambda rows=rows, rule=rule: zoned(rows, rule + 'parcels zones', 200)
         yield 'zones covered, ' + name, lambda rows=rows, rule=rule: zoned(rows, rule + 'zones parcels', 20)
+    for rows in (20, 30, 40):
+        name = 'one zone covered, by %s parcels' % format(rows ** 2, ',')
+        yield name, lambda rows=rows: zoned(rows, 'polygon_must_be_covered_by_feature_class_of zones parcels', 4, rows)
     for rows in (1, 5, 20):
         name = 'roads of 2,000 vertices along %s, ' + str(rows) + ' along %d'
         yield name % ('areas', ACROSS * rows), lambda rows=rows: along_areas(rows)
