@@ -55,6 +55,13 @@ def script(seed: int, rows: int) -> str:
     return '\n'.join(lines + ['validate 0 0 %d %d' % (100 * rows, 100 * (rows // 2)), ''])
 
 
+def counts(rows: int) -> str:
+    """The four first lines, by the formulas of docs/town.md."""
+    shown, gaps = rows // 2, 4 * rows - 4 if rows > 1 else 1
+    return 'features %d\njudged %d\nerrors %d\ndirty %d\n' % (
+        2 * rows * rows + rows, 4 * rows * rows + 4 * shown, 2 * rows + gaps - shown, rows - shown)
+
+
 def summary(asked: str, replies: str) -> str:
     """The five lines, from the replies to the script with `features`, `cells` and `dirty` behind it."""
     said = replies.splitlines(keepends=True)
