@@ -7,3 +7,4 @@ pub mod SortedColumn
 pub mod RankLoop
 pub mod Fails
 pub mod Reached
+pub mod Stacks

@@ -1,8 +1,8 @@
-ghost use Rattle.std.specs.Prelude.{◌≡◌, ◌++◌, ◌∷◌, [], ◌&&◌, cond, map, None, OnOk, int_le};
-ghost use Rattle.plane_terms.specs.HalfPlane.{y_over, y_under};
+ghost use Rattle.std.specs.Prelude.{◌≡◌, ◌++◌, ◌∷◌, [], ◌&&◌, cond, map, None, Some, OnOk, int_le};
 ghost use Rattle.plane_terms.specs.Columns.{is_covered, intervals, ordinates};
 ghost use Rattle.column_cut.specs.Covering.{covers};
-ghost use Rattle.column_cut.specs.Pieces.{above, below, stretch_cell};
+ghost use Rattle.column_cut.specs.Pieces.{stretch_cell};
+ghost use Rattle.column_cut.specs.Stretches.{AreStacked, stretches_of};
 
 use crate::coordinate::Coordinate;
 use crate::vertices::find_ordinates;
@@ -43,7 +43,7 @@ fn push_stretch(
     low: Option<Coordinate>,
     high: Option<Coordinate>,
 ) -> Result<(), NoMemory>
-    ensures { OnOk result (map stretch_cell stretches.new.items ≡ map stretch_cell stretches.old.items ++ (above low ++ below high) ∷ []) }
+    ensures { OnOk result (stretches.new.items ≡ stretches.old.items ++ record { low = low; high = high } ∷ []) }
 {
     stretches.push(Stretch { low, high })?;
     Ok(())
@@ -56,8 +56,8 @@ fn push_interval(
     low: &Coordinate,
     high: &Coordinate,
 ) -> Result<(), NoMemory>
-    ensures { OnOk result (map stretch_cell stretches.new.items ≡ map stretch_cell stretches.old.items
-        ++ cond (is_covered x.now segments.now low.now high.now) [] ((y_over low.now ∷ y_under high.now ∷ []) ∷ [])) }
+    ensures { OnOk result (stretches.new.items ≡ stretches.old.items
+        ++ cond (is_covered x.now segments.now low.now high.now) [] (record { low = Some low.now; high = Some high.now } ∷ [])) }
 {
     if is_covered(segments, x, low, high) {
         return Ok(());
@@ -72,7 +72,7 @@ fn find_from(
     first: &Coordinate,
     rest: &[Coordinate],
 ) -> Result<(), NoMemory>
-    ensures { OnOk result (map stretch_cell stretches.new.items ≡ intervals (is_covered x.now segments.now) None (first.now ∷ rest.now)) }
+    ensures { OnOk result (stretches.new.items ≡ stretches_of (is_covered x.now segments.now) None (first.now ∷ rest.now)) }
 {
     stretches.clear();
     push_stretch(stretches, None, Some(*first))?;
@@ -85,7 +85,7 @@ fn find_from(
 }
 
 fn whole_wall(stretches: &mut Vec<Stretch>) -> Result<(), NoMemory>
-    ensures { OnOk result (map stretch_cell stretches.new.items ≡ [] ∷ []) }
+    ensures { OnOk result (stretches.new.items ≡ record { low = None; high = None } ∷ []) }
 {
     stretches.clear();
     push_stretch(stretches, None, None)
@@ -97,7 +97,7 @@ fn find_between(
     x: &Coordinate,
     ordinates: &[Coordinate],
 ) -> Result<(), NoMemory>
-    ensures { OnOk result (map stretch_cell stretches.new.items ≡ intervals (is_covered x.now segments.now) None ordinates.now) }
+    ensures { OnOk result (stretches.new.items ≡ stretches_of (is_covered x.now segments.now) None ordinates.now) }
 {
     match ordinates.split_first() {
         None => whole_wall(stretches),
@@ -114,7 +114,8 @@ pub(crate) fn find_intervals(
     segments: &[Seg],
     x: &Coordinate,
 ) -> Result<(), NoMemory>
-    ensures { OnOk result (map stretch_cell stretches.new.items ≡ intervals (is_covered x.now segments.now) None (ordinates x.now segments.now)) }
+    ensures cells { OnOk result (map stretch_cell stretches.new.items ≡ intervals (is_covered x.now segments.now) None (ordinates x.now segments.now)) }
+    ensures stacked { OnOk result (AreStacked stretches.new.items) }
 {
     find_ordinates(vertices, values, segments, x)?;
     find_between(stretches, segments, x, vertices)
