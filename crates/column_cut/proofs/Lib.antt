@@ -8,3 +8,4 @@ pub mod RankLoop
 pub mod Fails
 pub mod Reached
 pub mod Stacks
+pub mod Apart

@@ -3,11 +3,14 @@
 -- stretches_of       below the first vertex, between two that follow one another, above the last; without those that are covered
 -- LiesBelow s t      what is below the upper end of s is below that of t, and what is above the lower end of t is above that of s
 -- AreStacked ss      each stretch lies below those after it
-use Rattle.std.specs.Prelude.{ℤ, Bool, cond, List, [], ◌∷◌, Option, Some, None}
+-- IsApart x c s      no point of the wall x is both in the slot c and in the stretch s
+use Rattle.std.specs.Prelude.{ℤ, Bool, cond, List, [], ◌∷◌, ◌++◌, Option, Some, None}
 use Rattle.plane_terms.specs.Lists.{EveryPair}
+use Rattle.plane_terms.specs.HalfPlane.{x_is}
 use Rattle.plane_terms.specs.Point.{Point}
-use Rattle.plane_terms.specs.Cell.{InCell}
-use Rattle.column_cut.specs.Pieces.{above, below}
+use Rattle.plane_terms.specs.Cell.{InCell, HasPoint}
+use Rattle.column_cut.specs.Pieces.{above, below, slot_cell, stretch_cell}
+use Rattle.column_cut.specs.declared.slots.Slot.{Slot}
 use Rattle.column_cut.specs.declared.intervals.Stretch.{Stretch}
 
 abbrev pub stretches_of : (ℤ → ℤ → Bool) → Option ℤ → List ℤ → List Stretch
@@ -23,3 +26,6 @@ pub record LiesBelow (s t : Stretch) : Type 0 where
 
 abbrev pub AreStacked : List Stretch → Type 0
 AreStacked ss = EveryPair LiesBelow ss
+
+abbrev pub IsApart : ℤ → Slot → Stretch → Type 0
+IsApart x c s = ¬ (HasPoint (x_is x ∷ slot_cell c ++ stretch_cell s))

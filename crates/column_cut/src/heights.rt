@@ -1,9 +1,10 @@
-ghost use Rattle.std.specs.Prelude.{◌≡◌, ℤ, pos, ◌+ℤ◌, ◌*ℤ◌, ◌≤◌, ◌^◌, ◌++◌, ◌∷◌, unsigned_abs};
+ghost use Rattle.std.specs.Prelude.{◌≡◌, ℕ, ℤ, pos, ◌+ℤ◌, ◌*ℤ◌, ◌<◌, ◌≤◌, ◌^◌, length, slice_index_or, unsigned_abs};
 ghost use Rattle.std.specs.Bool.{OnTrue};
 ghost use Rattle.plane_terms.specs.Point.{Point};
 ghost use Rattle.plane_terms.specs.HalfPlane.{Holds, x_is, y_over, y_under};
-ghost use Rattle.plane_terms.specs.Cell.{InCell, HasPoint};
-ghost use Rattle.column_cut.specs.Pieces.{all_of, above, below, slot_cell, stretch_cell};
+ghost use Rattle.plane_terms.specs.Cell.{InCell};
+ghost use Rattle.column_cut.specs.Pieces.{all_of, above, below};
+ghost use Rattle.column_cut.specs.Stretches.{AreStacked, IsApart};
 
 use crate::coordinate::Coordinate;
 use crate::intervals::Stretch;
@@ -61,7 +62,7 @@ fn ends_below(x: &Coordinate, over: &Option<Half>, high: &Option<Coordinate>) ->
 }
 
 /// The stretch begins where the slot has ended.
-fn begins_above(x: &Coordinate, under: &Option<Half>, low: &Option<Coordinate>) -> bool
+pub(crate) fn begins_above(x: &Coordinate, under: &Option<Half>, low: &Option<Coordinate>) -> bool
     ensures { OnTrue result ((p : Point) → Holds (x_is x.now) p → InCell (all_of under.now) p → ¬ (InCell (above low.now) p)) }
 {
     let Some(half) = under else {
@@ -73,12 +74,21 @@ fn begins_above(x: &Coordinate, under: &Option<Half>, low: &Option<Coordinate>) 
     fails_above(half, x, y)
 }
 
-/// A cheap test, by heights alone: true only where no point of the wall at x is in both.
-pub(crate) fn are_apart(x: &Coordinate, slot: &Slot, stretch: &Stretch) -> bool
-    ensures { OnTrue result (¬ (HasPoint (x_is x.now ∷ slot_cell slot.now ++ stretch_cell stretch.now))) }
+/// The first place from which no stretch ends below the slot.
+pub(crate) fn first_reaching(x: &Coordinate, slot: &Slot, stretches: &[Stretch]) -> usize
+    requires { AreStacked stretches.now }
+    ensures fits { result ≤ length stretches.now }
+    ensures before { (k : ℕ) → (d : Stretch) → k < result → IsApart x.now slot.now (slice_index_or stretches.now k d) }
 {
-    if ends_below(x, &slot.over, &stretch.high) {
-        return true;
+    let mut low = 0;
+    let mut high = stretches.len();
+    while low < high {
+        let middle = low + (high - low) / 2;
+        if ends_below(x, &slot.over, &stretches[middle].high) {
+            low = middle + 1;
+        } else {
+            high = middle;
+        }
     }
-    begins_above(x, &slot.under, &stretch.low)
+    low
 }

@@ -3,9 +3,10 @@ ghost use Rattle.plane_terms.specs.HalfPlane.{x_is, x_over, x_under};
 ghost use Rattle.plane_terms.specs.Carve.{kept};
 ghost use Rattle.plane_terms.specs.Columns.{at_wall, on_wall, in_column, intervals, is_covered, ordinates};
 ghost use Rattle.column_cut.specs.Pieces.{all_of, above, below, slot_cell, stretch_cell};
+ghost use Rattle.column_cut.specs.Stretches.{AreStacked};
 
 use crate::coordinate::Coordinate;
-use crate::heights::are_apart;
+use crate::heights::{begins_above, first_reaching};
 use crate::intervals::{Stretch, find_intervals};
 use crate::room::WallRoom;
 use crate::slots::Slot;
@@ -128,13 +129,32 @@ fn push_piece(
 ) -> Result<(), NoMemory>
     ensures { OnOk result (cells.new ≡ cells.old ++ kept ((x_is x.now ∷ slot_cell slot.now ++ stretch_cell stretch.now) ∷ [])) }
 {
-    if are_apart(x, slot, stretch) {
-        return Ok(());
-    }
     find_wall_cell(halves, x, slot, stretch)?;
     cells.push_kept(alloc, halves)
 }
 
+/// The cells of a slot with stretches of which none ends below it. It stops at the first that begins above the slot.
+fn push_upward(
+    cells: &mut BoundedCells,
+    alloc: Global,
+    halves: &mut Vec<Half>,
+    x: &Coordinate,
+    slot: &Slot,
+    stretches: &[Stretch],
+) -> Result<(), NoMemory>
+    requires { AreStacked stretches.now }
+    ensures { OnOk result (cells.new ≡ cells.old ++ kept (at_wall x.now (slot_cell slot.now) (map stretch_cell stretches.now))) }
+{
+    for stretch in stretches {
+        if begins_above(x, &slot.under, &stretch.low) {
+            return Ok(());
+        }
+        push_piece(cells, alloc, halves, x, slot, stretch)?;
+    }
+    Ok(())
+}
+
+/// The cells of a slot with the stretches at its height.
 fn push_at_wall(
     cells: &mut BoundedCells,
     alloc: Global,
@@ -143,12 +163,11 @@ fn push_at_wall(
     slot: &Slot,
     stretches: &[Stretch],
 ) -> Result<(), NoMemory>
+    requires { AreStacked stretches.now }
     ensures { OnOk result (cells.new ≡ cells.old ++ kept (at_wall x.now (slot_cell slot.now) (map stretch_cell stretches.now))) }
 {
-    for stretch in stretches {
-        push_piece(cells, alloc, halves, x, slot, stretch)?;
-    }
-    Ok(())
+    let first = first_reaching(x, slot, stretches);
+    push_upward(cells, alloc, halves, x, slot, &stretches[first..])
 }
 
 fn push_on_wall(
@@ -159,6 +178,7 @@ fn push_on_wall(
     slots: &[Slot],
     stretches: &[Stretch],
 ) -> Result<(), NoMemory>
+    requires { AreStacked stretches.now }
     ensures { OnOk result (cells.new ≡ cells.old ++ kept (on_wall x.now (map slot_cell slots.now) (map stretch_cell stretches.now))) }
 {
     for slot in slots {
