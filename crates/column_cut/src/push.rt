@@ -133,7 +133,7 @@ fn push_piece(
     cells.push_kept(alloc, halves)
 }
 
-/// The cells of a slot with stretches of which none ends below it. It stops at the first that begins above the slot.
+/// The cells of a slot with stretches from below. It stops at the first that begins above the slot.
 fn push_upward(
     cells: &mut BoundedCells,
     alloc: Global,
