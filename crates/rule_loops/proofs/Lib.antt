@@ -9,9 +9,11 @@ mod HeldBy
 mod More
 mod Neighbours
 mod Once
+mod OpenPieces
 mod Opened
 mod Parts
 mod Rest
+mod Rightwards
 mod Seen
 mod Sharing
 mod Shares

@@ -1,5 +1,5 @@
 -- A piece of a cell, which is narrowed by one cell of a polygon's outside after the other, and widened again.
-use Rattle.std.proofs.Common.{◌≡◌, ◌∙◌, ◌≤◌, ◌<◌, ◌+◌, ◌⊎◌, inl, inr, ℕ, zero, suc, List, [], ◌∷◌, Some, arith, refl, ap, subst, length, get_or, take, drop}
+use Rattle.std.proofs.Common.{◌≡◌, ◌∙◌, ◌≤◌, ◌<◌, ◌⊎◌, inl, inr, ℕ, zero, suc, List, [], ◌∷◌, Some, arith, refl, ap, subst, length, get_or, take, drop}
 use Rattle.std.specs.Prelude.{slice_get}
 use Rattle.std.proofs.lemmas.List.{length-take}
 use Rattle.std.proofs.lemmas.Option.{slice_get-get_or}
@@ -14,16 +14,6 @@ IsShutIn near c d = (p : Point) → InCell c p → InCell d p → ¬ (IsInEach n
 
 abbrev pub AreShut : List (List Cell) → Cell → List Cell → ℕ → Type 0
 AreShut near c ds n = (j : ℕ) → (d : Cell) → j < n → slice_get ds j ≡ Some d → IsShutIn near c d
-
-pub shut_more : (near : List (List Cell)) (c : Cell) (ds : List Cell) (i : ℕ) → AreShut near c ds i
-    → ((d : Cell) → slice_get ds i ≡ Some d → IsShutIn near c d) → AreShut near c ds (i + 1)
-shut_more near c ds i h f j d l e = elim (before_or_at j i l) [
-  | inl b ↦ h j d b e
-  | inr s ↦ f d (subst (λ k. slice_get ds k ≡ Some d) s e)
-]
-  where
-    before_or_at : (j i : ℕ) → j < i + 1 → (j < i) ⊎ (j ≡ i)
-    before_or_at j i l = grind arith
 
 some_index : (p : Point) (ds : List Cell) → InCells ds p → (j : ℕ) × (d : Cell) × (slice_get ds j ≡ Some d) × InCell d p
 some_index p [] h = absurd h

@@ -112,7 +112,11 @@ fn highest(half: &Half, env: &Rect) -> i64 {
         .saturating_add(half.c())
 }
 
+// Whether the half-plane leaves out the box. An upright or a level one is passed over: the bounds of the piece tell as much.
 fn is_off(half: &Half, env: &Rect) -> bool {
+    if half.a() == 0 || half.b() == 0 {
+        return false;
+    }
     match half.op() {
         Op::Over => highest(half, env) <= 0,
         Op::AtLeast => highest(half, env) < 0,

@@ -1,26 +1,30 @@
 ghost use Rattle.std.specs.Prelude.{◌≡◌, ◌↔◌, ◌++◌, ◌∷◌, [], drop, IfOk, OnOk};
 ghost use Rattle.std.specs.Bool.{OnTrue};
+ghost use Rattle.plane_terms.specs.Lists.{Every};
 ghost use Rattle.plane_terms.specs.Point.{Point};
 ghost use Rattle.plane_terms.specs.Cell.{InCell, HasPoint, HavePoints};
 ghost use Rattle.topology_terms.specs.Cells.{uncovered};
 ghost use Rattle.rule_loops.specs.Open.{IsInEach};
+ghost use Rattle.rule_loops.specs.Rightward.{LastsRight, IsStrict, AreOffWalls};
 
 use crate::nearby::Nearby;
-use crate::open::is_covered;
+use crate::open::{is_covered, is_strict, stays_open};
 use convex_cell::{BoundedCells, Cell, Cells, Piece};
 use grid_plane::NoMemory;
 use std::alloc::Global;
 
 // Whether the polygons from this place of the list on are found to cover the piece. That is asked of the parts that the first polygon
 // leaves, and of no others.
-fn is_over(piece: &mut Piece, near: &[Nearby], from: usize) -> Result<bool, NoMemory>
+fn is_over(piece: &mut Piece, near: &[Nearby], from: usize, is_open: bool) -> Result<bool, NoMemory>
+    requires off_walls { Every AreOffWalls near.now }
+    requires is_open { OnTrue is_open (LastsRight (InCell piece.old)) }
     ensures covered { IfOk result (λ covered. OnTrue covered ((p : Point) → InCell piece.old p → ¬ (IsInEach (drop from near.now) p))) }
     ensures same { OnOk result (piece.new ≡ piece.old) }
 {
     if from > 1 {
         return Ok(false);
     }
-    is_covered(piece, near, from)
+    is_covered(piece, near, from, is_open)
 }
 
 // Puts what the polygons from this place of the list on leave of the cell: the cells that it becomes, carved by the outside of each in
@@ -33,8 +37,11 @@ fn push_left(
     near: &[Nearby],
     from: usize,
     left: &mut Cells,
+    is_open: bool,
 ) -> Result<(), NoMemory>
-    requires { (p : Point) → InCell piece.old p ↔ InCell cell.old p }
+    requires piece { (p : Point) → InCell piece.old p ↔ InCell cell.old p }
+    requires off_walls { Every AreOffWalls near.now }
+    requires is_open { OnTrue is_open (LastsRight (InCell piece.old)) }
     ensures left { OnOk result (left.new ≡ left.old ++ uncovered (cell.old ∷ []) (drop from near.now)) }
     ensures cell { OnOk result (cell.new ≡ cell.old) }
     ensures piece { OnOk result (piece.new ≡ piece.old) }
@@ -49,9 +56,11 @@ fn push_left(
         let Some(mark) = piece.narrow(outside, i)? else {
             continue;
         };
-        if !is_over(piece, near, from + 1)? {
-            cell.narrow(outside.cells().cell(i))?;
-            push_left(alloc, cell, piece, near, from + 1, left)?;
+        let part = outside.cells().cell(i);
+        let part_open = stays_open(is_open, part);
+        if !is_over(piece, near, from + 1, part_open)? {
+            cell.narrow(part)?;
+            push_left(alloc, cell, piece, near, from + 1, left, part_open)?;
             cell.truncate(len);
         }
         piece.widen(mark);
@@ -59,15 +68,21 @@ fn push_left(
     Ok(())
 }
 
-/// What the polygons leave of the cell, carved by the outside of each in turn.
+/// What the polygons leave of the open cell, carved by the outside of each in turn. Most often they cover it.
 pub(crate) fn left_of_cell(alloc: Global, cell: &Cell, near: &[Nearby]) -> Result<Cells, NoMemory>
+    requires strict { IsStrict cell.now }
+    requires some { HasPoint cell.now }
+    requires off_walls { Every AreOffWalls near.now }
     ensures { IfOk result (λ left. left ≡ uncovered (cell.now ∷ []) near.now) }
 {
     let mut left = Cells::new(alloc);
     let mut piece = Piece::new(alloc);
-    let mut own = cell.try_copy(alloc)?;
     piece.start(alloc, cell)?;
-    push_left(alloc, &mut own, &mut piece, near, 0, &mut left)?;
+    if is_covered(&mut piece, near, 0, true)? {
+        return Ok(left);
+    }
+    let mut own = cell.try_copy(alloc)?;
+    push_left(alloc, &mut own, &mut piece, near, 0, &mut left, true)?;
     Ok(left)
 }
 
@@ -79,15 +94,17 @@ fn push_left_of(
     near: &[Nearby],
     left: &mut Cells,
 ) -> Result<(), NoMemory>
-    requires { HasPoint cell.now }
+    requires some { HasPoint cell.now }
+    requires off_walls { Every AreOffWalls near.now }
     ensures { OnOk result (left.new ≡ left.old ++ uncovered (cell.now ∷ []) near.now) }
 {
     piece.start(alloc, cell)?;
-    if is_covered(piece, near, 0)? {
+    let is_open = is_strict(cell);
+    if is_covered(piece, near, 0, is_open)? {
         return Ok(());
     }
     let mut own = cell.try_copy(alloc)?;
-    push_left(alloc, &mut own, piece, near, 0, left)
+    push_left(alloc, &mut own, piece, near, 0, left, is_open)
 }
 
 /// What the polygons leave of the cells, carved by the outside of each in turn.
@@ -96,7 +113,8 @@ pub(crate) fn left_of_cells(
     cells: &Cells,
     near: &[Nearby],
 ) -> Result<Cells, NoMemory>
-    requires { HavePoints cells.now }
+    requires some { HavePoints cells.now }
+    requires off_walls { Every AreOffWalls near.now }
     ensures { IfOk result (λ left. left ≡ uncovered cells.now near.now) }
 {
     let mut left = Cells::new(alloc);

@@ -1,16 +1,20 @@
-use Rattle.std.proofs.Common.{◌≡◌, ◌∙◌, ◌≤◌, ◌<◌, ◌+◌, inl, inr, true, Some, arith, rules, refl, sym, subst, length, get_or, [], take, drop, List}
-use Rattle.std.specs.Prelude.{slice_get}
+use Rattle.std.proofs.Common.{◌≡◌, ◌∙◌, ◌≤◌, ◌<◌, ◌+◌, inl, inr, true, false, Some, arith, rules, refl, sym, subst, length, get_or, [], take, drop, List}
+use Rattle.std.specs.Prelude.{slice_get, ◌&&◌, not}
 use Rattle.std.proofs.lemmas.Bool.{OnTrue_at}
 use Rattle.std.proofs.lemmas.Option.{slice_get_read}
 use Rattle.plane_terms.specs.Cell.{Cell, InCell}
 use Rattle.convex_cell.specs.Piece.{IsMarkOf}
-use Rattle.rule_loops.proofs.Shut.{shut_more, all_shut, at_index, begins_within, restored, each_later, in_one}
+use Rattle.rule_loops.proofs.Shut.{at_index, begins_within, restored, each_later, in_one}
+use Rattle.rule_loops.proofs.OpenPieces.{shut_one, shut_by, part_lasts, passed_wall, each_off_from}
+use Rattle.rule_loops.specs.Rightward.{is_wall, AreOffWalls}
+use Rattle.plane_terms.proofs.ListLemmas.{every_got}
+use Rattle.rule_loops.proofs.open.+is_shut.Goals.{else-is_open-via-then-is_open+else-is_wall, else-is_open-via-else-is_open}
 use Rattle.rule_loops.proofs.open.+is_shut.Goals as goal
 
 pub loop-i-init : goal.loop-i-init
 loop-i-init t c = record {
   same = refl;
-  shut = λ j d l e p m i. absurd (c.window-window.ensures.clear j d e (inl l) p m i);
+  shut = λ j d l e n p m i. absurd (c.window-window.ensures.clear j d e (inl l) p m i);
 }
 
 pub loop-i-preserved-in_default-2 : goal.loop-i-preserved-in_default-2
@@ -18,8 +22,9 @@ loop-i-preserved-in_default-2 t c =
     let same = c.loop-i.invariant.same in
     record {
       same = (rw c.in_default-2.is at (c.in_ok-mark.ensures.none)) ∙ same;
-      shut = shut_more (drop c.args.from c.args.near.now) c.args.piece.now c.deref-outside.result.now c.loop-i.i c.loop-i.invariant.shut
-          (λ d e p m n i. (rw c.in_default-2.is at (c.in_ok-mark.ensures.clear)) d e p (subst (λ (hs : Cell). InCell hs p) (sym same) m) n);
+      shut = shut_one c.args.is_open (drop c.args.from c.args.near.now) c.args.piece.now c.deref-outside.result.now c.loop-i.i
+          c.loop-i.invariant.shut (λ d e o p m n i. (rw c.in_default-2.is at (c.in_ok-mark.ensures.clear)) d e p
+          (subst (λ (hs : Cell). InCell hs p) (sym same) m) n);
     }
 
 pub widen-requires-clause-long : goal.widen-requires-clause-long
@@ -62,10 +67,44 @@ loop-i-preserved t c =
       same = restored c.loop-i.piece c.narrow.new.self c.is_shut.new.piece c.widen.new.self c.in-Some-2.mark.len made.mark.long made.begins
           c.in_ok-shut.ensures.same c.widen.ensures
           ∙ same;
-      shut = shut_more (drop c.args.from near) c.args.piece.now ds i c.loop-i.invariant.shut (λ d e p m n h.
+      shut = shut_one c.args.is_open (drop c.args.from near) c.args.piece.now ds i c.loop-i.invariant.shut (λ d e o p m n h.
           OnTrue_at t c.in_ok-shut.ensures.shut p (((narrowed d e).points p).1 (subst (λ (hs : Cell). InCell hs p) (sym same) m, n))
           (each_later near c.args.from (c.in-Some.k + 1) p later h));
     }
+
+pub loop-i-preserved-then-is_wall : goal.loop-i-preserved-then-is_wall
+loop-i-preserved-then-is_wall t c = record {
+  same = c.loop-i.invariant.same;
+  shut = shut_one c.args.is_open (drop c.args.from c.args.near.now) c.args.piece.now c.deref-outside.result.now c.loop-i.i
+      c.loop-i.invariant.shut (λ d e n. absurd (passed_wall c.args.is_open c.is_wall.result c.deref-outside.result.now c.loop-i.i
+      c.cell.result.now d (rw c.cells.ensures at c.cell.ensures) e c.if-is_open.true c.if-is_wall.true c.is_wall.ensures n));
+}
+
+pub is_shut-requires : goal.is_shut-requires
+is_shut-requires t c =
+    let ds : List Cell = c.deref-outside.result.now in
+    let near = c.args.near.now in
+    let k = c.in-Some.k in
+    let within : k < length near = search rules in
+    let read : slice_get near k ≡ Some c.index-near-k.result =
+    slice_get_read near (length near) k c.index-near-k.result refl within c.index-near-k.is in
+    let same : c.index-near-k.result ≡ ds = sym (c.deref-outside.ensures ∙ c.nearby.view_is) in (
+      search rules,
+      (
+        c.requires.off_walls,
+        elim c.else-is_open.branch [
+          | else-is_open-via-then-is_open+else-is_wall w ↦
+              let d : Cell = w.cell.result.now in
+              let at : slice_get ds c.loop-i.i ≡ Some d = rw w.cells.ensures at w.cell.ensures in
+              let made = (rw c.in-Some-2.is at (c.in_ok-mark.ensures.some)) d at in
+              let off : is_wall d ≡ false = sym w.is_wall.ensures ∙ w.if-is_wall.false in
+              let stays : c.args.is_open ≡ (c.args.is_open && not (is_wall d)) = rw (w.if-is_open.true, off) refl in
+              part_lasts near k ds c.loop-i.i d c.loop-i.piece c.narrow.new.self c.args.is_open c.args.is_open c.requires.off_walls
+              (rw same at read) at stays (rw (c.loop-i.invariant.same) c.requires.is_open) made.points
+          | else-is_open-via-else-is_open w ↦ rw (w.if-is_open.false) tt
+        ],
+      ),
+    )
 
 pub returns-clause-shut : goal.returns-clause-shut
 returns-clause-shut t c =
@@ -76,6 +115,8 @@ returns-clause-shut t c =
     let read : slice_get near k ≡ Some c.index-near-k.result =
     slice_get_read near (length near) k c.index-near-k.result refl within c.index-near-k.is in
     let same : c.index-near-k.result ≡ c.deref-outside.result.now = sym (c.deref-outside.ensures ∙ c.nearby.view_is) in
-    all_shut (drop c.args.from near) c.args.piece.now c.deref-outside.result.now c.loop-i.i
-    (λ p h. in_one near c.args.from k c.deref-outside.result.now later (rw same at read) p h) c.loop-i.invariant.shut
-    (λ j d e a. c.window-window.ensures.clear j d e (inr (omega arith)))
+    shut_by (drop c.args.from near) c.args.piece.now c.deref-outside.result.now c.loop-i.i
+    (λ p h. in_one near c.args.from k c.deref-outside.result.now later (rw same at read) p h)
+    (λ j d e a. c.window-window.ensures.clear j d e (inr (omega arith))) c.args.is_open
+    (every_got AreOffWalls near k c.deref-outside.result.now c.requires.off_walls (rw same at read)) c.requires.is_open
+    (each_off_from near c.args.from c.requires.off_walls) c.loop-i.invariant.shut

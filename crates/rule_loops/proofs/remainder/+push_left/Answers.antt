@@ -1,4 +1,5 @@
-use Rattle.std.proofs.Common.{◌≡◌, ◌↔◌, ◌∙◌, ◌<◌, ◌+◌, ◌++◌, ◌∷◌, [], inl, inr, true, Some, arith, rules, refl, ap, sym, subst, length, get_or, take, drop, List, append-nil}
+use Rattle.std.proofs.Common.{◌≡◌, ◌↔◌, ◌∙◌, ◌<◌, ◌+◌, ◌++◌, ◌∷◌, [], ℕ, inl, inr, true, Some, arith, rules, refl, ap, sym, subst, length, get_or, take, drop, List, append-nil}
+use Rattle.std.specs.Bool.{OnTrue}
 use Rattle.std.specs.Prelude.{slice_get}
 use Rattle.std.proofs.lemmas.Bool.{OnTrue_at}
 use Rattle.std.proofs.lemmas.Option.{slice_get_read}
@@ -7,16 +8,18 @@ use Rattle.plane_terms.specs.Cell.{Cell, InCell, meet_of}
 use Rattle.topology_terms.specs.Cells.{uncovered}
 use Rattle.convex_cell.specs.Piece.{IsMarkOf}
 use Rattle.rule_loops.proofs.Depth.{none_yet, all_of_it, one_with, one_without, same_met}
+use Rattle.rule_loops.specs.Rightward.{LastsRight}
 use Rattle.rule_loops.proofs.Rest.{drop_one}
+use Rattle.rule_loops.proofs.OpenPieces.{part_lasts}
 use Rattle.rule_loops.proofs.Shares.{point_shared}
 use Rattle.rule_loops.proofs.Shut.{at_index, begins_within, restored}
-use Rattle.rule_loops.proofs.remainder.+push_left.Goals.{then-not-branch+in_ok-narrow+in_ok-push_left, else-not-branch}
+use Rattle.rule_loops.proofs.remainder.+push_left.Goals.{After-stays_open-part_open, then-not-branch+in_ok-narrow+in_ok-push_left, else-not-branch}
 use Rattle.rule_loops.proofs.remainder.+push_left.Goals as goal
 
 pub loop-i-init : goal.loop-i-init
 loop-i-init t c = record {
   left = sym (ap (λ us. c.args.left.now ++ us) (none_yet c.args.cell.now c.deref-outside.result.now (drop (c.args.from + 1) c.args.near.now)
-      c.window-window.result.first (λ k d e l p m. c.window-window.ensures.clear k d e (inl l) p ((c.requires p).1 m)))
+      c.window-window.result.first (λ k d e l p m. c.window-window.ensures.clear k d e (inl l) p ((c.requires.piece p).1 m)))
       ∙ append-nil c.args.left.now);
   cell = refl;
   piece = refl;
@@ -30,7 +33,7 @@ loop-i-preserved-in_default-2 t c =
     let own : Cell = c.args.cell.now in
     let within : i < length ds = omega (arith, c.window-window.ensures.fits) in
     let at = at_index ds i within in
-    let same : (p : Point) → InCell c.loop-i.piece p ↔ InCell own p = rw (inv.piece) c.requires in
+    let same : (p : Point) → InCell c.loop-i.piece p ↔ InCell own p = rw (inv.piece) c.requires.piece in
     record {
       left = one_without own ds (drop (c.args.from + 1) c.args.near.now) i (get_or ds i []) c.args.left.now c.loop-i.left at
           (λ p m n k. (rw c.in_default-2.is at (c.in_ok-mark.ensures.clear)) (get_or ds i []) at p ((same p).1 m) n) inv.left;
@@ -38,15 +41,43 @@ loop-i-preserved-in_default-2 t c =
       piece = (rw c.in_default-2.is at (c.in_ok-mark.ensures.none)) ∙ inv.piece;
     }
 
+still_open : (t : ℕ) (c : After-stays_open-part_open t) → OnTrue c.stays_open-part_open.result (LastsRight (InCell c.narrow.new.self))
+still_open t c =
+    let ds : List Cell = c.deref-outside.result.now in
+    let near = c.args.near.now in
+    let d : Cell = c.cell-part.result.now in
+    let same : c.in-Some.nearby.now ≡ ds = sym (c.deref-outside.ensures ∙ c.nearby.view_is) in
+    let read : slice_get near c.args.from ≡ Some ds =
+    slice_get_read near (length near) c.args.from ds refl c.in-Some.ensures.lookup.3.0 (rw same at c.in-Some.ensures.lookup.1) in
+    let at : slice_get ds c.loop-i.i ≡ Some d = rw c.cells.ensures at c.cell-part.ensures in
+    let made = (rw c.in-Some-2.is at (c.in_ok-mark.ensures.some)) d at in
+    part_lasts near c.args.from ds c.loop-i.i d c.loop-i.piece c.narrow.new.self c.args.is_open c.stays_open-part_open.result
+    c.requires.off_walls read at c.stays_open-part_open.ensures (rw (c.loop-i.invariant.piece) c.requires.is_open) made.points
+
+pub is_over-requires : goal.is_over-requires
+is_over-requires t c = record {
+  off_walls = c.requires.off_walls;
+  is_open = still_open t (goal.at.is_over-requires t c).After-stays_open-part_open;
+}
+
 pub push_left-requires : goal.push_left-requires
 push_left-requires t c =
     let inv = c.loop-i.invariant in
-    let d : Cell = c.cell.result.now in
-    let at = rw c.cells.ensures at c.cell.ensures in
+    let d : Cell = c.cell-part.result.now in
+    let at = rw c.cells.ensures at c.cell-part.ensures in
     let made = (rw c.in-Some-2.is at (c.in_ok-mark.ensures.some)) d at in
-    let same : (p : Point) → InCell c.loop-i.piece p ↔ InCell c.loop-i.cell p = rw (inv.piece, inv.cell) c.requires in
-    let within : c.args.from < length c.args.near.now = c.in-Some.ensures.lookup.3.0 in
-    (search rules, λ p. rw (c.in_ok-is_over.ensures.same, c.in_ok-narrow.ensures.ok) (same_met c.loop-i.cell c.loop-i.piece d c.narrow.new.self same made.points p))
+    let same : (p : Point) → InCell c.loop-i.piece p ↔ InCell c.loop-i.cell p = rw (inv.piece, inv.cell) c.requires.piece in
+    let within : c.args.from < length c.args.near.now = c.in-Some.ensures.lookup.3.0 in (
+      search rules,
+      (
+        λ p. rw (c.in_ok-is_over.ensures.same, c.in_ok-narrow.ensures.ok)
+            (same_met c.loop-i.cell c.loop-i.piece d c.narrow.new.self same made.points p),
+        (
+          c.requires.off_walls,
+          rw (c.in_ok-is_over.ensures.same) (still_open t (goal.at.push_left-requires t c).After-stays_open-part_open),
+        ),
+      ),
+    )
 
 pub widen-requires-clause-long : goal.widen-requires-clause-long
 widen-requires-clause-long t c =
@@ -81,7 +112,7 @@ loop-i-preserved t c =
     let narrowed = rw c.in-Some-2.is at (c.in_ok-mark.ensures.some) in
     let here = at_index ds i within in
     let made = narrowed (get_or ds i []) here in
-    let same : (p : Point) → InCell c.loop-i.piece p ↔ InCell own p = rw (inv.piece) c.requires in
+    let same : (p : Point) → InCell c.loop-i.piece p ↔ InCell own p = rw (inv.piece) c.requires.piece in
     let back : c.if-not-branch.piece ≡ c.narrow.new.self = elim c.if-not-branch.branch [
       | then-not-branch+in_ok-narrow+in_ok-push_left w ↦ w.piece-is ∙ (w.in_ok-push_left.ensures.piece ∙ c.in_ok-is_over.ensures.same)
       | else-not-branch w ↦ w.piece-is ∙ c.in_ok-is_over.ensures.same
@@ -89,8 +120,8 @@ loop-i-preserved t c =
     record {
       left = elim c.if-not-branch.branch [
         | then-not-branch+in_ok-narrow+in_ok-push_left w ↦
-            let d : Cell = w.cell.result.now in
-            let at : slice_get ds i ≡ Some d = rw w.cells.ensures at w.cell.ensures in
+            let d : Cell = c.cell-part.result.now in
+            let at : slice_get ds i ≡ Some d = rw c.cells.ensures at c.cell-part.ensures in
             let met = narrowed d at in
             one_with own ds rest i d c.args.left.now c.loop-i.left c.if-not-branch.left at
             (point_shared own c.loop-i.piece d c.narrow.new.self same met.points met.some)
@@ -123,5 +154,5 @@ returns-clause-left t c =
     let read : slice_get near c.args.from ≡ Some ds =
     slice_get_read near (length near) c.args.from ds refl c.in-Some.ensures.lookup.3.0 (rw same at c.in-Some.ensures.lookup.1) in
     c.loop-i.invariant.left ∙ ap (λ us. c.args.left.now ++ us) (all_of_it own ds (drop (c.args.from + 1) near) c.loop-i.i
-    (λ k d e l p m. c.window-window.ensures.clear k d e (inr (omega arith)) p ((c.requires p).1 m))
+    (λ k d e l p m. c.window-window.ensures.clear k d e (inr (omega arith)) p ((c.requires.piece p).1 m))
     ∙ ap (uncovered (own ∷ [])) (sym (drop_one near c.args.from ds read)))

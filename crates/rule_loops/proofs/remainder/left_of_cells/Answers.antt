@@ -10,8 +10,8 @@ use Rattle.rule_loops.proofs.remainder.left_of_cells.Goals as goal
 pub loop-i-init : goal.loop-i-init
 loop-i-init c = c.new-left.ensures ∙ sym (uncovered-nil c.args.near.now)
 
-pub push_left_of-requires : goal.push_left_of-requires
-push_left_of-requires c = every_got HasPoint c.args.cells.now c.loop-i.i c.cell.result.now c.requires c.cell.ensures
+pub push_left_of-requires-clause-some : goal.push_left_of-requires-clause-some
+push_left_of-requires-clause-some c = every_got HasPoint c.args.cells.now c.loop-i.i c.cell.result.now c.requires.some c.cell.ensures
 
 pub loop-i-preserved : goal.loop-i-preserved
 loop-i-preserved c =
