@@ -1,11 +1,12 @@
 -- Numbers of the grid as the code passes and computes them.
-use Rattle.std.proofs.Common.{◌≡◌, ◌≤◌, ◌^◌, ℤ, pos, ◌-ℤ◌, ◌*ℤ◌, arith, unsigned_abs, lit<, refl, ◌∙◌, Bool, nat_eq, IsTrue, ℕ, neg_ℤ}
+use Rattle.std.proofs.Common.{◌≡◌, ◌≤◌, ◌^◌, ℤ, pos, ◌+ℤ◌, ◌-ℤ◌, ◌*ℤ◌, ◌/◌, ◌%◌, arith, unsigned_abs, lit<, refl, ◌∙◌, Bool, nat_eq, IsTrue, ℕ, neg_ℤ}
 use Rattle.std.proofs.lemmas.Int.{ints, to_z-of_z, fits_signed_mul, fits_signed_from_abs, unsigned_abs-mul}
 use Rattle.std.proofs.Math.Nat.{mul-le-mul, lt_of_le_of_lt}
-use mir.Syntax.{w32, w64}
+use mir.Syntax.{w16, w32, w64}
 use mir.Val.{SFits, to_z, of_z}
 use Rattle.plane_terms.specs.Point.{InReach}
 use Rattle.plane_terms.specs.HalfPlane.{HalfPlane}
+use Rattle.grid_plane.specs.Constants.{constant_of}
 use Rattle.plane_terms.specs.declared.op.Op.{Op}
 
 pub reach_read : (v : ℤ) → SFits w64 v → InReach (to_z w64 (of_z w64 v)) → InReach v
@@ -13,6 +14,10 @@ reach_read v f h = rw (to_z-of_z w64 v f) at h
 
 pub narrowed : (v : ℤ) → InReach v → to_z w32 (of_z w32 (to_z w64 (of_z w64 v))) ≡ v
 narrowed v h = omega (arith, ints)
+
+-- a factor of a half-plane, made narrow
+pub factor_kept : (v : ℤ) → unsigned_abs v ≤ 2 ^ 23 → to_z w32 (of_z w32 (to_z w64 (of_z w64 v))) ≡ v
+factor_kept v small = omega (arith, ints)
 
 pub product_back : (a b : ℤ) → SFits w64 a → SFits w64 b → unsigned_abs a ≤ 2 ^ 23 → unsigned_abs b ≤ 2 ^ 23
     → to_z w64 (of_z w64 (to_z w64 (of_z w64 a) *ℤ to_z w64 (of_z w64 b))) ≡ a *ℤ b
@@ -29,6 +34,16 @@ pub minor_fits : (a b c d : ℤ) → unsigned_abs a ≤ 2 ^ 23 → unsigned_abs 
     → SFits w64 (a *ℤ b -ℤ c *ℤ d)
 minor_fits a b c d h k i j = fits_signed_from_abs w64 (a *ℤ b -ℤ c *ℤ d)
     (lt_of_le_of_lt (less_bound (a *ℤ b) (c *ℤ d) (product_bound a b h k) (product_bound c d i j)) (lit< tt))
+
+-- a constant above the least one, and the high part as it is computed of that
+abbrev pub raised : ℤ → ℕ
+raised c = unsigned_abs (to_z w64 (of_z w64 (to_z w64 (of_z w64 c) +ℤ pos 70368744177664)))
+
+abbrev pub kept_high : ℕ → ℤ
+kept_high n = to_z w16 (of_z w16 (to_z w32 (of_z w32 (to_z w32 (n / 4294967296) -ℤ pos 16384))))
+
+kept_high_is : (n : ℕ) → n ≤ 2 ^ 47 → kept_high n ≡ pos (n / 4294967296) -ℤ pos 16384
+kept_high_is n room = omega (arith, ints)
 
 -- a test of two numbers that were passed
 pub through : (f : ℤ → ℤ → Bool) (r : Bool) (a b u v : ℤ) → SFits w64 a → SFits w64 b
@@ -55,6 +70,13 @@ read_back z h = to_z-of_z w64 z (fits_signed_from_abs w64 z (lt_of_le_of_lt h (l
 
 pub neg_back : (z v : ℤ) → unsigned_abs z ≤ 2 ^ 46 → z ≡ v → to_z w64 (of_z w64 (pos 0 -ℤ to_z w64 (of_z w64 z))) ≡ neg_ℤ v
 neg_back z v h e = omega (arith, ints)
+
+-- the constant that is kept in two parts is the one that was given
+pub constant_kept : (c : ℤ) → unsigned_abs c ≤ 2 ^ 46 → constant_of (kept_high (raised c)) (raised c % 4294967296) ≡ c
+constant_kept c small =
+    let up : pos (raised c) ≡ c +ℤ pos (2 ^ 46) = omega (arith, ints) in
+    let room : raised c ≤ 2 ^ 47 = omega (arith, ints) in
+    rw (kept_high_is (raised c) room) (omega (arith, ints, up))
 
 pub neg_turned : (u v : ℤ) → neg_ℤ (u -ℤ v) ≡ v -ℤ u
 neg_turned u v = omega (arith, ints)

@@ -10,25 +10,41 @@ pub const SLOPE: i64 = 8_388_608;
 /// The greatest constant of a half-plane, in square grid units.
 pub const CONSTANT: i64 = 70_368_744_177_664;
 
+/// What the high part of a constant counts.
+const STEP: u64 = 4_294_967_296;
+
+/// The steps in the greatest constant.
+const STEPS: i32 = 16_384;
+
 /// An open or closed half-plane, or a line: `a*x + b*y + c` is above 0, at least 0, or 0.
-#[derive(Clone, Copy, PartialEq, Eq)]
+///
+/// Programs keep many of these, so one takes 16 bytes: c is kept as `high` steps of 2^32 and `low` more.
+#[derive(Clone, Copy)]
 pub struct Half {
-    pub(crate) a: i64,
-    pub(crate) b: i64,
-    pub(crate) c: i64,
-    pub(crate) op: Op,
+    a: i32,
+    b: i32,
+    low: u32,
+    high: i16,
+    op: Op,
 }
 
+const _: () = prove!(size_of::<Half>() == 16);
+
 impl Model for Half {
+    ghost use Rattle.std.specs.Prelude.{◌^◌, ◌<◌};
     ghost use Rattle.plane_terms.specs.HalfPlane.{HalfPlane, IsHalfPlane};
+    ghost use Rattle.grid_plane.specs.Constants.{constant_of, high_of, low_of, parts_back};
 
     ghost Value = { HalfPlane };
 
-    ghost view = { λ h. record { a = h.a; b = h.b; c = h.c; op = h.op } };
+    ghost view = { λ h. record { a = h.a; b = h.b; c = constant_of h.high h.low; op = h.op } };
 
-    ghost invariant = { λ h. IsHalfPlane (record { a = h.a; b = h.b; c = h.c; op = h.op }) };
+    ghost invariant = { λ h. (h.low < 2 ^ 32) × IsHalfPlane (record { a = h.a; b = h.b; c = constant_of h.high h.low; op = h.op }) };
 
-    ghost inverse = { λ v. record { a = v.a; b = v.b; c = v.c; op = v.op } };
+    ghost inverse = { λ v. record { a = v.a; b = v.b; low = low_of v.c; high = high_of v.c; op = v.op } };
+
+    ghost inverse_ok = { λ h keeps i. let parts = parts_back h.high h.low keeps.0 in
+        record { a = h.a; b = h.b; low = parts.1 i; high = parts.0 i; op = h.op } };
 }
 
 impl Half {
@@ -43,7 +59,22 @@ impl Half {
         if a == 0 && b == 0 {
             return None;
         }
-        Some(Half { a, b, c, op })
+        Some(Half::packed(a, b, c, op))
+    }
+
+    /// The half-plane of these numbers.
+    pub(crate) fn packed(a: i64, b: i64, c: i64, op: Op) -> Half
+        requires { IsHalfPlane (record { a = a; b = b; c = c; op = op }) }
+        ensures { result ≡ record { a = a; b = b; c = c; op = op } }
+    {
+        let raised = (c + CONSTANT) as u64;
+        Half {
+            a: a as i32,
+            b: b as i32,
+            low: (raised % STEP) as u32,
+            high: ((raised / STEP) as i32 - STEPS) as i16,
+            op,
+        }
     }
 
     /// The factor of x.
@@ -51,7 +82,7 @@ impl Half {
         ensures value { result ≡ self.now.a }
         ensures valid { IsHalfPlane self.now }
     {
-        self.a
+        i64::from(self.a)
     }
 
     /// The factor of y.
@@ -59,7 +90,7 @@ impl Half {
         ensures value { result ≡ self.now.b }
         ensures valid { IsHalfPlane self.now }
     {
-        self.b
+        i64::from(self.b)
     }
 
     /// The constant.
@@ -67,7 +98,7 @@ impl Half {
         ensures value { result ≡ self.now.c }
         ensures valid { IsHalfPlane self.now }
     {
-        self.c
+        i64::from(self.high) * STEP as i64 + i64::from(self.low)
     }
 
     pub fn op(&self) -> Op
@@ -88,7 +119,8 @@ impl Half {
         Half {
             a: self.a,
             b: self.b,
-            c: self.c,
+            low: self.low,
+            high: self.high,
             op,
         }
     }
@@ -97,12 +129,7 @@ impl Half {
     pub fn turned(&self, op: Op) -> Half
         ensures { result ≡ turned self.now op }
     {
-        Half {
-            a: -self.a,
-            b: -self.b,
-            c: -self.c,
-            op,
-        }
+        Half::packed(-self.a(), -self.b(), -self.c(), op)
     }
 
     /// The same numbers with another test.
@@ -112,7 +139,8 @@ impl Half {
         Half {
             a: self.a,
             b: self.b,
-            c: self.c,
+            low: self.low,
+            high: self.high,
             op,
         }
     }
@@ -124,7 +152,8 @@ impl Half {
         Half {
             a: self.b,
             b: self.a,
-            c: self.c,
+            low: self.low,
+            high: self.high,
             op: self.op,
         }
     }
@@ -136,7 +165,8 @@ impl Half {
         Half {
             a: -self.a,
             b: self.b,
-            c: self.c,
+            low: self.low,
+            high: self.high,
             op: self.op,
         }
     }

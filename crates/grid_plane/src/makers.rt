@@ -12,12 +12,7 @@ pub fn left_of(s: &Seg) -> Half
     ensures value { result ≡ left_of s.now }
     ensures meaning { (p : Point) → Holds result p ↔ (pos 0 <ℤ cross s.now p) }
 {
-    Half {
-        a: -s.rise(),
-        b: s.across(),
-        c: s.constant(),
-        op: Op::Over,
-    }
+    Half::packed(-s.rise(), s.across(), s.constant(), Op::Over)
 }
 
 /// Right of the line through the segment, seen from its lower end.
@@ -25,12 +20,7 @@ pub fn right_of(s: &Seg) -> Half
     ensures value { result ≡ right_of s.now }
     ensures meaning { (p : Point) → Holds result p ↔ (cross s.now p <ℤ pos 0) }
 {
-    Half {
-        a: s.rise(),
-        b: -s.across(),
-        c: -s.constant(),
-        op: Op::Over,
-    }
+    Half::packed(s.rise(), -s.across(), -s.constant(), Op::Over)
 }
 
 /// The line through the segment.
@@ -38,12 +28,7 @@ pub fn on_line(s: &Seg) -> Half
     ensures value { result ≡ on_line s.now }
     ensures meaning { (p : Point) → Holds result p ↔ (cross s.now p ≡ pos 0) }
 {
-    Half {
-        a: -s.rise(),
-        b: s.across(),
-        c: s.constant(),
-        op: Op::Zero,
-    }
+    Half::packed(-s.rise(), s.across(), s.constant(), Op::Zero)
 }
 
 /// Right of the coordinate.
@@ -51,12 +36,7 @@ pub fn x_over(v: i32) -> Half
     requires { unsigned_abs v ≤ 4194305 }
     ensures { result ≡ x_over v }
 {
-    Half {
-        a: 1,
-        b: 0,
-        c: -i64::from(v),
-        op: Op::Over,
-    }
+    Half::packed(1, 0, -i64::from(v), Op::Over)
 }
 
 /// Left of the coordinate.
@@ -64,12 +44,7 @@ pub fn x_under(v: i32) -> Half
     requires { unsigned_abs v ≤ 4194305 }
     ensures { result ≡ x_under v }
 {
-    Half {
-        a: -1,
-        b: 0,
-        c: i64::from(v),
-        op: Op::Over,
-    }
+    Half::packed(-1, 0, i64::from(v), Op::Over)
 }
 
 /// Above the coordinate.
@@ -77,12 +52,7 @@ pub fn y_over(v: i32) -> Half
     requires { unsigned_abs v ≤ 4194305 }
     ensures { result ≡ y_over v }
 {
-    Half {
-        a: 0,
-        b: 1,
-        c: -i64::from(v),
-        op: Op::Over,
-    }
+    Half::packed(0, 1, -i64::from(v), Op::Over)
 }
 
 /// Below the coordinate.
@@ -90,12 +60,7 @@ pub fn y_under(v: i32) -> Half
     requires { unsigned_abs v ≤ 4194305 }
     ensures { result ≡ y_under v }
 {
-    Half {
-        a: 0,
-        b: -1,
-        c: i64::from(v),
-        op: Op::Over,
-    }
+    Half::packed(0, -1, i64::from(v), Op::Over)
 }
 
 /// The upright line at the coordinate.
@@ -103,12 +68,7 @@ pub fn x_is(v: i32) -> Half
     requires { unsigned_abs v ≤ 4194305 }
     ensures { result ≡ x_is v }
 {
-    Half {
-        a: 1,
-        b: 0,
-        c: -i64::from(v),
-        op: Op::Zero,
-    }
+    Half::packed(1, 0, -i64::from(v), Op::Zero)
 }
 
 /// The level line at the coordinate.
@@ -116,10 +76,5 @@ pub fn y_is(v: i32) -> Half
     requires { unsigned_abs v ≤ 4194305 }
     ensures { result ≡ y_is v }
 {
-    Half {
-        a: 0,
-        b: 1,
-        c: -i64::from(v),
-        op: Op::Zero,
-    }
+    Half::packed(0, 1, -i64::from(v), Op::Zero)
 }

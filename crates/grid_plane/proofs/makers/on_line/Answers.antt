@@ -9,7 +9,8 @@ use Rattle.grid_plane.proofs.makers.on_line.Goals as goal
 pub returns-clause-meaning : goal.returns-clause-meaning
 returns-clause-meaning c = λ p.
     let s = c.args.s.now in
-    let made = same_half Zero (neg_back c.rise.result _ (more_fits _ c.rise.ensures.fits) c.rise.ensures.value)
+    let made = c.packed.ensures
+    ∙ same_half Zero (neg_back c.rise.result _ (more_fits _ c.rise.ensures.fits) c.rise.ensures.value)
     (read_back c.across.result (more_fits _ c.across.ensures.fits)
     ∙ c.across.ensures.value) (read_back c.constant.result c.constant.ensures.fits ∙ c.constant.ensures.value) in
     subst (λ (h : HalfPlane). Holds h p ↔ (cross s p ≡ pos 0)) (sym made) (line_holds s p)
@@ -17,6 +18,7 @@ returns-clause-meaning c = λ p.
 pub returns-clause-value : goal.returns-clause-value
 returns-clause-value c =
     let s = c.args.s.now in
-    same_half Zero (neg_back c.rise.result _ (more_fits _ c.rise.ensures.fits) c.rise.ensures.value)
+    c.packed.ensures
+    ∙ same_half Zero (neg_back c.rise.result _ (more_fits _ c.rise.ensures.fits) c.rise.ensures.value)
     (read_back c.across.result (more_fits _ c.across.ensures.fits)
     ∙ c.across.ensures.value) (read_back c.constant.result c.constant.ensures.fits ∙ c.constant.ensures.value)

@@ -9,7 +9,8 @@ use Rattle.grid_plane.proofs.makers.right_of.Goals as goal
 pub returns-clause-meaning : goal.returns-clause-meaning
 returns-clause-meaning c = λ p.
     let s = c.args.s.now in
-    let made = same_half Over (read_back c.rise.result (more_fits _ c.rise.ensures.fits)
+    let made = c.packed.ensures
+    ∙ same_half Over (read_back c.rise.result (more_fits _ c.rise.ensures.fits)
     ∙ c.rise.ensures.value) (neg_back c.across.result _ (more_fits _ c.across.ensures.fits) c.across.ensures.value)
     (neg_back c.constant.result _ c.constant.ensures.fits c.constant.ensures.value
     ∙ neg_turned ((s.hi.y -ℤ s.lo.y) *ℤ s.lo.x) ((s.hi.x -ℤ s.lo.x) *ℤ s.lo.y)) in
@@ -18,7 +19,8 @@ returns-clause-meaning c = λ p.
 pub returns-clause-value : goal.returns-clause-value
 returns-clause-value c =
     let s = c.args.s.now in
-    same_half Over (read_back c.rise.result (more_fits _ c.rise.ensures.fits)
+    c.packed.ensures
+    ∙ same_half Over (read_back c.rise.result (more_fits _ c.rise.ensures.fits)
     ∙ c.rise.ensures.value) (neg_back c.across.result _ (more_fits _ c.across.ensures.fits) c.across.ensures.value)
     (neg_back c.constant.result _ c.constant.ensures.fits c.constant.ensures.value
     ∙ neg_turned ((s.hi.y -ℤ s.lo.y) *ℤ s.lo.x) ((s.hi.x -ℤ s.lo.x) *ℤ s.lo.y))
