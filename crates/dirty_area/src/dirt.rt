@@ -112,7 +112,7 @@ impl Dirt {
     }
 
     /// Makes a rectangle dirty that no rectangle of the list holds and that holds none, so that `add` would put it behind them
-    /// all: it is put there. After an `Err`, want of memory, nothing has changed. Compares it with nothing.
+    /// all: it is put there. After an `Err`, out of memory, nothing has changed. Compares it with nothing.
     pub fn add_loose(&mut self, r: Rect) -> Result<(), NoMemory>
         requires { add_dirt self.old r ≡ self.old ++ r ∷ [] }
         ensures ok { OnOk result (self.new ≡ self.old ++ r ∷ []) }
@@ -124,7 +124,7 @@ impl Dirt {
         Ok(())
     }
 
-    /// Makes the first rectangle dirty, then the second, each where it is there, as `add` does. After an `Err`, want of memory,
+    /// Makes the first rectangle dirty, then the second, each where it is there, as `add` does. After an `Err`, out of memory,
     /// nothing has changed.
     pub fn add_two(&mut self, first: Option<Rect>, second: Option<Rect>) -> Result<(), NoMemory>
         ensures ok { OnOk result (self.new ≡ add_all (add_all self.old (option_to_list first)) (option_to_list second)) }

@@ -4,11 +4,11 @@ use Rattle.std.specs.List.{list_any}
 use Rattle.std.proofs.lemmas.Bool.{and_parts, or_left, or_right, false≢true}
 use Rattle.std.proofs.lemmas.List.Folds.{Any-from_list_any, list_any-append}
 use Rattle.plane_terms.specs.Rectangle.{Rectangle, rects_meet}
+use Rattle.sound_laws.proofs.Meetings.{meets_wider}
 use Rattle.grid_index.specs.declared.placed.Placed.{Placed}
 use Rattle.grid_index.specs.declared.relation.Relation.{Relation}
 use Rattle.grid_index.specs.Nodes.{NodeView, all_items, AreWithin}
 use Rattle.grid_index.specs.Relations.{stands, is_found}
-use Rattle.grid_index.proofs.Reaches.{meets_wider}
 
 -- none of those within a rectangle that this one does not meet
 pub none_beyond : (k : Relation) (r s : Rectangle) (ps : List Placed) → AreWithin s ps → rects_meet r s ≡ false

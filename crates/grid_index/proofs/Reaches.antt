@@ -8,6 +8,7 @@ use Rattle.std.proofs.lemmas.List.{append-nil, take_more}
 use Rattle.std.proofs.lemmas.List.Elements.{Contains-append_cases}
 use Rattle.plane_terms.specs.Rectangle.{Rectangle, IsWithin, is_within, rects_meet, join_of}
 use Rattle.grid_plane.specs.Rectangles.{IsJoin}
+use Rattle.sound_laws.proofs.Meetings.{meets_wider}
 use Rattle.sound_laws.proofs.Planes.{within_self, within_trans}
 use Rattle.validation_laws.proofs.Frames.{within_join_left, within_join_right}
 use Rattle.grid_index.specs.declared.placed.Placed.{Placed}
@@ -37,9 +38,6 @@ pub all_same : (r : Rectangle) (ps qs : List Placed) → AreWithin r ps → Hold
 all_same r ps qs all same q h = all q ((same q).0 h)
 
 -- ---- what it does not hold, and what it does not meet
-pub meets_wider : (r s t : Rectangle) → IsWithin s t → rects_meet r s ≡ true → rects_meet r t ≡ true
-meets_wider r s t w e = grind (arith, ints)
-
 held_test : (r s : Rectangle) → IsWithin r s → is_within r s ≡ true
 held_test r s w = grind (arith, ints)
 

@@ -1,5 +1,6 @@
 -- Numbers of the grid as the code passes and computes them.
-use Rattle.std.proofs.Common.{◌≡◌, ◌≤◌, ◌^◌, ℤ, pos, ◌+ℤ◌, ◌-ℤ◌, ◌*ℤ◌, ◌/◌, ◌%◌, arith, unsigned_abs, lit<, refl, ◌∙◌, Bool, nat_eq, IsTrue, ℕ, neg_ℤ}
+use Rattle.std.proofs.Common.{◌≡◌, ◌≤◌, ◌^◌, ℤ, pos, ◌+ℤ◌, ◌-ℤ◌, ◌*ℤ◌, ◌/◌, ◌%◌, arith, unsigned_abs, lit<, refl, ◌∙◌}
+use Rattle.std.proofs.Common.{Bool, nat_eq, IsTrue, ℕ, neg_ℤ}
 use Rattle.std.proofs.lemmas.Int.{ints, to_z-of_z, fits_signed_mul, fits_signed_from_abs, unsigned_abs-mul}
 use Rattle.std.proofs.Math.Nat.{mul-le-mul, lt_of_le_of_lt}
 use mir.Syntax.{w16, w32, w64}

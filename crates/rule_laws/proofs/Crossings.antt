@@ -75,8 +75,9 @@ cross_above s p l r a b =
     let q = p.positive in
     over_unscaled (pos p.w) (cross s p) (omega (arith, ints, q)) (lt_by (num (pos 0)) (w ⊗ c) (omega (arith, h, k)))
 
-cross_below : (s : Segment) (p : Point) → (s.lo.x *ℤ pos p.w) ≤ℤ p.x → p.x <ℤ (s.hi.x *ℤ pos p.w) → p.y <ℤ (s.lo.y *ℤ pos p.w)
-    → p.y <ℤ (s.hi.y *ℤ pos p.w) → cross s p ≤ℤ pos 0
+-- a point that is above no end of a segment is not above the segment
+pub cross_below : (s : Segment) (p : Point) → (s.lo.x *ℤ pos p.w) ≤ℤ p.x → p.x <ℤ (s.hi.x *ℤ pos p.w) → p.y ≤ℤ (s.lo.y *ℤ pos p.w)
+    → p.y ≤ℤ (s.hi.y *ℤ pos p.w) → cross s p ≤ℤ pos 0
 cross_below s p l r a b =
     let w = num (pos p.w) in
     let u = num p.x ⊖ num s.lo.x ⊗ w in
@@ -116,7 +117,7 @@ counts_above p s h = third_is (is_before p s.lo) (int_lt p.x (s.hi.x *ℤ pos p.
 counts_below : (p : Point) (s : Segment) → BothEnds (λ q. p.y <ℤ (q.y *ℤ pos p.w)) s → counts s p ≡ false
 counts_below p s h = third_not (is_before p s.lo) (int_lt p.x (s.hi.x *ℤ pos p.w)) (int_lt (pos 0) (cross s p)) (λ e.
     let k = both_tests (s.lo.x *ℤ pos p.w) (s.hi.x *ℤ pos p.w) p.x e in
-    int_lt_false (pos 0) (cross s p) (cross_below s p k.0 k.1 h.0 h.1))
+    int_lt_false (pos 0) (cross s p) (cross_below s p k.0 k.1 (omega (arith, ints, h.0)) (omega (arith, ints, h.1))))
   where
     third_not : (b c d : Bool) → ((b && c) ≡ true → d ≡ false) → (b && (c && d)) ≡ false
     third_not true true d h = h refl

@@ -41,11 +41,12 @@ pub some_each : {A : Type 0} (P Q : A → Type 0) (R : Type 0) → ((x : A) → 
 some_each P Q R m [] k h = absurd h
 some_each P Q R m (x ∷ xs) k h = elim h [ inl i ↦ m x k.0 i | inr i ↦ some_each P Q R m xs k.1 i ]
 
-low_held : (v lo hi x : ℤ) (w : ℕ) → v ≤ℤ lo → v ≤ℤ hi → IsBetween (lo *ℤ pos w) (hi *ℤ pos w) x → (v *ℤ pos w) ≤ℤ x
+-- what is between two numbers is above what is below both, and below what is above both
+pub low_held : (v lo hi x : ℤ) (w : ℕ) → v ≤ℤ lo → v ≤ℤ hi → IsBetween (lo *ℤ pos w) (hi *ℤ pos w) x → (v *ℤ pos w) ≤ℤ x
 low_held v lo hi x w a b (inl h) = omega (arith, ints, scaled_le v lo w a, h.0)
 low_held v lo hi x w a b (inr h) = omega (arith, ints, scaled_le v hi w b, h.0)
 
-high_held : (v lo hi x : ℤ) (w : ℕ) → lo ≤ℤ v → hi ≤ℤ v → IsBetween (lo *ℤ pos w) (hi *ℤ pos w) x → x ≤ℤ (v *ℤ pos w)
+pub high_held : (v lo hi x : ℤ) (w : ℕ) → lo ≤ℤ v → hi ≤ℤ v → IsBetween (lo *ℤ pos w) (hi *ℤ pos w) x → x ≤ℤ (v *ℤ pos w)
 high_held v lo hi x w a b (inl h) = omega (arith, ints, scaled_le hi v w b, h.1)
 high_held v lo hi x w a b (inr h) = omega (arith, ints, scaled_le lo v w a, h.1)
 

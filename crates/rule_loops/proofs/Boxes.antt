@@ -10,6 +10,7 @@ use Rattle.plane_terms.proofs.ListLemmas.{every_map}
 use Rattle.topology_terms.specs.Feature.{Feature, sides, env}
 use Rattle.topology_terms.specs.Cells.{box_meets, out_of_segments}
 use Rattle.shape.specs.Frames.{IsRound}
+use Rattle.sound_laws.proofs.Meetings.{meets_wider}
 use Rattle.rule_laws.proofs.Envelopes.{BothEnds, LiesIn, segments_ends}
 
 pub box_within : (t : Segment) (r : Rectangle) → BothEnds (LiesIn r) t → IsWithin (box_of t) r
@@ -19,9 +20,6 @@ box_within t r h = let a = h.0 in let b = h.1 in record {
   below = omega (arith, ints, clamps);
   above = omega (arith, ints, clamps);
 }
-
-meets_wider : (b c r : Rectangle) → IsWithin c r → rects_meet b c ≡ true → rects_meet b r ≡ true
-meets_wider b c r w h = grind (arith, ints)
 
 pub wider_meets : (b c r : Rectangle) → IsWithin b r → rects_meet b c ≡ true → rects_meet r c ≡ true
 wider_meets b c r w h = grind (arith, ints)

@@ -1,5 +1,5 @@
 -- A segment of which both ends are on another lies on it, and where it lies on one nothing is left of it.
-use Rattle.std.proofs.Common.{◌≡◌, inl, inr, ℕ, ◌+◌, ◌<◌, ℤ, pos, ◌*◌, ◌+ℤ◌, ◌*ℤ◌, ◌≤ℤ◌, Bool, true, false, List, [], ◌∷◌, Some, refl, sym, ◌∙◌, ap, subst, take, drop, length, get_or, cond, arith}
+use Rattle.std.proofs.Common.{◌≡◌, inl, inr, ℕ, ◌+◌, ◌<◌, ℤ, pos, ◌*◌, ◌+ℤ◌, ◌*ℤ◌, Bool, true, false, List, [], ◌∷◌, Some, refl, sym, ◌∙◌, ap, subst, take, drop, length, get_or, cond, arith}
 use Rattle.std.specs.Prelude.{slice_get, flat_map, ◌==◌}
 use Rattle.std.specs.Bool.{OnTrue}
 use Rattle.std.proofs.lemmas.Int.{ints}
@@ -15,12 +15,13 @@ use Rattle.plane_terms.proofs.Points.{point_at}
 use Rattle.plane_terms.proofs.ListLemmas.{every_right, SomeOf-append_left, SomeOf-append_right}
 use Rattle.topology_terms.specs.Feature.{Feature, sides}
 use Rattle.topology_terms.specs.Cells.{out_of_segments}
-use Rattle.number_laws.proofs.Order.{scaled_le, zero_unscaled}
+use Rattle.number_laws.proofs.Order.{zero_unscaled}
 use Rattle.cell_laws.proofs.AtPlaces.{turn_on}
 use Rattle.cell_laws.proofs.Meeting.{weighted_cross, times_zero}
 use Rattle.cell_laws.proofs.OnLine.{at_itself}
 use Rattle.cell_laws.proofs.SegmentCells.{on_segment_points}
 use Rattle.cell_laws.proofs.Weights.{weights}
+use Rattle.rule_laws.proofs.Held.{low_held, high_held}
 use Rattle.rule_laws.proofs.Tests.{place_from}
 use Rattle.rule_laws.proofs.Uncovered.{every_flat, uncovered_points, uncovered_have_points, segment_has_point, one_cell, out_points}
 use Rattle.rule_loops.specs.Blocks.{block_size, left_from, block_of}
@@ -32,35 +33,27 @@ use Rattle.rule_loops.proofs.Rest.{drop_one}
 use Rattle.rule_loops.proofs.Sharing.{no_cells}
 
 -- ---- between two numbers that are between two others
-over_both : (a c d v : ℤ) (w : ℕ) → a ≤ℤ c → a ≤ℤ d → IsBetween (c *ℤ pos w) (d *ℤ pos w) v → (a *ℤ pos w) ≤ℤ v
-over_both a c d v w h k (inl o) = let m = scaled_le a c w h in omega (arith, ints, o.0)
-over_both a c d v w h k (inr o) = let m = scaled_le a d w k in omega (arith, ints, o.0)
-
-under_both : (b c d v : ℤ) (w : ℕ) → c ≤ℤ b → d ≤ℤ b → IsBetween (c *ℤ pos w) (d *ℤ pos w) v → v ≤ℤ (b *ℤ pos w)
-under_both b c d v w h k (inl o) = let m = scaled_le d b w k in omega (arith, ints, o.1)
-under_both b c d v w h k (inr o) = let m = scaled_le c b w h in omega (arith, ints, o.1)
-
 between_both : (a b c d v : ℤ) (w : ℕ) → IsBetween (a *ℤ pos 1) (b *ℤ pos 1) c → IsBetween (a *ℤ pos 1) (b *ℤ pos 1) d
     → IsBetween (c *ℤ pos w) (d *ℤ pos w) v → IsBetween (a *ℤ pos w) (b *ℤ pos w) v
 between_both a b c d v w (inl h) (inl k) o =
     inl (
-      over_both a c d v w (omega (arith, ints, h.0)) (omega (arith, ints, k.0)) o,
-      under_both b c d v w (omega (arith, ints, h.1)) (omega (arith, ints, k.1)) o,
+      low_held a c d v w (omega (arith, ints, h.0)) (omega (arith, ints, k.0)) o,
+      high_held b c d v w (omega (arith, ints, h.1)) (omega (arith, ints, k.1)) o,
     )
 between_both a b c d v w (inr h) (inr k) o =
     inr (
-      over_both b c d v w (omega (arith, ints, h.0)) (omega (arith, ints, k.0)) o,
-      under_both a c d v w (omega (arith, ints, h.1)) (omega (arith, ints, k.1)) o,
+      low_held b c d v w (omega (arith, ints, h.0)) (omega (arith, ints, k.0)) o,
+      high_held a c d v w (omega (arith, ints, h.1)) (omega (arith, ints, k.1)) o,
     )
 between_both a b c d v w (inl h) (inr k) o =
     inl (
-      over_both a c d v w (omega (arith, ints, h.0)) (omega (arith, ints, h.0, h.1, k.0)) o,
-      under_both b c d v w (omega (arith, ints, h.1)) (omega (arith, ints, k.1, h.0, h.1)) o,
+      low_held a c d v w (omega (arith, ints, h.0)) (omega (arith, ints, h.0, h.1, k.0)) o,
+      high_held b c d v w (omega (arith, ints, h.1)) (omega (arith, ints, k.1, h.0, h.1)) o,
     )
 between_both a b c d v w (inr h) (inl k) o =
     inl (
-      over_both a c d v w (omega (arith, ints, k.0, k.1, h.0)) (omega (arith, ints, k.0)) o,
-      under_both b c d v w (omega (arith, ints, h.1, k.0, k.1)) (omega (arith, ints, k.1)) o,
+      low_held a c d v w (omega (arith, ints, k.0, k.1, h.0)) (omega (arith, ints, k.0)) o,
+      high_held b c d v w (omega (arith, ints, h.1, k.0, k.1)) (omega (arith, ints, k.1)) o,
     )
 
 -- ---- a segment on another

@@ -1,6 +1,6 @@
 -- Polygons whose envelopes have at most a side or a corner in common have no inside point in common: a point inside is left of the right side
 -- of the envelope, and above the side below, since some segment runs below it.
-use Rattle.std.proofs.Common.{◌≡◌, inl, inr, ℤ, pos, ◌-ℤ◌, ◌*ℤ◌, ◌≤ℤ◌, ◌<ℤ◌, neg_ℤ, arith, refl, Bool, true, false, suc, List, [], ◌∷◌, cond}
+use Rattle.std.proofs.Common.{◌≡◌, inl, inr, ℤ, pos, ◌*ℤ◌, ◌≤ℤ◌, ◌<ℤ◌, arith, refl, Bool, true, false, suc, List, [], ◌∷◌, cond}
 use Rattle.std.specs.Prelude.{◌&&◌}
 use Rattle.std.specs.Int.RustNames.{int_le, int_lt}
 use Rattle.std.proofs.lemmas.Int.{ints}
@@ -13,11 +13,10 @@ use Rattle.plane_terms.specs.Polygon.{counts, IsInside}
 use Rattle.plane_terms.specs.declared.kind.Kind.TheVariants as shapes
 use Rattle.topology_terms.specs.Feature.{Feature, sides, env}
 use Rattle.topology_terms.specs.Plans.{overlap_cells}
-use Rattle.number_laws.proofs.Ring.{num, neg, ◌⊖◌, ◌⊗◌, le_by, le_read}
-use Rattle.number_laws.proofs.Order.{scaled_le, product_at_least, least_unscaled, cases_order_ℤ}
+use Rattle.number_laws.proofs.Order.{scaled_le, cases_order_ℤ}
 use Rattle.cell_laws.proofs.Meets.{kept_have_points}
 use Rattle.rule_laws.proofs.Commons.{overlap_rule}
-use Rattle.rule_laws.proofs.Crossings.{inside_held}
+use Rattle.rule_laws.proofs.Crossings.{cross_below, inside_held}
 use Rattle.rule_laws.proofs.Envelopes.{LiesIn, BothEnds, segments_ends}
 use Rattle.rule_laws.proofs.Families.{IsFit}
 use Rattle.rule_laws.proofs.Held.{some_each}
@@ -46,24 +45,6 @@ three_tests u v z k e = (from u v z k e, to u v z k e, over u v z k e)
     over : (u v z k : ℤ) → (int_le u z && (int_lt z v && int_lt (pos 0) k)) ≡ true → pos 0 <ℤ k
     over u v z k e = grind (arith, ints)
 
--- a point that is above no end of a segment is not above the segment
-cross_under : (s : Segment) (p : Point) → (s.lo.x *ℤ pos p.w) ≤ℤ p.x → p.x <ℤ (s.hi.x *ℤ pos p.w) → p.y ≤ℤ (s.lo.y *ℤ pos p.w)
-    → p.y ≤ℤ (s.hi.y *ℤ pos p.w) → cross s p ≤ℤ pos 0
-cross_under s p l r a b =
-    let w = num (pos p.w) in
-    let u = num p.x ⊖ num s.lo.x ⊗ w in
-    let v = num s.hi.x ⊗ w ⊖ num p.x in
-    let m = num s.lo.y ⊗ w ⊖ num p.y in
-    let n = num s.hi.y ⊗ w ⊖ num p.y in
-    let c = (num s.hi.x ⊖ num s.lo.x) ⊗ (num p.y ⊖ num s.lo.y ⊗ w) ⊖ (num s.hi.y ⊖ num s.lo.y) ⊗ u in
-    let h = le_read (num (pos 0)) (v ⊗ m)
-    (product_at_least (s.hi.x *ℤ pos p.w -ℤ p.x) (s.lo.y *ℤ pos p.w -ℤ p.y) (omega (arith, ints)) (omega (arith, ints))) in
-    let k = le_read (num (pos 0)) (u ⊗ n)
-    (product_at_least (p.x -ℤ s.lo.x *ℤ pos p.w) (s.hi.y *ℤ pos p.w -ℤ p.y) (omega (arith, ints)) (omega (arith, ints))) in
-    let q = p.positive in
-    let z = least_unscaled (pos p.w) (neg_ℤ (cross s p)) (omega (arith, ints, q)) (le_by (num (pos 0)) (w ⊗ neg c) (omega (arith, h, k))) in
-    omega (arith, ints, z)
-
 low_end : (s : Segment) (p : Point) (v : ℤ) → (s.lo.x *ℤ pos p.w) ≤ℤ p.x → p.x <ℤ (s.hi.x *ℤ pos p.w) → v ≤ℤ s.lo.y → v ≤ℤ s.hi.y
     → pos 0 <ℤ cross s p → (v *ℤ pos p.w) <ℤ p.y
 low_end s p v l r a b c = elim (cases_order_ℤ (v *ℤ pos p.w) p.y) [
@@ -71,7 +52,7 @@ low_end s p v l r a b c = elim (cases_order_ℤ (v *ℤ pos p.w) p.y) [
   | inr h ↦
       let i = scaled_le v s.lo.y p.w a in
       let j = scaled_le v s.hi.y p.w b in
-      let k = cross_under s p l r (omega (arith, ints, h, i)) (omega (arith, ints, h, j)) in
+      let k = cross_below s p l r (omega (arith, ints, h, i)) (omega (arith, ints, h, j)) in
       omega (arith, ints, c, k)
 ]
 

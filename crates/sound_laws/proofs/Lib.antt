@@ -10,7 +10,6 @@ pub mod States
 pub mod Settling
 pub mod Lists
 pub mod Pieces
-pub mod Cuts
 pub mod Meetings
 pub mod FeatureLists
 pub mod FeatureFilters

@@ -3,7 +3,7 @@ use Rattle.std.proofs.Common.{◌≡◌, ◌≤ℤ◌, true, arith, lit<, List, 
 use Rattle.std.specs.Int.{int_max}
 use Rattle.std.proofs.lemmas.Int.{ints, clamps}
 use Rattle.plane_terms.specs.Point.{Place, Point}
-use Rattle.plane_terms.specs.Rectangle.{Rectangle, RectHolds, RectsMeet, IsProper, rect_at, join_of, rects_meet}
+use Rattle.plane_terms.specs.Rectangle.{Rectangle, RectHolds, RectsMeet, IsProper, IsWithin, rect_at, join_of, rects_meet}
 use Rattle.plane_terms.specs.Shape.{Shape, box_from, box_of_places, vertices_of, envelope_of}
 use Rattle.number_laws.proofs.Order.{le_from_scaled}
 use Rattle.sound_laws.proofs.Pieces.{meeting}
@@ -35,6 +35,10 @@ meets_test r s m =
     let c = le_from_scaled r.y0 s.y1 p.w p.positive (omega (arith, ints)) in
     let d = le_from_scaled s.y0 r.y1 p.w p.positive (omega (arith, ints)) in
     grind (arith, ints)
+
+-- what meets a rectangle meets one that holds it
+pub meets_wider : (r s t : Rectangle) → IsWithin s t → rects_meet r s ≡ true → rects_meet r t ≡ true
+meets_wider r s t w e = grind (arith, ints)
 
 -- the least corner of what proper rectangles that meet have in common
 common_corner : Rectangle → Rectangle → Point

@@ -1,4 +1,4 @@
--- Adding and cutting make nothing else dirty, and keep a list of proper rectangles of which none lies in another.
+-- Adding and cutting make nothing else dirty, and adding keeps a list of rectangles of which none lies in another.
 use Rattle.std.proofs.Common.{◌≡◌, ◌⊎◌, inl, inr, ℤ, ◌≤ℤ◌, Bool, true, false, not, arith, refl, List, [], ◌∷◌, ◌++◌}
 use Rattle.std.specs.Prelude.{int_lt, if◌then◌else◌, cond}
 use Rattle.std.specs.Int.{int_max, int_min}
@@ -175,16 +175,3 @@ every_added P d r h k = choose P (list_any (λ s. is_within r s) d) d (filter (�
     choose : (P : Rectangle → Type 0) (b : Bool) (d e : List Rectangle) → Every P d → Every P e → Every P (if b then d else e)
     choose P true d e h k = h
     choose P false d e h k = k
-
-pub add_all_loose : (d rs : List Rectangle) → IsLoose d → IsLoose (add_all d rs)
-unfolding add_all
-add_all_loose d [] h = h
-add_all_loose d (r ∷ rs) h = add_all_loose (add_dirt d r) rs (add_loose d r h)
-
-cut_from_loose : (d rs : List Rectangle) (w : Rectangle) → IsLoose d → IsLoose (cut_from d rs w)
-unfolding cut_from
-cut_from_loose d [] w h = h
-cut_from_loose d (r ∷ rs) w h = cut_from_loose (add_all d (pieces r w)) rs w (add_all_loose d (pieces r w) h)
-
-pub cut_loose : (d : List Rectangle) (w : Rectangle) → IsLoose (cut_dirt d w)
-cut_loose d w = cut_from_loose [] d w tt
