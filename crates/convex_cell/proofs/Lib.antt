@@ -15,3 +15,5 @@ pub mod Steps
 pub mod Within
 pub mod Middles
 pub mod Pieces
+pub mod OnLines
+pub mod Shadows

@@ -15,7 +15,7 @@ fn either(s: bool, r: bool) -> bool
     s || r
 }
 
-fn sum_of_products(a: i64, b: i64, c: i64, d: i64) -> i128
+pub(crate) fn sum_of_products(a: i64, b: i64, c: i64, d: i64) -> i128
     requires b_fits { unsigned_abs b ≤ 2 ^ 23 }
     requires d_fits { unsigned_abs d ≤ 2 ^ 23 }
     ensures { result ≡ a *ℤ b +ℤ c *ℤ d }
@@ -24,7 +24,7 @@ fn sum_of_products(a: i64, b: i64, c: i64, d: i64) -> i128
 }
 
 /// The half-plane in the coordinates in which the direction is the way to the right.
-fn seen(direction: Direction, half: &Half) -> Half
+pub(crate) fn seen(direction: Direction, half: &Half) -> Half
     ensures { result ≡ seen direction half.now }
 {
     match direction {

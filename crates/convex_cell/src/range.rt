@@ -1,7 +1,10 @@
 ghost use Rattle.std.specs.Prelude.{◌≡◌, ℕ, ℤ, pos, neg_ℤ, ◌<◌, ◌≤◌, ◌^◌, ◌<ℤ◌, ◌+ℤ◌, ◌*ℤ◌, ◌↔◌, IsTrue, IfSome, unsigned_abs};
 ghost use Rattle.std.specs.Bool.{OnTrue, OnFalse};
+ghost use Rattle.plane_terms.specs.HalfPlane.{Says};
 ghost use Rattle.cell_laws.specs.Bounds.{Above, Allows, either};
 ghost use Rattle.convex_cell.specs.Range.{AllowsLimit, IsLimit, IsRange, InRange};
+
+use grid_plane::Op;
 
 /// A bound on t: `m*t + k` is above 0, or at least 0.
 #[derive(Clone, Copy)]
@@ -107,6 +110,24 @@ impl Range {
             return;
         }
         self.none = true;
+    }
+
+    /// Leaves where `m*t + k` is as the test asks. A line cuts on both sides.
+    pub(crate) fn cut_to(&mut self, op: Op, m: i128, k: i128)
+        requires fits { IsRange self.old }
+        requires m_fits { unsigned_abs m ≤ 2 ^ 47 }
+        requires k_fits { unsigned_abs k ≤ 2 ^ 70 }
+        ensures fits { IsRange self.new }
+        ensures both { (t : ℤ) → (w : ℕ) → 0 < w → (InRange self.new t w ↔ (InRange self.old t w × Says op (m *ℤ t +ℤ k *ℤ pos w))) }
+    {
+        match op {
+            Op::Over => self.cut(m, k, true),
+            Op::AtLeast => self.cut(m, k, false),
+            Op::Zero => {
+                self.cut(m, k, false);
+                self.cut(-m, -k, false);
+            }
+        }
     }
 
     pub fn is_none(&self) -> bool
