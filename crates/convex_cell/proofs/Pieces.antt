@@ -7,7 +7,7 @@ use Rattle.std.proofs.lemmas.Int.{ints, int_max_is, int_min_is}
 use Rattle.std.proofs.lemmas.List.{take-append-drop, take-append-le, length-take, length-append}
 use Rattle.std.proofs.lemmas.List.Elements.{All-from_recursion, recursion_from_All}
 use Rattle.plane_terms.specs.Point.{Point, InReach}
-use Rattle.plane_terms.specs.HalfPlane.{Holds}
+use Rattle.plane_terms.specs.HalfPlane.{HalfPlane, Holds}
 use Rattle.plane_terms.specs.Cell.{Cell, InCell, HasPoint, meet_of}
 use Rattle.number_laws.proofs.Order.{cases_order_ℤ}
 use Rattle.cell_laws.proofs.Lists.{all_append}
@@ -16,6 +16,7 @@ use Rattle.convex_cell.specs.declared.span.Span.{Span}
 use Rattle.convex_cell.specs.declared.bounds.Bounds.{Bounds}
 use Rattle.convex_cell.specs.Span.{After, Before, IsSpan, InSpan, InBounds, IsBoundsOf, IsBounded}
 use Rattle.convex_cell.specs.Needed.{SameCells}
+use Rattle.convex_cell.proofs.Both.{all_of_both}
 use Rattle.convex_cell.proofs.Steps.{after_at, before_from_after, scaled_neg, in_bounds}
 
 pub begins_more : {A : Type 0} (old mid new : List A) → take (length old) mid ≡ old → take (length mid) new ≡ mid → take (length old) new ≡ old
@@ -124,12 +125,6 @@ bounds_narrowed b o r c d e h i j x y f = record { x_fits = x; y_fits = y; x = �
         let a = (in_both c d e h p).0 m in
         f p (in_bounds b c i p a.0) (in_bounds o d j p a.1)
 
-pub both_held : (c d : Cell) (p : Point) → InCell c p → InCell d p → HasPoint (c ++ d)
-both_held c d p m n = (p, (all_append (λ h. Holds h p) c d).1 (m, n))
-
-pub some_left : (c d e : Cell) → HoldBoth c d e → HasPoint (c ++ d) → HasPoint e
-some_left c d e h m = (m.0, (in_both c d e h m.0).1 ((all_append (λ g. Holds g m.0) c d).0 m.1))
-
 pub bounds_same : (b : Bounds) (c d : Cell) → SameCells d c → IsBoundsOf b c → IsBoundsOf b d
 bounds_same b c d s i = record {
   x_fits = i.x_fits;
@@ -137,6 +132,24 @@ bounds_same b c d s i = record {
   x = λ p m. i.x p ((in_same d c s p).0 m);
   y = λ p m. i.y p ((in_same d c s p).0 m);
 }
+
+-- bounds of what is in both lists
+pub bounds_of_both : (b o r : Bounds) (c d : Cell) → IsBoundsOf b c → IsBoundsOf o d → IsSpan r.x → IsSpan r.y
+    → ((p : Point) → InBounds b p → InBounds o p → InBounds r p) → IsBoundsOf r (c ++ d)
+bounds_of_both b o r c d = bounds_narrowed b o r c d (c ++ d) (λ p. all_of_both (λ h. Holds h p) c d)
+
+pub bounds_of_same : (b : Bounds) (c n d : Cell) → SameCells n c → IsBoundsOf b (c ++ d) → IsBoundsOf b (n ++ d)
+bounds_of_same b c n d s = bounds_same b (c ++ d) (n ++ d) (λ p.
+    let P : HalfPlane → Type 0 = λ h. Holds h p in
+    let e = all_of_both P n d in
+    let f = all_of_both P c d in
+    (λ k. let a = e.0 k in f.1 ((s p).0 a.0, a.1), λ k. let a = f.0 k in e.1 ((s p).1 a.0, a.1)))
+
+pub both_held : (c d : Cell) (p : Point) → InCell c p → InCell d p → HasPoint (c ++ d)
+both_held c d p m n = (p, (all_append (λ h. Holds h p) c d).1 (m, n))
+
+pub some_left : (c d e : Cell) → HoldBoth c d e → HasPoint (c ++ d) → HasPoint e
+some_left c d e h m = (m.0, (in_both c d e h m.0).1 ((all_append (λ g. Holds g m.0) c d).0 m.1))
 
 -- ---- bounds of what is carved
 pub bounds_met : (b o r : Bounds) (c d e : Cell) → e ≡ meet_of c d → IsBoundsOf b c → IsBoundsOf o d → IsSpan r.x → IsSpan r.y

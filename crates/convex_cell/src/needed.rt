@@ -1,4 +1,4 @@
-ghost use Rattle.std.specs.Prelude.{◌≡◌, not, ◌↔◌, ℕ, ℤ, pos, ◌<ℤ◌, ◌≤ℤ◌, ◌*ℤ◌, ◌+ℤ◌, ◌≤◌, ◌<◌, ◌+◌, ◌^◌, unsigned_abs, length, take, All, IfSome, IfOk, OnOk};
+ghost use Rattle.std.specs.Prelude.{◌≡◌, not, ◌↔◌, ℕ, ℤ, pos, ◌<ℤ◌, ◌≤ℤ◌, ◌*ℤ◌, ◌+ℤ◌, ◌≤◌, ◌<◌, ◌+◌, ◌++◌, ◌^◌, unsigned_abs, length, take, All, IfSome, IfOk, OnOk};
 ghost use Rattle.std.specs.Bool.{OnTrue};
 ghost use Rattle.plane_terms.specs.Point.{Point};
 ghost use Rattle.plane_terms.specs.HalfPlane.{Holds, value_at};
@@ -7,7 +7,7 @@ ghost use Rattle.plane_terms.specs.Decide.{has_point};
 ghost use Rattle.convex_cell.specs.Span.{IsSpan, InSpan, IsBoundsOf};
 ghost use Rattle.convex_cell.specs.Needed.{FitsReach, Reaches, IsInFrame, SameCells, closed_of};
 
-use crate::bounds::{Bounds, are_apart, is_small, left_of, right_of};
+use crate::bounds::{Bounds, are_apart, common_bounds, is_small, left_of, right_of};
 use crate::cell::{Cell, is_empty_together};
 use crate::span::{Span, highest};
 use crate::trials::{is_in_both, middle_of_both};
@@ -182,14 +182,16 @@ pub(crate) fn needed_of(
     Ok(Some(framed(alloc, &cell.halves, x, y)?))
 }
 
-/// Whether no point is in both cells. Where half-planes with the points of the first are known, they are asked in its place.
-fn meet_is_empty(cell: &Cell, needed: &Option<Vec<Half>>, other: &Cell) -> bool
-    requires { IfSome needed.now (λ n. SameCells n.items cell.now) }
+/// Whether no point is in both cells, where these are bounds of what is. Where half-planes with the points of the first are known,
+/// they are asked in its place.
+fn meet_is_empty(cell: &Cell, needed: &Option<Vec<Half>>, other: &Cell, common: &Bounds) -> bool
+    requires common { IsBoundsOf common.now (cell.now ++ other.now) }
+    requires needed { IfSome needed.now (λ n. SameCells n.items cell.now) }
     ensures { result ≡ not (has_point (meet_of cell.now other.now)) }
 {
     match needed {
-        Some(needed) => is_empty_together(needed, &other.halves),
-        None => is_empty_together(&cell.halves, &other.halves),
+        Some(needed) => is_empty_together(needed, &other.halves, common),
+        None => is_empty_together(&cell.halves, &other.halves, common),
     }
 }
 
@@ -219,5 +221,5 @@ pub(crate) fn meets(
     if needed.is_none() {
         *needed = needed_of(alloc, cell, bounds)?;
     }
-    Ok(!meet_is_empty(cell, needed, other))
+    Ok(!meet_is_empty(cell, needed, other, &common_bounds(bounds, other_bounds)))
 }

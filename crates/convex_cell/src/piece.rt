@@ -60,7 +60,7 @@ fn is_clear_of(halves: &[Half], bounds: &Bounds, other: &Cell, other_bounds: &Bo
     if is_in_both(halves, &other.halves, middle_of_both(bounds, other_bounds)) {
         return false;
     }
-    is_empty_together(halves, &other.halves)
+    is_empty_together(halves, &other.halves, &common_bounds(bounds, other_bounds))
 }
 
 /// Adds the half-planes that say more than the bounds of those that are there, or all where the bounds are far.

@@ -1,10 +1,21 @@
 use Rattle.convex_cell.specs.Needed.{SameCells}
 use Rattle.convex_cell.proofs.Both.{meet_decided, meet_decided_by}
+use Rattle.convex_cell.proofs.Pieces.{bounds_of_same}
 use Rattle.convex_cell.proofs.needed.meet_is_empty.Goals as goal
+
+pub is_empty_together-requires : goal.is_empty_together-requires
+is_empty_together-requires c =
+    let same : SameCells c.deref.result.now c.args.cell.now = rw c.deref.ensures.value (rw c.in-Some.is at c.requires.needed) in
+    rw (c.deref-in-Some.ensures.value, c.other.view_is) (bounds_of_same c.args.common.now c.args.cell.now c.deref.result.now
+    c.args.other.now same c.requires.common)
+
+pub is_empty_together-requires-in-None : goal.is_empty_together-requires-in-None
+is_empty_together-requires-in-None c =
+    rw (c.deref-in-None.ensures.value, c.deref-in-None-2.ensures.value, c.cell.view_is, c.other.view_is) c.requires.common
 
 pub returns-in-Some : goal.returns-in-Some
 returns-in-Some c =
-    let same : SameCells c.deref.result.now c.args.cell.now = rw c.deref.ensures.value (rw c.in-Some.is at c.requires) in
+    let same : SameCells c.deref.result.now c.args.cell.now = rw c.deref.ensures.value (rw c.in-Some.is at c.requires.needed) in
     rw (← c.other.view_is, ← c.deref-in-Some.ensures.value) (meet_decided_by c.is_empty_together.result c.deref.result.now
     c.args.cell.now c.deref-in-Some.result.now same c.is_empty_together.ensures.empty c.is_empty_together.ensures.point)
 

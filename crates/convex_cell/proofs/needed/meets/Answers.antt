@@ -2,6 +2,7 @@ use Rattle.std.proofs.Common.{◌++◌, sym}
 use Rattle.plane_terms.specs.Cell.{Cell, HasPoint, meet_of}
 use Rattle.cell_laws.proofs.Decision.{has_point-true}
 use Rattle.convex_cell.proofs.Both.{meet_has}
+use Rattle.convex_cell.proofs.Pieces.{bounds_of_both}
 use Rattle.convex_cell.proofs.Steps.{apart}
 use Rattle.convex_cell.proofs.needed.meets.Goals as goal
 
@@ -16,3 +17,9 @@ returns-then-is_in_both-clause-meets c =
     let some : HasPoint (own ++ other) = rw (← c.cell.view_is, ← c.other.view_is, ← c.deref.ensures.value, ← c.deref-2.ensures.value)
     c.if-is_in_both.ensures in
     sym ((has_point-true (meet_of own other)).1 ((meet_has own other).1 some))
+
+pub meet_is_empty-requires-clause-common : goal.meet_is_empty-requires-clause-common
+meet_is_empty-requires-clause-common c =
+    let e = c.common_bounds.ensures in
+    bounds_of_both c.args.bounds.now c.args.other_bounds.now c.common_bounds.result c.args.cell.now c.args.other.now c.requires.cell
+    c.requires.other e.x_fits e.y_fits e.sound
