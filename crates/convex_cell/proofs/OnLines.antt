@@ -1,6 +1,6 @@
 -- What half-planes say on a line.
-use Rattle.std.proofs.Common.{◌≡◌, false, ◌↔◌, ℕ, ◌*◌, ◌<◌, ◌≤◌, ◌^◌, ℤ, pos, ◌+ℤ◌, ◌-ℤ◌, ◌*ℤ◌, neg_ℤ, ◌<ℤ◌, arith, length, get_or, refl, sym, subst, unsigned_abs, ◌∙◌}
-use Rattle.std.specs.Int.{w64, w128}
+use Rattle.std.proofs.Common.{◌≡◌, ◌↔◌, ℕ, ◌*◌, ◌<◌, ◌≤◌, ◌^◌, ℤ, pos, ◌+ℤ◌, ◌-ℤ◌, ◌*ℤ◌, neg_ℤ, ◌<ℤ◌, arith, length, get_or, sym, subst, unsigned_abs, ◌∙◌}
+use Rattle.std.specs.Int.{w64}
 use Rattle.std.proofs.lemmas.Int.{ints}
 use Rattle.std.proofs.lemmas.List.Elements.{All-from_recursion, All-get_or}
 use Rattle.std.proofs.Math.Nat.{mul-pos}
@@ -13,8 +13,6 @@ use Rattle.plane_terms.specs.declared.op.Op.{Op}
 use Rattle.plane_terms.specs.declared.op.Op.TheVariants.{Over, AtLeast, Zero}
 use Rattle.number_laws.proofs.Ring.{num, neg, ◌⊕◌, ◌⊖◌, ◌⊗◌, same_by}
 use Rattle.number_laws.proofs.Order.{product_over, product_at_least, over_unscaled, least_unscaled, zero_unscaled, natural}
-use Rattle.cell_laws.specs.Bounds.{Above, Allows}
-use Rattle.cell_laws.proofs.Elimination.{zero_both}
 use Rattle.convex_cell.specs.declared.direction.Direction.{Direction}
 use Rattle.convex_cell.specs.Seen.{seen, cell_seen}
 use Rattle.convex_cell.specs.Line.{IsLineAcross, SaysOn}
@@ -126,31 +124,6 @@ difference_fits r a b c d m n h g i j e =
   where
     small : (p q : ℤ) (k : ℕ) → unsigned_abs p ≤ k → unsigned_abs q ≤ k → unsigned_abs (p -ℤ q) ≤ 2 * k
     small p q k h g = omega (arith, ints)
-
-pub turned_limit : (k : ℤ) → unsigned_abs k ≤ 2 ^ 118 → to_z w128 (of_z w128 (pos 0 -ℤ to_z w128 (of_z w128 k))) ≡ neg_ℤ k
-turned_limit k h = omega (arith, ints)
-
--- a line cuts on both sides
-pub cut_both : (o : Op) (m k m1 k1 m2 k2 t : ℤ) (w : ℕ) (R M N : Type 0) → o ≡ Zero → m1 ≡ m → k1 ≡ k → m2 ≡ neg_ℤ m → k2 ≡ neg_ℤ k
-    → (M ↔ (R × Allows m1 k1 false t w)) → (N ↔ (M × Allows m2 k2 false t w)) → N ↔ (R × Says o (m *ℤ t +ℤ k *ℤ pos w))
-cut_both o m k m1 k1 m2 k2 t w R M N e f g h i first second =
-    let v = m *ℤ t +ℤ k *ℤ pos w in
-    let above : m1 *ℤ t +ℤ k1 *ℤ pos w ≡ v = rw (f, g) refl in
-    let below : m2 *ℤ t +ℤ k2 *ℤ pos w ≡ neg_ℤ v = rw (h, i) (same_by (neg (num m) ⊗ num t ⊕ neg (num k) ⊗ num (pos w))
-    (neg (num m ⊗ num t ⊕ num k ⊗ num (pos w))) (omega arith)) in (
-      λ n. let a = second.0 n in let b = first.0 a.0 in (
-        b.0,
-        subst (λ o. Says o v) (sym e) (zero_both v (subst (Above false) above b.1) (subst (Above false) below a.1)),
-      ),
-      λ n. let z = subst (λ o. Says o v) e n.1 in
-          second.1 (first.1 (n.0, subst (Above false) (sym above) (zero_above v z)), subst (Above false) (sym below) (zero_below v z)),
-    )
-  where
-    zero_above : (v : ℤ) → v ≡ pos 0 → Above false v
-    zero_above v h = omega (arith, ints)
-
-    zero_below : (v : ℤ) → v ≡ pos 0 → Above false (neg_ℤ v)
-    zero_below v h = omega (arith, ints)
 
 -- a cut by the numbers of a half-plane on a line
 pub said_on : (l h : HalfPlane) (o : Op) (m k m1 k1 t : ℤ) (w : ℕ) (R N : Type 0) → o ≡ h.op → m1 ≡ m → k1 ≡ k

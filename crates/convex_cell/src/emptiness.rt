@@ -4,8 +4,8 @@ ghost use Rattle.convex_cell.specs.Span.{IsBoundsOf};
 
 use crate::bounds::{Bounds, are_apart};
 use crate::direction::Direction;
+use crate::line::shadow_of;
 use crate::opposed::has_opposed;
-use crate::pairs::range_of;
 use crate::trials::{is_in_both, middle_of_both};
 use grid_plane::Half;
 
@@ -31,5 +31,5 @@ pub(crate) fn is_empty_within(halves: &[Half], bounds: &Bounds) -> bool
     if has_opposed(halves) {
         return true;
     }
-    range_of(halves, Direction::East).is_none()
+    shadow_of(halves, Direction::East).is_none()
 }

@@ -7,7 +7,7 @@ ghost use Rattle.convex_cell.specs.Seen.{seen, PairsSeen};
 use crate::direction::Direction;
 use crate::edge::{Edge, high_edge, low_edge};
 use crate::range::Range;
-use grid_plane::{Half, Op};
+use grid_plane::Half;
 
 fn either(s: bool, r: bool) -> bool
     ensures { result ≡ either s r }
@@ -43,16 +43,7 @@ fn cut_by_flat(range: &mut Range, half: &Half)
     if half.b() != 0 {
         return;
     }
-    let a = i128::from(half.a());
-    let c = i128::from(half.c());
-    match half.op() {
-        Op::Over => range.cut(a, c, true),
-        Op::AtLeast => range.cut(a, c, false),
-        Op::Zero => {
-            range.cut(a, c, false);
-            range.cut(-a, -c, false);
-        }
-    }
+    range.cut_to(half.op(), i128::from(half.a()), i128::from(half.c()));
 }
 
 fn cut_by_pair(range: &mut Range, low: Edge, high: Edge)

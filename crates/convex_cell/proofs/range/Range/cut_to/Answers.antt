@@ -1,6 +1,6 @@
 use Rattle.std.proofs.Common.{arith}
 use Rattle.convex_cell.proofs.Ranges.{limit_back}
-use Rattle.convex_cell.proofs.OnLines.{cut_both, turned_limit}
+use Rattle.convex_cell.proofs.PairCuts.{cut_both, turned_limit}
 use Rattle.convex_cell.proofs.range.Range.cut_to.Goals as goal
 
 pub returns-in-Zero-clause-both : goal.returns-in-Zero-clause-both
