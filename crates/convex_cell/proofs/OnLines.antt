@@ -13,6 +13,7 @@ use Rattle.plane_terms.specs.declared.op.Op.{Op}
 use Rattle.plane_terms.specs.declared.op.Op.TheVariants.{Over, AtLeast, Zero}
 use Rattle.number_laws.proofs.Ring.{num, neg, ◌⊕◌, ◌⊖◌, ◌⊗◌, same_by}
 use Rattle.number_laws.proofs.Order.{product_over, product_at_least, over_unscaled, least_unscaled, zero_unscaled, natural}
+use Rattle.cell_laws.proofs.Outside.{turned_value}
 use Rattle.convex_cell.specs.declared.direction.Direction.{Direction}
 use Rattle.convex_cell.specs.Seen.{seen, cell_seen}
 use Rattle.convex_cell.specs.Line.{IsLineAcross, SaysOn}
@@ -84,13 +85,9 @@ over_line l t w p r =
     }
 
 -- ---- the code
-turned_value : (a b c x y w : ℤ) → neg_ℤ a *ℤ x +ℤ neg_ℤ b *ℤ y +ℤ neg_ℤ c *ℤ w ≡ neg_ℤ (a *ℤ x +ℤ b *ℤ y +ℤ c *ℤ w)
-turned_value a b c x y w = same_by (neg (num a) ⊗ num x ⊕ neg (num b) ⊗ num y ⊕ neg (num c) ⊗ num w)
-    (neg (num a ⊗ num x ⊕ num b ⊗ num y ⊕ num c ⊗ num w)) (omega arith)
-
 -- a line holds turned round too
 pub turned_line : (l : HalfPlane) (q : Point) → l.op ≡ Zero → Holds l q → Holds (turned l Zero) q
-turned_line l q e h = turned_value l.a l.b l.c q.x q.y (pos q.w) ∙ still (value_at l q) (subst (λ o. Says o (value_at l q)) e h)
+turned_line l q e h = turned_value l Zero q ∙ still (value_at l q) (subst (λ o. Says o (value_at l q)) e h)
   where
     still : (v : ℤ) → v ≡ pos 0 → neg_ℤ v ≡ pos 0
     still v h = omega (arith, ints)
@@ -105,7 +102,8 @@ from_one d hs i h l lt e on q m =
 -- the difference of two products, as the code adds them
 pub difference_read : (r a b c d a1 b1 c1 d1 : ℤ) → unsigned_abs a ≤ 2 ^ 46 → unsigned_abs b ≤ 2 ^ 23 → unsigned_abs c ≤ 2 ^ 46
     → unsigned_abs d ≤ 2 ^ 23 → a1 ≡ a → b1 ≡ b → c1 ≡ c → d1 ≡ d
-    → r ≡ to_z w64 (of_z w64 a1) *ℤ to_z w64 (of_z w64 b1) +ℤ to_z w64 (of_z w64 (pos 0 -ℤ to_z w64 (of_z w64 c1))) *ℤ to_z w64 (of_z w64 d1)
+    → r ≡ to_z w64 (of_z w64 a1) *ℤ to_z w64 (of_z w64 b1)
+    +ℤ to_z w64 (of_z w64 (pos 0 -ℤ to_z w64 (of_z w64 c1))) *ℤ to_z w64 (of_z w64 d1)
     → r ≡ a *ℤ b -ℤ c *ℤ d
 difference_read r a b c d a1 b1 c1 d1 f g h i j k l m e =
     let x : to_z w64 (of_z w64 a1) ≡ a = omega (arith, ints) in

@@ -62,7 +62,8 @@ shadow_on_line d a b l r₀ r₁ r₂ across on all first second = record {
     said : (q : Point) → InCell (cell_seen d (a ++ b)) q → All (Said q.x q.w) (a ++ b)
     said q m =
         let h = All-unmap (λ g. Holds g q) (seen d) (a ++ b) (All-from_recursion (λ g. Holds g q) (cell_seen d (a ++ b)) m) in
-        let k = on q (recursion_from_All (λ g. Holds g q) (cell_seen d a) (All-map (λ g. Holds g q) (seen d) a ((all_of_both (λ g. Holds (seen d g) q) a b).0 h).0)) in
+        let held_first = ((all_of_both (λ g. Holds (seen d g) q) a b).0 h).0 in
+        let k = on q (recursion_from_All (λ g. Holds g q) (cell_seen d a) (All-map (λ g. Holds g q) (seen d) a held_first)) in
         All-weaker (λ g. Holds (seen d g) q) (Said q.x q.w) (λ g. says_on l (seen d g) q across k) (a ++ b) h
 
     held : (t : ℤ) (w : ℕ) → (o : OnLine l t w) → All (Said t w) (a ++ b) → InCell (cell_seen d (a ++ b)) o.at

@@ -3,7 +3,9 @@ use Rattle.convex_cell.proofs.Ranges.{limit_back}
 use Rattle.convex_cell.proofs.OnLines.{difference_read, difference_fits}
 use Rattle.convex_cell.proofs.line.constant_on.Goals as goal
 
-value : (c : goal.After-sum_of_products) → c.sum_of_products.result ≡ c.args.half.now.c *ℤ c.args.line.now.b -ℤ c.args.line.now.c *ℤ c.args.half.now.b
+-- what the call gives
+value : (c : goal.After-sum_of_products) → c.sum_of_products.result
+    ≡ c.args.half.now.c *ℤ c.args.line.now.b -ℤ c.args.line.now.c *ℤ c.args.half.now.b
 value c =
     let h = c.c.ensures.valid in
     let l = c.b.ensures.valid in
@@ -14,7 +16,8 @@ fits : (c : goal.After-sum_of_products) → unsigned_abs c.sum_of_products.resul
 fits c =
     let h = c.c.ensures.valid in
     let l = c.b.ensures.valid in
-    difference_fits _ c.args.half.now.c c.args.line.now.b c.args.line.now.c c.args.half.now.b (2 ^ 46) (2 ^ 23) h.c_fits l.b_fits l.c_fits h.b_fits (value c)
+    difference_fits _ c.args.half.now.c c.args.line.now.b c.args.line.now.c c.args.half.now.b
+    (2 ^ 46) (2 ^ 23) h.c_fits l.b_fits l.c_fits h.b_fits (value c)
 
 pub returns-clause-value : goal.returns-clause-value
 returns-clause-value c = limit_back c.sum_of_products.result (omega (arith, fits c)) ∙ value c
