@@ -1,13 +1,14 @@
 -- A frame of whole numbers, and what holds within it.
-use Rattle.std.proofs.Common.{◌≡◌, ◌↔◌, ℕ, ◌<◌, ℤ, pos, negsuc, neg_ℤ, ◌+ℤ◌, ◌*ℤ◌, ◌≤ℤ◌, ◌<ℤ◌, List, [], ◌∷◌, arith, sym, subst}
+use Rattle.std.proofs.Common.{◌≡◌, ◌↔◌, ℕ, ℤ, pos, negsuc, neg_ℤ, ◌+ℤ◌, ◌*ℤ◌, ◌≤ℤ◌, ◌<ℤ◌, List, [], ◌∷◌, arith, ap, sym, subst, ◌∙◌, ◌≤◌, ◌^◌, ◌-ℤ◌, unsigned_abs, to_z, of_z, w64}
+use lib.IntN.{neg_ℤ-neg_ℤ}
 use Rattle.std.specs.List.{All}
 use Rattle.std.proofs.lemmas.Int.{ints}
 use Rattle.std.proofs.lemmas.List.Elements.{All-from_recursion, recursion_from_All}
 use Rattle.plane_terms.specs.Point.{Point}
 use Rattle.plane_terms.specs.HalfPlane.{HalfPlane, Holds, Says, value_at, turned}
 use Rattle.plane_terms.specs.declared.op.Op.TheVariants.{Over, AtLeast}
-use Rattle.number_laws.proofs.Ring.{num, neg, ◌⊕◌, ◌⊗◌, le_by, lt_by, le_read, lt_read}
-use Rattle.number_laws.proofs.Order.{product_over}
+use Rattle.number_laws.proofs.Ring.{num, neg, ◌⊕◌, ◌⊗◌, le_by, le_read}
+use Rattle.number_laws.proofs.Order.{product_over, product_at_least}
 use Rattle.cell_laws.proofs.Outside.{turned_value}
 use Rattle.convex_cell.specs.declared.needed.Reach.{Reach}
 use Rattle.convex_cell.specs.Needed.{IsInFrame, closed_of}
@@ -75,31 +76,44 @@ sides_hold x y p =
       ),
     )
 
--- ---- a sum that is below 0 at its greatest
-sum_below : (x y z u v : ℤ) (w : ℕ) → 0 < w → (x +ℤ z) ≤ℤ (u *ℤ pos w) → (y +ℤ pos 0 *ℤ pos w) ≤ℤ (v *ℤ pos w) → (u +ℤ v) <ℤ pos 0
-    → (x +ℤ y +ℤ z) <ℤ pos 0
-sum_below x y z u v w p h k n =
-    let s : pos 0 <ℤ (neg_ℤ (u +ℤ v) *ℤ pos w) = product_over (neg_ℤ (u +ℤ v)) (pos w) (omega (arith, ints)) (omega (arith, ints)) in
-    lt_by (num x ⊕ num y ⊕ num z) (num (pos 0)) (omega (
-      arith,
-      le_read (num x ⊕ num z) (num u ⊗ num (pos w)) h,
-      le_read (num y ⊕ num (pos 0) ⊗ num (pos w)) (num v ⊗ num (pos w)) k,
-      lt_read (num (pos 0)) (neg (num u ⊕ num v) ⊗ num (pos w)) s,
-    ))
+-- ---- the least that a half-plane asks about
+sum_upto : (x y z u v : ℤ) (w : ℕ) → (x +ℤ z) ≤ℤ (u *ℤ pos w) → (y +ℤ pos 0 *ℤ pos w) ≤ℤ (v *ℤ pos w)
+    → (neg_ℤ (u +ℤ v) *ℤ pos w) ≤ℤ neg_ℤ (x +ℤ y +ℤ z)
+sum_upto x y z u v w h k = le_by (neg (num u ⊕ num v) ⊗ num (pos w)) (neg (num x ⊕ num y ⊕ num z)) (omega (
+  arith,
+  le_read (num x ⊕ num z) (num u ⊗ num (pos w)) h,
+  le_read (num y ⊕ num (pos 0) ⊗ num (pos w)) (num v ⊗ num (pos w)) k,
+))
 
-pub above_within : (h : HalfPlane) (p : Point) (u v : ℤ)
+pub lowest_at : (h : HalfPlane) (p : Point) (u v : ℤ)
     → ((turned h Over).a *ℤ p.x +ℤ (turned h Over).c *ℤ pos p.w) ≤ℤ (u *ℤ pos p.w)
-    → ((turned h Over).b *ℤ p.y +ℤ pos 0 *ℤ pos p.w) ≤ℤ (v *ℤ pos p.w) → (u +ℤ v) <ℤ pos 0 → pos 0 <ℤ value_at h p
-above_within h p u v x y n =
+    → ((turned h Over).b *ℤ p.y +ℤ pos 0 *ℤ pos p.w) ≤ℤ (v *ℤ pos p.w) → (neg_ℤ (u +ℤ v) *ℤ pos p.w) ≤ℤ value_at h p
+lowest_at h p u v x y =
     let g = turned h Over in
-    let below : value_at g p <ℤ pos 0 = sum_below (g.a *ℤ p.x) (g.b *ℤ p.y) (g.c *ℤ pos p.w) u v p.w p.positive x y n in
-    flip (value_at h p) (subst (λ z. z <ℤ pos 0) (turned_value h Over p) below)
-  where
-    flip : (v : ℤ) → neg_ℤ v <ℤ pos 0 → pos 0 <ℤ v
-    flip v h = omega (arith, ints)
+    let twice : neg_ℤ (value_at g p) ≡ value_at h p = ap neg_ℤ (turned_value h Over p) ∙ neg_ℤ-neg_ℤ (value_at h p) in
+    subst (λ z. (neg_ℤ (u +ℤ v) *ℤ pos p.w) ≤ℤ z) twice (sum_upto (g.a *ℤ p.x) (g.b *ℤ p.y) (g.c *ℤ pos p.w) u v p.w x y)
 
-pub at_least_holds : (h : HalfPlane) (p : Point) → h.op ≡ AtLeast → pos 0 <ℤ value_at h p → Holds h p
-at_least_holds h p e k = subst (λ o. Says o (value_at h p)) (sym e) (least _ k)
+pub lowest_back : (u v : ℤ) → unsigned_abs u ≤ 2 ^ 47 → unsigned_abs v ≤ 2 ^ 47
+    → to_z w64 (of_z w64 (pos 0 -ℤ to_z w64 (of_z w64 (to_z w64 (of_z w64 u) +ℤ to_z w64 (of_z w64 v))))) ≡ neg_ℤ (u +ℤ v)
+lowest_back u v h k =
+    let i : to_z w64 (of_z w64 u) ≡ u = omega (arith, ints) in
+    let j : to_z w64 (of_z w64 v) ≡ v = omega (arith, ints) in
+    let l : to_z w64 (of_z w64 (u +ℤ v)) ≡ u +ℤ v = omega (arith, ints) in
+    rw (i, j, l) (omega (arith, ints))
+
+-- where the least is above 0, or at least 0, so is all
+pub over_holds : (h : HalfPlane) (p : Point) (l : ℤ) → h.op ≡ Over → (l *ℤ pos p.w) ≤ℤ value_at h p → pos 0 <ℤ l → Holds h p
+over_holds h p l e k n =
+    let s : pos 0 <ℤ (l *ℤ pos p.w) = product_over l (pos p.w) n (omega (arith, ints, p.positive)) in
+    subst (λ o. Says o (value_at h p)) (sym e) (through _ _ s k)
   where
-    least : (v : ℤ) → pos 0 <ℤ v → pos 0 ≤ℤ v
-    least v h = omega (arith, ints)
+    through : (a b : ℤ) → pos 0 <ℤ a → a ≤ℤ b → pos 0 <ℤ b
+    through a b h k = omega (arith, ints)
+
+pub at_least_holds : (h : HalfPlane) (p : Point) (l : ℤ) → h.op ≡ AtLeast → (l *ℤ pos p.w) ≤ℤ value_at h p → pos 0 ≤ℤ l → Holds h p
+at_least_holds h p l e k n =
+    let s : pos 0 ≤ℤ (l *ℤ pos p.w) = product_at_least l (pos p.w) n (omega (arith, ints)) in
+    subst (λ o. Says o (value_at h p)) (sym e) (through _ _ s k)
+  where
+    through : (a b : ℤ) → pos 0 ≤ℤ a → a ≤ℤ b → pos 0 ≤ℤ b
+    through a b h k = omega (arith, ints)

@@ -41,27 +41,16 @@ pub(crate) fn reach_of(span: Span) -> Option<Reach>
     Some(Reach { from, to })
 }
 
-fn is_below(first: i64, second: i64) -> bool
-    requires first_fits { unsigned_abs first ≤ 2 ^ 47 }
-    requires second_fits { unsigned_abs second ≤ 2 ^ 47 }
-    ensures { OnTrue result ((first +ℤ second) <ℤ pos 0) }
-{
-    first + second < 0
-}
-
-/// Whether the half-plane is above 0 wherever the frame is: turned round, it is below 0 at each corner.
-fn is_above(half: &Half, x: Reach, y: Reach) -> bool
+/// What the half-plane asks about is nowhere less than this within the frame: it is least at a corner, where it is greatest turned round.
+fn lowest_within(half: &Half, x: Reach, y: Reach) -> i64
     requires x { FitsReach x }
     requires y { FitsReach y }
-    ensures { OnTrue result ((p : Point) → IsInFrame x y p → pos 0 <ℤ value_at half.now p) }
+    ensures { (p : Point) → IsInFrame x y p → (result *ℤ pos p.w) ≤ℤ value_at half.now p }
 {
     let turned = half.turned(Op::Over);
     let along = highest(turned.a(), turned.c(), x.from, x.to);
     let up = highest(turned.b(), 0, y.from, y.to);
-    if is_below(along, up) {
-        return true;
-    }
-    false
+    -(along + up)
 }
 
 /// Whether the half-plane holds wherever the frame does, as its corners show.
@@ -70,9 +59,10 @@ fn holds_within(half: &Half, x: Reach, y: Reach) -> bool
     requires y { FitsReach y }
     ensures { OnTrue result ((p : Point) → IsInFrame x y p → Holds half.now p) }
 {
+    let lowest = lowest_within(half, x, y);
     match half.op() {
-        Op::Over => is_above(half, x, y),
-        Op::AtLeast => is_above(half, x, y),
+        Op::Over => lowest > 0,
+        Op::AtLeast => lowest >= 0,
         Op::Zero => false,
     }
 }
