@@ -68,12 +68,12 @@ fn all_hold_at(halves: &[Half], at: Middle) -> bool
     true
 }
 
-/// Whether the point is in the cells of both lists.
+/// Whether the point is in the cells of both lists. The second is asked first: mostly it is the shorter one.
 pub(crate) fn is_in_both(first: &[Half], second: &[Half], at: Middle) -> bool
     ensures { OnTrue result (HasPoint (first.now ++ second.now)) }
 {
-    if !all_hold_at(first, at) {
+    if !all_hold_at(second, at) {
         return false;
     }
-    all_hold_at(second, at)
+    all_hold_at(first, at)
 }
