@@ -1,23 +1,18 @@
 -- The whole numbers round a range.
-use Rattle.std.proofs.Common.{◌≡◌, ◌↔◌, ℕ, ◌*◌, ◌/◌, ◌^◌, ◌∙◌, ◌<◌, List, [], ◌∷◌, ℤ, pos, negsuc, ◌+ℤ◌, ◌-ℤ◌, ◌*ℤ◌, neg_ℤ, ◌≤ℤ◌, ◌<ℤ◌, ◌≤◌, Bool, true, false, unsigned_abs, arith, sym, subst, Option, Some, None, IfSome}
+use Rattle.std.proofs.Common.{◌≡◌, ℕ, ◌/◌, ◌^◌, ◌∙◌, ◌<◌, [], ◌∷◌, ℤ, pos, negsuc, ◌+ℤ◌, ◌-ℤ◌, ◌*ℤ◌, neg_ℤ, ◌≤ℤ◌, ◌<ℤ◌, ◌≤◌, Bool, true, false, unsigned_abs, arith, sym, subst, Option, Some, None, IfSome}
 use Rattle.std.specs.Int.{int_div_euclid, w128}
 use Rattle.std.specs.Prelude.{FitsSigned}
 use mir.Val.{to_z, of_z}
-use lib.Signed.{mag, clash_ℤ}
-use Rattle.std.specs.List.{All}
+use lib.Signed.{mag}
 use Rattle.std.proofs.lemmas.Int.{ints, by_lt_z}
-use Rattle.std.proofs.lemmas.List.Elements.{All-weaker, recursion_from_All}
 use Rattle.plane_terms.specs.Point.{Point}
-use Rattle.plane_terms.specs.HalfPlane.{HalfPlane}
-use Rattle.plane_terms.specs.Cell.{InCell, HasPoint}
+use Rattle.plane_terms.specs.Cell.{Cell, InCell, HasPoint}
 use Rattle.plane_terms.specs.Decide.{Bound}
-use Rattle.number_laws.proofs.Ring.{num, neg, ◌⊕◌, ◌⊖◌, ◌⊗◌, le_by, lt_by, le_read, lt_read}
-use Rattle.number_laws.proofs.Order.{product_at_least, product_over}
-use Rattle.cell_laws.specs.Bounds.{Allows, either, FlatHolds, PairsHold}
+use Rattle.number_laws.proofs.Ring.{num, neg, ◌⊕◌, ◌⊖◌, ◌⊗◌, le_by, lt_by, le_read, lt_read, same_read}
+use Rattle.number_laws.proofs.Order.{product_at_least, scaled_le, lt_scaled}
+use Rattle.cell_laws.specs.Bounds.{Allows, either}
 use Rattle.cell_laws.proofs.Lines.{Above-weak, Above-unscaled, Above-any, compatible_at}
 use Rattle.cell_laws.proofs.LineLists.{IsRising, AllowedBy, AreCompatible, helly}
-use Rattle.cell_laws.proofs.Elimination.{over, OverAbscissa, PairHolds, eliminated}
-use Rattle.cell_laws.proofs.Empty.{all_pairs, by_recursion}
 use Rattle.convex_cell.specs.declared.range.Limit.{Limit}
 use Rattle.convex_cell.specs.declared.range.Range.{Range}
 use Rattle.convex_cell.specs.Range.{InRange, IsRange, IsLimit, AllowsLimit}
@@ -112,15 +107,10 @@ pub floor_code_above : (k m r : ℤ) → FitsSigned w128 k → FitsSigned w128 m
     → r ≡ int_div_euclid (to_z w128 (of_z w128 k)) (to_z w128 (of_z w128 m)) → k <ℤ ((to_z w128 (of_z w128 r) +ℤ pos 1) *ℤ m)
 floor_code_above k m r f g h p e = rw (floor_read k m r f g h e) (floor_at k m p).1
 
--- a point of the cell over each number of the range
-over_number : (hs : List HalfPlane) (r : Range)
-    → ((t : ℤ) → (w : ℕ) → 0 < w → (InRange r t w ↔ All (λ h. FlatHolds h t w × PairsHold hs h t w) hs)) → (t : ℤ) (w : ℕ) (p : 0 < w)
-    → InRange r t w → OverAbscissa hs t w p
-over_number hs r both x w p s =
-    let all = (both x w p).0 s in
-    let flat = All-weaker (λ h. FlatHolds h x w × PairsHold hs h x w) (λ h. FlatHolds h x w) (λ h k. k.0) hs all in
-    let pairs = All-weaker (λ h. FlatHolds h x w × PairsHold hs h x w) (PairHolds hs x w) (λ h k. by_recursion hs h x w k.1) hs all in
-    eliminated hs x w p (recursion_from_All (λ h. FlatHolds h x w) hs flat) (recursion_from_All (PairHolds hs x w) hs pairs)
+-- the numbers of r are those that f takes at the points of c
+pub record IsRangeOf (f : Point → ℤ) (c : Cell) (r : Range) : Type 0 where
+  pub within : (p : Point) → InCell c p → InRange r (f p) p.w
+  pub taken : (t : ℤ) → (w : ℕ) → 0 < w → InRange r t w → (p : Point) × InCell c p × (f p *ℤ pos w ≡ t *ℤ pos p.w)
 
 meets_high : (o : Option Limit) (low : Limit) (t : ℤ) (w : ℕ) → 0 < w → IsLimit low → IfSome o IsLimit → AllowsLimit t w low
     → IfSome o (AllowsLimit (neg_ℤ t) w) → IfSome o (λ u. AreCompatible (line low) (line u))
@@ -130,30 +120,35 @@ meets_high (Some h) low t w p v u a b = compatible_at low.m low.k h.m h.k low.st
 at_some : (P : Limit → Type 0) (o : Option Limit) (l : Limit) → o ≡ Some l → P l → IfSome o P
 at_some P o l e h = subst (λ (x : Option Limit). IfSome x P) (sym e) h
 
--- a number below g, over a point of the cell
-scaled_under : (t g : ℤ) (w d : ℕ) → 0 < d → t <ℤ (g *ℤ pos w) → (t *ℤ pos d) <ℤ (g *ℤ pos (w * d))
-scaled_under t g w d p h =
-    let s = product_over (g *ℤ pos w -ℤ t) (pos d) (omega (arith, ints)) (omega (arith, ints)) in
-    lt_by (num t ⊗ num (pos d)) (num g ⊗ num (pos (w * d))) (omega (
+-- no number of the range is below g, where f is nowhere
+none_under : (f : Point → ℤ) (c : Cell) (r : Range) → IsRangeOf f c r → (g : ℤ) → ((p : Point) → InCell c p → (g *ℤ pos p.w) ≤ℤ f p)
+    → (t : ℤ) (w : ℕ) → 0 < w → InRange r t w → ¬ (t <ℤ (g *ℤ pos w))
+none_under f c r of g all t w n i less =
+    let p = of.taken t w n i in
+    clash t g (f p.0) w p.0.w (lt_scaled t (g *ℤ pos w) p.0.w p.0.positive less)
+    (scaled_le (g *ℤ pos p.0.w) (f p.0) w (all p.0 p.1)) p.2
+  where
+    clash : (t g x : ℤ) (w d : ℕ) → (t *ℤ pos d) <ℤ ((g *ℤ pos w) *ℤ pos d) → ((g *ℤ pos d) *ℤ pos w) ≤ℤ (x *ℤ pos w)
+        → x *ℤ pos w ≡ t *ℤ pos d → ⊥
+    clash t g x w d h k e = omega (
       arith,
-      lt_read (num (pos 0))
-          ((num g ⊗ num (pos w) ⊖ num t) ⊗ num (pos d)) s,
-    ))
+      lt_read (num t ⊗ num (pos d)) (num g ⊗ num (pos w) ⊗ num (pos d)) h,
+      le_read (num g ⊗ num (pos d) ⊗ num (pos w)) (num x ⊗ num (pos w)) k,
+      same_read (num x ⊗ num (pos w)) (num t ⊗ num (pos d)) e,
+    )
 
--- no whole number above the rounded bound is below all points of the cell
-pub greatest_from : (hs : List HalfPlane) (r : Range) → ((t : ℤ) → (w : ℕ) → 0 < w
-    → (InRange r t w ↔ All (λ h. FlatHolds h t w × PairsHold hs h t w) hs)) → IsRange r → HasPoint hs → (low : Limit) → r.low ≡ Some low
-    → (q : ℤ) → neg_ℤ low.k <ℤ ((q +ℤ pos 1) *ℤ low.m) → (g : ℤ) → ((p : Point) → InCell hs p → (g *ℤ pos p.w) ≤ℤ p.x) → g ≤ℤ q
-greatest_from hs r both v some low e q above g all =
+-- no whole number above the rounded bound is below f at all points of the cell
+pub greatest_from : (f : Point → ℤ) (c : Cell) (r : Range) → IsRangeOf f c r → IsRange r → HasPoint c → (low : Limit) → r.low ≡ Some low
+    → (q : ℤ) → neg_ℤ low.k <ℤ ((q +ℤ pos 1) *ℤ low.m) → (g : ℤ) → ((p : Point) → InCell c p → (g *ℤ pos p.w) ≤ℤ f p) → g ≤ℤ q
+greatest_from f c r of v some low e q above g all =
     by_lt_z q g (λ less.
     let z = some.0 in
-    let i = (both z.x z.w z.positive).1 (all_pairs hs z some.1) in
+    let i = of.within z some.1 in
     let l = limit_at IsLimit r.low low e v.low in
-    let c = meets_high r.high low z.x z.w z.positive l v.high (limit_at (AllowsLimit z.x z.w) r.low low e i.low) i.high in
-    let n = number_under low r.high g l v.high c (raised low.k low.m q g l.rising less above) in
-    let o = over_number hs r both n.0 n.1 n.2 (record { some = i.some; low = at_some (AllowsLimit n.0 n.1) r.low low e n.3; high = n.4 }) in
-    let a = all (over n.0 n.1 n.2 o.y o.d o.positive) o.within in
-    absurd (clash_ℤ {a = n.0 *ℤ pos o.d} {b = g *ℤ pos (n.1 * o.d)} (scaled_under n.0 g n.1 o.d o.positive n.5) a)) (λ le. le)
+    let h = meets_high r.high low (f z) z.w z.positive l v.high (limit_at (AllowsLimit (f z) z.w) r.low low e i.low) i.high in
+    let n = number_under low r.high g l v.high h (raised low.k low.m q g l.rising less above) in
+    let in_range : InRange r n.0 n.1 = record { some = i.some; low = at_some (AllowsLimit n.0 n.1) r.low low e n.3; high = n.4 } in
+    absurd (none_under f c r of g all n.0 n.1 n.2 in_range n.5)) (λ le. le)
   where
     raised : (k m q g : ℤ) → pos 0 <ℤ m → q <ℤ g → neg_ℤ k <ℤ ((q +ℤ pos 1) *ℤ m) → neg_ℤ k <ℤ (g *ℤ m)
     raised k m q g p less h =
@@ -165,7 +160,7 @@ greatest_from hs r both v some low e q above g all =
               ((num g ⊖ (num q ⊕ num (pos 1))) ⊗ num m) d,
         ))
 
--- ---- a cell that is bounded from below has a low limit
+-- ---- where f is bounded from below, there is a low limit
 number_below : (high : Option Limit) (g : ℤ) → IfSome high IsLimit → (t : ℤ) × (w : ℕ) × (0 < w) × IfSome high (AllowsLimit (neg_ℤ t) w)
     × (t <ℤ (g *ℤ pos w))
 number_below None g v =
@@ -176,16 +171,15 @@ number_below (Some u) g v =
     let q = helly [] (line u ∷ under g ∷ []) tt ((s, (record { positive = omega (arith, ints) }, tt))) in
     (q.t, q.w, q.positive, q.above.0, is_under g q.t q.w q.above.1.0)
 
-pub low_known : (hs : List HalfPlane) (r : Range)
-    → ((t : ℤ) → (w : ℕ) → 0 < w → (InRange r t w ↔ All (λ h. FlatHolds h t w × PairsHold hs h t w) hs)) → IsRange r → HasPoint hs → (g : ℤ)
-    → ((p : Point) → InCell hs p → (g *ℤ pos p.w) ≤ℤ p.x) → ¬ (r.low ≡ None)
-low_known hs r both v some g all e =
-    let z = some.0 in
-    let i = (both z.x z.w z.positive).1 (all_pairs hs z some.1) in
+pub low_known : (f : Point → ℤ) (c : Cell) (r : Range) → IsRangeOf f c r → IsRange r → HasPoint c → (g : ℤ)
+    → ((p : Point) → InCell c p → (g *ℤ pos p.w) ≤ℤ f p) → ¬ (r.low ≡ None)
+low_known f c r of v some g all e =
     let n = number_below r.high g v.high in
-    let o = over_number hs r both n.0 n.1 n.2 (record { some = i.some; low = at_none (AllowsLimit n.0 n.1) r.low e; high = n.3 }) in
-    let a = all (over n.0 n.1 n.2 o.y o.d o.positive) o.within in
-    clash_ℤ {a = n.0 *ℤ pos o.d} {b = g *ℤ pos (n.1 * o.d)} (scaled_under n.0 g n.1 o.d o.positive n.4) a
+    none_under f c r of g all n.0 n.1 n.2 (record {
+      some = (of.within some.0 some.1).some;
+      low = at_none (AllowsLimit n.0 n.1) r.low e;
+      high = n.3;
+    }) n.4
   where
     at_none : (P : Limit → Type 0) (o : Option Limit) → o ≡ None → IfSome o P
     at_none P o e = subst (λ (x : Option Limit). IfSome x P) (sym e) tt

@@ -29,9 +29,7 @@ pub(crate) fn seen(direction: Direction, half: &Half) -> Half
 {
     match direction {
         Direction::East => *half,
-        Direction::West => half.reversed(),
         Direction::North => half.mirrored(),
-        Direction::South => half.mirrored().reversed(),
     }
 }
 
