@@ -19,7 +19,7 @@ use std::rc::Rc;
 /// Cells of so many features are kept, at most.
 const MOST_FEATURES: usize = 1_024;
 
-/// So many half-planes are kept in all, at most: 32 bytes each.
+/// So many half-planes are kept in all, at most: 16 bytes each.
 const MOST_HALVES: usize = 131_072;
 
 /// Cells of polygons by handle, each beside its segments. What was least recently used goes first where there is too much.

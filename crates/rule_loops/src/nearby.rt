@@ -11,7 +11,7 @@ use std::alloc::Global;
 use std::marker::Model;
 use std::rc::Rc;
 
-/// Polygons of so many cells are held at once, at most: 160 bytes each.
+/// Polygons of so many cells are held at once, at most: some 120 bytes each.
 const MOST_CELLS: usize = 262_144;
 
 /// And so many polygons, since each may take a call in the call for the one before it: some 400 bytes of the stack.
