@@ -1,4 +1,4 @@
-ghost use Rattle.std.specs.Prelude.{◌≡◌, IsSome, IfSome, ◌↔◌, neg_ℤ};
+ghost use Rattle.std.specs.Prelude.{◌≡◌, IsSome, IfSome, ◌↔◌};
 ghost use Rattle.plane_terms.specs.HalfPlane.{HalfPlane, IsHalfPlane, weak, turned};
 
 use plane_terms::Op;
@@ -152,19 +152,6 @@ impl Half {
         Half {
             a: self.b,
             b: self.a,
-            low: self.low,
-            high: self.high,
-            op: self.op,
-        }
-    }
-
-    /// x changes its sign.
-    pub fn reversed(&self) -> Half
-        ensures { result ≡ record self.now { a = neg_ℤ self.now.a } }
-    {
-        Half {
-            a: -self.a,
-            b: self.b,
             low: self.low,
             high: self.high,
             op: self.op,
