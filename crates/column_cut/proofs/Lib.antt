@@ -9,3 +9,4 @@ pub mod Fails
 pub mod Reached
 pub mod Stacks
 pub mod Apart
+pub mod Uprights

@@ -1,6 +1,7 @@
 ghost use Rattle.std.specs.Prelude.{◌≡◌, ◌++◌, ◌∷◌, [], ◌&&◌, cond, map, None, Some, OnOk, int_le};
+ghost use Rattle.std.specs.List.{filter};
 ghost use Rattle.plane_terms.specs.Columns.{is_covered, intervals, ordinates};
-ghost use Rattle.column_cut.specs.Covering.{covers};
+ghost use Rattle.column_cut.specs.Covering.{covers, is_upright};
 ghost use Rattle.column_cut.specs.Pieces.{stretch_cell};
 ghost use Rattle.column_cut.specs.Stretches.{AreStacked, stretches_of};
 
@@ -9,9 +10,22 @@ use crate::vertices::find_ordinates;
 use grid_plane::{NoMemory, Seg};
 
 fn is_upright_at(segment: &Seg, x: &Coordinate) -> bool
-    ensures { result ≡ (int_le segment.now.lo.x x.now && int_le x.now segment.now.lo.x && (int_le segment.now.hi.x x.now && int_le x.now segment.now.hi.x)) }
+    ensures { result ≡ is_upright x.now segment.now }
 {
     segment.lo().x() == x.value() && segment.hi().x() == x.value()
+}
+
+/// Leaves in the list the segments that stand on the wall.
+fn find_upright(upright: &mut Vec<Seg>, segments: &[Seg], x: &Coordinate) -> Result<(), NoMemory>
+    ensures { OnOk result (upright.new.items ≡ filter (is_upright x.now) segments.now) }
+{
+    upright.clear();
+    for segment in segments {
+        if is_upright_at(segment, x) {
+            upright.push(*segment)?;
+        }
+    }
+    Ok(())
 }
 
 fn covers(segment: &Seg, x: &Coordinate, low: &Coordinate, high: &Coordinate) -> bool
@@ -111,6 +125,7 @@ pub(crate) fn find_intervals(
     stretches: &mut Vec<Stretch>,
     vertices: &mut Vec<Coordinate>,
     values: &mut Vec<i32>,
+    upright: &mut Vec<Seg>,
     segments: &[Seg],
     x: &Coordinate,
 ) -> Result<(), NoMemory>
@@ -118,5 +133,6 @@ pub(crate) fn find_intervals(
     ensures stacked { OnOk result (AreStacked stretches.new.items) }
 {
     find_ordinates(vertices, values, segments, x)?;
-    find_between(stretches, segments, x, vertices)
+    find_upright(upright, segments, x)?;
+    find_between(stretches, upright, x, vertices)
 }

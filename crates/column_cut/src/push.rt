@@ -202,6 +202,7 @@ pub(crate) fn push_wall(
         &mut room.stretches,
         &mut room.ordinates,
         &mut room.values,
+        &mut room.upright,
         segments,
         x,
     )?;

@@ -13,6 +13,7 @@ pub(crate) struct WallRoom {
     pub(crate) halves: Vec<Half>,
     pub(crate) values: Vec<i32>,
     pub(crate) ordinates: Vec<Coordinate>,
+    pub(crate) upright: Vec<Seg>,
     pub(crate) stretches: Vec<Stretch>,
 }
 
@@ -40,6 +41,7 @@ impl Room {
                 halves: Vec::new(alloc),
                 values: Vec::new(alloc),
                 ordinates: Vec::new(alloc),
+                upright: Vec::new(alloc),
                 stretches: Vec::new(alloc),
             },
         }
