@@ -1,83 +1,27 @@
 -- Bad pairs, by what the segments share.
-use Rattle.std.proofs.Common.{◌≡◌, ℕ, zero, suc, ℤ, ◌≤ℤ◌, ◌<ℤ◌, Bool, true, false, ◌&&◌, ◌⊎◌, inl, inr, List, [], ◌∷◌, Some, refl, ap, arith, int_le}
-use Rattle.std.proofs.lemmas.Int.{ints}
+use Rattle.std.proofs.Common.{◌≡◌, ℕ, zero, suc, true, ◌⊎◌, inl, inr, List, [], ◌∷◌, Some, refl, arith}
 use Rattle.std.specs.List.{slice_get}
 use Rattle.plane_terms.specs.Lists.{Every, EveryPair}
 use Rattle.plane_terms.specs.Point.{Point}
-use Rattle.plane_terms.specs.Rectangle.{Rectangle, RectHolds, RectsMeet, rects_meet}
-use Rattle.plane_terms.specs.Segment.{Segment, IsSegment, SharePoint, OnSegment, IsEndOf, box_of}
+use Rattle.plane_terms.specs.Rectangle.{rects_meet}
+use Rattle.plane_terms.specs.Segment.{Segment, IsSegment, SharePoint, IsEndOf, box_of}
 use Rattle.plane_terms.specs.Shape.{AreSimple}
 use Rattle.plane_terms.specs.Share.{share_of, AreSame}
 use Rattle.plane_terms.specs.declared.share.Share.{Share}
 use Rattle.plane_terms.specs.declared.share.Share.TheVariants.{Nothing, Along, Cross, Touch}
-use Rattle.cell_laws.proofs.Shares.{Means, share_of-means, means_one, end_same}
+use Rattle.cell_laws.proofs.Shares.{Means, share_of-means, end_same}
 use Rattle.cell_laws.proofs.Envelope.{box_holds}
-use Rattle.cell_laws.proofs.Meeting.{cross_sym, overlap_sym}
-use Rattle.grid_plane.proofs.Rectangles.{crossing}
+use Rattle.sound_laws.proofs.Meetings.{meets_test}
 use Rattle.plane_terms.specs.ShapeFaults.{AreBad, IsPair}
-use Rattle.shape.specs.Sweep.{is_bad, is_bad_share}
-
--- ---- the test and what it says
-bad_means : (r : Share) (s t : Segment) → Means r s t → is_bad_share r ≡ true → AreBad s t
-bad_means Nothing s t h e = cc
-bad_means Along s t h e = inr h
-bad_means Cross s t h e = inl h
-bad_means Touch s t h e = cc
-
-pub bad_is : (s t : Segment) → IsSegment s → IsSegment t → is_bad s t ≡ true → AreBad s t
-bad_is s t g h e = bad_means (share_of s t) s t (share_of-means s t g h) e
-
-pub is_bad-true : (s t : Segment) → IsSegment s → IsSegment t → AreBad s t → is_bad s t ≡ true
-is_bad-true s t g h (inl c) = ap is_bad_share (means_one (share_of s t) Cross s t (share_of-means s t g h) c)
-is_bad-true s t g h (inr o) = ap is_bad_share (means_one (share_of s t) Along s t (share_of-means s t g h) o)
-
-pub bad_back : (s t : Segment) → AreBad s t → AreBad t s
-bad_back s t (inl c) = inl (cross_sym t s c)
-bad_back s t (inr o) = inr (overlap_sym t s o)
 
 -- ---- bad pairs have envelopes that meet
-shared : (s t : Segment) (p : Point) → OnSegment s p → OnSegment t p → SharePoint s t
-shared s t p h k = (p, h, k)
+pub shared : (s t : Segment) → AreBad s t → SharePoint s t
+shared s t (inl c) = (c.meet.at, c.meet.first, c.meet.second)
+shared s t (inr o) = (o.p, o.p_on_s, o.p_on_t)
 
-bad_share_point : (r : Share) (s t : Segment) → Means r s t → is_bad_share r ≡ true → SharePoint s t
-bad_share_point Nothing s t h e = cc
-bad_share_point Along s t h e = shared s t h.p h.p_on_s h.p_on_t
-bad_share_point Cross s t h e = shared s t h.meet.at h.meet.first h.meet.second
-bad_share_point Touch s t h e = cc
-
-both : (r s : Rectangle) (p : Point) → RectHolds r p → RectHolds s p → RectsMeet r s
-both r s p h k = (p, h, k)
-
-tests : (a b c d e f g h : ℤ) → a ≤ℤ b → c ≤ℤ d → e ≤ℤ f → g ≤ℤ h → int_le a b && (int_le c d && (int_le e f && int_le g h)) ≡ true
-tests a b c d e f g h i j k l = grind (arith, ints)
-
-bad_boxes : (s t : Segment) → IsSegment s → IsSegment t → is_bad s t ≡ true → rects_meet (box_of s) (box_of t) ≡ true
-bad_boxes s t g h e =
-    let p = bad_share_point (share_of s t) s t (share_of-means s t g h) e in
-    let m : RectsMeet (box_of s) (box_of t) = both (box_of s) (box_of t) p.0 (box_holds s p.0 g p.1) (box_holds t p.0 h p.2) in
-    let c = crossing (box_of s) (box_of t) m in
-    tests _ _ _ _ _ _ _ _ c.0 c.1.0 c.1.1.0 c.1.1.1
-
-pub by_no : (b : Bool) → (b ≡ true → ⊥) → b ≡ false
-by_no true f = absurd (f refl)
-by_no false f = refl
-
-pub no_both : (b : Bool) → b ≡ true → b ≡ false → ⊥
-no_both true e f = cc
-no_both false e f = cc
-
-pub fine_apart : (s t : Segment) → IsSegment s → IsSegment t → rects_meet (box_of s) (box_of t) ≡ false → is_bad s t ≡ false
-fine_apart s t g h e = by_no (is_bad s t) (λ b. no_both (rects_meet (box_of s) (box_of t)) (bad_boxes s t g h b) e)
-
-pub fine_past : (s t : Segment) → IsSegment s → IsSegment t → s.hi.x <ℤ t.lo.x → is_bad s t ≡ false
-fine_past s t g h l = by_no (is_bad s t) never
-  where
-    never : is_bad s t ≡ true → ⊥
-    never b =
-        let p = bad_share_point (share_of s t) s t (share_of-means s t g h) b in
-        let m : RectsMeet (box_of s) (box_of t) = both (box_of s) (box_of t) p.0 (box_holds s p.0 g p.1) (box_holds t p.0 h p.2) in
-        let c = crossing (box_of s) (box_of t) m in
-        omega (arith, ints, l, c.1.0)
+pub bad_boxes : (s t : Segment) → IsSegment s → IsSegment t → AreBad s t → rects_meet (box_of s) (box_of t) ≡ true
+bad_boxes s t g h b =
+    let p = shared s t b in meets_test (box_of s) (box_of t) (p.0, box_holds s p.0 g p.1, box_holds t p.0 h p.2)
 
 -- ---- pairs that are not bad
 simple_by : (r : Share) (s t : Segment) → Means r s t → ¬ (AreBad s t) → AreSimple s t

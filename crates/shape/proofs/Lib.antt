@@ -1,12 +1,11 @@
-pub mod Ascending
 pub mod Bad
-pub mod Best
 pub mod Boundary
 pub mod Boxes
 pub mod Changed
 pub mod Dropped
 pub mod Ends
 pub mod Filled
+pub mod FirstPairs
 pub mod Framed
 pub mod Held
 pub mod Made

@@ -16,7 +16,7 @@ use Rattle.plane_terms.specs.ShapeFaults.{IsPair, AreBad, IsFault, IsFlawless}
 use Rattle.shape.specs.Counts.{IsFull}
 use Rattle.shape.specs.Form.{line_shape, polygon_shape, IsDrawn}
 use Rattle.shape.specs.Frames.{AreFrames}
-use Rattle.shape.specs.Sweep.{IsPairFault}
+use Rattle.shape.specs.Pairs.{IsPairFault}
 use Rattle.plane_terms.specs.declared.shape_fault.ShapeFault.{ShapeFault}
 use Rattle.plane_terms.specs.declared.shape_fault.ShapeFault.TheVariants.{TooFew, TooMany, Cross, Along, NoMemory}
 use Rattle.shape.proofs.Filled.{line_rings, none_few, none_many}

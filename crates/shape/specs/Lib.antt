@@ -3,4 +3,4 @@ pub mod Form
 pub mod Frames
 pub mod Given
 pub mod Kept
-pub mod Sweep
+pub mod Pairs

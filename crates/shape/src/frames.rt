@@ -5,10 +5,10 @@ use grid_plane::{NoMemory, Rect, Seg};
 use std::alloc::Global;
 
 /// How many segments a block has; the last of a list may have fewer.
-const BLOCK: usize = 32;
+pub(crate) const BLOCK: usize = 32;
 
 /// So many segments, or fewer, are gone through without frames.
-const MOST_UNFRAMED: usize = 64;
+pub(crate) const MOST_UNFRAMED: usize = 64;
 
 // The first block, and what comes after it.
 fn split_block(segments: &[Seg]) -> (&[Seg], &[Seg])

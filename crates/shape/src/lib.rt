@@ -7,13 +7,11 @@ mod feature;
 mod form;
 mod frames;
 mod line;
-mod numbered;
-mod pair;
+mod pairs;
 mod polygon;
 mod same;
 mod segments;
 mod shape;
-mod sweep;
 mod vertices;
 
 pub use feature::Feature;

@@ -11,9 +11,9 @@ ghost use Rattle.shape.specs.Form.{polygon_shape, IsDrawn};
 use crate::counts::check_polygon;
 use crate::envelope::box_of_polygon;
 use crate::frames::frames_of;
+use crate::pairs::check_pairs;
 use crate::same::copy_of_parts;
 use crate::segments::{push_polygons, segments_law};
-use crate::sweep::check_pairs;
 use crate::vertices::closed_parts;
 use grid_plane::{GridPoint, NoMemory, Rect, Seg};
 use plane_terms::ShapeFault;
@@ -40,9 +40,9 @@ fn polygon_of(alloc: Global, parts: Vec<Vec<Vec<GridPoint>>>) -> Result<Polygon,
     check_polygon(&parts)?;
     let mut segs = Vec::new(alloc);
     push_polygons(&mut segs, &parts)?;
-    check_pairs(alloc, &segs)?;
-    segments_law(&segs);
     let frames = frames_of(alloc, &segs)?;
+    check_pairs(&segs, &frames)?;
+    segments_law(&segs);
     let env = box_of_polygon(&parts);
     Ok(Polygon {
         parts,

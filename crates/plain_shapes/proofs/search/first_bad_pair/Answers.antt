@@ -1,7 +1,7 @@
 use Rattle.std.proofs.Common.{◌≡◌, ◌<◌, ◌≤◌, ◌+◌, ℕ, zero, suc, arith, ◌⊎◌, inl, inr, subst, List, length}
 use Rattle.plane_terms.specs.Segment.{Segment}
 use Rattle.plane_terms.specs.ShapeFaults.{AreBad, IsPair, IsFirstPair}
-use Rattle.shape.proofs.Best.{get_below}
+use Rattle.std.proofs.lemmas.Option.{slice_get_within}
 use Rattle.plain_shapes.proofs.search.first_bad_pair.Goals as goal
 
 first_so : (ss : List Segment) (i j : ℕ) → ((a b : ℕ) → a < i → ¬ (IsPair AreBad ss a b)) → IsPair AreBad ss i j
@@ -27,7 +27,7 @@ none_more ss i f g a b h q = elim (lower_or_same a i h) [ inl l ↦ f a b l q | 
 
 none_at_all : (ss : List Segment) (i : ℕ) → ((a b : ℕ) → a < i → ¬ (IsPair AreBad ss a b)) → length ss ≤ i → (a b : ℕ)
     → ¬ (IsPair AreBad ss a b)
-none_at_all ss i f l a b q = f a b (omega (arith, l, get_below ss a q.s q.first)) q
+none_at_all ss i f l a b q = f a b (omega (arith, l, slice_get_within ss a q.s q.first)) q
 
 pub returns-in-Some : goal.returns-in-Some
 returns-in-Some c = first_so c.args.segs.now c.loop-i.i c.in-Some.j c.loop-i.invariant c.in-Some.ensures.0 c.in-Some.ensures.1

@@ -10,7 +10,7 @@ use Rattle.shape.specs.Counts.{IsFull}
 use Rattle.plane_terms.specs.ShapeFaults.{IsPair, AreBad, IsFault}
 use Rattle.shape.specs.Frames.{AreFrames}
 use Rattle.shape.specs.Form.{polygon_shape}
-use Rattle.shape.specs.Sweep.{IsPairFault}
+use Rattle.shape.specs.Pairs.{IsPairFault}
 use Rattle.shape.proofs.Made.{in_parts, segments_count, polygon_drawn, full_flawless, pair_fault}
 use Rattle.shape.proofs.Results.{err_from}
 use Rattle.shape.proofs.polygon.polygon_of.Goals as goal
@@ -22,8 +22,8 @@ push_polygons-requires c =
     subst (λ (qs : List (Vec Ring Global)). Every (Every IsClosing) (polygons_in qs)) (sym c.deref-2.ensures.value)
     (in_parts (polygons_in c.args.parts.items) (c.requires.closing full))
 
-pub check_pairs-requires : goal.check_pairs-requires
-check_pairs-requires c =
+pub check_pairs-requires-clause-few : goal.check_pairs-requires-clause-few
+check_pairs-requires-clause-few c =
     let full =
     subst (λ (qs : List (Vec Ring Global)). IsFull (polygon_shape qs)) c.deref.ensures.value c.in_ok-check_polygon.ensures.full in
     let segs =
@@ -34,7 +34,7 @@ check_pairs-requires c =
       arith,
       full.few,
       segments_count (all_rings (polygons_in c.args.parts.items)),
-      ap (λ (ss : List Segment). length ss) (c.deref-3.ensures.value ∙ segs),
+      ap (λ (ss : List Segment). length ss) (c.deref-4.ensures.value ∙ segs),
     )
 
 pub returns-in_err-check_pairs-clause-refused : goal.returns-in_err-check_pairs-clause-refused
@@ -47,7 +47,7 @@ returns-in_err-check_pairs-clause-refused c =
     ∙ ap (λ (qs : List (Vec Ring Global)). flat_map closed_path (all_rings (polygons_in qs))) c.deref-2.ensures.value in
     let fault = c.in_err-check_pairs.field-0.0 in
     let h : IsPairFault (segments_of (polygon_shape c.args.parts.items)) fault =
-    subst (λ (ss : List Segment). IsPairFault ss fault) (c.deref-3.ensures.value ∙ segs) c.in_err-check_pairs.ensures.refused in
+    subst (λ (ss : List Segment). IsPairFault ss fault) (c.deref-4.ensures.value ∙ segs) c.in_err-check_pairs.ensures.refused in
     err_from c.from_residual-in_err-check_pairs.result fault (λ e. IsFault (polygon_shape c.args.parts.items) e)
     c.from_residual-in_err-check_pairs.ensures.1 (pair_fault (polygon_shape c.args.parts.items) refl full fault h)
 
@@ -61,13 +61,13 @@ returns-clause-drawn c =
     ∙ ap (λ (ss : List Segment). ss ++ flat_map closed_path (all_rings (polygons_in c.deref-2.result.now))) c.new-segs.ensures.items
     ∙ ap (λ (qs : List (Vec Ring Global)). flat_map closed_path (all_rings (polygons_in qs))) c.deref-2.ensures.value in
     let reach =
-    subst (λ (qs : List (Vec Ring Global)). Every IsInReach (vertices_of (polygon_shape qs))) c.deref-6.ensures.value
+    subst (λ (qs : List (Vec Ring Global)). Every IsInReach (vertices_of (polygon_shape qs))) c.deref-7.ensures.value
     c.box_of_polygon-env.ensures.reach in
-    let simple = subst (λ (ss : List Segment). EveryPair AreSimple ss) c.deref-3.ensures.value c.in_ok-check_pairs.ensures.simple in
+    let simple = subst (λ (ss : List Segment). EveryPair AreSimple ss) c.deref-4.ensures.value c.in_ok-check_pairs.ensures.simple in
     polygon_drawn ps c.push_polygons.new.segs.items c.box_of_polygon-env.result c.in_ok-frames.frames.items full (c.requires.closing full) reach segs simple
-    (c.box_of_polygon-env.ensures.value ∙ ap (λ (qs : List (Vec Ring Global)). envelope_of (polygon_shape qs)) c.deref-6.ensures.value)
-    (subst (Every IsSegment) c.deref-4.ensures.value c.segments_law.ensures)
-    (subst (AreFrames c.in_ok-frames.frames.items) c.deref-5.ensures.value c.in_ok-frames.ensures)
+    (c.box_of_polygon-env.ensures.value ∙ ap (λ (qs : List (Vec Ring Global)). envelope_of (polygon_shape qs)) c.deref-7.ensures.value)
+    (subst (Every IsSegment) c.deref-6.ensures.value c.segments_law.ensures)
+    (subst (AreFrames c.in_ok-frames.frames.items) c.deref-3.ensures.value c.in_ok-frames.ensures)
 
 pub returns-clause-flawless : goal.returns-clause-flawless
 returns-clause-flawless c =
@@ -78,5 +78,5 @@ returns-clause-flawless c =
     ∙ ap (λ (ss : List Segment). ss ++ flat_map closed_path (all_rings (polygons_in c.deref-2.result.now))) c.new-segs.ensures.items
     ∙ ap (λ (qs : List (Vec Ring Global)). flat_map closed_path (all_rings (polygons_in qs))) c.deref-2.ensures.value in
     full_flawless (polygon_shape c.args.parts.items) full
-    (λ _. subst (λ (ss : List Segment). (i j : ℕ) → ¬ (IsPair AreBad ss i j)) (c.deref-3.ensures.value
+    (λ _. subst (λ (ss : List Segment). (i j : ℕ) → ¬ (IsPair AreBad ss i j)) (c.deref-4.ensures.value
     ∙ segs) c.in_ok-check_pairs.ensures.none)
