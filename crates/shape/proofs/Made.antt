@@ -296,7 +296,7 @@ pair_fault s k f (TooFew n) h = absurd h
 pair_fault s k f (TooMany n) h = absurd h
 pair_fault s k f (Cross i j) h = (none_few s f, none_many s f, k, h)
 pair_fault s k f (Along i j) h = (none_few s f, none_many s f, k, h)
-pair_fault s k f NoMemory h = tt
+pair_fault s k f NoMemory h = absurd h
 
 pub line_flawless : (ps : List Ring) → IsFull (line_shape ps) → IsFlawless (line_shape ps)
 line_flawless ps f = full_flawless (line_shape ps) f (λ k. absurd (no_polygon k))

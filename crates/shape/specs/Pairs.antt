@@ -61,4 +61,4 @@ IsPairFault ss (TooFew part) = ⊥
 IsPairFault ss (TooMany count) = ⊥
 IsPairFault ss (Cross i j) = IsFirstPair CrossOnce ss i j
 IsPairFault ss (Along i j) = IsFirstPair Overlap ss i j
-IsPairFault ss NoMemory = Unit {0}
+IsPairFault ss NoMemory = ⊥
