@@ -13,7 +13,7 @@ use Rattle.dirty_area.proofs.Calls.{add_dirt-loose, add_all-one, add_all-four, p
 
 -- ---- one piece
 -- a part of y that meets the window, and a rectangle beside the window that is loose from y
-part_loose : (s y x w : Rectangle) → IsWithin s y → rects_meet s w ≡ true → rects_meet x w ≡ false → AreLoose y x → AreLoose s x
+pub part_loose : (s y x w : Rectangle) → IsWithin s y → rects_meet s w ≡ true → rects_meet x w ≡ false → AreLoose y x → AreLoose s x
 part_loose s y x w h m n l = record { left = inner (is_within s x) refl; right = outer (is_within x s) refl }
   where
     inner : (b : Bool) → is_within s x ≡ b → b ≡ false
@@ -32,32 +32,32 @@ part_loose s y x w h m n l = record { left = inner (is_within s x) refl; right =
         let f = l.right in
         cc
 
-left_part : (y w : Rectangle) → IsProper w → rects_meet y w ≡ true → IsWithin (rect_of y.x0 y.y0 w.x0 y.y1) y
+pub left_part : (y w : Rectangle) → IsProper w → rects_meet y w ≡ true → IsWithin (rect_of y.x0 y.y0 w.x0 y.y1) y
     × (rects_meet (rect_of y.x0 y.y0 w.x0 y.y1) w ≡ true)
 left_part y w v e = let k = meeting y w e in (omega (arith, ints), grind (arith, ints))
 
-right_part : (y w : Rectangle) → IsProper w → rects_meet y w ≡ true → IsWithin (rect_of w.x1 y.y0 y.x1 y.y1) y
+pub right_part : (y w : Rectangle) → IsProper w → rects_meet y w ≡ true → IsWithin (rect_of w.x1 y.y0 y.x1 y.y1) y
     × (rects_meet (rect_of w.x1 y.y0 y.x1 y.y1) w ≡ true)
 right_part y w v e = let k = meeting y w e in (omega (arith, ints), grind (arith, ints))
 
-below_part : (y w : Rectangle) → IsProper w → rects_meet y w ≡ true
+pub below_part : (y w : Rectangle) → IsProper w → rects_meet y w ≡ true
     → IsWithin (rect_of (int_max y.x0 w.x0) y.y0 (int_min y.x1 w.x1) w.y0) y × (rects_meet
     (rect_of (int_max y.x0 w.x0) y.y0 (int_min y.x1 w.x1) w.y0) w ≡ true)
 below_part y w v e = let k = meeting y w e in (omega (arith, ints, clamps), grind (arith, ints, clamps))
 
-above_part : (y w : Rectangle) → IsProper w → rects_meet y w ≡ true
+pub above_part : (y w : Rectangle) → IsProper w → rects_meet y w ≡ true
     → IsWithin (rect_of (int_max y.x0 w.x0) w.y1 (int_min y.x1 w.x1) y.y1) y × (rects_meet
     (rect_of (int_max y.x0 w.x0) w.y1 (int_min y.x1 w.x1) y.y1) w ≡ true)
 above_part y w v e = let k = meeting y w e in (omega (arith, ints, clamps), grind (arith, ints, clamps))
 
 -- ---- all that is left
-piece_added : (P : Rectangle → Type 0) (d : List Rectangle) (b : Bool) (s : Rectangle) → Every P d → P s
+pub piece_added : (P : Rectangle → Type 0) (d : List Rectangle) (b : Bool) (s : Rectangle) → Every P d → P s
     → Every P (add_all d (piece_if b s))
 unfolding add_all
 piece_added P d true s h k = every_added P d s h k
 piece_added P d false s h k = h
 
-pieces_loose : (d : List Rectangle) (y x w : Rectangle) → IsProper w → rects_meet x w ≡ false → AreLoose y x → Every (λ s. AreLoose s x) d
+pub pieces_loose : (d : List Rectangle) (y x w : Rectangle) → IsProper w → rects_meet x w ≡ false → AreLoose y x → Every (λ s. AreLoose s x) d
     → Every (λ s. AreLoose s x) (add_all d (pieces y w))
 pieces_loose d y x w v n l h = by (rects_meet y w) refl
   where
@@ -107,7 +107,7 @@ none_dropped : (d : List Rectangle) (x : Rectangle) → Every (λ s. AreLoose s 
 none_dropped [] x h = refl
 none_dropped (s ∷ d) x h = let e = none_dropped d x h.1 in rw (h.0.left, e) refl
 
-put_last : (d : List Rectangle) (x : Rectangle) → Every (λ s. AreLoose s x) d → add_dirt d x ≡ d ++ x ∷ []
+pub put_last : (d : List Rectangle) (x : Rectangle) → Every (λ s. AreLoose s x) d → add_dirt d x ≡ d ++ x ∷ []
 put_last d x h = rw (add_dirt-loose d x (not_held d x h), none_dropped d x h) refl
 
 -- one of the list that lies beside the window is put behind what is left of those before it

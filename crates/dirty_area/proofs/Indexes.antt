@@ -20,7 +20,7 @@ use Rattle.grid_index.specs.declared.relation.Relation.TheVariants.{Meets, Holds
 use Rattle.grid_index.specs.Near.{Gains, Loses}
 use Rattle.grid_index.specs.Relations.{stands, is_found}
 use Rattle.grid_index.proofs.Members.{among, filtered_from, filtered_to}
-use Rattle.dirty_area.specs.Indexed.{IsIndexed, placed_of}
+use Rattle.dirty_area.specs.Indexed.{IsIndexed, IsTrimmed, IsFilled, placed_of}
 
 -- ---- an index that is there
 pub in_some : {A : Type 0} (P : A → Type 0) (o : Option A) (x : A) → o ≡ Some x → IfSome o P → P x
@@ -98,67 +98,130 @@ next_indexed d i r ps qs l is gains indexed =
     let more : take (i + 1) d ≡ take i d ++ r ∷ [] = take_more d i r l ∙ ap (λ s. take i d ++ s ∷ []) (sym is) in
     subst (λ e. IsIndexed e qs) (sym more) (one_more (take i d) ps qs r gains indexed)
 
--- ---- without those that a rectangle holds
--- the index holds d without those of e that r holds
-abbrev pub IsTrimmed : List Rectangle → List Rectangle → Rectangle → List Placed → Type 0
-IsTrimmed d e r ps = (q : Placed) → Contains ps q ↔ (Contains d q.rect × (q.handle ≡ 0) × (Contains e q.rect → is_within q.rect r ≡ false))
-
-pub trimmed_none : (d : List Rectangle) (r : Rectangle) (ps : List Placed) → IsIndexed d ps → IsTrimmed d [] r ps
-trimmed_none d r ps indexed q = (
+-- ---- without those for which a test holds
+pub trimmed_none : (d : List Rectangle) (f : Rectangle → Bool) (ps : List Placed) → IsIndexed d ps → IsTrimmed d [] f ps
+trimmed_none d f ps indexed q = (
   (λ h. let k = (indexed q).0 h in (k.0, k.1, λ n. absurd (omega (arith, n.1)))),
   (λ h. (indexed q).1 (h.0, h.1)),
 )
 
-held_goes : (d e : List Rectangle) (r s : Rectangle) (ps qs : List Placed) → is_within s r ≡ true → Loses ps qs (placed_of s)
-    → IsTrimmed d e r ps → IsTrimmed d (e ++ s ∷ []) r qs
-held_goes d e r s ps qs held loses trimmed q = (to, from)
+passing_goes : (d e : List Rectangle) (f : Rectangle → Bool) (s : Rectangle) (ps qs : List Placed) → f s ≡ true → Loses ps qs (placed_of s)
+    → IsTrimmed d e f ps → IsTrimmed d (e ++ s ∷ []) f qs
+passing_goes d e f s ps qs passing loses trimmed q = (to, from)
   where
-    to : Contains qs q → Contains d q.rect × (q.handle ≡ 0) × (Contains (e ++ s ∷ []) q.rect → is_within q.rect r ≡ false)
+    to : Contains qs q → Contains d q.rect × (q.handle ≡ 0) × (Contains (e ++ s ∷ []) q.rect → f q.rect ≡ false)
     to h =
         let k = (loses q).0 h in
         let m = (trimmed q).0 k.0 in
         (m.0, m.1, λ n. elim (Contains-push_cases e s q.rect n) [ inl o ↦ m.2 o | inr t ↦ absurd (k.1 (same_placed s q (sym t) m.1)) ])
 
-    from : Contains d q.rect × (q.handle ≡ 0) × (Contains (e ++ s ∷ []) q.rect → is_within q.rect r ≡ false) → Contains qs q
+    from : Contains d q.rect × (q.handle ≡ 0) × (Contains (e ++ s ∷ []) q.rect → f q.rect ≡ false) → Contains qs q
     from h = (loses q).1 (
       (trimmed q).1 (h.0, h.1, λ n. h.2 (Contains-append_left e (s ∷ []) q.rect n)),
       λ t.
           let rect : q.rect ≡ s = ap (λ (p : Placed). p.rect) t in
           let out = h.2 (subst (λ o. Contains (e ++ s ∷ []) o) (sym rect) (Contains-push e s)) in
-          false≢true (sym out ∙ (ap (λ o. is_within o r) rect ∙ held)),
+          false≢true (sym out ∙ (ap f rect ∙ passing)),
     )
 
-other_stays : (d e : List Rectangle) (r s : Rectangle) (ps : List Placed) → is_within s r ≡ false → IsTrimmed d e r ps
-    → IsTrimmed d (e ++ s ∷ []) r ps
-other_stays d e r s ps other trimmed q = (
+other_stays : (d e : List Rectangle) (f : Rectangle → Bool) (s : Rectangle) (ps : List Placed) → f s ≡ false → IsTrimmed d e f ps
+    → IsTrimmed d (e ++ s ∷ []) f ps
+other_stays d e f s ps other trimmed q = (
   (λ h.
       let m = (trimmed q).0 h in
-      (m.0, m.1, λ n. elim (Contains-push_cases e s q.rect n) [ inl o ↦ m.2 o | inr t ↦ ap (λ o. is_within o r) (sym t) ∙ other ])),
+      (m.0, m.1, λ n. elim (Contains-push_cases e s q.rect n) [ inl o ↦ m.2 o | inr t ↦ ap f (sym t) ∙ other ])),
   (λ h. (trimmed q).1 (h.0, h.1, λ n. h.2 (Contains-append_left e (s ∷ []) q.rect n))),
 )
 
-pub next_trimmed : (d : List Rectangle) (i : ℕ) (r s : Rectangle) (ps qs : List Placed) → i < length d → s ≡ get_or d i s
-    → (is_within s r ≡ true → Loses ps qs (placed_of s)) → (is_within s r ≡ false → qs ≡ ps) → IsTrimmed d (take i d) r ps
-    → IsTrimmed d (take (i + 1) d) r qs
-next_trimmed d i r s ps qs l is held other trimmed =
+pub next_trimmed : (d : List Rectangle) (i : ℕ) (f : Rectangle → Bool) (s : Rectangle) (ps qs : List Placed) → i < length d → s ≡ get_or d i s
+    → (f s ≡ true → Loses ps qs (placed_of s)) → (f s ≡ false → qs ≡ ps) → IsTrimmed d (take i d) f ps
+    → IsTrimmed d (take (i + 1) d) f qs
+next_trimmed d i f s ps qs l is passing other trimmed =
     let more : take (i + 1) d ≡ take i d ++ s ∷ [] = take_more d i s l ∙ ap (λ o. take i d ++ o ∷ []) (sym is) in
-    subst (λ e. IsTrimmed d e r qs) (sym more) (at (is_within s r) refl)
+    subst (λ e. IsTrimmed d e f qs) (sym more) (at (f s) refl)
   where
-    at : (b : Bool) → is_within s r ≡ b → IsTrimmed d (take i d ++ s ∷ []) r qs
-    at true t = held_goes d (take i d) r s ps qs t (held t) trimmed
-    at false t = subst (λ os. IsTrimmed d (take i d ++ s ∷ []) r os) (sym (other t)) (other_stays d (take i d) r s ps t trimmed)
+    at : (b : Bool) → f s ≡ b → IsTrimmed d (take i d ++ s ∷ []) f qs
+    at true t = passing_goes d (take i d) f s ps qs t (passing t) trimmed
+    at false t = subst (λ os. IsTrimmed d (take i d ++ s ∷ []) f os) (sym (other t)) (other_stays d (take i d) f s ps t trimmed)
 
-pub all_trimmed : (d : List Rectangle) (r : Rectangle) (ps : List Placed) → IsTrimmed d d r ps
-    → IsIndexed (filter (λ s. not (is_within s r)) d) ps
-all_trimmed d r ps trimmed q = (
+pub all_trimmed : (d : List Rectangle) (f : Rectangle → Bool) (ps : List Placed) → IsTrimmed d d f ps
+    → IsIndexed (filter (λ s. not (f s)) d) ps
+all_trimmed d f ps trimmed q = (
   (λ h.
       let k = (trimmed q).0 h in
-      (contains_among _ q.rect (filtered_to (λ s. not (is_within s r)) d q.rect (among d q.rect k.0) (not_from_false (is_within q.rect r) (k.2 k.0))), k.1)),
+      (contains_among _ q.rect (filtered_to (λ s. not (f s)) d q.rect (among d q.rect k.0) (not_from_false (f q.rect) (k.2 k.0))), k.1)),
   (λ h.
-      let k = filtered_from (λ s. not (is_within s r)) d q.rect (among _ q.rect h.0) in
-      (trimmed q).1 (contains_among d q.rect k.0, h.1, λ n. out (is_within q.rect r) k.1)),
+      let k = filtered_from (λ s. not (f s)) d q.rect (among _ q.rect h.0) in
+      (trimmed q).1 (contains_among d q.rect k.0, h.1, λ n. out (f q.rect) k.1)),
 )
   where
     out : (b : Bool) → not b ≡ true → b ≡ false
     out false e = refl
     out true e = absurd cc
+
+-- ---- another list that differs in those for which a test holds
+pub filled_none : (d e : List Rectangle) (f : Rectangle → Bool) (ps : List Placed)
+    → ((s : Rectangle) → f s ≡ false → Contains d s ↔ Contains e s) → IsTrimmed d d f ps → IsFilled e [] f ps
+filled_none d e f ps same trimmed q = (to, from)
+  where
+    to : Contains ps q → Contains e q.rect × (q.handle ≡ 0) × (f q.rect ≡ true → Contains [] q.rect)
+    to h =
+        let k = (trimmed q).0 h in
+        let out = k.2 k.0 in
+        ((same q.rect out).0 k.0, k.1, λ t. absurd (false≢true (sym out ∙ t)))
+
+    from : Contains e q.rect × (q.handle ≡ 0) × (f q.rect ≡ true → Contains [] q.rect) → Contains ps q
+    from h = at (f q.rect) refl
+      where
+        at : (b : Bool) → f q.rect ≡ b → Contains ps q
+        at true t = absurd (omega (arith, (h.2 t).1))
+        at false t = (trimmed q).1 ((same q.rect t).1 h.0, h.1, λ n. t)
+
+passing_comes : (d e : List Rectangle) (f : Rectangle → Bool) (s : Rectangle) (ps qs : List Placed) → f s ≡ true → Contains d s
+    → Gains ps qs (placed_of s) → IsFilled d e f ps → IsFilled d (e ++ s ∷ []) f qs
+passing_comes d e f s ps qs passing of gains filled q = (to, from)
+  where
+    to : Contains qs q → Contains d q.rect × (q.handle ≡ 0) × (f q.rect ≡ true → Contains (e ++ s ∷ []) q.rect)
+    to h = elim ((gains q).0 h) [
+      | inl k ↦ let m = (filled q).0 k in (m.0, m.1, λ t. Contains-append_left e (s ∷ []) q.rect (m.2 t))
+      | inr t ↦
+          let rect : s ≡ q.rect = sym (ap (λ (p : Placed). p.rect) t) in
+          (subst (λ o. Contains d o) rect of, ap (λ (p : Placed). p.handle) t, λ u. subst (λ o. Contains (e ++ s ∷ []) o) rect (Contains-push e s))
+    ]
+
+    from : Contains d q.rect × (q.handle ≡ 0) × (f q.rect ≡ true → Contains (e ++ s ∷ []) q.rect) → Contains qs q
+    from h = at (f q.rect) refl
+      where
+        at : (b : Bool) → f q.rect ≡ b → Contains qs q
+        at true t = elim (Contains-push_cases e s q.rect (h.2 t)) [
+          | inl k ↦ (gains q).1 (inl ((filled q).1 (h.0, h.1, λ u. k)))
+          | inr k ↦ (gains q).1 (inr (same_placed s q (sym k) h.1))
+        ]
+        at false t = (gains q).1 (inl ((filled q).1 (h.0, h.1, λ u. absurd (false≢true (sym t ∙ u)))))
+
+other_there : (d e : List Rectangle) (f : Rectangle → Bool) (s : Rectangle) (ps : List Placed) → f s ≡ false → IsFilled d e f ps
+    → IsFilled d (e ++ s ∷ []) f ps
+other_there d e f s ps other filled q = (
+  (λ h. let m = (filled q).0 h in (m.0, m.1, λ t. Contains-append_left e (s ∷ []) q.rect (m.2 t))),
+  (λ h. (filled q).1 (h.0, h.1, λ t. elim (Contains-push_cases e s q.rect (h.2 t)) [
+    | inl k ↦ k
+    | inr k ↦ absurd (false≢true (sym other ∙ (ap f k ∙ t)))
+  ])),
+)
+
+pub next_filled : (d : List Rectangle) (i : ℕ) (f : Rectangle → Bool) (s : Rectangle) (ps qs : List Placed) → i < length d → s ≡ get_or d i s
+    → (f s ≡ true → Gains ps qs (placed_of s)) → (f s ≡ false → qs ≡ ps) → IsFilled d (take i d) f ps
+    → IsFilled d (take (i + 1) d) f qs
+next_filled d i f s ps qs l is passing other filled =
+    let more : take (i + 1) d ≡ take i d ++ s ∷ [] = take_more d i s l ∙ ap (λ o. take i d ++ o ∷ []) (sym is) in
+    subst (λ e. IsFilled d e f qs) (sym more) (at (f s) refl)
+  where
+    at : (b : Bool) → f s ≡ b → IsFilled d (take i d ++ s ∷ []) f qs
+    at true t = passing_comes d (take i d) f s ps qs t (i, l, sym is) (passing t) filled
+    at false t = subst (λ os. IsFilled d (take i d ++ s ∷ []) f os) (sym (other t)) (other_there d (take i d) f s ps t filled)
+
+pub all_filled : (d : List Rectangle) (f : Rectangle → Bool) (ps : List Placed) → IsFilled d d f ps → IsIndexed d ps
+all_filled d f ps filled q = (
+  (λ h. let k = (filled q).0 h in (k.0, k.1)),
+  (λ h. (filled q).1 (h.0, h.1, λ t. h.0)),
+)

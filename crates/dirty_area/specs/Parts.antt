@@ -2,10 +2,12 @@
 --
 -- IsDirt d             rectangles of the grid, of which none lies in another
 -- IsCommon m r w       r and w meet, and m is the rectangle that both have in common
-use Rattle.std.specs.Prelude.{◌≡◌, List}
+-- IsApart r w s        s lies beside the window w, and neither of r and s lies in the other
+-- IsSplit d ps P       ps are of d, and of the others of d P holds
+use Rattle.std.specs.Prelude.{◌≡◌, ◌⊎◌, false, List, Contains}
 use Rattle.plane_terms.specs.Lists.{Every}
-use Rattle.plane_terms.specs.Rectangle.{Rectangle, IsRectangle, RectsMeet, part_of}
-use Rattle.plane_terms.specs.Dirt.{IsLoose}
+use Rattle.plane_terms.specs.Rectangle.{Rectangle, IsRectangle, RectsMeet, part_of, rects_meet}
+use Rattle.plane_terms.specs.Dirt.{AreLoose, IsLoose}
 
 pub record IsDirt (d : List Rectangle) : Type 0 where
   pub loose : IsLoose d
@@ -14,3 +16,11 @@ pub record IsDirt (d : List Rectangle) : Type 0 where
 pub record IsCommon (m r w : Rectangle) : Type 0 where
   pub part : m ≡ part_of r w
   pub meet : RectsMeet r w
+
+pub record IsApart (r w s : Rectangle) : Type 0 where
+  pub beside : rects_meet s w ≡ false
+  pub loose : AreLoose r s
+
+pub record IsSplit (d ps : List Rectangle) (P : Rectangle → Type 0) : Type 0 where
+  pub within : (s : Rectangle) → Contains ps s → Contains d s
+  pub others : (s : Rectangle) → Contains d s → Contains ps s ⊎ P s

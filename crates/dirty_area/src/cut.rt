@@ -1,56 +1,89 @@
-ghost use Rattle.std.specs.Prelude.{◌≡◌, [], ◌∷◌, ◌++◌, true, false, IfOk, OnOk};
+ghost use Rattle.std.specs.Prelude.{◌≡◌, [], ◌∷◌, ◌++◌, true, false, IfSome, IfOk, OnOk};
 ghost use Rattle.std.specs.Option.{option_to_list};
 ghost use Rattle.plane_terms.specs.Rectangle.{rects_meet};
-ghost use Rattle.plane_terms.specs.Dirt.{IsLoose, add_dirt, add_all, pieces, cut_dirt};
-ghost use Rattle.dirty_area.specs.Parts.{IsCommon};
+ghost use Rattle.plane_terms.specs.Dirt.{AreLoose, IsLoose, add_dirt, add_all, pieces, cut_dirt};
+ghost use Rattle.dirty_area.specs.Parts.{IsCommon, IsSplit, IsApart};
 
 use crate::dirt::Dirt;
 use crate::pieces::{above, below, left, right};
+use grid_index::Relation;
 use grid_plane::{NoMemory, Rect};
 use std::alloc::Global;
 
-fn add_piece(dirt: &mut Dirt, piece: Option<Rect>) -> Result<(), NoMemory>
-    ensures { OnOk result (dirt.new ≡ add_all dirt.old (option_to_list piece)) }
+// Adds a piece that nothing left so far has to do with but the pieces before it.
+fn add_one(dirt: &mut Dirt, round: &mut Dirt, r: Rect) -> Result<(), NoMemory>
+    requires { IsSplit dirt.old round.old (λ s. AreLoose r s) }
+    ensures dirt { OnOk result (dirt.new ≡ add_dirt dirt.old r) }
+    ensures round { OnOk result (round.new ≡ add_dirt round.old r) }
+{
+    if !round.look(&r, Relation::IsNested) {
+        round.add_loose(r)?;
+        return dirt.add_loose(r);
+    }
+    if round.look(&r, Relation::Holds) {
+        return Ok(());
+    }
+    round.add(r)?;
+    dirt.add(r)
+}
+
+fn add_piece(dirt: &mut Dirt, round: &mut Dirt, piece: Option<Rect>) -> Result<(), NoMemory>
+    requires { IfSome piece (λ r. IsSplit dirt.old round.old (λ s. AreLoose r s)) }
+    ensures dirt { OnOk result (dirt.new ≡ add_all dirt.old (option_to_list piece)) }
+    ensures round { OnOk result (round.new ≡ add_all round.old (option_to_list piece)) }
 {
     match piece {
-        Some(r) => dirt.add(r),
+        Some(r) => add_one(dirt, round, r),
         None => Ok(()),
     }
 }
 
 // Adds the pieces round a window that meets the rectangle.
-fn add_round(dirt: &mut Dirt, r: &Rect, w: &Rect, common: &Rect) -> Result<(), NoMemory>
-    requires { IsCommon common.now r.now w.now }
-    ensures { OnOk result (dirt.new ≡ add_all dirt.old (pieces r.now w.now)) }
+fn add_round(
+    dirt: &mut Dirt,
+    round: &mut Dirt,
+    r: &Rect,
+    w: &Rect,
+    common: &Rect,
+) -> Result<(), NoMemory>
+    requires common { IsCommon common.now r.now w.now }
+    requires split { IsSplit dirt.old round.old (IsApart r.now w.now) }
+    ensures dirt { OnOk result (dirt.new ≡ add_all dirt.old (pieces r.now w.now)) }
+    ensures round { OnOk result (round.new ≡ add_all round.old (pieces r.now w.now)) }
 {
-    add_piece(dirt, left(r, w))?;
-    add_piece(dirt, right(r, w))?;
-    add_piece(dirt, below(r, w, common))?;
-    add_piece(dirt, above(r, w, common))
+    w.corner_law();
+    add_piece(dirt, round, left(r, w))?;
+    add_piece(dirt, round, right(r, w))?;
+    add_piece(dirt, round, below(r, w, common))?;
+    add_piece(dirt, round, above(r, w, common))
 }
 
 // Adds what the window leaves of the rectangle: the pieces round the window, or beside it the whole rectangle, put last.
-fn add_pieces(dirt: &mut Dirt, r: &Rect, w: &Rect) -> Result<(), NoMemory>
-    requires { rects_meet r.now w.now ≡ false → add_dirt dirt.old r.now ≡ dirt.old ++ r.now ∷ [] }
-    ensures { OnOk result (dirt.new ≡ add_all dirt.old (pieces r.now w.now)) }
+fn add_pieces(dirt: &mut Dirt, round: &mut Dirt, r: &Rect, w: &Rect) -> Result<(), NoMemory>
+    requires beside { rects_meet r.now w.now ≡ false → add_dirt dirt.old r.now ≡ dirt.old ++ r.now ∷ [] }
+    requires split { rects_meet r.now w.now ≡ true → IsSplit dirt.old round.old (IsApart r.now w.now) }
+    ensures dirt { OnOk result (dirt.new ≡ add_all dirt.old (pieces r.now w.now)) }
+    ensures met { OnOk result (rects_meet r.now w.now ≡ true → round.new ≡ add_all round.old (pieces r.now w.now)) }
+    ensures beside { OnOk result (rects_meet r.now w.now ≡ false → round.new ≡ round.old) }
 {
     r.corner_law();
     w.corner_law();
     match r.part(w) {
-        Some(common) => add_round(dirt, r, w, &common),
+        Some(common) => add_round(dirt, round, r, w, &common),
         None => dirt.add_loose(*r),
     }
 }
 
-/// A list of dirt without the window. What lies beside the window is compared with nothing.
+/// A list of dirt without the window. What lies beside the window is compared with nothing, and a piece with other pieces alone.
 pub(crate) fn cut_of(alloc: Global, rects: &[Rect], w: &Rect) -> Result<Dirt, NoMemory>
     requires { IsLoose rects.now }
     ensures { IfOk result (λ d. d ≡ cut_dirt rects.now w.now) }
 {
     w.corner_law();
-    let mut left = Dirt::new(alloc);
+    let mut left = Dirt::with_room(alloc, rects.len())?;
+    let mut round = Dirt::new(alloc);
     for r in rects {
-        add_pieces(&mut left, r, w)?;
+        add_pieces(&mut left, &mut round, r, w)?;
     }
     Ok(left)
 }

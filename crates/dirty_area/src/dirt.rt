@@ -4,11 +4,12 @@ ghost use Rattle.std.specs.Option.{option_to_list};
 ghost use Rattle.plane_terms.specs.Point.{Point};
 ghost use Rattle.plane_terms.specs.Rectangle.{RectHolds, IsRectangle, rects_meet};
 ghost use Rattle.plane_terms.specs.Dirt.{MeetsPart, Covers, MeetsDirt, add_dirt, add_all, cut_dirt};
+ghost use Rattle.grid_index.specs.Relations.{stands};
 ghost use Rattle.dirty_area.specs.Parts.{IsDirt};
 
 use crate::cut::cut_of;
 use crate::finder::Finder;
-use crate::list::{add_in, add_some};
+use crate::list::{add_in, add_some, push_one};
 use grid_index::Relation;
 use grid_plane::{NoMemory, Rect};
 use std::alloc::Global;
@@ -26,6 +27,7 @@ impl Model for Dirt {
     ghost use Rattle.std.specs.Prelude.{List};
     ghost use Rattle.plane_terms.specs.Rectangle.{Rectangle};
     ghost use Rattle.std.specs.Prelude.{IfSome};
+    ghost use Rattle.grid_index.specs.Relations.{stands};
     ghost use Rattle.dirty_area.specs.Parts.{IsDirt};
     ghost use Rattle.dirty_area.specs.Indexed.{IsIndexed};
 
@@ -54,6 +56,16 @@ impl Dirt {
             rects: Vec::new(alloc),
             finder: Finder::new(alloc),
         }
+    }
+
+    /// Nothing is dirty, and there is room for so many rectangles.
+    pub(crate) fn with_room(alloc: Global, count: usize) -> Result<Dirt, NoMemory>
+        ensures { IfOk result (λ d. d ≡ []) }
+    {
+        Ok(Dirt {
+            rects: Vec::with_capacity(alloc, count)?,
+            finder: Finder::new(alloc),
+        })
     }
 
     /// How many rectangles there are.
@@ -98,6 +110,16 @@ impl Dirt {
         }
     }
 
+    /// Whether a rectangle of the list stands so to this one. Counts as a look through the list.
+    pub(crate) fn look(&mut self, r: &Rect, relation: Relation) -> bool
+        ensures value { result ≡ list_any (λ s. stands relation s r.now) self.old }
+        ensures same { self.new ≡ self.old }
+    {
+        r.corner_law();
+        self.finder.count_look(&self.rects);
+        self.finder.has(&self.rects, r, relation)
+    }
+
     /// Makes the rectangle dirty: nothing changes where one of the list holds it already; else those that it holds are
     /// taken out, and it is put last. After an `Err`, out of memory, nothing has changed. Once many have been added to a long list,
     /// an index tells which rectangles are near it.
@@ -119,7 +141,7 @@ impl Dirt {
         ensures err { OnErr result (self.new ≡ self.old) }
     {
         r.corner_law();
-        self.rects.push(r)?;
+        push_one(&mut self.rects, r)?;
         self.finder.put(r);
         Ok(())
     }
@@ -147,6 +169,16 @@ impl Dirt {
     {
         window.corner_law();
         cut_of(alloc, &self.rects, window)
+    }
+
+    /// Becomes what `cut` left of it. An index that it has follows the cut, unless less than half is left.
+    pub fn settle(&mut self, left: Dirt, window: &Rect)
+        requires { left ≡ cut_dirt self.old window.now }
+        ensures { self.new ≡ left }
+    {
+        window.corner_law();
+        self.finder.settle(&self.rects, &left.rects, window);
+        self.rects = left.rects;
     }
 
     /// An equal value.

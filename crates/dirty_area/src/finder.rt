@@ -1,10 +1,10 @@
-ghost use Rattle.std.specs.Prelude.{◌≡◌, [], ◌∷◌, ◌++◌, true, false, None, List, not, filter, IfSome, IfOk};
+ghost use Rattle.std.specs.Prelude.{◌≡◌, ◌↔◌, [], ◌∷◌, ◌++◌, true, false, None, List, Contains, not, filter, IfSome, IfOk, OnOk};
 ghost use Rattle.std.specs.List.{list_any};
 ghost use Rattle.plane_terms.specs.Lists.{Every};
-ghost use Rattle.plane_terms.specs.Rectangle.{Rectangle, IsRectangle, is_within};
-ghost use Rattle.grid_index.specs.Near.{Loses};
+ghost use Rattle.plane_terms.specs.Rectangle.{Rectangle, IsRectangle, is_within, rects_meet};
+ghost use Rattle.grid_index.specs.Near.{Gains, Loses};
 ghost use Rattle.grid_index.specs.Relations.{stands};
-ghost use Rattle.dirty_area.specs.Indexed.{IsIndexed, placed_of};
+ghost use Rattle.dirty_area.specs.Indexed.{IsIndexed, IsTrimmed, IsFilled, placed_of};
 
 use grid_index::{Index, Placed, Relation};
 use grid_plane::{NoMemory, Rect};
@@ -101,6 +101,65 @@ fn without_held(index: Option<Index>, rects: &[Rect], r: &Rect) -> Option<Index>
     Some(index)
 }
 
+// Takes the rectangle out of the index where it meets the window.
+fn take_met(index: &mut Index, s: &Rect, w: &Rect)
+    ensures met { rects_meet s.now w.now ≡ true → Loses index.old index.new (placed_of s.now) }
+    ensures other { rects_meet s.now w.now ≡ false → index.new ≡ index.old }
+{
+    if s.meets(w) {
+        index.take(&placed_of(*s));
+    }
+}
+
+// Takes the rectangles that meet the window out of an index of them all.
+fn take_all_met(index: &mut Index, rects: &[Rect], w: &Rect)
+    requires { IsIndexed rects.now index.old }
+    ensures { IsTrimmed rects.now rects.now (λ s. rects_meet s w.now) index.new }
+{
+    for s in rects {
+        take_met(index, s, w);
+    }
+}
+
+// Puts the rectangle into the index where it meets the window.
+fn put_met(index: &mut Index, s: &Rect, w: &Rect) -> Result<(), NoMemory>
+    ensures met { OnOk result (rects_meet s.now w.now ≡ true → Gains index.old index.new (placed_of s.now)) }
+    ensures other { OnOk result (rects_meet s.now w.now ≡ false → index.new ≡ index.old) }
+{
+    if s.meets(w) {
+        index.put(placed_of(*s))?;
+    }
+    Ok(())
+}
+
+// Puts the rectangles that meet the window into an index of the others.
+fn put_all_met(index: &mut Index, rects: &[Rect], w: &Rect) -> Result<(), NoMemory>
+    requires { IsFilled rects.now [] (λ s. rects_meet s w.now) index.old }
+    ensures { OnOk result (IsIndexed rects.now index.new) }
+{
+    for s in rects {
+        put_met(index, s, w)?;
+    }
+    Ok(())
+}
+
+// The index of a list that had another before, with the same rectangles beside the window; none where less than half is left.
+fn settled(index: Option<Index>, before: &[Rect], after: &[Rect], w: &Rect) -> Option<Index>
+    requires indexed { IfSome index (λ ps. IsIndexed before.now ps) }
+    requires beside { (s : Rectangle) → rects_meet s w.now ≡ false → Contains before.now s ↔ Contains after.now s }
+    ensures { IfSome result (λ ps. IsIndexed after.now ps) }
+{
+    let mut index = index?;
+    if after.len() < before.len() / 2 {
+        return None;
+    }
+    take_all_met(&mut index, before, w);
+    match put_all_met(&mut index, after, w) {
+        Ok(()) => Some(index),
+        Err(_) => None,
+    }
+}
+
 // Whether a rectangle of the list stands so to this one.
 fn any_standing(rects: &[Rect], r: &Rect, relation: Relation) -> bool
     ensures { result ≡ list_any (λ s. stands relation s r.now) rects.now }
@@ -149,7 +208,18 @@ impl Finder {
     }
 
     /// The list gets one rectangle more.
+    #[inline(always)]
     pub(crate) fn put(&mut self, r: Rect)
+        ensures { (d : List Rectangle) → IfSome self.old (λ ps. IsIndexed d ps) → IfSome self.new (λ ps. IsIndexed (d ++ r ∷ []) ps) }
+    {
+        if self.index.is_some() {
+            self.put_in_index(r);
+        }
+    }
+
+    // The same, where there is an index.
+    #[inline(never)]
+    fn put_in_index(&mut self, r: Rect)
         ensures { (d : List Rectangle) → IfSome self.old (λ ps. IsIndexed d ps) → IfSome self.new (λ ps. IsIndexed (d ++ r ∷ []) ps) }
     {
         self.index = with_one(self.index.take(), r);
@@ -161,5 +231,14 @@ impl Finder {
         ensures { IfSome self.new (λ ps. IsIndexed (filter (λ s. not (is_within s r.now)) rects.now) ps) }
     {
         self.index = without_held(self.index.take(), rects, r);
+    }
+
+    /// The list gives way to another, with the same rectangles beside the window.
+    pub(crate) fn settle(&mut self, before: &[Rect], after: &[Rect], w: &Rect)
+        requires indexed { IfSome self.old (λ ps. IsIndexed before.now ps) }
+        requires beside { (s : Rectangle) → rects_meet s w.now ≡ false → Contains before.now s ↔ Contains after.now s }
+        ensures { IfSome self.new (λ ps. IsIndexed after.now ps) }
+    {
+        self.index = settled(self.index.take(), before, after, w);
     }
 }

@@ -1,4 +1,4 @@
-ghost use Rattle.std.specs.Prelude.{◌≡◌, ◌<◌, ◌≤◌, ◌+◌, [], ◌∷◌, ◌++◌, not, filter, IfSome, vec_len, vec_capacity};
+ghost use Rattle.std.specs.Prelude.{◌≡◌, ◌<◌, ◌≤◌, ◌+◌, [], ◌∷◌, ◌++◌, not, filter, IfSome, OnOk, OnErr, vec_len, vec_capacity};
 ghost use Rattle.std.specs.Option.{option_to_list};
 ghost use Rattle.plane_terms.specs.Lists.{Every};
 ghost use Rattle.plane_terms.specs.Rectangle.{IsRectangle, is_within};
@@ -7,7 +7,7 @@ ghost use Rattle.dirty_area.specs.Indexed.{IsIndexed};
 
 use crate::finder::Finder;
 use grid_index::Relation;
-use grid_plane::Rect;
+use grid_plane::{NoMemory, Rect};
 
 fn is_loose(r: &Rect, s: &Rect) -> bool
     ensures { result ≡ not (is_within s.now r.now) }
@@ -22,6 +22,19 @@ fn drop_held(rects: &mut Vec<Rect>, r: &Rect)
     ensures capacity { vec_capacity rects.new ≡ vec_capacity rects.old }
 {
     rects.retain(|s| is_loose(r, s));
+}
+
+/// Puts the rectangle last: in few steps where there is room.
+pub(crate) fn push_one(rects: &mut Vec<Rect>, r: Rect) -> Result<(), NoMemory>
+    ensures ok { OnOk result (rects.new.items ≡ rects.old.items ++ r ∷ []) }
+    ensures err { OnErr result (rects.new.items ≡ rects.old.items) }
+{
+    if rects.len() < rects.capacity() {
+        rects.push_reserved(r);
+        return Ok(());
+    }
+    rects.push(r)?;
+    Ok(())
 }
 
 // Puts the rectangle last. There is room.
