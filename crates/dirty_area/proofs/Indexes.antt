@@ -203,10 +203,14 @@ other_there : (d e : List Rectangle) (f : Rectangle → Bool) (s : Rectangle) (p
     → IsFilled d (e ++ s ∷ []) f ps
 other_there d e f s ps other filled q = (
   (λ h. let m = (filled q).0 h in (m.0, m.1, λ t. Contains-append_left e (s ∷ []) q.rect (m.2 t))),
-  (λ h. (filled q).1 (h.0, h.1, λ t. elim (Contains-push_cases e s q.rect (h.2 t)) [
-    | inl k ↦ k
-    | inr k ↦ absurd (false≢true (sym other ∙ (ap f k ∙ t)))
-  ])),
+  (λ h. (filled q).1 (
+    h.0,
+    h.1,
+    λ t. elim (Contains-push_cases e s q.rect (h.2 t)) [
+      | inl k ↦ k
+      | inr k ↦ absurd (false≢true (sym other ∙ (ap f k ∙ t)))
+    ],
+  )),
 )
 
 pub next_filled : (d : List Rectangle) (i : ℕ) (f : Rectangle → Bool) (s : Rectangle) (ps qs : List Placed) → i < length d → s ≡ get_or d i s

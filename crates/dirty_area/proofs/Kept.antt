@@ -64,7 +64,8 @@ comes d (y ∷ ys) s w v n l h (inl e) =
     let loose : Every (AreLoose s) ys = subst (λ o. Every (AreLoose o) ys) (sym e) l.0 in
     let last : add_dirt d s ≡ d ++ s ∷ [] = put_last d s h in
     let there : Contains (add_dirt d s) s = rw last (Contains-push d s) in
-    let now : Contains (add_all d (pieces y w)) s = rw (pieces-apart y w apart, add_all-one) (subst (λ o. Contains (add_dirt d o) s) e there) in
+    let now : Contains (add_all d (pieces y w)) s =
+    rw (pieces-apart y w apart, add_all-one) (subst (λ o. Contains (add_dirt d o) s) e there) in
     stays_cut (add_all d (pieces y w)) ys s w v n loose now
 comes d (y ∷ ys) s w v n l h (inr m) =
     comes (add_all d (pieces y w)) ys s w v n l.1 (pieces_loose d y s w v n (every_among (AreLoose y) ys l.0 s m) h) m
@@ -106,8 +107,9 @@ beside_kept xs w s l v n = ((λ m. comes [] xs s w v n l tt (among xs s m)), fro
   where
     from : Contains (cut_dirt xs w) s → Contains xs s
     from m =
-        let all : Every (λ q. (rects_meet q w ≡ true) ⊎ Contains xs q) (cut_from [] xs w) = cut_each (λ q. (rects_meet q w ≡ true) ⊎ Contains xs q)
-            [] xs w v tt (λ q e. inl e) (every_from (λ q. (rects_meet q w ≡ true) ⊎ Contains xs q) xs (λ q k. inr (contains_among xs q k))) in
+        let all : Every (λ q. (rects_meet q w ≡ true) ⊎ Contains xs q) (cut_from [] xs w) =
+        cut_each (λ q. (rects_meet q w ≡ true) ⊎ Contains xs q)
+        [] xs w v tt (λ q e. inl e) (every_from (λ q. (rects_meet q w ≡ true) ⊎ Contains xs q) xs (λ q k. inr (contains_among xs q k))) in
         elim (every_among (λ q. (rects_meet q w ≡ true) ⊎ Contains xs q) (cut_from [] xs w) all s (among _ s m)) [
           | inl e ↦ absurd (false≢true (sym n ∙ e))
           | inr k ↦ k

@@ -1,5 +1,5 @@
 -- What is left so far, split into the pieces round the window and what lies beside it.
-use Rattle.std.proofs.Common.{arith, ◌≡◌, ◌⊎◌, inl, inr, refl, sym, ap, ◌∙◌, subst, ℕ, ◌+◌, ◌<◌, Bool, true, false, not, List, [], ◌∷◌, ◌++◌, Contains, take, length, get_or, Option, Some, None}
+use Rattle.std.proofs.Common.{arith, ◌≡◌, inl, inr, refl, sym, ap, ◌∙◌, subst, ℕ, ◌<◌, Bool, true, false, not, List, [], ◌∷◌, ◌++◌, Contains, take, length, get_or, Option, Some, None}
 use Rattle.std.specs.Prelude.{◌||◌, IfSome, int_lt}
 use Rattle.std.specs.Option.{option_to_list}
 use Rattle.std.specs.Int.{int_max, int_min}
@@ -7,13 +7,12 @@ use Rattle.std.specs.List.{list_any, filter}
 use Rattle.std.proofs.lemmas.Bool.{false≢true}
 use Rattle.std.proofs.lemmas.List.Elements.{Contains-append_left, Contains-push, Contains-push_cases}
 use Rattle.std.proofs.lemmas.List.Folds.{Any-from_list_any, list_any_at}
-use Rattle.plane_terms.specs.Lists.{Every}
 use Rattle.plane_terms.specs.Rectangle.{Rectangle, IsProper, IsWithin, is_within, rects_meet, rect_of, part_of}
 use Rattle.plane_terms.specs.Dirt.{AreLoose, IsLoose, add_dirt, add_all, cut_from, pieces, piece_if}
 use Rattle.plane_terms.proofs.ListLemmas.{IsAmong, contains_among, every_among}
 use Rattle.plane_terms.proofs.Truths.{same_by_truth}
 use Rattle.grid_index.proofs.Members.{among, filtered_from, filtered_to}
-use Rattle.dirty_area.specs.Parts.{IsCommon, IsApart, IsSplit}
+use Rattle.dirty_area.specs.Parts.{IsApart, IsSplit}
 use Rattle.dirty_area.proofs.Calls.{add_dirt-held, add_dirt-loose, add_dirt-apart, add_all-one, add_all-four, pieces-apart, pieces_round}
 use Rattle.dirty_area.proofs.Beside.{part_loose, left_part, right_part, below_part, above_part, beside_last}
 
@@ -54,6 +53,10 @@ none_nested d ps r h e = add_dirt-apart d r
 pub one_holds : (d ps : List Rectangle) (r : Rectangle) → IsSplit d ps (λ s. AreLoose r s) → list_any (λ s. is_within r s) ps ≡ true
     → add_dirt d r ≡ d
 one_holds d ps r h e = add_dirt-held d r (any_same (λ s. is_within r s) d ps (λ s. AreLoose r s) h (λ s l. l.left) ∙ e)
+
+pub none_holds : (d ps : List Rectangle) (r : Rectangle) → IsSplit d ps (λ s. AreLoose r s) → list_any (λ s. is_within r s) ps ≡ false
+    → add_dirt d r ≡ filter (λ s. not (is_within s r)) d ++ r ∷ []
+none_holds d ps r h e = add_dirt-loose d r (any_same (λ s. is_within r s) d ps (λ s. AreLoose r s) h (λ s l. l.left) ∙ e)
 
 -- ---- one rectangle more
 split_filter : (g : Rectangle → Bool) (d ps : List Rectangle) (P : Rectangle → Type 0) → IsSplit d ps P → IsSplit (filter g d) (filter g ps) P
@@ -118,20 +121,24 @@ piece_apart (Some s) false q r w e i = absurd cc
 piece_apart (Some s) true q r w e i = λ x a. let same : s ≡ q = cc in rw same (part_apart q r w x i.0 i.1 a)
 
 pub left_apart : (r w : Rectangle) (o : Option Rectangle) → IsProper w → rects_meet r w ≡ true
-    → option_to_list o ≡ piece_if (int_lt r.x0 w.x0) (rect_of r.x0 r.y0 w.x0 r.y1) → IfSome o (λ s. (x : Rectangle) → IsApart r w x → AreLoose s x)
+    → option_to_list o ≡ piece_if (int_lt r.x0 w.x0) (rect_of r.x0 r.y0 w.x0 r.y1)
+    → IfSome o (λ s. (x : Rectangle) → IsApart r w x → AreLoose s x)
 left_apart r w o v e h = piece_apart o (int_lt r.x0 w.x0) (rect_of r.x0 r.y0 w.x0 r.y1) r w h (left_part r w v e)
 
 pub right_apart : (r w : Rectangle) (o : Option Rectangle) → IsProper w → rects_meet r w ≡ true
-    → option_to_list o ≡ piece_if (int_lt w.x1 r.x1) (rect_of w.x1 r.y0 r.x1 r.y1) → IfSome o (λ s. (x : Rectangle) → IsApart r w x → AreLoose s x)
+    → option_to_list o ≡ piece_if (int_lt w.x1 r.x1) (rect_of w.x1 r.y0 r.x1 r.y1)
+    → IfSome o (λ s. (x : Rectangle) → IsApart r w x → AreLoose s x)
 right_apart r w o v e h = piece_apart o (int_lt w.x1 r.x1) (rect_of w.x1 r.y0 r.x1 r.y1) r w h (right_part r w v e)
 
 pub below_apart : (r w m : Rectangle) (o : Option Rectangle) → IsProper w → rects_meet r w ≡ true → m ≡ part_of r w
-    → option_to_list o ≡ piece_if (int_lt r.y0 w.y0) (rect_of m.x0 r.y0 m.x1 w.y0) → IfSome o (λ s. (x : Rectangle) → IsApart r w x → AreLoose s x)
+    → option_to_list o ≡ piece_if (int_lt r.y0 w.y0) (rect_of m.x0 r.y0 m.x1 w.y0)
+    → IfSome o (λ s. (x : Rectangle) → IsApart r w x → AreLoose s x)
 below_apart r w m o v e p h = piece_apart o (int_lt r.y0 w.y0) (rect_of (int_max r.x0 w.x0) r.y0 (int_min r.x1 w.x1) w.y0) r w
     (h ∙ ap (λ (t : Rectangle). piece_if (int_lt r.y0 w.y0) (rect_of t.x0 r.y0 t.x1 w.y0)) p) (below_part r w v e)
 
 pub above_apart : (r w m : Rectangle) (o : Option Rectangle) → IsProper w → rects_meet r w ≡ true → m ≡ part_of r w
-    → option_to_list o ≡ piece_if (int_lt w.y1 r.y1) (rect_of m.x0 w.y1 m.x1 r.y1) → IfSome o (λ s. (x : Rectangle) → IsApart r w x → AreLoose s x)
+    → option_to_list o ≡ piece_if (int_lt w.y1 r.y1) (rect_of m.x0 w.y1 m.x1 r.y1)
+    → IfSome o (λ s. (x : Rectangle) → IsApart r w x → AreLoose s x)
 above_apart r w m o v e p h = piece_apart o (int_lt w.y1 r.y1) (rect_of (int_max r.x0 w.x0) w.y1 (int_min r.x1 w.x1) r.y1) r w
     (h ∙ ap (λ (t : Rectangle). piece_if (int_lt w.y1 r.y1) (rect_of t.x0 w.y1 t.x1 r.y1)) p) (above_part r w v e)
 

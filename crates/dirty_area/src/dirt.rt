@@ -58,16 +58,6 @@ impl Dirt {
         }
     }
 
-    /// Nothing is dirty, and there is room for so many rectangles.
-    pub(crate) fn with_room(alloc: Global, count: usize) -> Result<Dirt, NoMemory>
-        ensures { IfOk result (λ d. d ≡ []) }
-    {
-        Ok(Dirt {
-            rects: Vec::with_capacity(alloc, count)?,
-            finder: Finder::new(alloc),
-        })
-    }
-
     /// How many rectangles there are.
     pub fn len(&self) -> usize
         ensures { result ≡ length self.now }
@@ -168,10 +158,13 @@ impl Dirt {
         ensures only { IfOk result (λ d. (p : Point) → Covers d p → Covers self.now p) }
     {
         window.corner_law();
-        cut_of(alloc, &self.rects, window)
+        Ok(Dirt {
+            rects: cut_of(alloc, &self.rects, window)?,
+            finder: Finder::new(alloc),
+        })
     }
 
-    /// Becomes what `cut` left of it. An index that it has follows the cut, unless less than half is left.
+    /// Becomes what `cut` left of it. An index follows the cut, and is let go where less than half is left or memory for it runs out.
     pub fn settle(&mut self, left: Dirt, window: &Rect)
         requires { left ≡ cut_dirt self.old window.now }
         ensures { self.new ≡ left }

@@ -208,18 +208,7 @@ impl Finder {
     }
 
     /// The list gets one rectangle more.
-    #[inline(always)]
     pub(crate) fn put(&mut self, r: Rect)
-        ensures { (d : List Rectangle) → IfSome self.old (λ ps. IsIndexed d ps) → IfSome self.new (λ ps. IsIndexed (d ++ r ∷ []) ps) }
-    {
-        if self.index.is_some() {
-            self.put_in_index(r);
-        }
-    }
-
-    // The same, where there is an index.
-    #[inline(never)]
-    fn put_in_index(&mut self, r: Rect)
         ensures { (d : List Rectangle) → IfSome self.old (λ ps. IsIndexed d ps) → IfSome self.new (λ ps. IsIndexed (d ++ r ∷ []) ps) }
     {
         self.index = with_one(self.index.take(), r);

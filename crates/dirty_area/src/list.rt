@@ -15,8 +15,8 @@ fn is_loose(r: &Rect, s: &Rect) -> bool
     !r.holds_rect(s)
 }
 
-// Takes out the rectangles that this one holds.
-fn drop_held(rects: &mut Vec<Rect>, r: &Rect)
+/// Takes out the rectangles that this one holds.
+pub(crate) fn drop_held(rects: &mut Vec<Rect>, r: &Rect)
     ensures held { rects.new.items ≡ filter (λ s. not (is_within s r.now)) rects.old.items }
     ensures room { vec_len rects.new ≤ vec_len rects.old }
     ensures capacity { vec_capacity rects.new ≡ vec_capacity rects.old }

@@ -74,6 +74,6 @@ pub fn validate<R: RuleSet>(
     let fresh = rejudge(rules, alloc, ruled, &selected, work)?;
     let left = dirt.cut(alloc, window)?;
     errors.replace(alloc, &selected, fresh)?;
-    *dirt = left;
+    dirt.settle(left, window);
     Ok(())
 }

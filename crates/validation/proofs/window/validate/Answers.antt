@@ -1,3 +1,4 @@
+use Rattle.std.proofs.Common.{◌∙◌}
 use Rattle.validation_laws.specs.Parts.{live_of}
 use Rattle.validation_laws.proofs.Judging.{judging_fresh}
 use Rattle.validation_laws.proofs.Validating.{parts_kept_valid, parts_kept_sound, parts_kept_settled}
@@ -14,22 +15,22 @@ replace-requires-clause-new g c = judging_fresh g.R.RuleSet.meaning c.args.ruled
 
 pub returns-clause-step : goal.returns-clause-step
 returns-clause-step g c = λ p h.
-    validated g.R.RuleSet.meaning c.args.window.now p c.args.ruled.now c.args.dirt.now c.in_ok-left.left
+    validated g.R.RuleSet.meaning c.args.window.now p c.args.ruled.now c.args.dirt.now c.settle.new.self
     c.args.errors.now c.replace.new.self c.in_ok-fresh.fresh.items c.in_ok-selected.selected
     h c.order_law.ensures.rules c.in_ok-selected.ensures.rising (λ a. c.in_ok-selected.ensures.chosen p h.features h.dirt h.entries a)
-    c.in_ok-fresh.ensures.judging c.in_ok-replace.ensures.replaced c.in_ok-left.ensures.ok
+    c.in_ok-fresh.ensures.judging c.in_ok-replace.ensures.replaced (c.settle.ensures ∙ c.in_ok-left.ensures.ok)
 
 pub returns-clause-valid : goal.returns-clause-valid
 returns-clause-valid g c = λ p h v. parts_kept_valid g.R.RuleSet.meaning g.met.R.RuleSet.right c.args.window.now p
-    (with_parts p c.in_ok-left.left c.replace.new.self) (returns-clause-step g c p h) v (rw h.features c.order_law.ensures.features)
+    (with_parts p c.settle.new.self c.replace.new.self) (returns-clause-step g c p h) v (rw h.features c.order_law.ensures.features)
 
 pub returns-clause-sound : goal.returns-clause-sound
 returns-clause-sound g c = λ p h v s. parts_kept_sound g.R.RuleSet.meaning g.met.R.RuleSet.laws g.met.R.RuleSet.right c.args.window.now p
-    (with_parts p c.in_ok-left.left c.replace.new.self) (returns-clause-step g c p h) v (rw h.features c.order_law.ensures.features) s
+    (with_parts p c.settle.new.self c.replace.new.self) (returns-clause-step g c p h) v (rw h.features c.order_law.ensures.features) s
 
 pub returns-clause-settled : goal.returns-clause-settled
 returns-clause-settled g c = λ p h v s. parts_kept_settled g.R.RuleSet.meaning g.met.R.RuleSet.laws g.met.R.RuleSet.right c.args.window.now
-    p (with_parts p c.in_ok-left.left c.replace.new.self) (returns-clause-step g c p h) v (rw h.features c.order_law.ensures.features) s
+    p (with_parts p c.settle.new.self c.replace.new.self) (returns-clause-step g c p h) v (rw h.features c.order_law.ensures.features) s
 
 pub returns-clause-judged : goal.returns-clause-judged
 returns-clause-judged g c = λ p h. (
