@@ -3,18 +3,18 @@
 -- cells_by r ss     the cells of this region of a polygon of these segments: of its inside, or of what is closed out of it
 -- cells_of r s      those of a polygon of the shape s
 -- halves_in cs      how many half-planes the cells have in all
--- KeptCells         says that the cells of this region were made of these segments
--- made_of r ss      the cells of the region r were made of the segments ss
+-- KeptCells         says that the cells of this region were made of this polygon
+-- made_of r s       the cells of the region r were made of the polygon s
 -- size_of k         how many half-planes those cells have
--- most_features     of so many features are cells kept, at most
--- most_halves       and so many half-planes in all
--- Keeping           what is kept: the pairs of a handle and what was made of its segments, the most recently used first
+-- most_features r   of so many features are cells of the region r kept, at most
+-- most_halves r     and so many half-planes in all
+-- Keeping           what is kept of a region: the pairs of a handle and what was made of its polygon, the most recently used first
 -- total es          how many half-planes all the pairs have
--- IsWithin room es n    there is room for so many pairs as features are kept of, at most; the pairs have n half-planes, which are not too
---                       many
+-- IsWithin r room es n    there is room for so many pairs as features are kept of, at most; the pairs have n half-planes, which are not
+--                       too many
 -- kept_at K h       what is kept for the handle h
--- IsPut old h k new what is kept once k is put in for h: k goes first, and of the pairs that were most recently used some stay, in their
--- order
+-- IsPut r old h k new     what is kept of the region r once k is put in for h: k goes first, and of the pairs that were most recently
+--                       used some stay, in their order
 -- looked b K h      after a look-up for the handle h: where it found what it sought, the pair went to the front
 use Rattle.std.specs.Prelude.{◌≡◌, ◌≤◌, ℕ, Bool, true, false, List, Option, nat_eq, length, take}
 use Rattle.std.specs.List.{sum_by}
@@ -39,38 +39,41 @@ halves_in cs = sum_by (λ (c : Cell). length c) cs
 
 pub record KeptCells : Type 0 where
   pub region : Region
-  pub segments : List Segment
+  pub shape : Shape
 
-abbrev pub made_of : Region → List Segment → KeptCells
-made_of r ss = record { region = r; segments = ss }
+abbrev pub made_of : Region → Shape → KeptCells
+made_of r s = record { region = r; shape = s }
 
 abbrev pub size_of : KeptCells → ℕ
-size_of k = halves_in (cells_by k.region k.segments)
+size_of k = halves_in (cells_of k.region k.shape)
 
-abbrev pub most_features : ℕ
-most_features = 1024
+abbrev pub most_features : Region → ℕ
+most_features Inside = 1024
+most_features Outside = 8192
 
-abbrev pub most_halves : ℕ
-most_halves = 131072
+abbrev pub most_halves : Region → ℕ
+most_halves Inside = 131072
+most_halves Outside = 655360
 
 pub record Keeping : Type 0 where
+  pub region : Region
   pub entries : List (ℕ × KeptCells)
 
 abbrev pub total : List (ℕ × KeptCells) → ℕ
 total es = sum_by (λ (e : ℕ × KeptCells). size_of e.1) es
 
-pub record IsWithin (room : ℕ) (es : List (ℕ × KeptCells)) (n : ℕ) : Type 0 where
-  pub features : room ≡ most_features
+pub record IsWithin (r : Region) (room : ℕ) (es : List (ℕ × KeptCells)) (n : ℕ) : Type 0 where
+  pub features : room ≡ most_features r
   pub counted : total es ≡ n
-  pub halves : n ≤ most_halves
+  pub halves : n ≤ most_halves r
 
 abbrev pub kept_at : Keeping → ℕ → Option KeptCells
 kept_at k h = lookup (nat_eq h) k.entries
 
-pub record IsPut (old : List (ℕ × KeptCells)) (h : ℕ) (k : KeptCells) (new : List (ℕ × KeptCells)) : Type 0 where
+pub record IsPut (r : Region) (old : List (ℕ × KeptCells)) (h : ℕ) (k : KeptCells) (new : List (ℕ × KeptCells)) : Type 0 where
   pub left : ℕ
-  pub put : new ≡ put_entries nat_eq (lru_cache (take left old) most_features) h k
+  pub put : new ≡ put_entries nat_eq (lru_cache (take left old) (most_features r)) h k
 
 abbrev pub looked : Bool → Keeping → ℕ → Keeping
-looked true k h = record { entries = promoted (nat_eq h) k.entries }
+looked true k h = record { region = k.region; entries = promoted (nat_eq h) k.entries }
 looked false k h = k

@@ -5,10 +5,10 @@ mod finding;
 mod findings;
 mod keeping;
 mod kept;
+mod limits;
 mod region;
 mod row;
 mod rule;
-mod same;
 mod view;
 mod work;
 

@@ -25,7 +25,12 @@ impl Model for Work {
 
     ghost Value = { ℕ };
 
+    ghost use Rattle.std.specs.Prelude.{◌≡◌, IfSome};
+    ghost use Rattle.rule_core.specs.declared.region.Region.TheVariants as region;
+
     ghost view = { λ w. w.judged };
+
+    ghost invariant = { λ w. IfSome w.insides (λ k. k.region ≡ region.Inside) × IfSome w.outsides (λ k. k.region ≡ region.Outside) };
 }
 
 fn look_in(
@@ -33,10 +38,12 @@ fn look_in(
     region: Region,
     f: &Feature,
 ) -> Result<Option<Rc<BoundedCells>>, NoMemory>
-    ensures { IfOk result (λ found. IfSome found (λ cells. cells.value ≡ cells_of region f.now.shape)) }
+    requires { IfSome keeping.old (λ k. k.region ≡ region) }
+    ensures cells { IfOk result (λ found. IfSome found (λ cells. cells.value ≡ cells_of region f.now.shape)) }
+    ensures region { IfSome keeping.new (λ k. k.region ≡ region) }
 {
     match keeping {
-        Some(keeping) => keeping.look(region, f),
+        Some(keeping) => keeping.look(f),
         None => Ok(None),
     }
 }
@@ -48,13 +55,15 @@ fn keep_in(
     f: &Feature,
     cells: &Rc<BoundedCells>,
 ) -> Result<(), NoMemory>
-    requires { cells.now.value ≡ cells_of region f.now.shape }
+    requires cells { cells.now.value ≡ cells_of region f.now.shape }
+    requires region { IfSome keeping.old (λ k. k.region ≡ region) }
+    ensures { IfSome keeping.new (λ k. k.region ≡ region) }
 {
     if keeping.is_none() {
-        *keeping = Some(Keeping::new(alloc)?);
+        *keeping = Some(Keeping::new(alloc, region)?);
     }
     match keeping {
-        Some(keeping) => keeping.keep(alloc, region, f, cells),
+        Some(keeping) => keeping.keep(alloc, f, cells),
         None => Ok(()),
     }
 }

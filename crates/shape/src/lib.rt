@@ -16,4 +16,5 @@ mod vertices;
 
 pub use feature::Feature;
 pub use plane_terms::{Kind, ShapeFault};
+pub use same::{are_same_parts, copy_of_parts};
 pub use shape::Shape;

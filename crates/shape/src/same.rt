@@ -24,7 +24,8 @@ pub(crate) fn are_same_rings(rings: &[Vec<GridPoint>], others: &[Vec<GridPoint>]
     true
 }
 
-pub(crate) fn are_same_parts(parts: &[Vec<Vec<GridPoint>>], others: &[Vec<Vec<GridPoint>>]) -> bool
+/// Whether the parts of two polygons are equal: the same vertices in the same rings.
+pub fn are_same_parts(parts: &[Vec<Vec<GridPoint>>], others: &[Vec<Vec<GridPoint>>]) -> bool
     ensures { IsTrue result ↔ (polygons_in parts.now ≡ polygons_in others.now) }
 {
     if parts.len() != others.len() {
@@ -44,20 +45,21 @@ pub(crate) fn copy_of_rings(
 ) -> Result<Vec<Vec<GridPoint>>, NoMemory>
     ensures { IfOk result (λ v. rings_in v.items ≡ rings_in rings.now) }
 {
-    let mut copy = Vec::new(alloc);
+    let mut copy = Vec::with_capacity(alloc, rings.len())?;
     for ring in rings {
         copy.push(Vec::from_slice(alloc, ring)?)?;
     }
     Ok(copy)
 }
 
-pub(crate) fn copy_of_parts(
+/// The parts of a polygon, once more.
+pub fn copy_of_parts(
     alloc: Global,
     parts: &[Vec<Vec<GridPoint>>],
 ) -> Result<Vec<Vec<Vec<GridPoint>>>, NoMemory>
     ensures { IfOk result (λ v. polygons_in v.items ≡ polygons_in parts.now) }
 {
-    let mut copy = Vec::new(alloc);
+    let mut copy = Vec::with_capacity(alloc, parts.len())?;
     for part in parts {
         copy.push(copy_of_rings(alloc, part)?)?;
     }

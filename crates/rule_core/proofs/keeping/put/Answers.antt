@@ -16,5 +16,5 @@ returns-in-Some-clause-total c =
 pub returns-in-None-clause-total : goal.returns-in-None-clause-total
 returns-in-None-clause-total c =
     let w = new_weighs size_of c.args.cache.now c.args.handle c.args.kept (sym c.in_ok-old.ensures.old ∙ c.in-None.is)
-    (omega (arith, c.requires.fewer, c.requires.cap)) in
+    c.requires.fewer in
     rw c.in_ok-old.ensures.entries (omega (arith, w, c.halves-more.ensures, c.requires.total))

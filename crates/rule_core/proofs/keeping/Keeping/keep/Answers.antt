@@ -1,22 +1,32 @@
 use Rattle.std.proofs.Common.{◌≡◌, ◌∙◌, ap}
-use Rattle.plane_terms.specs.Shape.{Shape, segments_of}
-use Rattle.topology_terms.specs.Feature.{sides}
+use Rattle.plane_terms.specs.Shape.{Shape}
+use Rattle.plane_terms.specs.declared.kind.Kind.TheVariants as kind
+use Rattle.shape.specs.Given.{polygons_in}
 use Rattle.rule_core.specs.Kept.{made_of}
-use Rattle.rule_core.proofs.Puts.{is_found, is_put}
+use Rattle.rule_core.proofs.Puts.{polygon_is, is_found, is_put}
 use Rattle.rule_core.proofs.keeping.Keeping.keep.Goals as goal
 
 pub returns-clause-kept : goal.returns-clause-kept
-returns-clause-kept c =
-    let k : c.of-kept.result ≡ made_of c.args.region (sides c.args.f.now) = c.of-kept.ensures
-    ∙ ap (made_of c.args.region) (c.in_ok-segments.ensures.items ∙ c.segs.ensures.value ∙ ap (λ (s : Shape). segments_of s) c.shape.ensures) in
-    λ s. is_found c.make_room-self-inside.new.cache c.handle.result c.args.f.now.handle c.of-kept.result
-    (made_of c.args.region (sides c.args.f.now)) c.put.new.cache.entries c.in_ok-self-inside.ensures.entries c.handle.ensures k
+returns-clause-kept c = λ e s.
+    let r = c.self.inside.region in
+    let f = c.args.f.now in
+    let t = c.shape-2.result.now in
+    let p : t.kind ≡ kind.Polygon = ap (λ (x : Shape). x.kind) c.shape-2.ensures ∙ e in
+    let k : c.of-kept.result ≡ made_of r f.shape =
+    c.of-kept.ensures ∙ ap (made_of r) (polygon_is f.shape t (polygons_in c.in_ok-parts.parts.items) c.shape-2.ensures e
+    (c.in_ok-parts.ensures ∙ c.polygons.ensures.parts p)) in
+    rw (← c.self.view_is) (is_found c.make_room-self-inside.new.cache c.handle.result f.handle c.of-kept.result (made_of r f.shape)
+    c.put.new.cache.entries c.in_ok-self-inside.ensures.entries c.handle.ensures k)
 
 pub returns-clause-recent : goal.returns-clause-recent
-returns-clause-recent c =
-    let k : c.of-kept.result ≡ made_of c.args.region (sides c.args.f.now) = c.of-kept.ensures
-    ∙ ap (made_of c.args.region) (c.in_ok-segments.ensures.items ∙ c.segs.ensures.value ∙ ap (λ (s : Shape). segments_of s) c.shape.ensures) in
-    λ s. rw (← c.self.view_is) (is_put c.make_room-self-inside.new.cache c.handle.result c.args.f.now.handle c.of-kept.result
-    (made_of c.args.region (sides c.args.f.now)) c.put.new.cache.entries c.self.inside.cache.entries
-    c.make_room-self-inside.ensures.recent (c.make_room-self-inside.ensures.cap ∙ c.self.invariant.features)
-    c.in_ok-self-inside.ensures.entries c.handle.ensures k)
+returns-clause-recent c = λ e s.
+    let r = c.self.inside.region in
+    let f = c.args.f.now in
+    let t = c.shape-2.result.now in
+    let p : t.kind ≡ kind.Polygon = ap (λ (x : Shape). x.kind) c.shape-2.ensures ∙ e in
+    let k : c.of-kept.result ≡ made_of r f.shape =
+    c.of-kept.ensures ∙ ap (made_of r) (polygon_is f.shape t (polygons_in c.in_ok-parts.parts.items) c.shape-2.ensures e
+    (c.in_ok-parts.ensures ∙ c.polygons.ensures.parts p)) in
+    rw (← c.self.view_is) (is_put c.make_room-self-inside.new.cache c.handle.result f.handle c.of-kept.result (made_of r f.shape)
+    c.put.new.cache.entries c.self.inside.region c.self.inside.cache.entries c.make_room-self-inside.ensures.recent
+    (c.make_room-self-inside.ensures.cap ∙ c.self.invariant.features) c.in_ok-self-inside.ensures.entries c.handle.ensures k)

@@ -1,0 +1,37 @@
+ghost use Rattle.std.specs.Prelude.{◌≡◌};
+ghost use Rattle.std.specs.NonZero.{non_zero_usize_get};
+ghost use Rattle.rule_core.specs.Kept.{most_features, most_halves};
+
+use crate::region::Region;
+use std::num::NonZeroUsize;
+
+/// Cells of the insides of so many features are kept, at most.
+const MOST_INSIDES: usize = 1_024;
+
+/// So many half-planes of insides are kept in all, at most: 16 bytes each.
+const MOST_INSIDE_HALVES: usize = 131_072;
+
+/// The same of outsides: more, since a change near a feature asks for those of all that lie round it.
+const MOST_OUTSIDES: usize = 8_192;
+
+const MOST_OUTSIDE_HALVES: usize = 655_360;
+
+/// Cells of this region are kept of so many features, at most.
+pub(crate) fn most_features(region: Region) -> NonZeroUsize
+    ensures { non_zero_usize_get result ≡ most_features region }
+{
+    match region {
+        Region::Inside => NonZeroUsize::new(MOST_INSIDES).unwrap(),
+        Region::Outside => NonZeroUsize::new(MOST_OUTSIDES).unwrap(),
+    }
+}
+
+/// So many half-planes of this region are kept in all, at most.
+pub(crate) fn most_halves(region: Region) -> usize
+    ensures { result ≡ most_halves region }
+{
+    match region {
+        Region::Inside => MOST_INSIDE_HALVES,
+        Region::Outside => MOST_OUTSIDE_HALVES,
+    }
+}
