@@ -1,4 +1,5 @@
 mod Carves
+pub mod Flats
 pub mod Loops
 pub mod Ranges
 pub mod PairCuts

@@ -9,9 +9,8 @@ ghost use Rattle.plane_terms.specs.Carve.{kept, carve_of};
 ghost use Rattle.convex_cell.specs.Span.{IsBoundsOf, AreRisingTo};
 ghost use Rattle.convex_cell.specs.Needed.{SameCells};
 
-use crate::bounds::{Bounds, Window, are_rising, common_bounds, window_of};
-use crate::cell::Cell;
-use crate::cells::{Cells, all_bounds, cell_bounds};
+use crate::bounds::{Bounds, Window, are_rising, bounds_of, common_bounds, window_of};
+use crate::cells::{Cells, all_bounds};
 use crate::needed::meets;
 use grid_plane::{Half, NoMemory};
 use std::alloc::Global;
@@ -54,7 +53,7 @@ fn carved_each(
 {
     let mut made = BoundedCells::with_capacity(alloc, cells.len())?;
     for i in 0..cells.len() {
-        made.push_met(alloc, cells.cell(i), &own[i], by, bounds, rising)?;
+        made.push_met(alloc, cells.halves_at(i), &own[i], by, bounds, rising)?;
     }
     Ok(made)
 }
@@ -73,8 +72,8 @@ fn carved_by(
 {
     let mut made = BoundedCells::with_capacity(alloc, cells.len())?;
     for i in 0..cells.len() {
-        let cell = cells.cell(i);
-        made.push_met(alloc, cell, &cell_bounds(cell), by, bounds, rising)?;
+        let cell = cells.halves_at(i);
+        made.push_met(alloc, cell, &bounds_of(cell), by, bounds, rising)?;
     }
     Ok(made)
 }
@@ -112,15 +111,20 @@ impl BoundedCells {
         })
     }
 
-    /// Puts a cell of these bounds at the end; where memory runs out the list stays as it was.
-    pub(crate) fn push(&mut self, cell: Cell, bounds: Bounds) -> Result<(), NoMemory>
-        requires { IsBoundsOf bounds cell }
-        ensures ok { OnOk result (self.new ≡ self.old ++ cell ∷ []) }
+    /// Puts the meet of both cells, of which these are bounds, at the end; where memory runs out the list stays as it was.
+    pub(crate) fn push_both(
+        &mut self,
+        cell: &[Half],
+        other: &[Half],
+        bounds: Bounds,
+    ) -> Result<(), NoMemory>
+        requires { IsBoundsOf bounds (meet_of cell.now other.now) }
+        ensures ok { OnOk result (self.new ≡ self.old ++ meet_of cell.now other.now ∷ []) }
         ensures err { OnErr result (self.new ≡ self.old) }
     {
         self.rising = false;
         self.bounds.push(bounds)?;
-        if let Err(full) = self.cells.push(cell) {
+        if let Err(full) = self.cells.push_both(cell, other) {
             self.bounds.pop();
             return Err(full);
         }
@@ -130,10 +134,10 @@ impl BoundedCells {
     fn push_meet(
         &mut self,
         alloc: Global,
-        cell: &Cell,
+        cell: &[Half],
         needed: &mut Option<Vec<Half>>,
         own: &Bounds,
-        other: &Cell,
+        other: &[Half],
         bounds: &Bounds,
     ) -> Result<(), NoMemory>
         requires needed { IfSome needed.old (λ n. SameCells n.items cell.now) }
@@ -143,7 +147,7 @@ impl BoundedCells {
         ensures needed { OnOk result (IfSome needed.new (λ n. SameCells n.items cell.now)) }
     {
         if meets(alloc, cell, needed, own, other, bounds)? {
-            self.push(cell.meet(alloc, other)?, common_bounds(own, bounds))?;
+            self.push_both(cell, other, common_bounds(own, bounds))?;
         }
         Ok(())
     }
@@ -151,7 +155,7 @@ impl BoundedCells {
     fn push_met(
         &mut self,
         alloc: Global,
-        cell: &Cell,
+        cell: &[Half],
         own: &Bounds,
         others: &Cells,
         bounds: &[Bounds],
@@ -166,7 +170,14 @@ impl BoundedCells {
         let mut needed = None;
         let window = window_of(bounds, own, rising);
         for i in window.first..window.last {
-            self.push_meet(alloc, cell, &mut needed, own, others.cell(i), &bounds[i])?;
+            self.push_meet(
+                alloc,
+                cell,
+                &mut needed,
+                own,
+                others.halves_at(i),
+                &bounds[i],
+            )?;
         }
         Ok(())
     }

@@ -4,7 +4,6 @@ ghost use Rattle.plane_terms.specs.Carve.{kept};
 
 use crate::bounded::BoundedCells;
 use crate::bounds::{are_rising, bounds_of};
-use crate::cell::Cell;
 use crate::emptiness::is_empty_within;
 use grid_plane::{Half, NoMemory};
 use std::alloc::Global;
@@ -12,7 +11,7 @@ use std::alloc::Global;
 impl BoundedCells {
     /// Puts the cell of these half-planes at the end where it has a point; no other takes memory. Where memory runs out the list
     /// stays as it was.
-    pub fn push_kept(&mut self, alloc: Global, halves: &[Half]) -> Result<(), NoMemory>
+    pub fn push_kept(&mut self, _alloc: Global, halves: &[Half]) -> Result<(), NoMemory>
         ensures ok { OnOk result (self.new ≡ self.old ++ kept (halves.now ∷ [])) }
         ensures err { OnErr result (self.new ≡ self.old) }
     {
@@ -20,7 +19,7 @@ impl BoundedCells {
         if is_empty_within(halves, &bounds) {
             return Ok(());
         }
-        self.push(Cell::of(alloc, halves)?, bounds)
+        self.push_both(halves, &[], bounds)
     }
 
     /// To be called when all cells are there: gives back the room that none takes, and finds whether they ascend along x, so that

@@ -8,7 +8,7 @@ ghost use Rattle.convex_cell.specs.Span.{IsSpan, InSpan, IsBoundsOf};
 ghost use Rattle.convex_cell.specs.Needed.{FitsReach, Reaches, IsInFrame, SameCells, closed_of};
 
 use crate::bounds::{Bounds, are_apart, common_bounds, is_small, left_of, right_of};
-use crate::cell::{Cell, is_empty_together};
+use crate::cell::is_empty_together;
 use crate::span::{Span, highest};
 use crate::trials::{is_in_both, middle_of_both};
 use grid_plane::{Half, NoMemory, Op};
@@ -154,7 +154,7 @@ fn framed(alloc: Global, halves: &[Half], x: Reach, y: Reach) -> Result<Vec<Half
 /// `None` for a cell of few, and where no frame is known.
 pub(crate) fn needed_of(
     alloc: Global,
-    cell: &Cell,
+    cell: &[Half],
     bounds: &Bounds,
 ) -> Result<Option<Vec<Half>>, NoMemory>
     requires { IsBoundsOf bounds.now cell.now }
@@ -169,19 +169,19 @@ pub(crate) fn needed_of(
     let Some(y) = reach_of(bounds.y) else {
         return Ok(None);
     };
-    Ok(Some(framed(alloc, &cell.halves, x, y)?))
+    Ok(Some(framed(alloc, cell, x, y)?))
 }
 
 /// Whether no point is in both cells, where these are bounds of what is. Where half-planes with the points of the first are known,
 /// they are asked in its place.
-fn meet_is_empty(cell: &Cell, needed: &Option<Vec<Half>>, other: &Cell, common: &Bounds) -> bool
+fn meet_is_empty(cell: &[Half], needed: &Option<Vec<Half>>, other: &[Half], common: &Bounds) -> bool
     requires common { IsBoundsOf common.now (cell.now ++ other.now) }
     requires needed { IfSome needed.now (λ n. SameCells n.items cell.now) }
     ensures { result ≡ not (has_point (meet_of cell.now other.now)) }
 {
     match needed {
-        Some(needed) => is_empty_together(needed, &other.halves, common),
-        None => is_empty_together(&cell.halves, &other.halves, common),
+        Some(needed) => is_empty_together(needed, other, common),
+        None => is_empty_together(cell, other, common),
     }
 }
 
@@ -189,10 +189,10 @@ fn meet_is_empty(cell: &Cell, needed: &Option<Vec<Half>>, other: &Cell, common: 
 /// needed of the first cell are found only if it is no such point, and kept for the next call.
 pub(crate) fn meets(
     alloc: Global,
-    cell: &Cell,
+    cell: &[Half],
     needed: &mut Option<Vec<Half>>,
     bounds: &Bounds,
-    other: &Cell,
+    other: &[Half],
     other_bounds: &Bounds,
 ) -> Result<bool, NoMemory>
     requires needed { IfSome needed.old (λ n. SameCells n.items cell.now) }
@@ -205,7 +205,7 @@ pub(crate) fn meets(
         return Ok(false);
     }
     let at = middle_of_both(bounds, other_bounds);
-    if is_in_both(&cell.halves, &other.halves, at) {
+    if is_in_both(cell, other, at) {
         return Ok(true);
     }
     if needed.is_none() {

@@ -8,9 +8,10 @@ ghost use Rattle.convex_cell.specs.Span.{IsSpan, InSpan, InBounds, IsBoundsOf};
 ghost use Rattle.convex_cell.specs.Needed.{SameCells};
 ghost use Rattle.convex_cell.specs.Piece.{IsMarkOf, IsNarrowed};
 
+use crate::borrowed::BorrowedCell;
 use crate::bounded::BoundedCells;
 use crate::bounds::{Bounds, Window, are_apart, bounds_of, common_bounds};
-use crate::cell::{Cell, is_empty_together};
+use crate::cell::is_empty_together;
 use crate::needed::{hold_within, needed_of, push_others, reach_of};
 use crate::span::Span;
 use crate::trials::{is_in_both, middle_of_both};
@@ -48,19 +49,16 @@ pub struct Mark {
 }
 
 /// Whether no point is both in the cell of these half-planes and in the other.
-fn is_clear_of(halves: &[Half], bounds: &Bounds, other: &Cell, other_bounds: &Bounds) -> bool
+fn is_clear_of(halves: &[Half], bounds: &Bounds, other: &[Half], other_bounds: &Bounds) -> bool
     requires own { IsBoundsOf bounds.now halves.now }
     requires other { IsBoundsOf other_bounds.now other.now }
     ensures clear { OnTrue result (¬ (HasPoint (halves.now ++ other.now))) }
     ensures point { OnFalse result (HasPoint (halves.now ++ other.now)) }
 {
-    if are_apart(bounds, other_bounds) {
-        return true;
-    }
-    if is_in_both(halves, &other.halves, middle_of_both(bounds, other_bounds)) {
+    if is_in_both(halves, other, middle_of_both(bounds, other_bounds)) {
         return false;
     }
-    is_empty_together(halves, &other.halves, &common_bounds(bounds, other_bounds))
+    is_empty_together(halves, other, &common_bounds(bounds, other_bounds))
 }
 
 /// Adds the half-planes that say more than the bounds of those that are there, or all where the bounds are far.
@@ -115,7 +113,7 @@ fn everywhere() -> Bounds
 fn start_with(
     alloc: Global,
     halves: &mut Vec<Half>,
-    cell: &Cell,
+    cell: &[Half],
     bounds: &Bounds,
 ) -> Result<(), NoMemory>
     requires empty { halves.old.items ≡ [] }
@@ -125,7 +123,7 @@ fn start_with(
 {
     match needed_of(alloc, cell, bounds)? {
         Some(needed) => halves.extend_from_slice(&needed)?,
-        None => halves.extend_from_slice(&cell.halves)?,
+        None => halves.extend_from_slice(cell)?,
     }
     Ok(())
 }
@@ -186,7 +184,7 @@ impl Piece {
     }
 
     /// Whether it is known to have a point, and to lie in the other cell. What the bounds of that one tell is looked at first.
-    fn is_within(&self, other: &Cell, other_bounds: &Bounds) -> bool
+    fn is_within(&self, other: &[Half], other_bounds: &Bounds) -> bool
         ensures some { OnTrue result (HasPoint self.now) }
         ensures within { OnTrue result ((p : Point) → InCell self.now p → InCell other.now p) }
     {
@@ -196,19 +194,19 @@ impl Piece {
         if !are_nested(&self.bounds, other_bounds) {
             return false;
         }
-        hold_in(&other.halves, &self.bounds)
+        hold_in(other, &self.bounds)
     }
 
     /// Makes it the cell; the whole plane where memory runs out.
-    pub fn start(&mut self, alloc: Global, cell: &Cell) -> Result<(), NoMemory>
+    pub fn start(&mut self, alloc: Global, cell: &BorrowedCell<'_>) -> Result<(), NoMemory>
         ensures ok { OnOk result ((p : Point) → InCell self.new p ↔ InCell cell.now p) }
         ensures err { OnErr result (self.new ≡ []) }
     {
         self.halves.clear();
         self.bounds = everywhere();
         self.is_some = false;
-        let bounds = bounds_of(&cell.halves);
-        start_with(alloc, &mut self.halves, cell, &bounds)?;
+        let bounds = bounds_of(cell.halves());
+        start_with(alloc, &mut self.halves, cell.halves(), &bounds)?;
         self.bounds = bounds;
         Ok(())
     }
@@ -230,8 +228,11 @@ impl Piece {
         ensures some { IfOk result (λ mark. IfSome mark (λ m. (d : List HalfPlane) → slice_get by.now i ≡ Some d → IsNarrowed m self.old d self.new)) }
         ensures err { OnErr result (self.new ≡ self.old) }
     {
-        let other = by.cells().cell(i);
         let other_bounds = by.bounds_at(i);
+        if are_apart(&self.bounds, &other_bounds) {
+            return Ok(None);
+        }
+        let other = by.cells().halves_at(i);
         let mark = self.mark();
         if self.is_within(other, &other_bounds) {
             return Ok(Some(mark));
@@ -240,7 +241,7 @@ impl Piece {
             return Ok(None);
         }
         let len = mark.len;
-        if let Err(full) = push_more(&mut self.halves, &self.bounds, &other.halves) {
+        if let Err(full) = push_more(&mut self.halves, &self.bounds, other) {
             self.halves.truncate(len);
             return Err(full);
         }

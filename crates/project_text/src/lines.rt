@@ -6,7 +6,7 @@ ghost use Rattle.project_terms.specs.Written.{mark_word, extent_word};
 ghost use Rattle.project_text.specs.Pushed.{rect_text, name_text, sign_text, half_text, halves_text, class_text, rule_text, feature_text, dirty_text, key_text, error_text, cell_text};
 
 use crate::push::{push_end, push_field, push_number, push_text};
-use convex_cell::Cell;
+use convex_cell::BorrowedCell;
 use error_store::Entry;
 use feature_store::Store;
 use grid_plane::{Half, NoMemory, Op, Rect};
@@ -159,7 +159,7 @@ fn push_half(out: &mut Vec<u8>, half: &Half, more: bool) -> Result<(), NoMemory>
     push_field(out, sign_bytes(half.op(), more))
 }
 
-fn push_halves(out: &mut Vec<u8>, cell: &Cell) -> Result<(), NoMemory>
+fn push_halves(out: &mut Vec<u8>, cell: &BorrowedCell<'_>) -> Result<(), NoMemory>
     ensures { OnOk result (out.new.items ≡ out.old.items ++ halves_text cell.now) }
 {
     for i in 0..cell.len() {
@@ -169,7 +169,7 @@ fn push_halves(out: &mut Vec<u8>, cell: &Cell) -> Result<(), NoMemory>
 }
 
 /// Appends the line of a cell.
-pub fn push_cell_line(out: &mut Vec<u8>, cell: &Cell) -> Result<(), NoMemory>
+pub fn push_cell_line(out: &mut Vec<u8>, cell: &BorrowedCell<'_>) -> Result<(), NoMemory>
     ensures { OnOk result (out.new.items ≡ out.old.items ++ cell_text cell.now) }
 {
     push_text(out, b"cell")?;

@@ -82,7 +82,7 @@ fn push_cells(out: &mut Vec<u8>, cells: &Cells) -> Result<(), NoMemory>
     ensures { OnOk result (out.new.items ≡ out.old.items ++ flat_map {X = terms_cell.Cell} cell_text cells.now) }
 {
     for i in 0..cells.len() {
-        push_cell_line(out, cells.cell(i))?;
+        push_cell_line(out, &cells.cell(i))?;
     }
     Ok(())
 }

@@ -7,7 +7,7 @@ ghost use Rattle.wkt_text.specs.Appended.{Appends};
 
 use crate::errors::push_entry_line;
 use crate::numbers::{push_number, push_text, push_total};
-use convex_cell::{Cell, Cells};
+use convex_cell::{BorrowedCell, Cells};
 use error_store::{Entry, Errors};
 use grid_plane::{Half, NoMemory, Op};
 
@@ -35,7 +35,7 @@ fn push_half(out: &mut Vec<u8>, half: &Half) -> Result<(), NoMemory>
 }
 
 // The half-planes behind the first, each behind a comma.
-fn push_more_halves(out: &mut Vec<u8>, cell: &Cell) -> Result<(), NoMemory>
+fn push_more_halves(out: &mut Vec<u8>, cell: &BorrowedCell<'_>) -> Result<(), NoMemory>
     ensures { Appends result out.old.items out.new.items (comma_texts half_text (drop 1 cell.now)) }
 {
     for i in 1..cell.len() {
@@ -46,7 +46,7 @@ fn push_more_halves(out: &mut Vec<u8>, cell: &Cell) -> Result<(), NoMemory>
 }
 
 // The half-planes behind a space, with commas between them.
-fn push_halves(out: &mut Vec<u8>, cell: &Cell) -> Result<(), NoMemory>
+fn push_halves(out: &mut Vec<u8>, cell: &BorrowedCell<'_>) -> Result<(), NoMemory>
     ensures { Appends result out.old.items out.new.items (halves_text cell.now) }
 {
     if cell.len() == 0 {
@@ -59,7 +59,7 @@ fn push_halves(out: &mut Vec<u8>, cell: &Cell) -> Result<(), NoMemory>
     Ok(())
 }
 
-fn push_cell_line(out: &mut Vec<u8>, cell: &Cell) -> Result<(), NoMemory>
+fn push_cell_line(out: &mut Vec<u8>, cell: &BorrowedCell<'_>) -> Result<(), NoMemory>
     ensures { Appends result out.old.items out.new.items (cell_line cell.now) }
 {
     push_text(out, b"cell")?;
@@ -72,7 +72,7 @@ fn push_cell_lines(out: &mut Vec<u8>, cells: &Cells) -> Result<(), NoMemory>
     ensures { Appends result out.old.items out.new.items (flat_map cell_line cells.now) }
 {
     for i in 0..cells.len() {
-        push_cell_line(out, cells.cell(i))?;
+        push_cell_line(out, &cells.cell(i))?;
     }
     Ok(())
 }

@@ -39,13 +39,9 @@ impl Model for Keeping {
 fn count_halves(cells: &Cells, most: usize) -> Option<usize>
     ensures { MatchOption result (most < halves_in cells.now) (λ n. (n ≡ halves_in cells.now) × (n ≤ most)) }
 {
-    let mut halves = 0;
-    for i in 0..cells.len() {
-        let more = cells.cell(i).len();
-        if more > most - halves {
-            return None;
-        }
-        halves += more;
+    let halves = cells.half_count();
+    if halves > most {
+        return None;
     }
     Some(halves)
 }

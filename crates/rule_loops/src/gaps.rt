@@ -42,7 +42,7 @@ fn open_ground(
     own.push(polygon_nearby(alloc, subject, work)?)?;
     let near = nearby_of(alloc, own, class, except, view, work)?;
     let round = Cell::box_round(alloc, &subject.shape().env())?;
-    let left = left_of_cell(alloc, &round, &near.held)?;
+    let left = left_of_cell(alloc, &round.borrow(), &near.held)?;
     left_by_turns(alloc, class, except, left, near.rest, view, work)
 }
 

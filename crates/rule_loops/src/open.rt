@@ -7,28 +7,28 @@ ghost use Rattle.rule_loops.specs.Open.{IsInEach};
 ghost use Rattle.rule_loops.specs.Rightward.{LastsRight, IsStrict, is_wall, AreOffWalls};
 
 use crate::nearby::{Nearby, next_near};
-use convex_cell::{BoundedCells, Cell, Piece};
+use convex_cell::{BorrowedCell, BoundedCells, Piece};
 use grid_plane::{NoMemory, Op};
 
 /// So many pieces of a cell are looked at, at most, before it is taken for open.
 const MOST_STEPS: usize = 4_096;
 
 /// Whether the cell lies on a line, as its first half-plane says.
-pub(crate) fn is_wall(cell: &Cell) -> bool
+pub(crate) fn is_wall(cell: &BorrowedCell<'_>) -> bool
     ensures { result ≡ is_wall cell.now }
 {
     cell.len() > 0 && cell.half(0).op() == Op::Zero
 }
 
 /// Whether what an open piece has in common with the part of an outside is open too: where that is no wall.
-pub(crate) fn stays_open(is_open: bool, part: &Cell) -> bool
+pub(crate) fn stays_open(is_open: bool, part: &BorrowedCell<'_>) -> bool
     ensures { result ≡ (is_open && not (is_wall part.now)) }
 {
     is_open && !is_wall(part)
 }
 
 /// Whether each half-plane of the cell is open.
-pub(crate) fn is_strict(cell: &Cell) -> bool
+pub(crate) fn is_strict(cell: &BorrowedCell<'_>) -> bool
     ensures { OnTrue result (IsStrict cell.now) }
 {
     for i in 0..cell.len() {
@@ -65,7 +65,7 @@ fn is_shut(
     let outside: &BoundedCells = &nearby.outside;
     let window = piece.window(outside);
     for i in window.first..window.last {
-        if is_open && is_wall(outside.cells().cell(i)) {
+        if is_open && is_wall(&outside.cells().cell(i)) {
             continue;
         }
         let Some(mark) = piece.narrow(outside, i)? else {

@@ -9,7 +9,7 @@ ghost use Rattle.rule_loops.specs.Rightward.{LastsRight, IsStrict, AreOffWalls};
 
 use crate::nearby::Nearby;
 use crate::open::{is_covered, is_strict, stays_open};
-use convex_cell::{BoundedCells, Cell, Cells, Piece};
+use convex_cell::{BorrowedCell, BoundedCells, Cell, Cells, Piece};
 use grid_plane::NoMemory;
 use std::alloc::Global;
 
@@ -47,7 +47,7 @@ fn push_left(
     ensures piece { OnOk result (piece.new ≡ piece.old) }
 {
     let Some(nearby) = near.get(from) else {
-        return left.push(cell.try_copy(alloc)?);
+        return left.push_halves(cell.halves());
     };
     let outside: &BoundedCells = &nearby.outside;
     let len = cell.len();
@@ -57,9 +57,9 @@ fn push_left(
             continue;
         };
         let part = outside.cells().cell(i);
-        let part_open = stays_open(is_open, part);
+        let part_open = stays_open(is_open, &part);
         if !is_over(piece, near, from + 1, part_open)? {
-            cell.narrow(part)?;
+            cell.narrow(&part)?;
             push_left(alloc, cell, piece, near, from + 1, left, part_open)?;
             cell.truncate(len);
         }
@@ -69,7 +69,11 @@ fn push_left(
 }
 
 /// What the polygons leave of the open cell, carved by the outside of each in turn. Most often they cover it.
-pub(crate) fn left_of_cell(alloc: Global, cell: &Cell, near: &[Nearby]) -> Result<Cells, NoMemory>
+pub(crate) fn left_of_cell(
+    alloc: Global,
+    cell: &BorrowedCell<'_>,
+    near: &[Nearby],
+) -> Result<Cells, NoMemory>
     requires strict { IsStrict cell.now }
     requires some { HasPoint cell.now }
     requires off_walls { Every AreOffWalls near.now }
@@ -89,7 +93,7 @@ pub(crate) fn left_of_cell(alloc: Global, cell: &Cell, near: &[Nearby]) -> Resul
 // Puts what the polygons leave of the cell. Most often they cover it, and nothing is copied.
 fn push_left_of(
     alloc: Global,
-    cell: &Cell,
+    cell: &BorrowedCell<'_>,
     piece: &mut Piece,
     near: &[Nearby],
     left: &mut Cells,
@@ -120,7 +124,7 @@ pub(crate) fn left_of_cells(
     let mut left = Cells::new(alloc);
     let mut piece = Piece::new(alloc);
     for i in 0..cells.len() {
-        push_left_of(alloc, cells.cell(i), &mut piece, near, &mut left)?;
+        push_left_of(alloc, &cells.cell(i), &mut piece, near, &mut left)?;
     }
     Ok(left)
 }

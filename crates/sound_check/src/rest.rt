@@ -4,7 +4,7 @@ ghost use Rattle.plane_terms.specs.Cell.{InCell, InCells};
 ghost use Rattle.plane_terms.specs.Dirt.{Covers};
 ghost use Rattle.sound_check.specs.Rest.{IsRest};
 
-use convex_cell::{Cell, Cells};
+use convex_cell::{BorrowedCell, Cells};
 use dirty_area::Dirt;
 use grid_plane::{Half, NoMemory, Rect};
 use std::alloc::Global;
@@ -21,7 +21,7 @@ pub fn cell_of(alloc: Global, halves: &[Half]) -> Result<Cells, NoMemory>
     ensures { IfOk result (λ cells. cells ≡ halves.now ∷ []) }
 {
     let mut cells = Cells::new(alloc);
-    cells.push(Cell::of(alloc, halves)?)?;
+    cells.push_halves(halves)?;
     Ok(cells)
 }
 
@@ -33,7 +33,11 @@ fn cells_with_points(alloc: Global, cells: &Cells) -> Result<Cells, NoMemory>
     common(alloc, cells, &plane)
 }
 
-fn rest_off_cell(alloc: Global, cells: &Cells, other: &Cell) -> Result<Cells, NoMemory>
+fn rest_off_cell(
+    alloc: Global,
+    cells: &Cells,
+    other: &BorrowedCell<'_>,
+) -> Result<Cells, NoMemory>
     ensures { IfOk result (IsRest (λ p. ¬ (InCell other.now p)) cells.now) }
 {
     let outside = other.out_of_cell(alloc)?;
@@ -56,7 +60,7 @@ pub fn rest_off_cells(alloc: Global, cells: &Cells, others: &Cells) -> Result<Ce
         if rest.len() == 0 {
             return Ok(rest);
         }
-        rest = rest_off_cell(alloc, &rest, others.cell(i))?;
+        rest = rest_off_cell(alloc, &rest, &others.cell(i))?;
     }
     Ok(rest)
 }

@@ -19,7 +19,7 @@ use crate::growth::store_law;
 use crate::kinds::KindRules;
 use crate::places::place_of;
 use crate::topology::Topology;
-use convex_cell::{Cell, Cells};
+use convex_cell::{BorrowedCell, Cells};
 use error_store::Entry;
 use feature_store::{Slot, Store};
 use grid_index::Index;
@@ -94,7 +94,7 @@ fn shapes_law(slots: &[Slot])
 }
 
 // The law that each half-plane of a cell keeps its limits.
-fn cell_law(cell: &Cell)
+fn cell_law(cell: &BorrowedCell<'_>)
     ensures { Every IsHalfPlane cell.now }
 {
     for i in 0..cell.len() {
@@ -107,7 +107,7 @@ fn cells_law(cells: &Cells)
     ensures { Every (λ (c : cell_terms.Cell). Every IsHalfPlane c) cells.now }
 {
     for i in 0..cells.len() {
-        cell_law(cells.cell(i));
+        cell_law(&cells.cell(i));
     }
 }
 

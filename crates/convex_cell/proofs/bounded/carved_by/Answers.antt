@@ -6,6 +6,6 @@ use Rattle.convex_cell.proofs.bounded.carved_by.Goals as goal
 
 pub loop-i-preserved : goal.loop-i-preserved
 loop-i-preserved c =
-    let d = c.cell-cell.result.now in
+    let d = c.halves_at-cell.result.now in
     c.in_ok-push_met.ensures ∙ (ap (λ y. y ++ kept (map {A = Cell} (meet_of d) c.args.by.now)) c.loop-i.invariant
-    ∙ sym (carve_more c.args.cells.now c.args.by.now c.loop-i.i d c.cell-cell.ensures))
+    ∙ sym (carve_more c.args.cells.now c.args.by.now c.loop-i.i d c.halves_at-cell.ensures))

@@ -6,21 +6,14 @@ use Rattle.convex_cell.proofs.needed.meet_is_empty.Goals as goal
 pub is_empty_together-requires : goal.is_empty_together-requires
 is_empty_together-requires c =
     let same : SameCells c.deref.result.now c.args.cell.now = rw c.deref.ensures.value (rw c.in-Some.is at c.requires.needed) in
-    rw (c.deref-in-Some.ensures.value, c.other.view_is) (bounds_of_same c.args.common.now c.args.cell.now c.deref.result.now
-    c.args.other.now same c.requires.common)
-
-pub is_empty_together-requires-in-None : goal.is_empty_together-requires-in-None
-is_empty_together-requires-in-None c =
-    rw (c.deref-in-None.ensures.value, c.deref-in-None-2.ensures.value, c.cell.view_is, c.other.view_is) c.requires.common
+    bounds_of_same c.args.common.now c.args.cell.now c.deref.result.now c.args.other.now same c.requires.common
 
 pub returns-in-Some : goal.returns-in-Some
 returns-in-Some c =
     let same : SameCells c.deref.result.now c.args.cell.now = rw c.deref.ensures.value (rw c.in-Some.is at c.requires.needed) in
-    rw (← c.other.view_is, ← c.deref-in-Some.ensures.value) (meet_decided_by c.is_empty_together.result c.deref.result.now
-    c.args.cell.now c.deref-in-Some.result.now same c.is_empty_together.ensures.empty c.is_empty_together.ensures.point)
+    meet_decided_by c.is_empty_together.result c.deref.result.now c.args.cell.now c.args.other.now same c.is_empty_together.ensures.empty
+    c.is_empty_together.ensures.point
 
 pub returns-in-None : goal.returns-in-None
-returns-in-None c =
-    rw (← c.cell.view_is, ← c.other.view_is, ← c.deref-in-None.ensures.value, ← c.deref-in-None-2.ensures.value)
-    (meet_decided c.is_empty_together-in-None.result c.deref-in-None.result.now c.deref-in-None-2.result.now
-    c.is_empty_together-in-None.ensures.empty c.is_empty_together-in-None.ensures.point)
+returns-in-None c = meet_decided c.is_empty_together-in-None.result c.args.cell.now c.args.other.now
+    c.is_empty_together-in-None.ensures.empty c.is_empty_together-in-None.ensures.point

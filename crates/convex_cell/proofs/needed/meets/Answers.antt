@@ -14,8 +14,7 @@ pub returns-then-is_in_both-clause-meets : goal.returns-then-is_in_both-clause-m
 returns-then-is_in_both-clause-meets c =
     let own : Cell = c.args.cell.now in
     let other : Cell = c.args.other.now in
-    let some : HasPoint (own ++ other) = rw (← c.cell.view_is, ← c.other.view_is, ← c.deref.ensures.value, ← c.deref-2.ensures.value)
-    c.if-is_in_both.ensures in
+    let some : HasPoint (own ++ other) = c.if-is_in_both.ensures in
     sym ((has_point-true (meet_of own other)).1 ((meet_has own other).1 some))
 
 pub meet_is_empty-requires-clause-common : goal.meet_is_empty-requires-clause-common

@@ -24,7 +24,8 @@ returns-clause-ground c =
     let first : c.push.new.self.items ≡ outside f ∷ [] = c.in_ok-push.ensures.items
     ∙ (ap (λ dss. dss ++ c.in_ok-polygon_nearby.field-0 ∷ []) c.new-own.ensures.items ∙ ap (λ ds. ds ∷ []) c.in_ok-polygon_nearby.ensures.outside) in
     let turns = left_in_turn round c.in_ok-left.left near.held.items (outsides n o (drop near.rest V)) (outside f ∷ outsides n o V)
-    (c.in_ok-left.ensures ∙ ap (uncovered round) c.deref.ensures.value)
+    (c.in_ok-left.ensures ∙ (ap (λ (x : Cell). uncovered (x ∷ []) c.deref.result.now) c.borrow.ensures
+    ∙ ap (uncovered round) c.deref.ensures.value))
     (c.in_ok-near.ensures.all ∙ ap (λ dss. dss ++ outsides n o V) first) in
     let ground : carve_of round (outside f) ≡ open_ground f [] = search rules in
     let all : uncovered c.in_ok-left.left (outsides n o (drop near.rest V)) ≡ open_ground f (of_class n V) =
@@ -33,7 +34,7 @@ returns-clause-ground c =
 
 pub left_of_cell-requires-clause-some : goal.left_of_cell-requires-clause-some
 left_of_cell-requires-clause-some c =
-    rw (c.in_ok-round.ensures, c.env.ensures) (box_has_point (envelope_of c.shape.result.now) (envelope_proper c.shape.result.now))
+    rw (c.borrow.ensures, c.in_ok-round.ensures, c.env.ensures) (box_has_point (envelope_of c.shape.result.now) (envelope_proper c.shape.result.now))
 
 pub left_of_cell-requires-clause-off_walls : goal.left_of_cell-requires-clause-off_walls
 left_of_cell-requires-clause-off_walls c =

@@ -77,7 +77,7 @@ loop-i-preserved-then-is_wall t c = record {
   same = c.loop-i.invariant.same;
   shut = shut_one c.args.is_open (drop c.args.from c.args.near.now) c.args.piece.now c.deref-outside.result.now c.loop-i.i
       c.loop-i.invariant.shut (λ d e n. absurd (passed_wall c.args.is_open c.is_wall.result c.deref-outside.result.now c.loop-i.i
-      c.cell.result.now d (rw c.cells.ensures at c.cell.ensures) e c.if-is_open.true c.if-is_wall.true c.is_wall.ensures n));
+      c.cell.result d (rw c.cells.ensures at c.cell.ensures) e c.if-is_open.true c.if-is_wall.true c.is_wall.ensures n));
 }
 
 pub is_shut-requires : goal.is_shut-requires
@@ -94,7 +94,7 @@ is_shut-requires t c =
         c.requires.off_walls,
         elim c.else-is_open.branch [
           | else-is_open-via-then-is_open+else-is_wall w ↦
-              let d : Cell = w.cell.result.now in
+              let d : Cell = w.cell.result in
               let at : slice_get ds c.loop-i.i ≡ Some d = rw w.cells.ensures at w.cell.ensures in
               let made = (rw c.in-Some-2.is at (c.in_ok-mark.ensures.some)) d at in
               let off : is_wall d ≡ false = sym w.is_wall.ensures ∙ w.if-is_wall.false in

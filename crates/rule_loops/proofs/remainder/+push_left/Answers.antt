@@ -45,7 +45,7 @@ still_open : (t : ℕ) (c : After-stays_open-part_open t) → OnTrue c.stays_ope
 still_open t c =
     let ds : List Cell = c.deref-outside.result.now in
     let near = c.args.near.now in
-    let d : Cell = c.cell-part.result.now in
+    let d : Cell = c.cell-part.result in
     let same : c.in-Some.nearby.now ≡ ds = sym (c.deref-outside.ensures ∙ c.nearby.view_is) in
     let read : slice_get near c.args.from ≡ Some ds =
     slice_get_read near (length near) c.args.from ds refl c.in-Some.ensures.lookup.3.0 (rw same at c.in-Some.ensures.lookup.1) in
@@ -63,7 +63,7 @@ is_over-requires t c = record {
 pub push_left-requires : goal.push_left-requires
 push_left-requires t c =
     let inv = c.loop-i.invariant in
-    let d : Cell = c.cell-part.result.now in
+    let d : Cell = c.cell-part.result in
     let at = rw c.cells.ensures at c.cell-part.ensures in
     let made = (rw c.in-Some-2.is at (c.in_ok-mark.ensures.some)) d at in
     let same : (p : Point) → InCell c.loop-i.piece p ↔ InCell c.loop-i.cell p = rw (inv.piece, inv.cell) c.requires.piece in
@@ -120,7 +120,7 @@ loop-i-preserved t c =
     record {
       left = elim c.if-not-branch.branch [
         | then-not-branch+in_ok-narrow+in_ok-push_left w ↦
-            let d : Cell = c.cell-part.result.now in
+            let d : Cell = c.cell-part.result in
             let at : slice_get ds i ≡ Some d = rw c.cells.ensures at c.cell-part.ensures in
             let met = narrowed d at in
             one_with own ds rest i d c.args.left.now c.loop-i.left c.if-not-branch.left at

@@ -11,7 +11,7 @@ returns-then-len-eq0 c = rest_none InCell c.args.others.now c.loop-i.i c.args.ce
     (sym c.len.ensures ∙ c.if-len-eq0.true) c.loop-i.invariant
 
 pub loop-i-preserved : goal.loop-i-preserved
-loop-i-preserved c = rest_next InCell c.args.others.now c.loop-i.i c.cell.result.now c.args.cells.now c.loop-i.rest
+loop-i-preserved c = rest_next InCell c.args.others.now c.loop-i.i c.cell.result c.args.cells.now c.loop-i.rest
     c.in_ok-rest-2.rest c.cell.ensures c.loop-i.invariant c.in_ok-rest-2.ensures
 
 pub returns : goal.returns

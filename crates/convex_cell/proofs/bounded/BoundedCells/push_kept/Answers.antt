@@ -1,5 +1,4 @@
-use Rattle.std.proofs.Common.{◌≡◌, ◌++◌, ◌∷◌, [], OnOk, true, append-nil, subst, sym}
-use Rattle.plane_terms.specs.Cell.{Cell}
+use Rattle.std.proofs.Common.{◌≡◌, true, append-nil, sym}
 use Rattle.plane_terms.specs.Decide.{has_point}
 use Rattle.cell_laws.proofs.Decision.{has_point-true}
 use Rattle.convex_cell.proofs.Empty.{no_point}
@@ -11,4 +10,4 @@ returns-then-is_empty_within-clause-ok c = rw (no_point c.args.halves.now c.if-i
 pub returns-clause-ok : goal.returns-clause-ok
 returns-clause-ok c =
     let some : has_point c.args.halves.now ≡ true = (has_point-true c.args.halves.now).1 c.if-is_empty_within.ensures.point in
-    rw some (subst (λ (cell : Cell). OnOk c.push.result (c.push.new.self ≡ c.args.self.now ++ cell ∷ [])) c.in_ok-of.ensures c.push.ensures.ok)
+    rw some c.push_both.ensures.ok

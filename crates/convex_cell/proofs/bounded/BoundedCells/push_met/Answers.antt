@@ -17,14 +17,14 @@ pub push_meet-requires-clause-other : goal.push_meet-requires-clause-other
 push_meet-requires-clause-other c =
     let cs = c.args.others.now in
     let i = c.loop-i.i in
-    let d = c.cell.result.now in
-    bounds_at c.args.bounds.now cs i _ d c.requires.bounds c.requires.same (slice_get_within cs i d c.cell.ensures)
-    (sym (get_or_from_slice_get cs i d d c.cell.ensures))
+    let d = c.halves_at.result.now in
+    bounds_at c.args.bounds.now cs i _ d c.requires.bounds c.requires.same (slice_get_within cs i d c.halves_at.ensures)
+    (sym (get_or_from_slice_get cs i d d c.halves_at.ensures))
 
 pub loop-i-preserved : goal.loop-i-preserved
 loop-i-preserved c = record {
-  made = c.in_ok-push_meet.ensures.made ∙ met_more c.args.cell.now c.args.others.now c.args.self.now c.loop-i.self c.loop-i.i c.cell.result.now
-      c.cell.ensures c.loop-i.invariant.made;
+  made = c.in_ok-push_meet.ensures.made ∙ met_more c.args.cell.now c.args.others.now c.args.self.now c.loop-i.self c.loop-i.i c.halves_at.result.now
+      c.halves_at.ensures c.loop-i.invariant.made;
   needed = c.in_ok-push_meet.ensures.needed;
 }
 

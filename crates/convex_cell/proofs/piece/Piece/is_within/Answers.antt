@@ -1,4 +1,4 @@
-use Rattle.std.proofs.Common.{◌∙◌, sym, subst}
+use Rattle.std.proofs.Common.{sym, subst}
 use Rattle.std.proofs.lemmas.Bool.{OnTrue_at}
 use Rattle.plane_terms.specs.Cell.{Cell, InCell, HasPoint}
 use Rattle.convex_cell.proofs.Pieces.{in_bounds_held}
@@ -12,6 +12,6 @@ returns-clause-some c = on_true c.hold_in.result _ _ (λ h. subst HasPoint c.sel
 pub returns-clause-within : goal.returns-clause-within
 returns-clause-within c =
     let own : Cell = c.self.inside.halves.items in
-    on_true c.hold_in.result _ _ (λ h p m. subst (λ (hs : Cell). InCell hs p) (c.deref.ensures.value ∙ c.other.view_is)
-    ((in_bounds_held c.self.inside.bounds own c.deref.result.now c.self.invariant.bounds h p).0
+    on_true c.hold_in.result _ _ (λ h p m.
+    ((in_bounds_held c.self.inside.bounds own c.args.other.now c.self.invariant.bounds h p).0
     (subst (λ (hs : Cell). InCell hs p) (sym c.self.view_is) m)).1) c.hold_in.ensures
