@@ -6,18 +6,18 @@ use Rattle.std.proofs.lemmas.List.Elements.{All-from_recursion, All-get_or}
 use Rattle.std.proofs.Math.Nat.{mul-pos}
 use mir.Val.{to_z, of_z}
 use Rattle.plane_terms.specs.Point.{Point}
-use Rattle.plane_terms.specs.HalfPlane.{HalfPlane, Holds, Says, value_at, turned}
+use Rattle.plane_terms.specs.HalfPlane.{HalfPlane, Holds, Says, value_at}
 use Rattle.plane_terms.specs.Columns.{gap_at}
 use Rattle.plane_terms.specs.Cell.{Cell, InCell}
 use Rattle.plane_terms.specs.declared.op.Op.{Op}
 use Rattle.plane_terms.specs.declared.op.Op.TheVariants.{Over, AtLeast, Zero}
 use Rattle.number_laws.proofs.Ring.{num, neg, ◌⊕◌, ◌⊖◌, ◌⊗◌, same_by}
-use Rattle.number_laws.proofs.Order.{product_over, product_at_least, over_unscaled, least_unscaled, zero_unscaled, natural}
-use Rattle.cell_laws.proofs.Outside.{turned_value}
+use Rattle.number_laws.proofs.Order.{product_over, product_at_least, natural}
 use Rattle.convex_cell.specs.declared.direction.Direction.{Direction}
 use Rattle.convex_cell.specs.Seen.{seen, cell_seen}
 use Rattle.convex_cell.specs.Line.{IsLineAcross, SaysOn}
 use Rattle.convex_cell.proofs.Ranges.{unsigned_abs-product}
+use Rattle.convex_cell.proofs.Sums.{says_unscaled}
 use Rattle.convex_cell.proofs.Views.{All-unmap}
 
 -- ---- the law
@@ -26,11 +26,6 @@ says_scaled : (o : Op) (a v : ℤ) → pos 0 <ℤ a → Says o v → Says o (a *
 says_scaled Over a v p h = product_over a v p h
 says_scaled AtLeast a v p h = product_at_least a v (omega (arith, ints)) h
 says_scaled Zero a v p h = subst (λ z. a *ℤ z ≡ pos 0) (sym h) (omega (arith, ints))
-
-says_unscaled : (o : Op) (a v : ℤ) → pos 0 <ℤ a → Says o (a *ℤ v) → Says o v
-says_unscaled Over a v p h = over_unscaled a v p h
-says_unscaled AtLeast a v p h = least_unscaled a v p h
-says_unscaled Zero a v p h = zero_unscaled a v p h
 
 gap_is : (h l : HalfPlane) (q : Point) → l.b *ℤ value_at h q ≡ h.b *ℤ value_at l q +ℤ gap_at h l q.x (pos q.w)
 gap_is h l q =
@@ -85,13 +80,6 @@ over_line l t w p r =
     }
 
 -- ---- the code
--- a line holds turned round too
-pub turned_line : (l : HalfPlane) (q : Point) → l.op ≡ Zero → Holds l q → Holds (turned l Zero) q
-turned_line l q e h = turned_value l Zero q ∙ still (value_at l q) (subst (λ o. Says o (value_at l q)) e h)
-  where
-    still : (v : ℤ) → v ≡ pos 0 → neg_ℤ v ≡ pos 0
-    still v h = omega (arith, ints)
-
 -- what one of the half-planes says, all say
 pub from_one : (d : Direction) (hs : Cell) (i : ℕ) (h l : HalfPlane) → i < length hs → h ≡ get_or hs i h
     → ((q : Point) → Holds (seen d h) q → Holds l q) → (q : Point) → InCell (cell_seen d hs) q → Holds l q
