@@ -33,11 +33,7 @@ fn cells_with_points(alloc: Global, cells: &Cells) -> Result<Cells, NoMemory>
     common(alloc, cells, &plane)
 }
 
-fn rest_off_cell(
-    alloc: Global,
-    cells: &Cells,
-    other: &BorrowedCell<'_>,
-) -> Result<Cells, NoMemory>
+fn rest_off_cell(alloc: Global, cells: &Cells, other: &BorrowedCell<'_>) -> Result<Cells, NoMemory>
     ensures { IfOk result (IsRest (λ p. ¬ (InCell other.now p)) cells.now) }
 {
     let outside = other.out_of_cell(alloc)?;
