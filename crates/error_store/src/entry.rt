@@ -113,7 +113,7 @@ impl Entry {
         &self.body.cells
     }
 
-    /// A cell more, behind the others. After an `Err`, want of memory, nothing has changed.
+    /// A cell more, behind the others. After an `Err`, out of memory, nothing has changed.
     pub fn push_cell(&mut self, cell: Cell) -> Result<(), NoMemory>
         ensures ok { OnOk result (self.new ≡ record self.old { cells = self.old.cells ++ cell ∷ [] }) }
         ensures err { OnErr result (self.new ≡ self.old) }

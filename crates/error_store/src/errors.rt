@@ -213,7 +213,7 @@ impl Errors {
     }
 
     /// The errors of the selected subjects give way to the fresh ones, and all others stay. A fresh error is marked exactly
-    /// where the old one of its key was, and had the same extent, frame and cells. After an `Err`, want of memory, nothing
+    /// where the old one of its key was, and had the same extent, frame and cells. After an `Err`, out of memory, nothing
     /// has changed. Where few are selected among many errors it looks for each by its key, else it goes over both lists once.
     pub fn replace(
         &mut self,

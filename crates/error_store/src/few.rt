@@ -91,7 +91,7 @@ fn put_each(entries: &mut Vec<Entry>, fresh: Vec<Entry>, selected: &Handles)
 }
 
 /// The errors of the selected subjects give way to the fresh ones, and all others stay. Looks for each of them by its key, and
-/// moves those behind it where one comes or goes. After an `Err`, want of memory, nothing has changed.
+/// moves those behind it where one comes or goes. After an `Err`, out of memory, nothing has changed.
 pub fn replace_few(
     entries: &mut Vec<Entry>,
     selected: &Handles,

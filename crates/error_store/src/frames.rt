@@ -70,7 +70,7 @@ fn put_frame(index: &mut Index, entries: &[Entry], fresh: &Entry) -> Result<(), 
     index.put(place)
 }
 
-/// Puts the frames of the fresh errors in. Those of the errors stay there, after an `Err`, want of memory, too.
+/// Puts the frames of the fresh errors in. Those of the errors stay there, after an `Err`, out of memory, too.
 pub fn put_frames(index: &mut Index, entries: &[Entry], fresh: &[Entry]) -> Result<(), NoMemory>
     requires ascending { IsAscending entries.now }
     requires framed { AreFramed index.old entries.now }

@@ -245,7 +245,7 @@ impl Store {
         self.live = self.live + comes - kept_count(kept);
     }
 
-    /// Exchanges the live feature of this handle, or its absence, with the kept one. After a refusal, want of memory,
+    /// Exchanges the live feature of this handle, or its absence, with the kept one. After a refusal, out of memory,
     /// nothing has changed.
     pub fn swap(&mut self, handle: u32, kept: &mut Option<Feature>) -> Result<(), NoMemory>
         requires from_1 { 1 ≤ handle }

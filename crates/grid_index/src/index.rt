@@ -47,7 +47,7 @@ impl Index {
         }
     }
 
-    /// Puts the rectangle in under its handle; that it is there already does no harm. After an `Err`, want of memory, the index
+    /// Puts the rectangle in under its handle; that it is there already does no harm. After an `Err`, out of memory, the index
     /// holds what it held.
     pub fn put(&mut self, placed: Placed) -> Result<(), NoMemory>
         ensures ok { OnOk result (Gains self.old self.new placed) }

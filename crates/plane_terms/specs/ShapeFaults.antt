@@ -16,7 +16,7 @@
 -- IsFault s fault     the fault is the first that applies, in the order in which they stand here; a line has no bad pairs
 -- IsFlawless s        none applies
 --
--- Want of memory may come at any time, and says nothing of the shape.
+-- Out of memory may come at any time, and says nothing of the shape.
 -- Source: own; what a valid polygon is differs from OGC 06-103r4 in that rings may touch and are not told apart.
 use Rattle.std.specs.Prelude.{◌≡◌, ℕ, zero, suc, ◌<◌, ◌⊎◌, List, [], ◌∷◌, length, Some, slice_get}
 use Rattle.plane_terms.specs.Lists.{SomeOf}

@@ -71,7 +71,7 @@ fn first_unsound<R: RuleSet>(
 
 /// `None` where the project of these rules in force, features, errors and dirt is sound; else the first rule and subject at
 /// which it is not, in order of rules, then of subjects. Each live feature stands in the index, which says where to look for
-/// features; other pairs that stand there change nothing. An `Err` is want of memory.
+/// features; other pairs that stand there change nothing. An `Err` means out of memory.
 ///
 /// Every number may be a subject: at one that is neither a live feature nor has an error, a project is sound. It goes subject by
 /// subject, so that what lies near one is looked up once for all rules.

@@ -50,7 +50,7 @@ fn is_sound_part(
 }
 
 /// The place of the first of these rules by which the project is not sound at the subject, live or not: each judges the subject
-/// afresh, and what is found is compared with its stored entries. `None` where it is sound by all. An `Err` is want of memory.
+/// afresh, and what is found is compared with its stored entries. `None` where it is sound by all. An `Err` means out of memory.
 pub fn first_rule<R: RuleSet>(
     rules: &R,
     alloc: Global,

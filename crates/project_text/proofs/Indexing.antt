@@ -72,7 +72,7 @@ pub still_indexed : (d : List Rectangle) (ps qs : List Placed) → ((p : Placed)
     → IsIndexed d qs
 still_indexed d ps qs stays placed k s e = stays (record { rect = s; handle = k }) (placed k s e)
 
--- whether the rectangle was put last, or nothing was, for want of memory
+-- whether the rectangle was put last, or nothing was, out of memory
 pub put_or_not : {A E : Type 0} (o : Result A E) (d D : List Rectangle) (ps qs : List Placed) (r : Rectangle) (n : ℕ) → n ≡ length d
     → Gains ps qs (record { rect = r; handle = n }) → OnOk o (D ≡ d ++ r ∷ []) → OnErr o (D ≡ d) → IsIndexed d ps → IsIndexed D qs
 put_or_not (Ok x) d D ps qs r n last gains put none placed = subst (λ l. IsIndexed l qs) (sym put) (one_more d ps qs r n last gains placed)

@@ -2,7 +2,7 @@
 --
 -- left rest           the fields behind a part of a line of which rest is left: none, or those behind its first byte, a space
 -- is_single fs        there is just one field
--- Gives r P d         after Ok, P holds of the verdict that makes the draft d; of a wrong line, of the verdict of its cause; want of memory
+-- Gives r P d         after Ok, P holds of the verdict that makes the draft d; of a wrong line, of the verdict of its cause; out of memory
 --                     says nothing
 -- Says r v d          after Ok the verdict v makes the draft d; of a wrong line it is the cause
 -- rect_said, rule_said, feature_said, error_said      what the code's values stand for
@@ -12,9 +12,9 @@
 -- IsFaulty f r        r is what comes of a text with the fault f
 -- cell_line_verdict d fs, IsFeatureVerdict d fs v     the verdict on the line of a cell; on the line of a feature
 -- is_in_force rs o    o is the number of a rule in force
--- IsProjectFault t e  the line of this number is the first that is wrong, and this is its first cause; want of memory says nothing
+-- IsProjectFault t e  the line of this number is the first that is wrong, and this is its first cause; out of memory says nothing
 -- at_line n f         the fault of a text whose line n has the fault f
--- IsFaultAt n c e     the fault is this line and this cause, or want of memory
+-- IsFaultAt n c e     the fault is this line and this cause, or out of memory
 use Rattle.std.specs.Prelude.{ℕ, ◌≡◌, Bool, true, false, List, [], ◌∷◌, ◌++◌, Option, Some, None, Result, Ok, Err, IfSome, is_some, ◌⊎◌, if◌then◌else◌}
 use Rattle.std.specs.List.{list_all}
 use Rattle.plane_terms.specs.Rectangle.{Rectangle, rect_of as rectangle}

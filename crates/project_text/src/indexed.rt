@@ -72,8 +72,8 @@ impl IndexedDirt {
         Ok(is_nested_among(self.dirt.rects(), r, &places))
     }
 
-    /// Makes the rectangle dirty, last. After an `Err`, want of memory, the same is dirty as before;
-    /// that there is no handle, a `u32`, for a place so far behind counts as want of memory.
+    /// Makes the rectangle dirty, last. After an `Err`, out of memory, the same is dirty as before;
+    /// that there is no handle, a `u32`, for a place so far behind counts as out of memory.
     pub fn add(&mut self, r: Rect) -> Result<(), NoMemory>
         requires { list_any (are_nested r) self.old ≡ false }
         ensures ok { OnOk result (self.new ≡ self.old ++ r ∷ []) }

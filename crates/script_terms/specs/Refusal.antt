@@ -33,7 +33,7 @@ with_number word n = word ⧺ 32 ∷ decimal n
 abbrev pub with_pair : List ℕ → ℕ → ℕ → List ℕ
 with_pair word i j = word ⧺ 32 ∷ decimal i ⧺ 32 ∷ decimal j
 
--- want of memory is no line's fault, and has no text
+-- out of memory is no line's fault, and has no text
 abbrev pub shape_fault_text : ShapeFault → List ℕ
 shape_fault_text (TooFew part) = with_number (codes "few") part
 shape_fault_text (TooMany count) = with_number (codes "many") count

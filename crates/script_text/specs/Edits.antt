@@ -4,7 +4,7 @@
 -- behind_editor ps     the pieces without the word and the editor at their front
 -- IsTextWithin f       the text of the form's shape, where it has one, is no longer than a line may be
 -- IsEditOf f c         what the form of an edit says, its shape read, is the command
--- IsEditFault f e      what it says is no command, and e says why; want of memory says nothing
+-- IsEditFault f e      what it says is no command, and e says why; out of memory says nothing
 use Rattle.std.specs.Prelude.{◌≡◌, ◌≤◌, ℕ, List, [], ◌∷◌, length}
 use Rattle.plane_terms.specs.Shape.{Shape}
 use Rattle.wkt_terms.specs.Shapes.{IsShapeText}

@@ -1,4 +1,4 @@
--- The faults of texts and lines as the code answers them; want of memory says nothing.
+-- The faults of texts and lines as the code answers them; out of memory says nothing.
 --
 -- fault_of e            why a text is no shape's, as a line is refused for it
 -- IsFormFault line e    the line has a form that is no command, and e says why

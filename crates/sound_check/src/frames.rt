@@ -58,7 +58,7 @@ fn reaches_sides(alloc: Global, frame: &Rect, cells: &Cells) -> Result<bool, NoM
 }
 
 /// Whether the frame is the least rectangle of the grid that holds every point of the cells. Cells that go on for ever or beyond
-/// the grid have none, nor have cells without any point. An `Err` is want of memory.
+/// the grid have none, nor have cells without any point. An `Err` means out of memory.
 pub fn is_least_frame(alloc: Global, frame: &Rect, cells: &Cells) -> Result<bool, NoMemory>
     ensures { IfOk result (λ yes. IsTrue yes ↔ IsLeastFrame frame.now cells.now) }
 {

@@ -33,7 +33,7 @@ fn do_wholes_agree(
 /// Whether the stored entries of a rule and a subject are sound beside those that are found afresh: off the dirt both have the
 /// same points, entry by entry; a subject clear of the dirt has a whole entry in both or in neither; each stored entry has cells
 /// with points and the least frame of them, unless it is whole; each frame meets the dirt or lies in the envelope, which is
-/// there where the subject is live. Both lists have only entries of the rule and the subject. An `Err` is want of memory.
+/// there where the subject is live. Both lists have only entries of the rule and the subject. An `Err` means out of memory.
 pub fn is_sound_pair(
     alloc: Global,
     rule: u16,

@@ -39,7 +39,7 @@ pub fn is_within(
     Ok(rest.len() == 0)
 }
 
-/// Whether both lists hold the same points off the dirt. An `Err` is want of memory.
+/// Whether both lists hold the same points off the dirt. An `Err` means out of memory.
 pub fn are_same_off(
     alloc: Global,
     first: &Cells,

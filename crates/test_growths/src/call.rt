@@ -6,7 +6,7 @@ use std::alloc::Global;
 pub enum Made {
     /// It was done, or refused for another cause than memory.
     Done,
-    /// It was refused for want of memory.
+    /// It was refused: out of memory.
     NoMemory,
 }
 

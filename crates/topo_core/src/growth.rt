@@ -35,7 +35,7 @@ fn kept_env(kept: &Option<Feature>) -> Option<Rect>
 }
 
 /// Puts the place of what comes into the index, and makes the envelope of what stands at the handle dirty, then that of what
-/// comes. After an `Err`, want of memory, the dirt is as it was, and each live feature that stood in the index stands there.
+/// comes. After an `Err`, out of memory, the dirt is as it was, and each live feature that stood in the index stands there.
 pub fn dirty_both(
     dirt: &mut Dirt,
     index: &mut Index,
@@ -60,7 +60,7 @@ pub fn dirty_both(
     }
 }
 
-/// Puts the rectangle into the index under the next handle, and makes it dirty. After an `Err`, want of memory, the dirt is as
+/// Puts the rectangle into the index under the next handle, and makes it dirty. After an `Err`, out of memory, the dirt is as
 /// it was, and each live feature that stood in the index stands there.
 pub fn dirty_next(
     dirt: &mut Dirt,

@@ -56,7 +56,7 @@ fn is_this(some: &Option<Placed>, p: &Placed) -> bool
     }
 }
 
-/// Puts the pair into the index, where it is there; after an `Err`, want of memory, the same pairs stand in it.
+/// Puts the pair into the index, where it is there; after an `Err`, out of memory, the same pairs stand in it.
 pub fn put_place(index: &mut Index, comes: &Option<Placed>) -> Result<(), NoMemory>
     ensures ok { OnOk result ((q : terms.Placed) → Contains index.new q ↔ (Contains index.old q ⊎ (comes.now ≡ Some q))) }
     ensures err { OnErr result ((q : terms.Placed) → Contains index.new q ↔ Contains index.old q) }

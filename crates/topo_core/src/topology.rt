@@ -204,7 +204,7 @@ impl<R: KindRules> Topology<R> {
     }
 
     /// Exchanges the live feature of this handle, or its absence, with the kept one. The envelope of what stood there is dirty
-    /// then, and that of what stands there. After a refusal, want of memory, nothing has changed.
+    /// then, and that of what stands there. After a refusal, out of memory, nothing has changed.
     pub fn swap(&mut self, handle: u32, kept: &mut Option<Feature>) -> Result<(), NoMemory>
         requires from_1 { 1 ≤ handle }
         requires given { handle < self.old.next }
@@ -308,7 +308,7 @@ impl<R: KindRules> Topology<R> {
 
     /// `None` where the topology is sound: off the dirt its errors say exactly what is broken. Else the first rule in force and
     /// subject at which it is not, in order of rules, then of subjects; a subject is live, or has an error. Judges each live
-    /// feature by each rule anew, and changes nothing. An `Err` is want of memory.
+    /// feature by each rule anew, and changes nothing. An `Err` means out of memory.
     pub fn check(&self) -> Result<Option<Unsound>, NoMemory>
         ensures { IfOk result (IsChecked R.meaning self.now) }
     {

@@ -9,7 +9,7 @@ pub record ReadCause {T E : Type 0} (before now : ℕ) (result : Result T E) : T
   pub later : before ≤ now
   pub failed : OnErr result (Rose before now)
 
--- the fault of a sink is its own, and not want of memory
+-- the fault of a sink is its own, and not out of memory
 abbrev pub IsSinkFailure : SinkFault → Type 0 → Type 0
 IsSinkFailure Failed P = P
 IsSinkFailure NoMemory P = Unit {0}

@@ -1,6 +1,6 @@
 -- Faults of a shelf.
 --
--- IsShelfFailure fault P     P, where the fault is the shelf's own and not want of memory
+-- IsShelfFailure fault P     P, where the fault is the shelf's own and not out of memory
 -- ShelfCause             the count of faults does not fall, and `Failed` comes only where it rose
 use Rattle.std.specs.Prelude.{ℕ, ◌≤◌, IfErr, Result}
 use Rattle.outside_terms.specs.Faults.{Rose}

@@ -175,7 +175,7 @@ fn judge_by_each<R: RuleSet>(
 
 /// The new entries of the subject under each of these rules, in their order; where it is not live there are none. What lies near
 /// it is looked up once. The count of judgements rises by one for each rule that judges the subject, where it is live. After an
-/// `Err`, want of memory, it has risen by no more.
+/// `Err`, out of memory, it has risen by no more.
 pub fn judge_subject<R: RuleSet>(
     rules: &R,
     alloc: Global,

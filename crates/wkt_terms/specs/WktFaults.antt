@@ -2,7 +2,7 @@
 --
 -- IsWktFault text e      the first token that does not fit, its cause and its place; where the text spells a geometry, its first ring that
 --                        is
---                        not closed; where its rings are closed, the first fault of its shape. Want of memory may come at any time.
+--                        not closed; where its rings are closed, the first fault of its shape. Out of memory may come at any time.
 use Rattle.std.specs.Prelude.{ℕ, ◌≡◌, List}
 use Rattle.plane_terms.specs.ShapeFaults.{IsFault, IsFirstOf}
 use Rattle.plane_terms.specs.declared.shape_fault.ShapeFault.TheVariants as shape

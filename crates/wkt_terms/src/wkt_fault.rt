@@ -13,7 +13,7 @@ pub enum WktFault {
     Unsupported { at: u32 },
     /// The first ring whose first and last positions differ, counted from 0 through all parts.
     NotClosed { ring: u32 },
-    /// The vertices make no shape, for this reason, which is not want of memory.
+    /// The vertices make no shape, for this reason, which is not out of memory.
     Invalid(ShapeFault),
     NoMemory,
 }

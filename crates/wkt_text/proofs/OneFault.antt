@@ -1,7 +1,7 @@
 -- A text has one fault at most.
 --
 -- one_first       it stops at one place, for one cause
--- one_fault       and its fault is one; want of memory aside
+-- one_fault       and its fault is one; out of memory aside
 use Rattle.std.proofs.Common.{ℕ, ◌≡◌, ◌+◌, length, List, [], ◌∷◌, ◌++◌, Result, Ok, Err, refl, sym, ap, ◌∙◌, subst, append_assoc, arith, ◌⊎◌, inl, inr}
 use Rattle.text_terms.specs.Fields.{skip_blanks}
 use Rattle.wkt_terms.specs.Faults.{Cause, IsSyntax, IsOffGrid, IsOutOfReach, IsUnsupported, IsBegun, IsFront, StopsAt, Wants, UnsupportedAt, NumeralAt, IsCause, FirstFault}

@@ -1,6 +1,6 @@
 -- Why a text is not read.
 --
--- IsShapeFault s e       the parts of s make no shape, and e carries the first fault that applies; want of memory may come at any time
+-- IsShapeFault s e       the parts of s make no shape, and e carries the first fault that applies; out of memory may come at any time
 -- IsPolygonFault ps e    the same of the parts ps of a polygon as they are written, or e is the number of the first ring that is not closed
 -- IsWholeFault g e       the same of a geometry
 use Rattle.std.specs.Prelude.{◌≡◌, true, List}

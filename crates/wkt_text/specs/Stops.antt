@@ -1,7 +1,7 @@
 -- Faults of tokens.
 --
 -- fault_at stop at     the fault of a text of which a step was not done, at this place
--- IsOfToken P e        e is the fault of a token, of whose place and cause P holds, and neither a ring's nor a shape's; want of memory may
+-- IsOfToken P e        e is the fault of a token, of whose place and cause P holds, and neither a ring's nor a shape's; out of memory may
 --                      come at any time
 -- Refuses text e       the text has its first fault where e says, for the cause that e tells
 -- HasStopped r at e    a step was not done, at this place and for the cause that e tells

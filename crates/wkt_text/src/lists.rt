@@ -96,7 +96,7 @@ fn push_more_lines(out: &mut Vec<u8>, parts: &[Vec<GridPoint>]) -> Result<(), Al
     Ok(())
 }
 
-/// Appends the written form of a line of these parts; after want of memory a front of it.
+/// Appends the written form of a line of these parts; if memory runs out, a front of it.
 pub fn push_line(out: &mut Vec<u8>, parts: &[Vec<GridPoint>]) -> Result<(), AllocError>
     ensures { Appends result out.old.items out.new.items (written (of_lines (lists_of parts.now))) }
 {

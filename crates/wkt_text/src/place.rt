@@ -32,7 +32,7 @@ pub fn push_place(out: &mut Vec<u8>, place: &GridPoint) -> Result<(), AllocError
     Ok(())
 }
 
-/// Appends the written form of a point; after want of memory a front of it.
+/// Appends the written form of a point; if memory runs out, a front of it.
 pub fn push_point(out: &mut Vec<u8>, place: &GridPoint) -> Result<(), AllocError>
     ensures { Appends result out.old.items out.new.items (written (APoint place.now)) }
 {

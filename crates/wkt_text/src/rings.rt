@@ -131,7 +131,7 @@ fn push_more_polygons(out: &mut Vec<u8>, parts: &[Vec<Vec<GridPoint>>]) -> Resul
     Ok(())
 }
 
-/// Appends the written form of a polygon of these parts, each ring closed by its first vertex; after want of memory a front of it.
+/// Appends the written form of a polygon of these parts, each ring closed by its first vertex; if memory runs out, a front of it.
 pub fn push_polygon(out: &mut Vec<u8>, parts: &[Vec<Vec<GridPoint>>]) -> Result<(), AllocError>
     ensures { Appends result out.old.items out.new.items (written (of_polygons (parts_of parts.now))) }
 {

@@ -20,7 +20,7 @@ fn push_shape(out: &mut Vec<u8>, shape: &Shape) -> Result<(), AllocError>
     }
 }
 
-/// Appends the one written form of a shape; after want of memory a front of it is appended. Reading it gives the shape again.
+/// Appends the one written form of a shape; if memory runs out, a front of it is appended. Reading it gives the shape again.
 #[tactic(auto, using(crate::proofs::Again::again))]
 pub fn write_wkt(shape: &Shape, out: &mut Vec<u8>) -> Result<(), NoMemory>
     ensures appended { Appends result out.old.items out.new.items (shape_text shape.now) }
