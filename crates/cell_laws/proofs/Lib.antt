@@ -18,4 +18,5 @@ pub mod Envelope
 pub mod HalfPlanes
 pub mod SegmentCells
 pub mod AtPlaces
+pub mod LinePoints
 pub mod Counted

@@ -11,7 +11,8 @@ use Rattle.cell_laws.proofs.HalfPlanes.{left_value}
 use Rattle.column_laws.proofs.Signs.{most_scaled}
 use Rattle.number_laws.proofs.Order.{product_at_least, least_unscaled, natural, scaled_le, cases_order_ℤ}
 use Rattle.column_laws.specs.Slots.{IsAcross}
-use Rattle.column_laws.proofs.Lines.{IsLower, IsWithin, MeetWithin, one_order, point_on, point_on-is, point_on-other, point_on-within}
+use Rattle.cell_laws.proofs.LinePoints.{point_on, point_on-is}
+use Rattle.column_laws.proofs.Lines.{IsLower, IsWithin, MeetWithin, one_order, point_on-other, point_on-within}
 
 -- a point of the line of a segment, across from it, is on it
 along_by : (lx ly hx hy x y : ℤ) (w : ℕ) → lx <ℤ hx → (hx -ℤ lx) *ℤ (y -ℤ ly *ℤ pos w) -ℤ (hy -ℤ ly) *ℤ (x -ℤ lx *ℤ pos w) ≡ pos 0

@@ -3,7 +3,6 @@ use Rattle.std.proofs.Common.{◌≡◌, ◌↔◌, ℕ, ◌*◌, ◌<◌, ◌�
 use Rattle.std.specs.Int.{w64}
 use Rattle.std.proofs.lemmas.Int.{ints}
 use Rattle.std.proofs.lemmas.List.Elements.{All-from_recursion, All-get_or}
-use Rattle.std.proofs.Math.Nat.{mul-pos}
 use mir.Val.{to_z, of_z}
 use Rattle.plane_terms.specs.Point.{Point}
 use Rattle.plane_terms.specs.HalfPlane.{HalfPlane, Holds, Says, value_at}
@@ -11,6 +10,7 @@ use Rattle.plane_terms.specs.Columns.{gap_at}
 use Rattle.plane_terms.specs.Cell.{Cell, InCell}
 use Rattle.plane_terms.specs.declared.op.Op.{Op}
 use Rattle.plane_terms.specs.declared.op.Op.TheVariants.{Over, AtLeast, Zero}
+use Rattle.cell_laws.proofs.LinePoints.{gap_is, point_on, point_on-is, scaled_gap}
 use Rattle.number_laws.proofs.Ring.{num, neg, ◌⊕◌, ◌⊖◌, ◌⊗◌, same_by}
 use Rattle.number_laws.proofs.Order.{product_over, product_at_least, natural}
 use Rattle.convex_cell.specs.declared.direction.Direction.{Direction}
@@ -27,13 +27,6 @@ says_scaled Over a v p h = product_over a v p h
 says_scaled AtLeast a v p h = product_at_least a v (omega (arith, ints)) h
 says_scaled Zero a v p h = subst (λ z. a *ℤ z ≡ pos 0) (sym h) (omega (arith, ints))
 
-gap_is : (h l : HalfPlane) (q : Point) → l.b *ℤ value_at h q ≡ h.b *ℤ value_at l q +ℤ gap_at h l q.x (pos q.w)
-gap_is h l q =
-    same_by (num l.b ⊗ (num h.a ⊗ num q.x ⊕ num h.b ⊗ num q.y ⊕ num h.c ⊗ num (pos q.w)))
-    (num h.b ⊗ (num l.a ⊗ num q.x ⊕ num l.b ⊗ num q.y ⊕ num l.c ⊗ num (pos q.w)) ⊕ ((num h.a ⊗ num l.b ⊖ num l.a ⊗ num h.b) ⊗ num q.x ⊕
-    (num h.c ⊗ num l.b ⊖ num l.c ⊗ num h.b) ⊗ num (pos q.w)))
-    (omega arith)
-
 -- at a point of the line a half-plane holds just where it says so on the line
 pub on_line : (l h : HalfPlane) (q : Point) → IsLineAcross l → value_at l q ≡ pos 0 → Holds h q ↔ SaysOn l h q.x q.w
 on_line l h q r on =
@@ -48,29 +41,17 @@ on_line l h q r on =
 pub says_on : (l h : HalfPlane) (q : Point) → IsLineAcross l → Holds l q → Holds h q → SaysOn l h q.x q.w
 says_on l h q r on k = (on_line l h q r (subst (λ o. Says o (value_at l q)) r.line on)).0 k
 
--- the point of the line at the first coordinate t / w
-abbrev point_on : HalfPlane → ℤ → (w b : ℕ) → 0 < w → 0 < b → Point
-point_on l t w b p q = record { x = t *ℤ pos b; y = neg_ℤ (l.a *ℤ t +ℤ l.c *ℤ pos w); w = w * b; positive = mul-pos p q }
-
-on_it : (a c t : ℤ) (b w : ℕ) → a *ℤ (t *ℤ pos b) +ℤ pos b *ℤ neg_ℤ (a *ℤ t +ℤ c *ℤ pos w) +ℤ c *ℤ pos (w * b) ≡ pos 0
-on_it a c t b w =
-    same_by (num a ⊗ (num t ⊗ num (pos b)) ⊕ num (pos b) ⊗ neg (num a ⊗ num t ⊕ num c ⊗ num (pos w)) ⊕ num c ⊗ num (pos (w * b)))
-    (num (pos 0)) (omega arith)
-
-scaled_gap : (g h t : ℤ) (w b : ℕ) → g *ℤ (t *ℤ pos b) +ℤ h *ℤ pos (w * b) ≡ pos b *ℤ (g *ℤ t +ℤ h *ℤ pos w)
-scaled_gap g h t w b = same_by (num g ⊗ (num t ⊗ num (pos b)) ⊕ num h ⊗ num (pos (w * b)))
-    (num (pos b) ⊗ (num g ⊗ num t ⊕ num h ⊗ num (pos w))) (omega arith)
-
 pub record OnLine (l : HalfPlane) (t : ℤ) (w : ℕ) : Type 0 where
   pub at : Point
   pub first : at.x *ℤ pos w ≡ t *ℤ pos at.w
   pub holds : (h : HalfPlane) → SaysOn l h t w → Holds h at
 
 pub over_line : (l : HalfPlane) (t : ℤ) (w : ℕ) → 0 < w → IsLineAcross l → OnLine l t w
+unfolding point_on
 over_line l t w p r =
     let b = natural l.b r.across in
     let q = point_on l t w b.0 p b.1 in
-    let on : value_at l q ≡ pos 0 = subst (λ z. l.a *ℤ q.x +ℤ z *ℤ q.y +ℤ l.c *ℤ pos q.w ≡ pos 0) (sym b.2) (on_it l.a l.c t b.0 w) in
+    let on = point_on-is l t w b.0 p b.1 b.2 in
     record {
       at = q;
       first = same_by (num t ⊗ num (pos b.0) ⊗ num (pos w)) (num t ⊗ num (pos (w * b.0))) (omega arith);
