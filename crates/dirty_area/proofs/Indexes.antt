@@ -1,5 +1,5 @@
 -- What an index over a list of dirt finds, and how it follows the list.
-use Rattle.std.proofs.Common.{◌≡◌, inl, inr, refl, sym, ap, ◌∙◌, subst, ℕ, ◌+◌, ◌<◌, Bool, true, false, not, List, [], ◌∷◌, ◌++◌, Contains, take, length, get_or, arith, Option, Some, Result, Ok, Err}
+use Rattle.std.proofs.Common.{◌≡◌, inl, inr, refl, sym, ap, ◌∙◌, subst, ℕ, ◌+◌, ◌<◌, Bool, true, false, not, List, [], ◌∷◌, ◌++◌, Contains, take, length, get_or, arith, append_assoc, Option, Some, Result, Ok, Err}
 use Rattle.std.specs.Prelude.{◌↔◌, slice_get, IfSome, IfOk}
 use Rattle.std.specs.Result.{result_ok}
 use Rattle.std.specs.List.{list_any, filter}
@@ -20,7 +20,7 @@ use Rattle.grid_index.specs.declared.relation.Relation.TheVariants.{Meets, Holds
 use Rattle.grid_index.specs.Near.{Gains, Loses}
 use Rattle.grid_index.specs.Relations.{stands, is_found}
 use Rattle.grid_index.proofs.Members.{among, filtered_from, filtered_to}
-use Rattle.dirty_area.specs.Indexed.{IsIndexed, IsTrimmed, IsFilled, placed_of}
+use Rattle.dirty_area.specs.Indexed.{IsIndexed, IsTrimmed, IsWithout, IsTraded, placed_of}
 
 -- ---- an index that is there
 pub in_some : {A : Type 0} (P : A → Type 0) (o : Option A) (x : A) → o ≡ Some x → IfSome o P → P x
@@ -91,12 +91,57 @@ one_more d ps qs r gains indexed q = (to, λ h. from h.0 h.1)
       | inr e ↦ (gains q).1 (inr (same_placed r q (sym e) z))
     ]
 
--- the next of a list
-pub next_indexed : (d : List Rectangle) (i : ℕ) (r : Rectangle) (ps qs : List Placed) → i < length d → r ≡ get_or d i r
-    → Gains ps qs (placed_of r) → IsIndexed (take i d) ps → IsIndexed (take (i + 1) d) qs
-next_indexed d i r ps qs l is gains indexed =
-    let more : take (i + 1) d ≡ take i d ++ r ∷ [] = take_more d i r l ∙ ap (λ s. take i d ++ s ∷ []) (sym is) in
-    subst (λ e. IsIndexed e qs) (sym more) (one_more (take i d) ps qs r gains indexed)
+pub none_indexed : IsIndexed [] []
+none_indexed q = ((λ h. absurd (omega (arith, h.1))), (λ h. absurd (omega (arith, h.0.1))))
+
+-- the next of a list that is put behind another
+pub next_put : (d xs : List Rectangle) (i : ℕ) (r : Rectangle) (ps qs : List Placed) → i < length xs → r ≡ get_or xs i r
+    → Gains ps qs (placed_of r) → IsIndexed (d ++ take i xs) ps → IsIndexed (d ++ take (i + 1) xs) qs
+next_put d xs i r ps qs l is gains indexed =
+    let more : take (i + 1) xs ≡ take i xs ++ r ∷ [] = take_more xs i r l ∙ ap (λ s. take i xs ++ s ∷ []) (sym is) in
+    let behind : d ++ take (i + 1) xs ≡ (d ++ take i xs) ++ r ∷ [] = ap (λ t. d ++ t) more ∙ sym (append_assoc d (take i xs) (r ∷ [])) in
+    subst (λ e. IsIndexed e qs) (sym behind) (one_more (d ++ take i xs) ps qs r gains indexed)
+
+-- ---- without those of another list
+pub without_none : (d : List Rectangle) (ps : List Placed) → IsIndexed d ps → IsWithout d [] ps
+without_none d ps indexed q = (
+  (λ h. let k = (indexed q).0 h in (k.0, k.1, λ n. absurd (omega (arith, n.1)))),
+  (λ h. (indexed q).1 (h.0, h.1)),
+)
+
+pub next_without : (d xs : List Rectangle) (i : ℕ) (r : Rectangle) (ps qs : List Placed) → i < length xs → r ≡ get_or xs i r
+    → Loses ps qs (placed_of r) → IsWithout d (take i xs) ps → IsWithout d (take (i + 1) xs) qs
+next_without d xs i r ps qs l is loses without =
+    let more : take (i + 1) xs ≡ take i xs ++ r ∷ [] = take_more xs i r l ∙ ap (λ s. take i xs ++ s ∷ []) (sym is) in
+    subst (λ e. IsWithout d e qs) (sym more) step
+  where
+    step : IsWithout d (take i xs ++ r ∷ []) qs
+    step q = (
+      (λ h.
+          let k = (loses q).0 h in
+          let m = (without q).0 k.0 in
+          (m.0, m.1, λ n. elim (Contains-push_cases (take i xs) r q.rect n) [
+            | inl o ↦ m.2 o
+            | inr t ↦ k.1 (same_placed r q (sym t) m.1)
+          ])),
+      (λ h. (loses q).1 (
+        (without q).1 (h.0, h.1, λ n. h.2 (Contains-append_left (take i xs) (r ∷ []) q.rect n)),
+        λ t. h.2 (subst (λ o. Contains (take i xs ++ r ∷ []) o) (sym (ap (λ (p : Placed). p.rect) t)) (Contains-push (take i xs) r)),
+      )),
+    )
+
+-- ---- a list that has lost some and gained others
+pub without_stay : (d e ls gs : List Rectangle) (ps : List Placed) (t : IsTraded d e ls gs) → IsWithout d ls ps → IsIndexed t.stay ps
+without_stay d e ls gs ps t without q = (
+  (λ h. let k = (without q).0 h in ((t.less q.rect).1 (k.0, k.2), k.1)),
+  (λ h. let k = (t.less q.rect).0 h.0 in (without q).1 (k.0, h.1, k.1)),
+)
+
+pub more_indexed : (d e ls gs : List Rectangle) (ps : List Placed) (t : IsTraded d e ls gs) → IsIndexed (t.stay ++ gs) ps → IsIndexed e ps
+more_indexed d e ls gs ps t indexed q = (
+  (λ h. let k = (indexed q).0 h in ((t.more q.rect).1 k.0, k.1)),
+  (λ h. (indexed q).1 ((t.more q.rect).0 h.0, h.1)),
+)
 
 -- ---- without those for which a test holds
 pub trimmed_none : (d : List Rectangle) (f : Rectangle → Bool) (ps : List Placed) → IsIndexed d ps → IsTrimmed d [] f ps
@@ -158,74 +203,3 @@ all_trimmed d f ps trimmed q = (
     out : (b : Bool) → not b ≡ true → b ≡ false
     out false e = refl
     out true e = absurd cc
-
--- ---- another list that differs in those for which a test holds
-pub filled_none : (d e : List Rectangle) (f : Rectangle → Bool) (ps : List Placed)
-    → ((s : Rectangle) → f s ≡ false → Contains d s ↔ Contains e s) → IsTrimmed d d f ps → IsFilled e [] f ps
-filled_none d e f ps same trimmed q = (to, from)
-  where
-    to : Contains ps q → Contains e q.rect × (q.handle ≡ 0) × (f q.rect ≡ true → Contains [] q.rect)
-    to h =
-        let k = (trimmed q).0 h in
-        let out = k.2 k.0 in
-        ((same q.rect out).0 k.0, k.1, λ t. absurd (false≢true (sym out ∙ t)))
-
-    from : Contains e q.rect × (q.handle ≡ 0) × (f q.rect ≡ true → Contains [] q.rect) → Contains ps q
-    from h = at (f q.rect) refl
-      where
-        at : (b : Bool) → f q.rect ≡ b → Contains ps q
-        at true t = absurd (omega (arith, (h.2 t).1))
-        at false t = (trimmed q).1 ((same q.rect t).1 h.0, h.1, λ n. t)
-
-passing_comes : (d e : List Rectangle) (f : Rectangle → Bool) (s : Rectangle) (ps qs : List Placed) → f s ≡ true → Contains d s
-    → Gains ps qs (placed_of s) → IsFilled d e f ps → IsFilled d (e ++ s ∷ []) f qs
-passing_comes d e f s ps qs passing of gains filled q = (to, from)
-  where
-    to : Contains qs q → Contains d q.rect × (q.handle ≡ 0) × (f q.rect ≡ true → Contains (e ++ s ∷ []) q.rect)
-    to h = elim ((gains q).0 h) [
-      | inl k ↦ let m = (filled q).0 k in (m.0, m.1, λ t. Contains-append_left e (s ∷ []) q.rect (m.2 t))
-      | inr t ↦
-          let rect : s ≡ q.rect = sym (ap (λ (p : Placed). p.rect) t) in
-          (subst (λ o. Contains d o) rect of, ap (λ (p : Placed). p.handle) t, λ u. subst (λ o. Contains (e ++ s ∷ []) o) rect (Contains-push e s))
-    ]
-
-    from : Contains d q.rect × (q.handle ≡ 0) × (f q.rect ≡ true → Contains (e ++ s ∷ []) q.rect) → Contains qs q
-    from h = at (f q.rect) refl
-      where
-        at : (b : Bool) → f q.rect ≡ b → Contains qs q
-        at true t = elim (Contains-push_cases e s q.rect (h.2 t)) [
-          | inl k ↦ (gains q).1 (inl ((filled q).1 (h.0, h.1, λ u. k)))
-          | inr k ↦ (gains q).1 (inr (same_placed s q (sym k) h.1))
-        ]
-        at false t = (gains q).1 (inl ((filled q).1 (h.0, h.1, λ u. absurd (false≢true (sym t ∙ u)))))
-
-other_there : (d e : List Rectangle) (f : Rectangle → Bool) (s : Rectangle) (ps : List Placed) → f s ≡ false → IsFilled d e f ps
-    → IsFilled d (e ++ s ∷ []) f ps
-other_there d e f s ps other filled q = (
-  (λ h. let m = (filled q).0 h in (m.0, m.1, λ t. Contains-append_left e (s ∷ []) q.rect (m.2 t))),
-  (λ h. (filled q).1 (
-    h.0,
-    h.1,
-    λ t. elim (Contains-push_cases e s q.rect (h.2 t)) [
-      | inl k ↦ k
-      | inr k ↦ absurd (false≢true (sym other ∙ (ap f k ∙ t)))
-    ],
-  )),
-)
-
-pub next_filled : (d : List Rectangle) (i : ℕ) (f : Rectangle → Bool) (s : Rectangle) (ps qs : List Placed) → i < length d → s ≡ get_or d i s
-    → (f s ≡ true → Gains ps qs (placed_of s)) → (f s ≡ false → qs ≡ ps) → IsFilled d (take i d) f ps
-    → IsFilled d (take (i + 1) d) f qs
-next_filled d i f s ps qs l is passing other filled =
-    let more : take (i + 1) d ≡ take i d ++ s ∷ [] = take_more d i s l ∙ ap (λ o. take i d ++ o ∷ []) (sym is) in
-    subst (λ e. IsFilled d e f qs) (sym more) (at (f s) refl)
-  where
-    at : (b : Bool) → f s ≡ b → IsFilled d (take i d ++ s ∷ []) f qs
-    at true t = passing_comes d (take i d) f s ps qs t (i, l, sym is) (passing t) filled
-    at false t = subst (λ os. IsFilled d (take i d ++ s ∷ []) f os) (sym (other t)) (other_there d (take i d) f s ps t filled)
-
-pub all_filled : (d : List Rectangle) (f : Rectangle → Bool) (ps : List Placed) → IsFilled d d f ps → IsIndexed d ps
-all_filled d f ps filled q = (
-  (λ h. let k = (filled q).0 h in (k.0, k.1)),
-  (λ h. (filled q).1 (h.0, h.1, λ t. h.0)),
-)

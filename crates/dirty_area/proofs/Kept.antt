@@ -71,7 +71,7 @@ comes d (y ∷ ys) s w v n l h (inr m) =
     comes (add_all d (pieces y w)) ys s w v n l.1 (pieces_loose d y s w v n (every_among (AreLoose y) ys l.0 s m) h) m
 
 -- ---- nothing else comes
-pieces_each : (P : Rectangle → Type 0) (d : List Rectangle) (y w : Rectangle) → IsProper w → Every P d
+pub pieces_each : (P : Rectangle → Type 0) (d : List Rectangle) (y w : Rectangle) → IsProper w → Every P d
     → ((q : Rectangle) → rects_meet q w ≡ true → P q) → P y → Every P (add_all d (pieces y w))
 pieces_each P d y w v h met p = by (rects_meet y w) refl
   where
@@ -97,7 +97,7 @@ cut_each P d [] w v h met all = h
 cut_each P d (y ∷ ys) w v h met all =
     cut_each P (add_all d (pieces y w)) ys w v (pieces_each P d y w v h met all.0) met all.1
 
-every_from : (P : Rectangle → Type 0) (ys : List Rectangle) → ((s : Rectangle) → IsAmong s ys → P s) → Every P ys
+pub every_from : (P : Rectangle → Type 0) (ys : List Rectangle) → ((s : Rectangle) → IsAmong s ys → P s) → Every P ys
 every_from P [] h = tt
 every_from P (y ∷ ys) h = (h y (inl refl), every_from P ys (λ s m. h s (inr m)))
 

@@ -171,7 +171,7 @@ split_pieces d ps P r w v e h apart =
     (λ s p. part_apart _ r w s c.0 c.1 (apart s p)))
     (λ s p. part_apart _ r w s f.0 f.1 (apart s p)))
 
-split_beside : (d ps : List Rectangle) (P : Rectangle → Type 0) (r : Rectangle) → IsSplit d ps P → P r → IsSplit (d ++ r ∷ []) ps P
+pub split_beside : (d ps : List Rectangle) (P : Rectangle → Type 0) (r : Rectangle) → IsSplit d ps P → P r → IsSplit (d ++ r ∷ []) ps P
 split_beside d ps P r h p = record {
   within = λ s m. Contains-append_left d (r ∷ []) s (h.within s m);
   others = λ s m. elim (Contains-push_cases d r s m) [ inl k ↦ h.others s k | inr e ↦ inr (subst P e p) ];

@@ -5,9 +5,10 @@ ghost use Rattle.plane_terms.specs.Point.{Point};
 ghost use Rattle.plane_terms.specs.Rectangle.{RectHolds, IsRectangle, rects_meet};
 ghost use Rattle.plane_terms.specs.Dirt.{MeetsPart, Covers, MeetsDirt, add_dirt, add_all, cut_dirt};
 ghost use Rattle.grid_index.specs.Relations.{stands};
+ghost use Rattle.dirty_area.specs.Cuts.{IsCut};
 ghost use Rattle.dirty_area.specs.Parts.{IsDirt};
 
-use crate::cut::cut_of;
+use crate::cut::{Cut, cut_of};
 use crate::finder::Finder;
 use crate::list::{add_in, add_some, push_one};
 use grid_index::Relation;
@@ -152,26 +153,44 @@ impl Dirt {
 
     /// What is left without the window: of each rectangle, in order, the pieces that lie outside the window are added to what
     /// is left so far. They are closed, so the window's border stays dirty where the dirt goes on beyond it. This dirt stays.
-    pub fn cut(&self, alloc: Global, window: &Rect) -> Result<Dirt, NoMemory>
-        ensures ok { IfOk result (λ d. d ≡ cut_dirt self.now window.now) }
-        ensures stays { IfOk result (λ d. (p : Point) → Covers self.now p → ¬ (RectHolds window.now p) → Covers d p) }
-        ensures only { IfOk result (λ d. (p : Point) → Covers d p → Covers self.now p) }
+    pub fn cut(&self, alloc: Global, window: &Rect) -> Result<Cut, NoMemory>
+        ensures ok { IfOk result (λ c. c.left ≡ cut_dirt self.now window.now) }
+        ensures stays { IfOk result (λ c. (p : Point) → Covers self.now p → ¬ (RectHolds window.now p) → Covers c.left p) }
+        ensures only { IfOk result (λ c. (p : Point) → Covers c.left p → Covers self.now p) }
+        ensures parts { IfOk result (IsCut self.now window.now) }
     {
-        window.corner_law();
-        Ok(Dirt {
-            rects: cut_of(alloc, &self.rects, window)?,
-            finder: Finder::new(alloc),
-        })
+        cut_of(alloc, &self.rects, window)
     }
 
-    /// Becomes what `cut` left of it. An index follows the cut, and is let go where less than half is left or memory for it runs out.
-    pub fn settle(&mut self, left: Dirt, window: &Rect)
-        requires { left ≡ cut_dirt self.old window.now }
-        ensures { self.new ≡ left }
+    /// Becomes what `cut` left of it. An index loses what met the window and gains the pieces; where less than half is left, or
+    /// memory for the pieces runs out, a new one is made or it goes on without.
+    pub fn settle(&mut self, cut: Cut, window: &Rect)
+        requires { IsCut self.old window.now cut }
+        ensures { self.new ≡ cut.left }
     {
         window.corner_law();
-        self.finder.settle(&self.rects, &left.rects, window);
-        self.rects = left.rects;
+        self.finder
+            .settle(&self.rects, &cut.left, &cut.met, cut.pieces.rects());
+        self.rects = cut.left;
+    }
+
+    /// Makes the index of a long list, before many questions: without one each question looks through the list. Where memory for
+    /// it runs out, it goes on without.
+    pub fn prepare(&mut self)
+        ensures { self.new ≡ self.old }
+    {
+        self.finder.prepare(&self.rects);
+    }
+
+    // Dirt of these rectangles, without an index.
+    pub(crate) fn of_rects(alloc: Global, rects: Vec<Rect>) -> Dirt
+        requires { IsDirt rects.items }
+        ensures { result ≡ rects.items }
+    {
+        Dirt {
+            rects,
+            finder: Finder::new(alloc),
+        }
     }
 
     /// An equal value.

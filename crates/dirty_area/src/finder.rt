@@ -1,10 +1,10 @@
-ghost use Rattle.std.specs.Prelude.{◌≡◌, ◌↔◌, [], ◌∷◌, ◌++◌, true, false, None, List, Contains, not, filter, IfSome, IfOk, OnOk};
+ghost use Rattle.std.specs.Prelude.{◌≡◌, [], ◌∷◌, ◌++◌, true, false, None, List, not, filter, IfSome, IfOk, OnOk};
 ghost use Rattle.std.specs.List.{list_any};
 ghost use Rattle.plane_terms.specs.Lists.{Every};
-ghost use Rattle.plane_terms.specs.Rectangle.{Rectangle, IsRectangle, is_within, rects_meet};
+ghost use Rattle.plane_terms.specs.Rectangle.{Rectangle, IsRectangle, is_within};
 ghost use Rattle.grid_index.specs.Near.{Gains, Loses};
 ghost use Rattle.grid_index.specs.Relations.{stands};
-ghost use Rattle.dirty_area.specs.Indexed.{IsIndexed, IsTrimmed, IsFilled, placed_of};
+ghost use Rattle.dirty_area.specs.Indexed.{IsIndexed, IsTraded, IsWithout, placed_of};
 
 use grid_index::{Index, Placed, Relation};
 use grid_plane::{NoMemory, Rect};
@@ -43,13 +43,21 @@ fn placed_of(r: Rect) -> Placed
     Placed { rect: r, handle: 0 }
 }
 
+// Puts each of these rectangles into the index.
+fn put_each(index: &mut Index, rects: &[Rect]) -> Result<(), NoMemory>
+    ensures { OnOk result ((d : List Rectangle) → IsIndexed d index.old → IsIndexed (d ++ rects.now) index.new) }
+{
+    for r in rects {
+        index.put(placed_of(*r))?;
+    }
+    Ok(())
+}
+
 fn make_index(alloc: Global, rects: &[Rect]) -> Result<Index, NoMemory>
     ensures { IfOk result (λ ps. IsIndexed rects.now ps) }
 {
     let mut index = Index::new(alloc);
-    for r in rects {
-        index.put(placed_of(*r))?;
-    }
+    put_each(&mut index, rects)?;
     Ok(index)
 }
 
@@ -101,60 +109,32 @@ fn without_held(index: Option<Index>, rects: &[Rect], r: &Rect) -> Option<Index>
     Some(index)
 }
 
-// Takes the rectangle out of the index where it meets the window.
-fn take_met(index: &mut Index, s: &Rect, w: &Rect)
-    ensures met { rects_meet s.now w.now ≡ true → Loses index.old index.new (placed_of s.now) }
-    ensures other { rects_meet s.now w.now ≡ false → index.new ≡ index.old }
+// An index of a long list, where there is memory for one.
+fn long_index_of(alloc: Global, rects: &[Rect]) -> Option<Index>
+    ensures { IfSome result (λ ps. IsIndexed rects.now ps) }
 {
-    if s.meets(w) {
-        index.take(&placed_of(*s));
-    }
-}
-
-// Takes the rectangles that meet the window out of an index of them all.
-fn take_all_met(index: &mut Index, rects: &[Rect], w: &Rect)
-    requires { IsIndexed rects.now index.old }
-    ensures { IsTrimmed rects.now rects.now (λ s. rects_meet s w.now) index.new }
-{
-    for s in rects {
-        take_met(index, s, w);
-    }
-}
-
-// Puts the rectangle into the index where it meets the window.
-fn put_met(index: &mut Index, s: &Rect, w: &Rect) -> Result<(), NoMemory>
-    ensures met { OnOk result (rects_meet s.now w.now ≡ true → Gains index.old index.new (placed_of s.now)) }
-    ensures other { OnOk result (rects_meet s.now w.now ≡ false → index.new ≡ index.old) }
-{
-    if s.meets(w) {
-        index.put(placed_of(*s))?;
-    }
-    Ok(())
-}
-
-// Puts the rectangles that meet the window into an index of the others.
-fn put_all_met(index: &mut Index, rects: &[Rect], w: &Rect) -> Result<(), NoMemory>
-    requires { IsFilled rects.now [] (λ s. rects_meet s w.now) index.old }
-    ensures { OnOk result (IsIndexed rects.now index.new) }
-{
-    for s in rects {
-        put_met(index, s, w)?;
-    }
-    Ok(())
-}
-
-// The index of a list that had another before, with the same rectangles beside the window; none where less than half is left.
-fn settled(index: Option<Index>, before: &[Rect], after: &[Rect], w: &Rect) -> Option<Index>
-    requires indexed { IfSome index (λ ps. IsIndexed before.now ps) }
-    requires beside { (s : Rectangle) → rects_meet s w.now ≡ false → Contains before.now s ↔ Contains after.now s }
-    ensures { IfSome result (λ ps. IsIndexed after.now ps) }
-{
-    let mut index = index?;
-    if after.len() < before.len() / 2 {
+    if rects.len() <= FEW {
         return None;
     }
-    take_all_met(&mut index, before, w);
-    match put_all_met(&mut index, after, w) {
+    index_of(alloc, rects)
+}
+
+// Takes each of these rectangles out of an index of the list.
+fn take_each(index: &mut Index, rects: &[Rect])
+    ensures { (d : List Rectangle) → IsIndexed d index.old → IsWithout d rects.now index.new }
+{
+    for r in rects {
+        index.take(&placed_of(*r));
+    }
+}
+
+// The index of a list that has lost some rectangles and gained others; none where memory runs out.
+fn traded(index: Index, met: &[Rect], pieces: &[Rect]) -> Option<Index>
+    ensures { (before after : List Rectangle) → IsIndexed before index → IsTraded before after met.now pieces.now → IfSome result (λ ps. IsIndexed after ps) }
+{
+    let mut index = index;
+    take_each(&mut index, met);
+    match put_each(&mut index, pieces) {
         Ok(()) => Some(index),
         Err(_) => None,
     }
@@ -222,12 +202,30 @@ impl Finder {
         self.index = without_held(self.index.take(), rects, r);
     }
 
-    /// The list gives way to another, with the same rectangles beside the window.
-    pub(crate) fn settle(&mut self, before: &[Rect], after: &[Rect], w: &Rect)
+    /// The list gives way to another, which has lost some rectangles and gained others. Where less than half is left, to make a new
+    /// index is quicker than to take so many out.
+    pub(crate) fn settle(&mut self, before: &[Rect], after: &[Rect], met: &[Rect], pieces: &[Rect])
         requires indexed { IfSome self.old (λ ps. IsIndexed before.now ps) }
-        requires beside { (s : Rectangle) → rects_meet s w.now ≡ false → Contains before.now s ↔ Contains after.now s }
+        requires traded { IsTraded before.now after.now met.now pieces.now }
         ensures { IfSome self.new (λ ps. IsIndexed after.now ps) }
     {
-        self.index = settled(self.index.take(), before, after, w);
+        self.index = match self.index.take() {
+            Some(index) => if after.len() < before.len() / 2 {
+                long_index_of(self.alloc, after)
+            } else {
+                traded(index, met, pieces)
+            },
+            None => None,
+        };
+    }
+
+    /// Makes the index of a long list at once.
+    pub(crate) fn prepare(&mut self, rects: &[Rect])
+        requires { IfSome self.old (λ ps. IsIndexed rects.now ps) }
+        ensures { IfSome self.new (λ ps. IsIndexed rects.now ps) }
+    {
+        if self.index.is_none() {
+            self.index = long_index_of(self.alloc, rects);
+        }
     }
 }

@@ -7,5 +7,6 @@ mod finder;
 mod list;
 mod pieces;
 
+pub use cut::Cut;
 pub use dirt::Dirt;
 pub use pieces::pieces_law;

@@ -94,8 +94,8 @@ impl Call<Dirt> for DirtCall {
                 Err(_) => Ok(Made::NoMemory),
             },
             DirtCall::Cut(start) => match dirt.cut(alloc, &square(*start)?) {
-                Ok(left) => {
-                    *dirt = left;
+                Ok(cut) => {
+                    *dirt = cut.into_dirt(alloc);
                     Ok(Made::Done)
                 }
                 Err(_) => Ok(Made::NoMemory),

@@ -131,13 +131,15 @@ impl<R: KindRules> Topology<R> {
     {
         store_law(&saved.store);
         let index = index_of(alloc, saved.store.features().slots())?;
+        let mut dirt = saved.dirt;
+        dirt.prepare();
         Ok(Topology {
             alloc,
             judging,
             store: saved.store,
             index,
             rules: saved.rules,
-            dirt: saved.dirt,
+            dirt,
             entries: saved.errors,
         })
     }

@@ -7,7 +7,6 @@ ghost use Rattle.validation.specs.Placed.{HasNear};
 
 use crate::lists::put_behind;
 use crate::sorted::SortedRects;
-use dirty_area::Dirt;
 use grid_index::Index;
 use grid_plane::{NoMemory, Rect};
 use std::alloc::Global;
@@ -83,11 +82,11 @@ fn near_join(alloc: Global, index: &Index, rects: &[Rect]) -> Result<Vec<u32>, N
 }
 
 impl DirtyParts {
-    /// What is dirty of the window.
-    pub fn of(alloc: Global, dirt: &Dirt, window: &Rect) -> Result<DirtyParts, NoMemory>
+    /// What is dirty of the window, of these dirty rectangles.
+    pub fn of(alloc: Global, dirt: &[Rect], window: &Rect) -> Result<DirtyParts, NoMemory>
         ensures { IfOk result (λ x. (p : Point) → Covers x p ↔ (Covers dirt.now p × RectHolds window.now p)) }
     {
-        let parts = SortedRects::of(parts_of(alloc, dirt.rects(), window)?);
+        let parts = SortedRects::of(parts_of(alloc, dirt, window)?);
         Ok(DirtyParts { parts })
     }
 

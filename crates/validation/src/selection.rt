@@ -1,4 +1,4 @@
-ghost use Rattle.std.specs.Prelude.{◌≡◌, ◌↔◌, ℕ, [], ◌∷◌, ◌++◌, if◌then◌else◌, Contains, IfOk, OnOk};
+ghost use Rattle.std.specs.Prelude.{◌≡◌, ◌↔◌, ℕ, [], ◌∷◌, ◌++◌, if◌then◌else◌, Contains, filter, IfOk, OnOk};
 ghost use Rattle.std.specs.Option.{option_to_list};
 ghost use Rattle.std.specs.List.Sorted.{IsStrictlyIncreasing};
 ghost use Rattle.topology_terms.specs.Feature.{env, feature_at};
@@ -7,6 +7,7 @@ ghost use Rattle.topology_terms.specs.Entry as entries_of;
 ghost use Rattle.topology_terms.specs.Project.{Project};
 ghost use Rattle.topology_terms.specs.Changes.{IsSelected};
 ghost use Rattle.plane_terms.specs.Dirt.{MeetsDirt};
+ghost use Rattle.plane_terms.specs.Rectangle.{rects_meet};
 ghost use Rattle.validation_laws.specs.Parts.{IsRising, live_of};
 ghost use Rattle.validation_laws.specs.Picked.{ArePicked};
 ghost use Rattle.plane_terms.specs.Lists.{Every};
@@ -14,7 +15,6 @@ ghost use Rattle.validation.specs.Placed.{HasNear};
 
 use crate::dirty::DirtyParts;
 use crate::ruled::RuledFeatures;
-use dirty_area::Dirt;
 use error_store::{Entry, Errors, next_of};
 use feature_store::Features;
 use grid_index::{Index, once_each};
@@ -95,18 +95,19 @@ fn near_of(alloc: Global, dirty: &DirtyParts, index: &Index) -> Result<Vec<u32>,
 }
 
 /// The handles that the window and the dirt select: of live features by their envelope, and of subjects of errors by the
-/// error's frame. It looks only at those features and errors that the indexes give.
+/// error's frame. Of the dirt it takes the rectangles that meet the window. It looks only at those features and errors that the
+/// indexes give.
 pub fn select(
     alloc: Global,
     ruled: &RuledFeatures<'_>,
     errors: &Errors,
-    dirt: &Dirt,
+    met: &[Rect],
     window: &Rect,
 ) -> Result<Handles, NoMemory>
     ensures rising { IfOk result IsRising }
-    ensures chosen { IfOk result (λ s. (p : Project) → p.features ≡ ruled.now.features → p.dirt ≡ dirt.now → p.entries ≡ errors.now → (a : ℕ) → Contains s a ↔ IsSelected p window.now a) }
+    ensures chosen { IfOk result (λ s. (p : Project) → p.features ≡ ruled.now.features → met.now ≡ filter (λ r. rects_meet r window.now) p.dirt → p.entries ≡ errors.now → (a : ℕ) → Contains s a ↔ IsSelected p window.now a) }
 {
-    let dirty = DirtyParts::of(alloc, dirt, window)?;
+    let dirty = DirtyParts::of(alloc, met, window)?;
     let near = near_of(alloc, &dirty, ruled.index())?;
     let framed = near_of(alloc, &dirty, errors.frames())?;
     ruled.order_law();

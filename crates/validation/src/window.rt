@@ -70,10 +70,10 @@ pub fn validate<R: RuleSet>(
     ensures dirt_kept { OnErr result (dirt.new ≡ dirt.old) }
 {
     ruled.order_law();
-    let selected = select(alloc, ruled, errors, dirt, window)?;
+    let cut = dirt.cut(alloc, window)?;
+    let selected = select(alloc, ruled, errors, cut.met(), window)?;
     let fresh = rejudge(rules, alloc, ruled, &selected, work)?;
-    let left = dirt.cut(alloc, window)?;
     errors.replace(alloc, &selected, fresh)?;
-    dirt.settle(left, window);
+    dirt.settle(cut, window);
     Ok(())
 }

@@ -1,9 +1,9 @@
-use Rattle.std.proofs.Common.{◌≡◌, [], take}
-use Rattle.plane_terms.specs.Dirt.{cut_from}
-use Rattle.dirty_area.specs.Parts.{IsDirt, IsSplit}
-use Rattle.dirty_area.proofs.Splits.{IsOther}
+use Rattle.std.proofs.Common.{length, ◌≤◌}
+use Rattle.dirty_area.proofs.Runs.{IsPartway}
 use Rattle.dirty_area.proofs.cut.cut_of.Given as goal
 
-abbrev pub invariant-loop-r : goal.invariant-loop-r
-invariant-loop-r l = (l.left.items ≡ cut_from [] (take l.r-index l.rects) l.w)
-    × IsSplit l.left.items l.round (IsOther l.rects l.w) × IsDirt l.left.items
+abbrev pub invariant-loop-place : goal.invariant-loop-place
+invariant-loop-place l = (length l.rest ≤ length l.rects) × IsPartway l.rects l.rest l.w l.left.items l.met.items l.round
+
+abbrev pub decreases-loop-place : goal.decreases-loop-place
+decreases-loop-place l = length l.rest

@@ -1,14 +1,21 @@
-use Rattle.std.proofs.Common.{ap, sym, ◌∙◌, subst}
+use Rattle.std.proofs.Common.{◌≡◌, sym, ap, ◌∙◌, subst}
+use Rattle.std.specs.Prelude.{IfOk}
+use Rattle.std.proofs.lemmas.Result.{IfOk-weaker}
+use Rattle.plane_terms.specs.Point.{Point}
+use Rattle.plane_terms.specs.Rectangle.{RectHolds}
 use Rattle.plane_terms.specs.Dirt.{Covers, cut_dirt}
 use Rattle.sound_laws.proofs.Dirts.{cut_covers}
 use Rattle.sound_laws.proofs.Pieces.{cut_only}
+use Rattle.dirty_area.specs.Cuts.{IsCut}
 use Rattle.dirty_area.proofs.dirt.Dirt.cut.Goals as goal
 
-pub returns-clause-ok : goal.returns-clause-ok
-returns-clause-ok c = c.in_ok-cut_of.ensures.left ∙ ap (λ d. cut_dirt d c.args.window.now) (c.deref.ensures.value ∙ c.self.view_is)
+pub returns-clause-parts : goal.returns-clause-parts
+returns-clause-parts c = subst (λ d. IfOk c.cut_of.result (λ k. IsCut d c.args.window.now k)) (c.deref.ensures.value ∙ c.self.view_is) c.cut_of.ensures
 
 pub returns-clause-stays : goal.returns-clause-stays
-returns-clause-stays c = λ p h n. subst (λ d. Covers d p) (sym (returns-clause-ok c)) (cut_covers c.args.self.now c.args.window.now p h n)
+returns-clause-stays c = IfOk-weaker c.cut_of.result _ _ (λ k h p s n. subst (λ d. Covers d p) (sym h.left)
+    (cut_covers c.args.self.now c.args.window.now p s n)) (returns-clause-parts c)
 
 pub returns-clause-only : goal.returns-clause-only
-returns-clause-only c = λ p h. cut_only c.args.self.now c.args.window.now p (subst (λ d. Covers d p) (returns-clause-ok c) h)
+returns-clause-only c = IfOk-weaker c.cut_of.result _ _ (λ k h p s. cut_only c.args.self.now c.args.window.now p
+    (subst (λ d. Covers d p) h.left s)) (returns-clause-parts c)

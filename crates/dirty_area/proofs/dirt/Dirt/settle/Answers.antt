@@ -1,14 +1,10 @@
-use Rattle.std.proofs.Common.{◌≡◌, sym, ap, ◌∙◌, subst, Contains}
-use Rattle.std.specs.Prelude.{◌↔◌}
-use Rattle.plane_terms.specs.Dirt.{IsLoose, cut_dirt}
-use Rattle.dirty_area.proofs.Kept.{beside_kept}
+use Rattle.std.proofs.Common.{sym, subst}
+use Rattle.dirty_area.specs.Cuts.{IsCut}
+use Rattle.dirty_area.proofs.Trades.{cut_traded}
 use Rattle.dirty_area.proofs.dirt.Dirt.settle.Goals as goal
 
-pub settle-requires-clause-beside : goal.settle-requires-clause-beside
-settle-requires-clause-beside c = λ s e.
-    let same : c.deref-2.result.now ≡ cut_dirt c.deref.result.now c.args.window.now =
-    c.deref-2.ensures.value ∙ (c.left.view_is ∙ (c.requires ∙ sym (ap (λ d. cut_dirt d c.args.window.now)
-    (c.deref.ensures.value ∙ c.self.view_is)))) in
-    let loose : IsLoose c.deref.result.now = rw c.deref.ensures.value c.self.invariant.0.loose in
-    subst (λ d. Contains c.deref.result.now s ↔ Contains d s) (sym same)
-    (beside_kept c.deref.result.now c.args.window.now s loose c.corner_law.ensures.proper e)
+pub settle-requires-clause-traded : goal.settle-requires-clause-traded
+settle-requires-clause-traded c =
+    let cut = subst (λ k. IsCut c.self.inside.rects.items c.args.window.now k) (sym c.cut.view_is) (rw (← c.self.view_is) at c.requires) in
+    rw (c.deref.ensures.value, c.deref-2.ensures.value, c.deref-3.ensures.value, c.rects.ensures.value)
+    (cut_traded c.self.inside.rects.items c.args.window.now _ c.self.invariant.0.loose c.corner_law.ensures.proper cut)
