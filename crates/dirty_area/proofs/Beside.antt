@@ -1,12 +1,12 @@
 -- A rectangle beside the window is put last as it stands: what was left so far neither holds it nor lies in it.
-use Rattle.std.proofs.Common.{◌≡◌, ℕ, zero, suc, ◌<◌, arith, Bool, true, false, not, refl, List, [], ◌∷◌, ◌++◌, length, take, get_or}
+use Rattle.std.proofs.Common.{◌≡◌, arith, Bool, true, false, not, refl, List, [], ◌∷◌, ◌++◌}
 use Rattle.std.specs.Prelude.{int_lt}
 use Rattle.std.specs.Int.{int_max, int_min}
 use Rattle.std.specs.List.{list_any, filter}
 use Rattle.std.proofs.lemmas.Int.{ints, clamps}
 use Rattle.plane_terms.specs.Lists.{Every}
 use Rattle.plane_terms.specs.Rectangle.{Rectangle, IsProper, IsWithin, is_within, rects_meet, rect_of, part_of}
-use Rattle.plane_terms.specs.Dirt.{AreLoose, IsLoose, add_dirt, add_all, cut_from, pieces, piece_if}
+use Rattle.plane_terms.specs.Dirt.{AreLoose, add_dirt, add_all, pieces, piece_if}
 use Rattle.sound_laws.proofs.Planes.{within_from_test}
 use Rattle.sound_laws.proofs.Pieces.{meeting, every_added}
 use Rattle.dirty_area.proofs.Calls.{add_dirt-loose, add_all-one, add_all-four, pieces-apart, pieces_round}
@@ -80,24 +80,6 @@ pieces_loose d y x w v n l h = by (rects_meet y w) refl
         (part_loose _ y x w c.0 c.1 n l))
         (part_loose _ y x w f.0 f.1 n l))
 
-left_loose : (d ys : List Rectangle) (x w : Rectangle) → IsProper w → rects_meet x w ≡ false → Every (λ y. AreLoose y x) ys
-    → Every (λ s. AreLoose s x) d → Every (λ s. AreLoose s x) (cut_from d ys w)
-unfolding cut_from
-left_loose d [] x w v n l h = h
-left_loose d (y ∷ ys) x w v n l h = left_loose (add_all d (pieces y w)) ys x w v n l.1 (pieces_loose d y x w v n l.0 h)
-
--- ---- the rectangles before one of the list
-each_at : (P : Rectangle → Type 0) (xs : List Rectangle) (i : ℕ) (x : Rectangle) → Every P xs → i < length xs → P (get_or xs i x)
-each_at P [] i x h k = absurd (omega arith)
-each_at P (y ∷ xs) zero x h k = h.0
-each_at P (y ∷ xs) (suc i) x h k = each_at P xs i x h.1 (omega arith)
-
-before_loose : (xs : List Rectangle) (i : ℕ) (x : Rectangle) → IsLoose xs → i < length xs
-    → Every (λ y. AreLoose y (get_or xs i x)) (take i xs)
-before_loose [] i x h k = absurd (omega arith)
-before_loose (y ∷ xs) zero x h k = tt
-before_loose (y ∷ xs) (suc i) x h k = (each_at (AreLoose y) xs i x h.0 (omega arith), before_loose xs i x h.1 (omega arith))
-
 -- ---- it is put last
 not_held : (d : List Rectangle) (x : Rectangle) → Every (λ s. AreLoose s x) d → list_any (λ s. is_within x s) d ≡ false
 not_held [] x h = refl
@@ -109,11 +91,3 @@ none_dropped (s ∷ d) x h = let e = none_dropped d x h.1 in rw (h.0.left, e) re
 
 pub put_last : (d : List Rectangle) (x : Rectangle) → Every (λ s. AreLoose s x) d → add_dirt d x ≡ d ++ x ∷ []
 put_last d x h = rw (add_dirt-loose d x (not_held d x h), none_dropped d x h) refl
-
--- one of the list that lies beside the window is put behind what is left of those before it
-pub beside_last : (xs old : List Rectangle) (w x : Rectangle) (i : ℕ) → IsLoose xs → IsProper w → old ≡ cut_from [] (take i xs) w
-    → i < length xs → x ≡ get_or xs i x → rects_meet x w ≡ false → add_dirt old x ≡ old ++ x ∷ []
-beside_last xs old w x i l v h k e t =
-    let before : Every (λ y. AreLoose y x) (take i xs) = rw e (before_loose xs i x l k) in
-    let loose : Every (λ s. AreLoose s x) old = rw h (left_loose [] (take i xs) x w v t before tt) in
-    put_last old x loose

@@ -1,15 +1,14 @@
 -- What the calls cite: one rectangle more, and a window less, step by step.
-use Rattle.std.proofs.Common.{◌≡◌, ℕ, ◌+◌, ◌<◌, ◌≤ℤ◌, arith, Bool, true, false, not, refl, sym, ap, ◌∙◌, inl, inr, List, [], ◌∷◌, ◌++◌, length, take, get_or}
+use Rattle.std.proofs.Common.{◌≡◌, ◌≤ℤ◌, arith, Bool, true, false, not, refl, sym, ap, ◌∙◌, inl, inr, List, [], ◌∷◌, ◌++◌}
 use Rattle.std.specs.Prelude.{◌↔◌, ◌||◌, IsTrue, int_lt, Option, Some, None, IfSome}
 use Rattle.std.specs.Option.{option_to_list}
 use Rattle.std.specs.Int.{int_max, int_min}
 use Rattle.std.proofs.lemmas.Bool.{or_cases, or_left, or_parts, or_right}
 use Rattle.std.proofs.lemmas.Int.{ints, clamps}
 use Rattle.std.specs.List.{list_any, filter}
-use Rattle.std.proofs.lemmas.List.{take_more}
 use Rattle.plane_terms.specs.Lists.{Every}
 use Rattle.plane_terms.specs.Point.{Point}
-use Rattle.plane_terms.specs.Rectangle.{Rectangle, RectHolds, RectsMeet, IsRectangle, is_within, rects_meet, rect_of, part_of}
+use Rattle.plane_terms.specs.Rectangle.{Rectangle, RectHolds, IsRectangle, is_within, rects_meet, rect_of, part_of}
 use Rattle.plane_terms.specs.Dirt.{MeetsPart, Covers, MeetsDirt, add_dirt, add_all, cut_from, pieces, piece_if}
 use Rattle.sound_laws.proofs.Pieces.{meeting, every_added, add_loose}
 use Rattle.sound_laws.proofs.Meetings.{meets_test, meets_from_test}
@@ -82,28 +81,10 @@ pieces_added d d1 d2 d3 d4 r w m a b c e h ha hb hc he h1 h2 h3 h4 =
 pub piece_there : (b : Bool) (r s : Rectangle) → b ≡ true → r ≡ s → r ∷ [] ≡ piece_if b s
 piece_there b r s e same = rw (e, same) refl
 
--- ---- one rectangle of the list more is cut
-cut_from-append : (d xs ys : List Rectangle) (w : Rectangle) → cut_from d (xs ++ ys) w ≡ cut_from (cut_from d xs w) ys w
-unfolding cut_from
-cut_from-append d [] ys w = refl
-cut_from-append d (x ∷ xs) ys w = cut_from-append (add_all d (pieces x w)) xs ys w
-
+-- ---- nothing more is cut
 pub cut_from-none : (d : List Rectangle) (w : Rectangle) → cut_from d [] w ≡ d
 unfolding cut_from
 cut_from-none d w = refl
-
-cut_from-one : (d : List Rectangle) (x w : Rectangle) → cut_from d (x ∷ []) w ≡ add_all d (pieces x w)
-unfolding cut_from
-cut_from-one d x w = refl
-
-pub cut_more : (xs old new : List Rectangle) (w x : Rectangle) (i : ℕ) → old ≡ cut_from [] (take i xs) w → i < length xs → x ≡ get_or xs i x
-    → new ≡ add_all old (pieces x w) → new ≡ cut_from [] (take (i + 1) xs) w
-cut_more xs old new w x i h l e n =
-    let t = take_more xs i x l in
-    let k = cut_from-append [] (take i xs) (x ∷ []) w in
-    let o = cut_from-one (cut_from [] (take i xs) w) x w in
-    let s : take (i + 1) xs ≡ take i xs ++ x ∷ [] = cc in
-    rw s (cc)
 
 -- ---- what is common
 -- the sides of what two rectangles that meet have in common
@@ -114,13 +95,6 @@ common_sides m r w h i j =
     let low : m.x0 ≡ int_max r.x0 w.x0 = ap (λ (s : Rectangle). s.x0) h.part in
     let high : m.x1 ≡ int_min r.x1 w.x1 = ap (λ (s : Rectangle). s.x1) h.part in
     omega (arith, ints, clamps)
-
-pub apart_test : (r w : Rectangle) → IsRectangle r → IsRectangle w → (RectsMeet r w → ⊥) → rects_meet r w ≡ false
-apart_test r w i j n = at (rects_meet r w) refl
-  where
-    at : (b : Bool) → rects_meet r w ≡ b → b ≡ false
-    at true e = absurd (n (meets_from_test r w i.proper j.proper e))
-    at false e = refl
 
 -- a rectangle of the list meets r exactly where some point of r is dirty
 some_meets : (d : List Rectangle) (r : Rectangle) → Every IsRectangle d → IsRectangle r → list_any (λ s. rects_meet s r) d ≡ true

@@ -1,6 +1,6 @@
 -- What an index over a list of dirt finds, and how it follows the list.
 use Rattle.std.proofs.Common.{◌≡◌, inl, inr, refl, sym, ap, ◌∙◌, subst, ℕ, ◌+◌, ◌<◌, Bool, true, false, not, List, [], ◌∷◌, ◌++◌, Contains, take, length, get_or, arith, append_assoc, Option, Some, Result, Ok, Err}
-use Rattle.std.specs.Prelude.{◌↔◌, slice_get, IfSome, IfOk}
+use Rattle.std.specs.Prelude.{slice_get, IfSome, IfOk}
 use Rattle.std.specs.Result.{result_ok}
 use Rattle.std.specs.List.{list_any, filter}
 use Rattle.std.proofs.lemmas.Bool.{and_parts, and_from, or_cases, not_from_false, false≢true}
@@ -119,11 +119,14 @@ next_without d xs i r ps qs l is loses without =
     step q = (
       (λ h.
           let k = (loses q).0 h in
-          let m = (without q).0 k.0 in
-          (m.0, m.1, λ n. elim (Contains-push_cases (take i xs) r q.rect n) [
-            | inl o ↦ m.2 o
-            | inr t ↦ k.1 (same_placed r q (sym t) m.1)
-          ])),
+          let m = (without q).0 k.0 in (
+            m.0,
+            m.1,
+            λ n. elim (Contains-push_cases (take i xs) r q.rect n) [
+              | inl o ↦ m.2 o
+              | inr t ↦ k.1 (same_placed r q (sym t) m.1)
+            ],
+          )),
       (λ h. (loses q).1 (
         (without q).1 (h.0, h.1, λ n. h.2 (Contains-append_left (take i xs) (r ∷ []) q.rect n)),
         λ t. h.2 (subst (λ o. Contains (take i xs ++ r ∷ []) o) (sym (ap (λ (p : Placed). p.rect) t)) (Contains-push (take i xs) r)),

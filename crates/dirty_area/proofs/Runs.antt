@@ -1,6 +1,6 @@
 -- What a cut has left and taken, while a part of the list is still to come.
-use Rattle.std.proofs.Common.{arith, ◌≡◌, ◌⊎◌, inl, inr, refl, sym, ap, ◌∙◌, subst, ℕ, zero, suc, ◌+◌, ◌<◌, Bool, true, false, List, [], ◌∷◌, ◌++◌, Contains, take, drop, length, get_or, append_assoc, append-nil, Option, Some, None}
-use Rattle.std.specs.Prelude.{◌↔◌, MatchOption}
+use Rattle.std.proofs.Common.{arith, ◌≡◌, inl, inr, refl, sym, ap, ◌∙◌, subst, ℕ, ◌+◌, ◌<◌, true, false, List, [], ◌∷◌, ◌++◌, Contains, take, drop, length, get_or, append_assoc, append-nil, Option, Some, None}
+use Rattle.std.specs.Prelude.{MatchOption}
 use Rattle.std.specs.List.{AllWithin, HoldsAt, filter}
 use Rattle.std.proofs.lemmas.Bool.{false≢true}
 use Rattle.std.proofs.lemmas.List.{take-append-drop, drop_more, get_or-take, length-take-le}
@@ -19,9 +19,9 @@ use Rattle.dirty_area.proofs.Kept.{every_from, pieces_each}
 -- ---- the first that meets the window
 pub first_split : (r : Option ℕ) (xs : List Rectangle) (w : Rectangle)
     → MatchOption r (AllWithin (λ s. rects_meet s w ≡ false) xs 0 (length xs))
-      (λ i. (i < length xs) × HoldsAt (λ s. rects_meet s w ≡ true) xs i × AllWithin (λ s. rects_meet s w ≡ false) xs 0 i)
+    (λ i. (i < length xs) × HoldsAt (λ s. rects_meet s w ≡ true) xs i × AllWithin (λ s. rects_meet s w ≡ false) xs 0 i)
     → MatchOption r (Every (λ s. rects_meet s w ≡ false) xs)
-      (λ k. (k < length xs) × Every (λ s. rects_meet s w ≡ false) (take k xs) × ((d : Rectangle) → rects_meet (get_or xs k d) w ≡ true))
+    (λ k. (k < length xs) × Every (λ s. rects_meet s w ≡ false) (take k xs) × ((d : Rectangle) → rects_meet (get_or xs k d) w ≡ true))
 first_split None xs w h = every_by_index (λ s. rects_meet s w ≡ false) xs (λ i d l. h i d (omega arith) l)
 first_split (Some k) xs w h = (
   h.0,

@@ -1,5 +1,5 @@
 -- What is left so far, split into the pieces round the window and what lies beside it.
-use Rattle.std.proofs.Common.{arith, ◌≡◌, inl, inr, refl, sym, ap, ◌∙◌, subst, ℕ, ◌<◌, Bool, true, false, not, List, [], ◌∷◌, ◌++◌, Contains, take, length, get_or, Option, Some, None}
+use Rattle.std.proofs.Common.{arith, ◌≡◌, inl, inr, refl, sym, ap, ◌∙◌, subst, Bool, true, false, not, List, [], ◌∷◌, ◌++◌, Contains, Option, Some, None}
 use Rattle.std.specs.Prelude.{◌||◌, IfSome, int_lt}
 use Rattle.std.specs.Option.{option_to_list}
 use Rattle.std.specs.Int.{int_max, int_min}
@@ -8,13 +8,13 @@ use Rattle.std.proofs.lemmas.Bool.{false≢true}
 use Rattle.std.proofs.lemmas.List.Elements.{Contains-append_left, Contains-push, Contains-push_cases}
 use Rattle.std.proofs.lemmas.List.Folds.{Any-from_list_any, list_any_at}
 use Rattle.plane_terms.specs.Rectangle.{Rectangle, IsProper, IsWithin, is_within, rects_meet, rect_of, part_of}
-use Rattle.plane_terms.specs.Dirt.{AreLoose, IsLoose, add_dirt, add_all, cut_from, pieces, piece_if}
+use Rattle.plane_terms.specs.Dirt.{AreLoose, IsLoose, add_dirt, add_all, pieces, piece_if}
 use Rattle.plane_terms.proofs.ListLemmas.{IsAmong, contains_among, every_among}
 use Rattle.plane_terms.proofs.Truths.{same_by_truth}
 use Rattle.grid_index.proofs.Members.{among, filtered_from, filtered_to}
 use Rattle.dirty_area.specs.Parts.{IsApart, IsSplit}
-use Rattle.dirty_area.proofs.Calls.{add_dirt-held, add_dirt-loose, add_dirt-apart, add_all-one, add_all-four, pieces-apart, pieces_round}
-use Rattle.dirty_area.proofs.Beside.{part_loose, left_part, right_part, below_part, above_part, beside_last}
+use Rattle.dirty_area.proofs.Calls.{add_dirt-held, add_dirt-loose, add_dirt-apart, add_all-four, pieces_round}
+use Rattle.dirty_area.proofs.Beside.{part_loose, left_part, right_part, below_part, above_part}
 
 pub split_none : (P : Rectangle → Type 0) → IsSplit [] [] P
 split_none P = record { within = λ s m. m; others = λ s m. absurd (omega (arith, m.1)) }
@@ -197,18 +197,3 @@ other_apart xs r w s h of m o = record {
   beside = o.0;
   loose = loose_of xs r s h (among xs r of) (among xs s o.1) (λ e. false≢true (sym o.0 ∙ (ap (λ t. rects_meet t w) (sym e) ∙ m)));
 }
-
--- one of the list more
-pub next_split : (xs d e ps qs : List Rectangle) (w x : Rectangle) (i : ℕ) → IsLoose xs → IsProper w → d ≡ cut_from [] (take i xs) w
-    → i < length xs → x ≡ get_or xs i x → IsSplit d ps (IsOther xs w) → e ≡ add_all d (pieces x w)
-    → (rects_meet x w ≡ true → qs ≡ add_all ps (pieces x w)) → (rects_meet x w ≡ false → qs ≡ ps) → IsSplit e qs (IsOther xs w)
-next_split xs d e ps qs w x i l v h k is split more met beside = at (rects_meet x w) refl
-  where
-    of : Contains xs x
-    of = (i, k, sym is)
-
-    at : (b : Bool) → rects_meet x w ≡ b → IsSplit e qs (IsOther xs w)
-    at true t = rw (more, met t) (split_pieces d ps (IsOther xs w) x w v t split (λ s o. other_apart xs x w s l of t o))
-    at false t =
-        let last = beside_last xs d w x i l v h k is t in
-        rw (more, beside t, pieces-apart x w t, add_all-one d x, last) (split_beside d ps (IsOther xs w) x split (t, of))

@@ -50,7 +50,7 @@ fn put_last(rects: &mut Vec<Rect>, finder: &mut Finder, r: Rect)
     rects.push_reserved(r);
 }
 
-// Puts the rectangle last, in place of those that it holds. There is room.
+// Puts the rectangle last, in place of those that it holds. There is room. A long list has an index then, where there is memory.
 fn put_round(rects: &mut Vec<Rect>, finder: &mut Finder, r: Rect)
     requires room { vec_len rects.old < vec_capacity rects.old }
     requires indexed { IfSome finder.old (λ ps. IsIndexed rects.old.items ps) }
@@ -61,6 +61,7 @@ fn put_round(rects: &mut Vec<Rect>, finder: &mut Finder, r: Rect)
 {
     finder.drop_held(rects, &r);
     drop_held(rects, &r);
+    finder.prepare(rects);
     put_last(rects, finder, r);
 }
 

@@ -1,8 +1,9 @@
 -- The parts of the dirt that lie in a window cover what is dirty of it.
-use Rattle.std.proofs.Common.{◌≡◌, ◌↔◌, ◌⊎◌, inl, inr, ℕ, ◌<◌, ◌+◌, Bool, List, [], ◌∷◌, ◌++◌, refl, sym, ◌∙◌, ap, arith, take, length, get_or}
+use Rattle.std.proofs.Common.{◌≡◌, ◌↔◌, ◌⊎◌, inl, inr, ℕ, ◌<◌, ◌+◌, Bool, true, false, cond, subst, List, [], ◌∷◌, ◌++◌, refl, sym, ◌∙◌, ap, arith, take, length, get_or}
 use Rattle.std.specs.Prelude.{IsTrue}
-use Rattle.std.specs.List.{list_any}
+use Rattle.std.specs.List.{list_any, filter}
 use Rattle.std.specs.List.Sorted.{IsPermutation}
+use Rattle.std.proofs.lemmas.Bool.{false≢true}
 use Rattle.std.proofs.lemmas.Int.{ints}
 use Rattle.std.proofs.lemmas.List.{take_more}
 use Rattle.std.proofs.lemmas.List.Elements.{All-from_recursion, recursion_from_All}
@@ -12,6 +13,7 @@ use Rattle.plane_terms.proofs.ListLemmas.{every_append}
 use Rattle.plane_terms.specs.Point.{Point}
 use Rattle.plane_terms.specs.Rectangle.{Rectangle, IsRectangle, RectHolds, RectsMeet, rects_meet}
 use Rattle.plane_terms.specs.Dirt.{Covers, MeetsDirt, MeetsPart}
+use Rattle.sound_laws.proofs.Meetings.{meets_test}
 use Rattle.dirty_area.proofs.Calls.{meets_dirt}
 use Rattle.validation_laws.specs.Picked.{ArePicked}
 use Rattle.validation.proofs.Nearby.{some_moved}
@@ -31,6 +33,29 @@ CoverParts ss rs w = (p : Point) → Covers ss p ↔ (Covers rs p × RectHolds w
 
 front_more : (rs : List Rectangle) (i : ℕ) (r : Rectangle) → i < length rs → r ≡ get_or rs i r → take (i + 1) rs ≡ take i rs ++ r ∷ []
 front_more rs i r l e = take_more rs i r l ∙ ap (λ y. take i rs ++ y ∷ []) (sym e)
+
+-- ---- of those that meet the window
+met_covers : (d : List Rectangle) (w : Rectangle) (p : Point) → RectHolds w p → Covers (filter (λ r. rects_meet r w) d) p ↔ Covers d p
+met_covers [] w p h = ((λ k. k), (λ k. k))
+met_covers (s ∷ d) w p h = pick (rects_meet s w) refl (filter (λ r. rects_meet r w) d) (met_covers d w p h)
+  where
+    pick : (b : Bool) → rects_meet s w ≡ b → (e : List Rectangle) → (Covers e p ↔ Covers d p) → Covers (cond b (s ∷ e) e) p ↔ Covers (s ∷ d) p
+    pick true t e rest = (
+      (λ k. elim k [ inl l ↦ inl l | inr l ↦ inr (rest.0 l) ]),
+      (λ k. elim k [ inl l ↦ inl l | inr l ↦ inr (rest.1 l) ]),
+    )
+    pick false t e rest = (
+      (λ k. inr (rest.0 k)),
+      (λ k. elim k [ inl l ↦ absurd (false≢true (sym t ∙ meets_test s w (p, l, h))) | inr l ↦ rest.1 l ]),
+    )
+
+pub cover_met : (ss met d : List Rectangle) (w : Rectangle) → met ≡ filter (λ r. rects_meet r w) d → CoverParts ss met w → CoverParts ss d w
+cover_met ss met d w e h p = (
+  (λ k.
+      let t = (h p).0 k in
+      ((met_covers d w p t.1).0 (subst (λ l. Covers l p) e t.0), t.1)),
+  (λ k. (h p).1 (subst (λ l. Covers l p) (sym e) ((met_covers d w p k.1).1 k.0), k.1)),
+)
 
 pub parts_more : (ss new : List Rectangle) (s : Rectangle) (rs : List Rectangle) (w r : Rectangle) (i : ℕ) → i < length rs
     → r ≡ get_or rs i r → ((p : Point) → RectHolds s p ↔ (RectHolds r p × RectHolds w p))

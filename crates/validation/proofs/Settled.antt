@@ -1,8 +1,9 @@
 -- A validation, from its selection, its new entries, its replacement and its cut.
-use Rattle.std.proofs.Common.{◌≡◌, ◌↔◌, ℕ, ◌≤◌, List, refl, subst, arith, Contains}
+use Rattle.std.proofs.Common.{◌≡◌, ◌↔◌, ℕ, ◌≤◌, List, refl, sym, ap, ◌∙◌, subst, arith, Contains}
+use Rattle.std.specs.List.{filter}
 use Rattle.plane_terms.specs.Lists.{IsThose}
 use Rattle.plane_terms.proofs.ListLemmas.{those_one}
-use Rattle.plane_terms.specs.Rectangle.{Rectangle}
+use Rattle.plane_terms.specs.Rectangle.{Rectangle, rects_meet}
 use Rattle.plane_terms.specs.Dirt.{cut_dirt}
 use Rattle.topology_terms.specs.Feature.{Feature, IsAscending}
 use Rattle.topology_terms.specs.Meaning.{Meaning}
@@ -16,6 +17,11 @@ use Rattle.validation_laws.specs.Replaced.{IsReplaced}
 use Rattle.validation_laws.proofs.Validating.{validated_by_parts}
 use Rattle.validation_laws.proofs.Counting.{live_those}
 use Rattle.validation.specs.Projects.{RuledFeatures, HasParts, with_parts}
+
+-- what a cut took of the dirt of a project
+pub met_of : (p : Project) (d met : List Rectangle) (w : Rectangle) → p.dirt ≡ d → met ≡ filter (λ r. rects_meet r w) d
+    → met ≡ filter (λ r. rects_meet r w) p.dirt
+met_of p d met w h e = e ∙ ap (filter (λ r. rects_meet r w)) (sym h)
 
 pub validated : (M : Meaning) (w : Rectangle) (p : Project) (r : RuledFeatures) (d new : List Rectangle)
     (es after fresh : List Entry) (selected : List ℕ)

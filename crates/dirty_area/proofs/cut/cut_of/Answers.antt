@@ -47,10 +47,13 @@ loop-place-preserved c =
     c.in_ok-push.ensures.items ∙ ap (λ s. c.loop-place.met.items ++ s ∷ []) same in
     let fewer : length (drop (c.in-Some.place + 1) rest) ≤ length c.args.rects.now =
     omega (arith, length-drop (c.in-Some.place + 1) rest, c.loop-place.invariant.0) in
-    rw (take_rest, more) (fewer, one_met c.args.rects.now (drop (c.in-Some.place + 1) rest) c.args.w.now c.extend_from_slice.new.self.items
-    c.loop-place.met.items c.loop-place.round x c.add_pieces.new.dirt.items c.add_pieces.new.round c.requires.loose
-    c.corner_law.ensures.proper (ap (λ (s : Rectangle). rects_meet s c.args.w.now) c.index-rest-place.is ∙ c.in-Some.ensures.2 x)
-    c.in_ok-add_pieces.ensures.dirt c.in_ok-add_pieces.ensures.round c.in_ok-add_pieces.ensures.kept run)
+    rw (take_rest, more) (
+      fewer,
+      one_met c.args.rects.now (drop (c.in-Some.place + 1) rest) c.args.w.now c.extend_from_slice.new.self.items
+          c.loop-place.met.items c.loop-place.round x c.add_pieces.new.dirt.items c.add_pieces.new.round c.requires.loose
+          c.corner_law.ensures.proper (ap (λ (s : Rectangle). rects_meet s c.args.w.now) c.index-rest-place.is ∙ c.in-Some.ensures.2 x)
+          c.in_ok-add_pieces.ensures.dirt c.in_ok-add_pieces.ensures.round c.in_ok-add_pieces.ensures.kept run,
+    )
 
 pub invariant_of-result : goal.invariant_of-result
 invariant_of-result c =

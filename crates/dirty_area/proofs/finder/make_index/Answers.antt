@@ -1,4 +1,4 @@
-use Rattle.std.proofs.Common.{arith, subst, sym, []}
+use Rattle.std.proofs.Common.{subst, sym, []}
 use Rattle.dirty_area.specs.Indexed.{IsIndexed}
 use Rattle.dirty_area.proofs.Indexes.{none_indexed}
 use Rattle.dirty_area.proofs.finder.make_index.Goals as goal

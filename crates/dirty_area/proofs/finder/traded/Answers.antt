@@ -1,4 +1,3 @@
-use Rattle.std.proofs.Common.{sym}
 use Rattle.dirty_area.proofs.Indexes.{without_stay, more_indexed}
 use Rattle.dirty_area.proofs.finder.traded.Goals as goal
 

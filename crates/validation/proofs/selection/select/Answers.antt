@@ -6,7 +6,7 @@ use Rattle.validation_laws.specs.Parts.{live_of}
 use Rattle.validation_laws.specs.Picked.{ArePicked}
 use Rattle.validation_laws.proofs.Handles.{rising}
 use Rattle.validation_laws.proofs.Selecting.{selected_picked}
-use Rattle.validation.proofs.Dirtied.{meets_parts, picked_as}
+use Rattle.validation.proofs.Dirtied.{cover_met, meets_parts, picked_as}
 use Rattle.validation.proofs.Picking.{picked_near, dirty_near}
 use Rattle.validation.proofs.Framed.{frames_near}
 use Rattle.validation.proofs.selection.select.Goals as goal
@@ -19,17 +19,17 @@ returns-clause-chosen c = λ p ef ed ee a.
     let w = c.args.window.now in
     let early = c.add_features.new.found.items in
     let late = c.add_subjects.new.found.items in
-    let meets = meets_parts c.in_ok-dirty.dirty c.args.dirt.now w c.in_ok-dirty.ensures in
+    let meets = meets_parts c.in_ok-dirty.dirty p.dirt w (cover_met c.in_ok-dirty.dirty c.args.met.now p.dirt w ed c.in_ok-dirty.ensures) in
     let dirty : Feature → Type 0 = λ (f : Feature). MeetsDirt c.in_ok-dirty.dirty (env f) in
     let F = c.args.ruled.now.features in
     let enough = dirty_near c.index.result.now F c.in_ok-dirty.dirty c.in_ok-near.near.items c.index.ensures c.in_ok-near.ensures.near in
     let among : ArePicked dirty (λ (f : Feature). f.handle) (live_of F c.in_ok-near.near.items) [] early =
     rw (c.in_ok-found.ensures.items, c.deref.ensures.value, c.features.ensures) at c.in_ok-add_features.ensures in
     let first : ArePicked (λ (f : Feature). MeetsPart p.dirt w (env f)) (λ (f : Feature). f.handle) p.features [] early =
-    rw (ef, ed) (picked_as dirty (λ (f : Feature). MeetsPart c.args.dirt.now w (env f)) (λ (f : Feature). f.handle) F [] early
+    rw ef (picked_as dirty (λ (f : Feature). MeetsPart p.dirt w (env f)) (λ (f : Feature). f.handle) F [] early
     (λ f. meets (env f)) (picked_near dirty F c.in_ok-near.near.items [] early c.order_law.ensures.features enough among)) in
     let second : ArePicked (λ (e : Entry). MeetsPart p.dirt w e.frame) (λ (e : Entry). e.subject) p.entries early late =
-    rw (ee, ed) (picked_as _ (λ (e : Entry). MeetsPart c.args.dirt.now w e.frame) (λ (e : Entry). e.subject) c.args.errors.now early
+    rw ee (picked_as _ (λ (e : Entry). MeetsPart p.dirt w e.frame) (λ (e : Entry). e.subject) c.args.errors.now early
     late (λ e. meets e.frame) (rw c.entries.ensures.value at c.in_ok-add_subjects.ensures)) in
     let chosen = selected_picked p w early late (rw ef c.order_law.ensures.features) (rw ee c.entries.ensures.ascending) first second a in
     let once = c.once_each.ensures.same a in

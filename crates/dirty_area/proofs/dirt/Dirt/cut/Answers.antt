@@ -1,9 +1,7 @@
-use Rattle.std.proofs.Common.{◌≡◌, sym, ap, ◌∙◌, subst}
+use Rattle.std.proofs.Common.{sym, ◌∙◌, subst}
 use Rattle.std.specs.Prelude.{IfOk}
 use Rattle.std.proofs.lemmas.Result.{IfOk-weaker}
-use Rattle.plane_terms.specs.Point.{Point}
-use Rattle.plane_terms.specs.Rectangle.{RectHolds}
-use Rattle.plane_terms.specs.Dirt.{Covers, cut_dirt}
+use Rattle.plane_terms.specs.Dirt.{Covers}
 use Rattle.sound_laws.proofs.Dirts.{cut_covers}
 use Rattle.sound_laws.proofs.Pieces.{cut_only}
 use Rattle.dirty_area.specs.Cuts.{IsCut}

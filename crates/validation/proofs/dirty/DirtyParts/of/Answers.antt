@@ -6,4 +6,4 @@ invariant_of-result c = grid_moved c.in_ok-parts_of.field-0.items c.of-parts.res
 
 pub returns : goal.returns
 returns c = cover_moved c.in_ok-parts_of.field-0.items c.of-parts.result c.args.dirt.now c.args.window.now c.of-parts.ensures
-    (rw c.rects.ensures.value at c.in_ok-parts_of.ensures.covers)
+    c.in_ok-parts_of.ensures.covers
