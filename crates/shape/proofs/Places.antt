@@ -1,12 +1,10 @@
 -- Places, and the vertices that are kept.
 use Rattle.std.proofs.Common.{◌≡◌, ℤ, Bool, true, false, cond, ◌&&◌, List, [], ◌∷◌, arith, refl, ap, ◌∙◌, int_eq}
 use Rattle.std.proofs.lemmas.Int.{ints}
-use Rattle.std.specs.Bool.{Decides}
 use Rattle.std.specs.List.{dedup, dedup_from}
-use lib.Pointwise.{pointwise}
 use Rattle.plane_terms.specs.Point.{Place, same_place}
 use Rattle.plane_terms.specs.Shape.{without_repeats}
-use Rattle.cell_laws.proofs.AtPlaces.{same_is, is_same}
+use Rattle.cell_laws.proofs.AtPlaces.{same_is}
 
 pub same_turned : (p q : Place) → same_place q p ≡ same_place p q
 same_turned p q = numbers p.x p.y q.x q.y
@@ -32,30 +30,3 @@ kept_from E h p (q ∷ qs) = step (E q p) (same_place p q) (h q p) (same_is p q)
 pub kept_is : (E : Place → Place → Bool) → ((x y : Place) → E x y ≡ same_place y x) → (ps : List Place) → dedup E ps ≡ without_repeats ps
 kept_is E h [] = refl
 kept_is E h (p ∷ ps) = kept_from E h p ps
-
--- ---- lists of places
-eq_is : (p q : Place) → int_eq p.x q.x && int_eq p.y q.y ≡ true → p ≡ q
-eq_is p q e = same_is p q e
-
-pub same_lists : (xs ys : List Place) → Decides (pointwise (λ p q. int_eq p.x q.x && int_eq p.y q.y) xs ys) (xs ≡ ys)
-same_lists [] [] = (λ e. refl, λ e. refl)
-same_lists [] (y ∷ ys) = (λ e. cc, λ e. cc)
-same_lists (x ∷ xs) [] = (λ e. cc, λ e. cc)
-same_lists (x ∷ xs) (y ∷ ys) =
-    (by_test (same_place x y) refl (same_lists xs ys).0, λ e. both (is_same x y (heads e)) ((same_lists xs ys).1 (tails e)))
-  where
-    heads : {X : Type 0} {a b : X} {us vs : List X} → a ∷ us ≡ b ∷ vs → a ≡ b
-    heads e = cc
-
-    tails : {X : Type 0} {a b : X} {us vs : List X} → a ∷ us ≡ b ∷ vs → us ≡ vs
-    tails e = cc
-
-    joined : {X : Type 0} {a b : X} {us vs : List X} → a ≡ b → us ≡ vs → a ∷ us ≡ b ∷ vs
-    joined e k = rw (e, k) refl
-
-    both : {a b : Bool} → a ≡ true → b ≡ true → a && b ≡ true
-    both e k = rw (e, k) refl
-
-    by_test : (b : Bool) → same_place x y ≡ b → {v : Bool} → (v ≡ true → xs ≡ ys) → b && v ≡ true → x ∷ xs ≡ y ∷ ys
-    by_test true t f e = joined (same_is x y t) (f e)
-    by_test false t f e = cc

@@ -1,13 +1,40 @@
-ghost use Rattle.std.specs.Prelude.{◌≡◌, ◌↔◌, IsTrue, IfOk};
+ghost use Rattle.std.specs.Prelude.{◌≡◌, ◌↔◌, length, IsTrue, IfOk};
 ghost use Rattle.shape.specs.Given.{rings_in, polygons_in};
 
 use grid_plane::{GridPoint, NoMemory};
 use std::alloc::Global;
 
+/// The number of vertices that are compared before a difference ends the comparison.
+const BLOCK: usize = 64;
+
+// Compares all vertices, with no early end, so that several are compared at once.
+fn is_same_block(block: &[GridPoint], other: &[GridPoint]) -> bool
+    requires { length block.now ≡ length other.now }
+    ensures { IsTrue result ↔ (block.now ≡ other.now) }
+{
+    let mut is_same = true;
+    for i in 0..block.len() {
+        let (vertex, at_other) = (block[i], other[i]);
+        is_same &= (vertex.x() == at_other.x()) & (vertex.y() == at_other.y());
+    }
+    is_same
+}
+
 fn are_same_vertices(ring: &[GridPoint], other: &[GridPoint]) -> bool
     ensures { IsTrue result ↔ (ring.now ≡ other.now) }
 {
-    ring == other
+    if ring.len() != other.len() {
+        return false;
+    }
+    let mut start = 0;
+    while start < ring.len() {
+        let end = start + BLOCK.min(ring.len() - start);
+        if !is_same_block(&ring[start..end], &other[start..end]) {
+            return false;
+        }
+        start = end;
+    }
+    true
 }
 
 pub(crate) fn are_same_rings(rings: &[Vec<GridPoint>], others: &[Vec<GridPoint>]) -> bool
