@@ -6,6 +6,7 @@ pub mod Ranking
 pub mod SortedColumn
 pub mod RankLoop
 pub mod Fails
+pub mod OpenSlots
 pub mod Reached
 pub mod Stacks
 pub mod Apart

@@ -10,7 +10,7 @@ use crate::ranked::Ranked;
 use grid_plane::{NoMemory, Seg};
 use std::cmp::Ordering;
 
-fn product(k: i128, m: i128) -> i128
+pub(crate) fn product(k: i128, m: i128) -> i128
     requires k_fits { unsigned_abs k ≤ 2 ^ 48 }
     requires m_fits { unsigned_abs m ≤ 2 ^ 23 }
     ensures value { result ≡ k *ℤ m }

@@ -24,11 +24,13 @@ use std::alloc::Global;
 /// So many columns are made from one list of segments.
 const FEW: usize = 8;
 
-/// Room for so many cells is taken for each abscissa of an inside: on the wall, and in the column behind it. A convex polygon has no more.
-const INSIDE: usize = 2;
-
-/// And of an outside: below and above, on the wall and in the column.
+/// So many cells has each abscissa of the outside of a convex polygon: below and above, on the wall and in the column behind it.
 const OUTSIDE: usize = 4;
+
+/// So many cells has the inside of a convex polygon of so many abscissas: one in each column, and one on each wall between two.
+fn inside_room(count: usize) -> usize {
+    count.saturating_mul(2).saturating_sub(3)
+}
 
 fn push_strip(
     cells: &mut BoundedCells,
@@ -160,7 +162,7 @@ fn inside_of(alloc: Global, segments: &[Seg]) -> Result<BoundedCells, NoMemory>
     ensures { IfOk result (λ cells. cells ≡ inside_cells segments.now) }
 {
     let abscissas = abscissas_of(alloc, segments)?;
-    let mut cells = BoundedCells::with_capacity(alloc, abscissas.len().saturating_mul(INSIDE))?;
+    let mut cells = BoundedCells::with_capacity(alloc, inside_room(abscissas.len()))?;
     if let Some((first, rest)) = abscissas.split_first() {
         push_strips(&mut cells, alloc, Parity::Odd, segments, first, rest)?;
     }

@@ -11,7 +11,7 @@ use crate::intervals::Stretch;
 use crate::slots::Slot;
 use grid_plane::Half;
 
-fn product(a: i64, v: i32) -> i64
+pub(crate) fn product(a: i64, v: i32) -> i64
     requires a_fits { unsigned_abs a ≤ 2 ^ 23 }
     requires v_fits { unsigned_abs v ≤ 2 ^ 23 }
     ensures value { result ≡ a *ℤ v }

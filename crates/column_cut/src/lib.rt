@@ -8,6 +8,7 @@ mod heights;
 mod intervals;
 pub mod laws;
 mod near;
+mod open;
 mod parity;
 mod push;
 mod ranked;

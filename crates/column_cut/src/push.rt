@@ -1,4 +1,4 @@
-ghost use Rattle.std.specs.Prelude.{◌≡◌, ◌++◌, ◌∷◌, [], None, OnOk, map};
+ghost use Rattle.std.specs.Prelude.{◌≡◌, ◌++◌, ◌∷◌, [], ◌<ℤ◌, None, OnOk, map};
 ghost use Rattle.plane_terms.specs.HalfPlane.{x_is, x_over, x_under};
 ghost use Rattle.plane_terms.specs.Carve.{kept};
 ghost use Rattle.plane_terms.specs.Columns.{at_wall, on_wall, in_column, intervals, is_covered, ordinates};
@@ -8,6 +8,7 @@ ghost use Rattle.column_cut.specs.Stretches.{AreStacked};
 use crate::coordinate::Coordinate;
 use crate::heights::{begins_above, first_reaching};
 use crate::intervals::{Stretch, find_intervals};
+use crate::open::is_open;
 use crate::room::WallRoom;
 use crate::slots::Slot;
 use convex_cell::BoundedCells;
@@ -119,6 +120,30 @@ fn find_column_cell(
     push_slot(halves, slot)
 }
 
+/// The cell of a slot between two segments with a stretch of the wall at x.
+fn push_closed(
+    cells: &mut BoundedCells,
+    alloc: Global,
+    x: &Coordinate,
+    over: &Half,
+    under: &Half,
+    stretch: &Stretch,
+) -> Result<(), NoMemory>
+    ensures { OnOk result (cells.new ≡ cells.old ++ kept ((x_is x.now ∷ over.now ∷ under.now ∷ stretch_cell stretch.now) ∷ [])) }
+{
+    let wall = on(x);
+    match half_above(&stretch.low) {
+        Some(above) => match half_below(&stretch.high) {
+            Some(below) => cells.push_kept(alloc, &[wall, *over, *under, above, below]),
+            None => cells.push_kept(alloc, &[wall, *over, *under, above]),
+        },
+        None => match half_below(&stretch.high) {
+            Some(below) => cells.push_kept(alloc, &[wall, *over, *under, below]),
+            None => cells.push_kept(alloc, &[wall, *over, *under]),
+        },
+    }
+}
+
 fn push_piece(
     cells: &mut BoundedCells,
     alloc: Global,
@@ -129,6 +154,11 @@ fn push_piece(
 ) -> Result<(), NoMemory>
     ensures { OnOk result (cells.new ≡ cells.old ++ kept ((x_is x.now ∷ slot_cell slot.now ++ stretch_cell stretch.now) ∷ [])) }
 {
+    if let Some(over) = slot.over {
+        if let Some(under) = slot.under {
+            return push_closed(cells, alloc, x, &over, &under, stretch);
+        }
+    }
     find_wall_cell(halves, x, slot, stretch)?;
     cells.push_kept(alloc, halves)
 }
@@ -198,6 +228,9 @@ pub(crate) fn push_wall(
 ) -> Result<(), NoMemory>
     ensures { OnOk result (cells.new ≡ cells.old ++ kept (on_wall x.now (map slot_cell slots.now) (intervals (is_covered x.now segments.now) None (ordinates x.now segments.now)))) }
 {
+    if slots.is_empty() {
+        return Ok(());
+    }
     find_intervals(
         &mut room.stretches,
         &mut room.ordinates,
@@ -209,6 +242,45 @@ pub(crate) fn push_wall(
     push_on_wall(cells, alloc, &mut room.halves, x, slots, &room.stretches)
 }
 
+/// The cell of a slot between two segments and two walls.
+fn push_between(
+    cells: &mut BoundedCells,
+    alloc: Global,
+    left: &Coordinate,
+    right: &Coordinate,
+    over: &Half,
+    under: &Half,
+) -> Result<(), NoMemory>
+    requires { left.now <ℤ right.now }
+    ensures { OnOk result (cells.new ≡ cells.old ++ kept ((x_over left.now ∷ x_under right.now ∷ over.now ∷ under.now ∷ []) ∷ [])) }
+{
+    let halves = [right_of(left), left_of(right), *over, *under];
+    if is_open(left, right, over, under) {
+        return cells.push(&halves);
+    }
+    cells.push_kept(alloc, &halves)
+}
+
+fn push_in_column(
+    cells: &mut BoundedCells,
+    alloc: Global,
+    halves: &mut Vec<Half>,
+    left: &Coordinate,
+    right: &Coordinate,
+    slot: &Slot,
+) -> Result<(), NoMemory>
+    requires { left.now <ℤ right.now }
+    ensures { OnOk result (cells.new ≡ cells.old ++ kept ((x_over left.now ∷ x_under right.now ∷ slot_cell slot.now) ∷ [])) }
+{
+    if let Some(over) = slot.over {
+        if let Some(under) = slot.under {
+            return push_between(cells, alloc, left, right, &over, &under);
+        }
+    }
+    find_column_cell(halves, left, right, slot)?;
+    cells.push_kept(alloc, halves)
+}
+
 /// The cells of a column: each slot between its two walls.
 pub(crate) fn push_column(
     cells: &mut BoundedCells,
@@ -218,11 +290,11 @@ pub(crate) fn push_column(
     right: &Coordinate,
     slots: &[Slot],
 ) -> Result<(), NoMemory>
+    requires { left.now <ℤ right.now }
     ensures { OnOk result (cells.new ≡ cells.old ++ kept (in_column left.now right.now (map slot_cell slots.now))) }
 {
     for slot in slots {
-        find_column_cell(halves, left, right, slot)?;
-        cells.push_kept(alloc, halves)?;
+        push_in_column(cells, alloc, halves, left, right, slot)?;
     }
     Ok(())
 }

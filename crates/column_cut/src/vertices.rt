@@ -62,7 +62,7 @@ pub(crate) fn abscissas_of(alloc: Global, segments: &[Seg]) -> Result<Vec<Coordi
     ensures { IfOk result (λ v. v.items ≡ abscissas segments.now) }
 {
     let mut values = all_abscissas(alloc, segments)?;
-    let mut found = Vec::new(alloc);
+    let mut found = Vec::with_capacity(alloc, values.len())?;
     ascending(&mut found, &mut values)?;
     Ok(found)
 }

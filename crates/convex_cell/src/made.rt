@@ -1,14 +1,37 @@
 // Cells that are made one after the other, each with its bounds.
 ghost use Rattle.std.specs.Prelude.{◌≡◌, ◌++◌, ◌∷◌, [], OnOk, OnErr};
 ghost use Rattle.plane_terms.specs.Carve.{kept};
+ghost use Rattle.convex_cell.specs.Span.{IsBoundsOf};
 
 use crate::bounded::BoundedCells;
-use crate::bounds::{are_rising, bounds_of};
+use crate::bounds::{Bounds, are_rising, bounds_of};
 use crate::emptiness::is_empty_within;
 use grid_plane::{Half, NoMemory};
 use std::alloc::Global;
 
 impl BoundedCells {
+    fn push_within(&mut self, halves: &[Half], bounds: Bounds) -> Result<(), NoMemory>
+        requires { IsBoundsOf bounds halves.now }
+        ensures ok { OnOk result (self.new ≡ self.old ++ halves.now ∷ []) }
+        ensures err { OnErr result (self.new ≡ self.old) }
+    {
+        self.rising = false;
+        self.bounds.push(bounds)?;
+        if let Err(full) = self.cells.push_halves(halves) {
+            self.bounds.pop();
+            return Err(full);
+        }
+        Ok(())
+    }
+
+    /// Puts the cell of these half-planes at the end; where memory runs out the list stays as it was.
+    pub fn push(&mut self, halves: &[Half]) -> Result<(), NoMemory>
+        ensures ok { OnOk result (self.new ≡ self.old ++ halves.now ∷ []) }
+        ensures err { OnErr result (self.new ≡ self.old) }
+    {
+        self.push_within(halves, bounds_of(halves))
+    }
+
     /// Puts the cell of these half-planes at the end where it has a point; no other takes memory. Where memory runs out the list
     /// stays as it was.
     pub fn push_kept(&mut self, _alloc: Global, halves: &[Half]) -> Result<(), NoMemory>
@@ -19,7 +42,7 @@ impl BoundedCells {
         if is_empty_within(halves, &bounds) {
             return Ok(());
         }
-        self.push_both(halves, &[], bounds)
+        self.push_within(halves, bounds)
     }
 
     /// To be called when all cells are there: gives back the room that none takes, and finds whether they ascend along x, so that

@@ -10,4 +10,4 @@ returns-then-is_empty_within-clause-ok c = rw (no_point c.args.halves.now c.if-i
 pub returns-clause-ok : goal.returns-clause-ok
 returns-clause-ok c =
     let some : has_point c.args.halves.now ≡ true = (has_point-true c.args.halves.now).1 c.if-is_empty_within.ensures.point in
-    rw some c.push_both.ensures.ok
+    rw some c.push_within.ensures.ok
