@@ -20,10 +20,10 @@ use Rattle.column_laws.proofs.Parity.{differ, differ_back, in_order, out_of_orde
 use Rattle.rule_laws.proofs.Envelopes.{LiesIn, BothEnds, segments_ends}
 
 -- ---- the segments over or below a point
-abbrev is_before : Point → Place → Bool
+abbrev pub is_before : Point → Place → Bool
 is_before p q = int_le (q.x *ℤ pos p.w) p.x
 
-abbrev spans : Point → Segment → Bool
+abbrev pub spans : Point → Segment → Bool
 spans p s = is_before p s.lo && int_lt p.x (s.hi.x *ℤ pos p.w)
 
 spans_ordered : (p : Point) (a b : Place) → a.x ≤ℤ b.x
@@ -53,7 +53,7 @@ spans_between p a b = by_order (comes_before a b) refl
     by_order true e = spans_ordered p a b (in_order a b e)
     by_order false e = spans_ordered p b a (out_of_order a b e) ∙ differ_back (is_before p b) (is_before p a)
 
-polygon_even : (p : Point) (s : Shape) → s.kind ≡ shapes.Polygon → is_odd (how_many (spans p) (segments_of s)) ≡ false
+pub polygon_even : (p : Point) (s : Shape) → s.kind ≡ shapes.Polygon → is_odd (how_many (spans p) (segments_of s)) ≡ false
 polygon_even p s e =
     round_even (spans p) (is_before p) (λ t. Unit {0}) (λ a b k. spans_between p a b) s e
     (every_of_all (λ t. Unit {0}) (λ t. tt) (segments_of s))
@@ -95,7 +95,7 @@ cross_below s p l r a b =
 
 -- ---- what counts
 -- what the two first tests say
-both_tests : (u v z : ℤ) → (int_le u z && int_lt z v) ≡ true → (u ≤ℤ z) × (z <ℤ v)
+pub both_tests : (u v z : ℤ) → (int_le u z && int_lt z v) ≡ true → (u ≤ℤ z) × (z <ℤ v)
 both_tests u v z e = (low u v z e, high u v z e)
   where
     low : (u v z : ℤ) → (int_le u z && int_lt z v) ≡ true → u ≤ℤ z

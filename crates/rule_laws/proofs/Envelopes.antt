@@ -1,10 +1,10 @@
 -- The vertices of a shape, and the ends of its segments, lie in its envelope.
-use Rattle.std.proofs.Common.{Bool, true, false, List, [], ◌∷◌, ◌++◌}
+use Rattle.std.proofs.Common.{◌≡◌, refl, subst, Bool, true, false, List, [], ◌∷◌, ◌++◌}
 use Rattle.std.specs.Prelude.{flat_map, if◌then◌else◌}
 use Rattle.plane_terms.specs.Lists.{Every}
 use Rattle.plane_terms.specs.Point.{Place}
 use Rattle.plane_terms.specs.Rectangle.{Rectangle, IsWithin, rect_at, join_of}
-use Rattle.plane_terms.specs.Segment.{Segment, comes_before, segment_between}
+use Rattle.plane_terms.specs.Segment.{Segment, comes_before, segment_between, first_of}
 use Rattle.plane_terms.specs.Shape.{Shape, box_from, box_of_places, vertices_of, envelope_of, path, closed_path, segments_by, segments_of, rings_of, last_of, two_ends, ends_by, ends_of}
 use Rattle.plane_terms.specs.declared.kind.Kind.{Kind}
 use Rattle.plane_terms.specs.declared.kind.Kind.TheVariants as shapes
@@ -63,6 +63,43 @@ rings_ends P [] h = tt
 rings_ends P (ring ∷ rings) h =
     let k = (all_append P ring (flat_map (λ ring. ring) rings)).0 h in
     (all_append (BothEnds P) (closed_path ring) (flat_map closed_path rings)).1 (closed_ends P ring k.0, rings_ends P rings k.1)
+
+-- in a ring each vertex is the one that a segment is drawn from
+first_is : (a b : Place) → first_of (segment_between a b) ≡ a
+first_is a b = by_order (comes_before a b)
+  where
+    by_order : (t : Bool)
+        → first_of (if t then record { lo = a; hi = b; turned = false } else record { lo = b; hi = a; turned = true }) ≡ a
+    by_order true = refl
+    by_order false = refl
+
+path_firsts : (P : Place → Type 0) (ps : List Place) (q : Place) → Every (λ t. P (first_of t)) (path (ps ++ q ∷ [])) → Every P ps
+path_firsts P [] q h = tt
+path_firsts P (p ∷ []) q h = (subst P (first_is p q) h.0, tt)
+path_firsts P (p ∷ r ∷ ps) q h = (subst P (first_is p r) h.0, path_firsts P (r ∷ ps) q h.1)
+
+closed_firsts : (P : Place → Type 0) (ring : List Place) → Every (λ t. P (first_of t)) (closed_path ring) → Every P ring
+closed_firsts P [] h = tt
+closed_firsts P (p ∷ ps) h = path_firsts P (p ∷ ps) p h
+
+rings_firsts : (P : Place → Type 0) (rings : List (List Place)) → Every (λ t. P (first_of t)) (flat_map closed_path rings)
+    → Every (BothEnds P) (flat_map closed_path rings)
+rings_firsts P [] h = tt
+rings_firsts P (ring ∷ rings) h =
+    let k = (all_append (λ t. P (first_of t)) (closed_path ring) (flat_map closed_path rings)).0 h in
+    (all_append (BothEnds P) (closed_path ring) (flat_map closed_path rings)).1
+    (closed_ends P ring (closed_firsts P ring k.0), rings_firsts P rings k.1)
+
+-- so what holds of the first ends of a polygon's segments holds of both
+pub firsts_both : (P : Place → Type 0) (s : Shape) → s.kind ≡ shapes.Polygon → Every (λ t. P (first_of t)) (segments_of s)
+    → Every (BothEnds P) (segments_of s)
+firsts_both P s e h = by_kind s.kind (rings_of s) e h
+  where
+    by_kind : (k : Kind) (rings : List (List Place)) → k ≡ shapes.Polygon → Every (λ t. P (first_of t)) (segments_by k rings)
+        → Every (BothEnds P) (segments_by k rings)
+    by_kind shapes.Point rings e h = tt
+    by_kind shapes.Line rings e h = absurd (cc e)
+    by_kind shapes.Polygon rings e h = rings_firsts P rings h
 
 -- those of a line's
 paths_ends : (P : Place → Type 0) (rings : List (List Place)) → Every P (flat_map (λ ring. ring) rings)

@@ -11,6 +11,7 @@ mod Neighbours
 mod Once
 mod OpenPieces
 mod Opened
+mod Parting
 mod Parts
 mod Rest
 mod Rightwards

@@ -23,7 +23,7 @@ use Rattle.rule_laws.proofs.Held.{some_each}
 use Rattle.rule_loops.specs.Beside.{AreBeside}
 use Rattle.rule_loops.proofs.Opened.{none_left}
 
-some_passes : {A : Type 0} (test : A → Bool) (xs : List A) → is_odd (how_many test xs) ≡ true → SomeOf (λ x. test x ≡ true) xs
+pub some_passes : {A : Type 0} (test : A → Bool) (xs : List A) → is_odd (how_many test xs) ≡ true → SomeOf (λ x. test x ≡ true) xs
 some_passes test [] e = absurd (false≢true e)
 some_passes test (x ∷ xs) e = by_test (test x) refl (some_passes test xs) e
   where
@@ -33,7 +33,7 @@ some_passes test (x ∷ xs) e = by_test (test x) refl (some_passes test xs) e
     by_test false t rest e = inr (rest e)
 
 -- what the tests of a segment that counts say
-three_tests : (u v z k : ℤ) → (int_le u z && (int_lt z v && int_lt (pos 0) k)) ≡ true → (u ≤ℤ z) × (z <ℤ v) × (pos 0 <ℤ k)
+pub three_tests : (u v z k : ℤ) → (int_le u z && (int_lt z v && int_lt (pos 0) k)) ≡ true → (u ≤ℤ z) × (z <ℤ v) × (pos 0 <ℤ k)
 three_tests u v z k e = (from u v z k e, to u v z k e, over u v z k e)
   where
     from : (u v z k : ℤ) → (int_le u z && (int_lt z v && int_lt (pos 0) k)) ≡ true → u ≤ℤ z
@@ -77,9 +77,13 @@ between r s p (inr (inl b)) h k c d e f = absurd (omega (arith, ints, scaled_le 
 between r s p (inr (inr (inl b))) h k c d e f = absurd (omega (arith, ints, scaled_le r.y1 s.y0 p.w b, h.above, f))
 between r s p (inr (inr (inr b))) h k c d e f = absurd (omega (arith, ints, scaled_le s.y1 r.y0 p.w b, k.above, d))
 
-pub nothing_common : (f g : Feature) → IsFit shapes.Polygon f → IsFit shapes.Polygon g → AreBeside (env f) (env g) → overlap_cells f g ≡ []
-nothing_common f g u v b = none_left (overlap_cells f g) (kept_have_points _) (λ p h.
-    let k = (overlap_rule.exact f g p u v).0 h in
-    let i = strictly f p k.0 in
-    let j = strictly g p k.1 in
-    between (env f) (env g) p b (inside_held f.shape u.kind p k.0) (inside_held g.shape v.kind p k.1) i.0 i.1 j.0 j.1)
+-- two polygons without a common inside point have no common cells
+pub none_common : (f g : Feature) → IsFit shapes.Polygon f → IsFit shapes.Polygon g → ((p : Point) → IsInside (sides f) p → IsInside (sides g) p → ⊥)
+    → overlap_cells f g ≡ []
+none_common f g u v n = none_left (overlap_cells f g) (kept_have_points _) (λ p h. let k = (overlap_rule.exact f g p u v).0 h in n p k.0 k.1)
+
+pub beside_common : (f g : Feature) → IsFit shapes.Polygon f → IsFit shapes.Polygon g → AreBeside (env f) (env g) → overlap_cells f g ≡ []
+beside_common f g u v b = none_common f g u v (λ p h k.
+    let i = strictly f p h in
+    let j = strictly g p k in
+    between (env f) (env g) p b (inside_held f.shape u.kind p h) (inside_held g.shape v.kind p k) i.0 i.1 j.0 j.1)

@@ -3,6 +3,7 @@ ghost use Rattle.std.specs.Bool.{OnTrue};
 ghost use Rattle.topology_terms.specs.Plans as plans;
 ghost use Rattle.rule_loops.specs.Beside.{AreBeside};
 
+use crate::parted::are_parted;
 use crate::polygon::{are_polygons, inside_of};
 use convex_cell::Cells;
 use grid_plane::{NoMemory, Rect};
@@ -26,17 +27,19 @@ fn are_beside(r: &Rect, s: &Rect) -> bool
     s.y1() <= r.y0()
 }
 
-// Whether the envelopes show that the polygons have no inside point in common.
+// Whether the envelopes, or a line between the polygons, show that they have no inside point in common.
 fn are_clear(subject: &Feature, partner: &Feature) -> bool
     ensures { OnTrue result (plans.overlap_cells subject.now partner.now ≡ []) }
 {
     if are_polygons(subject, partner) {
-        return are_beside(&subject.shape().env(), &partner.shape().env());
+        let (own, other) = (subject.shape(), partner.shape());
+        return are_beside(&own.env(), &other.env()) || are_parted(own.segs(), other.segs());
     }
     false
 }
 
-/// The cells of what two polygons have inside in common. None are made of polygons whose envelopes only touch.
+/// The cells of what two polygons have inside in common. None are made of polygons whose envelopes only touch, and none of small
+/// polygons that a line through a segment of one of them parts.
 pub fn common_inside(
     alloc: Global,
     subject: &Feature,

@@ -19,6 +19,7 @@ mod off_ends;
 mod open;
 mod own;
 mod pairs;
+mod parted;
 mod partners;
 mod places;
 mod polygon;

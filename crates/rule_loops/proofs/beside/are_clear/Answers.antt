@@ -1,18 +1,31 @@
 use Rattle.std.proofs.Common.{◌≡◌, ◌∙◌, ap}
 use Rattle.std.proofs.lemmas.Bool.{OnTrue_at, OnTrue_from}
-use Rattle.plane_terms.specs.Shape.{Shape, envelope_of}
-use Rattle.topology_terms.specs.Feature.{env}
+use Rattle.plane_terms.specs.Shape.{Shape, segments_of, envelope_of}
+use Rattle.topology_terms.specs.Feature.{sides, env}
 use Rattle.rule_loops.specs.Beside.{AreBeside}
-use Rattle.rule_loops.proofs.Neighbours.{nothing_common}
+use Rattle.rule_loops.specs.Parted.{AreParted}
+use Rattle.rule_loops.proofs.Neighbours.{beside_common}
+use Rattle.rule_loops.proofs.Parting.{parted_common}
 use Rattle.rule_loops.proofs.beside.are_clear.Goals as goal
 
-pub returns-then-are_polygons : goal.returns-then-are_polygons
-returns-then-are_polygons c =
+pub returns-then-are_beside : goal.returns-then-are_beside
+returns-then-are_beside c =
     let f = c.args.subject.now in
     let g = c.args.partner.now in
-    let own : c.env.result ≡ env f = c.env.ensures ∙ ap (λ (s : Shape). envelope_of s) c.shape.ensures in
+    let own : c.env.result ≡ env f = c.env.ensures ∙ ap (λ (s : Shape). envelope_of s) c.shape-own.ensures in
     let other : c.env-then-are_polygons.result ≡ env g = c.env-then-are_polygons.ensures
-    ∙ ap (λ (s : Shape). envelope_of s) c.shape-then-are_polygons.ensures in
-    OnTrue_from _ _ (λ t. nothing_common f g (OnTrue_at c.if-are_polygons.true c.are_polygons.ensures.subject)
+    ∙ ap (λ (s : Shape). envelope_of s) c.shape-other.ensures in
+    OnTrue_from _ _ (λ t. beside_common f g (OnTrue_at c.if-are_polygons.true c.are_polygons.ensures.subject)
     (OnTrue_at c.if-are_polygons.true c.are_polygons.ensures.polygon)
     (rw (own, other) at (OnTrue_at {P = AreBeside c.env.result c.env-then-are_polygons.result} t c.are_beside.ensures)))
+
+pub returns-else-are_beside : goal.returns-else-are_beside
+returns-else-are_beside c =
+    let f = c.args.subject.now in
+    let g = c.args.partner.now in
+    let own : c.segs.result.now ≡ sides f = c.segs.ensures.value ∙ ap (λ (s : Shape). segments_of s) c.shape-own.ensures in
+    let other : c.segs-else-are_beside.result.now ≡ sides g = c.segs-else-are_beside.ensures.value
+    ∙ ap (λ (s : Shape). segments_of s) c.shape-other.ensures in
+    OnTrue_from _ _ (λ t. parted_common f g (OnTrue_at c.if-are_polygons.true c.are_polygons.ensures.subject)
+    (OnTrue_at c.if-are_polygons.true c.are_polygons.ensures.polygon)
+    (rw (own, other) at (OnTrue_at {P = AreParted c.segs.result.now c.segs-else-are_beside.result.now} t c.are_parted.ensures)))

@@ -1,0 +1,247 @@
+-- Polygons that a line parts have no inside point in common: what is inside the one on its left is left of it, since a segment of that one
+-- runs below it; and what is inside the other is not, since a segment of that one runs above it or through it.
+use Rattle.std.proofs.Common.{◌≡◌, inl, inr, ℕ, ℤ, pos, ◌+ℤ◌, ◌-ℤ◌, ◌*ℤ◌, ◌≤ℤ◌, ◌<ℤ◌, arith, refl, ap, ◌∙◌, Bool, true, false, zero, suc, negsuc, List, [], ◌∷◌}
+use Rattle.std.specs.Prelude.{◌&&◌, ◌||◌, ◌⊎◌}
+use Rattle.std.specs.List.{list_all, list_any}
+use Rattle.number_laws.proofs.Tests.{Decides-int_le}
+use Rattle.std.proofs.lemmas.Int.{ints}
+use Rattle.plane_terms.specs.Point.{Point}
+use Rattle.plane_terms.specs.Segment.{Segment, IsSegment, cross, first_of}
+use Rattle.plane_terms.specs.Share.{turn}
+use Rattle.plane_terms.specs.Polygon.{counts, IsInside}
+use Rattle.plane_terms.specs.Lists.{Every, SomeOf}
+use Rattle.plane_terms.specs.declared.kind.Kind.TheVariants as shapes
+use Rattle.topology_terms.specs.Feature.{Feature, sides}
+use Rattle.topology_terms.specs.Plans.{overlap_cells}
+use Rattle.column_laws.proofs.Parity.{differ, odd_differ}
+use Rattle.rule_laws.proofs.Crossings.{spans, polygon_even, both_tests}
+use Rattle.rule_laws.proofs.Envelopes.{BothEnds, firsts_both}
+use Rattle.rule_laws.proofs.Families.{IsFit}
+use Rattle.rule_laws.proofs.Held.{some_each}
+use Rattle.rule_loops.specs.Parted.{is_left, is_right, parts, some_parts, AreParted}
+use Rattle.rule_loops.proofs.Neighbours.{some_passes, three_tests, none_common}
+use Rattle.std.specs.Int.RustNames.{int_le, int_lt}
+use Rattle.std.proofs.lemmas.Bool.{false≢true}
+use Rattle.number_laws.proofs.Ring.{num, ◌⊕◌, ◌⊖◌, ◌⊗◌, same_by, same_read}
+use Rattle.number_laws.proofs.Order.{scaled_le, product_at_least, product_over, over_unscaled, cases_order_ℤ}
+
+-- ---- the two crosses of a point, and the turns of the ends of a segment that spans its column
+-- the line t goes dx to the right and dy up, the segment s width to the right and rise up; the point is right of and up from the lower end of s
+crosses : (dx dy width rise right up : ℤ) → width *ℤ (dx *ℤ up -ℤ dy *ℤ right)
+    ≡ right *ℤ (dx *ℤ rise -ℤ dy *ℤ width) +ℤ dx *ℤ (width *ℤ up -ℤ rise *ℤ right)
+crosses dx dy width rise right up =
+    same_by (num width ⊗ (num dx ⊗ num up ⊖ num dy ⊗ num right))
+    (num right ⊗ (num dx ⊗ num rise ⊖ num dy ⊗ num width) ⊕ num dx ⊗ (num width ⊗ num up ⊖ num rise ⊗ num right)) (omega arith)
+
+-- from the lower end of s to its upper one
+turn_on : (dx dy tx ty lx ly hx hy : ℤ) → dx *ℤ (hy -ℤ ty) -ℤ dy *ℤ (hx -ℤ tx)
+    ≡ (dx *ℤ (ly -ℤ ty) -ℤ dy *ℤ (lx -ℤ tx)) +ℤ (dx *ℤ (hy -ℤ ly) -ℤ dy *ℤ (hx -ℤ lx))
+turn_on dx dy tx ty lx ly hx hy =
+    same_by (num dx ⊗ (num hy ⊖ num ty) ⊖ num dy ⊗ (num hx ⊖ num tx))
+    ((num dx ⊗ (num ly ⊖ num ty) ⊖ num dy ⊗ (num lx ⊖ num tx)) ⊕ (num dx ⊗ (num hy ⊖ num ly) ⊖ num dy ⊗ (num hx ⊖ num lx))) (omega arith)
+
+-- and to the point
+cross_on : (dx dy tx ty lx ly px py : ℤ) (w : ℕ) → dx *ℤ (py -ℤ ty *ℤ pos w) -ℤ dy *ℤ (px -ℤ tx *ℤ pos w)
+    ≡ (dx *ℤ (ly -ℤ ty) -ℤ dy *ℤ (lx -ℤ tx)) *ℤ pos w +ℤ (dx *ℤ (py -ℤ ly *ℤ pos w) -ℤ dy *ℤ (px -ℤ lx *ℤ pos w))
+cross_on dx dy tx ty lx ly px py w =
+    same_by (num dx ⊗ (num py ⊖ num ty ⊗ num (pos w)) ⊖ num dy ⊗ (num px ⊖ num tx ⊗ num (pos w)))
+    ((num dx ⊗ (num ly ⊖ num ty) ⊖ num dy ⊗ (num lx ⊖ num tx)) ⊗ num (pos w) ⊕
+    (num dx ⊗ (num py ⊖ num ly ⊗ num (pos w)) ⊖ num dy ⊗ (num px ⊖ num lx ⊗ num (pos w)))) (omega arith)
+
+weighed : (width left right w lower more c dx e : ℤ) → left +ℤ right ≡ width *ℤ w → width *ℤ c ≡ right *ℤ more +ℤ dx *ℤ e
+    → width *ℤ (lower *ℤ w +ℤ c) ≡ (left *ℤ lower +ℤ right *ℤ (lower +ℤ more)) +ℤ dx *ℤ e
+weighed width left right w lower more c dx e h k =
+    let whole : (left +ℤ right) *ℤ lower ≡ (width *ℤ w) *ℤ lower = ap (λ z. z *ℤ lower) h in
+    let m = same_read ((num left ⊕ num right) ⊗ num lower) (num width ⊗ num w ⊗ num lower) whole in
+    let n = same_read (num width ⊗ num c) (num right ⊗ num more ⊕ num dx ⊗ num e) k in
+    same_by (num width ⊗ (num lower ⊗ num w ⊕ num c))
+    ((num left ⊗ num lower ⊕ num right ⊗ (num lower ⊕ num more)) ⊕ num dx ⊗ num e) (omega (arith, m, n))
+
+-- what the ends of a segment in the column of p are of a line, weighed, and what p is of the segment, make what p is of the line
+column_sum : (t s : Segment) (p : Point) → (s.hi.x -ℤ s.lo.x) *ℤ cross t p
+    ≡ ((s.hi.x *ℤ pos p.w -ℤ p.x) *ℤ turn t s.lo +ℤ (p.x -ℤ s.lo.x *ℤ pos p.w) *ℤ turn t s.hi) +ℤ (t.hi.x -ℤ t.lo.x) *ℤ cross s p
+column_sum t s p =
+    let dx = t.hi.x -ℤ t.lo.x in
+    let dy = t.hi.y -ℤ t.lo.y in
+    let width = s.hi.x -ℤ s.lo.x in
+    let rise = s.hi.y -ℤ s.lo.y in
+    let right = p.x -ℤ s.lo.x *ℤ pos p.w in
+    let up = p.y -ℤ s.lo.y *ℤ pos p.w in
+    let left = s.hi.x *ℤ pos p.w -ℤ p.x in
+    let both : left +ℤ right ≡ width *ℤ pos p.w = column s.lo.x s.hi.x p.x p.w in
+    rw (cross_on dx dy t.lo.x t.lo.y s.lo.x s.lo.y p.x p.y p.w, turn_on dx dy t.lo.x t.lo.y s.lo.x s.lo.y s.hi.x s.hi.y)
+    (weighed width left right (pos p.w) (turn t s.lo) (dx *ℤ rise -ℤ dy *ℤ width) (dx *ℤ up -ℤ dy *ℤ right) dx (cross s p) both
+    (crosses dx dy width rise right up))
+  where
+    column : (lx hx px : ℤ) (w : ℕ) → (hx *ℤ pos w -ℤ px) +ℤ (px -ℤ lx *ℤ pos w) ≡ (hx -ℤ lx) *ℤ pos w
+    column lx hx px w = same_by ((num hx ⊗ num (pos w) ⊖ num px) ⊕ (num px ⊖ num lx ⊗ num (pos w)))
+        ((num hx ⊖ num lx) ⊗ num (pos w)) (omega arith)
+
+-- ---- the sides
+-- the column of p is one of the segment's
+pub record Spans (s : Segment) (p : Point) : Type 0 where
+  pub from : (s.lo.x *ℤ pos p.w) ≤ℤ p.x
+  pub to : p.x <ℤ (s.hi.x *ℤ pos p.w)
+
+wide : (s : Segment) (p : Point) → Spans s p → pos 0 <ℤ (s.hi.x -ℤ s.lo.x)
+wide s p h = elim (cases_order_ℤ s.lo.x s.hi.x) [
+  | inl l ↦ omega (arith, ints, l)
+  | inr l ↦ let k = scaled_le s.hi.x s.lo.x p.w l in absurd (omega (arith, ints, h.from, h.to, k))
+]
+
+strictly_over : (width v left right a b dx e : ℤ) → pos 0 <ℤ width → pos 0 <ℤ left → pos 0 ≤ℤ right → pos 0 ≤ℤ a → pos 0 ≤ℤ b → pos 0 ≤ℤ dx
+    → pos 0 <ℤ e → (pos 0 <ℤ dx) ⊎ (pos 0 <ℤ a) → width *ℤ v ≡ (left *ℤ a +ℤ right *ℤ b) +ℤ dx *ℤ e → pos 0 <ℤ v
+strictly_over width v left right a b dx e h l r x y d k (inl o) sum =
+    over_unscaled width v h (omega (arith, ints, sum, product_at_least left a (omega (arith, ints, l)) x, product_at_least right b r y, product_over dx e o k))
+strictly_over width v left right a b dx e h l r x y d k (inr o) sum =
+    over_unscaled width v h (omega (arith, ints, sum, product_over left a l o, product_at_least right b r y, product_at_least dx e d (omega (arith, ints, k))))
+
+not_over : (width v left right a b dx e : ℤ) → pos 0 <ℤ width → pos 0 ≤ℤ left → pos 0 ≤ℤ right → a ≤ℤ pos 0 → b ≤ℤ pos 0 → pos 0 ≤ℤ dx
+    → e ≤ℤ pos 0 → width *ℤ v ≡ (left *ℤ a +ℤ right *ℤ b) +ℤ dx *ℤ e → v ≤ℤ pos 0
+not_over width v left right a b dx e h l r x y d k sum = elim (cases_order_ℤ (pos 0) v) [
+  | inl o ↦ absurd (omega (arith, ints, sum, product_over width v h o, under left a l x, under right b r y, under dx e d k))
+  | inr o ↦ o
+]
+  where
+    under : (m n : ℤ) → pos 0 ≤ℤ m → n ≤ℤ pos 0 → (m *ℤ n) ≤ℤ pos 0
+    under (pos m) (pos zero) h k = omega (arith, ints)
+    under (pos m) (pos (suc n)) h k = absurd (omega (arith, ints))
+    under (pos m) (negsuc n) h k = omega (arith, ints)
+    under (negsuc m) n h k = absurd (omega (arith, ints))
+
+abbrev slopes : Segment → Type 0
+slopes t = (t.lo.x <ℤ t.hi.x) ⊎ ((t.lo.x ≡ t.hi.x) × (t.lo.y <ℤ t.hi.y))
+
+rightwards : (t : Segment) → slopes t → pos 0 ≤ℤ (t.hi.x -ℤ t.lo.x)
+rightwards t (inl h) = omega (arith, ints, h)
+rightwards t (inr h) = omega (arith, ints, h.0)
+
+-- a segment that is wide and goes upright along no line has no lower end on an upright one
+off_upright : (t s : Segment) → pos 0 <ℤ (s.hi.x -ℤ s.lo.x) → pos 0 ≤ℤ turn t s.hi → slopes t
+    → (pos 0 <ℤ (t.hi.x -ℤ t.lo.x)) ⊎ (pos 0 <ℤ turn t s.lo)
+off_upright t s w b (inl h) = inl (omega (arith, ints, h))
+off_upright t s w b (inr h) =
+    let flat : t.hi.x -ℤ t.lo.x ≡ pos 0 = omega (arith, ints, h.0) in
+    let on = turn_on (t.hi.x -ℤ t.lo.x) (t.hi.y -ℤ t.lo.y) t.lo.x t.lo.y s.lo.x s.lo.y s.hi.x s.hi.y in
+    let k = product_over (t.hi.y -ℤ t.lo.y) (s.hi.x -ℤ s.lo.x) (omega (arith, ints, h.1)) w in
+    inr (numbers (t.hi.x -ℤ t.lo.x) (s.hi.y -ℤ s.lo.y) (turn t s.lo) (turn t s.hi) ((t.hi.y -ℤ t.lo.y) *ℤ (s.hi.x -ℤ s.lo.x)) flat on k b)
+  where
+    numbers : (dx rise a b up : ℤ) → dx ≡ pos 0 → b ≡ a +ℤ (dx *ℤ rise -ℤ up) → pos 0 <ℤ up → pos 0 ≤ℤ b → pos 0 <ℤ a
+    numbers dx rise a b up flat e k h =
+        let z : dx *ℤ rise ≡ pos 0 = rw flat (omega (arith, ints)) in
+        omega (arith, ints, z, e, k, h)
+
+-- over a segment that is left of the line, or on it
+pub left_over : (t s : Segment) (p : Point) → IsSegment t → Spans s p → pos 0 ≤ℤ turn t s.lo → pos 0 ≤ℤ turn t s.hi → pos 0 <ℤ cross s p
+    → pos 0 <ℤ cross t p
+left_over t s p o h a b e =
+    let w = wide s p h in
+    strictly_over (s.hi.x -ℤ s.lo.x) (cross t p) (s.hi.x *ℤ pos p.w -ℤ p.x) (p.x -ℤ s.lo.x *ℤ pos p.w) (turn t s.lo) (turn t s.hi)
+    (t.hi.x -ℤ t.lo.x) (cross s p) w (omega (arith, ints, h.to)) (omega (arith, ints, h.from)) a b (rightwards t o.ordered) e
+    (off_upright t s w b o.ordered) (column_sum t s p)
+
+-- under a segment that is right of the line, or on it; or on such a segment
+pub right_not_over : (t s : Segment) (p : Point) → IsSegment t → Spans s p → turn t s.lo ≤ℤ pos 0 → turn t s.hi ≤ℤ pos 0 → cross s p ≤ℤ pos 0
+    → cross t p ≤ℤ pos 0
+right_not_over t s p o h a b e =
+    not_over (s.hi.x -ℤ s.lo.x) (cross t p) (s.hi.x *ℤ pos p.w -ℤ p.x) (p.x -ℤ s.lo.x *ℤ pos p.w) (turn t s.lo) (turn t s.hi)
+    (t.hi.x -ℤ t.lo.x) (cross s p) (wide s p h) (omega (arith, ints, h.to)) (omega (arith, ints, h.from)) a b (rightwards t o.ordered) e
+    (column_sum t s p)
+
+-- ---- inside a polygon
+not_under : (z : ℤ) → int_lt (pos 0) z ≡ false → z ≤ℤ pos 0
+not_under z e = grind (arith, ints)
+
+-- a segment that spans the column and does not count
+idle : (s : Segment) (p : Point) → differ (counts s p) (spans p s) ≡ true → Spans s p × (cross s p ≤ℤ pos 0)
+unfolding differ
+idle s p e =
+    let k = first_alone (int_le (s.lo.x *ℤ pos p.w) p.x) (int_lt p.x (s.hi.x *ℤ pos p.w)) (int_lt (pos 0) (cross s p)) e in
+    let h = both_tests (s.lo.x *ℤ pos p.w) (s.hi.x *ℤ pos p.w) p.x k.0 in
+    (record { from = h.0; to = h.1 }, not_under (cross s p) k.1)
+  where
+    first_alone : (b c d : Bool) → differ (b && (c && d)) (b && c) ≡ true → (b && c ≡ true) × (d ≡ false)
+    first_alone true true true e = absurd (false≢true e)
+    first_alone true true false e = (refl, refl)
+    first_alone true false d e = absurd (false≢true e)
+    first_alone false c d e = absurd (false≢true e)
+
+some_idle : (f : Feature) (p : Point) → f.shape.kind ≡ shapes.Polygon → IsInside (sides f) p
+    → SomeOf (λ s. differ (counts s p) (spans p s) ≡ true) (sides f)
+unfolding differ
+some_idle f p e i =
+    some_passes (λ s. differ (counts s p) (spans p s)) (sides f)
+    (odd_differ (λ s. counts s p) (spans p) (sides f) ∙ rw (i.odd, polygon_even p f.shape e) refl)
+
+-- what the tests say
+both_true : (b c : Bool) → b && c ≡ true → (b ≡ true) × (c ≡ true)
+both_true true c e = (refl, e)
+both_true false c e = absurd (false≢true e)
+
+lefts : (t : Segment) (ss : List Segment) → list_all (is_left t) ss ≡ true → Every (λ s. pos 0 ≤ℤ turn t (first_of s)) ss
+lefts t [] e = tt
+lefts t (s ∷ ss) e =
+    let k = both_true (is_left t s) (list_all (is_left t) ss) e in
+    ((Decides-int_le (pos 0) (turn t (first_of s))).0 k.0, lefts t ss k.1)
+
+rights : (t : Segment) (ss : List Segment) → list_all (is_right t) ss ≡ true → Every (λ s. turn t (first_of s) ≤ℤ pos 0) ss
+rights t [] e = tt
+rights t (s ∷ ss) e =
+    let k = both_true (is_right t s) (list_all (is_right t) ss) e in
+    ((Decides-int_le (turn t (first_of s)) (pos 0)).0 k.0, rights t ss k.1)
+
+any_passes : {A : Type 0} (test : A → Bool) (xs : List A) → list_any test xs ≡ true → SomeOf (λ x. test x ≡ true) xs
+any_passes test [] e = absurd (false≢true e)
+any_passes test (x ∷ xs) e = by_test (test x) refl (any_passes test xs) e
+  where
+    by_test : (b : Bool) → test x ≡ b → (list_any test xs ≡ true → SomeOf (λ x. test x ≡ true) xs) → b || list_any test xs ≡ true
+        → SomeOf (λ x. test x ≡ true) (x ∷ xs)
+    by_test true t rest e = inl t
+    by_test false t rest e = inr (rest e)
+
+module _ (t : Segment) (f : Feature) (p : Point) (o : IsSegment t) (e : f.shape.kind ≡ shapes.Polygon) (i : IsInside (sides f) p) where
+  inside_left : list_all (is_left t) (sides f) ≡ true → pos 0 <ℤ cross t p
+  inside_left h = some_each (BothEnds (λ q. pos 0 ≤ℤ turn t q)) (λ s. counts s p ≡ true) (pos 0 <ℤ cross t p) one (sides f)
+      (firsts_both (λ q. pos 0 ≤ℤ turn t q) f.shape e (lefts t (sides f) h)) (some_passes (λ s. counts s p) (sides f) i.odd)
+    where
+      one : (s : Segment) → BothEnds (λ q. pos 0 ≤ℤ turn t q) s → counts s p ≡ true → pos 0 <ℤ cross t p
+      one s b c =
+          let k = three_tests (s.lo.x *ℤ pos p.w) (s.hi.x *ℤ pos p.w) p.x (cross s p) c in
+          left_over t s p o (record { from = k.0; to = k.1 }) b.0 b.1 k.2
+
+  inside_right : list_all (is_right t) (sides f) ≡ true → cross t p ≤ℤ pos 0
+  inside_right h = some_each (BothEnds (λ q. turn t q ≤ℤ pos 0)) (λ s. differ (counts s p) (spans p s) ≡ true) (cross t p ≤ℤ pos 0) one (sides f)
+      (firsts_both (λ q. turn t q ≤ℤ pos 0) f.shape e (rights t (sides f) h)) (some_idle f p e i)
+    where
+      one : (s : Segment) → BothEnds (λ q. turn t q ≤ℤ pos 0) s → differ (counts s p) (spans p s) ≡ true → cross t p ≤ℤ pos 0
+      one s b c = let k = idle s p c in right_not_over t s p o k.0 b.0 b.1 k.1
+
+-- ---- two polygons
+-- f on one side of the line of t, g on the other
+no_common : (t : Segment) (f g : Feature) (p : Point) → IsSegment t → IsFit shapes.Polygon f → IsFit shapes.Polygon g → IsInside (sides f) p
+    → IsInside (sides g) p → parts t (sides f) (sides g) ≡ true → ⊥
+no_common t f g p o u v i j e = by_side (list_all (is_left t) (sides g)) (list_all (is_right t) (sides f)) (list_all (is_right t) (sides g))
+    (list_all (is_left t) (sides f)) refl refl refl refl e
+  where
+    by_side : (a b c d : Bool) → list_all (is_left t) (sides g) ≡ a → list_all (is_right t) (sides f) ≡ b → list_all (is_right t) (sides g) ≡ c
+        → list_all (is_left t) (sides f) ≡ d → (a && b) || (c && d) ≡ true → ⊥
+    by_side true true c d h k l m e =
+        absurd (omega (arith, ints, inside_left t g p o v.kind j h, inside_right t f p o u.kind i k))
+    by_side true false true true h k l m e =
+        absurd (omega (arith, ints, inside_left t f p o u.kind i m, inside_right t g p o v.kind j l))
+    by_side true false true false h k l m e = absurd (false≢true e)
+    by_side true false false d h k l m e = absurd (false≢true e)
+    by_side false b true true h k l m e =
+        absurd (omega (arith, ints, inside_left t f p o u.kind i m, inside_right t g p o v.kind j l))
+    by_side false b true false h k l m e = absurd (false≢true e)
+    by_side false b false d h k l m e = absurd (false≢true e)
+
+parted_by : (f g : Feature) (p : Point) → IsFit shapes.Polygon f → IsFit shapes.Polygon g → IsInside (sides f) p → IsInside (sides g) p
+    → some_parts (sides f) (sides f) (sides g) ≡ true → ⊥
+parted_by f g p u v i j e =
+    some_each IsSegment (λ t. parts t (sides f) (sides g) ≡ true) ⊥ (λ t o k. no_common t f g p o u v i j k) (sides f) u.proper
+    (any_passes (λ t. parts t (sides f) (sides g)) (sides f) e)
+
+pub parted_common : (f g : Feature) → IsFit shapes.Polygon f → IsFit shapes.Polygon g → AreParted (sides f) (sides g) → overlap_cells f g ≡ []
+parted_common f g u v (inl h) = none_common f g u v (λ p i j. parted_by f g p u v i j h)
+parted_common f g u v (inr h) = none_common f g u v (λ p i j. parted_by g f p v u j i h)
