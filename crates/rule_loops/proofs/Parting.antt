@@ -11,14 +11,14 @@ use Rattle.plane_terms.specs.Share.{turn}
 use Rattle.plane_terms.specs.Polygon.{counts, IsInside}
 use Rattle.plane_terms.specs.Lists.{Every, SomeOf}
 use Rattle.plane_terms.specs.declared.kind.Kind.TheVariants as shapes
-use Rattle.topology_terms.specs.Feature.{Feature, sides}
+use Rattle.topology_terms.specs.Feature.{Feature, sides, env}
 use Rattle.topology_terms.specs.Plans.{overlap_cells}
 use Rattle.column_laws.proofs.Parity.{differ, odd_differ}
 use Rattle.rule_laws.proofs.Crossings.{spans, polygon_even, both_tests}
 use Rattle.rule_laws.proofs.Envelopes.{BothEnds, firsts_both}
 use Rattle.rule_laws.proofs.Families.{IsFit}
 use Rattle.rule_laws.proofs.Held.{some_each}
-use Rattle.rule_loops.specs.Parted.{is_left, is_right, parts, some_parts, AreParted}
+use Rattle.rule_loops.specs.Parted.{is_left, is_right, parts, has_end_in, some_parts, AreParted}
 use Rattle.rule_loops.proofs.Neighbours.{some_passes, three_tests, none_common}
 use Rattle.std.specs.Int.RustNames.{int_le, int_lt}
 use Rattle.std.proofs.lemmas.Bool.{false≢true}
@@ -237,11 +237,12 @@ no_common t f g p o u v i j e = by_side (list_all (is_left t) (sides g)) (list_a
     by_side false b false d h k l m e = absurd (false≢true e)
 
 parted_by : (f g : Feature) (p : Point) → IsFit shapes.Polygon f → IsFit shapes.Polygon g → IsInside (sides f) p → IsInside (sides g) p
-    → some_parts (sides f) (sides f) (sides g) ≡ true → ⊥
+    → some_parts (env g) (sides f) (sides g) ≡ true → ⊥
 parted_by f g p u v i j e =
-    some_each IsSegment (λ t. parts t (sides f) (sides g) ≡ true) ⊥ (λ t o k. no_common t f g p o u v i j k) (sides f) u.proper
-    (any_passes (λ t. parts t (sides f) (sides g)) (sides f) e)
+    some_each IsSegment (λ t. has_end_in (env g) t && parts t (sides f) (sides g) ≡ true) ⊥
+    (λ t o k. no_common t f g p o u v i j (both_true (has_end_in (env g) t) (parts t (sides f) (sides g)) k).1) (sides f) u.proper
+    (any_passes (λ t. has_end_in (env g) t && parts t (sides f) (sides g)) (sides f) e)
 
-pub parted_common : (f g : Feature) → IsFit shapes.Polygon f → IsFit shapes.Polygon g → AreParted (sides f) (sides g) → overlap_cells f g ≡ []
+pub parted_common : (f g : Feature) → IsFit shapes.Polygon f → IsFit shapes.Polygon g → AreParted f.shape g.shape → overlap_cells f g ≡ []
 parted_common f g u v (inl h) = none_common f g u v (λ p i j. parted_by f g p u v i j h)
 parted_common f g u v (inr h) = none_common f g u v (λ p i j. parted_by g f p v u j i h)

@@ -33,7 +33,7 @@ fn are_clear(subject: &Feature, partner: &Feature) -> bool
 {
     if are_polygons(subject, partner) {
         let (own, other) = (subject.shape(), partner.shape());
-        return are_beside(&own.env(), &other.env()) || are_parted(own.segs(), other.segs());
+        return are_beside(&own.env(), &other.env()) || are_parted(own, other);
     }
     false
 }

@@ -1,9 +1,10 @@
 ghost use Rattle.std.specs.Prelude.{◌≡◌};
 ghost use Rattle.std.specs.Bool.{OnTrue};
 ghost use Rattle.std.specs.List.{list_all};
-ghost use Rattle.rule_loops.specs.Parted.{is_left, is_right, parts, some_parts, AreParted};
+ghost use Rattle.rule_loops.specs.Parted.{is_left, is_right, parts, has_end_in, some_parts, AreParted};
 
-use grid_plane::Seg;
+use grid_plane::{Rect, Seg};
+use shape::Shape;
 
 /// The most segments of a polygon for which a line is tried: the tests grow with the product of both numbers.
 const MOST: usize = 32;
@@ -38,23 +39,32 @@ fn are_right(segments: &[Seg], line: &Seg) -> bool
 fn parts(line: &Seg, own: &[Seg], other: &[Seg]) -> bool
     ensures { result ≡ parts line.now own.now other.now }
 {
-    (are_left(other, line) && are_right(own, line)) || (are_right(other, line) && are_left(own, line))
+    (are_left(other, line) && are_right(own, line))
+        || (are_right(other, line) && are_left(own, line))
 }
 
-// Whether the line through one of the segments of the first parts the two.
-fn some_parts(own: &[Seg], other: &[Seg]) -> bool
-    ensures { result ≡ some_parts own.now own.now other.now }
+fn has_end_in(frame: &Rect, segment: &Seg) -> bool
+    ensures { result ≡ has_end_in frame.now segment.now }
 {
-    own.iter().any(|line| parts(line, own, other))
+    frame.holds_point(segment.lo()) || frame.holds_point(segment.hi())
 }
 
-/// Whether the line through a segment of one of two polygons has the one polygon weakly on its one side, and the other on the
-/// other. Polygons of many segments are not tried.
-pub(crate) fn are_parted(one: &[Seg], other: &[Seg]) -> bool
+// Whether the line through a segment of the first parts the two. Only those are tried that have an end in the other's envelope.
+fn some_parts(frame: &Rect, own: &[Seg], other: &[Seg]) -> bool
+    ensures { result ≡ some_parts frame.now own.now other.now }
+{
+    own.iter()
+        .any(|line| has_end_in(frame, line) && parts(line, own, other))
+}
+
+/// Whether the line through a segment of one of two polygons has one polygon on its one side or on it, and the other on the other.
+/// Polygons of many segments are not tried.
+pub(crate) fn are_parted(one: &Shape, other: &Shape) -> bool
     ensures { OnTrue result (AreParted one.now other.now) }
 {
-    if one.len() > MOST || other.len() > MOST {
+    let (own, others) = (one.segs(), other.segs());
+    if own.len() > MOST || others.len() > MOST {
         return false;
     }
-    some_parts(one, other) || some_parts(other, one)
+    some_parts(&other.env(), own, others) || some_parts(&one.env(), others, own)
 }

@@ -1,7 +1,7 @@
 use Rattle.std.proofs.Common.{◌≡◌, ◌∙◌, ap}
 use Rattle.std.proofs.lemmas.Bool.{OnTrue_at, OnTrue_from}
-use Rattle.plane_terms.specs.Shape.{Shape, segments_of, envelope_of}
-use Rattle.topology_terms.specs.Feature.{sides, env}
+use Rattle.plane_terms.specs.Shape.{Shape, envelope_of}
+use Rattle.topology_terms.specs.Feature.{env}
 use Rattle.rule_loops.specs.Beside.{AreBeside}
 use Rattle.rule_loops.specs.Parted.{AreParted}
 use Rattle.rule_loops.proofs.Neighbours.{beside_common}
@@ -21,11 +21,7 @@ returns-then-are_beside c =
 
 pub returns-else-are_beside : goal.returns-else-are_beside
 returns-else-are_beside c =
-    let f = c.args.subject.now in
-    let g = c.args.partner.now in
-    let own : c.segs.result.now ≡ sides f = c.segs.ensures.value ∙ ap (λ (s : Shape). segments_of s) c.shape-own.ensures in
-    let other : c.segs-else-are_beside.result.now ≡ sides g = c.segs-else-are_beside.ensures.value
-    ∙ ap (λ (s : Shape). segments_of s) c.shape-other.ensures in
-    OnTrue_from _ _ (λ t. parted_common f g (OnTrue_at c.if-are_polygons.true c.are_polygons.ensures.subject)
-    (OnTrue_at c.if-are_polygons.true c.are_polygons.ensures.polygon)
-    (rw (own, other) at (OnTrue_at {P = AreParted c.segs.result.now c.segs-else-are_beside.result.now} t c.are_parted.ensures)))
+    OnTrue_from _ _ (λ t. parted_common c.args.subject.now c.args.partner.now
+    (OnTrue_at c.if-are_polygons.true c.are_polygons.ensures.subject) (OnTrue_at c.if-are_polygons.true c.are_polygons.ensures.polygon)
+    (rw (c.shape-own.ensures, c.shape-other.ensures) at
+    (OnTrue_at {P = AreParted c.shape-own.result.now c.shape-other.result.now} t c.are_parted.ensures)))
