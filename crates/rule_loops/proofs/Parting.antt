@@ -1,32 +1,35 @@
 -- Polygons that a line parts have no inside point in common: what is inside the one on its left is left of it, since a segment of that one
 -- runs below it; and what is inside the other is not, since a segment of that one runs above it or through it.
-use Rattle.std.proofs.Common.{◌≡◌, inl, inr, ℕ, ℤ, pos, ◌+ℤ◌, ◌-ℤ◌, ◌*ℤ◌, ◌≤ℤ◌, ◌<ℤ◌, arith, refl, ap, ◌∙◌, Bool, true, false, zero, suc, negsuc, List, [], ◌∷◌}
+use Rattle.std.proofs.Common.{◌≡◌, inl, inr, ℕ, ℤ, pos, ◌+ℤ◌, ◌-ℤ◌, ◌*ℤ◌, ◌≤ℤ◌, ◌<ℤ◌, arith, refl, ap, ◌∙◌, Bool, true, false, List, [], ◌∷◌}
 use Rattle.std.specs.Prelude.{◌&&◌, ◌||◌, ◌⊎◌}
-use Rattle.std.specs.List.{list_all, list_any}
-use Rattle.number_laws.proofs.Tests.{Decides-int_le}
+use Rattle.std.specs.List.{list_all}
+use Rattle.std.specs.Int.RustNames.{int_le, int_lt}
 use Rattle.std.proofs.lemmas.Int.{ints}
+use Rattle.std.proofs.lemmas.Bool.{false≢true}
+use Rattle.plane_terms.specs.Lists.{Every, SomeOf}
 use Rattle.plane_terms.specs.Point.{Point}
 use Rattle.plane_terms.specs.Segment.{Segment, IsSegment, cross, first_of}
 use Rattle.plane_terms.specs.Share.{turn}
 use Rattle.plane_terms.specs.Polygon.{counts, IsInside}
-use Rattle.plane_terms.specs.Lists.{Every, SomeOf}
 use Rattle.plane_terms.specs.declared.kind.Kind.TheVariants as shapes
 use Rattle.topology_terms.specs.Feature.{Feature, sides, env}
 use Rattle.topology_terms.specs.Plans.{overlap_cells}
+use Rattle.number_laws.proofs.Ring.{num, ◌⊕◌, ◌⊖◌, ◌⊗◌, same_by, same_read}
+use Rattle.number_laws.proofs.Order.{scaled_le, product_at_least, product_over, over_unscaled, cases_order_ℤ}
+use Rattle.number_laws.proofs.Tests.{Decides-int_le}
 use Rattle.column_laws.proofs.Parity.{differ, odd_differ}
+use Rattle.column_laws.proofs.Signs.{most_scaled}
 use Rattle.rule_laws.proofs.Crossings.{spans, polygon_even, both_tests}
 use Rattle.rule_laws.proofs.Envelopes.{BothEnds, firsts_both}
 use Rattle.rule_laws.proofs.Families.{IsFit}
 use Rattle.rule_laws.proofs.Held.{some_each}
+use Rattle.rule_laws.proofs.Tests.{any_some}
 use Rattle.rule_loops.specs.Parted.{is_left, is_right, parts, has_end_in, some_parts, AreParted}
 use Rattle.rule_loops.proofs.Neighbours.{some_passes, three_tests, none_common}
-use Rattle.std.specs.Int.RustNames.{int_le, int_lt}
-use Rattle.std.proofs.lemmas.Bool.{false≢true}
-use Rattle.number_laws.proofs.Ring.{num, ◌⊕◌, ◌⊖◌, ◌⊗◌, same_by, same_read}
-use Rattle.number_laws.proofs.Order.{scaled_le, product_at_least, product_over, over_unscaled, cases_order_ℤ}
 
 -- ---- the two crosses of a point, and the turns of the ends of a segment that spans its column
--- the line t goes dx to the right and dy up, the segment s width to the right and rise up; the point is right of and up from the lower end of s
+-- the line t goes dx to the right and dy up, the segment s width to the right and rise up, and from its lower end to the point it is
+-- right to the right and up up
 crosses : (dx dy width rise right up : ℤ) → width *ℤ (dx *ℤ up -ℤ dy *ℤ right)
     ≡ right *ℤ (dx *ℤ rise -ℤ dy *ℤ width) +ℤ dx *ℤ (width *ℤ up -ℤ rise *ℤ right)
 crosses dx dy width rise right up =
@@ -38,7 +41,8 @@ turn_on : (dx dy tx ty lx ly hx hy : ℤ) → dx *ℤ (hy -ℤ ty) -ℤ dy *ℤ 
     ≡ (dx *ℤ (ly -ℤ ty) -ℤ dy *ℤ (lx -ℤ tx)) +ℤ (dx *ℤ (hy -ℤ ly) -ℤ dy *ℤ (hx -ℤ lx))
 turn_on dx dy tx ty lx ly hx hy =
     same_by (num dx ⊗ (num hy ⊖ num ty) ⊖ num dy ⊗ (num hx ⊖ num tx))
-    ((num dx ⊗ (num ly ⊖ num ty) ⊖ num dy ⊗ (num lx ⊖ num tx)) ⊕ (num dx ⊗ (num hy ⊖ num ly) ⊖ num dy ⊗ (num hx ⊖ num lx))) (omega arith)
+    ((num dx ⊗ (num ly ⊖ num ty) ⊖ num dy ⊗ (num lx ⊖ num tx)) ⊕ (num dx ⊗ (num hy ⊖ num ly) ⊖ num dy ⊗ (num hx ⊖ num lx)))
+    (omega arith)
 
 -- and to the point
 cross_on : (dx dy tx ty lx ly px py : ℤ) (w : ℕ) → dx *ℤ (py -ℤ ty *ℤ pos w) -ℤ dy *ℤ (px -ℤ tx *ℤ pos w)
@@ -92,22 +96,18 @@ wide s p h = elim (cases_order_ℤ s.lo.x s.hi.x) [
 strictly_over : (width v left right a b dx e : ℤ) → pos 0 <ℤ width → pos 0 <ℤ left → pos 0 ≤ℤ right → pos 0 ≤ℤ a → pos 0 ≤ℤ b → pos 0 ≤ℤ dx
     → pos 0 <ℤ e → (pos 0 <ℤ dx) ⊎ (pos 0 <ℤ a) → width *ℤ v ≡ (left *ℤ a +ℤ right *ℤ b) +ℤ dx *ℤ e → pos 0 <ℤ v
 strictly_over width v left right a b dx e h l r x y d k (inl o) sum =
-    over_unscaled width v h (omega (arith, ints, sum, product_at_least left a (omega (arith, ints, l)) x, product_at_least right b r y, product_over dx e o k))
+    let m = product_at_least left a (omega (arith, ints, l)) x in
+    over_unscaled width v h (omega (arith, ints, sum, m, product_at_least right b r y, product_over dx e o k))
 strictly_over width v left right a b dx e h l r x y d k (inr o) sum =
-    over_unscaled width v h (omega (arith, ints, sum, product_over left a l o, product_at_least right b r y, product_at_least dx e d (omega (arith, ints, k))))
+    let m = product_at_least dx e d (omega (arith, ints, k)) in
+    over_unscaled width v h (omega (arith, ints, sum, product_over left a l o, product_at_least right b r y, m))
 
 not_over : (width v left right a b dx e : ℤ) → pos 0 <ℤ width → pos 0 ≤ℤ left → pos 0 ≤ℤ right → a ≤ℤ pos 0 → b ≤ℤ pos 0 → pos 0 ≤ℤ dx
     → e ≤ℤ pos 0 → width *ℤ v ≡ (left *ℤ a +ℤ right *ℤ b) +ℤ dx *ℤ e → v ≤ℤ pos 0
 not_over width v left right a b dx e h l r x y d k sum = elim (cases_order_ℤ (pos 0) v) [
-  | inl o ↦ absurd (omega (arith, ints, sum, product_over width v h o, under left a l x, under right b r y, under dx e d k))
+  | inl o ↦ absurd (omega (arith, ints, sum, product_over width v h o, most_scaled a left x l, most_scaled b right y r, most_scaled e dx k d))
   | inr o ↦ o
 ]
-  where
-    under : (m n : ℤ) → pos 0 ≤ℤ m → n ≤ℤ pos 0 → (m *ℤ n) ≤ℤ pos 0
-    under (pos m) (pos zero) h k = omega (arith, ints)
-    under (pos m) (pos (suc n)) h k = absurd (omega (arith, ints))
-    under (pos m) (negsuc n) h k = omega (arith, ints)
-    under (negsuc m) n h k = absurd (omega (arith, ints))
 
 abbrev slopes : Segment → Type 0
 slopes t = (t.lo.x <ℤ t.hi.x) ⊎ ((t.lo.x ≡ t.hi.x) × (t.lo.y <ℤ t.hi.y))
@@ -116,7 +116,7 @@ rightwards : (t : Segment) → slopes t → pos 0 ≤ℤ (t.hi.x -ℤ t.lo.x)
 rightwards t (inl h) = omega (arith, ints, h)
 rightwards t (inr h) = omega (arith, ints, h.0)
 
--- a segment that is wide and goes upright along no line has no lower end on an upright one
+-- a line that is not upright goes rightwards; of an upright one the lower end of a segment lies left, where the upper end is not right of it
 off_upright : (t s : Segment) → pos 0 <ℤ (s.hi.x -ℤ s.lo.x) → pos 0 ≤ℤ turn t s.hi → slopes t
     → (pos 0 <ℤ (t.hi.x -ℤ t.lo.x)) ⊎ (pos 0 <ℤ turn t s.lo)
 off_upright t s w b (inl h) = inl (omega (arith, ints, h))
@@ -190,15 +190,6 @@ rights t (s ∷ ss) e =
     let k = both_true (is_right t s) (list_all (is_right t) ss) e in
     ((Decides-int_le (turn t (first_of s)) (pos 0)).0 k.0, rights t ss k.1)
 
-any_passes : {A : Type 0} (test : A → Bool) (xs : List A) → list_any test xs ≡ true → SomeOf (λ x. test x ≡ true) xs
-any_passes test [] e = absurd (false≢true e)
-any_passes test (x ∷ xs) e = by_test (test x) refl (any_passes test xs) e
-  where
-    by_test : (b : Bool) → test x ≡ b → (list_any test xs ≡ true → SomeOf (λ x. test x ≡ true) xs) → b || list_any test xs ≡ true
-        → SomeOf (λ x. test x ≡ true) (x ∷ xs)
-    by_test true t rest e = inl t
-    by_test false t rest e = inr (rest e)
-
 module _ (t : Segment) (f : Feature) (p : Point) (o : IsSegment t) (e : f.shape.kind ≡ shapes.Polygon) (i : IsInside (sides f) p) where
   inside_left : list_all (is_left t) (sides f) ≡ true → pos 0 <ℤ cross t p
   inside_left h = some_each (BothEnds (λ q. pos 0 ≤ℤ turn t q)) (λ s. counts s p ≡ true) (pos 0 <ℤ cross t p) one (sides f)
@@ -239,9 +230,10 @@ no_common t f g p o u v i j e = by_side (list_all (is_left t) (sides g)) (list_a
 parted_by : (f g : Feature) (p : Point) → IsFit shapes.Polygon f → IsFit shapes.Polygon g → IsInside (sides f) p → IsInside (sides g) p
     → some_parts (env g) (sides f) (sides g) ≡ true → ⊥
 parted_by f g p u v i j e =
-    some_each IsSegment (λ t. has_end_in (env g) t && parts t (sides f) (sides g) ≡ true) ⊥
+    let test = λ (t : Segment). has_end_in (env g) t && parts t (sides f) (sides g) in
+    some_each IsSegment (λ t. test t ≡ true) ⊥
     (λ t o k. no_common t f g p o u v i j (both_true (has_end_in (env g) t) (parts t (sides f) (sides g)) k).1) (sides f) u.proper
-    (any_passes (λ t. has_end_in (env g) t && parts t (sides f) (sides g)) (sides f) e)
+    ((any_some IsSegment (λ t. test t ≡ true) test (λ t o. (λ k. k, λ k. k)) (sides f) u.proper).0 e)
 
 pub parted_common : (f g : Feature) → IsFit shapes.Polygon f → IsFit shapes.Polygon g → AreParted f.shape g.shape → overlap_cells f g ≡ []
 parted_common f g u v (inl h) = none_common f g u v (λ p i j. parted_by f g p u v i j h)
