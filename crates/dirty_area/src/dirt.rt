@@ -1,8 +1,8 @@
-ghost use Rattle.std.specs.Prelude.{◌≡◌, ◌↔◌, ◌<◌, [], ◌∷◌, ◌++◌, length, slice_get, Some, IsTrue, IfSome, IfOk, OnOk, OnErr};
+ghost use Rattle.std.specs.Prelude.{◌≡◌, ◌↔◌, ◌<◌, ◌||◌, [], ◌∷◌, ◌++◌, length, slice_get, Some, IsTrue, IfSome, IfOk, OnOk, OnErr};
 ghost use Rattle.std.specs.List.{list_any};
 ghost use Rattle.std.specs.Option.{option_to_list};
 ghost use Rattle.plane_terms.specs.Point.{Point};
-ghost use Rattle.plane_terms.specs.Rectangle.{RectHolds, IsRectangle, rects_meet};
+ghost use Rattle.plane_terms.specs.Rectangle.{RectHolds, IsRectangle, is_within, rects_meet};
 ghost use Rattle.plane_terms.specs.Dirt.{MeetsPart, Covers, MeetsDirt, add_dirt, add_all, cut_dirt};
 ghost use Rattle.grid_index.specs.Relations.{stands};
 ghost use Rattle.dirty_area.specs.Cuts.{IsCut};
@@ -59,6 +59,16 @@ impl Dirt {
         }
     }
 
+    /// Nothing is dirty, and an index goes along from the start, as pays where many rectangles are to come.
+    pub fn indexed(alloc: Global) -> Dirt
+        ensures { result ≡ [] }
+    {
+        Dirt {
+            rects: Vec::new(alloc),
+            finder: Finder::indexed(alloc),
+        }
+    }
+
     /// How many rectangles there are.
     pub fn len(&self) -> usize
         ensures { result ≡ length self.now }
@@ -99,6 +109,14 @@ impl Dirt {
             Some(part) => self.meets(&part),
             None => false,
         }
+    }
+
+    /// Whether a rectangle of the list holds this one, or lies in it.
+    pub fn is_nested(&self, r: &Rect) -> bool
+        ensures { result ≡ list_any (λ s. is_within r.now s || is_within s r.now) self.now }
+    {
+        r.corner_law();
+        self.finder.has(&self.rects, r, Relation::IsNested)
     }
 
     /// Whether a rectangle of the list stands so to this one. Counts as a look through the list.

@@ -159,6 +159,17 @@ impl Finder {
         }
     }
 
+    /// There is an index of the empty list.
+    pub(crate) fn indexed(alloc: Global) -> Finder
+        ensures { IfSome result (λ ps. IsIndexed [] ps) }
+    {
+        Finder {
+            alloc,
+            index: Some(Index::new(alloc)),
+            looks: 0,
+        }
+    }
+
     /// Whether a rectangle of the list stands so to this one.
     pub(crate) fn has(&self, rects: &[Rect], r: &Rect, relation: Relation) -> bool
         requires rects { Every IsRectangle rects.now }

@@ -8,7 +8,6 @@ pub mod Readings
 pub mod OneText
 pub mod Sound
 pub mod Dirty
-pub mod Indexing
 pub mod Features
 pub mod Steps
 pub mod Found

@@ -263,7 +263,7 @@ impl Draft {
         let Some(r) = rect_of(form) else {
             return Err(LineFault::Wrong(ProjectCause::Range));
         };
-        if self.dirt.is_nested(&r)? {
+        if self.dirt.is_nested(&r) {
             return Err(LineFault::Wrong(ProjectCause::Order));
         }
         self.dirt.add(r)?;

@@ -131,15 +131,13 @@ impl<R: KindRules> Topology<R> {
     {
         store_law(&saved.store);
         let index = index_of(alloc, saved.store.features().slots())?;
-        let mut dirt = saved.dirt;
-        dirt.prepare();
         Ok(Topology {
             alloc,
             judging,
             store: saved.store,
             index,
             rules: saved.rules,
-            dirt,
+            dirt: saved.dirt,
             entries: saved.errors,
         })
     }
