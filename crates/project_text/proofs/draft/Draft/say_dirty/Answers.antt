@@ -19,6 +19,5 @@ returns c =
             entries = i.entries.items;
           };
     } in
-    rw (← c.self.view_is) (dirty_said d c.add.new.self c.in-Some.r (rect_said c.args.form.now) c.in_ok-is_nested.field-0
-    c.in-Some.ensures.0
-    c.in-Some.ensures.1 c.in_ok-is_nested.ensures c.if-branch.false c.in_ok-add.ensures.ok)
+    rw (← c.self.view_is) (dirty_said d c.add.new.self c.in-Some.r (rect_said c.args.form.now) c.is_nested.result c.in-Some.ensures.0
+    c.in-Some.ensures.1 c.is_nested.ensures c.if-is_nested.false c.in_ok-add.ensures.ok)
