@@ -179,7 +179,7 @@ fn cut_x(span: Span, half: &Half) -> Span
     }
 }
 
-pub(crate) fn cut_y(span: Span, half: &Half, left: i64, right: i64) -> Span
+fn cut_y(span: Span, half: &Half, left: i64, right: i64) -> Span
     requires span { IsSpan span }
     requires left_fits { unsigned_abs left ≤ 2 ^ 23 }
     requires right_fits { unsigned_abs right ≤ 2 ^ 23 }
