@@ -1,5 +1,5 @@
 -- What a sort and the dropping of doubles leave is the ascending list of the numbers, each once.
-use Rattle.std.proofs.Common.{◌≡◌, ℤ, ◌<ℤ◌, arith, sym, subst, refl, inl, inr, List, [], ◌∷◌, ◌++◌}
+use Rattle.std.proofs.Common.{◌≡◌, ℤ, ◌<ℤ◌, arith, sym, subst, refl, ◌∙◌, inl, inr, List, [], ◌∷◌, ◌++◌}
 use Rattle.std.proofs.Common.{Bool, true, false, cond}
 use Rattle.std.proofs.lemmas.Grind.{common_steps}
 use Rattle.std.proofs.lemmas.Int.{ints}
@@ -92,3 +92,34 @@ push_ends vs rest false false low high = grind (arith, common_steps)
 pub every_end : (P : ℤ → Type 0) (vs : List ℤ) (v : ℤ) → Every P vs → P v → Every P (vs ++ v ∷ [])
 every_end P [] v h k = (k, tt)
 every_end P (x ∷ xs) v h k = (h.0, every_end P xs v h.1 k)
+
+-- ---- a number that is there already
+among-front : (z : ℤ) (xs ys : List ℤ) → IsAmong z xs → IsAmong z (xs ++ ys)
+among-front z [] ys m = absurd m
+among-front z (x ∷ xs) ys (inl e) = inl e
+among-front z (x ∷ xs) ys (inr m) = inr (among-front z xs ys m)
+
+among-more : (z y : ℤ) (xs ys : List ℤ) → IsAmong z (xs ++ ys) → IsAmong z (xs ++ y ∷ ys)
+among-more z y [] ys m = inr m
+among-more z y (x ∷ xs) ys (inl e) = inl e
+among-more z y (x ∷ xs) ys (inr m) = inr (among-more z y xs ys m)
+
+among-less : (z y : ℤ) (xs ys : List ℤ) → IsAmong y (xs ++ ys) → IsAmong z (xs ++ y ∷ ys) → IsAmong z (xs ++ ys)
+among-less z y [] ys k (inl e) = subst (λ u. IsAmong u ys) (sym e) k
+among-less z y [] ys k (inr m) = m
+among-less z y (x ∷ xs) ys k (inl e) = inl e
+among-less z y (x ∷ xs) ys (inl f) (inr m) = later z y x xs ys f m
+  where
+    later : (z y x : ℤ) (xs ys : List ℤ) → y ≡ x → IsAmong z (xs ++ y ∷ ys) → IsAmong z (x ∷ xs ++ ys)
+    later z y x [] ys f (inl e) = inl (e ∙ f)
+    later z y x [] ys f (inr m) = inr m
+    later z y x (w ∷ xs) ys f (inl e) = inr (inl e)
+    later z y x (w ∷ xs) ys f (inr m) = elim (later z y x xs ys f m) [ inl e ↦ inl e | inr n ↦ inr (inr n) ]
+among-less z y (x ∷ xs) ys (inr k) (inr m) = inr (among-less z y xs ys k m)
+
+pub ascending_known : (vs rest : List ℤ) (v : ℤ) → IsAmong v vs → ascending (vs ++ rest) ≡ ascending (vs ++ v ∷ rest)
+ascending_known vs rest v k =
+    same_by_members (λ a b. a <ℤ b) not_both (ascending (vs ++ rest)) (ascending (vs ++ v ∷ rest)) (ascending-rising (vs ++ rest))
+    (ascending-rising (vs ++ v ∷ rest))
+    (λ z m. among_ascending z (vs ++ v ∷ rest) (among-more z v vs rest (from_ascending z (vs ++ rest) m)))
+    (λ z m. among_ascending z (vs ++ rest) (among-less z v vs rest (among-front v vs rest k) (from_ascending z (vs ++ v ∷ rest) m)))

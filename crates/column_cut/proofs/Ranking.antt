@@ -1,7 +1,7 @@
 -- The test of two ranks is an order in which any two compare.
 use Rattle.std.proofs.Common.{◌≡◌, ℤ, pos, ◌-ℤ◌, ◌*ℤ◌, ◌≤ℤ◌, ◌<ℤ◌, ◌≤◌, ◌^◌, arith, true, false, unsigned_abs, lit<}
 use Rattle.std.proofs.lemmas.Int.{ints, to_z-of_z, fits_signed_mul}
-use mir.Syntax.{Width, w128, w32}
+use mir.Syntax.{Width, w128, w64, w32}
 use mir.Val.{SFits, to_z, of_z}
 use Rattle.std.specs.Cmp.{IsStrictWeakOrder}
 use Rattle.std.specs.Int.RustNames.{int_lt}
@@ -53,8 +53,8 @@ is_under-ranks = record {
     fails : (u v : ℤ) → v ≤ℤ u → int_lt u v ≡ false
     fails u v h = grind (arith, ints)
 
-pub product_fits_short : (a b : ℤ) → unsigned_abs a ≤ 2 ^ 24 → unsigned_abs b ≤ 2 ^ 23 → SFits w128 (a *ℤ b)
-product_fits_short a b h k = fits_signed_mul w128 a b (2 ^ 24) (2 ^ 23) h k (lit< tt)
+pub product_fits_short : (a b : ℤ) → unsigned_abs a ≤ 2 ^ 24 → unsigned_abs b ≤ 2 ^ 23 → SFits w64 (a *ℤ b)
+product_fits_short a b h k = fits_signed_mul w64 a b (2 ^ 24) (2 ^ 23) h k (lit< tt)
 
 pub product_short_bound : (a b : ℤ) → unsigned_abs a ≤ 2 ^ 24 → unsigned_abs b ≤ 2 ^ 23 → unsigned_abs (a *ℤ b) ≤ 2 ^ 47
 product_short_bound a b h k = rw (unsigned_abs-mul a b) (mul-le-mul h k)
@@ -81,7 +81,7 @@ pub through : (f : ℤ → ℤ → ℤ) (r a b : ℤ) → unsigned_abs a ≤ 2 ^
 through f r a b h k e = e ∙ rw (read_back a h, read_back b k) refl
 
 -- a number of the grid, read again
-grid_fits : (z : ℤ) → InReach z → SFits w32 z
+pub grid_fits : (z : ℤ) → InReach z → SFits w32 z
 grid_fits z h = omega (arith, ints, h.low, h.high)
 
 pub through_grid : (f : ℤ → ℤ → ℤ) (r a b u v : ℤ) → a ≡ u → b ≡ v → InReach u → InReach v

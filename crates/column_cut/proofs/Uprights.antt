@@ -1,5 +1,5 @@
 -- What covers a stretch of a wall stands on it, so the upright segments alone say which stretches are covered.
-use Rattle.std.proofs.Common.{◌≡◌, ℤ, ap, refl, sym, Bool, true, false, cond, ◌&&◌, ◌||◌, List, [], ◌∷◌, Option, Some, None, int_le}
+use Rattle.std.proofs.Common.{◌≡◌, ◌≤◌, length, arith, ℤ, ap, refl, sym, Bool, true, false, cond, ◌&&◌, ◌||◌, List, [], ◌∷◌, Option, Some, None, int_le}
 use Rattle.std.specs.List.{filter}
 use Rattle.std.proofs.lemmas.Bool.{false≢true}
 use Rattle.plane_terms.specs.Segment.{Segment}
@@ -35,3 +35,9 @@ stretches_same f g e None [] = refl
 stretches_same f g e (Some a) [] = refl
 stretches_same f g e None (b ∷ bs) = ap (λ ss. record { low = None; high = Some b } ∷ ss) (stretches_same f g e (Some b) bs)
 stretches_same f g e (Some a) (b ∷ bs) = rw (e a b, stretches_same f g e (Some b) bs) refl
+
+-- with one vertex at most no stretch lies between two, so none is covered
+pub stretches_few : (f g : ℤ → ℤ → Bool) (vs : List ℤ) → length vs ≤ 1 → stretches_of f None vs ≡ stretches_of g None vs
+stretches_few f g [] h = refl
+stretches_few f g (v ∷ []) h = refl
+stretches_few f g (v ∷ w ∷ vs) h = absurd (omega arith)

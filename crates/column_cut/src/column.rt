@@ -10,7 +10,7 @@ use crate::ranked::Ranked;
 use grid_plane::{NoMemory, Seg};
 use std::cmp::Ordering;
 
-pub(crate) fn product(k: i128, m: i128) -> i128
+fn wide_product(k: i128, m: i128) -> i128
     requires k_fits { unsigned_abs k ≤ 2 ^ 48 }
     requires m_fits { unsigned_abs m ≤ 2 ^ 23 }
     ensures value { result ≡ k *ℤ m }
@@ -18,24 +18,18 @@ pub(crate) fn product(k: i128, m: i128) -> i128
     k * m
 }
 
-fn is_under(a: &Ranked, b: &Ranked) -> bool
-    ensures { result ≡ is_under a.now b.now }
+pub(crate) fn product(k: i64, m: i64) -> i128
+    requires k_fits { unsigned_abs k ≤ 2 ^ 48 }
+    requires m_fits { unsigned_abs m ≤ 2 ^ 23 }
+    ensures { result ≡ k *ℤ m }
 {
-    let first = product(a.level, b.width);
-    let second = product(b.level, a.width);
-    second < first
+    wide_product(i128::from(k), i128::from(m))
 }
 
 fn compare(a: &Ranked, b: &Ranked) -> Ordering
     ensures { is_lt result ≡ is_under a.now b.now }
 {
-    if is_under(a, b) {
-        Ordering::Less
-    } else if is_under(b, a) {
-        Ordering::Greater
-    } else {
-        Ordering::Equal
-    }
+    product(b.level, a.width).cmp(&product(a.level, b.width))
 }
 
 /// From below; those that are equally high stay as they stood.
@@ -47,47 +41,47 @@ fn sort(ranks: &mut Vec<Ranked>) -> Result<(), NoMemory>
     Ok(())
 }
 
-fn difference(a: i32, b: i32) -> i128
+fn difference(a: i32, b: i32) -> i64
     requires a_fits { InReach a }
     requires b_fits { InReach b }
     ensures value { result ≡ a -ℤ b }
     ensures fits { unsigned_abs result ≤ 2 ^ 23 }
 {
-    i128::from(a) - i128::from(b)
+    i64::from(a) - i64::from(b)
 }
 
-fn sum(a: i32, b: i32) -> i128
+fn sum(a: i32, b: i32) -> i64
     requires a_fits { InReach a }
     requires b_fits { InReach b }
     ensures value { result ≡ a +ℤ b }
     ensures fits { unsigned_abs result ≤ 2 ^ 23 }
 {
-    i128::from(a) + i128::from(b)
+    i64::from(a) + i64::from(b)
 }
 
-fn twice(v: i32) -> i128
+fn twice(v: i32) -> i64
     requires { InReach v }
     ensures value { result ≡ pos 2 *ℤ v }
     ensures fits { unsigned_abs result ≤ 2 ^ 23 }
 {
-    2 * i128::from(v)
+    2 * i64::from(v)
 }
 
-fn across(segment: &Seg) -> i128
+fn across(segment: &Seg) -> i64
     ensures value { result ≡ segment.now.hi.x -ℤ segment.now.lo.x }
     ensures fits { unsigned_abs result ≤ 2 ^ 23 }
 {
     difference(segment.hi().x(), segment.lo().x())
 }
 
-fn rise(segment: &Seg) -> i128
+fn rise(segment: &Seg) -> i64
     ensures value { result ≡ segment.now.hi.y -ℤ segment.now.lo.y }
     ensures fits { unsigned_abs result ≤ 2 ^ 23 }
 {
     difference(segment.hi().y(), segment.lo().y())
 }
 
-fn minus_short(a: i128, b: i128) -> i128
+fn minus_short(a: i64, b: i64) -> i64
     requires a_fits { unsigned_abs a ≤ 2 ^ 23 }
     requires b_fits { unsigned_abs b ≤ 2 ^ 23 }
     ensures value { result ≡ a -ℤ b }
@@ -97,7 +91,7 @@ fn minus_short(a: i128, b: i128) -> i128
 }
 
 /// Twice how far the lower end is right of the middle.
-fn past(segment: &Seg, left: &Coordinate, right: &Coordinate) -> i128
+fn past(segment: &Seg, left: &Coordinate, right: &Coordinate) -> i64
     ensures value { result ≡ pos 2 *ℤ segment.now.lo.x -ℤ (left.now +ℤ right.now) }
     ensures fits { unsigned_abs result ≤ 2 ^ 24 }
 {
@@ -105,14 +99,14 @@ fn past(segment: &Seg, left: &Coordinate, right: &Coordinate) -> i128
 }
 
 /// Twice the height of the lower end.
-fn height(segment: &Seg) -> i128
+fn height(segment: &Seg) -> i64
     ensures value { result ≡ pos 2 *ℤ segment.now.lo.y }
     ensures fits { unsigned_abs result ≤ 2 ^ 23 }
 {
     twice(segment.lo().y())
 }
 
-fn minus(a: i128, b: i128) -> i128
+fn minus(a: i64, b: i64) -> i64
     requires a_fits { unsigned_abs a ≤ 2 ^ 47 }
     requires b_fits { unsigned_abs b ≤ 2 ^ 47 }
     ensures value { result ≡ a -ℤ b }
@@ -121,7 +115,7 @@ fn minus(a: i128, b: i128) -> i128
     a - b
 }
 
-fn product_short(k: i128, m: i128) -> i128
+fn product_short(k: i64, m: i64) -> i64
     requires k_fits { unsigned_abs k ≤ 2 ^ 24 }
     requires m_fits { unsigned_abs m ≤ 2 ^ 23 }
     ensures value { result ≡ k *ℤ m }
@@ -153,47 +147,23 @@ fn spans(segment: &Seg, left: &Coordinate, right: &Coordinate) -> bool
     segment.lo().x() <= left.value() && right.value() <= segment.hi().x()
 }
 
-fn find_ranks(
-    ranks: &mut Vec<Ranked>,
+/// Leaves in the list the segments that go all the way from left to right, from below in the middle, with their ranks there.
+/// One scan of all segments and a sort.
+pub(crate) fn find_column(
+    found: &mut Vec<Ranked>,
     segments: &[Seg],
     left: &Coordinate,
     right: &Coordinate,
 ) -> Result<(), NoMemory>
     requires { left.now <ℤ right.now }
-    ensures { OnOk result (map segment_of ranks.new.items ≡ column left.now right.now segments.now) }
+    ensures { OnOk result (map segment_of found.new.items ≡ column left.now right.now segments.now) }
 {
-    ranks.clear();
+    found.clear();
     for segment in segments {
         if spans(segment, left, right) {
-            ranks.push(rank(segment, left, right))?;
+            found.push(rank(segment, left, right))?;
         }
     }
-    sort(ranks)?;
+    sort(found)?;
     Ok(())
-}
-
-fn take_segments(column: &mut Vec<Seg>, ranks: &[Ranked]) -> Result<(), NoMemory>
-    ensures { OnOk result (column.new.items ≡ map segment_of ranks.now) }
-{
-    column.clear();
-    for ranked in ranks {
-        column.push(ranked.segment)?;
-    }
-    Ok(())
-}
-
-/// Leaves in the list the segments that go all the way from left to right, from below in the middle. One scan of all segments
-/// and a sort. The other list is for the work alone.
-pub(crate) fn find_column(
-    found: &mut Vec<Seg>,
-    ranks: &mut Vec<Ranked>,
-    segments: &[Seg],
-    left: &Coordinate,
-    right: &Coordinate,
-) -> Result<(), NoMemory>
-    requires { left.now <ℤ right.now }
-    ensures { OnOk result (found.new.items ≡ column left.now right.now segments.now) }
-{
-    find_ranks(ranks, segments, left, right)?;
-    take_segments(found, ranks)
 }

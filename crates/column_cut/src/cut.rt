@@ -44,7 +44,7 @@ fn push_strip(
     requires { left.now <ℤ right.now }
     ensures { OnOk result (let c = column left.now right.now segments.now in cells.new ≡ cells.old ++ kept (wall (is_even parity) left.now segments.now c ++ in_column left.now right.now (slots (is_even parity) None c))) }
 {
-    find_column(&mut room.column, &mut room.ranks, segments, left, right)?;
+    find_column(&mut room.column, segments, left, right)?;
     find_slots(&mut room.slots, parity, &room.column)?;
     push_wall(cells, alloc, &mut room.wall, segments, left, &room.slots)?;
     push_column(

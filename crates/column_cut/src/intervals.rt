@@ -133,6 +133,9 @@ pub(crate) fn find_intervals(
     ensures stacked { OnOk result (AreStacked stretches.new.items) }
 {
     find_ordinates(vertices, values, segments, x)?;
+    if vertices.len() <= 1 {
+        return find_between(stretches, &[], x, vertices);
+    }
     find_upright(upright, segments, x)?;
     find_between(stretches, upright, x, vertices)
 }

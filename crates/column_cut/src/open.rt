@@ -3,9 +3,9 @@ ghost use Rattle.std.specs.Bool.{OnTrue};
 ghost use Rattle.plane_terms.specs.Cell.{HasPoint};
 ghost use Rattle.plane_terms.specs.HalfPlane.{x_over, x_under};
 
-use crate::column;
+use crate::column::product;
 use crate::coordinate::Coordinate;
-use crate::heights::product;
+use crate::heights;
 use grid_plane::{Half, Op};
 
 fn sum(left: &Coordinate, right: &Coordinate) -> i32
@@ -38,15 +38,7 @@ fn base(half: &Half, x: i32) -> i64
     ensures value { result ≡ half.now.a *ℤ x +ℤ half.now.c *ℤ pos 2 }
     ensures fits { unsigned_abs result ≤ 2 ^ 48 }
 {
-    total(product(half.a(), x), twice(half.c()))
-}
-
-fn scaled(base: i64, b: i64) -> i128
-    requires base_fits { unsigned_abs base ≤ 2 ^ 48 }
-    requires b_fits { unsigned_abs b ≤ 2 ^ 23 }
-    ensures { result ≡ base *ℤ b }
-{
-    column::product(i128::from(base), i128::from(b))
+    total(heights::product(half.a(), x), twice(half.c()))
 }
 
 fn is_less(first: i128, second: i128) -> bool
@@ -68,7 +60,7 @@ pub(crate) fn is_open(left: &Coordinate, right: &Coordinate, over: &Half, under:
     }
     let x = sum(left, right);
     is_less(
-        scaled(base(over, x), under.b()),
-        scaled(base(under, x), over.b()),
+        product(base(over, x), under.b()),
+        product(base(under, x), over.b()),
     )
 }

@@ -20,8 +20,7 @@ pub(crate) struct WallRoom {
 /// The same for a wall and the column to its right.
 #[derive(Drop)]
 pub(crate) struct Room {
-    pub(crate) ranks: Vec<Ranked>,
-    pub(crate) column: Vec<Seg>,
+    pub(crate) column: Vec<Ranked>,
     pub(crate) slots: Vec<Slot>,
     pub(crate) wall: WallRoom,
 }
@@ -29,12 +28,10 @@ pub(crate) struct Room {
 impl Room {
     /// It takes no memory yet.
     pub(crate) fn new(alloc: Global) -> Room
-        ensures ranks { result.ranks.items ≡ [] }
         ensures column { result.column.items ≡ [] }
         ensures slots { result.slots.items ≡ [] }
     {
         Room {
-            ranks: Vec::new(alloc),
             column: Vec::new(alloc),
             slots: Vec::new(alloc),
             wall: WallRoom {

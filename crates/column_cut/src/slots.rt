@@ -3,8 +3,10 @@ ghost use Rattle.plane_terms.specs.Segment.{right_of};
 ghost use Rattle.plane_terms.specs.Columns.{over, slots};
 ghost use Rattle.column_cut.specs.Parity.{is_even};
 ghost use Rattle.column_cut.specs.Pieces.{all_of, slot_cell};
+ghost use Rattle.column_cut.specs.Ranks.{segment_of};
 
 use crate::parity::Parity;
+use crate::ranked::Ranked;
 use grid_plane::{Half, NoMemory, Seg, left_of, right_of};
 
 /// What lies between two neighbours of a column: over the one and under the other. The lowest slot has nothing below it, and
@@ -52,18 +54,18 @@ fn push_top(slots: &mut Vec<Slot>, below: &Option<Seg>) -> Result<(), NoMemory>
 pub(crate) fn find_slots(
     found: &mut Vec<Slot>,
     parity: Parity,
-    column: &[Seg],
+    column: &[Ranked],
 ) -> Result<(), NoMemory>
-    ensures { OnOk result (map slot_cell found.new.items ≡ slots (is_even parity) None column.now) }
+    ensures { OnOk result (map slot_cell found.new.items ≡ slots (is_even parity) None (map segment_of column.now)) }
 {
     found.clear();
     let mut below = None;
     let mut take = parity.is_even();
-    for segment in column {
+    for ranked in column {
         if take {
-            push_between(found, &below, segment)?;
+            push_between(found, &below, &ranked.segment)?;
         }
-        below = Some(*segment);
+        below = Some(ranked.segment);
         take = !take;
     }
     if take {

@@ -1,4 +1,6 @@
-ghost use Rattle.std.specs.Prelude.{◌≡◌, ◌++◌, ◌∷◌, [], cond, OnOk, IfOk};
+ghost use Rattle.std.specs.Prelude.{◌≡◌, ◌++◌, ◌∷◌, [], ℤ, cond, List, OnOk, IfOk};
+ghost use Rattle.std.specs.Bool.{OnTrue};
+ghost use Rattle.plane_terms.proofs.ListLemmas.{IsAmong};
 ghost use Rattle.plane_terms.specs.Lists.{Every};
 ghost use Rattle.plane_terms.specs.Point.{InReach};
 ghost use Rattle.plane_terms.specs.Columns.{abscissas, ordinates};
@@ -37,22 +39,48 @@ fn ascending(found: &mut Vec<Coordinate>, values: &mut Vec<i32>) -> Result<(), N
     coordinates(found, values)
 }
 
-fn push_abscissa(values: &mut Vec<i32>, place: &GridPoint) -> Result<(), NoMemory>
-    ensures value { OnOk result (values.new.items ≡ values.old.items ++ place.now.x ∷ []) }
-    ensures reach { Every InReach values.old.items → OnOk result (Every InReach values.new.items) }
+fn is_same(a: i32, b: i32) -> bool
+    ensures { OnTrue result (a ≡ b) }
 {
-    values.push(place.x())?;
+    a == b
+}
+
+/// Whether this is the last number, or so many before it.
+fn is_last(values: &[i32], before: usize, value: i32) -> bool
+    requires { Every InReach values.now }
+    ensures { OnTrue result (IsAmong value values.now) }
+{
+    if values.len() <= before {
+        return false;
+    }
+    is_same(values[values.len() - 1 - before], value)
+}
+
+/// Puts the number at the end where it is none of the last two, as one is at the vertex that two segments share.
+fn push_new(values: &mut Vec<i32>, value: i32) -> Result<(), NoMemory>
+    requires known { Every InReach values.old.items }
+    requires new { InReach value }
+    ensures value { (rest : List ℤ) → OnOk result (ascending (values.new.items ++ rest) ≡ ascending (values.old.items ++ value ∷ rest)) }
+    ensures reach { OnOk result (Every InReach values.new.items) }
+{
+    if is_last(values, 0, value) {
+        return Ok(());
+    }
+    if is_last(values, 1, value) {
+        return Ok(());
+    }
+    values.push(value)?;
     Ok(())
 }
 
 fn all_abscissas(alloc: Global, segments: &[Seg]) -> Result<Vec<i32>, NoMemory>
-    ensures value { IfOk result (λ v. v.items ≡ xs_of segments.now) }
+    ensures value { IfOk result (λ v. ascending v.items ≡ ascending (xs_of segments.now)) }
     ensures reach { IfOk result (λ v. Every InReach v.items) }
 {
-    let mut values = Vec::with_capacity(alloc, segments.len().saturating_mul(2))?;
+    let mut values = Vec::with_capacity(alloc, segments.len().saturating_add(1))?;
     for segment in segments {
-        push_abscissa(&mut values, &segment.lo())?;
-        push_abscissa(&mut values, &segment.hi())?;
+        push_new(&mut values, segment.lo().x())?;
+        push_new(&mut values, segment.hi().x())?;
     }
     Ok(values)
 }
@@ -67,18 +95,25 @@ pub(crate) fn abscissas_of(alloc: Global, segments: &[Seg]) -> Result<Vec<Coordi
     Ok(found)
 }
 
-fn push_at(values: &mut Vec<i32>, place: &GridPoint, x: &Coordinate) -> Result<(), NoMemory>
-    ensures value { OnOk result (values.new.items ≡ values.old.items ++ cond (is_at place.now.x x.now) (place.now.y ∷ []) []) }
-    ensures reach { Every InReach values.old.items → OnOk result (Every InReach values.new.items) }
+fn is_here(place: &GridPoint, x: &Coordinate) -> bool
+    ensures { result ≡ is_at place.now.x x.now }
 {
-    if place.x() == x.value() {
-        values.push(place.y())?;
+    place.x() == x.value()
+}
+
+fn push_at(values: &mut Vec<i32>, place: &GridPoint, x: &Coordinate) -> Result<(), NoMemory>
+    requires { Every InReach values.old.items }
+    ensures value { (rest : List ℤ) → OnOk result (ascending (values.new.items ++ rest) ≡ ascending (values.old.items ++ cond (is_at place.now.x x.now) (place.now.y ∷ rest) rest)) }
+    ensures reach { OnOk result (Every InReach values.new.items) }
+{
+    if is_here(place, x) {
+        return push_new(values, place.y());
     }
     Ok(())
 }
 
 fn all_ordinates(values: &mut Vec<i32>, segments: &[Seg], x: &Coordinate) -> Result<(), NoMemory>
-    ensures value { OnOk result (values.new.items ≡ ys_at x.now segments.now) }
+    ensures value { OnOk result (ascending values.new.items ≡ ascending (ys_at x.now segments.now)) }
     ensures reach { OnOk result (Every InReach values.new.items) }
 {
     values.clear();

@@ -1,6 +1,6 @@
 use mir.Syntax.{w128}
 use Rattle.column_cut.proofs.Ranking.{product_back, product_fits}
-use Rattle.column_cut.proofs.column.product.Goals as goal
+use Rattle.column_cut.proofs.column.wide_product.Goals as goal
 
 pub returns : goal.returns
 returns c = record {
