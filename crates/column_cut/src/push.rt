@@ -123,7 +123,6 @@ fn find_column_cell(
 /// The cell of a slot between two segments with a stretch of the wall at x.
 fn push_closed(
     cells: &mut BoundedCells,
-    alloc: Global,
     x: &Coordinate,
     over: &Half,
     under: &Half,
@@ -134,12 +133,12 @@ fn push_closed(
     let wall = on(x);
     match half_above(&stretch.low) {
         Some(above) => match half_below(&stretch.high) {
-            Some(below) => cells.push_kept(alloc, &[wall, *over, *under, above, below]),
-            None => cells.push_kept(alloc, &[wall, *over, *under, above]),
+            Some(below) => cells.push_kept_on(x.value(), &[wall, *over, *under, above, below]),
+            None => cells.push_kept_on(x.value(), &[wall, *over, *under, above]),
         },
         None => match half_below(&stretch.high) {
-            Some(below) => cells.push_kept(alloc, &[wall, *over, *under, below]),
-            None => cells.push_kept(alloc, &[wall, *over, *under]),
+            Some(below) => cells.push_kept_on(x.value(), &[wall, *over, *under, below]),
+            None => cells.push_kept_on(x.value(), &[wall, *over, *under]),
         },
     }
 }
@@ -156,7 +155,7 @@ fn push_piece(
 {
     if let Some(over) = slot.over {
         if let Some(under) = slot.under {
-            return push_closed(cells, alloc, x, &over, &under, stretch);
+            return push_closed(cells, x, &over, &under, stretch);
         }
     }
     find_wall_cell(halves, x, slot, stretch)?;
@@ -256,7 +255,7 @@ fn push_between(
 {
     let halves = [right_of(left), left_of(right), *over, *under];
     if is_open(left, right, over, under) {
-        return cells.push(&halves);
+        return cells.push_between(left.value(), right.value(), &halves);
     }
     cells.push_kept(alloc, &halves)
 }

@@ -18,3 +18,4 @@ pub mod Middles
 pub mod Pieces
 pub mod OnLines
 pub mod Shadows
+pub mod Uprights

@@ -1,5 +1,5 @@
 ghost use Rattle.std.specs.Prelude.{◌≡◌, ℕ, ℤ, pos, neg_ℤ, ◌<◌, ◌≤◌, ◌^◌, ◌≤ℤ◌, ◌<ℤ◌, ◌+ℤ◌, ◌*ℤ◌, unsigned_abs, All};
-ghost use Rattle.plane_terms.specs.Point.{Point};
+ghost use Rattle.plane_terms.specs.Point.{Point, InReach};
 ghost use Rattle.plane_terms.specs.HalfPlane.{Holds, value_at};
 ghost use Rattle.cell_laws.specs.Bounds.{Above};
 ghost use Rattle.convex_cell.specs.Span.{After, Before, IsSpan, InSpan};
@@ -213,6 +213,27 @@ impl Span {
             to: 1_125_899_906_842_624,
         }
     }
+}
+
+/// What lies strictly between two whole numbers.
+pub(crate) fn span_between(left: i32, right: i32) -> Span
+    requires left { InReach left }
+    requires right { InReach right }
+    ensures fits { IsSpan result }
+    ensures sound { (z : ℤ) → (w : ℕ) → 0 < w → (left *ℤ pos w) <ℤ z → z <ℤ (right *ℤ pos w) → InSpan result z w }
+{
+    let after = cut(Span::open(), 1, negated(i64::from(left)), true);
+    cut(after, -1, i64::from(right), true)
+}
+
+/// A whole number alone.
+pub(crate) fn span_at(v: i32) -> Span
+    requires { InReach v }
+    ensures fits { IsSpan result }
+    ensures sound { (z : ℤ) → (w : ℕ) → 0 < w → z ≡ v *ℤ pos w → InSpan result z w }
+{
+    let from = cut(Span::open(), 1, negated(i64::from(v)), false);
+    cut(from, -1, i64::from(v), false)
 }
 
 /// What the half-planes without y leave of x.
