@@ -1,11 +1,10 @@
--- Findings that are right have frames, and the frame of a list of cells is joined from those of its cells.
-use Rattle.std.proofs.Common.{◌≡◌, inl, inr, ℕ, arith, List, [], ◌∷◌, ◌++◌, Some}
+-- Findings that are right have frames, and a join of rectangles holds both.
+use Rattle.std.proofs.Common.{◌≡◌, inl, inr, ℕ, arith, List, [], ◌∷◌, Some}
 use Rattle.std.proofs.lemmas.Int.{ints, clamps}
 use Rattle.plane_terms.specs.Lists.{Every}
-use Rattle.plane_terms.proofs.ListLemmas.{SomeOf-append_left, SomeOf-append_right}
 use Rattle.plane_terms.specs.Point.{Point}
 use Rattle.plane_terms.specs.Rectangle.{Rectangle, RectHolds, IsWithin, IsRectangle, whole_grid, join_of}
-use Rattle.plane_terms.specs.Cell.{Cell, InCell, InCells, IsLeastFrame}
+use Rattle.plane_terms.specs.Cell.{Cell, InCell, InCells}
 use Rattle.topology_terms.specs.Feature.{Feature, feature_at, env, IsAscending}
 use Rattle.topology_terms.specs.Broken.{Row}
 use Rattle.topology_terms.specs.Meaning.{Meaning, Laws, CutsRight, Finding, by_partner, finding_at}
@@ -40,18 +39,3 @@ within_join_left r s = omega (arith, ints, clamps)
 
 pub within_join_right : (r s : Rectangle) → IsWithin s (join_of r s)
 within_join_right r s = omega (arith, ints, clamps)
-
-join_within : (r s t : Rectangle) → IsWithin r t → IsWithin s t → IsWithin (join_of r s) t
-join_within r s t h k = omega (arith, ints, clamps)
-
-in_either : (cs ds : List Cell) (p : Point) → InCells (cs ++ ds) p → (P : Type 0) → (InCells cs p → P) → (InCells ds p → P) → P
-in_either [] ds p h P f g = g h
-in_either (c ∷ cs) ds p h P f g = elim h [ inl k ↦ f (inl k) | inr k ↦ in_either cs ds p k P (λ m. f (inr m)) g ]
-
-pub frame_joined : (r s : Rectangle) (cs ds : List Cell) → IsLeastFrame r cs → IsLeastFrame s ds → IsLeastFrame (join_of r s) (cs ++ ds)
-frame_joined r s cs ds h k = record {
-  holds = λ p c. in_either cs ds p c (RectHolds (join_of r s) p) (λ m. within_Holds r (join_of r s) (within_join_left r s) p (h.holds p m))
-      (λ m. within_Holds s (join_of r s) (within_join_right r s) p (k.holds p m));
-  least = λ t each. join_within r s t (h.least t (λ p c. each p (SomeOf-append_left (λ (c : Cell). InCell c p) cs ds c)))
-      (k.least t (λ p c. each p (SomeOf-append_right (λ (c : Cell). InCell c p) cs ds c)));
-}
