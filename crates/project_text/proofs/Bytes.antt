@@ -2,7 +2,7 @@
 --
 -- IsPlain f      no space and no LF is in the field
 -- fields_back    the fields of a line, of which the last may have spaces, are found again
-use Rattle.std.proofs.Common.{ℕ, ℤ, pos, negsuc, zero, suc, ◌≡◌, ◌+◌, ◌/◌, ◌%◌, ◌==◌, Bool, true, false, ◌&&◌, nat_le, not, List, [], ◌∷◌, ◌++◌, map, length, append-nil, append_assoc, if◌then◌else◌, refl, sym, ap, ◌∙◌, arith}
+use Rattle.std.proofs.Common.{ℕ, ℤ, pos, negsuc, suc, ◌≡◌, ◌+◌, ◌==◌, Bool, true, false, ◌&&◌, nat_le, not, List, [], ◌∷◌, ◌++◌, map, length, append-nil, append_assoc, if◌then◌else◌, refl, sym, ap, ◌∙◌, arith}
 use Rattle.std.specs.Prelude.{nat_lt, codes}
 use Rattle.std.specs.List.{list_all}
 use Rattle.std.specs.Fmt.{decimal, signed_decimal, digit_glyph}
