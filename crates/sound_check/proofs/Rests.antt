@@ -1,21 +1,22 @@
 -- What is left of cells, carved step by step.
 use Rattle.std.proofs.Common.{◌≡◌, ◌↔◌, ◌∙◌, ℕ, zero, suc, ◌+◌, ◌≤◌, nat_eq, false, not, IsTrue, List, [], ◌∷◌, length, take, inl, inr, refl, sym, subst, ap}
-use Rattle.std.specs.Prelude.{slice_get, Some}
+use Rattle.std.specs.Prelude.{slice_get, Option, None, Some, IfSome, IsSomeAnd}
 use Rattle.std.proofs.Math.Dec.{eqb-suc-zero}
 use Rattle.std.proofs.lemmas.Bool.{false≢true}
 use Rattle.std.proofs.lemmas.List.{take_all, nil_from_length}
 use Rattle.plane_terms.specs.Lists.{SomeOf}
 use Rattle.plane_terms.specs.Point.{Point}
 use Rattle.plane_terms.proofs.ListLemmas.{some_or_none}
-use Rattle.plane_terms.specs.Rectangle.{Rectangle}
+use Rattle.plane_terms.specs.Rectangle.{Rectangle, RectHolds, RectsMeet}
 use Rattle.plane_terms.specs.Cell.{Cell, InCell, InCells, HavePoints}
 use Rattle.plane_terms.specs.Carve.{carve_of}
-use Rattle.plane_terms.specs.Dirt.{Covers}
+use Rattle.plane_terms.specs.Dirt.{Covers, MeetsDirt}
 use Rattle.cell_laws.proofs.Lists.{all_append, some_append}
 use Rattle.cell_laws.proofs.Meets.{carve_points, kept_have_points}
 use Rattle.validation_laws.proofs.Joining.{take_one}
 use Rattle.rule_laws.proofs.Covered.{in_or_not}
 use Rattle.sound_check.specs.Rest.{IsRest, IsWithinOff}
+use Rattle.sound_check.specs.Frames.{HoldsAll}
 
 -- ---- one step
 pub carved_rest : (cs ds made : List Cell) → made ≡ carve_of cs ds → IsRest (InCells ds) cs made
@@ -75,6 +76,40 @@ rest_first P cs rest r = rest_as (InCells ([] ∷ [])) (Outside P []) cs rest (�
 pub have_more : (cs : List Cell) (i : ℕ) (c : Cell) → slice_get cs i ≡ Some c → HavePoints (take i cs) → HavePoints (c ∷ [])
     → HavePoints (take (i + 1) cs)
 have_more cs i c e h k = subst HavePoints (sym (take_one cs i c e)) ((all_append _ (take i cs) (c ∷ [])).1 (h, k))
+
+-- ---- the frame of the cells
+-- a rectangle beside a frame that holds the cells takes nothing away
+pub rest_apart : (f : Option Rectangle) (r : Rectangle) (cs : List Cell) → HavePoints cs → IfSome f (λ s. HoldsAll s cs)
+    → IsSomeAnd f (λ s. ¬ (RectsMeet s r)) → IsRest (λ p. ¬ (RectHolds r p)) cs cs
+rest_apart None r cs h a n = absurd n
+rest_apart (Some s) r cs h a n = record { some = h; points = λ p. (λ m. (m, λ k. n (p, a p m, k)), λ m. m.0) }
+
+-- nor does dirt that is off it
+pub rest_clear : (f : Option Rectangle) (d : List Rectangle) (cs rest : List Cell) → IsRest (InCells ([] ∷ [])) cs rest
+    → IfSome f (λ s. HoldsAll s rest) → IsSomeAnd f (λ s. ¬ (MeetsDirt d s)) → IsRest (λ p. ¬ (Covers d p)) cs rest
+rest_clear None d cs rest r a n = absurd n
+rest_clear (Some s) d cs rest r a n = record {
+  some = r.some;
+  points = λ p. (λ m. (((r.points p).0 m).0, λ k. n (p, k, a p m)), λ m. (r.points p).1 (m.0, inl tt));
+}
+
+pub held_rest : (f : Option Rectangle) (P : Point → Type 0) (cs rest : List Cell) → IsRest P cs rest → IfSome f (λ s. HoldsAll s cs)
+    → IfSome f (λ s. HoldsAll s rest)
+held_rest None P cs rest r a = a
+held_rest (Some s) P cs rest r a = λ p m. a p ((r.points p).0 m).0
+
+pub rest_whole : {A : Type 0} (P : A → Point → Type 0) (cs : List Cell) → HavePoints cs → IsRest (Outside P []) cs cs
+rest_whole P cs h = record { some = h; points = λ p. (λ m. (m, λ k. k), λ m. m.0) }
+
+-- of the cells with points the same is left
+pub rest_after : (P : Point → Type 0) (cs mid rest : List Cell) → IsRest (InCells ([] ∷ [])) cs mid → IsRest P mid rest → IsRest P cs rest
+rest_after P cs mid rest a b = record {
+  some = b.some;
+  points = λ p. (
+    λ m. let k = (b.points p).0 m in (((a.points p).0 k.0).0, k.1),
+    λ m. (b.points p).1 ((a.points p).1 (m.0, inl tt), m.1),
+  );
+}
 
 -- ---- nothing left
 not_zero : (c : Cell) (cs : List Cell) (n : ℕ) → n ≡ length (c ∷ cs) → nat_eq n 0 ≡ false

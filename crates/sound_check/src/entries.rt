@@ -32,8 +32,8 @@ fn lies_in(alloc: Global, e: &Entry, others: &[Entry], dirt: &Dirt) -> Result<bo
     ensures { IfOk result (λ yes. IsTrue yes ↔ LiesIn dirt.now others.now e.now) }
 {
     match find_in(others, e.key()) {
-        Some(other) => is_within(alloc, e.cells(), other.cells(), dirt),
-        None => is_within(alloc, e.cells(), &Cells::new(alloc), dirt),
+        Some(other) => is_within(alloc, e.cells(), Some(e.frame()), other.cells(), dirt),
+        None => is_within(alloc, e.cells(), Some(e.frame()), &Cells::new(alloc), dirt),
     }
 }
 

@@ -34,7 +34,8 @@ fn reaches(alloc: Global, cells: &Cells, half: Half) -> Result<bool, NoMemory>
     Ok(there.len() != 0)
 }
 
-fn holds_all(alloc: Global, frame: &Rect, cells: &Cells) -> Result<bool, NoMemory>
+/// Whether the frame holds every point of the cells.
+pub(crate) fn holds_all(alloc: Global, frame: &Rect, cells: &Cells) -> Result<bool, NoMemory>
     ensures { IfOk result (λ yes. IsTrue yes ↔ HoldsAll frame.now cells.now) }
 {
     let outside = Cells::out_of_rect(alloc, frame)?;

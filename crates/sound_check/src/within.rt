@@ -5,7 +5,7 @@ ghost use Rattle.sound_check.specs.Rest.{IsWithinOff, AreSameOff};
 use crate::rest::{rest_off_cells, rest_off_dirt};
 use convex_cell::Cells;
 use dirty_area::Dirt;
-use grid_plane::NoMemory;
+use grid_plane::{NoMemory, Rect};
 use std::alloc::Global;
 
 /// Whether each of the cells has a point, on the grid or not. It takes no memory.
@@ -21,11 +21,12 @@ pub fn have_points(cells: &Cells) -> bool
 }
 
 /// Whether each point of the cells that is not dirty is in the other list. Where the lists are equal nothing is carved; else the
-/// cells are carved by the outsides of the others, then by those of the dirty rectangles, until nothing is left. An `Err` is want
-/// of memory.
+/// cells are carved by the outsides of the others, then by those of the dirty rectangles, until nothing is left. Where what is left
+/// lies in the frame, dirty rectangles beside it are passed over. An `Err` means out of memory.
 pub fn is_within(
     alloc: Global,
     cells: &Cells,
+    frame: Option<Rect>,
     others: &Cells,
     dirt: &Dirt,
 ) -> Result<bool, NoMemory>
@@ -35,7 +36,7 @@ pub fn is_within(
         return Ok(true);
     }
     let off_others = rest_off_cells(alloc, cells, others)?;
-    let rest = rest_off_dirt(alloc, &off_others, dirt)?;
+    let rest = rest_off_dirt(alloc, &off_others, frame, dirt)?;
     Ok(rest.len() == 0)
 }
 
@@ -48,8 +49,8 @@ pub fn are_same_off(
 ) -> Result<bool, NoMemory>
     ensures { IfOk result (λ yes. IsTrue yes ↔ AreSameOff dirt.now first.now second.now) }
 {
-    if !is_within(alloc, first, second, dirt)? {
+    if !is_within(alloc, first, None, second, dirt)? {
         return Ok(false);
     }
-    is_within(alloc, second, first, dirt)
+    is_within(alloc, second, None, first, dirt)
 }

@@ -1,18 +1,12 @@
-use Rattle.std.proofs.Common.{◌∙◌, sym, arith}
-use Rattle.plane_terms.specs.Rectangle.{RectHolds}
-use Rattle.sound_check.proofs.Rests.{rest_first, rest_next, rest_none, rest_all}
+use Rattle.std.proofs.lemmas.Bool.{OnTrue_at}
+use Rattle.std.proofs.lemmas.Result.{IfOk-weaker}
+use Rattle.sound_check.proofs.Rests.{rest_clear, rest_after}
 use Rattle.sound_check.proofs.rest.rest_off_dirt.Goals as goal
 
-pub loop-i-init : goal.loop-i-init
-loop-i-init c = rest_first RectHolds c.args.cells.now c.in_ok-rest.rest c.in_ok-rest.ensures
-
-pub returns-then-len-eq0 : goal.returns-then-len-eq0
-returns-then-len-eq0 c = rest_none RectHolds c.args.dirt.now c.loop-i.i c.args.cells.now c.loop-i.rest
-    (sym c.len.ensures ∙ c.if-len-eq0.true) c.loop-i.invariant
-
-pub loop-i-preserved : goal.loop-i-preserved
-loop-i-preserved c = rest_next RectHolds c.args.dirt.now c.loop-i.i c.rect.result c.args.cells.now c.loop-i.rest
-    c.in_ok-rest-2.rest c.rect.ensures c.loop-i.invariant c.in_ok-rest-2.ensures
+pub returns-then-is_clear : goal.returns-then-is_clear
+returns-then-is_clear c = rest_clear c.in_ok-frame.frame c.args.dirt.now c.args.cells.now c.in_ok-rest.rest c.in_ok-rest.ensures
+    c.in_ok-frame.ensures (OnTrue_at c.if-is_clear.true c.is_clear.ensures)
 
 pub returns : goal.returns
-returns c = rest_all RectHolds c.args.dirt.now c.loop-i.i c.args.cells.now c.loop-i.rest (omega arith) c.loop-i.invariant
+returns c = IfOk-weaker c.rest_off_rects.result _ _ (λ made. rest_after _ c.args.cells.now c.in_ok-rest.rest made c.in_ok-rest.ensures)
+    c.rest_off_rects.ensures
