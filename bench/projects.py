@@ -4,7 +4,8 @@
 usage: bench/projects.py [--baseline WORDS] [--kinds KIND,..] [--turns N] [--seconds N] [--program WORDS]
 
   --kinds KIND,..   made: the made town of 60 rows; small, large: the towns of bench/town.py with 10,000 and with 40,000 parcels,
-                    validated; dirty: 10,000 wells that came after a validation. All of them where it is left out
+                    validated; dirty: 10,000 wells that came after a validation; deleted: 5,000 errors at places that are
+                    dirty since their wells were deleted. All of them where it is left out
   the others        as in bench/run.py
 
 The project that the measured program saves is opened by both. A saved text must be equal too, byte for byte.
@@ -26,10 +27,18 @@ def parcels(rows):
     return HEAD + founding(Town(rows)) + ['validate all']
 
 
+WELLS = ['class wells point', 'rule point_must_be_disjoint wells', 'begin ann', 'validate all']
+
+
 def late_wells(count):
     """The lines of so many wells, each of which is a dirty place of its own."""
-    founding = ['class wells point', 'rule point_must_be_disjoint wells', 'begin ann', 'validate all']
-    return founding + added('wells', map(place_of, range(count)), point)
+    return WELLS + added('wells', map(place_of, range(count)), point)
+
+
+def deleted_wells(count):
+    """The lines of so many wells, two at each place, which are found and then deleted."""
+    wells = [place_of(number // 2) for number in range(count)]
+    return WELLS + added('wells', wells, point) + ['validate all'] + ['by ann delete %d' % (i + 1) for i in range(count)]
 
 
 PROJECTS = {
@@ -37,6 +46,7 @@ PROJECTS = {
     'small': ('10,000 parcels', lambda: parcels(100)),
     'large': ('40,000 parcels', lambda: parcels(200)),
     'dirty': ('10,000 dirty places', lambda: late_wells(10000)),
+    'deleted': ('5,000 errors of deleted wells', lambda: deleted_wells(10000)),
 }
 
 
