@@ -3,3 +3,4 @@ pub mod Rectangles
 pub mod Numbers
 pub mod Found
 pub mod PlacesOn
+pub mod Cuts

@@ -1,3 +1,4 @@
 pub mod Constants
+pub mod Cuts
 pub mod Names
 pub mod Rectangles

@@ -4,6 +4,8 @@ ghost use Rattle.plane_terms.specs.Point.{InReach};
 ghost use Rattle.plane_terms.specs.Segment.{IsGridSegment, OnSegment, SharePoint, Overlap, comes_before, segment_between, first_of, second_of, box_of};
 ghost use Rattle.grid_plane.specs.Rectangles.{HoldsAt};
 ghost use Rattle.plane_terms.specs.Share.{turn, one_side, one_zero, is_beside, is_parallel, has_end_on, share_of, share_on_line, CrossOnce, TouchOnce};
+ghost use Rattle.plane_terms.specs.ShapeFaults.{AreBad};
+ghost use Rattle.grid_plane.specs.Cuts.{is_cut};
 ghost use Rattle.plane_terms.specs.declared.share.Share.TheVariants.{Nothing, Along, Cross, Touch};
 
 use crate::point::GridPoint;
@@ -69,6 +71,18 @@ fn is_one_zero(a: i64, b: i64) -> bool
     ensures { result ≡ one_zero a b }
 {
     a == 0 || b == 0
+}
+
+// Whether it is more than a touch.
+fn is_cut(share: Share) -> bool
+    ensures { result ≡ is_cut share }
+{
+    match share {
+        Share::Nothing => false,
+        Share::Along => true,
+        Share::Cross => true,
+        Share::Touch => false,
+    }
 }
 
 fn segment(lo: GridPoint, hi: GridPoint, turned: bool) -> Seg
@@ -175,6 +189,8 @@ impl Seg {
         )
     }
 
+    // In line, so that the tests below take each turn once.
+    #[inline(always)]
     fn turn(&self, p: &GridPoint) -> i64
         ensures { result ≡ turn self.now p.now }
     {
@@ -225,6 +241,7 @@ impl Seg {
     }
 
     /// It lies strictly on one side of the line.
+    #[inline(always)]
     fn is_beside(&self, line: &Seg) -> bool
         ensures { result ≡ is_beside self.now line.now }
     {
@@ -232,6 +249,7 @@ impl Seg {
     }
 
     /// Both its ends are equally far from the line.
+    #[inline(always)]
     fn is_parallel(&self, line: &Seg) -> bool
         ensures { result ≡ is_parallel self.now line.now }
     {
@@ -239,6 +257,7 @@ impl Seg {
     }
 
     /// One of its ends is on the line.
+    #[inline(always)]
     fn has_end_on(&self, line: &Seg) -> bool
         ensures { result ≡ has_end_on self.now line.now }
     {
@@ -259,6 +278,34 @@ impl Seg {
             return Share::Touch;
         }
         Share::Cross
+    }
+
+    // The ends of one most often tell: neighbours of a ring touch.
+    fn decide_cut(&self, other: &Seg) -> bool
+        ensures { result ≡ is_cut (share_of self.now other.now) }
+    {
+        if self.is_parallel(other) {
+            return is_cut(self.decide(other));
+        }
+        if self.is_beside(other) {
+            return false;
+        }
+        if self.has_end_on(other) {
+            return false;
+        }
+        if other.is_beside(self) {
+            return false;
+        }
+        !other.has_end_on(self)
+    }
+
+    /// Whether they cross or run along each other.
+    pub fn cuts(&self, other: &Seg) -> bool
+        ensures { IsTrue result ↔ AreBad self.now other.now }
+    {
+        let _ = &self.lo;
+        let _ = &other.lo;
+        self.decide_cut(other)
     }
 
     /// What two segments have in common, by the number of points that are on both: the points of the plane,

@@ -34,12 +34,7 @@ fn are_bad(s: &Seg, env: &Rect, t: &Seg) -> bool
     if !env.meets(&t.env()) {
         return false;
     }
-    match s.shares(t) {
-        Share::Nothing => false,
-        Share::Along => true,
-        Share::Cross => true,
-        Share::Touch => false,
-    }
+    s.cuts(t)
 }
 
 /// The number of the first segment of the run that is bad with the segment `i`.
