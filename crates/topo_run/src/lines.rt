@@ -2,6 +2,8 @@ ghost use Rattle.std.specs.Prelude.{◌≡◌, ◌<◌, ◌≤◌, [], ◌∷◌
 ghost use Rattle.text_terms.specs.Lines.{lines_of, lines_from, without_cr};
 ghost use Rattle.topo_run.specs.Replayers.{HasNoLf};
 
+use memchr::memchr;
+
 /// The line without the CR at its end.
 #[tactic(auto, using(crate::proofs::Texts::cuts))]
 pub fn without_cr(line: &[u8]) -> &[u8]
@@ -33,11 +35,10 @@ fn lf_of(text: &[u8]) -> usize
     ensures before { HasNoLf (take result text.now) }
     ensures found { result < length text.now → slice_index text.now result ≡ 10 }
 {
-    let mut end = 0;
-    while end < text.len() && text[end] != b'\n' {
-        end += 1;
+    match memchr(b'\n', text) {
+        Some(end) => end,
+        None => text.len(),
     }
-    end
 }
 
 /// The first line of a text, and what follows it.
@@ -61,9 +62,5 @@ fn line_end(text: &[u8], whole: bool) -> usize
     ensures same { lines_of whole text.now ≡ lines_from whole (take result text.now) (drop result text.now) }
     ensures found { result < length text.now → slice_index text.now result ≡ 10 }
 {
-    let mut end = 0;
-    while end < text.len() && text[end] != b'\n' {
-        end += 1;
-    }
-    end
+    lf_of(text)
 }
