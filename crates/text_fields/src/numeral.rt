@@ -11,6 +11,7 @@ use crate::number::{Number, REACH, read_number, signed};
 use crate::runs::{Class, split_run};
 
 // What the digits at the front are worth, or the first of very many, and what follows these.
+#[inline(always)]
 fn short_value(digits: &[u8]) -> (u32, &[u8])
     ensures bound { result.0 < 10000000 }
     ensures value { value_from result.0 (front_of is_digit result.1.now) ≡ value_of (front_of is_digit digits.now) }
@@ -29,6 +30,7 @@ fn short_value(digits: &[u8]) -> (u32, &[u8])
 }
 
 // Whether a text begins with a digit, a sign or a point.
+#[inline(always)]
 fn has_number_byte(text: &[u8]) -> bool
     ensures { result ≡ has_number_byte text.now }
 {
@@ -39,6 +41,7 @@ fn has_number_byte(text: &[u8]) -> bool
 }
 
 // A few digits, and what follows them, where the numeral ends there.
+#[inline(always)]
 fn short_digits(negative: bool, digits: &[u8]) -> Option<(Coordinate, &[u8])>
     ensures { IfSome result (λ x. IsShort negative digits.now x.0 x.1.now) }
 {
@@ -51,6 +54,7 @@ fn short_digits(negative: bool, digits: &[u8]) -> Option<(Coordinate, &[u8])>
 
 // The whole number at the front, where it has few digits and at most a minus sign before them.
 #[tactic(auto, using(crate::proofs::Short::plain, crate::proofs::Short::minus))]
+#[inline(always)]
 fn short_whole(text: &[u8]) -> Option<(Coordinate, &[u8])>
     ensures { IfSome result (λ x. (number_of (front_of is_number_byte text.now) ≡ Whole x.0) × (x.1.now ≡ behind is_number_byte text.now)) }
 {
@@ -66,7 +70,19 @@ fn short_whole(text: &[u8]) -> Option<(Coordinate, &[u8])>
     }
 }
 
-/// What the longest run of digits, signs and points at the front means, and what follows it.
+// What any run at the front means; it stands apart, so that the short way is all that is put in line.
+#[inline(never)]
+fn any_number(text: &[u8]) -> (Number, &[u8])
+    ensures number { meant result.0 ≡ number_of (front_of is_number_byte text.now) }
+    ensures rest { result.1.now ≡ behind is_number_byte text.now }
+{
+    let (numeral, rest) = split_run(Class::Number, text);
+    (read_number(numeral), rest)
+}
+
+/// What the longest run of digits, signs and points at the front means, and what follows it. In line, since it is asked for each
+/// coordinate of a script.
+#[inline(always)]
 pub fn next_number(text: &[u8]) -> (Number, &[u8])
     ensures number { meant result.0 ≡ number_of (front_of is_number_byte text.now) }
     ensures rest { result.1.now ≡ behind is_number_byte text.now }
@@ -74,6 +90,5 @@ pub fn next_number(text: &[u8]) -> (Number, &[u8])
     if let Some((whole, rest)) = short_whole(text) {
         return (Number::Whole(whole), rest);
     }
-    let (numeral, rest) = split_run(Class::Number, text);
-    (read_number(numeral), rest)
+    any_number(text)
 }

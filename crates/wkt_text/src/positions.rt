@@ -11,7 +11,11 @@ use crate::stop::Stop;
 use grid_plane::GridPoint;
 use text_fields::{Number, next_number, skip_blanks};
 
+// For so many positions there is room from the start; what is left of it is given back behind the last.
+const ROOM: usize = 16;
+
 // The position that comes next, and what follows it.
+#[inline(always)]
 fn next_position(text: &[u8]) -> Option<(GridPoint, &[u8])>
     ensures { IfSome result (λ x. StartsWith text.now (position x.0) x.1.now) }
 {
@@ -30,6 +34,7 @@ fn next_position(text: &[u8]) -> Option<(GridPoint, &[u8])>
 }
 
 // What follows a comma, where one comes next.
+#[inline(always)]
 fn behind_comma(text: &[u8]) -> Option<&[u8]>
     ensures { IfSome result (λ rest. StartsWith text.now (tokens.Comma ∷ []) rest.now) }
 {
@@ -40,6 +45,7 @@ fn behind_comma(text: &[u8]) -> Option<&[u8]>
 }
 
 // The position that comes next behind a comma, and what follows it.
+#[inline(always)]
 fn next_other(text: &[u8]) -> Option<(GridPoint, &[u8])>
     ensures { IfSome result (λ x. StartsWith text.now (commas position (x.0 ∷ [])) x.1.now) }
 {
@@ -89,6 +95,7 @@ pub fn read_positions<'a>(
     let Some(first) = next_position(text) else {
         return Ok((State::BeforeX(owner, positions), text));
     };
+    positions.reserve(ROOM)?;
     positions.push(first.0)?;
     let left = read_more(&owner, &mut positions, first.1)?;
     Ok((State::AfterPosition(owner, positions), left))

@@ -19,6 +19,7 @@ use text_fields::skip_blanks;
 use wkt_terms::WktFault;
 
 // Takes the token at the front of what is left, which is not empty.
+#[inline(always)]
 fn advance<'a>(
     alloc: Global,
     text: &[u8],
@@ -39,6 +40,7 @@ fn advance<'a>(
 }
 
 // Reads positions at once, where they are expected.
+#[inline(always)]
 fn go_on(state: State, text: &[u8]) -> Result<(State, &[u8]), WktFault>
     ensures { MatchResult result (λ x. Passes (state_of state) text.now (state_of x.0) x.1.now) (λ e. e ≡ NoMemory) }
 {

@@ -56,6 +56,7 @@ fn refused(cause: Cause) -> Result<State, Stop>
     Err(Stop::Refused(cause))
 }
 
+#[inline(always)]
 fn at_word(token: Token) -> Result<State, Stop>
     ensures { Gives state_of result (step steps.Start (token_meant token)) }
 {
@@ -71,6 +72,7 @@ fn at_word(token: Token) -> Result<State, Stop>
 }
 
 // An opening bracket is expected.
+#[inline(always)]
 fn at_open(then: State, token: Token) -> Result<State, Stop>
     ensures { Gives state_of result (at_open (state_of then) (token_meant token)) }
 {
@@ -102,6 +104,7 @@ fn number(token: Token) -> Result<Coordinate, Cause>
     }
 }
 
+#[inline(always)]
 fn at_x(owner: Owner, positions: Vec<GridPoint>, token: Token) -> Result<State, Stop>
     ensures { Gives state_of result (step (steps.BeforeX (owner_of owner) positions.items) (token_meant token)) }
 {
@@ -121,6 +124,7 @@ pub fn place(x: Coordinate, y: Coordinate) -> Result<GridPoint, Stop>
     }
 }
 
+#[inline(always)]
 fn at_y(
     owner: Owner,
     mut positions: Vec<GridPoint>,
@@ -161,6 +165,7 @@ fn push_lists(parts: &mut Vec<Vec<Vec<GridPoint>>>, lists: Vec<Vec<GridPoint>>) 
 }
 
 // The bracket that closes positions.
+#[inline(always)]
 fn closed(owner: Owner, mut positions: Vec<GridPoint>) -> Result<State, Stop>
     ensures { Gives state_of result (Ok (closed (owner_of owner) positions.items)) }
 {
@@ -179,6 +184,7 @@ fn closed(owner: Owner, mut positions: Vec<GridPoint>) -> Result<State, Stop>
 }
 
 // The bracket that closes lists.
+#[inline(always)]
 fn ended(group: Group, lists: Vec<Vec<GridPoint>>) -> Result<State, Stop>
     ensures { Gives state_of result (Ok (ended (group_of group) (lists_of lists.items))) }
 {
@@ -202,6 +208,7 @@ fn after_comma(owner: Owner, positions: Vec<GridPoint>) -> Result<State, Stop>
     }
 }
 
+#[inline(always)]
 fn after_position(owner: Owner, positions: Vec<GridPoint>, token: Token) -> Result<State, Stop>
     ensures { Gives state_of result (step (steps.AfterPosition (owner_of owner) positions.items) (token_meant token)) }
 {
@@ -213,6 +220,7 @@ fn after_position(owner: Owner, positions: Vec<GridPoint>, token: Token) -> Resu
     }
 }
 
+#[inline(always)]
 fn after_list(group: Group, lists: Vec<Vec<GridPoint>>, token: Token) -> Result<State, Stop>
     ensures { Gives state_of result (step (steps.AfterList (group_of group) (lists_of lists.items)) (token_meant token)) }
 {
@@ -234,6 +242,7 @@ fn after_part(parts: Vec<Vec<Vec<GridPoint>>>, token: Token) -> Result<State, St
 }
 
 // The end is expected.
+#[inline(always)]
 fn at_end(geometry: Geometry, token: Token) -> Result<State, Stop>
     ensures { Gives state_of result (step (state_of (State.Complete geometry)) (token_meant token)) }
 {
@@ -244,6 +253,7 @@ fn at_end(geometry: Geometry, token: Token) -> Result<State, Stop>
 }
 
 /// What comes of a token.
+#[inline(always)]
 pub fn step(alloc: Global, state: State, token: Token) -> Result<State, Stop>
     ensures { Gives state_of result (step (state_of state) (token_meant token)) }
 {

@@ -1,4 +1,4 @@
-use Rattle.std.proofs.Common.{List, [], ◌∷◌, ◌++◌, subst}
+use Rattle.std.proofs.Common.{List, [], ◌∷◌, ◌++◌, ◌∙◌, ap, subst}
 use Rattle.plane_terms.specs.Point.{Place}
 use Rattle.wkt_laws.specs.Steps.{BeforeX, AfterPosition, Passes}
 use Rattle.wkt_laws.proofs.Passing.{passes_none, passes_position, passes_then}
@@ -19,5 +19,5 @@ returns c =
     let left = c.in_ok-left.left.now in
     passes_then (BeforeX owner old) (AfterPosition owner (old ++ first ∷ [])) (AfterPosition owner new) text rest left
     (passes_position owner old first text rest c.in-Some.ensures)
-    (subst (λ (places : List Place). Passes (AfterPosition owner places) rest (AfterPosition owner new) left) c.in_ok-push.ensures.items
-    c.in_ok-left.ensures)
+    (subst (λ (places : List Place). Passes (AfterPosition owner places) rest (AfterPosition owner new) left) (c.in_ok-push.ensures.items
+    ∙ ap (λ (places : List Place). places ++ first ∷ []) c.reserve.ensures.items) c.in_ok-left.ensures)
