@@ -4,6 +4,7 @@ ghost use Rattle.std.specs.List.Sorted.{IsStrictlyIncreasing};
 ghost use Rattle.grid_index.specs.Near.{HoldsSame, Gains, Loses, IsNear, Adds};
 ghost use Rattle.grid_index.specs.Relations.{is_found};
 
+use crate::middle::Middle;
 use crate::node::Node;
 use crate::once::once_each;
 use crate::placed::Placed;
@@ -53,7 +54,8 @@ impl Index {
         ensures ok { OnOk result (Gains self.old self.new placed) }
         ensures err { OnErr result (HoldsSame self.old self.new) }
     {
-        put_in(self.alloc, &mut self.nodes, &placed, WHOLE)
+        let middle = Middle::of(&placed.rect);
+        put_in(self.alloc, &mut self.nodes, &placed, &middle, WHOLE)
     }
 
     /// Takes the rectangle out from under its handle; nothing changes where it is not there. Takes no memory.

@@ -117,13 +117,12 @@ impl Node {
     }
 
     // Puts a rectangle into a node without quarters.
-    fn put_whole(&mut self, alloc: Global, placed: &Placed) -> Result<(), NoMemory>
+    fn put_whole(&mut self, alloc: Global, placed: &Placed, middle: &Middle) -> Result<(), NoMemory>
         requires { self.old.height ≡ 0 }
         ensures ok { OnOk result (Gains self.old.items self.new.items placed.now) }
         ensures err { OnErr result (HoldsSame self.old.items self.new.items) }
     {
-        let middle = Middle::of(&placed.rect);
-        if !is_crowded(&self.placed, &self.middle, &middle) {
+        if !is_crowded(&self.placed, &self.middle, middle) {
             return self.push(placed);
         }
         match middle.spread(&self.placed).checked_ilog2() {
@@ -154,22 +153,26 @@ impl Node {
         Ok(())
     }
 
-    /// Puts a rectangle in.
+    /// Puts a rectangle with this middle in.
     #[cycle(put)]
-    pub(crate) fn put(&mut self, alloc: Global, placed: &Placed) -> Result<(), NoMemory>
+    pub(crate) fn put(
+        &mut self,
+        alloc: Global,
+        placed: &Placed,
+        middle: &Middle,
+    ) -> Result<(), NoMemory>
         ensures ok { OnOk result (Gains self.old.items self.new.items placed.now) }
         ensures err { OnErr result (HoldsSame self.old.items self.new.items) }
     {
         if self.quarters.is_empty() {
-            return self.put_whole(alloc, placed);
+            return self.put_whole(alloc, placed, middle);
         }
-        let middle = Middle::of(&placed.rect);
-        if !self.middle.is_round(&middle, self.digit) {
-            let digit = self.middle.apart(&middle).ilog2();
+        if !self.middle.is_round(middle, self.digit) {
+            let digit = self.middle.apart(middle).ilog2();
             return self.put_outside(alloc, placed, digit);
         }
         self.reach = self.reach.join(&placed.rect);
-        put_in(alloc, &mut self.quarters, placed, self.digit)
+        put_in(alloc, &mut self.quarters, placed, middle, self.digit)
     }
 
     /// Takes a rectangle out, where it is here.

@@ -71,28 +71,35 @@ pub(crate) fn divided(alloc: Global, list: &[Placed], digit: u32) -> Result<Vec<
 }
 
 #[cycle(put)]
-fn put_at(alloc: Global, nodes: &mut Vec<Node>, i: usize, placed: &Placed) -> Result<(), NoMemory>
+fn put_at(
+    alloc: Global,
+    nodes: &mut Vec<Node>,
+    i: usize,
+    placed: &Placed,
+    middle: &Middle,
+) -> Result<(), NoMemory>
     requires { i < length nodes.old.items }
     ensures ok { OnOk result (Gains (all_items nodes.old.items) (all_items nodes.new.items) placed.now) }
     ensures err { OnErr result (HoldsSame (all_items nodes.old.items) (all_items nodes.new.items)) }
 {
-    nodes[i].put(alloc, placed)
+    nodes[i].put(alloc, placed, middle)
 }
 
-/// Puts a rectangle into the node of its square, a side of 2 to the power `digit`.
+/// Puts a rectangle with this middle into the node of its square, a side of 2 to the power `digit`.
 #[cycle(put)]
 pub(crate) fn put_in(
     alloc: Global,
     nodes: &mut Vec<Node>,
     placed: &Placed,
+    middle: &Middle,
     digit: u32,
 ) -> Result<(), NoMemory>
     requires { digit < 32 }
     ensures ok { OnOk result (Gains (all_items nodes.old.items) (all_items nodes.new.items) placed.now) }
     ensures err { OnErr result (HoldsSame (all_items nodes.old.items) (all_items nodes.new.items)) }
 {
-    match place_of(nodes, &Middle::of(&placed.rect), digit) {
-        Some(i) => put_at(alloc, nodes, i, placed),
+    match place_of(nodes, middle, digit) {
+        Some(i) => put_at(alloc, nodes, i, placed, middle),
         None => add_node(alloc, nodes, placed),
     }
 }
