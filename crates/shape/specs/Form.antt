@@ -26,8 +26,8 @@ polygon_shape parts = record { kind = kind.Polygon; parts = polygons_in parts }
 
 abbrev pub shape_in : Form → Shape
 shape_in (form.Point place) = point_shape place
-shape_in (form.Line line) = line_shape line.parts.items
-shape_in (form.Polygon polygon) = polygon_shape polygon.parts.items
+shape_in (form.Line line) = line_shape line.value.parts.items
+shape_in (form.Polygon polygon) = polygon_shape polygon.value.parts.items
 
 pub record IsDrawn (s : Shape) (segs : List Segment) (env : Rectangle) (frames : List Rectangle) : Type 0 where
   pub valid : IsShape s
@@ -38,6 +38,6 @@ pub record IsDrawn (s : Shape) (segs : List Segment) (env : Rectangle) (frames :
 
 abbrev pub IsFormed : Form → Type 0
 IsFormed (form.Point place) = IsInReach place
-IsFormed (form.Line line) = IsDrawn (line_shape line.parts.items) line.segs.items line.env line.frames.items
+IsFormed (form.Line line) = IsDrawn (line_shape line.value.parts.items) line.value.segs.items line.value.env line.value.frames.items
 IsFormed (form.Polygon polygon) =
-    IsDrawn (polygon_shape polygon.parts.items) polygon.segs.items polygon.env polygon.frames.items
+    IsDrawn (polygon_shape polygon.value.parts.items) polygon.value.segs.items polygon.value.env polygon.value.frames.items

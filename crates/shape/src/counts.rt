@@ -53,7 +53,7 @@ fn has_bare_part(parts: &[Vec<Vec<GridPoint>>]) -> bool
 }
 
 /// How many vertices there are after so many.
-fn count_vertices(rings: &[Vec<GridPoint>], before: u32) -> u32
+pub(crate) fn count_vertices(rings: &[Vec<GridPoint>], before: u32) -> u32
     requires { before + length (all_vertices (rings_in rings.now)) < 2 ^ 32 }
     ensures { result ≡ before + length (all_vertices (rings_in rings.now)) }
 {
@@ -64,7 +64,8 @@ fn count_vertices(rings: &[Vec<GridPoint>], before: u32) -> u32
     count
 }
 
-fn count_in_parts(parts: &[Vec<Vec<GridPoint>>]) -> u32
+/// How many vertices the rings have.
+pub(crate) fn count_in_parts(parts: &[Vec<Vec<GridPoint>>]) -> u32
     requires { length (all_vertices (all_rings (polygons_in parts.now))) < 2 ^ 32 }
     ensures { result ≡ length (all_vertices (all_rings (polygons_in parts.now))) }
 {

@@ -6,11 +6,11 @@ ghost use Rattle.shape.specs.Given.{rings_in, lines_in, IsCountable};
 ghost use Rattle.plane_terms.specs.ShapeFaults.{IsFault, IsFlawless};
 ghost use Rattle.shape.specs.Form.{line_shape, IsDrawn};
 
-use crate::counts::check_line;
+use crate::counts::{check_line, count_vertices};
 use crate::envelope::box_of_line;
 use crate::frames::frames_of;
 use crate::same::copy_of_rings;
-use crate::segments::{push_paths, segments_law};
+use crate::segments::{push_paths, room_for, segments_law};
 use crate::vertices::kept_parts;
 use grid_plane::{GridPoint, NoMemory, Rect, Seg};
 use plane_terms::ShapeFault;
@@ -35,7 +35,8 @@ fn line_of(alloc: Global, parts: Vec<Vec<GridPoint>>) -> Result<Line, ShapeFault
     ensures refused { IfErr result (λ fault. IsFault (line_shape parts.items) fault) }
 {
     check_line(&parts)?;
-    let mut segs = Vec::new(alloc);
+    let count = count_vertices(&parts, 0) as usize;
+    let mut segs = room_for(alloc, count.saturating_sub(parts.len()))?;
     push_paths(&mut segs, &parts)?;
     segments_law(&segs);
     let frames = frames_of(alloc, &segs)?;

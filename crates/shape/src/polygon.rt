@@ -8,12 +8,12 @@ ghost use Rattle.shape.specs.Counts.{IsFull};
 ghost use Rattle.plane_terms.specs.ShapeFaults.{IsFault, IsFlawless};
 ghost use Rattle.shape.specs.Form.{polygon_shape, IsDrawn};
 
-use crate::counts::check_polygon;
+use crate::counts::{check_polygon, count_in_parts};
 use crate::envelope::box_of_polygon;
 use crate::frames::frames_of;
 use crate::pairs::check_pairs;
 use crate::same::copy_of_parts;
-use crate::segments::{push_polygons, segments_law};
+use crate::segments::{push_polygons, room_for, segments_law};
 use crate::vertices::closed_parts;
 use grid_plane::{GridPoint, NoMemory, Rect, Seg};
 use plane_terms::ShapeFault;
@@ -38,7 +38,7 @@ fn polygon_of(alloc: Global, parts: Vec<Vec<Vec<GridPoint>>>) -> Result<Polygon,
     ensures refused { IfErr result (λ fault. IsFault (polygon_shape parts.items) fault) }
 {
     check_polygon(&parts)?;
-    let mut segs = Vec::new(alloc);
+    let mut segs = room_for(alloc, count_in_parts(&parts) as usize)?;
     push_polygons(&mut segs, &parts)?;
     let frames = frames_of(alloc, &segs)?;
     check_pairs(&segs, &frames)?;

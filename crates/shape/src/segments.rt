@@ -1,4 +1,4 @@
-ghost use Rattle.std.specs.Prelude.{◌≡◌, ◌++◌, ◌∷◌, [], flat_map, OnOk};
+ghost use Rattle.std.specs.Prelude.{◌≡◌, ◌++◌, ◌∷◌, [], flat_map, IfOk, OnOk};
 ghost use Rattle.plane_terms.specs.Lists.{Every};
 ghost use Rattle.plane_terms.specs.Segment.{segment_between, IsSegment};
 ghost use Rattle.plane_terms.specs.Shape.{AreUnlike, NextDiffer, path, closed_path};
@@ -6,6 +6,14 @@ ghost use Rattle.shape.specs.Given.{rings_in, polygons_in, all_rings};
 ghost use Rattle.shape.specs.Kept.{IsClosing};
 
 use grid_plane::{GridPoint, NoMemory, Seg};
+use std::alloc::Global;
+
+/// No segment, with room for so many.
+pub(crate) fn room_for(alloc: Global, count: usize) -> Result<Vec<Seg>, NoMemory>
+    ensures { IfOk result (λ segs. segs.items ≡ []) }
+{
+    Ok(Vec::with_capacity(alloc, count)?)
+}
 
 fn push_segment(segs: &mut Vec<Seg>, from: GridPoint, to: GridPoint) -> Result<(), NoMemory>
     requires { AreUnlike from to }

@@ -9,7 +9,7 @@ ghost use Rattle.shape.specs.Frames.{AreFrames};
 ghost use Rattle.shape.specs.Given.{lines_in, polygons_in, IsCountable};
 ghost use Rattle.plane_terms.specs.ShapeFaults.{IsFault, IsFlawless};
 
-use crate::form::Form;
+use crate::form::{Form, boxed};
 use crate::line::Line;
 use crate::polygon::Polygon;
 use crate::same::{are_same_parts, are_same_rings};
@@ -58,7 +58,7 @@ impl Shape {
         ensures refused { IfErr result (λ fault. IsFault (shape_of kind.Line (lines_in parts.items)) fault) }
     {
         Ok(Shape {
-            form: Form::Line(Line::of(alloc, parts)?),
+            form: Form::Line(boxed(alloc, Line::of(alloc, parts)?)?),
         })
     }
 
@@ -73,7 +73,7 @@ impl Shape {
         ensures refused { IfErr result (λ fault. IsFault (shape_of kind.Polygon (polygons_in parts.items)) fault) }
     {
         Ok(Shape {
-            form: Form::Polygon(Polygon::of(alloc, parts)?),
+            form: Form::Polygon(boxed(alloc, Polygon::of(alloc, parts)?)?),
         })
     }
 
@@ -237,10 +237,10 @@ impl Shape {
         match &self.form {
             Form::Point(place) => Ok(Shape::point(*place)),
             Form::Line(line) => Ok(Shape {
-                form: Form::Line(line.try_copy(alloc)?),
+                form: Form::Line(boxed(alloc, line.try_copy(alloc)?)?),
             }),
             Form::Polygon(polygon) => Ok(Shape {
-                form: Form::Polygon(polygon.try_copy(alloc)?),
+                form: Form::Polygon(boxed(alloc, polygon.try_copy(alloc)?)?),
             }),
         }
     }

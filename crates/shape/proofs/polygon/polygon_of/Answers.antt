@@ -19,7 +19,7 @@ pub push_polygons-requires : goal.push_polygons-requires
 push_polygons-requires c =
     let full =
     subst (λ (qs : List (Vec Ring Global)). IsFull (polygon_shape qs)) c.deref.ensures.value c.in_ok-check_polygon.ensures.full in
-    subst (λ (qs : List (Vec Ring Global)). Every (Every IsClosing) (polygons_in qs)) (sym c.deref-2.ensures.value)
+    subst (λ (qs : List (Vec Ring Global)). Every (Every IsClosing) (polygons_in qs)) (sym c.deref-3.ensures.value)
     (in_parts (polygons_in c.args.parts.items) (c.requires.closing full))
 
 pub check_pairs-requires-clause-few : goal.check_pairs-requires-clause-few
@@ -28,13 +28,13 @@ check_pairs-requires-clause-few c =
     subst (λ (qs : List (Vec Ring Global)). IsFull (polygon_shape qs)) c.deref.ensures.value c.in_ok-check_polygon.ensures.full in
     let segs =
     c.in_ok-push_polygons.ensures
-    ∙ ap (λ (ss : List Segment). ss ++ flat_map closed_path (all_rings (polygons_in c.deref-2.result.now))) c.new-segs.ensures.items
-    ∙ ap (λ (qs : List (Vec Ring Global)). flat_map closed_path (all_rings (polygons_in qs))) c.deref-2.ensures.value in
+    ∙ ap (λ (ss : List Segment). ss ++ flat_map closed_path (all_rings (polygons_in c.deref-3.result.now))) c.in_ok-segs.ensures
+    ∙ ap (λ (qs : List (Vec Ring Global)). flat_map closed_path (all_rings (polygons_in qs))) c.deref-3.ensures.value in
     omega (
       arith,
       full.few,
       segments_count (all_rings (polygons_in c.args.parts.items)),
-      ap (λ (ss : List Segment). length ss) (c.deref-4.ensures.value ∙ segs),
+      ap (λ (ss : List Segment). length ss) (c.deref-5.ensures.value ∙ segs),
     )
 
 pub returns-in_err-check_pairs-clause-refused : goal.returns-in_err-check_pairs-clause-refused
@@ -43,11 +43,11 @@ returns-in_err-check_pairs-clause-refused c =
     subst (λ (qs : List (Vec Ring Global)). IsFull (polygon_shape qs)) c.deref.ensures.value c.in_ok-check_polygon.ensures.full in
     let segs =
     c.in_ok-push_polygons.ensures
-    ∙ ap (λ (ss : List Segment). ss ++ flat_map closed_path (all_rings (polygons_in c.deref-2.result.now))) c.new-segs.ensures.items
-    ∙ ap (λ (qs : List (Vec Ring Global)). flat_map closed_path (all_rings (polygons_in qs))) c.deref-2.ensures.value in
+    ∙ ap (λ (ss : List Segment). ss ++ flat_map closed_path (all_rings (polygons_in c.deref-3.result.now))) c.in_ok-segs.ensures
+    ∙ ap (λ (qs : List (Vec Ring Global)). flat_map closed_path (all_rings (polygons_in qs))) c.deref-3.ensures.value in
     let fault = c.in_err-check_pairs.field-0.0 in
     let h : IsPairFault (segments_of (polygon_shape c.args.parts.items)) fault =
-    subst (λ (ss : List Segment). IsPairFault ss fault) (c.deref-4.ensures.value ∙ segs) c.in_err-check_pairs.ensures.refused in
+    subst (λ (ss : List Segment). IsPairFault ss fault) (c.deref-5.ensures.value ∙ segs) c.in_err-check_pairs.ensures.refused in
     err_from c.from_residual-in_err-check_pairs.result fault (λ e. IsFault (polygon_shape c.args.parts.items) e)
     c.from_residual-in_err-check_pairs.ensures.1 (pair_fault (polygon_shape c.args.parts.items) refl full fault h)
 
@@ -58,16 +58,16 @@ returns-clause-drawn c =
     subst (λ (qs : List (Vec Ring Global)). IsFull (polygon_shape qs)) c.deref.ensures.value c.in_ok-check_polygon.ensures.full in
     let segs =
     c.in_ok-push_polygons.ensures
-    ∙ ap (λ (ss : List Segment). ss ++ flat_map closed_path (all_rings (polygons_in c.deref-2.result.now))) c.new-segs.ensures.items
-    ∙ ap (λ (qs : List (Vec Ring Global)). flat_map closed_path (all_rings (polygons_in qs))) c.deref-2.ensures.value in
+    ∙ ap (λ (ss : List Segment). ss ++ flat_map closed_path (all_rings (polygons_in c.deref-3.result.now))) c.in_ok-segs.ensures
+    ∙ ap (λ (qs : List (Vec Ring Global)). flat_map closed_path (all_rings (polygons_in qs))) c.deref-3.ensures.value in
     let reach =
-    subst (λ (qs : List (Vec Ring Global)). Every IsInReach (vertices_of (polygon_shape qs))) c.deref-7.ensures.value
+    subst (λ (qs : List (Vec Ring Global)). Every IsInReach (vertices_of (polygon_shape qs))) c.deref-8.ensures.value
     c.box_of_polygon-env.ensures.reach in
-    let simple = subst (λ (ss : List Segment). EveryPair AreSimple ss) c.deref-4.ensures.value c.in_ok-check_pairs.ensures.simple in
+    let simple = subst (λ (ss : List Segment). EveryPair AreSimple ss) c.deref-5.ensures.value c.in_ok-check_pairs.ensures.simple in
     polygon_drawn ps c.push_polygons.new.segs.items c.box_of_polygon-env.result c.in_ok-frames.frames.items full (c.requires.closing full) reach segs simple
-    (c.box_of_polygon-env.ensures.value ∙ ap (λ (qs : List (Vec Ring Global)). envelope_of (polygon_shape qs)) c.deref-7.ensures.value)
-    (subst (Every IsSegment) c.deref-6.ensures.value c.segments_law.ensures)
-    (subst (AreFrames c.in_ok-frames.frames.items) c.deref-3.ensures.value c.in_ok-frames.ensures)
+    (c.box_of_polygon-env.ensures.value ∙ ap (λ (qs : List (Vec Ring Global)). envelope_of (polygon_shape qs)) c.deref-8.ensures.value)
+    (subst (Every IsSegment) c.deref-7.ensures.value c.segments_law.ensures)
+    (subst (AreFrames c.in_ok-frames.frames.items) c.deref-4.ensures.value c.in_ok-frames.ensures)
 
 pub returns-clause-flawless : goal.returns-clause-flawless
 returns-clause-flawless c =
@@ -75,8 +75,8 @@ returns-clause-flawless c =
     subst (λ (qs : List (Vec Ring Global)). IsFull (polygon_shape qs)) c.deref.ensures.value c.in_ok-check_polygon.ensures.full in
     let segs =
     c.in_ok-push_polygons.ensures
-    ∙ ap (λ (ss : List Segment). ss ++ flat_map closed_path (all_rings (polygons_in c.deref-2.result.now))) c.new-segs.ensures.items
-    ∙ ap (λ (qs : List (Vec Ring Global)). flat_map closed_path (all_rings (polygons_in qs))) c.deref-2.ensures.value in
+    ∙ ap (λ (ss : List Segment). ss ++ flat_map closed_path (all_rings (polygons_in c.deref-3.result.now))) c.in_ok-segs.ensures
+    ∙ ap (λ (qs : List (Vec Ring Global)). flat_map closed_path (all_rings (polygons_in qs))) c.deref-3.ensures.value in
     full_flawless (polygon_shape c.args.parts.items) full
-    (λ _. subst (λ (ss : List Segment). (i j : ℕ) → ¬ (IsPair AreBad ss i j)) (c.deref-4.ensures.value
+    (λ _. subst (λ (ss : List Segment). (i j : ℕ) → ¬ (IsPair AreBad ss i j)) (c.deref-5.ensures.value
     ∙ segs) c.in_ok-check_pairs.ensures.none)

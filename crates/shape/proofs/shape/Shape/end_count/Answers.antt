@@ -3,13 +3,14 @@ use Rattle.plane_terms.specs.Shape.{Shape, ends_of}
 use Rattle.shape.specs.Form.{shape_in, IsFormed}
 use Rattle.shape.specs.declared.form.Form.{Form}
 use Rattle.shape.specs.declared.form.Form.TheVariants as form
+use Rattle.shape.specs.declared.line.Line.{Line}
 use Rattle.shape.proofs.Held.{held_long}
 use Rattle.shape.proofs.shape.Shape.end_count.Goals as goal
 
 pub returns-in-Line : goal.returns-in-Line
 returns-in-Line c =
-    let ps = c.in-Line.line.parts.items in
+    let ps = c.in-Line.line.value.parts.items in
     let d : IsFormed (form.Line c.in-Line.line) = subst (λ (f : Form). IsFormed f) c.in-Line.is c.self.invariant in
     let same =
     ap (λ (f : Form). length (ends_of (shape_in f))) (sym c.in-Line.is) ∙ ap (λ (s : Shape). length (ends_of s)) c.self.view_is in
-    held_long ps c.len.result d.valid (omega (arith, c.len.ensures, c.in-Line.line.parts.ok)) ∙ same
+    held_long ps c.len.result d.valid (omega (arith, c.len.ensures, c.deref.result.now.parts.ok, ap (λ (l : Line). length l.parts.items) c.deref.ensures)) ∙ same
