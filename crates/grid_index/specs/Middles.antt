@@ -5,7 +5,7 @@
 -- spread m ps       the digits in which the middles of ps differ from m
 -- is_beside k a b   the test whether a and b agree in all digits from k on: they lie in one square, of a side of 2 to the power k
 -- is_round k a b    the test whether they agree in all digits above k: they lie in one square of twice that side
--- IsCrowded ps a b  ps are 16 or more, and a and b differ
+-- IsCrowded ps a b  ps are 32 or more, and a and b differ
 use Rattle.std.specs.Prelude.{◌≢◌, ℕ, ◌+◌, ◌/◌, ◌^◌, ◌≤◌, negsuc, ◌-ℤ◌, unsigned_abs, Bool, List, length, bit_or, bit_xor, nat_eq, nat_le}
 use Rattle.std.specs.List.{fold}
 use Rattle.plane_terms.specs.Rectangle.{Rectangle}
@@ -31,4 +31,4 @@ abbrev pub is_round : ℕ → Middle → Middle → Bool
 is_round k a b = nat_le (apart a b / 2 ^ k) 1
 
 abbrev pub IsCrowded : List Placed → Middle → Middle → Type 0
-IsCrowded ps a b = (16 ≤ length ps) × (apart a b ≢ 0)
+IsCrowded ps a b = (32 ≤ length ps) × (apart a b ≢ 0)

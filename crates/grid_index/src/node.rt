@@ -18,7 +18,7 @@ use std::marker::Model;
 use std::mem;
 
 /// A node that holds so many rectangles itself is divided before it takes one that lies elsewhere.
-const FULL: usize = 16;
+const FULL: usize = 32;
 
 /// A node of the tree: rectangles whose middles lie in one square, and whose reach holds them all. It holds them itself, or by
 /// the quarters of the square. What a question finds rests on the reaches alone; where a rectangle is put makes it quick.
