@@ -41,8 +41,9 @@ all_same r ps qs all same q h = all q ((same q).0 h)
 held_test : (r s : Rectangle) → IsWithin r s → is_within r s ≡ true
 held_test r s w = grind (arith, ints)
 
-pub adds_beyond : (r s : Rectangle) (ps : List Placed) (ns : List ℕ) → AreWithin s ps → rects_meet r s ≡ false → Adds r (Contains ps) ns ns
-adds_beyond r s ps ns all apart = adds_same r (λ p. ⊥) (Contains ps) ns ns (adds_none r (λ p. ⊥) ns (λ p h. h))
+pub adds_beyond : {A : Type 0} (f : Placed → A) (r s : Rectangle) (ps : List Placed) (xs : List A) → AreWithin s ps → rects_meet r s ≡ false
+    → Adds f r (Contains ps) xs xs
+adds_beyond f r s ps xs all apart = adds_same f r (λ p. ⊥) (Contains ps) xs xs (adds_none f r (λ p. ⊥) xs (λ p h. h))
     (λ p h. absurd h)
     (λ p h e. absurd (false≢true (sym apart ∙ meets_wider r p.rect s (all p h) e)))
 

@@ -5,8 +5,11 @@
 -- Gains ps qs p      qs holds p and what ps holds
 -- Loses ps qs p      qs holds what ps holds, without p
 -- IsNear r ps a      a is the handle of a rectangle of ps that r meets; touching is meeting
--- IsMet r P a        the same of the placed rectangles of which P holds
--- Adds r P ns ms     ms holds what ns holds, and the handles of the rectangles of which P holds and that r meets
+-- IsNearRect r ps s  s is a rectangle of ps that r meets
+-- IsMet f r P x      x is what f tells of a placed rectangle of which P holds and that r meets
+-- Adds f r P xs ys   ys holds what xs holds, and what f tells of the placed rectangles of which P holds and that r meets
+-- AddsHandles, AddsRects    the same of their handles, and of the rectangles themselves
+-- handle_of, rectangle_of     the handle and the rectangle of what is placed
 -- is_placed p q      the test whether q is p: the same rectangle under the same handle
 use Rattle.std.specs.Prelude.{◌≡◌, ◌≢◌, ◌⊎◌, ◌↔◌, ℕ, Bool, true, ◌&&◌, List, Contains, nat_eq}
 use Rattle.std.specs.Ordering.{int_eq}
@@ -22,14 +25,29 @@ Gains ps qs p = (q : Placed) → Contains qs q ↔ (Contains ps q ⊎ (q ≡ p))
 abbrev pub Loses : List Placed → List Placed → Placed → Type 0
 Loses ps qs p = (q : Placed) → Contains qs q ↔ (Contains ps q × (q ≢ p))
 
-abbrev pub IsMet : Rectangle → (Placed → Type 0) → ℕ → Type 0
-IsMet r P a = (p : Placed) × P p × (p.handle ≡ a) × (rects_meet r p.rect ≡ true)
+abbrev pub handle_of : Placed → ℕ
+handle_of p = p.handle
+
+abbrev pub rectangle_of : Placed → Rectangle
+rectangle_of p = p.rect
+
+abbrev pub IsMet : {A : Type 0} → (Placed → A) → Rectangle → (Placed → Type 0) → A → Type 0
+IsMet f r P x = (p : Placed) × P p × (f p ≡ x) × (rects_meet r p.rect ≡ true)
 
 abbrev pub IsNear : Rectangle → List Placed → ℕ → Type 0
-IsNear r ps a = IsMet r (Contains ps) a
+IsNear r ps a = IsMet handle_of r (Contains ps) a
 
-abbrev pub Adds : Rectangle → (Placed → Type 0) → List ℕ → List ℕ → Type 0
-Adds r P ns ms = (a : ℕ) → Contains ms a ↔ (Contains ns a ⊎ IsMet r P a)
+abbrev pub IsNearRect : Rectangle → List Placed → Rectangle → Type 0
+IsNearRect r ps s = IsMet rectangle_of r (Contains ps) s
+
+abbrev pub Adds : {A : Type 0} → (Placed → A) → Rectangle → (Placed → Type 0) → List A → List A → Type 0
+Adds f r P xs ys = (x : _) → Contains ys x ↔ (Contains xs x ⊎ IsMet f r P x)
+
+abbrev pub AddsHandles : Rectangle → (Placed → Type 0) → List ℕ → List ℕ → Type 0
+AddsHandles r P ns ms = Adds handle_of r P ns ms
+
+abbrev pub AddsRects : Rectangle → (Placed → Type 0) → List Rectangle → List Rectangle → Type 0
+AddsRects r P ss ts = Adds rectangle_of r P ss ts
 
 abbrev pub is_placed : Placed → Placed → Bool
 is_placed p q = nat_eq p.handle q.handle && (int_eq p.rect.x0 q.rect.x0 && (int_eq p.rect.y0 q.rect.y0 &&

@@ -1,7 +1,8 @@
 ghost use Rattle.std.specs.Prelude.{◌≡◌, ◌↔◌, ◌<◌, ◌≤◌, ℕ, [], length, slice_get, Contains, IfOk, OnOk, OnErr, IsSomeAnd};
 ghost use Rattle.std.specs.List.{list_any};
 ghost use Rattle.std.specs.List.Sorted.{IsStrictlyIncreasing};
-ghost use Rattle.grid_index.specs.Near.{HoldsSame, Gains, Loses, IsNear, Adds};
+ghost use Rattle.plane_terms.specs.Rectangle.{Rectangle};
+ghost use Rattle.grid_index.specs.Near.{HoldsSame, Gains, Loses, IsNear, IsNearRect, AddsRects};
 ghost use Rattle.grid_index.specs.Relations.{is_found};
 
 use crate::middle::Middle;
@@ -9,7 +10,7 @@ use crate::node::Node;
 use crate::once::once_each;
 use crate::placed::Placed;
 use crate::relation::Relation;
-use crate::siblings::{add_from_each, any_has, put_in, take_from};
+use crate::siblings::{add_from_each, add_met_of_each, any_has, put_in, take_from};
 use grid_plane::{NoMemory, Rect};
 use std::alloc::Global;
 use std::marker::Model;
@@ -74,6 +75,16 @@ impl Index {
         let mut found = Vec::with_capacity(alloc, FEW)?;
         add_from_each(&self.nodes, r, &mut found)?;
         once_each(&mut found);
+        Ok(found)
+    }
+
+    /// The rectangles that meet this one, in any order; touching is meeting. It looks only into nodes whose reach meets this
+    /// rectangle.
+    pub fn met(&self, alloc: Global, r: &Rect) -> Result<Vec<Rect>, NoMemory>
+        ensures { IfOk result (λ v. (s : Rectangle) → Contains v.items s ↔ IsNearRect r.now self.now s) }
+    {
+        let mut found = Vec::new(alloc);
+        add_met_of_each(&self.nodes, r, &mut found)?;
         Ok(found)
     }
 

@@ -1,16 +1,16 @@
 ghost use Rattle.std.specs.Prelude.{◌≡◌, ◌<◌, ◌∷◌, [], true, IsTrue, ◌↔◌, Contains, IfOk, OnOk, OnErr};
 ghost use Rattle.std.specs.List.{list_any};
-ghost use Rattle.grid_index.specs.Near.{HoldsSame, Gains, Loses, Adds};
+ghost use Rattle.grid_index.specs.Near.{HoldsSame, Gains, Loses, AddsHandles, AddsRects};
 ghost use Rattle.grid_index.specs.Middles.{middle_of, IsCrowded};
 ghost use Rattle.grid_index.specs.Nodes.{AreWithin};
 ghost use Rattle.grid_index.specs.Relations.{is_found};
 
 use crate::middle::Middle;
-use crate::placed::{Placed, add_met, any_found, drop_placed};
+use crate::placed::{Placed, add_met, add_met_rects, any_found, drop_placed};
 use crate::reach::{reach_of, reach_of_both};
 use crate::relation::Relation;
 use crate::siblings::{
-    add_from_each, any_has, divided, push_in, put_in, reach_of_nodes, take_from,
+    add_from_each, add_met_of_each, any_has, divided, push_in, put_in, reach_of_nodes, take_from,
 };
 use grid_plane::{NoMemory, Rect};
 use std::alloc::Global;
@@ -191,13 +191,25 @@ impl Node {
     /// Adds the handles of the rectangles that this one meets.
     #[cycle(near)]
     pub(crate) fn add_near(&self, r: &Rect, found: &mut Vec<u32>) -> Result<(), NoMemory>
-        ensures { OnOk result (Adds r.now (Contains self.now.items) found.old.items found.new.items) }
+        ensures { OnOk result (AddsHandles r.now (Contains self.now.items) found.old.items found.new.items) }
     {
         if !r.meets(&self.reach) {
             return Ok(());
         }
         add_met(&self.placed, r, found)?;
         add_from_each(&self.quarters, r, found)
+    }
+
+    /// Adds the rectangles that this one meets.
+    #[cycle(met)]
+    pub(crate) fn add_met(&self, r: &Rect, found: &mut Vec<Rect>) -> Result<(), NoMemory>
+        ensures { OnOk result (AddsRects r.now (Contains self.now.items) found.old.items found.new.items) }
+    {
+        if !r.meets(&self.reach) {
+            return Ok(());
+        }
+        add_met_rects(&self.placed, r, found)?;
+        add_met_of_each(&self.quarters, r, found)
     }
 
     /// Whether it holds a rectangle that meets this one, and stands to it as the relation says.

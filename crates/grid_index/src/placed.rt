@@ -1,6 +1,6 @@
 ghost use Rattle.std.specs.Prelude.{◌≡◌, [], ◌∷◌, ◌++◌, if◌then◌else◌, not, filter, Contains, OnOk};
 ghost use Rattle.std.specs.List.{list_any};
-ghost use Rattle.grid_index.specs.Near.{is_placed, Adds};
+ghost use Rattle.grid_index.specs.Near.{is_placed, AddsHandles, AddsRects};
 ghost use Rattle.grid_index.specs.Relations.{is_found};
 
 use crate::relation::Relation;
@@ -56,10 +56,33 @@ fn push_if(found: &mut Vec<u32>, test: bool, handle: u32) -> Result<(), NoMemory
 
 /// Puts the handles of those of the list that the rectangle meets last.
 pub(crate) fn add_met(list: &[Placed], r: &Rect, found: &mut Vec<u32>) -> Result<(), NoMemory>
-    ensures { OnOk result (Adds r.now (Contains list.now) found.old.items found.new.items) }
+    ensures { OnOk result (AddsHandles r.now (Contains list.now) found.old.items found.new.items) }
 {
     for placed in list {
         push_if(found, r.meets(&placed.rect), placed.handle)?;
+    }
+    Ok(())
+}
+
+fn push_rect_if(found: &mut Vec<Rect>, test: bool, rect: Rect) -> Result<(), NoMemory>
+    ensures { OnOk result (found.new.items ≡ found.old.items ++ (if test then rect ∷ [] else [])) }
+{
+    if test {
+        found.push(rect)?;
+    }
+    Ok(())
+}
+
+/// Puts those rectangles of the list that this one meets last.
+pub(crate) fn add_met_rects(
+    list: &[Placed],
+    r: &Rect,
+    found: &mut Vec<Rect>,
+) -> Result<(), NoMemory>
+    ensures { OnOk result (AddsRects r.now (Contains list.now) found.old.items found.new.items) }
+{
+    for placed in list {
+        push_rect_if(found, r.meets(&placed.rect), placed.rect)?;
     }
     Ok(())
 }

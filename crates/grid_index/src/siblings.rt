@@ -1,6 +1,6 @@
 ghost use Rattle.std.specs.Prelude.{◌≡◌, ◌<◌, true, length, slice_get, Contains, IfOk, OnOk, OnErr, IfSome, IsSomeAnd};
 ghost use Rattle.std.specs.List.{list_any};
-ghost use Rattle.grid_index.specs.Near.{HoldsSame, Gains, Loses, Adds};
+ghost use Rattle.grid_index.specs.Near.{HoldsSame, Gains, Loses, AddsHandles, AddsRects};
 ghost use Rattle.grid_index.specs.Middles.{is_beside};
 ghost use Rattle.grid_index.specs.Nodes.{all_items, IsReach};
 ghost use Rattle.grid_index.specs.Relations.{is_found};
@@ -143,10 +143,25 @@ pub(crate) fn reach_of_nodes(nodes: &[Node]) -> Option<Rect>
 /// Adds the handles of the rectangles that this one meets.
 #[cycle(near)]
 pub(crate) fn add_from_each(nodes: &[Node], r: &Rect, found: &mut Vec<u32>) -> Result<(), NoMemory>
-    ensures { OnOk result (Adds r.now (Contains (all_items nodes.now)) found.old.items found.new.items) }
+    ensures { OnOk result (AddsHandles r.now (Contains (all_items nodes.now)) found.old.items found.new.items) }
 {
     for node in nodes {
         node.add_near(r, found)?;
+    }
+    Ok(())
+}
+
+/// Adds the rectangles that this one meets.
+#[cycle(met)]
+pub(crate) fn add_met_of_each(
+    nodes: &[Node],
+    r: &Rect,
+    found: &mut Vec<Rect>,
+) -> Result<(), NoMemory>
+    ensures { OnOk result (AddsRects r.now (Contains (all_items nodes.now)) found.old.items found.new.items) }
+{
+    for node in nodes {
+        node.add_met(r, found)?;
     }
     Ok(())
 }

@@ -3,24 +3,24 @@ use Rattle.std.proofs.lemmas.List.{take_all}
 use Rattle.std.specs.Prelude.{OnOk}
 use Rattle.grid_index.specs.Nodes.{NodeView, all_items, height_over}
 use Rattle.std.proofs.lemmas.Result.{on_ok_weaker}
-use Rattle.grid_index.specs.Near.{Adds}
+use Rattle.grid_index.specs.Near.{AddsHandles, handle_of}
 use Rattle.grid_index.proofs.Adding.{adds_joined}
 use Rattle.grid_index.proofs.Reaches.{adds_beyond}
 use Rattle.grid_index.proofs.Nodes.{nodes_more}
 use Rattle.grid_index.proofs.+near.Goals as goal
 
 pub siblings::add_from_each-loop-node-preserved : goal.siblings::add_from_each-loop-node-preserved
-siblings::add_from_each-loop-node-preserved t c = nodes_more c.args.r.now c.args.nodes.now c.loop-node.node-index c.node-item.result c.args.found.now.items
+siblings::add_from_each-loop-node-preserved t c = nodes_more handle_of c.args.r.now c.args.nodes.now c.loop-node.node-index c.node-item.result c.args.found.now.items
     c.loop-node.found.items c.add_near.new.found.items c.loop-node-test.true c.node-item.is c.loop-node.invariant
     c.in_ok-add_near.ensures
 
 pub siblings::add_from_each-returns : goal.siblings::add_from_each-returns
-siblings::add_from_each-returns t c = subst (λ ns. Adds c.args.r.now (Contains (all_items ns)) c.args.found.now.items c.loop-node.found.items)
+siblings::add_from_each-returns t c = subst (λ ns. AddsHandles c.args.r.now (Contains (all_items ns)) c.args.found.now.items c.loop-node.found.items)
     (take_all c.loop-node.node-index c.args.nodes.now (omega arith)) c.loop-node.invariant
 
 pub node::Node::add_near-returns-then-not-meets : goal.node::Node::add_near-returns-then-not-meets
-node::Node::add_near-returns-then-not-meets t c = subst (λ (n : NodeView). Adds c.args.r.now (Contains n.items) c.args.found.now.items c.args.found.now.items) c.self.view_is
-    (adds_beyond c.args.r.now c.self.inside.reach (c.self.inside.placed.items ++ all_items c.self.inside.quarters.items) c.args.found.now.items
+node::Node::add_near-returns-then-not-meets t c = subst (λ (n : NodeView). AddsHandles c.args.r.now (Contains n.items) c.args.found.now.items c.args.found.now.items) c.self.view_is
+    (adds_beyond handle_of c.args.r.now c.self.inside.reach (c.self.inside.placed.items ++ all_items c.self.inside.quarters.items) c.args.found.now.items
     c.self.invariant.0 (sym c.meets.ensures.value ∙ c.if-not-meets.true))
 
 pub node::Node::add_near-add_from_each-requires : goal.node::Node::add_near-add_from_each-requires
@@ -30,8 +30,8 @@ node::Node::add_near-add_from_each-requires t c =
     (omega (arith, c.decreases), tt)
 
 pub node::Node::add_near-returns : goal.node::Node::add_near-returns
-node::Node::add_near-returns t c = subst (λ (n : NodeView). OnOk c.add_from_each.result (Adds c.args.r.now (Contains n.items) c.args.found.now.items c.add_from_each.new.found.items)) c.self.view_is
+node::Node::add_near-returns t c = subst (λ (n : NodeView). OnOk c.add_from_each.result (AddsHandles c.args.r.now (Contains n.items) c.args.found.now.items c.add_from_each.new.found.items)) c.self.view_is
     (on_ok_weaker c.add_from_each.result
-    (λ second. adds_joined c.args.r.now c.self.inside.placed.items (all_items c.self.inside.quarters.items) c.args.found.now.items c.add_met.new.found.items
+    (λ second. adds_joined handle_of c.args.r.now c.self.inside.placed.items (all_items c.self.inside.quarters.items) c.args.found.now.items c.add_met.new.found.items
     c.add_from_each.new.found.items (rw c.deref.ensures.value at c.in_ok-add_met.ensures) second)
     (rw c.deref-2.ensures.value at c.add_from_each.ensures))
