@@ -1,6 +1,6 @@
 -- What an index over a list of dirt finds, and how it follows the list.
 use Rattle.std.proofs.Common.{◌≡◌, inl, inr, refl, sym, ap, ◌∙◌, subst, ℕ, ◌+◌, ◌<◌, Bool, true, false, not, List, [], ◌∷◌, ◌++◌, Contains, take, length, get_or, arith, append_assoc, Option, Some, Result, Ok, Err}
-use Rattle.std.specs.Prelude.{slice_get, IfSome, IfOk}
+use Rattle.std.specs.Prelude.{◌↔◌, slice_get, IfSome, IfOk}
 use Rattle.std.specs.Result.{result_ok}
 use Rattle.std.specs.List.{list_any, filter}
 use Rattle.std.proofs.lemmas.Bool.{and_parts, and_from, or_cases, not_from_false, false≢true}
@@ -17,10 +17,11 @@ use Rattle.sound_laws.proofs.Planes.{within_from_test}
 use Rattle.grid_index.specs.declared.placed.Placed.{Placed}
 use Rattle.grid_index.specs.declared.relation.Relation.{Relation}
 use Rattle.grid_index.specs.declared.relation.Relation.TheVariants.{Meets, Holds, IsNested}
-use Rattle.grid_index.specs.Near.{Gains, Loses}
+use Rattle.grid_index.specs.Near.{Gains, Loses, IsNearRect}
 use Rattle.grid_index.specs.Relations.{stands, is_found}
 use Rattle.grid_index.proofs.Members.{among, filtered_from, filtered_to}
 use Rattle.dirty_area.specs.Indexed.{IsIndexed, IsTrimmed, IsWithout, IsTraded, placed_of}
+use Rattle.dirty_area.specs.Parts.{AreNear}
 
 -- ---- an index that is there
 pub in_some : {A : Type 0} (P : A → Type 0) (o : Option A) (x : A) → o ≡ Some x → IfSome o P → P x
@@ -66,6 +67,25 @@ found_indexed k d ps r all one indexed = same_by_truth (list_any (is_found k r) 
         let c = (indexed (placed_of s)).1 ((a.0, a.2, a.3), refl) in
         list_any_at (is_found k r) ps c.0 (placed_of s) c.1
         (ap (is_found k r) c.2 ∙ and_from (rects_meet r s) (stands k s r) m a.4)
+
+-- ---- those that meet a rectangle
+pub near_indexed : (d : List Rectangle) (ps : List Placed) (r : Rectangle) (ms : List Rectangle) → IsIndexed d ps
+    → ((s : Rectangle) → Contains ms s ↔ IsNearRect r ps s) → AreNear d r ms
+near_indexed d ps r ms indexed near s = (
+  (λ h.
+      let m = (near s).0 h in
+      let c = ((indexed m.0).0 m.1).0 in
+      (subst (λ o. Contains d o) m.2 c, meets_back r s (subst (λ o. rects_meet r o ≡ true) m.2 m.3))),
+  (λ h. (near s).1 (placed_of s, (indexed (placed_of s)).1 (h.0, refl), refl, meets_back s r h.1)),
+)
+
+pub near_filtered : (d : List Rectangle) (r : Rectangle) (ms : List Rectangle) → ms ≡ filter (λ s. rects_meet s r) d → AreNear d r ms
+near_filtered d r ms e s = (
+  (λ h.
+      let k = filtered_from (λ o. rects_meet o r) d s (among _ s (subst (λ l. Contains l s) e h)) in
+      (contains_among d s k.0, k.1)),
+  (λ h. subst (λ l. Contains l s) (sym e) (contains_among _ s (filtered_to (λ o. rects_meet o r) d s (among d s h.0) h.1))),
+)
 
 -- ---- one rectangle more
 same_placed : (r : Rectangle) (q : Placed) → q.rect ≡ r → q.handle ≡ 0 → q ≡ placed_of r

@@ -3,8 +3,9 @@
 -- IsDirt d             rectangles of the grid, of which none lies in another
 -- IsCommon m r w       r and w meet, and m is the rectangle that both have in common
 -- IsApart r w s        s lies beside the window w, and neither of r and s lies in the other
+-- AreNear d r ms       ms are the rectangles of d that meet r
 -- IsSplit d ps P       ps are of d, and of the others of d P holds
-use Rattle.std.specs.Prelude.{◌≡◌, ◌⊎◌, false, List, Contains}
+use Rattle.std.specs.Prelude.{◌≡◌, ◌↔◌, ◌⊎◌, true, false, List, Contains}
 use Rattle.plane_terms.specs.Lists.{Every}
 use Rattle.plane_terms.specs.Rectangle.{Rectangle, IsRectangle, RectsMeet, part_of, rects_meet}
 use Rattle.plane_terms.specs.Dirt.{AreLoose, IsLoose}
@@ -20,6 +21,9 @@ pub record IsCommon (m r w : Rectangle) : Type 0 where
 pub record IsApart (r w s : Rectangle) : Type 0 where
   pub beside : rects_meet s w ≡ false
   pub loose : AreLoose r s
+
+abbrev pub AreNear : List Rectangle → Rectangle → List Rectangle → Type 0
+AreNear d r ms = (s : Rectangle) → Contains ms s ↔ (Contains d s × (rects_meet s r ≡ true))
 
 pub record IsSplit (d ps : List Rectangle) (P : Rectangle → Type 0) : Type 0 where
   pub within : (s : Rectangle) → Contains ps s → Contains d s

@@ -6,7 +6,7 @@ ghost use Rattle.plane_terms.specs.Rectangle.{RectHolds, IsRectangle, is_within,
 ghost use Rattle.plane_terms.specs.Dirt.{MeetsPart, Covers, MeetsDirt, add_dirt, add_all, cut_dirt};
 ghost use Rattle.grid_index.specs.Relations.{stands};
 ghost use Rattle.dirty_area.specs.Cuts.{IsCut};
-ghost use Rattle.dirty_area.specs.Parts.{IsDirt};
+ghost use Rattle.dirty_area.specs.Parts.{IsDirt, AreNear};
 
 use crate::cut::{Cut, cut_of};
 use crate::finder::Finder;
@@ -101,6 +101,13 @@ impl Dirt {
         self.finder.has(&self.rects, r, Relation::Meets)
     }
 
+    /// The rectangles of the list that meet this one, in any order; touching is meeting.
+    pub fn near(&self, alloc: Global, r: &Rect) -> Result<Vec<Rect>, NoMemory>
+        ensures { IfOk result (λ ms. AreNear self.now r.now ms.items) }
+    {
+        self.finder.near(alloc, &self.rects, r)
+    }
+
     /// Whether some dirty rectangle, the window and this rectangle have a common point.
     pub fn meets_part(&self, window: &Rect, r: &Rect) -> bool
         ensures { IsTrue result ↔ MeetsPart self.now window.now r.now }
@@ -117,6 +124,14 @@ impl Dirt {
     {
         r.corner_law();
         self.finder.has(&self.rects, r, Relation::IsNested)
+    }
+
+    /// Whether a rectangle of the list holds this one.
+    pub fn holds(&self, r: &Rect) -> bool
+        ensures { result ≡ list_any (λ s. is_within r.now s) self.now }
+    {
+        r.corner_law();
+        self.finder.has(&self.rects, r, Relation::Holds)
     }
 
     /// Whether a rectangle of the list stands so to this one. Counts as a look through the list.
@@ -190,14 +205,6 @@ impl Dirt {
         self.finder
             .settle(&self.rects, &cut.left, &cut.met, cut.pieces.rects());
         self.rects = cut.left;
-    }
-
-    /// Makes the index of a long list, before many questions: without one each question looks through the list. Where memory for
-    /// it runs out, it goes on without.
-    pub fn prepare(&mut self)
-        ensures { self.new ≡ self.old }
-    {
-        self.finder.prepare(&self.rects);
     }
 
     // Dirt of these rectangles, without an index.

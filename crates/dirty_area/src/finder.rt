@@ -1,10 +1,11 @@
 ghost use Rattle.std.specs.Prelude.{◌≡◌, [], ◌∷◌, ◌++◌, true, false, None, List, not, filter, IfSome, IfOk, OnOk};
 ghost use Rattle.std.specs.List.{list_any};
 ghost use Rattle.plane_terms.specs.Lists.{Every};
-ghost use Rattle.plane_terms.specs.Rectangle.{Rectangle, IsRectangle, is_within};
+ghost use Rattle.plane_terms.specs.Rectangle.{Rectangle, IsRectangle, is_within, rects_meet};
 ghost use Rattle.grid_index.specs.Near.{Gains, Loses};
 ghost use Rattle.grid_index.specs.Relations.{stands};
 ghost use Rattle.dirty_area.specs.Indexed.{IsIndexed, IsTraded, IsWithout, placed_of};
+ghost use Rattle.dirty_area.specs.Parts.{AreNear};
 
 use grid_index::{Index, Placed, Relation};
 use grid_plane::{NoMemory, Rect};
@@ -140,6 +141,15 @@ fn traded(index: Index, met: &[Rect], pieces: &[Rect]) -> Option<Index>
     }
 }
 
+// Those of the list that meet this one.
+fn met_of(alloc: Global, rects: &[Rect], r: &Rect) -> Result<Vec<Rect>, NoMemory>
+    ensures { IfOk result (λ ms. ms.items ≡ filter (λ s. rects_meet s r.now) rects.now) }
+{
+    let mut met = Vec::from_slice(alloc, rects)?;
+    met.retain(|s| s.meets(r));
+    Ok(met)
+}
+
 // Whether a rectangle of the list stands so to this one.
 fn any_standing(rects: &[Rect], r: &Rect, relation: Relation) -> bool
     ensures { result ≡ list_any (λ s. stands relation s r.now) rects.now }
@@ -180,6 +190,22 @@ impl Finder {
         match &self.index {
             Some(index) => index.has(r, relation),
             None => any_standing(rects, r, relation),
+        }
+    }
+
+    /// Those of the list that meet this rectangle, in any order.
+    pub(crate) fn near(
+        &self,
+        alloc: Global,
+        rects: &[Rect],
+        r: &Rect,
+    ) -> Result<Vec<Rect>, NoMemory>
+        requires { IfSome self.now (λ ps. IsIndexed rects.now ps) }
+        ensures { IfOk result (λ ms. AreNear rects.now r.now ms.items) }
+    {
+        match &self.index {
+            Some(index) => index.met(alloc, r),
+            None => met_of(alloc, rects, r),
         }
     }
 

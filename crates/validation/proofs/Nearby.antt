@@ -21,24 +21,13 @@ use Rattle.validation_laws.proofs.Handles.{rising}
 use Rattle.validation_laws.proofs.Counting.{live_those}
 use Rattle.validation_laws.proofs.Viewed.{view_filtered}
 use Rattle.grid_plane.specs.Rectangles.{IsJoin}
+use Rattle.dirty_area.proofs.Nearby.{some_place, place_some}
 use Rattle.grid_index.specs.Near.{IsNear}
 use Rattle.grid_index.specs.declared.placed.Placed.{Placed}
 use Rattle.validation.specs.Placed.{placed_of, ArePlaced, HasNear}
 use Rattle.validation.proofs.Elements.{all_before}
 
 -- ---- in another order
-some_place : {X : Type 0} (P : X → Type 0) (xs : List X) → SomeOf P xs → (x : X) × Contains xs x × P x
-some_place P [] h = absurd h
-some_place P (x ∷ xs) h = elim h [
-  | inl p ↦ (x, (0, omega arith, refl), p)
-  | inr k ↦ let y = some_place P xs k in (y.0, (suc y.1.0, omega (arith, y.1.1), y.1.2), y.2)
-]
-
-place_some : {X : Type 0} (P : X → Type 0) (xs : List X) (x : X) (k : ℕ) → k < length xs → get_or xs k x ≡ x → P x → SomeOf P xs
-place_some P [] x k l e p = absurd (omega arith)
-place_some P (y ∷ ys) x zero l e p = inl (subst P (sym e) p)
-place_some P (y ∷ ys) x (suc k) l e p = inr (place_some P ys x k (omega arith) e p)
-
 pub some_moved : {X : Type 0} (P : X → Type 0) (xs ys : List X) → IsPermutation xs ys → SomeOf P xs → SomeOf P ys
 some_moved P xs ys m h =
     let y = some_place P xs h in
