@@ -1,20 +1,22 @@
 -- What is left of cells, carved step by step.
 use Rattle.std.proofs.Common.{◌≡◌, ◌↔◌, ◌∙◌, ℕ, zero, suc, ◌+◌, ◌≤◌, nat_eq, false, not, IsTrue, List, [], ◌∷◌, length, take, inl, inr, refl, sym, subst, ap}
-use Rattle.std.specs.Prelude.{slice_get, Option, None, Some, IfSome, IsSomeAnd}
+use Rattle.std.specs.Prelude.{slice_get, Some}
 use Rattle.std.proofs.Math.Dec.{eqb-suc-zero}
 use Rattle.std.proofs.lemmas.Bool.{false≢true}
 use Rattle.std.proofs.lemmas.List.{take_all, nil_from_length}
 use Rattle.plane_terms.specs.Lists.{SomeOf}
 use Rattle.plane_terms.specs.Point.{Point}
 use Rattle.plane_terms.proofs.ListLemmas.{some_or_none}
-use Rattle.plane_terms.specs.Rectangle.{Rectangle, RectHolds, RectsMeet}
+use Rattle.plane_terms.specs.Rectangle.{Rectangle}
 use Rattle.plane_terms.specs.Cell.{Cell, InCell, InCells, HavePoints}
 use Rattle.plane_terms.specs.Carve.{carve_of}
-use Rattle.plane_terms.specs.Dirt.{Covers, MeetsDirt}
+use Rattle.plane_terms.specs.Dirt.{Covers}
 use Rattle.cell_laws.proofs.Lists.{all_append, some_append}
 use Rattle.cell_laws.proofs.Meets.{carve_points, kept_have_points}
 use Rattle.validation_laws.proofs.Joining.{take_one}
 use Rattle.rule_laws.proofs.Covered.{in_or_not}
+use Rattle.dirty_area.specs.Parts.{AreNear}
+use Rattle.dirty_area.proofs.Nearby.{near_covers}
 use Rattle.sound_check.specs.Rest.{IsRest, IsWithinOff}
 use Rattle.sound_check.specs.Frames.{HoldsAll}
 
@@ -78,38 +80,19 @@ pub have_more : (cs : List Cell) (i : ℕ) (c : Cell) → slice_get cs i ≡ Som
 have_more cs i c e h k = subst HavePoints (sym (take_one cs i c e)) ((all_append _ (take i cs) (c ∷ [])).1 (h, k))
 
 -- ---- the frame of the cells
--- a rectangle beside a frame that holds the cells takes nothing away
-pub rest_apart : (f : Option Rectangle) (r : Rectangle) (cs : List Cell) → HavePoints cs → IfSome f (λ s. HoldsAll s cs)
-    → IsSomeAnd f (λ s. ¬ (RectsMeet s r)) → IsRest (λ p. ¬ (RectHolds r p)) cs cs
-rest_apart None r cs h a n = absurd n
-rest_apart (Some s) r cs h a n = record { some = h; points = λ p. (λ m. (m, λ k. n (p, a p m, k)), λ m. m.0) }
-
--- nor does dirt that is off it
-pub rest_clear : (f : Option Rectangle) (d : List Rectangle) (cs rest : List Cell) → IsRest (InCells ([] ∷ [])) cs rest
-    → IfSome f (λ s. HoldsAll s rest) → IsSomeAnd f (λ s. ¬ (MeetsDirt d s)) → IsRest (λ p. ¬ (Covers d p)) cs rest
-rest_clear None d cs rest r a n = absurd n
-rest_clear (Some s) d cs rest r a n = record {
+-- in a frame only the dirt counts that meets it
+pub rest_near : (f : Rectangle) (d ms : List Rectangle) (cs rest : List Cell) → HoldsAll f cs → AreNear d f ms
+    → IsRest (λ p. ¬ (Covers ms p)) cs rest → IsRest (λ p. ¬ (Covers d p)) cs rest
+rest_near f d ms cs rest a near r = record {
   some = r.some;
-  points = λ p. (λ m. (((r.points p).0 m).0, λ k. n (p, k, a p m)), λ m. (r.points p).1 (m.0, inl tt));
+  points = λ p. (
+    λ m. let k = (r.points p).0 m in (k.0, λ h. k.1 ((near_covers d f ms p near (a p k.0)).1 h)),
+    λ m. (r.points p).1 (m.0, λ h. m.1 ((near_covers d f ms p near (a p m.0)).0 h)),
+  );
 }
-
-pub held_rest : (f : Option Rectangle) (P : Point → Type 0) (cs rest : List Cell) → IsRest P cs rest → IfSome f (λ s. HoldsAll s cs)
-    → IfSome f (λ s. HoldsAll s rest)
-held_rest None P cs rest r a = a
-held_rest (Some s) P cs rest r a = λ p m. a p ((r.points p).0 m).0
 
 pub rest_whole : {A : Type 0} (P : A → Point → Type 0) (cs : List Cell) → HavePoints cs → IsRest (Outside P []) cs cs
 rest_whole P cs h = record { some = h; points = λ p. (λ m. (m, λ k. k), λ m. m.0) }
-
--- of the cells with points the same is left
-pub rest_after : (P : Point → Type 0) (cs mid rest : List Cell) → IsRest (InCells ([] ∷ [])) cs mid → IsRest P mid rest → IsRest P cs rest
-rest_after P cs mid rest a b = record {
-  some = b.some;
-  points = λ p. (
-    λ m. let k = (b.points p).0 m in (((a.points p).0 k.0).0, k.1),
-    λ m. (b.points p).1 ((a.points p).1 (m.0, inl tt), m.1),
-  );
-}
 
 -- ---- nothing left
 not_zero : (c : Cell) (cs : List Cell) (n : ℕ) → n ≡ length (c ∷ cs) → nat_eq n 0 ≡ false

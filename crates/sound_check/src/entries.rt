@@ -1,5 +1,9 @@
 ghost use Rattle.std.specs.Prelude.{◌↔◌, IsTrue, IfOk};
+ghost use Rattle.std.specs.Bool.{OnTrue};
 ghost use Rattle.plane_terms.specs.Lists.{Every};
+ghost use Rattle.plane_terms.specs.Point.{Point};
+ghost use Rattle.plane_terms.specs.Cell.{InCells};
+ghost use Rattle.plane_terms.specs.Dirt.{Covers};
 ghost use Rattle.topology_terms.specs.Entry.{HasWhole, IsFramed, IsAscending};
 ghost use Rattle.sound_check.specs.Pairs.{LiesIn, IsFramedOrWhole, IsEntrySound};
 
@@ -58,6 +62,17 @@ fn is_framed_or_whole(alloc: Global, e: &Entry) -> Result<bool, NoMemory>
     is_framed(alloc, e)
 }
 
+// Whether a dirty rectangle is seen to hold all of an entry that is not whole, by its frame.
+fn is_all_dirty(e: &Entry, dirt: &Dirt) -> bool
+    requires { IsFramedOrWhole e.now }
+    ensures { OnTrue result ((p : Point) → InCells e.now.cells p → Covers dirt.now p) }
+{
+    if !e.whole() {
+        return dirt.holds(&e.frame());
+    }
+    false
+}
+
 fn is_entry_sound(
     alloc: Global,
     e: &Entry,
@@ -73,6 +88,9 @@ fn is_entry_sound(
     }
     if !is_framed_or_whole(alloc, e)? {
         return Ok(false);
+    }
+    if is_all_dirty(e, dirt) {
+        return Ok(true);
     }
     lies_in(alloc, e, fresh, dirt)
 }

@@ -1,8 +1,7 @@
-ghost use Rattle.std.specs.Prelude.{◌≡◌, [], ◌∷◌, IfOk, IfSome, IsSomeAnd, IsTrue, ◌↔◌};
-ghost use Rattle.std.specs.Bool.{OnTrue};
-ghost use Rattle.plane_terms.specs.Rectangle.{RectHolds, RectsMeet};
+ghost use Rattle.std.specs.Prelude.{◌≡◌, [], ◌∷◌, IfOk, IfSome};
+ghost use Rattle.plane_terms.specs.Rectangle.{RectHolds};
 ghost use Rattle.plane_terms.specs.Cell.{InCell, InCells, HavePoints};
-ghost use Rattle.plane_terms.specs.Dirt.{Covers, MeetsDirt};
+ghost use Rattle.plane_terms.specs.Dirt.{Covers};
 ghost use Rattle.sound_check.specs.Rest.{IsRest};
 ghost use Rattle.sound_check.specs.Frames.{HoldsAll};
 
@@ -81,78 +80,34 @@ fn frame_that_holds(
     Ok(None)
 }
 
-// Whether the dirt is seen to be off the frame, which is there.
-fn is_clear(frame: &Option<Rect>, dirt: &Dirt) -> bool
-    ensures { OnTrue result (IsSomeAnd frame.now (λ r. ¬ (MeetsDirt dirt.now r))) }
-{
-    match frame {
-        Some(frame) => !dirt.meets(frame),
-        None => false,
-    }
-}
-
-// Whether the rectangle is seen to be off the frame, which is there.
-fn is_apart(frame: &Option<Rect>, rect: &Rect) -> bool
-    ensures { OnTrue result (IsSomeAnd frame.now (λ r. ¬ (RectsMeet r rect.now))) }
-{
-    match frame {
-        Some(frame) => !frame.meets(rect),
-        None => false,
-    }
-}
-
-// What is left of the cells off the rectangle. Where it is seen to be off their frame, that is all of them.
-fn rest_off_near(
-    alloc: Global,
-    cells: Cells,
-    frame: &Option<Rect>,
-    rect: &Rect,
-) -> Result<Cells, NoMemory>
-    requires points { HavePoints cells }
-    requires held { IfSome frame.now (λ r. HoldsAll r cells) }
-    ensures { IfOk result (IsRest (λ p. ¬ (RectHolds rect.now p)) cells) }
-{
-    if is_apart(frame, rect) {
-        return Ok(cells);
-    }
-    rest_off_rect(alloc, &cells, rect)
-}
-
-// What is left of the cells off the dirt. Stops where nothing is left.
-fn rest_off_rects(
-    alloc: Global,
-    cells: Cells,
-    frame: &Option<Rect>,
-    dirt: &Dirt,
-) -> Result<Cells, NoMemory>
-    requires points { HavePoints cells }
-    requires held { IfSome frame.now (λ r. HoldsAll r cells) }
-    ensures { IfOk result (IsRest (λ p. ¬ (Covers dirt.now p)) cells) }
+// What is left of the cells off the rectangles. Stops where nothing is left.
+fn rest_off_rects(alloc: Global, cells: Cells, rects: &[Rect]) -> Result<Cells, NoMemory>
+    requires { HavePoints cells }
+    ensures { IfOk result (IsRest (λ p. ¬ (Covers rects.now p)) cells) }
 {
     let mut rest = cells;
-    for i in 0..dirt.len() {
+    for rect in rects {
         if rest.len() == 0 {
             return Ok(rest);
         }
-        rest = rest_off_near(alloc, rest, frame, &dirt.rect(i))?;
+        rest = rest_off_rect(alloc, &rest, rect)?;
     }
     Ok(rest)
 }
 
-/// What is left of the cells off the dirt. Where they lie in the frame, as those of an error do, rectangles beside it are passed over.
-/// Stops where nothing is left.
+/// What is left of the cells off the dirt. Where they lie in the frame, as those of an error do, only rectangles that meet it are
+/// looked at. Stops where nothing is left.
 pub fn rest_off_dirt(
     alloc: Global,
-    cells: &Cells,
+    cells: Cells,
     frame: Option<Rect>,
     dirt: &Dirt,
 ) -> Result<Cells, NoMemory>
-    ensures { IfOk result (IsRest (λ p. ¬ (Covers dirt.now p)) cells.now) }
+    requires { HavePoints cells }
+    ensures { IfOk result (IsRest (λ p. ¬ (Covers dirt.now p)) cells) }
 {
-    let rest = cells_with_points(alloc, cells)?;
-    let frame = frame_that_holds(alloc, frame, &rest)?;
-    if is_clear(&frame, dirt) {
-        return Ok(rest);
+    match frame_that_holds(alloc, frame, &cells)? {
+        Some(frame) => rest_off_rects(alloc, cells, &dirt.near(alloc, &frame)?),
+        None => rest_off_rects(alloc, cells, dirt.rects()),
     }
-    rest_off_rects(alloc, rest, &frame, dirt)
 }

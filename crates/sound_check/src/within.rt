@@ -36,7 +36,7 @@ pub fn is_within(
         return Ok(true);
     }
     let off_others = rest_off_cells(alloc, cells, others)?;
-    let rest = rest_off_dirt(alloc, &off_others, frame, dirt)?;
+    let rest = rest_off_dirt(alloc, off_others, frame, dirt)?;
     Ok(rest.len() == 0)
 }
 

@@ -1,12 +1,17 @@
-use Rattle.std.proofs.lemmas.Bool.{OnTrue_at}
+use Rattle.std.proofs.Common.{sym, subst}
 use Rattle.std.proofs.lemmas.Result.{IfOk-weaker}
-use Rattle.sound_check.proofs.Rests.{rest_clear, rest_after}
+use Rattle.dirty_area.specs.Parts.{AreNear}
+use Rattle.dirty_area.proofs.Indexes.{in_some}
+use Rattle.sound_check.specs.Frames.{HoldsAll}
+use Rattle.sound_check.proofs.Rests.{rest_near}
 use Rattle.sound_check.proofs.rest.rest_off_dirt.Goals as goal
 
-pub returns-then-is_clear : goal.returns-then-is_clear
-returns-then-is_clear c = rest_clear c.in_ok-frame.frame c.args.dirt.now c.args.cells.now c.in_ok-rest.rest c.in_ok-rest.ensures
-    c.in_ok-frame.ensures (OnTrue_at c.if-is_clear.true c.is_clear.ensures)
-
-pub returns : goal.returns
-returns c = IfOk-weaker c.rest_off_rects.result _ _ (λ made. rest_after _ c.args.cells.now c.in_ok-rest.rest made c.in_ok-rest.ensures)
-    c.rest_off_rects.ensures
+pub returns-in_ok-near-in-Some : goal.returns-in_ok-near-in-Some
+returns-in_ok-near-in-Some c =
+    let d = c.args.dirt.now in
+    let cs = c.args.cells in
+    let f = c.in-Some.frame in
+    let held : HoldsAll f cs = in_some (λ r. HoldsAll r cs) c.in_ok-frame.field-0 f c.in-Some.is c.in_ok-frame.ensures in
+    let near : AreNear d f c.deref.result.now = subst (AreNear d f) (sym c.deref.ensures.value) c.in_ok-near-in-Some.ensures in
+    IfOk-weaker c.rest_off_rects.result _ _ (λ made. rest_near f d c.deref.result.now cs made held near)
+    (rw c.cells.view_is at c.rest_off_rects.ensures)

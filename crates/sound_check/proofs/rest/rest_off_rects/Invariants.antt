@@ -3,5 +3,5 @@ use Rattle.plane_terms.specs.Dirt.{Covers}
 use Rattle.sound_check.specs.Rest.{IsRest}
 use Rattle.sound_check.proofs.rest.rest_off_rects.Given as goal
 
-abbrev pub invariant-loop-i : goal.invariant-loop-i
-invariant-loop-i l = IsRest (λ p. ¬ (Covers (take l.i l.dirt) p)) l.fn.cells l.rest
+abbrev pub invariant-loop-rect : goal.invariant-loop-rect
+invariant-loop-rect l = IsRest (λ p. ¬ (Covers (take l.rect-index l.rects) p)) l.fn.cells l.rest
