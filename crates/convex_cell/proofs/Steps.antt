@@ -7,7 +7,8 @@ use Rattle.std.proofs.lemmas.Slice.Zip.{all_zipped_more, AllZip-long}
 use Rattle.std.specs.List.{AllZip}
 use Rattle.plane_terms.specs.Carve.{kept}
 use Rattle.std.specs.Int.{int_div_euclid, w64}
-use Rattle.std.specs.Prelude.{FitsSigned}
+use Rattle.std.specs.Prelude.{FitsSigned, Option, None, Some, IfNone, slice_get}
+use Rattle.std.proofs.lemmas.Option.{get_or_from_slice_get, slice_get_within}
 use mir.Val.{to_z, of_z}
 use lib.Signed.{mag}
 use Rattle.std.proofs.lemmas.Int.{ints}
@@ -21,7 +22,7 @@ use Rattle.cell_laws.specs.Bounds.{Above}
 use Rattle.cell_laws.proofs.Outside.{turned_value}
 use Rattle.convex_cell.proofs.Spans.{floor_at, rounded_holds}
 use Rattle.convex_cell.specs.declared.bounds.Bounds.{Bounds}
-use Rattle.convex_cell.specs.Span.{After, Before, IsSpan, InBounds, IsBoundsOf, AreApart, Follows, AreRisingTo}
+use Rattle.convex_cell.specs.Span.{After, Before, IsSpan, InBounds, IsBoundsOf, AreApart, AreBeside, Follows, AreRisingTo}
 use Rattle.std.proofs.lemmas.Bool.{cases_Bool}
 use Rattle.plane_terms.specs.Decide.{has_point}
 use Rattle.cell_laws.proofs.Decision.{has_point-true}
@@ -254,14 +255,33 @@ bounds_at bs cs i b c z e h g = subst (IsBoundsOf (get_or bs i b)) (sym g) (zip_
 abbrev pub nowhere : Bounds
 nowhere = record { x = record { from = pos 0; to = pos 0 }; y = record { from = pos 0; to = pos 0 } }
 
+through_ℤ : (x y z : ℤ) → x ≤ℤ y → y ≤ℤ z → x ≤ℤ z
+through_ℤ x y z h k = omega (arith, ints)
+
+between : (x y z : ℤ) → x ≤ℤ y → y ≤ℤ z → x ≡ z → (x ≡ y) × (y ≡ z)
+between x y z h k e = (omega (arith, ints), omega (arith, ints))
+
 follows_through : (b d e : Bounds) → Follows b d → Follows d e → Follows b e
-follows_through b d e h k = record { from = through b.x.from d.x.from e.x.from h.from k.from; to = through b.x.to d.x.to e.x.to h.to k.to }
-  where
-    through : (x y z : ℤ) → x ≤ℤ y → y ≤ℤ z → x ≤ℤ z
-    through x y z h k = omega (arith, ints)
+follows_through b d e h k = record {
+  from = through_ℤ b.x.from d.x.from e.x.from h.from k.from;
+  to = through_ℤ b.x.to d.x.to e.x.to h.to k.to;
+  up_from = λ f t.
+      let i = between b.x.from d.x.from e.x.from h.from k.from f in
+      let j = between b.x.to d.x.to e.x.to h.to k.to t in
+      through_ℤ b.y.from d.y.from e.y.from (h.up_from (i.0) (j.0)) (k.up_from (i.1) (j.1));
+  up_to = λ f t.
+      let i = between b.x.from d.x.from e.x.from h.from k.from f in
+      let j = between b.x.to d.x.to e.x.to h.to k.to t in
+      through_ℤ b.y.to d.y.to e.y.to (h.up_to (i.0) (j.0)) (k.up_to (i.1) (j.1));
+}
 
 follows_itself : (b : Bounds) → Follows b b
-follows_itself b = record { from = itself b.x.from; to = itself b.x.to }
+follows_itself b = record {
+  from = itself b.x.from;
+  to = itself b.x.to;
+  up_from = λ f t. itself b.y.from;
+  up_to = λ f t. itself b.y.to;
+}
   where
     itself : (x : ℤ) → x ≤ℤ x
     itself x = omega (arith, ints)
@@ -270,6 +290,9 @@ pub rising_one : (bs : List Bounds) (n : ℕ) → n ≤ 1 → AreRisingTo n bs
 rising_one bs n h j k d l m =
     let e : j ≡ k = omega arith in
     rw e (follows_itself (get_or bs k d))
+
+pub cases_lt : (a b : ℕ) → (a < b) ⊎ (b ≤ a)
+cases_lt a b = grind arith
 
 pub rising_more : (bs : List Bounds) (i : ℕ) → 1 ≤ i → AreRisingTo i bs → ((d : Bounds) → Follows (get_or bs (i - 1) d) (get_or bs i d))
     → AreRisingTo (i + 1) bs
@@ -283,9 +306,6 @@ rising_more bs i p r f j k d l m = elim (cases_lt k i) [
         | inr n ↦ let g : j ≡ i = omega arith in rw (e, g) (follows_itself (get_or bs i d))
       ]
 ]
-  where
-    cases_lt : (a b : ℕ) → (a < b) ⊎ (b ≤ a)
-    cases_lt a b = grind arith
 
 pub same_at : (bs : List Bounds) (i : ℕ) (d e : Bounds) → i < length bs → get_or bs i d ≡ get_or bs i e
 same_at [] i d e h = absurd (omega arith)
@@ -311,6 +331,41 @@ begins_after bs m k z d v r l h e = through v _ _ (subst (λ (b : Bounds). v <�
     through : (v x y : ℤ) → v <ℤ x → x ≤ℤ y → v <ℤ y
     through v x y h k = omega (arith, ints)
 
+pub if_none_then : {T P Q : Type 0} (r : Option T) → (P → Q) → IfNone r P → IfNone r Q
+if_none_then None f n = f n
+if_none_then (Some x) f n = n
+
+-- what stands from the one up to the other is apart from what those are beside
+pub beside_apart : (bs : List Bounds) (e : Bounds) (i k m : ℕ) (y z d : Bounds) → AreRisingTo (length bs) bs → i ≤ k → k ≤ m → m < length bs
+    → AreBeside e (get_or bs i y) (get_or bs m z) → AreApart e (get_or bs k d)
+beside_apart bs e i k m y z d r h l n g =
+    stands (get_or bs i d) (get_or bs k d) (get_or bs m d) (r i k d h (omega arith)) (r k m d l n)
+    (rw (same_at bs i d y (omega arith), same_at bs m d z n) g)
+  where
+    stands : (b c d : Bounds) → Follows b c → Follows c d → AreBeside e b d → AreApart e c
+    stands b c d h k g =
+        let i = between b.x.from c.x.from d.x.from h.from k.from g.from in
+        let j = between b.x.to c.x.to d.x.to h.to k.to g.to in
+        elim g.beyond [
+          | inl below ↦ inr (inr (inr (under c.y.to d.y.to e.y.from (k.up_to (i.1) (j.1)) below)))
+          | inr above ↦ inr (inr (inl (over e.y.to b.y.from c.y.from above (h.up_from (i.0) (j.0)))))
+        ]
+      where
+        under : (x y v : ℤ) → x ≤ℤ y → y <ℤ v → x <ℤ v
+        under x y v h k = omega (arith, ints)
+
+        over : (v x y : ℤ) → v <ℤ x → x ≤ℤ y → v <ℤ y
+        over v x y h k = omega (arith, ints)
+
+-- a cell that these bounds leave out has no point of what lies within the others
+pub clear_at : (own : Bounds) (bs : List Bounds) (cs : List Cell) (k : ℕ) → AllZip IsBoundsOf bs cs → length bs ≡ length cs
+    → (k < length bs → AreApart own (get_or bs k nowhere)) → (a : Cell) → IsBoundsOf own a → (d : Cell) → slice_get cs k ≡ Some d → (p : Point)
+    → InCell a p → ¬ (InCell d p)
+clear_at own bs cs k z same f a i d at p m n =
+    let below : k < length cs = slice_get_within cs k d at in
+    never_in_cells own (get_or bs k nowhere) a d (f (omega (arith, same, below))) i
+    (bounds_at bs cs k nowhere d z same below (sym (get_or_from_slice_get cs k d d at))) p m n
+
 -- ---- what is kept of a list in which only a window counts
 pub none_before : (c : Cell) (cs : List Cell) (n : ℕ) → ((k : ℕ) → (d : Cell) → k < n → k < length cs
     → has_point (meet_of c (get_or cs k d)) ≡ false) → kept (map {A = Cell} (meet_of c) (take n cs)) ≡ []
@@ -324,6 +379,15 @@ none_at_all : (c : Cell) (cs : List Cell) → ((k : ℕ) → (d : Cell) → k < 
     → kept (map {A = Cell} (meet_of c) cs) ≡ []
 none_at_all c [] f = refl
 none_at_all c (x ∷ xs) f = rw (f 0 x (omega arith)) (none_at_all c xs (λ k d l. f (suc k) d (omega arith)))
+
+pub passed : (c : Cell) (cs : List Cell) (m n : ℕ) → m ≤ n → ((k : ℕ) → (d : Cell) → m ≤ k → k < n → k < length cs
+    → has_point (meet_of c (get_or cs k d)) ≡ false) → kept (map {A = Cell} (meet_of c) (take m cs)) ≡ kept (map {A = Cell} (meet_of c) (take n cs))
+passed c cs zero n h f = sym (none_before c cs n (λ k d l m. f k d (omega arith) l m))
+passed c [] (suc m) zero h f = refl
+passed c [] (suc m) (suc n) h f = refl
+passed c (x ∷ xs) (suc m) zero h f = absurd (omega arith)
+passed c (x ∷ xs) (suc m) (suc n) h f = ap (λ (y : List Cell). cond (has_point (meet_of c x)) (meet_of c x ∷ y) y)
+    (passed c xs m n (omega arith) (λ k d a l e. f (suc k) d (omega arith) (omega arith) (omega arith)))
 
 pub none_after : (c : Cell) (cs : List Cell) (n : ℕ) → ((k : ℕ) → (d : Cell) → n ≤ k → k < length cs
     → has_point (meet_of c (get_or cs k d)) ≡ false) → kept (map {A = Cell} (meet_of c) (take n cs)) ≡ kept (map {A = Cell} (meet_of c) cs)

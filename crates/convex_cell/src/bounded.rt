@@ -1,4 +1,4 @@
-ghost use Rattle.std.specs.Prelude.{◌≡◌, ℕ, ◌⊎◌, ◌<◌, ◌≤◌, ◌++◌, ◌∷◌, [], map, List, length, slice_get, Some, IfOk, IfSome, OnOk, OnErr};
+ghost use Rattle.std.specs.Prelude.{◌≡◌, ℕ, ◌⊎◌, ◌<◌, ◌≤◌, ◌++◌, ◌∷◌, [], map, List, length, slice_get, Some, IfNone, IfOk, IfSome, OnOk, OnErr};
 ghost use Rattle.std.specs.Bool.{OnTrue};
 ghost use Rattle.std.specs.List.{AllZip};
 ghost use Rattle.plane_terms.specs.Point.{Point};
@@ -12,6 +12,7 @@ ghost use Rattle.convex_cell.specs.Needed.{SameCells};
 use crate::bounds::{Bounds, Window, are_rising, bounds_of, common_bounds, window_of};
 use crate::cells::{Cells, all_bounds};
 use crate::needed::meets;
+use crate::stack::next_near;
 use grid_plane::{Half, NoMemory};
 use std::alloc::Global;
 use std::marker::Model;
@@ -169,15 +170,11 @@ impl BoundedCells {
     {
         let mut needed = None;
         let window = window_of(bounds, own, rising);
-        for i in window.first..window.last {
-            self.push_meet(
-                alloc,
-                cell,
-                &mut needed,
-                own,
-                others.halves_at(i),
-                &bounds[i],
-            )?;
+        let mut from = window.first;
+        while let Some(i) = next_near(bounds, own, from, window.last, rising) {
+            let other = others.halves_at(i);
+            self.push_meet(alloc, cell, &mut needed, own, other, &bounds[i])?;
+            from = i + 1;
         }
         Ok(())
     }
@@ -223,6 +220,19 @@ impl BoundedCells {
             → (k < result.first) ⊎ (result.last ≤ k) → (p : Point) → InCell c p → ¬ (InCell d p) }
     {
         window_of(&self.bounds, own, self.rising)
+    }
+
+    /// The first place from this one on, and before the last, of a cell that may have a point in common with a cell of these bounds.
+    pub(crate) fn next_near(&self, own: &Bounds, from: usize, last: usize) -> Option<usize>
+        requires { last ≤ length self.now }
+        ensures none { IfNone result ((c : List HalfPlane) → IsBoundsOf own.now c → (k : ℕ) → (d : List HalfPlane) → slice_get self.now k ≡ Some d
+            → from ≤ k → k < last → (p : Point) → InCell c p → ¬ (InCell d p)) }
+        ensures from { IfSome result (λ i. from ≤ i) }
+        ensures before { IfSome result (λ i. i < last) }
+        ensures clear { IfSome result (λ i. (c : List HalfPlane) → IsBoundsOf own.now c → (k : ℕ) → (d : List HalfPlane) → slice_get self.now k ≡ Some d
+            → from ≤ k → k < i → (p : Point) → InCell c p → ¬ (InCell d p)) }
+    {
+        next_near(&self.bounds, own, from, last, self.rising)
     }
 
     /// What `Cells::carve` makes of this list and the other, with its bounds.

@@ -7,7 +7,7 @@ ghost use Rattle.plane_terms.specs.Decide.{has_point};
 ghost use Rattle.convex_cell.specs.Span.{IsSpan, InSpan, IsBoundsOf};
 ghost use Rattle.convex_cell.specs.Needed.{FitsReach, Reaches, IsInFrame, SameCells, closed_of};
 
-use crate::bounds::{Bounds, are_apart, common_bounds, is_small, left_of, right_of};
+use crate::bounds::{Bounds, common_bounds, is_small, left_of, right_of};
 use crate::cell::is_empty_together;
 use crate::span::{Span, highest};
 use crate::trials::{is_in_both, middle_of_both};
@@ -201,9 +201,6 @@ pub(crate) fn meets(
     ensures meets { IfOk result (λ meets. meets ≡ has_point (meet_of cell.now other.now)) }
     ensures needed { IfOk result (λ _. IfSome needed.new (λ n. SameCells n.items cell.now)) }
 {
-    if are_apart(bounds, other_bounds) {
-        return Ok(false);
-    }
     let at = middle_of_both(bounds, other_bounds);
     if is_in_both(cell, other, at) {
         return Ok(true);

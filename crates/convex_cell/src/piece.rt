@@ -219,6 +219,17 @@ impl Piece {
         by.window(&self.bounds)
     }
 
+    /// The first place from this one on, and before the last, of a cell of the list that may have a point in common with the piece.
+    pub fn next_near(&self, by: &BoundedCells, from: usize, last: usize) -> Option<usize>
+        requires { last ≤ length by.now }
+        ensures none { IfNone result ((k : ℕ) → (d : List HalfPlane) → slice_get by.now k ≡ Some d → from ≤ k → k < last → (p : Point) → InCell self.now p → ¬ (InCell d p)) }
+        ensures from { IfSome result (λ i. from ≤ i) }
+        ensures before { IfSome result (λ i. i < last) }
+        ensures clear { IfSome result (λ i. (k : ℕ) → (d : List HalfPlane) → slice_get by.now k ≡ Some d → from ≤ k → k < i → (p : Point) → InCell self.now p → ¬ (InCell d p)) }
+    {
+        by.next_near(&self.bounds, from, last)
+    }
+
     /// Leaves what is in this cell of the list too, and says how wide the piece was; `None`, and it stays, where they have no
     /// point in common. It stays where memory runs out.
     pub fn narrow(&mut self, by: &BoundedCells, i: usize) -> Result<Option<Mark>, NoMemory>

@@ -3,12 +3,7 @@ use Rattle.plane_terms.specs.Cell.{Cell, HasPoint, meet_of}
 use Rattle.cell_laws.proofs.Decision.{has_point-true}
 use Rattle.convex_cell.proofs.Both.{meet_has}
 use Rattle.convex_cell.proofs.Pieces.{bounds_of_both}
-use Rattle.convex_cell.proofs.Steps.{apart}
 use Rattle.convex_cell.proofs.needed.meets.Goals as goal
-
-pub returns-then-are_apart-clause-meets : goal.returns-then-are_apart-clause-meets
-returns-then-are_apart-clause-meets c = sym (apart c.args.bounds.now c.args.other_bounds.now c.args.cell.now c.args.other.now
-    c.if-are_apart.ensures c.requires.cell c.requires.other)
 
 pub returns-then-is_in_both-clause-meets : goal.returns-then-is_in_both-clause-meets
 returns-then-is_in_both-clause-meets c =

@@ -1,7 +1,7 @@
 use Rattle.std.proofs.Common.{◌∙◌, ◌++◌, arith, inl, inr, ap, sym}
 use Rattle.std.proofs.lemmas.Option.{get_or_from_slice_get, slice_get_within}
 use Rattle.convex_cell.proofs.Carves.{met_more}
-use Rattle.convex_cell.proofs.Steps.{bounds_at, apart_at, unchanged, none_after}
+use Rattle.convex_cell.proofs.Steps.{bounds_at, apart_at, unchanged, passed, none_after, cases_lt}
 use Rattle.convex_cell.proofs.bounded.BoundedCells.push_met.Goals as goal
 
 pub loop-i-init : goal.loop-i-init
@@ -16,21 +16,33 @@ loop-i-init c = record {
 pub push_meet-requires-clause-other : goal.push_meet-requires-clause-other
 push_meet-requires-clause-other c =
     let cs = c.args.others.now in
-    let i = c.loop-i.i in
-    let d = c.halves_at.result.now in
-    bounds_at c.args.bounds.now cs i _ d c.requires.bounds c.requires.same (slice_get_within cs i d c.halves_at.ensures)
-    (sym (get_or_from_slice_get cs i d d c.halves_at.ensures))
+    let i = c.in-Some.i in
+    let d = c.halves_at-other.result.now in
+    bounds_at c.args.bounds.now cs i _ d c.requires.bounds c.requires.same (slice_get_within cs i d c.halves_at-other.ensures)
+    (sym (get_or_from_slice_get cs i d d c.halves_at-other.ensures))
 
 pub loop-i-preserved : goal.loop-i-preserved
-loop-i-preserved c = record {
-  made = c.in_ok-push_meet.ensures.made ∙ met_more c.args.cell.now c.args.others.now c.args.self.now c.loop-i.self c.loop-i.i c.halves_at.result.now
-      c.halves_at.ensures c.loop-i.invariant.made;
-  needed = c.in_ok-push_meet.ensures.needed;
-}
+loop-i-preserved c =
+    let cell = c.args.cell.now in
+    let cs = c.args.others.now in
+    let before = c.args.self.now in
+    let next = c.in-Some.ensures in
+    let up = c.loop-i.invariant.made ∙ ap (λ y. before ++ y) (passed cell cs c.loop-i.from c.in-Some.i next.from
+    (λ k d a l h. apart_at c.args.own.now c.args.bounds.now cell cs k d (λ e. next.apart k e a l) c.requires.own c.requires.bounds
+    c.requires.same h)) in
+    record {
+      made = c.in_ok-push_meet.ensures.made ∙ met_more cell cs before c.loop-i.self c.in-Some.i c.halves_at-other.result.now
+          c.halves_at-other.ensures up;
+      needed = c.in_ok-push_meet.ensures.needed;
+    }
 
 pub returns : goal.returns
 returns c =
-    c.loop-i.invariant.made ∙ ap (λ y. c.args.self.now ++ y) (none_after c.args.cell.now c.args.others.now c.loop-i.i
-    (λ k d h l. apart_at c.args.own.now c.args.bounds.now c.args.cell.now c.args.others.now k d
-    (λ e. c.window_of-window.ensures.apart k e (omega (arith, c.requires.same)) (inr (omega arith))) c.requires.own
-    c.requires.bounds c.requires.same l))
+    let cell = c.args.cell.now in
+    let cs = c.args.others.now in
+    let window = c.window_of-window in
+    c.loop-i.invariant.made ∙ ap (λ y. c.args.self.now ++ y) (none_after cell cs c.loop-i.from
+    (λ k d h l. apart_at c.args.own.now c.args.bounds.now cell cs k d (λ e. elim (cases_lt k window.result.last) [
+      | inl m ↦ c.in_default.ensures.none k e h m
+      | inr m ↦ window.ensures.apart k e (omega (arith, c.requires.same)) (inr m)
+    ]) c.requires.own c.requires.bounds c.requires.same l))
