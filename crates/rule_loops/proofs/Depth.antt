@@ -10,7 +10,7 @@ use Rattle.plane_terms.specs.Carve.{carve_of}
 use Rattle.topology_terms.specs.Cells.{uncovered}
 use Rattle.cell_laws.proofs.Decision.{has_point-true}
 use Rattle.cell_laws.proofs.Meets.{carve_points, kept_have_points, meet_points}
-use Rattle.convex_cell.proofs.Steps.{none_before, none_after}
+use Rattle.convex_cell.proofs.Steps.{none_before, passed, none_after}
 use Rattle.rule_laws.proofs.Uncovered.{uncovered_points, uncovered_have_points}
 use Rattle.rule_loops.specs.Apart.{uncovered-nil}
 use Rattle.rule_loops.specs.Open.{IsInEach}
@@ -36,6 +36,13 @@ pub none_yet : (c : Cell) (ds : List Cell) (rest : List (List Cell)) (n : ℕ)
 none_yet c ds rest n f = ap (λ us. uncovered us rest) (one_cell c (take n ds) ∙ none_before c ds n
     (λ k d h l. no_point c (get_or ds k d) (f k (get_or ds k d) (slice_get-get_or ds k d l) h)))
     ∙ uncovered-nil rest
+
+pub left_passed : (c : Cell) (ds : List Cell) (rest : List (List Cell)) (m n : ℕ) → m ≤ n
+    → ((k : ℕ) (d : Cell) → slice_get ds k ≡ Some d → m ≤ k → k < n → (p : Point) → InCell c p → ¬ (InCell d p))
+    → left_of_parts c ds rest m ≡ left_of_parts c ds rest n
+left_passed c ds rest m n l f = ap (λ us. uncovered us rest) (one_cell c (take m ds) ∙ (passed c ds m n l
+    (λ k d a b h. no_point c (get_or ds k d) (f k (get_or ds k d) (slice_get-get_or ds k d h) a b))
+    ∙ sym (one_cell c (take n ds))))
 
 pub all_of_it : (c : Cell) (ds : List Cell) (rest : List (List Cell)) (n : ℕ)
     → ((k : ℕ) (d : Cell) → slice_get ds k ≡ Some d → n ≤ k → (p : Point) → InCell c p → ¬ (InCell d p))

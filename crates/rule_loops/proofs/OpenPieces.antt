@@ -49,7 +49,7 @@ some_off q [] h = absurd h
 some_off q (d ∷ ds) (inl h) = (0, d, refl, h)
 some_off q (d ∷ ds) (inr h) = let k = some_off q ds h in (suc k.0, k.1, k.2, k.3)
 
-before_or_not : (j n : ℕ) → (j < n) ⊎ (n ≤ j)
+pub before_or_not : (j n : ℕ) → (j < n) ⊎ (n ≤ j)
 before_or_not j n = grind arith
 
 module _ (near : List (List Cell)) (c : Cell) (ds : List Cell) (n : ℕ) (later : (p : Point) → IsInEach near p → InCells ds p)
@@ -84,6 +84,13 @@ shut_one is_open near c ds i h f j d l e = elim (before_or_at j i l) [
   where
     before_or_at : (j i : ℕ) → j < i + 1 → (j < i) ⊎ (j ≡ i)
     before_or_at j i l = grind arith
+
+pub shut_more : (is_open : Bool) (near : List (List Cell)) (c o : Cell) (ds : List Cell) (m n : ℕ) → o ≡ c → AreShutBut is_open near c ds m
+    → ((k : ℕ) → (d : Cell) → slice_get ds k ≡ Some d → m ≤ k → k < n → (p : Point) → InCell o p → ¬ (InCell d p)) → AreShutBut is_open near c ds n
+shut_more is_open near c o ds m n s h clear j d l e = elim (before_or_not j m) [
+  | inl b ↦ h j d b e
+  | inr a ↦ λ w p k i _. clear j d e a l p (subst (λ (hs : Cell). InCell hs p) (sym s) k) i
+]
 
 -- an open piece that is narrowed by a cell; w says whether that is a wall
 narrowed_lasts : (is_open : Bool) (w : Bool) (c d e : Cell) → OnTrue is_open (LastsRight (InCell c)) → (w ≡ false → IsStrict d)

@@ -64,7 +64,9 @@ fn is_shut(
     let nearby = &near[k];
     let outside: &BoundedCells = &nearby.outside;
     let window = piece.window(outside);
-    for i in window.first..window.last {
+    let mut next = window.first;
+    while let Some(i) = piece.next_near(outside, next, window.last) {
+        next = i + 1;
         if is_open && is_wall(&outside.cells().cell(i)) {
             continue;
         }

@@ -52,7 +52,9 @@ fn push_left(
     let outside: &BoundedCells = &nearby.outside;
     let len = cell.len();
     let window = piece.window(outside);
-    for i in window.first..window.last {
+    let mut next = window.first;
+    while let Some(i) = piece.next_near(outside, next, window.last) {
+        next = i + 1;
         let Some(mark) = piece.narrow(outside, i)? else {
             continue;
         };

@@ -7,10 +7,10 @@ use Rattle.plane_terms.specs.Point.{Point}
 use Rattle.plane_terms.specs.Cell.{Cell, InCell, meet_of}
 use Rattle.topology_terms.specs.Cells.{uncovered}
 use Rattle.convex_cell.specs.Piece.{IsMarkOf}
-use Rattle.rule_loops.proofs.Depth.{none_yet, all_of_it, one_with, one_without, same_met}
+use Rattle.rule_loops.proofs.Depth.{none_yet, left_passed, all_of_it, one_with, one_without, same_met}
 use Rattle.rule_loops.specs.Rightward.{LastsRight}
 use Rattle.rule_loops.proofs.Rest.{drop_one}
-use Rattle.rule_loops.proofs.OpenPieces.{part_lasts}
+use Rattle.rule_loops.proofs.OpenPieces.{before_or_not, part_lasts}
 use Rattle.rule_loops.proofs.Shares.{point_shared}
 use Rattle.rule_loops.proofs.Shut.{at_index, begins_within, restored}
 use Rattle.rule_loops.proofs.remainder.+push_left.Goals.{After-stays_open-part_open, then-not-branch+in_ok-narrow+in_ok-push_left, else-not-branch}
@@ -28,15 +28,19 @@ loop-i-init t c = record {
 pub loop-i-preserved-in_default-2 : goal.loop-i-preserved-in_default-2
 loop-i-preserved-in_default-2 t c =
     let ds : List Cell = c.deref-outside.result.now in
-    let i = c.loop-i.i in
+    let i = c.in-Some-next_near.i in
     let inv = c.loop-i.invariant in
     let own : Cell = c.args.cell.now in
-    let within : i < length ds = omega (arith, c.window-window.ensures.fits) in
+    let within : i < length ds = omega (arith, c.in-Some-next_near.ensures.before, c.window-window.ensures.fits) in
     let at = at_index ds i within in
     let same : (p : Point) → InCell c.loop-i.piece p ↔ InCell own p = rw (inv.piece) c.requires.piece in
+    let rest = drop (c.args.from + 1) c.args.near.now in
+    let next = c.in-Some-next_near.ensures in
+    let left = inv.left ∙ ap (λ us. c.args.left.now ++ us) (left_passed own ds rest c.loop-i.next i next.from
+    (λ k d e a b p m. next.clear k d e a b p ((same p).1 m))) in
     record {
-      left = one_without own ds (drop (c.args.from + 1) c.args.near.now) i (get_or ds i []) c.args.left.now c.loop-i.left at
-          (λ p m n k. (rw c.in_default-2.is at (c.in_ok-mark.ensures.clear)) (get_or ds i []) at p ((same p).1 m) n) inv.left;
+      left = one_without own ds rest i (get_or ds i []) c.args.left.now c.loop-i.left at
+          (λ p m n k. (rw c.in_default-2.is at (c.in_ok-mark.ensures.clear)) (get_or ds i []) at p ((same p).1 m) n) left;
       cell = inv.cell;
       piece = (rw c.in_default-2.is at (c.in_ok-mark.ensures.none)) ∙ inv.piece;
     }
@@ -49,9 +53,9 @@ still_open t c =
     let same : c.in-Some.nearby.now ≡ ds = sym (c.deref-outside.ensures ∙ c.nearby.view_is) in
     let read : slice_get near c.args.from ≡ Some ds =
     slice_get_read near (length near) c.args.from ds refl c.in-Some.ensures.lookup.3.0 (rw same at c.in-Some.ensures.lookup.1) in
-    let at : slice_get ds c.loop-i.i ≡ Some d = rw c.cells.ensures at c.cell-part.ensures in
+    let at : slice_get ds c.in-Some-next_near.i ≡ Some d = rw c.cells.ensures at c.cell-part.ensures in
     let made = (rw c.in-Some-2.is at (c.in_ok-mark.ensures.some)) d at in
-    part_lasts near c.args.from ds c.loop-i.i d c.loop-i.piece c.narrow.new.self c.args.is_open c.stays_open-part_open.result
+    part_lasts near c.args.from ds c.in-Some-next_near.i d c.loop-i.piece c.narrow.new.self c.args.is_open c.stays_open-part_open.result
     c.requires.off_walls read at c.stays_open-part_open.ensures (rw (c.loop-i.invariant.piece) c.requires.is_open) made.points
 
 pub is_over-requires : goal.is_over-requires
@@ -82,8 +86,8 @@ push_left-requires t c =
 pub widen-requires-clause-long : goal.widen-requires-clause-long
 widen-requires-clause-long t c =
     let ds : List Cell = c.deref-outside.result.now in
-    let within : c.loop-i.i < length ds = omega (arith, c.window-window.ensures.fits) in
-    let made = (rw c.in-Some-2.is at (c.in_ok-mark.ensures.some)) (get_or ds c.loop-i.i []) (at_index ds c.loop-i.i within) in
+    let within : c.in-Some-next_near.i < length ds = omega (arith, c.in-Some-next_near.ensures.before, c.window-window.ensures.fits) in
+    let made = (rw c.in-Some-2.is at (c.in_ok-mark.ensures.some)) (get_or ds c.in-Some-next_near.i []) (at_index ds c.in-Some-next_near.i within) in
     let back : c.if-not-branch.piece ≡ c.narrow.new.self = elim c.if-not-branch.branch [
       | then-not-branch+in_ok-narrow+in_ok-push_left w ↦ w.piece-is ∙ (w.in_ok-push_left.ensures.piece ∙ c.in_ok-is_over.ensures.same)
       | else-not-branch w ↦ w.piece-is ∙ c.in_ok-is_over.ensures.same
@@ -93,8 +97,8 @@ widen-requires-clause-long t c =
 pub widen-requires-clause-mark : goal.widen-requires-clause-mark
 widen-requires-clause-mark t c =
     let ds : List Cell = c.deref-outside.result.now in
-    let within : c.loop-i.i < length ds = omega (arith, c.window-window.ensures.fits) in
-    let made = (rw c.in-Some-2.is at (c.in_ok-mark.ensures.some)) (get_or ds c.loop-i.i []) (at_index ds c.loop-i.i within) in
+    let within : c.in-Some-next_near.i < length ds = omega (arith, c.in-Some-next_near.ensures.before, c.window-window.ensures.fits) in
+    let made = (rw c.in-Some-2.is at (c.in_ok-mark.ensures.some)) (get_or ds c.in-Some-next_near.i []) (at_index ds c.in-Some-next_near.i within) in
     let back : c.if-not-branch.piece ≡ c.narrow.new.self = elim c.if-not-branch.branch [
       | then-not-branch+in_ok-narrow+in_ok-push_left w ↦ w.piece-is ∙ (w.in_ok-push_left.ensures.piece ∙ c.in_ok-is_over.ensures.same)
       | else-not-branch w ↦ w.piece-is ∙ c.in_ok-is_over.ensures.same
@@ -106,13 +110,16 @@ loop-i-preserved t c =
     let ds : List Cell = c.deref-outside.result.now in
     let own : Cell = c.args.cell.now in
     let rest = drop (c.args.from + 1) c.args.near.now in
-    let i = c.loop-i.i in
+    let i = c.in-Some-next_near.i in
     let inv = c.loop-i.invariant in
-    let within : i < length ds = omega (arith, c.window-window.ensures.fits) in
+    let within : i < length ds = omega (arith, c.in-Some-next_near.ensures.before, c.window-window.ensures.fits) in
     let narrowed = rw c.in-Some-2.is at (c.in_ok-mark.ensures.some) in
     let here = at_index ds i within in
     let made = narrowed (get_or ds i []) here in
     let same : (p : Point) → InCell c.loop-i.piece p ↔ InCell own p = rw (inv.piece) c.requires.piece in
+    let next = c.in-Some-next_near.ensures in
+    let left = inv.left ∙ ap (λ us. c.args.left.now ++ us) (left_passed own ds rest c.loop-i.next i next.from
+    (λ k d e a b p m. next.clear k d e a b p ((same p).1 m))) in
     let back : c.if-not-branch.piece ≡ c.narrow.new.self = elim c.if-not-branch.branch [
       | then-not-branch+in_ok-narrow+in_ok-push_left w ↦ w.piece-is ∙ (w.in_ok-push_left.ensures.piece ∙ c.in_ok-is_over.ensures.same)
       | else-not-branch w ↦ w.piece-is ∙ c.in_ok-is_over.ensures.same
@@ -127,11 +134,11 @@ loop-i-preserved t c =
             (point_shared own c.loop-i.piece d c.narrow.new.self same met.points met.some)
             (w.left-is ∙ (w.in_ok-push_left.ensures.left ∙ ap (λ (x : Cell). c.loop-i.left ++ uncovered (x ∷ []) rest)
             (w.in_ok-narrow.ensures.ok ∙ ap (λ (x : Cell). meet_of x d) inv.cell)))
-            inv.left
+            left
         | else-not-branch w ↦
             let t : c.in_ok-is_over.field-0 ≡ true = w.if-not-branch.false in
             rw (w.left-is) (one_without own ds rest i (get_or ds i []) c.args.left.now c.loop-i.left here
-            (λ p m n. OnTrue_at t c.in_ok-is_over.ensures.covered p ((made.points p).1 ((same p).1 m, n))) inv.left)
+            (λ p m n. OnTrue_at t c.in_ok-is_over.ensures.covered p ((made.points p).1 ((same p).1 m, n))) left)
       ];
       cell = elim c.if-not-branch.branch [
         | then-not-branch+in_ok-narrow+in_ok-push_left w ↦ w.cell-is ∙ (w.truncate.ensures
@@ -153,6 +160,10 @@ returns-clause-left t c =
     let same : c.in-Some.nearby.now ≡ ds = sym (c.deref-outside.ensures ∙ c.nearby.view_is) in
     let read : slice_get near c.args.from ≡ Some ds =
     slice_get_read near (length near) c.args.from ds refl c.in-Some.ensures.lookup.3.0 (rw same at c.in-Some.ensures.lookup.1) in
-    c.loop-i.invariant.left ∙ ap (λ us. c.args.left.now ++ us) (all_of_it own ds (drop (c.args.from + 1) near) c.loop-i.i
-    (λ k d e l p m. c.window-window.ensures.clear k d e (inr (omega arith)) p ((c.requires.piece p).1 m))
+    let inv = c.loop-i.invariant in
+    inv.left ∙ ap (λ us. c.args.left.now ++ us) (all_of_it own ds (drop (c.args.from + 1) near) c.loop-i.next
+    (λ k d e l p m. elim (before_or_not k c.window-window.result.last) [
+      | inl b ↦ c.in_default-next_near.ensures.none k d e l b p (rw (inv.piece) ((c.requires.piece p).1 m))
+      | inr a ↦ c.window-window.ensures.clear k d e (inr a) p ((c.requires.piece p).1 m)
+    ])
     ∙ ap (uncovered (own ∷ [])) (sym (drop_one near c.args.from ds read)))
