@@ -1,5 +1,6 @@
 pub mod Adding
 pub mod Finding
+pub mod Marked
 pub mod Members
 pub mod Nodes
 pub mod Reaches

@@ -74,7 +74,7 @@ impl Index {
     {
         let mut found = Vec::with_capacity(alloc, FEW)?;
         add_from_each(&self.nodes, r, &mut found)?;
-        once_each(&mut found);
+        once_each(alloc, &mut found)?;
         Ok(found)
     }
 

@@ -2,6 +2,7 @@
 #![tactic(auto)]
 
 mod index;
+mod marks;
 mod middle;
 mod node;
 mod once;

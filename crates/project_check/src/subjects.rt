@@ -52,6 +52,6 @@ pub fn subjects_of(
     let mut subjects = Vec::new(alloc);
     add_handles(features.slots(), &mut subjects)?;
     add_subjects(entries, &mut subjects)?;
-    once_each(&mut subjects);
+    once_each(alloc, &mut subjects)?;
     Ok(subjects)
 }

@@ -90,7 +90,7 @@ fn near_of(alloc: Global, dirty: &DirtyParts, index: &Index) -> Result<Vec<u32>,
     ensures near { IfOk result (λ v. HasNear v.items index.now dirty.now) }
 {
     let mut near = dirty.near(alloc, index)?;
-    once_each(&mut near);
+    once_each(alloc, &mut near)?;
     Ok(near)
 }
 
@@ -114,6 +114,6 @@ pub fn select(
     let mut found = Vec::with_capacity(alloc, near.len())?;
     add_features(ruled.features(), &near, &dirty, &mut found)?;
     add_subjects(errors.entries(), &framed, &dirty, &mut found)?;
-    once_each(&mut found);
+    once_each(alloc, &mut found)?;
     Ok(Handles::of(found))
 }

@@ -6,11 +6,11 @@ use Rattle.project_check.proofs.EachSubject.{all_there}
 use Rattle.project_check.proofs.subjects.subjects_of.Goals as goal
 
 pub returns-clause-rising : goal.returns-clause-rising
-returns-clause-rising c = rising c.once_each.new.found.items c.once_each.ensures.ascending
+returns-clause-rising c = rising c.once_each.new.found.items c.in_ok-once_each.ensures.ascending
 
 pub returns-clause-all : goal.returns-clause-all
 returns-clause-all c =
     let found : c.add_subjects.new.subjects.items ≡ map (λ (f : Feature). f.handle) c.args.features.now
     ++ map (λ (e : Entry). e.subject) c.args.entries.now = search rules in
     all_there c.args.features.now c.args.entries.now c.add_subjects.new.subjects.items c.once_each.new.found.items found
-    c.once_each.ensures.same
+    c.in_ok-once_each.ensures.same

@@ -12,7 +12,7 @@ use Rattle.validation.proofs.Framed.{frames_near}
 use Rattle.validation.proofs.selection.select.Goals as goal
 
 pub returns-clause-rising : goal.returns-clause-rising
-returns-clause-rising c = rw c.of-2.ensures (rising c.once_each.new.found.items c.once_each.ensures.ascending)
+returns-clause-rising c = rw c.of-2.ensures (rising c.once_each.new.found.items c.in_ok-once_each.ensures.ascending)
 
 pub returns-clause-chosen : goal.returns-clause-chosen
 returns-clause-chosen c = λ p ef ed ee a.
@@ -32,7 +32,7 @@ returns-clause-chosen c = λ p ef ed ee a.
     rw ee (picked_as _ (λ (e : Entry). MeetsPart p.dirt w e.frame) (λ (e : Entry). e.subject) c.args.errors.now early
     late (λ e. meets e.frame) (rw c.entries.ensures.value at c.in_ok-add_subjects.ensures)) in
     let chosen = selected_picked p w early late (rw ef c.order_law.ensures.features) (rw ee c.entries.ensures.ascending) first second a in
-    let once = c.once_each.ensures.same a in
+    let once = c.in_ok-once_each.ensures.same a in
     rw c.of-2.ensures ((λ k. chosen.0 (once.0 k)), (λ k. once.1 (chosen.1 k)))
 
 pub add_subjects-requires-clause-enough : goal.add_subjects-requires-clause-enough

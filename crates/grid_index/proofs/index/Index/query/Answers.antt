@@ -6,4 +6,4 @@ use Rattle.grid_index.proofs.index.Index.query.Goals as goal
 pub returns-clause-near : goal.returns-clause-near
 returns-clause-near c = rw (← c.self.view_is) (once_near handle_of c.args.r.now (all_items c.self.inside.nodes.items) c.add_from_each.new.found.items
     c.once_each.new.found.items (rw (c.deref.ensures.value, c.in_ok-found.ensures.items) at c.in_ok-add_from_each.ensures)
-    c.once_each.ensures.same)
+    c.in_ok-once_each.ensures.same)
