@@ -35,7 +35,7 @@ rest_as P Q cs made e r = record {
 }
 
 -- ---- the steps of a list
-some_taken : {A : Type 0} (P : A → Type 0) (xs : List A) (i : ℕ) → SomeOf P (take i xs) → SomeOf P xs
+pub some_taken : {A : Type 0} (P : A → Type 0) (xs : List A) (i : ℕ) → SomeOf P (take i xs) → SomeOf P xs
 some_taken P [] zero h = h
 some_taken P [] (suc i) h = h
 some_taken P (x ∷ xs) zero h = absurd h
@@ -101,10 +101,6 @@ not_zero c cs n e = ap (λ m. nat_eq m 0) e ∙ eqb-suc-zero (length cs)
 pub none_test : (cs : List Cell) (n : ℕ) → HavePoints cs → n ≡ length cs → IsTrue (nat_eq n 0) ↔ ((p : Point) → ¬ (InCells cs p))
 none_test [] n h e = rw e (λ t p i. i, λ k. refl)
 none_test (c ∷ cs) n h e = rw (not_zero c cs n e) (λ t. absurd (false≢true t), λ k. absurd (k h.0.0 (inl h.0.1)))
-
-pub some_test : (cs : List Cell) (n : ℕ) → HavePoints cs → n ≡ length cs → IsTrue (not (nat_eq n 0)) ↔ ((p : Point) × InCells cs p)
-some_test [] n h e = rw e (λ t. absurd (false≢true t), λ k. absurd k.1)
-some_test (c ∷ cs) n h e = rw (not_zero c cs n e) (λ t. (h.0.0, inl h.0.1), λ k. refl)
 
 -- ---- a list holds a point or not
 in_cells_stable : (cs : List Cell) (p : Point) → ¬ (¬ (InCells cs p)) → InCells cs p

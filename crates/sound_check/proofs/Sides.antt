@@ -1,29 +1,42 @@
 -- The least frame of cells, from what they reach.
-use Rattle.std.proofs.Common.{◌≡◌, ◌↔◌, ℕ, nat_eq, Bool, true, false, not, IsTrue, List, [], ◌∷◌, length, inl, inr, refl, sym, subst, arith, ℤ, pos, ◌+ℤ◌, ◌-ℤ◌, ◌*ℤ◌, ◌≤ℤ◌, ◌<ℤ◌}
+use Rattle.std.proofs.Common.{◌≡◌, ◌↔◌, ℕ, nat_eq, Bool, true, false, IsTrue, List, [], ◌∷◌, ◌+◌, length, take, inl, inr, refl, sym, subst, arith, ℤ, pos, ◌+ℤ◌, ◌-ℤ◌, ◌*ℤ◌, ◌≤ℤ◌, ◌<ℤ◌}
+use Rattle.std.specs.Prelude.{slice_get, Some}
 use Rattle.std.proofs.lemmas.Bool.{false≢true}
 use Rattle.std.proofs.lemmas.Int.{ints}
 use Rattle.plane_terms.specs.Point.{Point}
 use Rattle.plane_terms.specs.Rectangle.{Rectangle, RectHolds}
 use Rattle.plane_terms.specs.HalfPlane.{HalfPlane, Holds, x_over, x_under, y_over, y_under}
-use Rattle.plane_terms.specs.Cell.{Cell, InCells, IsLeastFrame}
+use Rattle.plane_terms.specs.Cell.{Cell, InCell, InCells, HasPoint, IsLeastFrame}
 use Rattle.number_laws.proofs.Order.{cases_order_ℤ, scaled_le}
 use Rattle.cell_laws.proofs.GridLines.{x_over_holds, x_under_holds, y_over_holds, y_under_holds}
+use Rattle.plane_terms.specs.Lists.{SomeOf}
+use Rattle.cell_laws.proofs.Lists.{some_append}
+use Rattle.validation_laws.proofs.Joining.{take_one}
 use Rattle.sound_check.specs.Rest.{IsRest}
 use Rattle.sound_check.specs.Frames.{Reaches, HoldsAll, ReachesSides}
-use Rattle.sound_check.proofs.Rests.{none_test, some_test}
+use Rattle.sound_check.proofs.Rests.{none_test, some_taken}
 
 -- ---- the tests
-pub reaches_test : (h : HalfPlane) (cs side there : List Cell) (n : ℕ) → side ≡ (h ∷ []) ∷ [] → IsRest (InCells side) cs there
-    → n ≡ length there → IsTrue (not (nat_eq n 0)) ↔ Reaches h cs
-reaches_test h cs side there n s r e =
-    let t = some_test there n r.some e in (
-      λ k. let m = t.0 k in let l = (r.points m.0).0 m.1 in (m.0, l.0, only m.0 (subst (λ ds. InCells ds m.0) s l.1)),
-      λ k. t.1 (k.0, (r.points k.0).1 (k.1, subst (λ ds. InCells ds k.0) (sym s) (inl (k.2, tt)))),
-    )
-  where
-    only : (p : Point) → InCells ((h ∷ []) ∷ []) p → Holds h p
-    only p (inl m) = m.0
-    only p (inr m) = absurd m
+met_in : (h : HalfPlane) (c side : Cell) (p : Point) → side ≡ h ∷ [] → InCell c p × InCell side p → InCell c p × Holds h p
+met_in h c side p s m = (m.0, (subst (λ ds. InCell ds p) s m.1).0)
+
+pub reached : (h : HalfPlane) (cs : List Cell) (i : ℕ) (c side there : Cell) → slice_get cs i ≡ Some c → side ≡ h ∷ []
+    → ((p : Point) → InCell there p ↔ (InCell c p × InCell side p)) → HasPoint there → Reaches h cs
+reached h cs i c side there e s points k =
+    let m = met_in h c side k.0 s ((points k.0).0 k.1) in
+    let so_far = subst (SomeOf (λ d. InCell d k.0)) (sym (take_one cs i c e)) ((some_append (λ d. InCell d k.0) (take i cs) (c ∷ [])).1 (inr (inl m.0))) in
+    (k.0, some_taken (λ d. InCell d k.0) cs (i + 1) so_far, m.1)
+
+pub not_reached : (h : HalfPlane) (cs : List Cell) (i : ℕ) (c side there : Cell) → slice_get cs i ≡ Some c → side ≡ h ∷ []
+    → ((p : Point) → InCell there p ↔ (InCell c p × InCell side p)) → ¬ (HasPoint there) → ¬ (Reaches h (take i cs)) → ¬ (Reaches h (take (i + 1) cs))
+not_reached h cs i c side there e s points none before = subst (λ ds. ¬ (Reaches h ds)) (sym (take_one cs i c e))
+    (λ k. elim ((some_append (λ d. InCell d k.0) (take i cs) (c ∷ [])).0 k.1) [
+      | inl u ↦ before (k.0, u, k.2)
+      | inr u ↦ elim u [
+        | inl v ↦ none (k.0, (points k.0).1 (v, subst (λ ds. InCell ds k.0) (sym s) (k.2, tt)))
+        | inr v ↦ v
+      ]
+    ])
 
 le_stable : (a b : ℤ) → ¬ (¬ (a ≤ℤ b)) → a ≤ℤ b
 le_stable a b n = elim (cases_order_ℤ b a) [ inl l ↦ absurd (n (λ h. omega (arith, ints))) | inr h ↦ h ]

@@ -4,8 +4,8 @@ ghost use Rattle.plane_terms.specs.Rectangle.{Rectangle, IsWithin};
 ghost use Rattle.plane_terms.specs.Cell.{IsLeastFrame};
 ghost use Rattle.sound_check.specs.Frames.{Reaches, HoldsAll, ReachesSides, Stands};
 
-use crate::rest::{cell_of, common};
-use convex_cell::Cells;
+use crate::rest::common;
+use convex_cell::{Cell, Cells};
 use dirty_area::Dirt;
 use grid_plane::{Half, NoMemory, Rect, x_over, x_under, y_over, y_under};
 use std::alloc::Global;
@@ -29,9 +29,14 @@ fn one_more(v: i32) -> i32
 fn reaches(alloc: Global, cells: &Cells, half: Half) -> Result<bool, NoMemory>
     ensures { IfOk result (λ yes. IsTrue yes ↔ Reaches half cells.now) }
 {
-    let side = cell_of(alloc, &[half])?;
-    let there = common(alloc, cells, &side)?;
-    Ok(there.len() != 0)
+    let side = Cell::of(alloc, &[half])?;
+    for i in 0..cells.len() {
+        let there = cells.cell(i).meet(alloc, &side.borrow())?;
+        if !there.is_empty() {
+            return Ok(true);
+        }
+    }
+    Ok(false)
 }
 
 /// Whether the frame holds every point of the cells.
