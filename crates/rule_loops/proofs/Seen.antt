@@ -1,6 +1,6 @@
 -- Over a view: whether a feature of the class passes a test, and how many of all their segments or ends do.
 use Rattle.std.proofs.Common.{◌≡◌, ℕ, ◌+◌, ◌<◌, ◌≤◌, Bool, true, false, List, [], ◌∷◌, Some}
-use Rattle.std.proofs.Common.{refl, sym, ◌∙◌, ap, take, length, get_or, cond, append-nil, arith}
+use Rattle.std.proofs.Common.{refl, sym, ◌∙◌, ap, take, drop, length, get_or, cond, append-nil, arith}
 use Rattle.std.specs.Prelude.{slice_get, ◌==◌, ◌&&◌, ◌||◌, flat_map}
 use Rattle.std.specs.List.{filter, list_any}
 use Rattle.std.proofs.lemmas.Grind.{flat_map-append}
@@ -22,7 +22,7 @@ use Rattle.rule_laws.proofs.Envelopes.{BothEnds, LiesIn, segments_ends, ends_in}
 use Rattle.cell_laws.proofs.AtPlaces.{same_is}
 use Rattle.rule_loops.specs.Views.{of_class, round_of, up_to_three}
 use Rattle.rule_loops.proofs.Boxes.{box_within}
-use Rattle.rule_loops.proofs.More.{class_more}
+use Rattle.rule_loops.proofs.More.{class_apart, class_more}
 use Rattle.plane_terms.proofs.ListLemmas.{how_many_joined}
 use Rattle.plane_terms.proofs.Truths.{both_parts}
 
@@ -143,6 +143,30 @@ pub segments_same : (q : Place) (n : ℕ) (V : List Feature) (i : ℕ) (g : Feat
     → round_of n q g ≡ false → count ≡ up_to_three (segments_at (of_class n (take i V)) q)
     → count ≡ up_to_three (segments_at (of_class n (take (i + 1) V)) q)
 segments_same q = round_same (λ (t : Segment). holds_place t q) sides q (no_segment q)
+
+pub segments_next : (q : Place) (n : ℕ) (V : List Feature) (i : ℕ) (g : Feature) (count new : ℕ) → slice_get V i ≡ Some g
+    → new ≡ cond (round_of n q g) (up_to_three (count + up_to_three (how_many (λ t. holds_place t q) (sides g)))) count
+    → count ≡ up_to_three (segments_at (of_class n (take i V)) q) → new ≡ up_to_three (segments_at (of_class n (take (i + 1) V)) q)
+segments_next q n V i g count new e m h = pick (round_of n q g) refl m
+  where
+    more : ℕ
+    more = up_to_three (count + up_to_three (how_many (λ t. holds_place t q) (sides g)))
+
+    pick : (b : Bool) → round_of n q g ≡ b → new ≡ cond b more count → new ≡ up_to_three (segments_at (of_class n (take (i + 1) V)) q)
+    pick true t m = m ∙ segments_more q n V i g count e t h
+    pick false t m = m ∙ segments_same q n V i g count e t h
+
+pub segments_fewer : (q : Place) (n : ℕ) (V : List Feature) (i : ℕ) → segments_at (of_class n (take i V)) q ≤ segments_at (of_class n V) q
+segments_fewer q n V i =
+    let all : segments_at (of_class n V) q ≡ segments_at (of_class n (take i V)) q + segments_at (of_class n (drop i V)) q =
+    ap (λ gs. segments_at gs q) (class_apart n V i)
+    ∙ (ap (how_many (λ t. holds_place t q)) (flat_map-append sides (of_class n (take i V)) (of_class n (drop i V)))
+    ∙ how_many_joined (λ t. holds_place t q) (flat_map sides (of_class n (take i V))) (flat_map sides (of_class n (drop i V)))) in
+    omega (arith, all)
+
+-- of those so far two, and so of all no single one
+pub not_single : (count m n : ℕ) → count ≡ up_to_three m → 1 < count → m ≤ n → (n == 1) ≡ false
+not_single count m n e l u = grind (arith, nat_tests)
 
 pub ends_more : (q : Place) (n : ℕ) (V : List Feature) (i : ℕ) (g : Feature) (count : ℕ) → slice_get V i ≡ Some g
     → round_of n q g ≡ true → count ≡ up_to_three (ends_at (of_class n (take i V)) q)

@@ -8,7 +8,7 @@ ghost use Rattle.topology_terms.specs.Plans as plans;
 ghost use Rattle.rule_loops.specs.Views.{of_class};
 
 use crate::around::{AtPlace, none_there};
-use crate::counts::{ends_at, segments_at};
+use crate::counts::{ends_at, is_single_at, segments_at};
 use crate::places::is_among;
 use convex_cell::{Cell, Cells};
 use grid_plane::{GridPoint, NoMemory};
@@ -46,7 +46,7 @@ impl Bad for Dangle {
     ghost bad = { plans.is_dangle };
 
     fn is_bad(class: u16, view: &View<'_>, place: GridPoint) -> bool {
-        segments_at(class, view, place) == 1
+        is_single_at(class, view, place)
     }
 }
 

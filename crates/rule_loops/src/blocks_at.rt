@@ -49,6 +49,9 @@ fn count_held(shape: &Shape, k: usize, place: GridPoint) -> usize
 pub(crate) fn count_on(shape: &Shape, place: GridPoint) -> usize
     ensures { result ≡ up_to_three (how_many (λ t. holds_place t place) (segments_of shape.now)) }
 {
+    if shape.frames().is_empty() {
+        return up_to_three(count_in(shape.segs(), place));
+    }
     let mut count = 0;
     for k in 0..block_count(shape) {
         count = up_to_three(count + count_held(shape, k, place));

@@ -1,4 +1,7 @@
-ghost use Rattle.std.specs.Prelude.{◌≡◌};
+ghost use Rattle.std.specs.Prelude.{◌≡◌, ◌≤◌, ◌+◌, ◌==◌, if◌then◌else◌};
+ghost use Rattle.plane_terms.specs.Lists.{how_many};
+ghost use Rattle.plane_terms.specs.Line.{holds_place};
+ghost use Rattle.topology_terms.specs.Feature.{sides};
 ghost use Rattle.topology_terms.specs.Tests as terms;
 ghost use Rattle.rule_loops.specs.Views.{of_class, round_of, up_to_three};
 
@@ -14,18 +17,41 @@ fn is_round(class: u16, place: GridPoint, other: &Feature) -> bool
     other.class() == class && other.shape().env().holds_point(place)
 }
 
+// The count with those segments of the feature that hold the place, where it is of the class; up to three.
+fn with_segments(count: usize, class: u16, place: GridPoint, other: &Feature) -> usize
+    requires { count ≤ 3 }
+    ensures { result ≡ if round_of class place other.now then up_to_three (count + up_to_three (how_many (λ t. holds_place t place) (sides other.now))) else count }
+{
+    if is_round(class, place, other) {
+        up_to_three(count + count_on(other.shape(), place))
+    } else {
+        count
+    }
+}
+
 /// How many segments of the features of the class that are shown hold the place, up to three.
 pub fn segments_at(class: u16, view: &View<'_>, place: GridPoint) -> usize
     ensures { result ≡ up_to_three (terms.segments_at (of_class class view.now) place) }
 {
     let mut count = 0;
     for i in 0..view.len() {
-        let other = view.feature(i);
-        if is_round(class, place, other) {
-            count = up_to_three(count + count_on(other.shape(), place));
-        }
+        count = with_segments(count, class, place, view.feature(i));
     }
     count
+}
+
+/// Whether one single segment of the features of the class that are shown holds the place. Looks no further once there are two.
+pub fn is_single_at(class: u16, view: &View<'_>, place: GridPoint) -> bool
+    ensures { result ≡ (terms.segments_at (of_class class view.now) place == 1) }
+{
+    let mut count = 0;
+    for i in 0..view.len() {
+        count = with_segments(count, class, place, view.feature(i));
+        if count > 1 {
+            return false;
+        }
+    }
+    count == 1
 }
 
 /// How many ends of the features of the class that are shown are at the place, up to three.
