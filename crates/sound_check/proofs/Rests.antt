@@ -1,5 +1,5 @@
 -- What is left of cells, carved step by step.
-use Rattle.std.proofs.Common.{◌≡◌, ◌↔◌, ◌∙◌, ℕ, zero, suc, ◌+◌, ◌≤◌, nat_eq, false, not, IsTrue, List, [], ◌∷◌, length, take, inl, inr, refl, sym, subst, ap}
+use Rattle.std.proofs.Common.{◌≡◌, ◌↔◌, ◌∙◌, ℕ, zero, suc, ◌+◌, ◌≤◌, nat_eq, false, IsTrue, List, [], ◌∷◌, length, take, inl, inr, refl, sym, subst, ap}
 use Rattle.std.specs.Prelude.{slice_get, Some}
 use Rattle.std.proofs.Math.Dec.{eqb-suc-zero}
 use Rattle.std.proofs.lemmas.Bool.{false≢true}
