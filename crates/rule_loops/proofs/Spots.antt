@@ -1,8 +1,7 @@
 -- Tests at a place of the grid: on a segment, below it; and how many elements pass a test.
 use Rattle.std.proofs.Common.{◌≡◌, ◌↔◌, ℕ, ◌+◌, ◌<◌, suc, Bool, true, false, List, [], ◌∷◌}
 use Rattle.std.proofs.Common.{Some, IsTrue, refl, sym, ◌∙◌, ap, take, length, get_or, cond, arith}
-use Rattle.std.specs.Prelude.{slice_get, not, int_le, ◌&&◌}
-use Rattle.std.proofs.lemmas.Bool.{false≢true}
+use Rattle.std.specs.Prelude.{slice_get, not, ◌&&◌}
 use Rattle.std.proofs.lemmas.List.{take_more}
 use Rattle.std.proofs.lemmas.Option.{get_or_from_slice_get, slice_get_within}
 use Rattle.plane_terms.specs.Lists.{how_many, is_odd}
@@ -24,14 +23,6 @@ and_false false b e = refl
 
 pub off_box : (s : Segment) (q : Place) → is_within (rect_at q) (box_of s) ≡ false → holds_place s q ≡ false
 off_box s q n = and_false (is_in_line s q) (box_holds (box_of s) q) n
-
-pub off_over : (s : Segment) (q : Place) → (int_le s.lo.x q.x && int_le q.x s.hi.x) ≡ false → holds_place s q ≡ false
-off_over s q n = and_false (is_in_line s q) (box_holds (box_of s) q) (over (int_le s.lo.x q.x) (int_le q.x s.hi.x) _ n)
-  where
-    over : (a b c : Bool) → (a && b) ≡ false → (a && (b && c)) ≡ false
-    over true true c e = absurd (false≢true (sym e))
-    over true false c e = refl
-    over false b c e = refl
 
 pub on_is : (s : Segment) (q : Place) (b : Bool) → IsSegment s → IsTrue b ↔ HoldsAt q (OnSegment s) → b ≡ holds_place s q
 on_is s q b g h = same_by_truth b (holds_place s q)

@@ -33,6 +33,7 @@ pub(crate) fn block(shape: &Shape, k: usize) -> &[Seg]
 }
 
 /// A rectangle round the block of this number.
+#[inline(always)]
 pub(crate) fn block_frame(shape: &Shape, k: usize) -> Rect
     requires { k < block_count (segments_of shape.now) }
     ensures { IsRound result (block_of k (segments_of shape.now)) }

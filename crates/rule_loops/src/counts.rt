@@ -18,6 +18,7 @@ fn is_round(class: u16, place: GridPoint, other: &Feature) -> bool
 }
 
 // The count with those segments of the feature that hold the place, where it is of the class; up to three.
+#[inline(always)]
 fn with_segments(count: usize, class: u16, place: GridPoint, other: &Feature) -> usize
     requires { count ≤ 3 }
     ensures { result ≡ if round_of class place other.now then up_to_three (count + up_to_three (how_many (λ t. holds_place t place) (sides other.now))) else count }

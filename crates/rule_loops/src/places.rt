@@ -1,4 +1,4 @@
-ghost use Rattle.std.specs.Prelude.{◌≡◌, ◌↔◌, ◌≤ℤ◌, ◌<ℤ◌, ◌&&◌, int_le, IsTrue};
+ghost use Rattle.std.specs.Prelude.{◌≡◌, ◌↔◌, ◌≤ℤ◌, ◌<ℤ◌, IsTrue};
 ghost use Rattle.plane_terms.specs.Lists.{how_many, is_odd};
 ghost use Rattle.plane_terms.specs.Line.{holds_place};
 ghost use Rattle.plane_terms.specs.Point.{same_place};
@@ -11,26 +11,10 @@ ghost use Rattle.rule_loops.specs.Views.{up_to_three};
 use grid_plane::{GridPoint, Seg};
 use shape::Shape;
 
-fn is_from_through(low: i32, v: i32, high: i32) -> bool
-    ensures { result ≡ (int_le low v && int_le v high) }
-{
-    low <= v && v <= high
-}
-
-// Whether the abscissa of the place is one of the segment's.
-fn is_over(segment: &Seg, place: GridPoint) -> bool
-    ensures { result ≡ (int_le segment.now.lo.x place.x && int_le place.x segment.now.hi.x) }
-{
-    is_from_through(segment.lo().x(), place.x(), segment.hi().x())
-}
-
-/// Whether the place is on the segment, its ends included. Its abscissa is tried first, then the segment's box.
+/// Whether the place is on the segment, its ends included. Its box is tried first.
 pub(crate) fn is_on(segment: &Seg, place: GridPoint) -> bool
     ensures { result ≡ holds_place segment.now place }
 {
-    if !is_over(segment, place) {
-        return false;
-    }
     segment.env().holds_point(place) && segment.holds(place)
 }
 
