@@ -8,13 +8,14 @@ usage: bench/coverings.py [--baseline WORDS] [--lines NAME ..] [--turns N] [--se
 
 Parcels and municipalities are those of bench/borders.py: they lie in a square and share their borders, a parcel with a vertex
 between two corners, a municipality with 50 segments a side. Of each twenty parcels one has drawn a corner back and leaves a slit. A
-zone has 200 vertices and lies over a hundred parcels, or over all of them; its border and theirs are not the same. A road of 2,000
+zone has 200 vertices and lies over a hundred parcels, or over all of them; its border and theirs are not the same. The two neighbours of
+a jagged border are those of bench/borders.py too. A road of 2,000
 vertices runs along the lower borders of twenty areas of 400 vertices; one vertex in 500 lies beside the border. An edit moves a vertex
 of a parcel, of a municipality, of an area or of a path, and validates a window round it.
 """
 import sys
 
-from borders import Country
+from borders import Country, jagged, turned
 from programs import added, edits, line, print_edited_maps
 
 ACROSS = 20
@@ -79,6 +80,8 @@ def maps():
         yield 'gaps, %s parcels' % format(rows ** 2, ','), lambda rows=rows: gaps(parcels(rows), 200)
     for rows in (4, 8, 20):
         yield 'gaps, %d municipalities of 200 vertices' % rows ** 2, lambda rows=rows: gaps(Country(rows).rings(), 50)
+    for name, turn in (('north', list), ('turned', turned)):
+        yield 'gaps, jagged border of 1,024 vertices, ' + name, lambda turn=turn: gaps(turn(jagged(1024)), 20)
     for rows in (30, 60, 100):
         name = '%s parcels and %d zones' % (format(rows ** 2, ','), rows ** 2 // 100)
         rule = 'polygon_must_be_covered_by_feature_class_of '
