@@ -15,7 +15,7 @@ pub may_whole : (may : ℕ → Option Feature → Type 0) (d : ℕ) (ts : List K
     → MayEach may ts
 may_whole may d ts m l = subst (MayEach may) (take-append-drop d ts) (each_both may (take d ts) (drop d ts) m l)
 
-before_seam : (n : ℕ) (before : List KeptStep) (s : KeptStep) (after : List KeptStep) → length before ≡ n
+pub before_seam : (n : ℕ) (before : List KeptStep) (s : KeptStep) (after : List KeptStep) → length before ≡ n
     → take n (before ++ s ∷ after) ≡ before
 before_seam zero [] s after e = refl
 before_seam (suc n) [] s after e = absurd (omega (arith, e))

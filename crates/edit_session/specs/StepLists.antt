@@ -1,6 +1,8 @@
 -- The steps of a session, and where the first step of each handle stands.
 --
 -- StepList         the steps, the first one first, and for how many more there is room
+-- kept_in m        what the step at an index keeps, where the map m has the features that steps keep
+-- steps_of at hs   the steps of these handles: the one at the index i keeps what `at` has there
 -- first_of h ts    the index of the first step of the handle h
 -- AreFirsts m ts   the map m gives for each handle the index of its first step, and nothing for a handle without a step
 -- IsSwappedAt i    at the index i, what the step kept was exchanged with what stood at its handle on the ground
@@ -13,6 +15,13 @@ use Rattle.session_terms.specs.Kept.{KeptStep}
 pub record StepList : Type 0 where
   pub items : List KeptStep
   pub room : ℕ
+
+abbrev pub kept_in : {S : Type 0} → HashMap ℕ Feature S → ℕ → Option Feature
+kept_in m i = get nat_eq m i
+
+abbrev pub steps_of : (ℕ → Option Feature) → List ℕ → List KeptStep
+steps_of at [] = []
+steps_of at (h ∷ hs) = record { handle = h; kept = at 0 } ∷ steps_of (λ i. at (suc i)) hs
 
 abbrev pub first_of : ℕ → List KeptStep → Option ℕ
 first_of h [] = None

@@ -1,4 +1,5 @@
 ghost use Rattle.std.specs.Prelude.{◌≡◌, ◌≤◌, ◌<◌, ℕ, Option, OnOk, OnErr, IfSome};
+ghost use Rattle.std.proofs.Common.{refl};
 ghost use Rattle.topology_terms.specs.Feature as terms;
 ghost use Rattle.topology_terms.specs.Feature.{feature_at};
 ghost use Rattle.feature_store.specs.Stored.{IsSame};
@@ -34,6 +35,8 @@ pub trait Ground {
 
     ghost may_still: { (h : ℕ) (before after : Option terms.Feature) (s t : Self) (k : ℕ) (x : Option terms.Feature) → swapped h before after s t → may_stand s k x → may_stand t k x };
 
+    ghost same_self: { (s : Self) → same s s };
+
     ghost same_live: { (s t : Self) (k : ℕ) → same s t → live t k ≡ live s k };
 
     ghost same_may: { (s t : Self) (k : ℕ) (x : Option terms.Feature) → same s t → may_stand s k x → may_stand t k x };
@@ -59,6 +62,8 @@ impl Ground for Store {
     ghost may_again = { may_again };
 
     ghost may_still = { may_still };
+
+    ghost same_self = { λ _. record { classes = refl; features = refl; next = refl } };
 
     ghost same_live = { same_live };
 

@@ -1,4 +1,5 @@
 ghost use Rattle.std.specs.Prelude.{◌≡◌};
+ghost use Rattle.std.proofs.Common.{refl};
 ghost use Rattle.topology_terms.specs.Feature.{feature_at};
 ghost use Rattle.edit_session.specs.Grounds.{IsMayStand};
 ghost use Rattle.edit_session.specs.OverTopologies.{IsGroundSwap, may_again, may_still, same_live, same_may};
@@ -28,6 +29,8 @@ impl<R: KindRules> Ground for Topology<R> {
     ghost may_again = { may_again R.meaning };
 
     ghost may_still = { may_still R.meaning };
+
+    ghost same_self = { λ _. refl };
 
     ghost same_live = { same_live };
 

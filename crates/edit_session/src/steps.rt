@@ -6,31 +6,34 @@ ghost use Rattle.edit_session.specs.StepLists.{IsSwappedAt};
 
 use crate::firsts::{Firsts, put_step, take_step};
 use crate::ground_of::Ground;
+use crate::kept::{self, Kept};
 use crate::step::Step;
 use grid_plane::NoMemory;
 use std::alloc::Global;
 use std::collections::HashMap;
 use std::marker::Model;
 
-/// The steps of a session. It finds a handle in the same time, however many steps there are.
+/// The steps of a session. It finds a handle in the same time, however many steps there are. What a step keeps stands apart, so that
+/// one that keeps nothing, as each that added a feature, takes little room.
 #[derive(Drop)]
 pub(crate) struct Steps {
-    steps: Vec<Step>,
+    handles: Vec<u32>,
+    kept: Kept,
     firsts: Firsts,
-    // for how many more steps there is room in both
+    // for how many more steps there is room in all three: one or none
     room: usize,
 }
 
 impl Model for Steps {
-    ghost use Rattle.std.specs.Prelude.{◌≡◌, ◌+◌, ◌≤◌, vec_len, vec_capacity};
-    ghost use Rattle.std.specs.HashMap.{spare};
-    ghost use Rattle.edit_session.specs.StepLists.{StepList, AreFirsts};
+    ghost use Rattle.std.specs.Prelude.{◌≡◌, ◌+◌, ◌≤◌, ℕ, None, length, nat_eq, vec_len, vec_capacity};
+    ghost use Rattle.std.specs.HashMap.{get, spare};
+    ghost use Rattle.edit_session.specs.StepLists.{StepList, AreFirsts, steps_of, kept_in};
 
     ghost Value = { StepList };
 
-    ghost view = { λ s. record { items = s.steps.items; room = s.room } };
+    ghost view = { λ s. record { items = steps_of (kept_in s.kept) s.handles.items; room = s.room } };
 
-    ghost invariant = { λ s. AreFirsts s.firsts s.steps.items × (vec_len s.steps + s.room ≤ vec_capacity s.steps) × (s.room ≤ spare s.firsts) };
+    ghost invariant = { λ s. AreFirsts s.firsts (steps_of (kept_in s.kept) s.handles.items) × ((i : ℕ) → length s.handles.items ≤ i → kept_in s.kept i ≡ None) × (vec_len s.handles + s.room ≤ vec_capacity s.handles) × (s.room ≤ spare s.kept) × (s.room ≤ spare s.firsts) × (s.room ≤ 1) };
 }
 
 impl Steps {
@@ -39,7 +42,8 @@ impl Steps {
         ensures { result.items ≡ [] }
     {
         Steps {
-            steps: Vec::new(alloc),
+            handles: Vec::new(alloc),
+            kept: HashMap::new(alloc),
             firsts: HashMap::new(alloc),
             room: 0,
         }
@@ -48,7 +52,7 @@ impl Steps {
     pub(crate) fn len(&self) -> usize
         ensures { result ≡ length self.now.items }
     {
-        self.steps.len()
+        self.handles.len()
     }
 
     /// Whether a step is of this handle.
@@ -65,7 +69,8 @@ impl Steps {
         ensures kept { OnErr result (self.new ≡ self.old) }
     {
         if self.room == 0 {
-            self.steps.reserve(1)?;
+            self.handles.reserve(1)?;
+            kept::make_room(&mut self.kept, 1)?;
             self.firsts.reserve(1)?;
             self.room = 1;
         }
@@ -77,12 +82,12 @@ impl Steps {
         ensures items { self.new.items ≡ take (length self.old.items - 1) self.old.items }
         ensures room { self.new.room ≡ self.old.room }
     {
-        let Some(step) = self.steps.last() else {
+        let Some(handle) = self.handles.pop() else {
             return;
         };
-        let handle = step.handle;
-        self.steps.pop();
-        take_step(&mut self.firsts, handle, self.steps.len());
+        let index = self.handles.len();
+        take_step(&mut self.firsts, handle, index);
+        kept::take(&mut self.kept, index);
     }
 
     /// Leaves the first steps, as many as this.
@@ -101,8 +106,11 @@ impl Steps {
         ensures items { self.new.items ≡ self.old.items ++ step ∷ [] }
         ensures few { length self.new.items < 2 ^ 64 }
     {
-        put_step(&mut self.firsts, step.handle, self.steps.len());
-        self.steps.push_reserved(step);
+        let Step { handle, kept } = step;
+        let index = self.handles.len();
+        put_step(&mut self.firsts, handle, index);
+        kept::put(&mut self.kept, index, kept);
+        self.handles.push_reserved(handle);
         self.room -= 1;
     }
 
@@ -116,7 +124,11 @@ impl Steps {
         ensures kept { OnErr result (self.new ≡ self.old) }
         ensures same { OnErr result (G.same ground.old ground.new) }
     {
-        let step = &mut self.steps[index];
-        ground.swap(step.handle, &mut step.kept)
+        kept::make_room(&mut self.kept, 2)?;
+        let handle = self.handles[index];
+        let mut kept = kept::take(&mut self.kept, index);
+        let swapped = ground.swap(handle, &mut kept);
+        kept::put(&mut self.kept, index, kept);
+        swapped
     }
 }
