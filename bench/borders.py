@@ -10,6 +10,7 @@ A jagged border goes from side to side between two lines, a winding one wanders;
 x and y exchanged. Municipalities lie in a square, with winding common borders of 50 segments a side. The lake has 2,000
 vertices and covers parcels in rows, or has lots along its shore. A strip is one row of parcels. Each map has two rows: the
 time of a validation of everything, less the time of the same script without it, and the peak of memory of the script with it.
+Of the shorter borders there are as many pairs of neighbours, apart, as make some 6,000 vertices, and the time is that of one pair.
 """
 import random
 import sys
@@ -42,6 +43,11 @@ def winding(count):
 def beside(border):
     low, high = border[0][1], border[-1][1]
     return [[(-6000, low)] + border + [(-6000, high)], [(6000, low)] + border + [(6000, high)]]
+
+
+def pairs(rings, count):
+    """So many copies of these neighbours, side by side and apart."""
+    return [[(x + 20000 * number, y) for x, y in ring] for number in range(count) for ring in rings]
 
 
 class Country:
@@ -96,12 +102,19 @@ def lots(lake):
 
 
 def maps():
-    """The name of each line of the table, and a function that makes its script."""
-    for count in (101, 201, 1024):
+    """The name of each line of the table, and a function that makes its script, and says how often the map stands in it."""
+    for count, times in (101, 64), (201, 32), (1024, 1):
         for name, make in (('jagged', jagged), ('winding', winding)):
             title = '%s border of %d vertices' % (name, count)
-            yield title + ', north', lambda make=make, count=count: ONE + added('areas', make(count))
-            yield title + ', turned', lambda make=make, count=count: ONE + added('areas', turned(make(count)))
+            for way, turn in (('north', list), ('turned', turned)):
+                map_of = lambda make=make, turn=turn, count=count, times=times: turn(pairs(make(count), times))
+                yield title + ', ' + way, lambda map_of=map_of, times=times: (ONE + added('areas', map_of()), times)
+    for name, make in single_maps():
+        yield name, lambda make=make: (make(), 1)
+
+
+def single_maps():
+    """The same of the maps that stand once in their scripts: a function makes the script alone."""
     for size in (4, 8, 20):
         yield 'municipalities, %d of 200 vertices' % size ** 2, lambda size=size: ONE + added('areas', Country(size).rings())
     for name, make in (('combs', comb), ('zigzags', zigzag)):
@@ -115,9 +128,9 @@ def maps():
 
 
 def print_map(table, name, take, make):
-    lines = make()
+    lines, times = make()
     before, after = take(lines), take(lines + ['validate all'])
-    table.row(name, 'ms', [before, after], beyond(after, before, 1e3))
+    table.row(name, 'ms', [before, after], beyond(after, before, 1e3 / times))
     table.row(name + ': memory', 'MiB', [after], lambda i: after[i].kilobytes / 1024)
 
 

@@ -64,29 +64,29 @@ def along_areas(rows):
     country = Country(ACROSS, 100, 20000)
     areas = [country.ring(column, row) for row in range(rows) for column in range(ACROSS)]
     lines = head('line_must_be_covered_by_boundary_of roads areas', ('areas', 'polygon'), ('roads', 'line'))
-    return lines + added('areas', areas) + added('roads', roads(country, rows), line), edits(areas, 20)
+    return lines + added('areas', areas) + added('roads', roads(country, rows), line), edits(areas, 200)
 
 
 def along_paths(rows):
     country = Country(ACROSS, 100, 20000)
     paths = [country.side(column, row, False) + country.side(column + 1, row, False)[:1] for row in range(rows) for column in range(ACROSS)]
     lines = head('line_must_be_covered_by_feature_class_of roads paths', ('paths', 'line'), ('roads', 'line'))
-    return lines + added('paths', paths, line) + added('roads', roads(country, rows), line), edits(paths, 20, line)
+    return lines + added('paths', paths, line) + added('roads', roads(country, rows), line), edits(paths, 200, line)
 
 
 def maps():
     """The name of each map, and a function that makes the lines that found it and its edits."""
     for rows in (30, 60, 100):
-        yield 'gaps, %s parcels' % format(rows ** 2, ','), lambda rows=rows: gaps(parcels(rows), 200)
+        yield 'gaps, %s parcels' % format(rows ** 2, ','), lambda rows=rows: gaps(parcels(rows), 1000)
     for rows in (4, 8, 20):
         yield 'gaps, %d municipalities of 200 vertices' % rows ** 2, lambda rows=rows: gaps(Country(rows).rings(), 50)
     for name, turn in (('north', list), ('turned', turned)):
-        yield 'gaps, jagged border of 1,024 vertices, ' + name, lambda turn=turn: gaps(turn(jagged(1024)), 20)
+        yield 'gaps, jagged border of 1,024 vertices, ' + name, lambda turn=turn: gaps(turn(jagged(1024)), 100)
     for rows in (30, 60, 100):
         name = '%s parcels and %d zones' % (format(rows ** 2, ','), rows ** 2 // 100)
         rule = 'polygon_must_be_covered_by_feature_class_of '
-        yield 'parcels covered, ' + name, lambda rows=rows, rule=rule: zoned(rows, rule + 'parcels zones', 200)
-        yield 'zones covered, ' + name, lambda rows=rows, rule=rule: zoned(rows, rule + 'zones parcels', 20)
+        yield 'parcels covered, ' + name, lambda rows=rows, rule=rule: zoned(rows, rule + 'parcels zones', 2000)
+        yield 'zones covered, ' + name, lambda rows=rows, rule=rule: zoned(rows, rule + 'zones parcels', 50)
     for rows in (20, 30, 40):
         name = 'one zone covered, by %s parcels' % format(rows ** 2, ',')
         yield name, lambda rows=rows: zoned(rows, 'polygon_must_be_covered_by_feature_class_of zones parcels', 4, rows)

@@ -4,7 +4,7 @@
 usage: bench/moved.py [--baseline WORDS] [--sizes N,N,..] [--edits N] [--turns N] [--seconds N] [--program WORDS]
 
   --sizes N,..    how many points there are: 10000,100000,1000000 where it is left out
-  --edits N       how many of them are moved, each by one unit (1,000, and no more than there are)
+  --edits N       how many of them are moved, each by one unit (20,000, and no more than there are)
   the others      as in bench/run.py
 
 The points are those of bench/run.py, at places apart, and all validated. The time of an edit should not grow with their number:
@@ -35,7 +35,7 @@ def print_row(table, folder, count, programs, given):
 
 
 def main():
-    add_words = lambda parser: parser.add_argument('--edits', type=int, default=1000)
+    add_words = lambda parser: parser.add_argument('--edits', type=int, default=20000)
     return print_sizes(__doc__, 'points', '--sizes', '10000,100000,1000000', print_row, add_words)
 
 

@@ -62,7 +62,7 @@ class Network:
 
 def network(size, rules):
     roads = Network(size).roads()
-    return head(*rules) + added('roads', roads, line), edits(roads, 200, line)
+    return head(*rules) + added('roads', roads, line), edits(roads, 2000, line)
 
 
 def long_line(rule):
@@ -74,7 +74,7 @@ def long_line(rule):
         a, b = winding[2 * i], winding[2 * i + 1]
         x, y = (a[0] + b[0]) // 2, (a[1] + b[1]) // 2
         short.append([a, (a[0] - 200, a[1])] if i % 10 == 0 else [(x, y - 12), (x + lot.randint(-9, 9), y + 12)])
-    return head(rule) + added('roads', short + [winding], line), edits(short, 20, line)
+    return head(rule) + added('roads', short + [winding], line), edits(short, 1000, line)
 
 
 def maps():

@@ -4,11 +4,11 @@
 usage: bench/together.py [--baseline WORDS] [--steps N,N,..] [--undone N] [--turns N] [--seconds N] [--program WORDS]
 
   --steps N,..    how many steps the session has: 1000,10000,100000 where it is left out
-  --undone N      how many of the last ones are undone, and then done again (1,000, and no more than there are)
+  --undone N      how many of the last ones are undone, and then done again (1,000, and no more than there are), twenty times over
   the others      as in bench/run.py
 
 There are as many points as the session has steps; each step moves one of them. Three scripts begin with the same lines: in one
-the steps are remarks, one ends after the steps, one undoes the last of them and does them again. The memory of a step is what
+the steps are remarks, one ends after the steps, one undoes the last of them and does them again, twenty times over. The memory of a step is what
 the second takes beyond the first, the time of an undo or a redo what the third takes beyond the second. Neither should grow
 with the steps.
 """
@@ -17,6 +17,8 @@ import sys
 from features import HEADS, added
 from programs import beyond, measure_lines, print_sizes
 from run import place_of
+
+ROUNDS = 20
 
 
 def steps_of(count):
@@ -29,7 +31,7 @@ def print_row(table, folder, count, programs, given):
     take = lambda lines: measure_lines(folder, lines, programs, given)
     points, steps = HEADS['points'] + added('points', count) + ['end ann'], steps_of(count)
     times = min(given.undone, count)
-    back = ['by bob undo'] * times + ['by bob redo'] * times
+    back = (['by bob undo'] * times + ['by bob redo'] * times) * ROUNDS
     none, before, after = take(points + ['# ' + step for step in steps]), take(points + steps), take(points + steps + back)
     bytes_of = lambda i: (before[i].kilobytes - none[i].kilobytes) * 1024 / count
     table.row('%s steps: memory of each' % format(count, ','), 'bytes', [none, before], bytes_of)

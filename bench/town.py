@@ -4,7 +4,7 @@
 usage: bench/town.py [--baseline WORDS] [--rows N,N,..] [--edits N] [--turns N] [--seconds N] [--program WORDS]
 
   --rows N,..    how many rows of as many parcels: 30,60,100,300 where it is left out
-  --edits N      how many small edits, each with a validation of a small window (1,000)
+  --edits N      how many small edits, each with a validation of a small window (5,000)
   the others     as in bench/run.py
 
 A corner of the town is shared by the parcels round it, and lies somewhat off its place on the lattice, as in a cadastre;
@@ -94,7 +94,7 @@ def print_rows(table, folder, rows, programs, given):
 
 
 def main():
-    add_words = lambda parser: parser.add_argument('--edits', type=int, default=1000)
+    add_words = lambda parser: parser.add_argument('--edits', type=int, default=5000)
     return print_sizes(__doc__, 'town', '--rows', '30,60,100,300', print_rows, add_words)
 
 

@@ -48,11 +48,11 @@ def in_towns(country, rings):
 
 
 def contained(country, rings, wells):
-    return head(CONTAINS) + added('areas', rings) + added('wells', wells, spot), edits(rings, 200 if len(rings) > 400 else 20)
+    return head(CONTAINS) + added('areas', rings) + added('wells', wells, spot), edits(rings, 2000 if len(rings) > 400 else 200)
 
 
 def inside(country, rings, wells):
-    return head(INSIDE) + added('wells', wells, spot) + added('areas', rings), edits(wells, 200, spot)
+    return head(INSIDE) + added('wells', wells, spot) + added('areas', rings), edits(wells, 2000, spot)
 
 
 def made(make, country, place):
