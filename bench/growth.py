@@ -1,0 +1,130 @@
+#!/usr/bin/env python3
+"""How many instructions a step takes as the map around it grows: they are the same on every run, whatever else the machine does.
+
+usage: bench/growth.py [--baseline WORDS] [--lines NAME ..] [--program WORDS]
+
+  --lines NAME ..   the series whose names begin with one of these; all where it is left out
+  the others        as in bench/run.py
+
+A series is a map of several sizes. Each figure is what a script takes beyond one that ends earlier, divided by the number of
+steps: edits with their windows, windows in much dirt, undos, vertices of a border. The last column says how many times the figure
+of the size before it is, and how many times that size. Needs valgrind, which counts the instructions.
+"""
+import re
+import shutil
+import subprocess
+import sys
+import tempfile
+
+from borders import ONE, jagged, turned, winding
+from coverings import gaps
+from features import HEADS
+from features import added as added_features
+from late import HEADS as LATE_HEADS
+from late import early_and_late, windows
+from moved import moved
+from programs import added, edits, parser_of, programs_of
+from together import steps_of
+from town import HEAD, Town, founding
+
+EDITS, UNDOS, WINDOWS = 500, 1000, 100
+# A polygon has at most 2,000 vertices.
+DOUBLED = [248, 496, 992, 1984]
+
+
+def instructions(words, lines):
+    """How many instructions the program takes for a script of these lines."""
+    with tempfile.TemporaryFile('w+') as script:
+        script.writelines(line + '\n' for line in lines)
+        script.seek(0)
+        counting = ['valgrind', '--tool=callgrind', '--callgrind-out-file=/dev/null'] + words + ['replay']
+        run = subprocess.run(counting, stdin=script, stdout=subprocess.DEVNULL, stderr=subprocess.PIPE, text=True, check=True)
+    return int(re.search(r'Collected *: *(\d+)', run.stderr)[1])
+
+
+def town(rows):
+    """The town of bench/town.py, validated, and small edits."""
+    made = Town(rows)
+    editing = edits(made.parcels(), EDITS)
+    return HEAD + founding(made) + ['validate all'], editing, EDITS
+
+
+def points(count):
+    """The points of bench/moved.py, validated, and small moves."""
+    return HEADS['points'] + added_features('points', count) + ['validate all'], moved(count, EDITS), EDITS
+
+
+def late(kind, count):
+    """The late features of bench/late.py, and small windows."""
+    early, more, numbers = early_and_late(kind, count)
+    return LATE_HEADS[kind] + early + ['validate all'] + more, windows(numbers[:WINDOWS]), WINDOWS
+
+
+def session(count):
+    """The session of bench/together.py, and the last steps undone and done again."""
+    back = ['by bob undo'] * UNDOS + ['by bob redo'] * UNDOS
+    return HEADS['points'] + added_features('points', count) + ['end ann'] + steps_of(count), back, len(back)
+
+
+def border(make, count):
+    """Two neighbours of bench/borders.py, and their validation."""
+    return ONE + added('areas', make(count)), ['validate all'], count
+
+
+def gap_edits(make, count):
+    """The same neighbours under the rule of gaps, and edits."""
+    founded, editing = gaps(make(count), 20)
+    return founded + ['validate all'], editing, 20 * count
+
+
+def all_series():
+    """The name of each series, its unit, its sizes, and what makes the two parts of the script and says how many steps the second has."""
+    yield 'an edit in a town of N parcels', [900, 3600, 10000, 90000], lambda size: town(round(size ** 0.5))
+    yield 'a point moved, of N', [10000, 100000, 300000], points
+    for kind in LATE_HEADS:
+        yield 'a window in N dirty %s' % kind, [3000, 10000, 30000], lambda size, kind=kind: late(kind, size)
+    yield 'an undo or a redo, of N steps', [1000, 10000, 100000], session
+    for name, make in (('jagged', jagged), ('winding', winding)):
+        for way, turn in (('north', list), ('turned', turned)):
+            map_of = lambda count, make=make, turn=turn: turn(make(count))
+            yield 'a vertex of a %s border of N, %s' % (name, way), DOUBLED, lambda size, map_of=map_of: border(map_of, size)
+            if make is jagged:
+                title = 'the same in an edit under the rule of gaps, of a jagged border of N, %s' % way
+                yield title, DOUBLED, lambda size, map_of=map_of: gap_edits(map_of, size)
+
+
+def step_of(words, made):
+    """The instructions that a step of the second part takes."""
+    before, more, steps = made
+    return (instructions(words, before + more) - instructions(words, before)) / steps
+
+
+def print_series(name, sizes, make, programs):
+    """A row for each size."""
+    last = None
+    for size in sizes:
+        values = [step_of(words, make(size)) for words in programs]
+        cells = [name.replace('N', format(size, ','), 1)] + [format(round(value), ',') for value in values]
+        if len(values) == 2:
+            cells.append('%.2f' % (values[0] / values[1]))
+        cells.append('%.2f for %.1f' % (values[0] / last[1], size / last[0]) if last else '')
+        print('| ' + ' | '.join(cells) + ' |', flush=True)
+        last = size, values[0]
+
+
+def main():
+    parser = parser_of(__doc__)
+    parser.add_argument('--lines', nargs='+', default=[''])
+    given = parser.parse_args()
+    if not shutil.which('valgrind'):
+        sys.exit('valgrind is not found: it counts the instructions')
+    programs = programs_of(given)
+    names = ['step', 'instructions'] + ['of the baseline', 'ratio'] * (len(programs) == 2) + ['growth']
+    print('| ' + ' | '.join(names) + ' |\n|' + '---|' * len(names), flush=True)
+    for name, sizes, make in all_series():
+        if name.startswith(tuple(given.lines)):
+            print_series(name, sizes, make, programs)
+
+
+if __name__ == '__main__':
+    sys.exit(main())
