@@ -10,6 +10,7 @@ from .texts import KINDS
 
 MOST_BYTES = 1048576
 LISTINGS = ('errors', 'cells', 'dirty', 'features', 'rules')
+ENDS = ('ok', 'refused', 'total ')
 
 Half = tuple[int, int, int, str]
 Frame = tuple[int, int, int, int]
@@ -64,17 +65,29 @@ def is_skipped(line: bytes) -> bool:
 
 
 def reply_of(replies: BinaryIO) -> list[str]:
-    """The next reply: its one line, or a listing with its total."""
+    """The next reply: its one line, or a listing with its total; only a beginning of it where the replies end earlier."""
     lines = []
     for line in replies:
+        if not line.endswith(b'\n'):
+            break
         lines.append(line.decode('utf-8', 'replace').rstrip('\n'))
-        if lines[-1].startswith(('ok', 'refused', 'total ')):
+        if lines[-1].startswith(ENDS):
             break
     return lines
 
 
+def check_whole(number: int, reply: list[str]) -> None:
+    """Raises a ReplyError where this is not the whole reply to a line of this number."""
+    if not reply:
+        raise ReplyError('line %d has no reply: the replay ended before it' % number)
+    if reply[0].startswith('project refused'):
+        raise ReplyError('the project was not opened, so no line has a reply: %s' % reply[0])
+    if not reply[-1].startswith(ENDS):
+        raise ReplyError('the reply to line %d is not whole: the replay ended within it' % number)
+
+
 def answers_of(script: BinaryIO, replies: BinaryIO) -> Iterator[Answer]:
-    """The lines of a script with their replies, one at a time; a ReplyError where there are more lines or more replies."""
+    """The lines of a script with their replies, one at a time; a ReplyError where a reply is missing, cut off or one too many."""
     for number, line in enumerate(script, 1):
         line = line[:-1] if line.endswith(b'\n') else line
         text = line.decode('utf-8', 'replace').rstrip('\r')
@@ -82,8 +95,7 @@ def answers_of(script: BinaryIO, replies: BinaryIO) -> Iterator[Answer]:
             yield Answer(number, text, [])
             continue
         reply = reply_of(replies)
-        if not reply:
-            raise ReplyError('line %d has no reply: the replay ended before it' % number)
+        check_whole(number, reply)
         yield Answer(number, text, reply)
     if replies.read(1):
         raise ReplyError('there are more replies than lines')

@@ -105,6 +105,16 @@ class Replies(Case):
         self.assertEqual(self.report('class a point\nerrors\n', 'ok 1\n'), (2, '', 'report: line 2 has no reply: the replay ended before it\n'))
         self.assertEqual(self.report('errors\n', 'total 0\nok 1\n'), (2, '', 'report: there are more replies than lines\n'))
 
+    def test_replies_that_break_off(self):
+        said = 'report: the reply to line 2 is not whole: the replay ended within it\n'
+        self.assertEqual(self.report('class a point\nerrors\n', 'ok 1\nerror 1 2 0 cells 0 0 1 1\n'), (2, '', said))
+        said = 'report: line 1 has no reply: the replay ended before it\n'
+        self.assertEqual(self.report('errors\n', 'total 0'), (2, '', said))
+
+    def test_a_project_that_was_refused(self):
+        said = 'report: the project was not opened, so no line has a reply: project refused line 7 form\n'
+        self.assertEqual(self.report('errors\n', 'project refused line 7 form\n'), (2, '', said))
+
 
 class Definition(unittest.TestCase):
     def test_the_header_is_that_of_the_definition(self):
