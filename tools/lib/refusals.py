@@ -105,8 +105,10 @@ def form_fault(line: str, words: list[str]) -> str:
     """The first thing that keeps a line from having a form; nothing where it has one."""
     if words[0] not in FORMS:
         return 'no line begins with `%s`%s' % (words[0], nearest(words[0], FORMS))
+    if words == ['validate']:
+        return '`all` or a window is missing (the forms are `validate all` and `%s`)' % FORMS['validate']
     if words[0] == 'by' and len(words) > 2 and words[2] not in DEEDS:
-        return name_fault(words[1]) or choice_fault(words[2], list(DEEDS), 'word behind an editor')
+        return name_fault(words[1]) or choice_fault(words[2], list(DEEDS), 'word after an editor')
     form = form_of(words)
     pieces = form.split(' ')
     has_shape = pieces[-1] == 'WKT'
@@ -202,7 +204,7 @@ SENTENCES: dict[str, Callable[[Refused], str]] = {
     'E08': lambda of: '256 rules are in force, and no more can be',
     'E09': lambda of: 'no rule in force has the number %s' % of.words[1],
     'E10': lambda of: 'the session of `%s` is open already' % of.words[1],
-    'E11': lambda of: 'as many sessions are open as can be',
+    'E11': lambda of: '16 sessions are open, and no more can be',
     'E12': lambda of: 'no session of `%s` is open; a line `begin %s` opens it' % (of.words[1], of.words[1]),
     'E13': unfit_shape,
     'E14': off_grid,
@@ -212,12 +214,12 @@ SENTENCES: dict[str, Callable[[Refused], str]] = {
     'E18': not_valid,
     'E19': lambda of: 'there is no feature %s' % of.words[3],
     'E20': lambda of: 'the feature %s is held by %s' % (of.words[3], ' '.join(of.details)),
-    'E21': lambda of: 'the handles are spent',
+    'E21': lambda of: 'all handles are used up',
     'E22': lambda of: 'the session has nothing to undo',
     'E23': lambda of: 'the session has nothing to redo',
     'E24': lambda of: 'the window is reversed: its least corner comes first',
-    'E25': lambda of: 'there is no such error',
-    'E26': lambda of: 'the error has this mark already',
+    'E25': lambda of: 'no error is listed of rule %s with subject %s and partner %s; `errors` lists them all' % tuple(of.words[1:4]),
+    'E26': lambda of: 'the error is an exception already' if of.words[0] == 'mark' else 'the error is no exception',
 }
 
 

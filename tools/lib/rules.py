@@ -40,9 +40,10 @@ class RuleError(Exception):
 
 
 def nearest(word: str, words: Iterable[str]) -> str:
-    """The word that is most like this one, as a question behind a sentence; nothing where none is."""
-    near = difflib.get_close_matches(word, list(words), 1, 0.6) or difflib.get_close_matches(word.lower(), list(words), 1, 0.6)
-    return '; did you mean `%s`?' % near[0] if near else ''
+    """The words that this one ends, or else the one that is most like it, as a question after a sentence; nothing where none is."""
+    near = [each for each in words if each.endswith('_' + word)]
+    near = near or difflib.get_close_matches(word, list(words), 1, 0.6) or difflib.get_close_matches(word.lower(), list(words), 1, 0.6)
+    return '; did you mean %s?' % ' or '.join('`%s`' % each for each in near) if near else ''
 
 
 def rule_line(words: list[str], classes: dict[str, str]) -> str:
