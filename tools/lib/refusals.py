@@ -43,7 +43,7 @@ def name_fault(name: str) -> str:
     """Why this is no name; nothing where it is one."""
     wrong = re.search(r'[^A-Za-z0-9_]', name)
     if wrong:
-        return '`%s` is no name, since no name has `%s`: a name has letters from A to z, digits and `_` alone' % (name, wrong[0])
+        return '`%s` is no name, since no name has `%s`: a name has only the letters A to Z and a to z, digits and `_`' % (name, wrong[0])
     if not name[:1].isalpha():
         return '`%s` is no name: a name begins with a letter' % name
     return '`%s` is no name: a name has 32 letters at most, and this has %d' % (name, len(name)) if len(name) > 32 else ''
@@ -101,14 +101,26 @@ def form_of(words: list[str]) -> str:
     return 'validate all' if words[0] == 'validate' and len(words) < 3 else FORMS[words[0]]
 
 
-def form_fault(line: str, words: list[str]) -> str:
-    """The first thing that keeps a line from having a form; nothing where it has one."""
+def choosing_fault(words: list[str]) -> str:
+    """What is wrong with the words that choose the form of a line; nothing where they choose one."""
+    if words[0].startswith('\ufeff'):
+        return 'a byte order mark stands before `%s`; save the script without one' % words[0][1:]
+    if words[0] in DEEDS:
+        return 'an editor is missing before `%s` (the form is `%s`)' % (words[0], DEEDS[words[0]])
     if words[0] not in FORMS:
         return 'no line begins with `%s`%s' % (words[0], nearest(words[0], FORMS))
     if words == ['validate']:
         return '`all` or a window is missing (the forms are `validate all` and `%s`)' % FORMS['validate']
     if words[0] == 'by' and len(words) > 2 and words[2] not in DEEDS:
         return name_fault(words[1]) or choice_fault(words[2], list(DEEDS), 'word after an editor')
+    return ''
+
+
+def form_fault(line: str, words: list[str]) -> str:
+    """The first thing that keeps a line from having a form; nothing where it has one."""
+    fault = choosing_fault(words)
+    if fault:
+        return fault
     form = form_of(words)
     pieces = form.split(' ')
     has_shape = pieces[-1] == 'WKT'

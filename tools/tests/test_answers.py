@@ -12,8 +12,10 @@ from working import TOOLS, Case, by_lines
 
 HEAD = ['class lots polygon', 'class wells point', 'begin ann', 'by ann add wells POINT (1 2)']
 SAID = {
+    '\ufeffclass lots polygon': 'a byte order mark stands before `class`; save the script without one',
+    'undo': 'an editor is missing before `undo` (the form is `by EDITOR undo`)',
     'clas lots polygon': 'no line begins with `clas`; did you mean `class`?',
-    'class lots-2 polygon': '`lots-2` is no name, since no name has `-`: a name has letters from A to z, digits and `_` alone (the form is `class NAME KIND`)',
+    'class lots-2 polygon': '`lots-2` is no name, since no name has `-`: a name has only the letters A to Z and a to z, digits and `_` (the form is `class NAME KIND`)',
     'class 2nd polygon': '`2nd` is no name: a name begins with a letter (the form is `class NAME KIND`)',
     'class more Polygon': '`Polygon` is no kind; did you mean `polygon`? (the form is `class NAME KIND`)',
     'rule polygon_must_not_overlaps lots': '`polygon_must_not_overlaps` is no word of a rule; did you mean `polygon_must_not_overlap`? (the form is `rule WORD ORIGIN`)',
