@@ -74,7 +74,7 @@ class Tables(Case):
         self.assertEqual(self.report(by_lines(*LOTS, *ANEW)), WITHOUT)
 
     def test_a_kind_is_that_of_the_listing(self):
-        said = 'report: the errors are those of line 12; lines behind it may have changed them\n'
+        said = 'report: the errors are those of line 12; lines after it may have changed them\n'
         self.assertEqual(self.report(by_lines(*LOTS, *ANEW[:2]), said), OVERLAP)
 
     def test_no_errors(self):
