@@ -22,7 +22,7 @@ class Installed(Case):
     def used(self, root: str) -> None:
         """Goes from a GeoPackage to layers with what is installed below the root."""
         lib, share = os.path.join(root, 'usr/lib/topo'), os.path.join(root, 'usr/share')
-        words = {name: os.path.join(lib, name) for name in ('from-ogr', 'to-gis', 'answers', 'draw', 'report', 'tiles')}
+        words = {name: os.path.join(lib, name) for name in ('from-ogr', 'to-gis', 'answers', 'draw', 'report', 'tiles', 'towns')}
         self.assertEqual(self.run_words([os.path.join(share, 'doc/topo/examples/make_parcels'), 'p.gpkg']).status, 0)
         script = self.run_words([words['from-ogr'], 'p.gpkg', '--grid', '0.001', '--rule', 'polygon_must_not_overlap', 'parcels']).out
         replies = self.run_words([os.path.join(root, 'usr/bin/topo'), 'replay'], script.encode()).out
@@ -34,6 +34,7 @@ class Installed(Case):
         self.assertEqual(self.run_words([words['report'], 'p.topo', 'p.replies']).out.count(',error,'), 3)
         self.assertEqual(self.run_words([words['draw'], '--html', os.path.join(root, 'usr/bin/topo'), 'p.topo', 'p.html']).status, 0)
         self.assertEqual(self.run_words([words['tiles'], 'merge', '.']).status, 0)
+        self.assertIn('class parcels polygon', self.run_words([words['towns'], '--script', '7', '3']).out)
         for name in words:
             self.assertEqual(os.readlink(os.path.join(root, 'usr/bin/topo-' + name)), '/usr/lib/topo/' + name)
         self.assertTrue(os.path.exists(os.path.join(share, 'doc/topo/docs/your-data.md')))
