@@ -229,7 +229,7 @@ SENTENCES: dict[str, Callable[[Refused], str]] = {
     'E21': lambda of: 'all handles are used up',
     'E22': lambda of: 'the session has nothing to undo',
     'E23': lambda of: 'the session has nothing to redo',
-    'E24': lambda of: 'the window is reversed: its least corner comes first',
+    'E24': lambda of: 'the window is reversed: its lower left corner comes first',
     'E25': lambda of: 'no error is listed of rule %s with subject %s and partner %s; `errors` lists them all' % tuple(of.words[1:4]),
     'E26': lambda of: 'the error is an exception already' if of.words[0] == 'mark' else 'the error is no exception',
 }
