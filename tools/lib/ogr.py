@@ -4,6 +4,7 @@ from __future__ import annotations
 import csv
 import os
 import re
+import shlex
 import shutil
 import subprocess
 import sys
@@ -61,15 +62,17 @@ def require_gdal() -> None:
 
 
 def run(words: list[str]) -> str:
-    """What a program of GDAL writes; a SourceError with its last lines where it fails."""
+    """What a program of GDAL writes; a SourceError with its last lines, or its words where it says nothing, where it fails."""
     done = subprocess.run(words, capture_output=True, env=ENVIRONMENT)
     if done.returncode:
-        raise SourceError('%s: %s' % (words[0], done.stderr.decode('utf-8', 'replace').strip() or 'failed'))
+        raise SourceError('%s: %s' % (words[0], done.stderr.decode('utf-8', 'replace').strip() or 'failed as `%s`' % shlex.join(words)))
     return done.stdout.decode('utf-8', 'replace')
 
 
 def layer_names(source: str) -> list[str]:
-    """The layers in their order; behind a name ogrinfo may have a title and a type, both in brackets."""
+    """The layers in their order; after a name ogrinfo may have a title and a type, both in brackets."""
+    if not os.path.exists(source) and not re.match('/vsi|[A-Za-z]+:', source):
+        raise SourceError('there is no file or folder %s' % source)
     lines = run(['ogrinfo', '-ro', '-q', source]).splitlines()
     found = (re.fullmatch(r'\d+: (.*?)(?: \(title: .*\))?(?: \([^()]*(?:\(any\))?\))?', line) for line in lines)
     return [match[1] for match in found if match]

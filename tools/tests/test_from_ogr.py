@@ -62,6 +62,8 @@ class Sources(Case):
         wrong = self.tool('from-ogr', 'e.gpkg', '--grid', '0.01', '--rule', 'polygon_must_not_overlapp', 'lots')
         self.assertEqual(wrong.status, 2)
         self.assertIn('did you mean `polygon_must_not_overlap`?', wrong.told)
+        gone = self.tool('from-ogr', 'gone.gpkg', '--grid', '0.01')
+        self.assertEqual((gone.status, gone.told), (2, 'from-ogr: there is no file or folder gone.gpkg\n'))
         none = self.tool('from-ogr', 'e.gpkg', '--grid', '0.01', '--layer', 'streets')
         self.assertEqual((none.status, none.told), (2, "from-ogr: no layer 'streets'; there are lots, Gebäude 2\n"))
 
