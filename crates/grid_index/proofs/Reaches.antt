@@ -37,6 +37,9 @@ all_gained r ps qs p all one gains q h = elim ((gains q).0 h) [
 pub all_same : (r : Rectangle) (ps qs : List Placed) → AreWithin r ps → HoldsSame ps qs → AreWithin r qs
 all_same r ps qs all same q h = all q ((same q).0 h)
 
+pub all_lost : (r : Rectangle) (ps qs : List Placed) (p : Placed) → AreWithin r ps → Loses ps qs p → AreWithin r qs
+all_lost r ps qs p all loses q h = all q ((loses q).0 h).0
+
 -- ---- what it does not hold, and what it does not meet
 held_test : (r s : Rectangle) → IsWithin r s → is_within r s ≡ true
 held_test r s w = grind (arith, ints)

@@ -1,13 +1,13 @@
-ghost use Rattle.std.specs.Prelude.{◌≡◌, ◌<◌, ◌∷◌, [], true, IsTrue, ◌↔◌, Contains, IfOk, OnOk, OnErr};
+ghost use Rattle.std.specs.Prelude.{◌≡◌, ◌<◌, ◌∷◌, ◌++◌, [], true, IsTrue, ◌↔◌, Contains, IfOk, OnOk, OnErr};
 ghost use Rattle.std.specs.List.{list_any};
 ghost use Rattle.grid_index.specs.Near.{HoldsSame, Gains, Loses, AddsHandles, AddsRects};
 ghost use Rattle.grid_index.specs.Middles.{middle_of, IsCrowded};
-ghost use Rattle.grid_index.specs.Nodes.{AreWithin};
+ghost use Rattle.grid_index.specs.Nodes.{AreWithin, all_items};
 ghost use Rattle.grid_index.specs.Relations.{is_found};
 
 use crate::middle::Middle;
 use crate::placed::{Placed, add_met, add_met_rects, any_found, drop_placed};
-use crate::reach::{reach_of, reach_of_both};
+use crate::reach::{reach_of, reach_of_both, touches_side};
 use crate::relation::Relation;
 use crate::siblings::{
     add_from_each, add_met_of_each, any_has, divided, push_in, put_in, reach_of_nodes, take_from,
@@ -54,6 +54,18 @@ fn is_crowded(list: &[Placed], first: &Middle, middle: &Middle) -> bool
     ensures { IsTrue result ↔ IsCrowded list.now first.now middle.now }
 {
     list.len() >= FULL && first.apart(middle) != 0
+}
+
+// A reach for what is left when a rectangle is gone. One that did not touch a side of the reach leaves it as it is.
+fn reach_left(reach: &Rect, gone: &Rect, placed: &[Placed], quarters: &[Node]) -> Rect
+    requires { AreWithin reach.now (placed.now ++ all_items quarters.now) }
+    ensures { AreWithin result (placed.now ++ all_items quarters.now) }
+{
+    if !touches_side(reach, gone) {
+        return *reach;
+    }
+    let left = reach_of_both(reach_of(placed), reach_of_nodes(quarters));
+    left.unwrap_or(*reach)
 }
 
 impl Node {
@@ -183,8 +195,7 @@ impl Node {
         if self.reach.holds_rect(&placed.rect) {
             drop_placed(&mut self.placed, placed);
             take_from(&mut self.quarters, placed);
-            let reach = reach_of_both(reach_of(&self.placed), reach_of_nodes(&self.quarters));
-            self.reach = reach.unwrap_or(self.reach);
+            self.reach = reach_left(&self.reach, &placed.rect, &self.placed, &self.quarters);
         }
     }
 

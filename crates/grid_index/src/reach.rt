@@ -34,3 +34,11 @@ pub(crate) fn reach_of(list: &[Placed]) -> Option<Rect>
     }
     reach
 }
+
+/// Whether the rectangle has a side in common with the reach that holds it.
+pub(crate) fn touches_side(reach: &Rect, r: &Rect) -> bool {
+    if reach.x0() == r.x0() || reach.y0() == r.y0() {
+        return true;
+    }
+    reach.x1() == r.x1() || reach.y1() == r.y1()
+}

@@ -1,10 +1,10 @@
 use Rattle.std.proofs.Common.{◌++◌, refl, sym, ◌∙◌, subst, arith, take}
 use Rattle.std.proofs.lemmas.List.{take_all, get_or-set_other, with_items_is, length-set}
 use Rattle.grid_index.specs.Near.{Loses}
-use Rattle.grid_index.specs.Nodes.{NodeView, all_items, IsReach}
+use Rattle.grid_index.specs.Nodes.{NodeView, all_items}
 use Rattle.grid_index.proofs.Members.{lost}
 use Rattle.grid_index.proofs.Nodes.{lost_more, lost_none, lost_joined}
-use Rattle.grid_index.proofs.Reaches.{lost_beyond, reach_both, reach_kept}
+use Rattle.grid_index.proofs.Reaches.{all_lost, lost_beyond}
 use Rattle.grid_index.proofs.+take.Goals as goal
 
 pub siblings::take_from_each-loop-node-init : goal.siblings::take_from_each-loop-node-init
@@ -38,15 +38,15 @@ siblings::take_from-returns t c =
     (rw c.deref_mut.ensures.value at c.take_from_each.ensures))
 
 -- ---- one node
-pub node::Node::take-invariant_of-self : goal.node::Node::take-invariant_of-self
-node::Node::take-invariant_of-self t c = (
-  reach_kept c.reach_of_both-reach.result c.self.inside.reach c.unwrap_or-self-inside.result
-      (c.drop_placed.new.list.items ++ all_items c.take_from.new.nodes.items) c.unwrap_or-self-inside.ensures
-      (subst (λ o. IsReach o (c.drop_placed.new.list.items ++ all_items c.take_from.new.nodes.items)) (sym c.reach_of_both-reach.ensures)
-      (reach_both c.reach_of.result c.reach_of_nodes.result c.drop_placed.new.list.items (all_items c.take_from.new.nodes.items)
-      (rw c.deref.ensures.value at c.reach_of.ensures) (rw c.deref-then-holds_rect.ensures.value at c.reach_of_nodes.ensures))),
-  c.self.invariant.1,
-)
+pub node::Node::take-reach_left-self-inside-requires : goal.node::Node::take-reach_left-self-inside-requires
+node::Node::take-reach_left-self-inside-requires t c =
+    let kept = c.drop_placed.new.list.items in
+    let left = all_items c.take_from.new.nodes.items in
+    rw (c.deref.ensures.value, c.deref-then-holds_rect.ensures.value)
+    (all_lost c.self.inside.reach (c.self.inside.placed.items ++ all_items c.self.inside.quarters.items) (kept ++ left) c.args.placed.now
+    c.self.invariant.0
+    (lost_joined c.self.inside.placed.items kept (all_items c.self.inside.quarters.items) left c.args.placed.now
+    (lost c.self.inside.placed.items kept c.args.placed.now c.drop_placed.ensures) c.take_from.ensures))
 
 pub node::Node::take-returns-then-holds_rect : goal.node::Node::take-returns-then-holds_rect
 node::Node::take-returns-then-holds_rect t c = subst
