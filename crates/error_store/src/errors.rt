@@ -54,7 +54,7 @@ fn make_room(out: &mut Vec<Entry>, a: usize, b: usize) -> Result<(), AllocError>
 
 // Whether so few are selected and fresh that it takes less to look for each than to go over all.
 fn is_few(count: usize, selected: usize, fresh: usize) -> bool {
-    selected.max(fresh) < count / 32
+    selected.max(fresh) < count / 16
 }
 
 fn replace_many(
