@@ -81,6 +81,30 @@ fn near_join(alloc: Global, index: &Index, rects: &[Rect]) -> Result<Vec<u32>, N
     }
 }
 
+// How many places lie in the rectangle.
+fn places_in(r: &Rect) -> u64 {
+    let width = u64::from(r.x1().abs_diff(r.x0())) + 1;
+    let height = u64::from(r.y1().abs_diff(r.y0())) + 1;
+    width.saturating_mul(height)
+}
+
+// How many places lie in these; one that lies in several counts as often.
+fn places_in_all(rects: &[Rect]) -> u64 {
+    let mut count: u64 = 0;
+    for r in rects {
+        count = count.saturating_add(places_in(r));
+    }
+    count
+}
+
+// Whether they fill half of the least rectangle that holds them.
+fn lie_close(rects: &[Rect]) -> bool {
+    match join_of_all(rects) {
+        Some(joined) => places_in(&joined) / 2 <= places_in_all(rects),
+        None => false,
+    }
+}
+
 impl DirtyParts {
     /// What is dirty of the window, of these dirty rectangles.
     pub fn of(alloc: Global, dirt: &[Rect], window: &Rect) -> Result<DirtyParts, NoMemory>
@@ -99,14 +123,14 @@ impl DirtyParts {
     }
 
     /// The handles of the placed rectangles that meet a part, and it may be of others; a handle may come twice. Asks the
-    /// index for each part where there are at most 64, else once, for the least rectangle that holds them all.
+    /// index once, for the least rectangle that holds all parts, where they fill half of it or are more than 64, else for each.
     pub fn near(&self, alloc: Global, index: &Index) -> Result<Vec<u32>, NoMemory>
         ensures { IfOk result (λ v. HasNear v.items index.now self.now) }
     {
         let parts = self.parts.rects();
-        if parts.len() <= PART_LIMIT {
-            return near_each(alloc, index, parts);
+        if parts.len() > PART_LIMIT || lie_close(parts) {
+            return near_join(alloc, index, parts);
         }
-        near_join(alloc, index, parts)
+        near_each(alloc, index, parts)
     }
 }
