@@ -4,11 +4,11 @@ use Rattle.std.specs.List.{All, AllByRecursion}
 use Rattle.std.specs.List.{list_any}
 use Rattle.std.proofs.lemmas.Bool.{cases_Bool}
 use Rattle.std.proofs.lemmas.Option.{slice_get_within, get_or_from_slice_get}
-use Rattle.std.proofs.lemmas.List.{take_all, take_at, take_more, take-append-drop, take-append-le, drop-append-le, drop_at, drop-drop, length-take, length-drop, length-append}
+use Rattle.std.proofs.lemmas.List.{take_all, take_at, take_more, take-append-drop, take-append-le, drop-append-le, drop_at, drop-drop, length-take, length-drop, length-append, length-map, take-map, drop-map}
 use Rattle.std.proofs.lemmas.List.Elements.{All-from_recursion}
 use Rattle.std.proofs.lemmas.List.Sums.{sum_by-cons}
-use Rattle.plane_terms.specs.HalfPlane.{HalfPlane}
-use Rattle.plane_terms.specs.Cell.{Cell, same_half, meet_of}
+use Rattle.plane_terms.specs.HalfPlane.{HalfPlane, weak}
+use Rattle.plane_terms.specs.Cell.{Cell, same_half, meet_of, weak_of}
 use Rattle.convex_cell.specs.Flat.{cells_at, AreEnds}
 use Rattle.convex_cell.proofs.Pieces.{begins_more}
 
@@ -188,3 +188,16 @@ pub met_if_ok : {A E : Type 0} (r : Result A E) (hs ks first second ms : Cell) (
 met_if_ok (Ok a) hs ks first second ms from l e m b =
     met_behind hs ks first second ms e (subst (λ n. drop n ks ≡ meet_of (drop n ms) second) l m) b
 met_if_ok (Err x) hs ks first second ms from l e m b = tt
+
+-- ---- each cell made weak
+range_weak : (hs : Cell) (a b : ℕ) → slice_range (weak_of hs) a b ≡ weak_of (slice_range hs a b)
+range_weak hs a b = ap (take (b - a)) (drop-map weak a hs) ∙ take-map weak (b - a) (drop a hs)
+
+pub cells_weak : (hs : Cell) (from : ℕ) (es : List ℕ) → cells_at (weak_of hs) from es ≡ map {A = Cell} weak_of (cells_at hs from es)
+cells_weak hs from [] = refl
+cells_weak hs from (e ∷ es) =
+    ap (λ (c : Cell). c ∷ cells_at (weak_of hs) e es) (range_weak hs from e)
+    ∙ ap (λ (cs : List Cell). weak_of (slice_range hs from e) ∷ cs) (cells_weak hs e es)
+
+pub ends_weak : (hs : Cell) (from : ℕ) (es : List ℕ) → AreEnds from es (length hs) → AreEnds from es (length (weak_of hs))
+ends_weak hs from es h = rw (length-map hs weak) h

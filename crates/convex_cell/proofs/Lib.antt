@@ -17,5 +17,6 @@ pub mod Within
 pub mod Middles
 pub mod Pieces
 pub mod OnLines
+pub mod Searches
 pub mod Shadows
 pub mod Uprights

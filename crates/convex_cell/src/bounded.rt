@@ -6,13 +6,14 @@ ghost use Rattle.plane_terms.specs.HalfPlane.{HalfPlane};
 ghost use Rattle.plane_terms.specs.Cell as terms;
 ghost use Rattle.plane_terms.specs.Cell.{InCell, meet_of};
 ghost use Rattle.plane_terms.specs.Carve.{kept, carve_of};
-ghost use Rattle.convex_cell.specs.Span.{IsBoundsOf, AreRisingTo};
+ghost use Rattle.convex_cell.specs.Span.{IsBoundsOf, AreApart, AreRisingTo, IsSearch};
 ghost use Rattle.convex_cell.specs.Needed.{SameCells};
 
-use crate::bounds::{Bounds, Window, are_rising, bounds_of, common_bounds, window_of};
+use crate::bounds::{Bounds, Window, are_apart, are_rising, bounds_of, common_bounds, window_of};
 use crate::cells::{Cells, all_bounds};
 use crate::needed::meets;
 use crate::stack::next_near;
+use crate::wider::widened;
 use grid_plane::{Half, NoMemory};
 use std::alloc::Global;
 use std::marker::Model;
@@ -37,24 +38,56 @@ impl Model for BoundedCells {
     ghost invariant = { λ b. IsBounded b.bounds.items b.cells b.rising };
 }
 
+/// A list of so few bounds is searched as it is, if they do not ascend.
+const FEW: usize = 16;
+
+/// Where those are looked for that may be near: in bounds round those of the cells, one each.
+#[derive(Clone, Copy)]
+struct Search<'a> {
+    bounds: &'a [Bounds],
+    // Whether they are known to ascend.
+    rising: bool,
+    // Whether some may be wider than those of the cells.
+    is_wide: bool,
+}
+
+/// The bounds are searched as they are.
+fn search_in(bounds: &[Bounds], rising: bool) -> Search<'_>
+    requires { OnTrue rising (AreRisingTo (length bounds.now) bounds.now) }
+    ensures { IsSearch result.bounds.now result.rising bounds.now }
+{
+    Search {
+        bounds,
+        rising,
+        is_wide: false,
+    }
+}
+
+/// Whether wider bounds are searched, and the cell's own are apart from these.
+fn is_far(own: &Bounds, bounds: &Bounds, searched: Search<'_>) -> bool
+    ensures { OnTrue result (AreApart own.now bounds.now) }
+{
+    searched.is_wide && are_apart(own, bounds)
+}
+
 fn carved_each(
     alloc: Global,
     cells: &Cells,
     own: &[Bounds],
     by: &Cells,
     bounds: &[Bounds],
-    rising: bool,
+    searched: Search<'_>,
 ) -> Result<BoundedCells, NoMemory>
     requires own { AllZip IsBoundsOf own.now cells.now }
     requires own_same { length own.now ≡ length cells.now }
     requires bounds { AllZip IsBoundsOf bounds.now by.now }
     requires same { length bounds.now ≡ length by.now }
-    requires rising { OnTrue rising (AreRisingTo (length bounds.now) bounds.now) }
+    requires searched { IsSearch searched.bounds.now searched.rising bounds.now }
     ensures { IfOk result (λ made. made ≡ carve_of cells.now by.now) }
 {
     let mut made = BoundedCells::with_capacity(alloc, cells.len())?;
     for i in 0..cells.len() {
-        made.push_met(alloc, cells.halves_at(i), &own[i], by, bounds, rising)?;
+        made.push_met(alloc, cells.halves_at(i), &own[i], by, bounds, searched)?;
     }
     Ok(made)
 }
@@ -64,17 +97,17 @@ fn carved_by(
     cells: &Cells,
     by: &Cells,
     bounds: &[Bounds],
-    rising: bool,
+    searched: Search<'_>,
 ) -> Result<BoundedCells, NoMemory>
     requires bounds { AllZip IsBoundsOf bounds.now by.now }
     requires same { length bounds.now ≡ length by.now }
-    requires rising { OnTrue rising (AreRisingTo (length bounds.now) bounds.now) }
+    requires searched { IsSearch searched.bounds.now searched.rising bounds.now }
     ensures { IfOk result (λ made. made ≡ carve_of cells.now by.now) }
 {
     let mut made = BoundedCells::with_capacity(alloc, cells.len())?;
     for i in 0..cells.len() {
         let cell = cells.halves_at(i);
-        made.push_met(alloc, cell, &bounds_of(cell), by, bounds, rising)?;
+        made.push_met(alloc, cell, &bounds_of(cell), by, bounds, searched)?;
     }
     Ok(made)
 }
@@ -84,7 +117,17 @@ pub(crate) fn carved(alloc: Global, cells: &Cells, by: &Cells) -> Result<Cells, 
 {
     let bounds = all_bounds(alloc, by)?;
     let rising = are_rising(&bounds);
-    Ok(carved_by(alloc, cells, by, &bounds, rising)?.into_cells())
+    if rising || bounds.len() <= FEW {
+        let searched = search_in(&bounds, rising);
+        return Ok(carved_by(alloc, cells, by, &bounds, searched)?.into_cells());
+    }
+    let wider = widened(alloc, &bounds)?;
+    let searched = Search {
+        bounds: &wider,
+        rising: are_rising(&wider),
+        is_wide: true,
+    };
+    Ok(carved_by(alloc, cells, by, &bounds, searched)?.into_cells())
 }
 
 impl BoundedCells {
@@ -160,21 +203,24 @@ impl BoundedCells {
         own: &Bounds,
         others: &Cells,
         bounds: &[Bounds],
-        rising: bool,
+        searched: Search<'_>,
     ) -> Result<(), NoMemory>
         requires own { IsBoundsOf own.now cell.now }
         requires bounds { AllZip IsBoundsOf bounds.now others.now }
         requires same { length bounds.now ≡ length others.now }
-        requires rising { OnTrue rising (AreRisingTo (length bounds.now) bounds.now) }
+        requires searched { IsSearch searched.bounds.now searched.rising bounds.now }
         ensures { OnOk result (self.new ≡ self.old ++ kept (map {A = terms.Cell} (meet_of cell.now) others.now)) }
     {
         let mut needed = None;
-        let window = window_of(bounds, own, rising);
+        let window = window_of(searched.bounds, own, searched.rising);
         let mut from = window.first;
-        while let Some(i) = next_near(bounds, own, from, window.last, rising) {
+        while let Some(i) = next_near(searched.bounds, own, from, window.last, searched.rising) {
+            from = i + 1;
+            if is_far(own, &bounds[i], searched) {
+                continue;
+            }
             let other = others.halves_at(i);
             self.push_meet(alloc, cell, &mut needed, own, other, &bounds[i])?;
-            from = i + 1;
         }
         Ok(())
     }
@@ -245,7 +291,7 @@ impl BoundedCells {
             &self.bounds,
             &by.cells,
             &by.bounds,
-            by.rising,
+            search_in(&by.bounds, by.rising),
         )
     }
 
@@ -262,6 +308,7 @@ impl Cells {
     pub fn carve_by(&self, alloc: Global, by: &BoundedCells) -> Result<Cells, NoMemory>
         ensures { IfOk result (λ made. made ≡ carve_of self.now by.now) }
     {
-        Ok(carved_by(alloc, self, &by.cells, &by.bounds, by.rising)?.into_cells())
+        let searched = search_in(&by.bounds, by.rising);
+        Ok(carved_by(alloc, self, &by.cells, &by.bounds, searched)?.into_cells())
     }
 }

@@ -3,9 +3,8 @@ use Rattle.std.proofs.Common.{◌≡◌, ℕ, ◌+◌, ◌<◌, ◌≤◌, Bool,
 use Rattle.std.specs.Prelude.{slice_get, not, ◌==◌, ◌&&◌, flat_map}
 use Rattle.std.specs.List.{filter}
 use Rattle.std.proofs.lemmas.Grind.{flat_map-append}
-use Rattle.std.proofs.lemmas.List.{map-append, map_more, take-append-drop}
+use Rattle.std.proofs.lemmas.List.{map-append, take-append-drop}
 use Rattle.std.proofs.lemmas.List.Elements.{filter_more, filter-append}
-use Rattle.std.proofs.lemmas.Option.{get_or_from_slice_get}
 use Rattle.std.proofs.lemmas.Bool.Decides.{nat_tests}
 use Rattle.plane_terms.specs.Rectangle.{Rectangle, rects_meet}
 use Rattle.plane_terms.specs.Segment.{Segment, box_of}
@@ -157,7 +156,3 @@ no_gap f gs [] e z = sym (ap (λ us. carve_of (map {A = Segment} on_segment (sid
     ∙ none_near (map {A = Segment} on_segment (sides f)))
 no_gap f gs (c ∷ ground) e z = absurd (omega arith)
 
-pub weak_more : (cs : List Cell) (i : ℕ) (c : Cell) → i < length cs → slice_get cs i ≡ Some c → map {A = Cell} weak_of (take (i + 1) cs)
-    ≡ map {A = Cell} weak_of (take i cs) ++ weak_of c ∷ []
-weak_more cs i c l e = map_more weak_of cs i c l
-    ∙ ap (λ d. map {A = Cell} weak_of (take i cs) ++ weak_of d ∷ []) (get_or_from_slice_get cs i c c e)

@@ -1,5 +1,4 @@
-ghost use Rattle.std.specs.Prelude.{◌≡◌, IfOk, map};
-ghost use Rattle.plane_terms.specs.Cell as planes;
+ghost use Rattle.std.specs.Prelude.{◌≡◌, IfOk};
 ghost use Rattle.topology_terms.specs.Plans as plans;
 ghost use Rattle.rule_loops.specs.Views.{of_class};
 
@@ -12,19 +11,6 @@ use grid_plane::NoMemory;
 use rule_core::{View, Work};
 use shape::Feature;
 use std::alloc::Global;
-
-// The cells, each made weak.
-fn weakened(alloc: Global, cells: &Cells) -> Result<Cells, NoMemory>
-    ensures { IfOk result (λ weak. weak ≡ map {A = planes.Cell} planes.weak_of cells.now) }
-{
-    let mut weak = Cells::new(alloc);
-    for i in 0..cells.len() {
-        let mut cell = cells.cell(i).try_copy(alloc)?;
-        cell.weaken();
-        weak.push(cell)?;
-    }
-    Ok(weak)
-}
 
 // What no polygon of the class that is shown covers round the subject: out of it, within a box round it.
 fn open_ground(
@@ -57,10 +43,10 @@ pub fn gap_cells(
     ensures gaps { IfOk result (λ cells. cells ≡ plans.gap_cells subject.now (of_class class view.now)) }
     ensures uncounted { work.new ≡ work.old }
 {
-    let ground = open_ground(alloc, class, subject, view, work)?;
+    let mut ground = open_ground(alloc, class, subject, view, work)?;
     if ground.len() == 0 {
         return Ok(ground);
     }
-    let boundary = boundary_of(alloc, subject)?;
-    boundary.carve(alloc, &weakened(alloc, &ground)?)
+    ground.weaken();
+    boundary_of(alloc, subject)?.carve(alloc, &ground)
 }
