@@ -20,3 +20,4 @@ pub mod OnLines
 pub mod Searches
 pub mod Shadows
 pub mod Uprights
+pub mod Chains

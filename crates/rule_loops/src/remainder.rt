@@ -9,7 +9,7 @@ ghost use Rattle.rule_loops.specs.Rightward.{LastsRight, IsStrict, AreOffWalls};
 
 use crate::nearby::Nearby;
 use crate::open::{is_covered, is_strict, stays_open};
-use convex_cell::{BorrowedCell, BoundedCells, Cell, Cells, Piece};
+use convex_cell::{BorrowedCell, BoundedCells, Cells, IndexedCell, Piece};
 use grid_plane::NoMemory;
 use std::alloc::Global;
 
@@ -32,7 +32,7 @@ fn is_over(piece: &mut Piece, near: &[Nearby], from: usize, is_open: bool) -> Re
 // the end.
 fn push_left(
     alloc: Global,
-    cell: &mut Cell,
+    cell: &mut IndexedCell,
     piece: &mut Piece,
     near: &[Nearby],
     from: usize,
@@ -87,7 +87,7 @@ pub(crate) fn left_of_cell(
     if is_covered(&mut piece, near, 0, true)? {
         return Ok(left);
     }
-    let mut own = cell.try_copy(alloc)?;
+    let mut own = IndexedCell::of(alloc, cell, near.len())?;
     push_left(alloc, &mut own, &mut piece, near, 0, &mut left, true)?;
     Ok(left)
 }
@@ -109,7 +109,7 @@ fn push_left_of(
     if is_covered(piece, near, 0, is_open)? {
         return Ok(());
     }
-    let mut own = cell.try_copy(alloc)?;
+    let mut own = IndexedCell::of(alloc, cell, near.len())?;
     push_left(alloc, &mut own, piece, near, 0, left, is_open)
 }
 

@@ -1,0 +1,4 @@
+use Rattle.convex_cell.proofs.indexed.IndexedCell.new.Goals as goal
+
+pub invariant_of-result : goal.invariant_of-result
+invariant_of-result c = rw (c.new.ensures.items, c.new-2.ensures.items) (c.in_ok-empty_slots.ensures)
