@@ -8,6 +8,7 @@ use Rattle.plane_terms.specs.declared.op.Op.{Op}
 use Rattle.plane_terms.specs.declared.op.Op.TheVariants.{Over, AtLeast, Zero}
 use Rattle.number_laws.proofs.Ring.{num, neg, ◌⊕◌, ◌⊖◌, ◌⊗◌, same_by}
 use Rattle.number_laws.proofs.Order.{product_over, natural}
+use Rattle.convex_cell.proofs.Uprights.{gap}
 
 -- ---- with d the product of both slopes of y, and u and v twice the values at height 0
 at_base : (a m d c : ℤ) → a *ℤ (m *ℤ (pos 2 *ℤ d)) +ℤ c *ℤ (pos 4 *ℤ d) ≡ (a *ℤ m +ℤ c *ℤ pos 2) *ℤ (pos 2 *ℤ d)
@@ -45,9 +46,6 @@ over_is_area e = subst IsArea e tt
     IsArea Over = Unit {0}
     IsArea AtLeast = Unit {0}
     IsArea Zero = ⊥
-
-gap : (a b : ℤ) → a <ℤ b → pos 0 <ℤ (b -ℤ a)
-gap a b h = omega (arith, ints)
 
 turned : (b : ℤ) → b <ℤ pos 0 → pos 0 <ℤ neg_ℤ b
 turned b h = omega (arith, ints)

@@ -9,7 +9,7 @@ low_is v z w = same_by (num (pos 1) ⊗ num z ⊕ neg (num v) ⊗ num w) (num z 
 high_is : (v z w : ℤ) → negsuc 0 *ℤ z +ℤ v *ℤ w ≡ v *ℤ w -ℤ z
 high_is v z w = same_by (num (negsuc 0) ⊗ num z ⊕ num v ⊗ num w) (num v ⊗ num w ⊖ num z) (omega arith)
 
-gap : (a b : ℤ) → a <ℤ b → pos 0 <ℤ (b -ℤ a)
+pub gap : (a b : ℤ) → a <ℤ b → pos 0 <ℤ (b -ℤ a)
 gap a b h = omega (arith, ints)
 
 no_gap : (a b : ℤ) → a ≡ b → pos 0 ≤ℤ (b -ℤ a)

@@ -42,7 +42,7 @@ by_test true d e p h k = h refl
 by_test false d e p h k = k refl
 
 -- a rectangle of the list within which another lies covers its points
-covers_held : (d : List Rectangle) (r : Rectangle) (p : Point) → list_any (λ s. is_within r s) d ≡ true → RectHolds r p → Covers d p
+pub covers_held : (d : List Rectangle) (r : Rectangle) (p : Point) → list_any (λ s. is_within r s) d ≡ true → RectHolds r p → Covers d p
 covers_held [] r p e h = cc
 covers_held (s ∷ d) r p e h =
     elim (or_cases (is_within r s) (list_any (λ s. is_within r s) d) e) [
