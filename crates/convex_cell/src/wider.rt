@@ -27,6 +27,7 @@ fn beginning_before(span: Span, next: Span) -> Span
     }
 }
 
+/// Whether both have the same ends. No answer rests on it, only how wide the bounds become.
 fn have_same_ends(first: Span, second: Span) -> bool {
     first.from == second.from && first.to == second.to
 }
@@ -68,6 +69,7 @@ fn stretched_down(bounds: &Bounds, next: &Bounds) -> Bounds
     *bounds
 }
 
+/// From the last to the first: each begins along x no later than those behind it.
 fn stretch_left(wider: &mut [Bounds])
     ensures { AreRound wider.new wider.old }
 {
@@ -77,6 +79,7 @@ fn stretch_left(wider: &mut [Bounds])
     }
 }
 
+/// From the first to the last: each ends no sooner than those before it.
 fn stretch_on(wider: &mut [Bounds])
     ensures { AreRound wider.new wider.old }
 {
@@ -85,6 +88,7 @@ fn stretch_on(wider: &mut [Bounds])
     }
 }
 
+/// From the last to the first: each begins along y no later than those behind it.
 fn stretch_down(wider: &mut [Bounds])
     ensures { AreRound wider.new wider.old }
 {
@@ -94,7 +98,7 @@ fn stretch_down(wider: &mut [Bounds])
     }
 }
 
-/// Makes each wider, till it follows those before it: first along x, and then along y those that have the same ends there.
+/// Makes them wider, till each follows those before it: along x, and along y where both have the same ends along x.
 fn stretch(wider: &mut [Bounds])
     ensures { AreRound wider.new wider.old }
 {
