@@ -9,7 +9,7 @@ usage: bench/coverings.py [--baseline WORDS] [--lines NAME ..] [--turns N] [--se
 Parcels and municipalities are those of bench/borders.py: they lie in a square and share their borders, a parcel with a vertex
 between two corners, a municipality with 50 segments a side. Of each twenty parcels one has drawn a corner back and leaves a slit. A
 zone has 200 vertices and lies over a hundred parcels, or over all of them; its border and theirs are not the same. The two neighbours of
-a jagged border are those of bench/borders.py too. A road of 2,000
+a jagged border are those of bench/borders.py too; of a jagged slit, one of them is moved away by three units. A road of 2,000
 vertices runs along the lower borders of twenty areas of 400 vertices; one vertex in 500 lies beside the border. An edit moves a vertex
 of a parcel, of a municipality, of an area or of a path, and validates a window round it.
 """
@@ -34,6 +34,12 @@ def parcels(rows):
     for ring in rings[7::20]:
         ring[0] = ring[0][0] + 15, ring[0][1] + 10
     return rings
+
+
+def slit(neighbours):
+    """The same two with a slit all along their border."""
+    first, second = neighbours
+    return [first, [(x + 3, y) for x, y in second]]
 
 
 def gaps(rings, times):
@@ -82,6 +88,7 @@ def maps():
         yield 'gaps, %d municipalities of 200 vertices' % rows ** 2, lambda rows=rows: gaps(Country(rows).rings(), 50)
     for name, turn in (('north', list), ('turned', turned)):
         yield 'gaps, jagged border of 1,024 vertices, ' + name, lambda turn=turn: gaps(turn(jagged(1024)), 100)
+        yield 'gaps, jagged slit of 1,024 vertices, ' + name, lambda turn=turn: gaps(turn(slit(jagged(1024))), 20)
     for rows in (30, 60, 100):
         name = '%s parcels and %d zones' % (format(rows ** 2, ','), rows ** 2 // 100)
         rule = 'polygon_must_be_covered_by_feature_class_of '
