@@ -77,10 +77,6 @@ pieces_added d d1 d2 d3 d4 r w m a b c e h ha hb hc he h1 h2 h3 h4 =
     let g = add_all-four d a b c e in
     cc
 
--- a piece that is there, and one that is not
-pub piece_there : (b : Bool) (r s : Rectangle) → b ≡ true → r ≡ s → r ∷ [] ≡ piece_if b s
-piece_there b r s e same = rw (e, same) refl
-
 -- ---- nothing more is cut
 pub cut_from-none : (d : List Rectangle) (w : Rectangle) → cut_from d [] w ≡ d
 unfolding cut_from

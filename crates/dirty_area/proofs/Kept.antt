@@ -1,13 +1,13 @@
 -- What lies beside the window is left exactly where it was there before.
-use Rattle.std.proofs.Common.{◌≡◌, ◌⊎◌, inl, inr, refl, sym, ◌∙◌, subst, Bool, true, false, not, List, [], ◌∷◌, ◌++◌, Contains}
-use Rattle.std.specs.Prelude.{◌↔◌, int_lt}
+use Rattle.std.proofs.Common.{◌≡◌, inl, inr, refl, sym, subst, Bool, true, false, not, List, [], ◌∷◌, ◌++◌, Contains}
+use Rattle.std.specs.Prelude.{int_lt}
 use Rattle.std.specs.Int.{int_max, int_min}
 use Rattle.std.specs.List.{list_any, filter}
-use Rattle.std.proofs.lemmas.Bool.{not_from_false, false≢true}
+use Rattle.std.proofs.lemmas.Bool.{not_from_false}
 use Rattle.std.proofs.lemmas.List.Elements.{Contains-append_left, Contains-push}
 use Rattle.plane_terms.specs.Lists.{Every}
 use Rattle.plane_terms.specs.Rectangle.{Rectangle, IsProper, is_within, rects_meet, rect_of, part_of}
-use Rattle.plane_terms.specs.Dirt.{AreLoose, IsLoose, add_dirt, add_all, cut_from, cut_dirt, pieces, piece_if}
+use Rattle.plane_terms.specs.Dirt.{AreLoose, IsLoose, add_dirt, add_all, cut_from, pieces, piece_if}
 use Rattle.plane_terms.proofs.ListLemmas.{IsAmong, contains_among, every_among}
 use Rattle.sound_laws.proofs.Pieces.{every_added}
 use Rattle.grid_index.proofs.Members.{among, filtered_to}
@@ -90,27 +90,6 @@ pieces_each P d y w v h met p = by (rects_meet y w) refl
         (piece_added P _ (int_lt w.x1 y.x1) (rect_of w.x1 y.y0 y.x1 y.y1)
         (piece_added P d (int_lt y.x0 w.x0) (rect_of y.x0 y.y0 w.x0 y.y1) h (met _ a.1)) (met _ b.1)) (met _ c.1)) (met _ f.1))
 
-cut_each : (P : Rectangle → Type 0) (d ys : List Rectangle) (w : Rectangle) → IsProper w → Every P d
-    → ((q : Rectangle) → rects_meet q w ≡ true → P q) → Every P ys → Every P (cut_from d ys w)
-unfolding cut_from
-cut_each P d [] w v h met all = h
-cut_each P d (y ∷ ys) w v h met all =
-    cut_each P (add_all d (pieces y w)) ys w v (pieces_each P d y w v h met all.0) met all.1
-
 pub every_from : (P : Rectangle → Type 0) (ys : List Rectangle) → ((s : Rectangle) → IsAmong s ys → P s) → Every P ys
 every_from P [] h = tt
 every_from P (y ∷ ys) h = (h y (inl refl), every_from P ys (λ s m. h s (inr m)))
-
-pub beside_kept : (xs : List Rectangle) (w s : Rectangle) → IsLoose xs → IsProper w → rects_meet s w ≡ false
-    → Contains xs s ↔ Contains (cut_dirt xs w) s
-beside_kept xs w s l v n = ((λ m. comes [] xs s w v n l tt (among xs s m)), from)
-  where
-    from : Contains (cut_dirt xs w) s → Contains xs s
-    from m =
-        let all : Every (λ q. (rects_meet q w ≡ true) ⊎ Contains xs q) (cut_from [] xs w) =
-        cut_each (λ q. (rects_meet q w ≡ true) ⊎ Contains xs q)
-        [] xs w v tt (λ q e. inl e) (every_from (λ q. (rects_meet q w ≡ true) ⊎ Contains xs q) xs (λ q k. inr (contains_among xs q k))) in
-        elim (every_among (λ q. (rects_meet q w ≡ true) ⊎ Contains xs q) (cut_from [] xs w) all s (among _ s m)) [
-          | inl e ↦ absurd (false≢true (sym n ∙ e))
-          | inr k ↦ k
-        ]

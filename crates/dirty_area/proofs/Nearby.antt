@@ -1,14 +1,11 @@
 -- What holds of some rectangle of a list, and what the rectangles cover that meet another.
-use Rattle.std.proofs.Common.{◌≡◌, ◌↔◌, inl, inr, refl, sym, subst, arith, ℕ, zero, suc, ◌<◌, List, [], ◌∷◌, length, get_or, Contains, true}
-use Rattle.std.specs.List.{list_any}
+use Rattle.std.proofs.Common.{◌≡◌, ◌↔◌, inl, inr, refl, sym, subst, arith, ℕ, zero, suc, ◌<◌, List, [], ◌∷◌, length, get_or, Contains}
 use Rattle.plane_terms.specs.Lists.{SomeOf}
 use Rattle.plane_terms.specs.Point.{Point}
-use Rattle.plane_terms.specs.Rectangle.{Rectangle, RectHolds, is_within}
+use Rattle.plane_terms.specs.Rectangle.{Rectangle, RectHolds}
 use Rattle.plane_terms.specs.Dirt.{Covers}
 use Rattle.sound_laws.proofs.Meetings.{meets_test}
-use Rattle.sound_laws.proofs.Dirts.{add_covers}
 use Rattle.dirty_area.specs.Parts.{AreNear}
-use Rattle.dirty_area.proofs.Calls.{add_dirt-held}
 
 pub some_place : {X : Type 0} (P : X → Type 0) (xs : List X) → SomeOf P xs → (x : X) × Contains xs x × P x
 some_place P [] h = absurd h
@@ -36,5 +33,3 @@ near_covers d r ms p near i = (
 )
 
 -- what a rectangle of the list holds is covered
-pub held_covers : (d : List Rectangle) (r : Rectangle) (p : Point) → list_any (λ s. is_within r s) d ≡ true → RectHolds r p → Covers d p
-held_covers d r p e i = subst (λ l. Covers l p) (add_dirt-held d r e) (add_covers d r p i)

@@ -1,48 +1,17 @@
 -- What a cut has left and taken, while a part of the list is still to come.
-use Rattle.std.proofs.Common.{arith, ◌≡◌, inl, inr, refl, sym, ap, ◌∙◌, subst, ℕ, ◌+◌, ◌<◌, true, false, List, [], ◌∷◌, ◌++◌, Contains, take, drop, length, get_or, append_assoc, append-nil, Option, Some, None}
-use Rattle.std.specs.Prelude.{MatchOption}
-use Rattle.std.specs.List.{AllWithin, HoldsAt, filter}
-use Rattle.std.proofs.lemmas.Bool.{false≢true}
-use Rattle.std.proofs.lemmas.List.{take-append-drop, drop_more, get_or-take, length-take-le}
+use Rattle.std.proofs.Common.{◌≡◌, refl, sym, ap, ◌∙◌, subst, true, false, List, [], ◌∷◌, ◌++◌, Contains, append_assoc, append-nil}
+use Rattle.std.specs.List.{filter}
 use Rattle.plane_terms.specs.Lists.{Every}
 use Rattle.plane_terms.specs.Rectangle.{Rectangle, IsProper, rects_meet}
 use Rattle.plane_terms.specs.Dirt.{AreLoose, IsLoose, add_dirt, add_all, cut_from, cut_dirt, pieces}
-use Rattle.plane_terms.proofs.ListLemmas.{every_by_index, every_among, every_of_all, contains_among}
-use Rattle.grid_index.proofs.Members.{among}
-use Rattle.dirty_area.specs.Cuts.{IsCut}
-use Rattle.dirty_area.specs.Parts.{IsDirt, IsApart, IsSplit}
+use Rattle.plane_terms.proofs.ListLemmas.{every_of_all, contains_among}
+use Rattle.dirty_area.specs.Parts.{IsDirt, IsApart, IsSplit, IsOther, IsPartway}
 use Rattle.dirty_area.proofs.Calls.{add_all-one, pieces-apart, dirt_added, cut_from-none}
 use Rattle.dirty_area.proofs.Beside.{put_last, pieces_loose}
-use Rattle.dirty_area.proofs.Splits.{IsOther, split_none, split_weaker, split_beside, split_pieces, other_apart}
+use Rattle.dirty_area.proofs.Splits.{split_none, split_weaker, split_beside, split_pieces, other_apart}
 use Rattle.dirty_area.proofs.Kept.{every_from, pieces_each}
 
--- ---- the first that meets the window
-pub first_split : (r : Option ℕ) (xs : List Rectangle) (w : Rectangle)
-    → MatchOption r (AllWithin (λ s. rects_meet s w ≡ false) xs 0 (length xs))
-    (λ i. (i < length xs) × HoldsAt (λ s. rects_meet s w ≡ true) xs i × AllWithin (λ s. rects_meet s w ≡ false) xs 0 i)
-    → MatchOption r (Every (λ s. rects_meet s w ≡ false) xs)
-    (λ k. (k < length xs) × Every (λ s. rects_meet s w ≡ false) (take k xs) × ((d : Rectangle) → rects_meet (get_or xs k d) w ≡ true))
-first_split None xs w h = every_by_index (λ s. rects_meet s w ≡ false) xs (λ i d l. h i d (omega arith) l)
-first_split (Some k) xs w h = (
-  h.0,
-  every_by_index (λ s. rects_meet s w ≡ false) (take k xs) (λ i d l.
-      let within : i < k = omega (arith, length-take-le k xs (omega (arith, h.0))) in
-      ap (λ s. rects_meet s w) (get_or-take k xs i d within) ∙ h.2 i d (omega arith) within),
-  h.1,
-)
-
 -- ---- the state of a cut
--- rest is still to come; left and met are what those before it leave and met, and round are the pieces
-pub record IsPartway (xs rest : List Rectangle) (w : Rectangle) (left met round : List Rectangle) : Type 0 where
-  pub left_rest : cut_from left rest w ≡ cut_dirt xs w
-  pub met_rest : met ++ filter (λ s. rects_meet s w) rest ≡ filter (λ s. rects_meet s w) xs
-  pub come : IsDirt rest
-  pub of : Every (Contains xs) rest
-  pub apart : Every (λ x. rects_meet x w ≡ false → Every (λ s. AreLoose s x) left) rest
-  pub split : IsSplit left round (IsOther xs w)
-  pub kept : IsDirt left
-  pub touch : Every (λ s. rects_meet s w ≡ true) round
-
 pub begun : (xs : List Rectangle) (w : Rectangle) → IsDirt xs → IsPartway xs xs w [] [] []
 begun xs w h = record {
   left_rest = refl;
@@ -73,7 +42,7 @@ filter_beside : (xs : List Rectangle) (x w : Rectangle) → rects_meet x w ≡ f
     → filter (λ s. rects_meet s w) (x ∷ xs) ≡ filter (λ s. rects_meet s w) xs
 filter_beside xs x w e = rw e refl
 
-one_beside : (xs rest : List Rectangle) (w : Rectangle) (left met round : List Rectangle) (x : Rectangle) → rects_meet x w ≡ false
+pub one_beside : (xs rest : List Rectangle) (w : Rectangle) (left met round : List Rectangle) (x : Rectangle) → rects_meet x w ≡ false
     → IsPartway xs (x ∷ rest) w left met round → IsPartway xs rest w (left ++ x ∷ []) met round
 one_beside xs rest w left met round x e h =
     let last : add_dirt left x ≡ left ++ x ∷ [] = put_last left x (h.apart.0 e) in
@@ -126,32 +95,8 @@ one_met xs rest w left met round x after pieces_after l v e more most kept h = r
 
 -- ---- the end
 pub ended : (xs : List Rectangle) (w : Rectangle) (left met round : List Rectangle) → IsPartway xs [] w left met round
-    → IsCut xs w (record { left = left; met = met; pieces = round })
-ended xs w left met round h = record {
-  left = sym (cut_from-none left w) ∙ h.left_rest;
-  met = sym (append-nil met) ∙ h.met_rest;
-  pieces = λ s. (
-    (λ m. (h.split.within s m, every_among (λ t. rects_meet t w ≡ true) round h.touch s (among round s m))),
-    (λ m. elim (h.split.others s m.0) [ inl k ↦ k | inr k ↦ absurd (false≢true (sym k.0 ∙ m.1)) ]),
-  );
-}
-
--- ---- the steps of the loop
-pub run_left : (xs rest : List Rectangle) (w : Rectangle) (left after met round : List Rectangle) (k : ℕ) (x : Rectangle) → k < length rest
-    → x ≡ get_or rest k x → Every (λ s. rects_meet s w ≡ false) (take k rest) → after ≡ left ++ take k rest
-    → IsPartway xs rest w left met round → IsPartway xs (x ∷ drop (k + 1) rest) w after met round
-run_left xs rest w left after met round k x l is n more h =
-    let front : drop k rest ≡ x ∷ drop (k + 1) rest = drop_more rest k x l ∙ ap (λ s. s ∷ drop (k + 1) rest) (sym is) in
-    let parts : rest ≡ take k rest ++ x ∷ drop (k + 1) rest = sym (take-append-drop k rest) ∙ ap (λ t. take k rest ++ t) front in
-    subst (λ d. IsPartway xs (x ∷ drop (k + 1) rest) w d met round) (sym more)
-    (run_beside xs (take k rest) (x ∷ drop (k + 1) rest) w left met round n
-    (subst (λ t. IsPartway xs t w left met round) parts h))
-
-pub last_left : (xs rest : List Rectangle) (w : Rectangle) (left after met round : List Rectangle) → Every (λ s. rects_meet s w ≡ false) rest
-    → after ≡ left ++ rest → IsPartway xs rest w left met round → IsPartway xs [] w after met round
-last_left xs rest w left after met round n more h =
-    subst (λ d. IsPartway xs [] w d met round) (sym more)
-    (run_beside xs rest [] w left met round n (subst (λ t. IsPartway xs t w left met round) (sym (append-nil rest)) h))
+    → (left ≡ cut_dirt xs w) × (met ≡ filter (λ s. rects_meet s w) xs) × IsDirt left
+ended xs w left met round h = (sym (cut_from-none left w) ∙ h.left_rest, sym (append-nil met) ∙ h.met_rest, h.kept)
 
 pub met_apart : (xs rest : List Rectangle) (w : Rectangle) (left met round : List Rectangle) (x : Rectangle) → IsLoose xs → rects_meet x w ≡ true
     → IsPartway xs (x ∷ rest) w left met round → IsSplit left round (IsApart x w)

@@ -12,7 +12,7 @@ use Rattle.plane_terms.specs.Dirt.{AreLoose, IsLoose, add_dirt, add_all, pieces,
 use Rattle.plane_terms.proofs.ListLemmas.{IsAmong, contains_among, every_among}
 use Rattle.plane_terms.proofs.Truths.{same_by_truth}
 use Rattle.grid_index.proofs.Members.{among, filtered_from, filtered_to}
-use Rattle.dirty_area.specs.Parts.{IsApart, IsSplit}
+use Rattle.dirty_area.specs.Parts.{IsApart, IsOther, IsSplit}
 use Rattle.dirty_area.proofs.Calls.{add_dirt-held, add_dirt-loose, add_dirt-apart, add_all-four, pieces_round}
 use Rattle.dirty_area.proofs.Beside.{part_loose, left_part, right_part, below_part, above_part}
 
@@ -178,10 +178,6 @@ split_beside d ps P r h p = record {
 }
 
 -- ---- the rectangles of the list
--- one of the list that lies beside the window
-abbrev pub IsOther : List Rectangle → Rectangle → Rectangle → Type 0
-IsOther xs w s = (rects_meet s w ≡ false) × Contains xs s
-
 loose_of : (xs : List Rectangle) (r s : Rectangle) → IsLoose xs → IsAmong r xs → IsAmong s xs → (r ≡ s → ⊥) → AreLoose r s
 loose_of [] r s h a b n = absurd a
 loose_of (x ∷ xs) r s h (inl a) (inl b) n = absurd (n (a ∙ sym b))

@@ -1,27 +1,33 @@
--- An index over a list of dirt.
+-- An index over the blocks of a list of dirt, in which the handle of a rectangle is the place of its block.
 --
--- placed_of r           the rectangle under the handle 0
--- IsIndexed d ps        the index holds each rectangle of d under the handle 0, and nothing else
--- IsTrimmed d e f ps    the same of d without those of e for which the test holds
--- IsWithout d e ps      the same of d without those of e
--- IsTraded d e ls gs    e is d without the rectangles of ls and with those of gs
-use Rattle.std.specs.Prelude.{◌≡◌, ◌↔◌, Bool, false, List, ◌++◌, Contains}
-use Rattle.plane_terms.specs.Rectangle.{Rectangle}
+-- placed_at k r           the rectangle under the handle k
+-- IsIndexed xss ps        the index holds each rectangle of the list at a place under that place, and nothing else
+-- IsAt k xs q             q is a rectangle of xs under the handle k
+-- GainsSome k xs f ps qs  qs holds what ps holds, and those of xs under k for which the test holds
+-- LosesSome k xs f ps qs  qs holds what ps holds, without those of xs under k for which the test holds
+-- MeetsAt xss r k         some rectangle of the list at the place k meets r
+-- is_same s t             the test whether s and t are one rectangle
+use Rattle.std.specs.Prelude.{◌≡◌, ◌↔◌, ◌⊎◌, ℕ, Bool, true, ◌&&◌, List, [], Contains, get_or}
+use Rattle.plane_terms.specs.Rectangle.{Rectangle, is_within, rects_meet}
 use Rattle.grid_index.specs.declared.placed.Placed.{Placed}
 
-abbrev pub placed_of : Rectangle → Placed
-placed_of r = record { rect = r; handle = 0 }
+abbrev pub placed_at : ℕ → Rectangle → Placed
+placed_at k r = record { rect = r; handle = k }
 
-abbrev pub IsIndexed : List Rectangle → List Placed → Type 0
-IsIndexed d ps = (q : Placed) → Contains ps q ↔ (Contains d q.rect × (q.handle ≡ 0))
+abbrev pub IsIndexed : List (List Rectangle) → List Placed → Type 0
+IsIndexed xss ps = (q : Placed) → Contains ps q ↔ Contains (get_or xss q.handle []) q.rect
 
-abbrev pub IsTrimmed : List Rectangle → List Rectangle → (Rectangle → Bool) → List Placed → Type 0
-IsTrimmed d e f ps = (q : Placed) → Contains ps q ↔ (Contains d q.rect × (q.handle ≡ 0) × (Contains e q.rect → f q.rect ≡ false))
+abbrev pub IsAt : ℕ → List Rectangle → Placed → Type 0
+IsAt k xs q = (q.handle ≡ k) × Contains xs q.rect
 
-abbrev pub IsWithout : List Rectangle → List Rectangle → List Placed → Type 0
-IsWithout d e ps = (q : Placed) → Contains ps q ↔ (Contains d q.rect × (q.handle ≡ 0) × ¬ (Contains e q.rect))
+abbrev pub GainsSome : ℕ → List Rectangle → (Rectangle → Bool) → List Placed → List Placed → Type 0
+GainsSome k xs f ps qs = (q : Placed) → Contains qs q ↔ (Contains ps q ⊎ (IsAt k xs q × (f q.rect ≡ true)))
 
-pub record IsTraded (d e ls gs : List Rectangle) : Type 0 where
-  pub stay : List Rectangle
-  pub less : (s : Rectangle) → Contains stay s ↔ (Contains d s × ¬ (Contains ls s))
-  pub more : (s : Rectangle) → Contains e s ↔ Contains (stay ++ gs) s
+abbrev pub LosesSome : ℕ → List Rectangle → (Rectangle → Bool) → List Placed → List Placed → Type 0
+LosesSome k xs f ps qs = (q : Placed) → Contains qs q ↔ (Contains ps q × ¬ (IsAt k xs q × (f q.rect ≡ true)))
+
+abbrev pub MeetsAt : List (List Rectangle) → Rectangle → ℕ → Type 0
+MeetsAt xss r k = (s : Rectangle) × Contains (get_or xss k []) s × (rects_meet s r ≡ true)
+
+abbrev pub is_same : Rectangle → Rectangle → Bool
+is_same s t = is_within s t && is_within t s

@@ -1,37 +1,77 @@
-ghost use Rattle.std.specs.Prelude.{◌≡◌, ◌<◌, true, false, length, take, get_or, MatchOption, IfSome, IfOk, OnOk};
+ghost use Rattle.std.specs.Prelude.{◌≡◌, ◌↔◌, ◌<◌, ◌≤◌, ◌+◌, ℕ, true, false, [], ◌∷◌, ◌++◌, length, get_or, set, drop, filter, Contains, IfSome, IfOk, OnOk};
+ghost use Rattle.std.specs.List.Sorted.{IsStrictlyIncreasing};
 ghost use Rattle.std.specs.Option.{option_to_list};
 ghost use Rattle.plane_terms.specs.Lists.{Every};
-ghost use Rattle.plane_terms.specs.Rectangle.{Rectangle, rects_meet};
-ghost use Rattle.plane_terms.specs.Dirt.{AreLoose, add_dirt, add_all, pieces};
-ghost use Rattle.dirty_area.specs.Cuts.{IsCut};
-ghost use Rattle.dirty_area.specs.Parts.{IsDirt, IsCommon, IsSplit, IsApart};
+ghost use Rattle.plane_terms.specs.Rectangle.{IsRectangle, is_within, rects_meet};
+ghost use Rattle.plane_terms.specs.Dirt.{AreLoose, add_dirt, add_all, cut_dirt, pieces};
+ghost use Rattle.dirty_area.specs.declared.left.Change as changes_of;
+ghost use Rattle.dirty_area.specs.Blocks.{runs, joined, all_rects};
+ghost use Rattle.dirty_area.specs.Cuts.{front, patched};
+ghost use Rattle.dirty_area.specs.Indexed.{IsIndexed, MeetsAt};
+ghost use Rattle.dirty_area.specs.Parts.{IsDirt, IsCommon, IsSplit, IsApart, IsPartway};
 
+use crate::block::Block;
 use crate::dirt::Dirt;
-use crate::list::{drop_held, push_one};
+use crate::finder::Finder;
+use crate::left::{Change, Left};
+use crate::list::drop_empty;
 use crate::pieces::{above, below, left, right};
 use grid_index::Relation;
 use grid_plane::{NoMemory, Rect};
 use std::alloc::Global;
 use std::marker::Model;
+use std::mem;
 
-/// What a window leaves of dirt: the list that is left, the rectangles of the dirt that met the window, and those of the list that
-/// meet it, which are the pieces round it.
+/// Dirt that a window is cut out of: what it was, what is left of it, and the rectangles of it that met the window.
 #[derive(Drop)]
 pub struct Cut {
-    pub(crate) left: Vec<Rect>,
+    pub(crate) alloc: Global,
+    pub(crate) blocks: Vec<Block>,
+    pub(crate) finder: Finder,
+    pub(crate) changes: Vec<Change>,
     pub(crate) met: Vec<Rect>,
-    pub(crate) pieces: Dirt,
 }
 
 impl Model for Cut {
+    ghost use Rattle.std.specs.Prelude.{◌<◌, ◌≤◌, length, IfSome};
+    ghost use Rattle.plane_terms.specs.Lists.{Every};
+    ghost use Rattle.dirty_area.specs.declared.left.Change.{Change};
+    ghost use Rattle.dirty_area.specs.Blocks.{runs, joined, all_rects};
     ghost use Rattle.dirty_area.specs.Cuts as terms;
+    ghost use Rattle.dirty_area.specs.Cuts.{patched};
+    ghost use Rattle.dirty_area.specs.Indexed.{IsIndexed};
     ghost use Rattle.dirty_area.specs.Parts.{IsDirt};
 
     ghost Value = { terms.Cut };
 
-    ghost view = { λ c. record { left = c.left.items; met = c.met.items; pieces = c.pieces } };
+    ghost view = { λ c. record { whole = all_rects c.blocks.items; left = joined (patched (runs c.blocks.items) c.changes.items); met = c.met.items } };
 
-    ghost invariant = { λ c. IsDirt c.left.items };
+    ghost invariant = { λ c. IsDirt (all_rects c.blocks.items) × IsDirt (joined (patched (runs c.blocks.items) c.changes.items)) × (length c.blocks.items ≤ 4294967295) × Every (λ (h : Change). h.place < length c.blocks.items) c.changes.items × IfSome c.finder (λ ps. IsIndexed (runs c.blocks.items) ps) };
+}
+
+fn put_change(blocks: &mut Vec<Block>, finder: &mut Finder, change: Change)
+    requires place { change.place < length blocks.old.items }
+    requires few { length blocks.old.items ≤ 4294967295 }
+    requires indexed { IfSome finder.old (λ ps. IsIndexed (runs blocks.old.items) ps) }
+    ensures put { runs blocks.new.items ≡ set (runs blocks.old.items) change.place change.block.items }
+    ensures len { length blocks.new.items ≡ length blocks.old.items }
+    ensures indexed { IfSome finder.new (λ ps. IsIndexed (runs blocks.new.items) ps) }
+{
+    finder.trade(change.place, blocks[change.place].rects(), change.block.rects());
+    blocks[change.place] = change.block;
+}
+
+fn put_changes(blocks: &mut Vec<Block>, finder: &mut Finder, changes: Vec<Change>)
+    requires places { Every (λ (c : changes_of.Change). c.place < length blocks.old.items) changes.items }
+    requires few { length blocks.old.items ≤ 4294967295 }
+    requires indexed { IfSome finder.old (λ ps. IsIndexed (runs blocks.old.items) ps) }
+    ensures put { runs blocks.new.items ≡ patched (runs blocks.old.items) changes.items }
+    ensures len { length blocks.new.items ≡ length blocks.old.items }
+    ensures indexed { IfSome finder.new (λ ps. IsIndexed (runs blocks.new.items) ps) }
+{
+    for change in changes {
+        put_change(blocks, finder, change);
+    }
 }
 
 impl Cut {
@@ -42,41 +82,65 @@ impl Cut {
         &self.met
     }
 
-    /// What is left.
-    pub fn into_dirt(self, alloc: Global) -> Dirt
+    /// What is left. Blocks at the end of which nothing is left go.
+    pub fn into_left(self) -> Dirt
         ensures { result ≡ self.left }
     {
-        Dirt::of_rects(alloc, self.left)
+        let mut blocks = self.blocks;
+        let mut finder = self.finder;
+        put_changes(&mut blocks, &mut finder, self.changes);
+        drop_empty(&mut blocks);
+        Dirt::of(self.alloc, blocks, finder)
+    }
+
+    /// The dirt as it was.
+    pub fn into_whole(self) -> Dirt
+        ensures { result ≡ self.whole }
+    {
+        Dirt::of(self.alloc, self.blocks, self.finder)
     }
 }
 
+/// What a window took of dirt and what comes in place of blocks of it.
+#[derive(Drop)]
+pub(crate) struct Taken {
+    pub(crate) changes: Vec<Change>,
+    pub(crate) met: Vec<Rect>,
+}
+
 // Adds a piece that nothing left so far has to do with but the pieces before it.
-fn add_one(dirt: &mut Vec<Rect>, round: &mut Dirt, r: Rect) -> Result<(), NoMemory>
-    requires split { IsSplit dirt.old.items round.old (λ s. AreLoose r s) }
-    requires kept { IsDirt dirt.old.items }
-    ensures dirt { OnOk result (dirt.new.items ≡ add_dirt dirt.old.items r) }
+fn add_one(dirt: &mut Left<'_>, round: &mut Dirt, r: Rect) -> Result<(), NoMemory>
+    requires split { IsSplit dirt.old.left round.old (λ s. AreLoose r s) }
+    requires kept { IsDirt dirt.old.left }
+    requires front { Every (λ s. is_within s r ≡ false) (front dirt.old) }
+    ensures dirt { OnOk result (dirt.new.left ≡ add_dirt dirt.old.left r) }
     ensures round { OnOk result (round.new ≡ add_dirt round.old r) }
-    ensures kept { OnOk result (IsDirt dirt.new.items) }
+    ensures kept { OnOk result (IsDirt dirt.new.left) }
+    ensures runs { dirt.new.runs ≡ dirt.old.runs }
+    ensures next { dirt.new.next ≡ dirt.old.next }
 {
     r.corner_law();
     if !round.look(&r, Relation::IsNested) {
         round.add_loose(r)?;
-        return push_one(dirt, r);
+        return dirt.push(r);
     }
     if round.look(&r, Relation::Holds) {
         return Ok(());
     }
     round.add(r)?;
-    drop_held(dirt, &r);
-    push_one(dirt, r)
+    dirt.drop_held(&r);
+    dirt.push(r)
 }
 
-fn add_piece(dirt: &mut Vec<Rect>, round: &mut Dirt, piece: Option<Rect>) -> Result<(), NoMemory>
-    requires split { IfSome piece (λ r. IsSplit dirt.old.items round.old (λ s. AreLoose r s)) }
-    requires kept { IsDirt dirt.old.items }
-    ensures dirt { OnOk result (dirt.new.items ≡ add_all dirt.old.items (option_to_list piece)) }
+fn add_piece(dirt: &mut Left<'_>, round: &mut Dirt, piece: Option<Rect>) -> Result<(), NoMemory>
+    requires split { IfSome piece (λ r. IsSplit dirt.old.left round.old (λ s. AreLoose r s)) }
+    requires kept { IsDirt dirt.old.left }
+    requires front { IfSome piece (λ r. Every (λ s. is_within s r ≡ false) (front dirt.old)) }
+    ensures dirt { OnOk result (dirt.new.left ≡ add_all dirt.old.left (option_to_list piece)) }
     ensures round { OnOk result (round.new ≡ add_all round.old (option_to_list piece)) }
-    ensures kept { OnOk result (IsDirt dirt.new.items) }
+    ensures kept { OnOk result (IsDirt dirt.new.left) }
+    ensures runs { dirt.new.runs ≡ dirt.old.runs }
+    ensures next { dirt.new.next ≡ dirt.old.next }
 {
     match piece {
         Some(r) => add_one(dirt, round, r),
@@ -86,18 +150,21 @@ fn add_piece(dirt: &mut Vec<Rect>, round: &mut Dirt, piece: Option<Rect>) -> Res
 
 // Adds the pieces round a window that meets the rectangle.
 fn add_round(
-    dirt: &mut Vec<Rect>,
+    dirt: &mut Left<'_>,
     round: &mut Dirt,
     r: &Rect,
     w: &Rect,
     common: &Rect,
 ) -> Result<(), NoMemory>
     requires common { IsCommon common.now r.now w.now }
-    requires split { IsSplit dirt.old.items round.old (IsApart r.now w.now) }
-    requires kept { IsDirt dirt.old.items }
-    ensures dirt { OnOk result (dirt.new.items ≡ add_all dirt.old.items (pieces r.now w.now)) }
+    requires split { IsSplit dirt.old.left round.old (IsApart r.now w.now) }
+    requires kept { IsDirt dirt.old.left }
+    requires front { Every (AreLoose r.now) (front dirt.old) }
+    ensures dirt { OnOk result (dirt.new.left ≡ add_all dirt.old.left (pieces r.now w.now)) }
     ensures round { OnOk result (round.new ≡ add_all round.old (pieces r.now w.now)) }
-    ensures kept { OnOk result (IsDirt dirt.new.items) }
+    ensures kept { OnOk result (IsDirt dirt.new.left) }
+    ensures runs { dirt.new.runs ≡ dirt.old.runs }
+    ensures next { dirt.new.next ≡ dirt.old.next }
 {
     w.corner_law();
     add_piece(dirt, round, left(r, w))?;
@@ -107,13 +174,16 @@ fn add_round(
 }
 
 // Adds the pieces round the window of a rectangle that meets it.
-fn add_pieces(dirt: &mut Vec<Rect>, round: &mut Dirt, r: &Rect, w: &Rect) -> Result<(), NoMemory>
+fn add_pieces(dirt: &mut Left<'_>, round: &mut Dirt, r: &Rect, w: &Rect) -> Result<(), NoMemory>
     requires met { rects_meet r.now w.now ≡ true }
-    requires split { IsSplit dirt.old.items round.old (IsApart r.now w.now) }
-    requires kept { IsDirt dirt.old.items }
-    ensures dirt { OnOk result (dirt.new.items ≡ add_all dirt.old.items (pieces r.now w.now)) }
+    requires split { IsSplit dirt.old.left round.old (IsApart r.now w.now) }
+    requires kept { IsDirt dirt.old.left }
+    requires front { Every (AreLoose r.now) (front dirt.old) }
+    ensures dirt { OnOk result (dirt.new.left ≡ add_all dirt.old.left (pieces r.now w.now)) }
     ensures round { OnOk result (round.new ≡ add_all round.old (pieces r.now w.now)) }
-    ensures kept { OnOk result (IsDirt dirt.new.items) }
+    ensures kept { OnOk result (IsDirt dirt.new.left) }
+    ensures runs { dirt.new.runs ≡ dirt.old.runs }
+    ensures next { dirt.new.next ≡ dirt.old.next }
 {
     r.corner_law();
     w.corner_law();
@@ -123,34 +193,63 @@ fn add_pieces(dirt: &mut Vec<Rect>, round: &mut Dirt, r: &Rect, w: &Rect) -> Res
     }
 }
 
-// The place of the first that meets the window.
-fn first_met(rects: &[Rect], w: &Rect) -> Option<usize>
-    ensures { MatchOption result (Every (λ (s : Rectangle). rects_meet s w.now ≡ false) rects.now) (λ k. (k < length rects.now) × Every (λ (s : Rectangle). rects_meet s w.now ≡ false) (take k rects.now) × ((d : Rectangle) → rects_meet (get_or rects.now k d) w.now ≡ true)) }
+fn cut_rect(dirt: &mut Left<'_>, round: &mut Dirt, met: &mut Vec<Rect>, r: &Rect, w: &Rect) -> Result<(), NoMemory>
+    requires split { rects_meet r.now w.now ≡ true → IsSplit dirt.old.left round.old (IsApart r.now w.now) }
+    requires kept { IsDirt dirt.old.left }
+    requires front { Every (AreLoose r.now) (front dirt.old) }
+    ensures beside { OnOk result (rects_meet r.now w.now ≡ false → (dirt.new.left ≡ dirt.old.left ++ r.now ∷ []) × (round.new ≡ round.old) × (met.new.items ≡ met.old.items)) }
+    ensures met { OnOk result (rects_meet r.now w.now ≡ true → (dirt.new.left ≡ add_all dirt.old.left (pieces r.now w.now)) × (round.new ≡ add_all round.old (pieces r.now w.now)) × (met.new.items ≡ met.old.items ++ r.now ∷ []) × IsDirt dirt.new.left) }
+    ensures runs { dirt.new.runs ≡ dirt.old.runs }
+    ensures next { dirt.new.next ≡ dirt.old.next }
 {
-    rects.iter().position(|r| r.meets(w))
+    if !r.meets(w) {
+        return dirt.push(*r);
+    }
+    add_pieces(dirt, round, r, w)?;
+    met.push(*r)?;
+    Ok(())
 }
 
-/// A list of dirt without the window. What lies beside the window is copied in runs and compared with the window alone, and a
-/// piece with other pieces alone.
-pub(crate) fn cut_of(alloc: Global, rects: &[Rect], w: &Rect) -> Result<Cut, NoMemory>
-    requires { IsDirt rects.now }
-    ensures { IfOk result (IsCut rects.now w.now) }
+fn cut_block(dirt: &mut Left<'_>, round: &mut Dirt, met: &mut Vec<Rect>, rects: &[Rect], w: &Rect) -> Result<(), NoMemory>
+    requires short { dirt.old.next < length dirt.old.runs }
+    requires window { IsRectangle w.now }
+    requires rects { rects.now ≡ get_or dirt.old.runs dirt.old.next [] }
+    requires dirt { IsDirt (joined dirt.old.runs) }
+    requires partway { IsPartway (joined dirt.old.runs) (joined (drop dirt.old.next dirt.old.runs)) w.now dirt.old.left met.old.items round.old }
+    requires begun { dirt.old.begun ≡ [] }
+    ensures partway { OnOk result (IsPartway (joined dirt.old.runs) (joined (drop (dirt.old.next + 1) dirt.old.runs)) w.now dirt.new.left met.new.items round.new) }
+    ensures runs { dirt.new.runs ≡ dirt.old.runs }
+    ensures next { OnOk result (dirt.new.next ≡ dirt.old.next + 1) }
+    ensures begun { OnOk result (dirt.new.begun ≡ []) }
 {
-    w.corner_law();
-    let mut left = Vec::with_capacity(alloc, rects.len())?;
-    let mut met = Vec::new(alloc);
-    let mut round = Dirt::new(alloc);
-    let mut rest = rects;
-    while let Some(place) = first_met(rest, w) {
-        left.extend_from_slice(&rest[..place])?;
-        add_pieces(&mut left, &mut round, &rest[place], w)?;
-        met.push(rest[place])?;
-        rest = &rest[place + 1..];
+    for r in rects {
+        cut_rect(dirt, round, met, r, w)?;
     }
-    left.extend_from_slice(rest)?;
-    Ok(Cut {
-        left,
+    dirt.close()
+}
+
+/// What the window takes of these blocks. Only those at these places meet it.
+pub(crate) fn taken_of(alloc: Global, blocks: &[Block], places: &[u32], w: &Rect) -> Result<Taken, NoMemory>
+    requires dirt { IsDirt (all_rects blocks.now) }
+    requires window { IsRectangle w.now }
+    requires rising { IsStrictlyIncreasing places.now }
+    requires meet { (k : ℕ) → Contains places.now k ↔ MeetsAt (runs blocks.now) w.now k }
+    ensures left { IfOk result (λ t. joined (patched (runs blocks.now) t.changes.items) ≡ cut_dirt (all_rects blocks.now) w.now) }
+    ensures met { IfOk result (λ t. t.met.items ≡ filter (λ s. rects_meet s w.now) (all_rects blocks.now)) }
+    ensures places { IfOk result (λ t. Every (λ (c : changes_of.Change). c.place < length blocks.now) t.changes.items) }
+    ensures kept { IfOk result (λ t. IsDirt (joined (patched (runs blocks.now) t.changes.items))) }
+{
+    let mut dirt = Left::new(alloc, blocks);
+    let mut round = Dirt::new(alloc);
+    let mut met = Vec::new(alloc);
+    for place in places {
+        let place = *place as usize;
+        dirt.go_to(place);
+        cut_block(&mut dirt, &mut round, &mut met, blocks[place].rects(), w)?;
+    }
+    dirt.go_to(blocks.len());
+    Ok(Taken {
+        changes: dirt.into_changes(),
         met,
-        pieces: round,
     })
 }

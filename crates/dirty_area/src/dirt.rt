@@ -1,42 +1,46 @@
-ghost use Rattle.std.specs.Prelude.{◌≡◌, ◌↔◌, ◌<◌, ◌||◌, [], ◌∷◌, ◌++◌, length, slice_get, Some, IsTrue, IfSome, IfOk, OnOk, OnErr};
+ghost use Rattle.std.specs.Prelude.{◌≡◌, ◌↔◌, ◌≤◌, ◌||◌, [], ◌∷◌, ◌++◌, length, IsTrue, IfSome, IfOk, OnOk, OnErr};
 ghost use Rattle.std.specs.List.{list_any};
 ghost use Rattle.std.specs.Option.{option_to_list};
 ghost use Rattle.plane_terms.specs.Point.{Point};
 ghost use Rattle.plane_terms.specs.Rectangle.{RectHolds, IsRectangle, is_within, rects_meet};
 ghost use Rattle.plane_terms.specs.Dirt.{MeetsPart, Covers, MeetsDirt, add_dirt, add_all, cut_dirt};
 ghost use Rattle.grid_index.specs.Relations.{stands};
+ghost use Rattle.dirty_area.specs.Blocks.{runs, all_rects};
 ghost use Rattle.dirty_area.specs.Cuts.{IsCut};
+ghost use Rattle.dirty_area.specs.Indexed.{IsIndexed};
 ghost use Rattle.dirty_area.specs.Parts.{IsDirt, AreNear};
 
-use crate::cut::{Cut, cut_of};
+use crate::block::Block;
+use crate::cut::{Cut, taken_of};
 use crate::finder::Finder;
-use crate::list::{add_in, add_some, push_one};
+use crate::list::{add_in, add_some, copy_of, count, list_of, make_room, put_last};
 use grid_index::Relation;
 use grid_plane::{NoMemory, Rect};
 use std::alloc::Global;
 use std::marker::Model;
+use std::mem;
 
 /// Dirty areas: closed rectangles in grid units, in the order in which they became dirty, of which none lies in another.
 /// Dirty areas in the white paper Working With Geodatabase Topology (Esri); the list is this project's own.
 #[derive(Drop)]
 pub struct Dirt {
-    rects: Vec<Rect>,
+    alloc: Global,
+    blocks: Vec<Block>,
     finder: Finder,
 }
 
 impl Model for Dirt {
-    ghost use Rattle.std.specs.Prelude.{List};
+    ghost use Rattle.std.specs.Prelude.{◌≤◌, List, length, IfSome};
     ghost use Rattle.plane_terms.specs.Rectangle.{Rectangle};
-    ghost use Rattle.std.specs.Prelude.{IfSome};
-    ghost use Rattle.grid_index.specs.Relations.{stands};
+    ghost use Rattle.dirty_area.specs.Blocks.{runs, all_rects};
     ghost use Rattle.dirty_area.specs.Parts.{IsDirt};
     ghost use Rattle.dirty_area.specs.Indexed.{IsIndexed};
 
     ghost Value = { List Rectangle };
 
-    ghost view = { λ d. d.rects.items };
+    ghost view = { λ d. all_rects d.blocks.items };
 
-    ghost invariant = { λ d. IsDirt d.rects.items × IfSome d.finder (λ ps. IsIndexed d.rects.items ps) };
+    ghost invariant = { λ d. IsDirt (all_rects d.blocks.items) × (length d.blocks.items ≤ 4294967295) × IfSome d.finder (λ ps. IsIndexed (runs d.blocks.items) ps) };
 }
 
 // The law that a rectangle is one of the grid.
@@ -54,7 +58,8 @@ impl Dirt {
         ensures { result ≡ [] }
     {
         Dirt {
-            rects: Vec::new(alloc),
+            alloc,
+            blocks: Vec::new(alloc),
             finder: Finder::new(alloc),
         }
     }
@@ -64,7 +69,8 @@ impl Dirt {
         ensures { result ≡ [] }
     {
         Dirt {
-            rects: Vec::new(alloc),
+            alloc,
+            blocks: Vec::new(alloc),
             finder: Finder::indexed(alloc),
         }
     }
@@ -73,23 +79,28 @@ impl Dirt {
     pub fn len(&self) -> usize
         ensures { result ≡ length self.now }
     {
-        self.rects.len()
+        count(&self.blocks)
     }
 
-    /// The rectangle at this place of the list, from 0.
-    pub fn rect(&self, i: usize) -> Rect
-        requires { i < length self.now }
-        ensures { slice_get self.now i ≡ Some result }
+    /// The blocks of the list, whose rectangles are the list, one block after another.
+    pub fn blocks(&self) -> &[Block]
+        ensures { all_rects result.now ≡ self.now }
     {
-        self.rects[i]
+        &self.blocks
     }
 
-    /// The rectangles in their order.
-    pub fn rects(&self) -> &[Rect]
-        ensures value { result.now ≡ self.now }
-        ensures loose { IsDirt self.now }
+    /// The rectangles in their order: a copy.
+    pub fn list(&self, alloc: Global) -> Result<Vec<Rect>, NoMemory>
+        ensures { IfOk result (λ v. v.items ≡ self.now) }
     {
-        &self.rects
+        list_of(alloc, &self.blocks)
+    }
+
+    /// The law that the rectangles are of the grid, and that none lies in another.
+    pub fn loose_law(&self)
+        ensures { IsDirt self.now }
+    {
+        let _ = &self.finder;
     }
 
     /// Whether some point of the rectangle is dirty; touching is meeting.
@@ -98,14 +109,14 @@ impl Dirt {
         ensures meaning { IsTrue result ↔ MeetsDirt self.now r.now }
     {
         r.corner_law();
-        self.finder.has(&self.rects, r, Relation::Meets)
+        self.finder.has(&self.blocks, r, Relation::Meets)
     }
 
     /// The rectangles of the list that meet this one, in any order; touching is meeting.
     pub fn near(&self, alloc: Global, r: &Rect) -> Result<Vec<Rect>, NoMemory>
         ensures { IfOk result (λ ms. AreNear self.now r.now ms.items) }
     {
-        self.finder.near(alloc, &self.rects, r)
+        self.finder.near(alloc, &self.blocks, r)
     }
 
     /// Whether some dirty rectangle, the window and this rectangle have a common point.
@@ -123,7 +134,7 @@ impl Dirt {
         ensures { result ≡ list_any (λ s. is_within r.now s || is_within s r.now) self.now }
     {
         r.corner_law();
-        self.finder.has(&self.rects, r, Relation::IsNested)
+        self.finder.has(&self.blocks, r, Relation::IsNested)
     }
 
     /// Whether a rectangle of the list holds this one.
@@ -131,7 +142,7 @@ impl Dirt {
         ensures { result ≡ list_any (λ s. is_within r.now s) self.now }
     {
         r.corner_law();
-        self.finder.has(&self.rects, r, Relation::Holds)
+        self.finder.has(&self.blocks, r, Relation::Holds)
     }
 
     /// Whether a rectangle of the list stands so to this one. Counts as a look through the list.
@@ -140,8 +151,8 @@ impl Dirt {
         ensures same { self.new ≡ self.old }
     {
         r.corner_law();
-        self.finder.count_look(&self.rects);
-        self.finder.has(&self.rects, r, relation)
+        self.finder.count_look(&self.blocks);
+        self.finder.has(&self.blocks, r, relation)
     }
 
     /// Makes the rectangle dirty: nothing changes where one of the list holds it already; else those that it holds are
@@ -152,8 +163,8 @@ impl Dirt {
         ensures err { OnErr result (self.new ≡ self.old) }
     {
         r.corner_law();
-        self.rects.reserve(1)?;
-        add_in(&mut self.rects, &mut self.finder, r);
+        make_room(self.alloc, &mut self.blocks, 1)?;
+        add_in(&mut self.blocks, &mut self.finder, r);
         Ok(())
     }
 
@@ -165,8 +176,8 @@ impl Dirt {
         ensures err { OnErr result (self.new ≡ self.old) }
     {
         r.corner_law();
-        push_one(&mut self.rects, r)?;
-        self.finder.put(r);
+        make_room(self.alloc, &mut self.blocks, 1)?;
+        put_last(&mut self.blocks, &mut self.finder, r);
         Ok(())
     }
 
@@ -178,43 +189,48 @@ impl Dirt {
     {
         corner_laws(&first);
         corner_laws(&second);
-        self.rects.reserve(2)?;
-        add_some(&mut self.rects, &mut self.finder, first);
-        add_some(&mut self.rects, &mut self.finder, second);
+        make_room(self.alloc, &mut self.blocks, 2)?;
+        add_some(&mut self.blocks, &mut self.finder, first);
+        add_some(&mut self.blocks, &mut self.finder, second);
         Ok(())
     }
 
-    /// What is left without the window: of each rectangle, in order, the pieces that lie outside the window are added to what
-    /// is left so far. They are closed, so the window's border stays dirty where the dirt goes on beyond it. This dirt stays.
-    pub fn cut(&self, alloc: Global, window: &Rect) -> Result<Cut, NoMemory>
-        ensures ok { IfOk result (λ c. c.left ≡ cut_dirt self.now window.now) }
-        ensures stays { IfOk result (λ c. (p : Point) → Covers self.now p → ¬ (RectHolds window.now p) → Covers c.left p) }
-        ensures only { IfOk result (λ c. (p : Point) → Covers c.left p → Covers self.now p) }
-        ensures parts { IfOk result (IsCut self.now window.now) }
-    {
-        cut_of(alloc, &self.rects, window)
-    }
-
-    /// Becomes what `cut` left of it. An index loses what met the window and gains the pieces; where less than half is left, or
-    /// memory for the pieces runs out, a new one is made or it goes on without.
-    pub fn settle(&mut self, cut: Cut, window: &Rect)
-        requires { IsCut self.old window.now cut }
-        ensures { self.new ≡ cut.left }
+    /// Cuts the window out: of each rectangle, in order, the pieces that lie outside the window are added to what is left so
+    /// far. They are closed, so the window's border stays dirty where the dirt goes on beyond it. The cut takes the dirt
+    /// over, with what is left of it; nothing is dirty here then. After an `Err`, out of memory, nothing has changed.
+    pub fn cut(&mut self, alloc: Global, window: &Rect) -> Result<Cut, NoMemory>
+        ensures taken { OnOk result (self.new ≡ []) }
+        ensures err { OnErr result (self.new ≡ self.old) }
+        ensures whole { IfOk result (λ c. c.whole ≡ self.old) }
+        ensures ok { IfOk result (λ c. c.left ≡ cut_dirt self.old window.now) }
+        ensures stays { IfOk result (λ c. (p : Point) → Covers self.old p → ¬ (RectHolds window.now p) → Covers c.left p) }
+        ensures only { IfOk result (λ c. (p : Point) → Covers c.left p → Covers self.old p) }
+        ensures parts { IfOk result (IsCut self.old window.now) }
     {
         window.corner_law();
-        self.finder
-            .settle(&self.rects, &cut.left, &cut.met, cut.pieces.rects());
-        self.rects = cut.left;
+        self.finder.count_look(&self.blocks);
+        let places = self.finder.places(alloc, &self.blocks, window)?;
+        let taken = taken_of(alloc, &self.blocks, &places, window)?;
+        Ok(Cut {
+            alloc,
+            blocks: mem::replace(&mut self.blocks, Vec::new(alloc)),
+            finder: mem::replace(&mut self.finder, Finder::new(alloc)),
+            changes: taken.changes,
+            met: taken.met,
+        })
     }
 
-    // Dirt of these rectangles, without an index.
-    pub(crate) fn of_rects(alloc: Global, rects: Vec<Rect>) -> Dirt
-        requires { IsDirt rects.items }
-        ensures { result ≡ rects.items }
+    // Dirt of these blocks.
+    pub(crate) fn of(alloc: Global, blocks: Vec<Block>, finder: Finder) -> Dirt
+        requires dirt { IsDirt (all_rects blocks.items) }
+        requires few { length blocks.items ≤ 4294967295 }
+        requires indexed { IfSome finder (λ ps. IsIndexed (runs blocks.items) ps) }
+        ensures { result ≡ all_rects blocks.items }
     {
         Dirt {
-            rects,
-            finder: Finder::new(alloc),
+            alloc,
+            blocks,
+            finder,
         }
     }
 
@@ -223,7 +239,8 @@ impl Dirt {
         ensures { IfOk result (λ d. d ≡ self.now) }
     {
         Ok(Dirt {
-            rects: Vec::from_slice(alloc, &self.rects)?,
+            alloc,
+            blocks: copy_of(alloc, &self.blocks)?,
             finder: Finder::new(alloc),
         })
     }

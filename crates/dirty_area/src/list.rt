@@ -1,104 +1,212 @@
-ghost use Rattle.std.specs.Prelude.{◌≡◌, ◌<◌, ◌≤◌, ◌+◌, [], ◌∷◌, ◌++◌, not, filter, IfSome, OnOk, OnErr, vec_len, vec_capacity};
+ghost use Rattle.std.specs.Prelude.{◌≡◌, ◌<◌, ◌≤◌, ◌+◌, ◌-◌, ℕ, true, false, [], ◌∷◌, ◌++◌, List, length, get_or, set, not, filter, IfSome, IfOk, OnOk, OnErr};
 ghost use Rattle.std.specs.Option.{option_to_list};
 ghost use Rattle.plane_terms.specs.Lists.{Every};
 ghost use Rattle.plane_terms.specs.Rectangle.{IsRectangle, is_within};
 ghost use Rattle.plane_terms.specs.Dirt.{add_dirt, add_all};
+ghost use Rattle.grid_index.specs.declared.placed.Placed.{Placed};
+ghost use Rattle.dirty_area.specs.Blocks.{LastHasRoom, runs, all_rects};
 ghost use Rattle.dirty_area.specs.Indexed.{IsIndexed};
 
+use crate::block::Block;
 use crate::finder::Finder;
 use grid_index::Relation;
 use grid_plane::{NoMemory, Rect};
+use std::alloc::Global;
 
-fn is_loose(r: &Rect, s: &Rect) -> bool
-    ensures { result ≡ not (is_within s.now r.now) }
-{
-    !r.holds_rect(s)
-}
+/// A list has no more blocks, so that an index can tell them apart.
+const MOST: usize = 4294967295;
 
-/// Takes out the rectangles that this one holds.
-pub(crate) fn drop_held(rects: &mut Vec<Rect>, r: &Rect)
-    ensures held { rects.new.items ≡ filter (λ s. not (is_within s r.now)) rects.old.items }
-    ensures room { vec_len rects.new ≤ vec_len rects.old }
-    ensures capacity { vec_capacity rects.new ≡ vec_capacity rects.old }
+fn needs_block(blocks: &[Block]) -> bool
+    ensures { result ≡ false → 0 < length blocks.now }
 {
-    rects.retain(|s| is_loose(r, s));
-}
-
-/// Puts the rectangle last: in few steps where there is room.
-pub(crate) fn push_one(rects: &mut Vec<Rect>, r: Rect) -> Result<(), NoMemory>
-    ensures ok { OnOk result (rects.new.items ≡ rects.old.items ++ r ∷ []) }
-    ensures err { OnErr result (rects.new.items ≡ rects.old.items) }
-{
-    if rects.len() < rects.capacity() {
-        rects.push_reserved(r);
-        return Ok(());
+    match blocks.last() {
+        Some(last) => last.is_full(),
+        None => true,
     }
-    rects.push(r)?;
+}
+
+fn add_block(alloc: Global, blocks: &mut Vec<Block>, more: usize) -> Result<(), NoMemory>
+    requires { more ≤ 4294967295 }
+    ensures ok { OnOk result (runs blocks.new.items ≡ runs blocks.old.items ++ [] ∷ []) }
+    ensures room { OnOk result (LastHasRoom blocks.new.items more) }
+    ensures few { length blocks.old.items ≤ 4294967295 → length blocks.new.items ≤ 4294967295 }
+    ensures err { OnErr result (runs blocks.new.items ≡ runs blocks.old.items) }
+{
+    if blocks.len() >= MOST {
+        return Err(NoMemory);
+    }
+    let mut block = Block::new(alloc)?;
+    block.reserve(more)?;
+    blocks.push(block)?;
     Ok(())
 }
 
-// Puts the rectangle last. There is room.
-fn put_last(rects: &mut Vec<Rect>, finder: &mut Finder, r: Rect)
-    requires room { vec_len rects.old < vec_capacity rects.old }
-    requires indexed { IfSome finder.old (λ ps. IsIndexed rects.old.items ps) }
-    ensures put { rects.new.items ≡ rects.old.items ++ r ∷ [] }
-    ensures len { vec_len rects.new ≡ vec_len rects.old + 1 }
-    ensures capacity { vec_capacity rects.new ≡ vec_capacity rects.old }
-    ensures indexed { IfSome finder.new (λ ps. IsIndexed rects.new.items ps) }
+/// Makes room for so many rectangles more, in the last block.
+pub(crate) fn make_room(alloc: Global, blocks: &mut Vec<Block>, more: usize) -> Result<(), NoMemory>
+    requires few { length blocks.old.items ≤ 4294967295 }
+    requires more { more ≤ 4294967295 }
+    ensures same { all_rects blocks.new.items ≡ all_rects blocks.old.items }
+    ensures indexed { (ps : List Placed) → IsIndexed (runs blocks.old.items) ps → IsIndexed (runs blocks.new.items) ps }
+    ensures room { OnOk result (LastHasRoom blocks.new.items more) }
+    ensures few { length blocks.new.items ≤ 4294967295 }
 {
-    finder.put(r);
-    rects.push_reserved(r);
+    if needs_block(blocks) {
+        return add_block(alloc, blocks, more);
+    }
+    let last = blocks.len() - 1;
+    blocks[last].reserve(more)
+}
+
+// Puts the rectangle last. There is room.
+pub(crate) fn put_last(blocks: &mut Vec<Block>, finder: &mut Finder, r: Rect)
+    requires room { LastHasRoom blocks.old.items 1 }
+    requires few { length blocks.old.items ≤ 4294967295 }
+    requires indexed { IfSome finder.old (λ ps. IsIndexed (runs blocks.old.items) ps) }
+    ensures put { all_rects blocks.new.items ≡ all_rects blocks.old.items ++ r ∷ [] }
+    ensures room { (n : ℕ) → LastHasRoom blocks.old.items (n + 1) → LastHasRoom blocks.new.items n }
+    ensures len { length blocks.new.items ≡ length blocks.old.items }
+    ensures indexed { IfSome finder.new (λ ps. IsIndexed (runs blocks.new.items) ps) }
+{
+    let last = blocks.len() - 1;
+    finder.put(last, &r);
+    blocks[last].put(r);
+}
+
+// Takes the rectangles that this one holds out of a block.
+fn trim(blocks: &mut Vec<Block>, finder: &mut Finder, place: usize, r: &Rect)
+    requires place { place < length blocks.old.items }
+    requires few { length blocks.old.items ≤ 4294967295 }
+    requires indexed { IfSome finder.old (λ ps. IsIndexed (runs blocks.old.items) ps) }
+    ensures trimmed { runs blocks.new.items ≡ set (runs blocks.old.items) place (filter (λ s. not (is_within s r.now)) (get_or (runs blocks.old.items) place [])) }
+    ensures room { (n : ℕ) → LastHasRoom blocks.old.items n → LastHasRoom blocks.new.items n }
+    ensures len { length blocks.new.items ≡ length blocks.old.items }
+    ensures indexed { IfSome finder.new (λ ps. IsIndexed (runs blocks.new.items) ps) }
+{
+    finder.drop_held(place, blocks[place].rects(), r);
+    blocks[place].drop_held(r);
+}
+
+// Takes out the rectangles that this one holds.
+fn drop_held(blocks: &mut Vec<Block>, finder: &mut Finder, r: &Rect)
+    requires few { length blocks.old.items ≤ 4294967295 }
+    requires indexed { IfSome finder.old (λ ps. IsIndexed (runs blocks.old.items) ps) }
+    ensures held { all_rects blocks.new.items ≡ filter (λ s. not (is_within s r.now)) (all_rects blocks.old.items) }
+    ensures room { (n : ℕ) → LastHasRoom blocks.old.items n → LastHasRoom blocks.new.items n }
+    ensures len { length blocks.new.items ≡ length blocks.old.items }
+    ensures indexed { IfSome finder.new (λ ps. IsIndexed (runs blocks.new.items) ps) }
+{
+    finder.let_go(blocks, r);
+    for place in 0..blocks.len() {
+        trim(blocks, finder, place, r);
+    }
 }
 
 // Puts the rectangle last, in place of those that it holds. There is room. A long list has an index then, where there is memory.
-fn put_round(rects: &mut Vec<Rect>, finder: &mut Finder, r: Rect)
-    requires room { vec_len rects.old < vec_capacity rects.old }
-    requires indexed { IfSome finder.old (λ ps. IsIndexed rects.old.items ps) }
-    ensures put { rects.new.items ≡ filter (λ s. not (is_within s r)) rects.old.items ++ r ∷ [] }
-    ensures len { vec_len rects.new ≤ vec_len rects.old + 1 }
-    ensures capacity { vec_capacity rects.new ≡ vec_capacity rects.old }
-    ensures indexed { IfSome finder.new (λ ps. IsIndexed rects.new.items ps) }
+fn put_round(blocks: &mut Vec<Block>, finder: &mut Finder, r: Rect)
+    requires room { LastHasRoom blocks.old.items 1 }
+    requires few { length blocks.old.items ≤ 4294967295 }
+    requires indexed { IfSome finder.old (λ ps. IsIndexed (runs blocks.old.items) ps) }
+    ensures put { all_rects blocks.new.items ≡ filter (λ s. not (is_within s r)) (all_rects blocks.old.items) ++ r ∷ [] }
+    ensures room { (n : ℕ) → LastHasRoom blocks.old.items (n + 1) → LastHasRoom blocks.new.items n }
+    ensures len { length blocks.new.items ≡ length blocks.old.items }
+    ensures indexed { IfSome finder.new (λ ps. IsIndexed (runs blocks.new.items) ps) }
 {
-    finder.drop_held(rects, &r);
-    drop_held(rects, &r);
-    finder.prepare(rects);
-    put_last(rects, finder, r);
+    drop_held(blocks, finder, &r);
+    finder.prepare(blocks);
+    put_last(blocks, finder, r);
 }
 
 /// Adds the rectangle to a list of dirt that has room for it.
-pub(crate) fn add_in(rects: &mut Vec<Rect>, finder: &mut Finder, r: Rect)
-    requires room { vec_len rects.old < vec_capacity rects.old }
-    requires rects { Every IsRectangle rects.old.items }
+pub(crate) fn add_in(blocks: &mut Vec<Block>, finder: &mut Finder, r: Rect)
+    requires room { LastHasRoom blocks.old.items 1 }
+    requires few { length blocks.old.items ≤ 4294967295 }
+    requires rects { Every IsRectangle (all_rects blocks.old.items) }
     requires rect { IsRectangle r }
-    requires indexed { IfSome finder.old (λ ps. IsIndexed rects.old.items ps) }
-    ensures added { rects.new.items ≡ add_dirt rects.old.items r }
-    ensures len { vec_len rects.new ≤ vec_len rects.old + 1 }
-    ensures capacity { vec_capacity rects.new ≡ vec_capacity rects.old }
-    ensures indexed { IfSome finder.new (λ ps. IsIndexed rects.new.items ps) }
+    requires indexed { IfSome finder.old (λ ps. IsIndexed (runs blocks.old.items) ps) }
+    ensures added { all_rects blocks.new.items ≡ add_dirt (all_rects blocks.old.items) r }
+    ensures room { (n : ℕ) → LastHasRoom blocks.old.items (n + 1) → LastHasRoom blocks.new.items n }
+    ensures len { length blocks.new.items ≡ length blocks.old.items }
+    ensures indexed { IfSome finder.new (λ ps. IsIndexed (runs blocks.new.items) ps) }
 {
-    finder.count_look(rects);
-    if !finder.has(rects, &r, Relation::IsNested) {
-        put_last(rects, finder, r);
+    finder.count_look(blocks);
+    if !finder.has(blocks, &r, Relation::IsNested) {
+        put_last(blocks, finder, r);
         return;
     }
-    if !finder.has(rects, &r, Relation::Holds) {
-        put_round(rects, finder, r);
+    if !finder.has(blocks, &r, Relation::Holds) {
+        put_round(blocks, finder, r);
     }
 }
 
 /// Adds the rectangle, where it is there, to a list of dirt that has room for it.
-pub(crate) fn add_some(rects: &mut Vec<Rect>, finder: &mut Finder, some: Option<Rect>)
-    requires room { vec_len rects.old < vec_capacity rects.old }
-    requires rects { Every IsRectangle rects.old.items }
+pub(crate) fn add_some(blocks: &mut Vec<Block>, finder: &mut Finder, some: Option<Rect>)
+    requires room { LastHasRoom blocks.old.items 1 }
+    requires few { length blocks.old.items ≤ 4294967295 }
+    requires rects { Every IsRectangle (all_rects blocks.old.items) }
     requires some { IfSome some IsRectangle }
-    requires indexed { IfSome finder.old (λ ps. IsIndexed rects.old.items ps) }
-    ensures added { rects.new.items ≡ add_all rects.old.items (option_to_list some) }
-    ensures len { vec_len rects.new ≤ vec_len rects.old + 1 }
-    ensures capacity { vec_capacity rects.new ≡ vec_capacity rects.old }
-    ensures indexed { IfSome finder.new (λ ps. IsIndexed rects.new.items ps) }
+    requires indexed { IfSome finder.old (λ ps. IsIndexed (runs blocks.old.items) ps) }
+    ensures added { all_rects blocks.new.items ≡ add_all (all_rects blocks.old.items) (option_to_list some) }
+    ensures room { (n : ℕ) → LastHasRoom blocks.old.items (n + 1) → LastHasRoom blocks.new.items n }
+    ensures len { length blocks.new.items ≡ length blocks.old.items }
+    ensures indexed { IfSome finder.new (λ ps. IsIndexed (runs blocks.new.items) ps) }
 {
     match some {
-        Some(r) => add_in(rects, finder, r),
+        Some(r) => add_in(blocks, finder, r),
         None => {}
     }
+}
+
+fn ends_empty(blocks: &[Block]) -> bool
+    ensures some { result ≡ true → 0 < length blocks.now }
+    ensures empty { result ≡ true → get_or (runs blocks.now) (length blocks.now - 1) [] ≡ [] }
+{
+    match blocks.last() {
+        Some(last) => last.rects().is_empty(),
+        None => false,
+    }
+}
+
+/// Lets the blocks at the end go that have no rectangle.
+pub(crate) fn drop_empty(blocks: &mut Vec<Block>)
+    ensures same { all_rects blocks.new.items ≡ all_rects blocks.old.items }
+    ensures fewer { length blocks.new.items ≤ length blocks.old.items }
+    ensures indexed { (ps : List Placed) → IsIndexed (runs blocks.old.items) ps → IsIndexed (runs blocks.new.items) ps }
+{
+    while ends_empty(blocks) {
+        blocks.pop();
+    }
+}
+
+/// How many rectangles the blocks have.
+pub(crate) fn count(blocks: &[Block]) -> usize
+    requires { length blocks.now ≤ 4294967295 }
+    ensures { result ≡ length (all_rects blocks.now) }
+{
+    let mut n = 0;
+    for block in blocks {
+        n += block.len();
+    }
+    n
+}
+
+/// The rectangles of the blocks, one after another.
+pub(crate) fn list_of(alloc: Global, blocks: &[Block]) -> Result<Vec<Rect>, NoMemory>
+    ensures { IfOk result (λ v. v.items ≡ all_rects blocks.now) }
+{
+    let mut rects = Vec::new(alloc);
+    for block in blocks {
+        rects.extend_from_slice(block.rects())?;
+    }
+    Ok(rects)
+}
+
+/// Equal blocks.
+pub(crate) fn copy_of(alloc: Global, blocks: &[Block]) -> Result<Vec<Block>, NoMemory>
+    ensures { IfOk result (λ v. runs v.items ≡ runs blocks.now) }
+{
+    let mut copy = Vec::with_capacity(alloc, blocks.len())?;
+    for block in blocks {
+        copy.push(block.try_copy(alloc)?)?;
+    }
+    Ok(copy)
 }

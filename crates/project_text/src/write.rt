@@ -2,6 +2,7 @@ ghost use Rattle.std.specs.Prelude.{◌≡◌, ◌++◌, flat_map, IfOk, OnOk};
 ghost use Rattle.std.specs.Option.{option_to_list};
 ghost use Rattle.plane_terms.specs.Cell as terms_cell;
 ghost use Rattle.feature_store.specs.Slots.{feature_in, filled};
+ghost use Rattle.dirty_area.specs.Blocks.{all_rects};
 ghost use Rattle.project_text.specs.Pushed.{head_text, class_texts, rule_text, feature_text, dirty_text, cell_text, error_texts, text_of};
 ghost use Rattle.project_terms.specs.Written.{project_text};
 
@@ -12,7 +13,7 @@ use crate::lines::{
 };
 use crate::push::{push_end, push_number, push_text};
 use convex_cell::Cells;
-use dirty_area::Dirt;
+use dirty_area::{Block, Dirt};
 use error_store::{Entry, Errors};
 use feature_store::{Slot, Store};
 use grid_plane::{NoMemory, Rect};
@@ -78,6 +79,16 @@ fn push_dirt(out: &mut Vec<u8>, rects: &[Rect]) -> Result<(), NoMemory>
     Ok(())
 }
 
+// The lines of the dirty rectangles, one block after another.
+fn push_blocks(out: &mut Vec<u8>, blocks: &[Block]) -> Result<(), NoMemory>
+    ensures { OnOk result (out.new.items ≡ out.old.items ++ flat_map dirty_text (all_rects blocks.now)) }
+{
+    for block in blocks {
+        push_dirt(out, block.rects())?;
+    }
+    Ok(())
+}
+
 fn push_cells(out: &mut Vec<u8>, cells: &Cells) -> Result<(), NoMemory>
     ensures { OnOk result (out.new.items ≡ out.old.items ++ flat_map {X = terms_cell.Cell} cell_text cells.now) }
 {
@@ -107,16 +118,16 @@ fn push_project(
     out: &mut Vec<u8>,
     store: &Store,
     rules: &[InForce],
-    rects: &[Rect],
+    blocks: &[Block],
     entries: &[Entry],
 ) -> Result<(), NoMemory>
-    ensures { OnOk result (out.new.items ≡ out.old.items ++ text_of (record { classes = store.now.classes; rules = rules.now; features = store.now.features; next = store.now.next; dirt = rects.now; entries = entries.now })) }
+    ensures { OnOk result (out.new.items ≡ out.old.items ++ text_of (record { classes = store.now.classes; rules = rules.now; features = store.now.features; next = store.now.next; dirt = all_rects blocks.now; entries = entries.now })) }
 {
     push_head(out, store.next_handle())?;
     push_classes(out, store)?;
     push_rules(out, store, rules)?;
     push_features(out, store)?;
-    push_dirt(out, rects)?;
+    push_blocks(out, blocks)?;
     push_errors(out, entries)?;
     push_text(out, b"end\n")?;
     Ok(())
@@ -133,7 +144,7 @@ pub fn write_parts(
     ensures { IfOk result (λ text. text.items ≡ project_text (record { classes = store.now.classes; rules = rules.now; features = store.now.features; next = store.now.next; dirt = dirt.now; entries = errors.now })) }
 {
     let mut out = Vec::new(alloc);
-    push_project(&mut out, store, rules, dirt.rects(), errors.entries())?;
+    push_project(&mut out, store, rules, dirt.blocks(), errors.entries())?;
     Ok(out)
 }
 

@@ -108,6 +108,6 @@ pub fn rest_off_dirt(
 {
     match frame_that_holds(alloc, frame, &cells)? {
         Some(frame) => rest_off_rects(alloc, cells, &dirt.near(alloc, &frame)?),
-        None => rest_off_rects(alloc, cells, dirt.rects()),
+        None => rest_off_rects(alloc, cells, &dirt.list(alloc)?),
     }
 }

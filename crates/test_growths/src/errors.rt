@@ -95,7 +95,7 @@ impl Call<Dirt> for DirtCall {
             },
             DirtCall::Cut(start) => match dirt.cut(alloc, &square(*start)?) {
                 Ok(cut) => {
-                    *dirt = cut.into_dirt(alloc);
+                    *dirt = cut.into_left();
                     Ok(Made::Done)
                 }
                 Err(_) => Ok(Made::NoMemory),

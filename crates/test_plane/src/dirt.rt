@@ -11,9 +11,12 @@ fn the_windows_border_stays_dirty(rt: HostRuntime) -> Result<(), Fail> {
     dirt.add(rect(5, 5, 15, 15)?)?;
     dirt.add(rect(6, 6, 7, 7)?)?;
     let window = rect(0, 0, 10, 20)?;
-    let left = dirt.cut(alloc, &window)?.into_dirt(alloc);
-    assert_eq!(rt; dirt.len(), 1);
-    assert!(rt; dirt.meets(&rect(5, 5, 6, 6)?));
+    let whole = dirt.cut(alloc, &window)?.into_whole();
+    assert_eq!(rt; dirt.len(), 0);
+    assert_eq!(rt; whole.len(), 1);
+    assert!(rt; whole.meets(&rect(5, 5, 6, 6)?));
+    dirt = whole;
+    let left = dirt.cut(alloc, &window)?.into_left();
     assert!(rt; !left.meets(&rect(0, 0, 9, 20)?));
     assert!(rt; left.meets(&rect(0, 0, 10, 5)?));
     assert!(rt; left.meets_part(&window, &rect(10, 15, 20, 20)?));

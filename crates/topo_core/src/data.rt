@@ -149,7 +149,7 @@ impl<R: KindRules> Topology<R> {
         self.store.next_handle();
         names_law(&self.store);
         shapes_law(self.store.features().slots());
-        self.dirt.rects();
+        self.dirt.loose_law();
         errors_law(self.entries.entries());
     }
 

@@ -1,5 +1,7 @@
-ghost use Rattle.std.specs.Prelude.{◌≡◌, ◌≤◌, ℕ, List, [], Some, IfOk, OnOk, OnErr};
+ghost use Rattle.std.specs.Prelude.{◌≡◌, ◌≤◌, ℕ, List, [], filter, Some, IfOk, OnOk, OnErr};
 ghost use Rattle.plane_terms.specs.Lists.{IsThose};
+ghost use Rattle.plane_terms.specs.Rectangle.{Rectangle, rects_meet};
+ghost use Rattle.plane_terms.specs.Dirt.{cut_dirt};
 ghost use Rattle.topology_terms.specs.Feature as features_of;
 ghost use Rattle.topology_terms.specs.Broken.{Row};
 ghost use Rattle.topology_terms.specs.Entry as entries_of;
@@ -43,6 +45,29 @@ fn rejudge<R: RuleSet>(
     Ok(found)
 }
 
+// The entries of the subjects that the window and these rectangles of the dirt select give way to the findings.
+fn renew<R: RuleSet>(
+    rules: &R,
+    alloc: Global,
+    ruled: &RuledFeatures<'_>,
+    errors: &mut Errors,
+    met: &[Rect],
+    window: &Rect,
+    work: &mut Work,
+) -> Result<(), NoMemory>
+    requires { (n : ℕ) (row : Row) → rule_at ruled.now.in_force n ≡ Some row → R.meaning.Fits row ruled.now.features }
+    ensures step { OnOk result ((p : Project) (d new : List Rectangle) → HasParts p ruled.now d errors.old → met.now ≡ filter (λ r. rects_meet r window.now) d → new ≡ cut_dirt d window.now → IsValidatedBy R.meaning window.now p (with_parts p new errors.new)) }
+    ensures judged { OnOk result ((p : Project) (d : List Rectangle) → HasParts p ruled.now d errors.old → met.now ≡ filter (λ r. rects_meet r window.now) d → (fs : List features_of.Feature) × IsThose (λ (f : features_of.Feature). IsSelected p window.now f.handle) ruled.now.features fs × (work.new ≡ raised work.old (judged_of ruled.now.in_force fs))) }
+    ensures stopped { OnErr result ((p : Project) (d : List Rectangle) → HasParts p ruled.now d errors.old → met.now ≡ filter (λ r. rects_meet r window.now) d → (fs : List features_of.Feature) → IsThose (λ (f : features_of.Feature). IsSelected p window.now f.handle) ruled.now.features fs → work.new ≤ raised work.old (judged_of ruled.now.in_force fs)) }
+    ensures ordered { OnOk result (entries_of.IsAscending errors.new) }
+    ensures errors_kept { OnErr result (errors.new ≡ errors.old) }
+{
+    ruled.order_law();
+    let selected = select(alloc, ruled, errors, met, window)?;
+    let fresh = rejudge(rules, alloc, ruled, &selected, work)?;
+    errors.replace(alloc, &selected, fresh)
+}
+
 /// Validates the window: every rule in force judges each live feature of its subjects that the window and the dirt select;
 /// the entries of the selected subjects give way to the findings, and the window is cut out of the dirt.
 ///
@@ -71,9 +96,14 @@ pub fn validate<R: RuleSet>(
 {
     ruled.order_law();
     let cut = dirt.cut(alloc, window)?;
-    let selected = select(alloc, ruled, errors, cut.met(), window)?;
-    let fresh = rejudge(rules, alloc, ruled, &selected, work)?;
-    errors.replace(alloc, &selected, fresh)?;
-    dirt.settle(cut, window);
-    Ok(())
+    match renew(rules, alloc, ruled, errors, cut.met(), window, work) {
+        Ok(()) => {
+            *dirt = cut.into_left();
+            Ok(())
+        }
+        Err(e) => {
+            *dirt = cut.into_whole();
+            Err(e)
+        }
+    }
 }

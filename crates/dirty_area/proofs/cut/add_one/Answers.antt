@@ -15,20 +15,20 @@ add_loose-requires c =
 pub returns-then-not-look-clause-dirt : goal.returns-then-not-look-clause-dirt
 returns-then-not-look-clause-dirt c =
     let apart : list_any (λ s. is_within c.args.r s || is_within s c.args.r) c.args.round.now ≡ false = cc in
-    on_ok_weaker c.push_one.result
-    (λ e. e ∙ sym (none_nested c.args.dirt.now.items c.args.round.now c.args.r c.requires.split apart)) c.push_one.ensures.ok
+    on_ok_weaker c.push.result
+    (λ e. e ∙ sym (none_nested c.args.dirt.now.left c.args.round.now c.args.r c.requires.split apart)) c.push.ensures.left
 
 pub returns-then-not-look-clause-round : goal.returns-then-not-look-clause-round
 returns-then-not-look-clause-round c =
     let apart : list_any (λ s. is_within c.args.r s || is_within s c.args.r) c.args.round.now ≡ false = cc in
-    on_ok_weaker c.push_one.result
+    on_ok_weaker c.push.result
     (λ e. c.in_ok-add_loose.ensures.ok ∙ (ap (λ d. d ++ c.args.r ∷ []) c.look.ensures.same ∙ sym (add_dirt-apart c.args.round.now c.args.r apart)))
-    c.push_one.ensures.ok
+    c.push.ensures.left
 
 pub returns-then-look-clause-dirt : goal.returns-then-look-clause-dirt
 returns-then-look-clause-dirt c =
     let held : list_any (λ s. is_within c.args.r s) c.args.round.now ≡ true = cc in
-    sym (one_holds c.args.dirt.now.items c.args.round.now c.args.r c.requires.split held)
+    sym (one_holds c.args.dirt.now.left c.args.round.now c.args.r c.requires.split held)
 
 pub returns-then-look-clause-round : goal.returns-then-look-clause-round
 returns-then-look-clause-round c =
@@ -38,23 +38,23 @@ returns-then-look-clause-round c =
 pub returns-then-not-look-clause-kept : goal.returns-then-not-look-clause-kept
 returns-then-not-look-clause-kept c =
     let apart : list_any (λ s. is_within c.args.r s || is_within s c.args.r) c.args.round.now ≡ false = cc in
-    on_ok_weaker c.push_one.result
-    (λ e. dirt_added c.args.dirt.now.items c.push_one.new.rects.items c.args.r
-    (e ∙ sym (none_nested c.args.dirt.now.items c.args.round.now c.args.r c.requires.split apart)) c.requires.kept c.corner_law.ensures)
-    c.push_one.ensures.ok
+    on_ok_weaker c.push.result
+    (λ e. dirt_added c.args.dirt.now.left c.push.new.self.left c.args.r
+    (e ∙ sym (none_nested c.args.dirt.now.left c.args.round.now c.args.r c.requires.split apart)) c.requires.kept c.corner_law.ensures)
+    c.push.ensures.left
 
 pub returns-clause-dirt : goal.returns-clause-dirt
 returns-clause-dirt c =
     let loose : list_any (λ s. is_within c.args.r s) c.args.round.now ≡ false = cc in
-    on_ok_weaker c.push_one-2.result
-    (λ e. e ∙ (ap (λ d. d ++ c.args.r ∷ []) c.drop_held.ensures.held
-    ∙ sym (none_holds c.args.dirt.now.items c.args.round.now c.args.r c.requires.split loose))) c.push_one-2.ensures.ok
+    on_ok_weaker c.push-2.result
+    (λ e. e ∙ (ap (λ d. d ++ c.args.r ∷ []) c.drop_held.ensures.left
+    ∙ sym (none_holds c.args.dirt.now.left c.args.round.now c.args.r c.requires.split loose))) c.push-2.ensures.left
 
 pub returns-clause-kept : goal.returns-clause-kept
 returns-clause-kept c =
     let loose : list_any (λ s. is_within c.args.r s) c.args.round.now ≡ false = cc in
-    on_ok_weaker c.push_one-2.result
-    (λ e. dirt_added c.args.dirt.now.items c.push_one-2.new.rects.items c.args.r
-    (e ∙ (ap (λ d. d ++ c.args.r ∷ []) c.drop_held.ensures.held
-    ∙ sym (none_holds c.args.dirt.now.items c.args.round.now c.args.r c.requires.split loose))) c.requires.kept c.corner_law.ensures)
-    c.push_one-2.ensures.ok
+    on_ok_weaker c.push-2.result
+    (λ e. dirt_added c.args.dirt.now.left c.push-2.new.self.left c.args.r
+    (e ∙ (ap (λ d. d ++ c.args.r ∷ []) c.drop_held.ensures.left
+    ∙ sym (none_holds c.args.dirt.now.left c.args.round.now c.args.r c.requires.split loose))) c.requires.kept c.corner_law.ensures)
+    c.push-2.ensures.left

@@ -1,7 +1,6 @@
-use Rattle.std.proofs.Common.{List, ◌++◌, take}
-use Rattle.plane_terms.specs.Rectangle.{Rectangle}
-use Rattle.dirty_area.specs.Indexed.{IsIndexed}
+use Rattle.std.proofs.Common.{take, true}
+use Rattle.dirty_area.specs.Indexed.{GainsSome}
 use Rattle.dirty_area.proofs.finder.put_each.Given as goal
 
 abbrev pub invariant-loop-r : goal.invariant-loop-r
-invariant-loop-r l = (d : List Rectangle) → IsIndexed d l.fn.index → IsIndexed (d ++ take l.r-index l.rects) l.index
+invariant-loop-r l = GainsSome l.place (take l.r-index l.rects) (λ s. true) l.fn.index l.index

@@ -14,5 +14,5 @@ returns c =
           c.args.dirt.now;
       entries = c.args.errors.now;
     } in
-    all_written p _ _ _ _ _ refl c.rects.ensures.value c.entries.ensures.value
+    all_written p _ _ _ _ _ refl c.blocks-2.ensures c.entries.ensures.value
     c.new-out.ensures.items c.in_ok-push_project.ensures

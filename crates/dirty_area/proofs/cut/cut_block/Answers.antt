@@ -1,0 +1,54 @@
+use Rattle.std.proofs.Common.{◌≡◌, refl, sym, ap, ◌∙◌, subst, drop, ◌+◌, ◌++◌}
+use Rattle.plane_terms.specs.Lists.{Every}
+use Rattle.plane_terms.specs.Dirt.{AreLoose}
+use Rattle.dirty_area.specs.Blocks.{joined}
+use Rattle.dirty_area.specs.Parts.{IsPartway}
+use Rattle.dirty_area.proofs.Fronts.{front_same}
+use Rattle.dirty_area.proofs.Joins.{joined_rest}
+use Rattle.dirty_area.proofs.Runs.{met_apart}
+use Rattle.dirty_area.proofs.Sweeps.{rect_cut, loose_front, next_rest}
+use Rattle.dirty_area.proofs.cut.cut_block.Goals as goal
+
+pub loop-r-init : goal.loop-r-init
+loop-r-init c =
+    let l = c.args.dirt.now in
+    let whole : joined (drop l.next l.runs) ≡ c.args.rects.now ++ joined (drop (l.next + 1) l.runs) =
+    joined_rest l.runs l.next c.requires.short ∙ ap (λ t. t ++ joined (drop (l.next + 1) l.runs)) (sym c.requires.rects) in
+    (refl, refl, subst (λ t. IsPartway (joined l.runs) t c.args.w.now l.left c.args.met.now.items c.args.round.now) whole c.requires.partway)
+
+pub cut_rect-requires-clause-split : goal.cut_rect-requires-clause-split
+cut_rect-requires-clause-split c =
+    let l = c.args.dirt.now in
+    let i = c.loop-r.r-index in
+    let x = c.r-item.result in
+    let rest = joined (drop (l.next + 1) l.runs) in
+    let h = subst (λ t. IsPartway (joined l.runs) t c.args.w.now c.loop-r.dirt.left c.loop-r.met.items c.loop-r.round)
+    (next_rest c.args.rects.now rest i x c.loop-r-test.true c.r-item.is) c.loop-r.invariant.2 in
+    λ e. met_apart (joined l.runs) (drop (i + 1) c.args.rects.now ++ rest) c.args.w.now c.loop-r.dirt.left c.loop-r.met.items c.loop-r.round x
+    c.requires.dirt.loose e h
+
+pub cut_rect-requires-clause-kept : goal.cut_rect-requires-clause-kept
+cut_rect-requires-clause-kept c = c.loop-r.invariant.2.kept
+
+pub cut_rect-requires-clause-front : goal.cut_rect-requires-clause-front
+cut_rect-requires-clause-front c =
+    let l = c.args.dirt.now in
+    let same = front_same l c.loop-r.dirt c.loop-r.invariant.0 c.loop-r.invariant.1 in
+    subst (λ t. Every (AreLoose c.r-item.result) t) (sym same)
+    (loose_front l.runs l.next c.loop-r.r-index c.args.rects.now c.r-item.result c.requires.short c.requires.dirt c.requires.rects c.loop-r-test.true
+    c.r-item.is)
+
+pub loop-r-preserved : goal.loop-r-preserved
+loop-r-preserved c =
+    let l = c.args.dirt.now in
+    let i = c.loop-r.r-index in
+    let x = c.r-item.result in
+    let rest = joined (drop (l.next + 1) l.runs) in
+    let h = subst (λ t. IsPartway (joined l.runs) t c.args.w.now c.loop-r.dirt.left c.loop-r.met.items c.loop-r.round)
+    (next_rest c.args.rects.now rest i x c.loop-r-test.true c.r-item.is) c.loop-r.invariant.2 in (
+      c.cut_rect.ensures.runs ∙ c.loop-r.invariant.0,
+      c.cut_rect.ensures.next ∙ c.loop-r.invariant.1,
+      rect_cut (joined l.runs) (drop (i + 1) c.args.rects.now ++ rest) c.args.w.now c.loop-r.dirt.left c.loop-r.met.items c.loop-r.round x
+          c.cut_rect.new.dirt.left c.cut_rect.new.met.items c.cut_rect.new.round c.requires.dirt c.requires.window.proper
+          c.in_ok-cut_rect.ensures.beside c.in_ok-cut_rect.ensures.met h,
+    )

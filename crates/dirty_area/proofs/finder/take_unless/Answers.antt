@@ -1,0 +1,6 @@
+use Rattle.std.proofs.Common.{subst}
+use Rattle.grid_index.specs.Near.{Loses}
+use Rattle.dirty_area.proofs.finder.take_unless.Goals as goal
+
+pub returns-then-not-is_among-clause-other : goal.returns-then-not-is_among-clause-other
+returns-then-not-is_among-clause-other c = λ t. subst (λ p. Loses c.args.index.now c.take.new.self p) c.placed_of.ensures c.take.ensures
