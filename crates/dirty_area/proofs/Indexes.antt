@@ -210,11 +210,13 @@ lost_one k xs f r os ps qs passing loses before q = (to, from)
     to : Contains qs q → Contains os q × ¬ (IsAt k (xs ++ r ∷ []) q × (f q.rect ≡ true))
     to h =
         let a = (loses q).0 h in
-        let b = (before q).0 a.0 in
-        (b.0, λ m. elim (Contains-push_cases xs r q.rect m.0.1) [
-          | inl o ↦ b.1 ((m.0.0, o), m.1)
-          | inr e ↦ a.1 (same_placed k r q (sym e) m.0.0)
-        ])
+        let b = (before q).0 a.0 in (
+          b.0,
+          λ m. elim (Contains-push_cases xs r q.rect m.0.1) [
+            | inl o ↦ b.1 ((m.0.0, o), m.1)
+            | inr e ↦ a.1 (same_placed k r q (sym e) m.0.0)
+          ],
+        )
 
     from : Contains os q × ¬ (IsAt k (xs ++ r ∷ []) q × (f q.rect ≡ true)) → Contains qs q
     from h = (loses q).1 (
@@ -228,11 +230,13 @@ lost_other : (k : ℕ) (xs : List Rectangle) (f : Rectangle → Bool) (r : Recta
     → LosesSome k xs f os ps → LosesSome k (xs ++ r ∷ []) f os ps
 lost_other k xs f r os ps other before q = (
   (λ h.
-      let b = (before q).0 h in
-      (b.0, λ m. elim (Contains-push_cases xs r q.rect m.0.1) [
-        | inl o ↦ b.1 ((m.0.0, o), m.1)
-        | inr e ↦ false≢true (sym other ∙ (ap f e ∙ m.1))
-      ])),
+      let b = (before q).0 h in (
+        b.0,
+        λ m. elim (Contains-push_cases xs r q.rect m.0.1) [
+          | inl o ↦ b.1 ((m.0.0, o), m.1)
+          | inr e ↦ false≢true (sym other ∙ (ap f e ∙ m.1))
+        ],
+      )),
   (λ h. (before q).1 (h.0, λ m. h.1 ((m.0.0, Contains-append_left xs (r ∷ []) q.rect m.0.1), m.1))),
 )
 

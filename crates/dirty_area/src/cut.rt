@@ -57,7 +57,11 @@ fn put_change(blocks: &mut Vec<Block>, finder: &mut Finder, change: Change)
     ensures len { length blocks.new.items ≡ length blocks.old.items }
     ensures indexed { IfSome finder.new (λ ps. IsIndexed (runs blocks.new.items) ps) }
 {
-    finder.trade(change.place, blocks[change.place].rects(), change.block.rects());
+    finder.trade(
+        change.place,
+        blocks[change.place].rects(),
+        change.block.rects(),
+    );
     blocks[change.place] = change.block;
 }
 
@@ -74,6 +78,24 @@ fn put_changes(blocks: &mut Vec<Block>, finder: &mut Finder, changes: Vec<Change
     }
 }
 
+// The same. Where most blocks change, to make a new index is quicker than to trade them one by one.
+fn put_all(blocks: &mut Vec<Block>, finder: &mut Finder, changes: Vec<Change>)
+    requires places { Every (λ (c : changes_of.Change). c.place < length blocks.old.items) changes.items }
+    requires few { length blocks.old.items ≤ 4294967295 }
+    requires indexed { IfSome finder.old (λ ps. IsIndexed (runs blocks.old.items) ps) }
+    ensures put { runs blocks.new.items ≡ patched (runs blocks.old.items) changes.items }
+    ensures len { length blocks.new.items ≡ length blocks.old.items }
+    ensures indexed { IfSome finder.new (λ ps. IsIndexed (runs blocks.new.items) ps) }
+{
+    if !finder.has_index() || changes.len() <= blocks.len() / 2 {
+        put_changes(blocks, finder, changes);
+        return;
+    }
+    finder.forget();
+    put_changes(blocks, finder, changes);
+    finder.prepare(blocks);
+}
+
 impl Cut {
     /// The rectangles of the dirt that met the window, in their order.
     pub fn met(&self) -> &[Rect]
@@ -88,7 +110,7 @@ impl Cut {
     {
         let mut blocks = self.blocks;
         let mut finder = self.finder;
-        put_changes(&mut blocks, &mut finder, self.changes);
+        put_all(&mut blocks, &mut finder, self.changes);
         drop_empty(&mut blocks);
         Dirt::of(self.alloc, blocks, finder)
     }
@@ -193,7 +215,13 @@ fn add_pieces(dirt: &mut Left<'_>, round: &mut Dirt, r: &Rect, w: &Rect) -> Resu
     }
 }
 
-fn cut_rect(dirt: &mut Left<'_>, round: &mut Dirt, met: &mut Vec<Rect>, r: &Rect, w: &Rect) -> Result<(), NoMemory>
+fn cut_rect(
+    dirt: &mut Left<'_>,
+    round: &mut Dirt,
+    met: &mut Vec<Rect>,
+    r: &Rect,
+    w: &Rect,
+) -> Result<(), NoMemory>
     requires split { rects_meet r.now w.now ≡ true → IsSplit dirt.old.left round.old (IsApart r.now w.now) }
     requires kept { IsDirt dirt.old.left }
     requires front { Every (AreLoose r.now) (front dirt.old) }
@@ -210,7 +238,13 @@ fn cut_rect(dirt: &mut Left<'_>, round: &mut Dirt, met: &mut Vec<Rect>, r: &Rect
     Ok(())
 }
 
-fn cut_block(dirt: &mut Left<'_>, round: &mut Dirt, met: &mut Vec<Rect>, rects: &[Rect], w: &Rect) -> Result<(), NoMemory>
+fn cut_block(
+    dirt: &mut Left<'_>,
+    round: &mut Dirt,
+    met: &mut Vec<Rect>,
+    rects: &[Rect],
+    w: &Rect,
+) -> Result<(), NoMemory>
     requires short { dirt.old.next < length dirt.old.runs }
     requires window { IsRectangle w.now }
     requires rects { rects.now ≡ get_or dirt.old.runs dirt.old.next [] }
@@ -229,7 +263,12 @@ fn cut_block(dirt: &mut Left<'_>, round: &mut Dirt, met: &mut Vec<Rect>, rects: 
 }
 
 /// What the window takes of these blocks. Only those at these places meet it.
-pub(crate) fn taken_of(alloc: Global, blocks: &[Block], places: &[u32], w: &Rect) -> Result<Taken, NoMemory>
+pub(crate) fn taken_of(
+    alloc: Global,
+    blocks: &[Block],
+    places: &[u32],
+    w: &Rect,
+) -> Result<Taken, NoMemory>
     requires dirt { IsDirt (all_rects blocks.now) }
     requires window { IsRectangle w.now }
     requires rising { IsStrictlyIncreasing places.now }

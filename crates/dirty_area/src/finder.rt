@@ -174,7 +174,12 @@ fn put_unless(index: &mut Index, place: usize, s: &Rect, there: &[Rect]) -> Resu
 }
 
 // Puts those of these rectangles in that are not there.
-fn put_others(index: &mut Index, place: usize, rects: &[Rect], there: &[Rect]) -> Result<(), NoMemory>
+fn put_others(
+    index: &mut Index,
+    place: usize,
+    rects: &[Rect],
+    there: &[Rect],
+) -> Result<(), NoMemory>
     requires { place ≤ 4294967295 }
     ensures { OnOk result (GainsSome place rects.now (λ s. not (list_any (λ t. is_same t s) there.now)) index.old index.new) }
 {
@@ -248,7 +253,11 @@ fn places_of(alloc: Global, blocks: &[Block], r: &Rect) -> Result<Vec<u32>, NoMe
 
 // Whether the rectangle holds more than half of the blocks: to make a new index is quicker then than to take so many out.
 fn holds_most(blocks: &[Block], r: &Rect) -> bool {
-    blocks.iter().filter(|b| b.rects().iter().all(|s| r.holds_rect(s))).count() > blocks.len() / 2
+    blocks
+        .iter()
+        .filter(|b| b.rects().iter().all(|s| r.holds_rect(s)))
+        .count()
+        > blocks.len() / 2
 }
 
 impl Finder {
@@ -359,6 +368,17 @@ impl Finder {
         ensures { (xss : List (List Rectangle)) → place < length xss → get_or xss place [] ≡ before.now → IfSome self.old (λ ps. IsIndexed xss ps) → IfSome self.new (λ qs. IsIndexed (set xss place after.now) qs) }
     {
         self.index = traded(self.index.take(), place, before, after);
+    }
+
+    pub(crate) fn has_index(&self) -> bool {
+        self.index.is_some()
+    }
+
+    /// Lets the index go.
+    pub(crate) fn forget(&mut self)
+        ensures { self.new ≡ None }
+    {
+        self.index = None;
     }
 
     /// Lets the index go where the rectangle holds most of the blocks.

@@ -155,4 +155,3 @@ pub no_gap : (f : Feature) (gs : List Feature) (ground : List Cell) → ground �
 no_gap f gs [] e z = sym (ap (λ us. carve_of (map {A = Segment} on_segment (sides f)) (map {A = Cell} weak_of us)) (sym e)
     ∙ none_near (map {A = Segment} on_segment (sides f)))
 no_gap f gs (c ∷ ground) e z = absurd (omega arith)
-

@@ -14,8 +14,7 @@ use Rattle.dirty_area.proofs.cut.taken_of.Goals as goal
 pub loop-place-init : goal.loop-place-init
 loop-place-init c =
     let bs = c.args.blocks.now in
-    let few : c.new-dirt.result.next ≤ length bs = omega (arith, c.new-dirt.ensures.next) in
-    (
+    let few : c.new-dirt.result.next ≤ length bs = omega (arith, c.new-dirt.ensures.next) in (
       c.new-dirt.ensures.runs,
       c.new-dirt.ensures.begun,
       few,
@@ -82,8 +81,7 @@ loop-place-preserved c =
     let same = c.go_to.ensures.runs ∙ h.0 in
     let next : c.cut_block.new.dirt.next ≡ p + 1 = c.in_ok-cut_block.ensures.next ∙ ap (λ k. k + 1) c.go_to.ensures.next in
     let few : c.cut_block.new.dirt.next ≤ length bs = omega (arith, next, l, length_runs bs) in
-    let part = rw (c.go_to.ensures.next, same) at c.in_ok-cut_block.ensures.partway in
-    (
+    let part = rw (c.go_to.ensures.next, same) at c.in_ok-cut_block.ensures.partway in (
       c.cut_block.ensures.runs ∙ same,
       c.in_ok-cut_block.ensures.begun,
       few,

@@ -15,11 +15,11 @@ loop-place-preserved c =
     elim c.if-has.branch [
       | then-has+in_ok-push w ↦
           let near = near_at c.args.blocks.now i c.index-blocks-place.result r c.loop-place-test.true c.index-blocks-place.is
-              (sym c.has.ensures ∙ w.if-has.true) in
+          (sym c.has.ensures ∙ w.if-has.true) in
           rw (w.places-is, w.in_ok-push.ensures.items) (rising_more v i was.0 was.1, below_more v i was.1, one_place xss r i v near was.2)
       | else-has w ↦
           let none = none_near_at c.args.blocks.now i c.index-blocks-place.result r c.loop-place-test.true c.index-blocks-place.is
-              (sym c.has.ensures ∙ w.if-has.false) in
+          (sym c.has.ensures ∙ w.if-has.false) in
           rw w.places-is (was.0, all_below v i was.1, no_place xss r i v none was.2)
     ]
 

@@ -7,8 +7,7 @@ use Rattle.dirty_area.proofs.list.drop_held.Goals as goal
 pub loop-place-preserved : goal.loop-place-preserved
 loop-place-preserved c =
     let h = c.loop-place.invariant in
-    let bs = c.args.blocks.now.items in
-    (
+    let bs = c.args.blocks.now.items in (
       next_trimmed c.args.r.now c.loop-place.place (runs bs) (runs c.loop-place.blocks.items) (runs c.trim.new.blocks.items)
           (omega (arith, c.loop-place-test.true, h.2, length_runs bs, length_runs c.loop-place.blocks.items)) h.0 c.trim.ensures.trimmed,
       (λ n k. c.trim.ensures.room n (h.1 n k)),

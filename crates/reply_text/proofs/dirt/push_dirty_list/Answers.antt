@@ -9,10 +9,10 @@ use Rattle.reply_text.proofs.dirt.push_dirty_list.Goals as goal
 pub returns-in_err-push_dirty_blocks : goal.returns-in_err-push_dirty_blocks
 returns-in_err-push_dirty_blocks c =
     failed c.from_residual.result _ _ _ _ c.from_residual.ensures.0 refl
-    (first_cut _ _ _ _ _ (ap (λ rects. flat_map dirty_text rects) c.blocks.ensures) c.in_err-push_dirty_blocks.ensures)
+    (first_cut _ _ _ _ _ (ap (λ rects. flat_map dirty_text rects) c.blocks-2.ensures) c.in_err-push_dirty_blocks.ensures)
 
 pub returns-in_err-push_total : goal.returns-in_err-push_total
 returns-in_err-push_total c =
     failed c.from_residual-in_err-push_total.result _ _ _ _ c.from_residual-in_err-push_total.ensures.0 refl
-    (next_cut _ _ _ _ _ _ (ap (λ rects. flat_map dirty_text rects) c.blocks.ensures) c.in_ok-push_dirty_blocks.ensures
+    (next_cut _ _ _ _ _ _ (ap (λ rects. flat_map dirty_text rects) c.blocks-2.ensures) c.in_ok-push_dirty_blocks.ensures
     (last_cut _ _ _ _ (ap total_line c.len.ensures) c.in_err-push_total.ensures))

@@ -8,9 +8,12 @@ use Rattle.dirty_area.proofs.left.Left.drop_held.Goals as goal
 
 pub invariant_of-self : goal.invariant_of-self
 invariant_of-self c =
-    let l = c.self.inside in
-    (c.self.invariant.0, c.self.invariant.1, places_trimmed c.args.r.now l.next l.changes.items c.drop_held_of_each.new.changes.items
-    c.drop_held_of_each.ensures c.self.invariant.2)
+    let l = c.self.inside in (
+      c.self.invariant.0,
+      c.self.invariant.1,
+      places_trimmed c.args.r.now l.next l.changes.items c.drop_held_of_each.new.changes.items
+          c.drop_held_of_each.ensures c.self.invariant.2,
+    )
 
 pub returns-clause-left : goal.returns-clause-left
 returns-clause-left c =
