@@ -5,6 +5,7 @@ use Rattle.plane_terms.specs.Point.{Point}
 use Rattle.plane_terms.specs.HalfPlane.{Holds, value_at}
 use Rattle.plane_terms.specs.Segment.{Segment, cross, left_of, right_of, on_line}
 use Rattle.number_laws.proofs.Ring.{num, neg, ◌⊕◌, ◌⊖◌, ◌⊗◌, same_by}
+use Rattle.number_laws.proofs.Order.{turned_over}
 use Rattle.cell_laws.proofs.Meeting.{form_xy}
 
 pub left_value : (s : Segment) (p : Point) → value_at (left_of s) p ≡ cross s p
@@ -28,14 +29,11 @@ pub right_holds : (s : Segment) (p : Point) → Holds (right_of s) p ↔ (cross 
 right_holds s p = (
   λ h. turned (cross s p) (subst (λ v. pos 0 <ℤ v) (right_value s p) h),
   λ h. subst (λ v. pos 0 <ℤ v)
-      (sym (right_value s p)) (back (cross s p) h),
+      (sym (right_value s p)) (turned_over (cross s p) h),
 )
   where
     turned : (v : ℤ) → pos 0 <ℤ neg_ℤ v → v <ℤ pos 0
     turned v h = omega (arith, ints)
-
-    back : (v : ℤ) → v <ℤ pos 0 → pos 0 <ℤ neg_ℤ v
-    back v h = omega (arith, ints)
 
 pub line_holds : (s : Segment) (p : Point) → Holds (on_line s) p ↔ (cross s p ≡ pos 0)
 line_holds s p = (subst (λ v. v ≡ pos 0) (left_value s p), subst (λ v. v ≡ pos 0) (sym (left_value s p)))

@@ -7,8 +7,7 @@ use Rattle.plane_terms.specs.Cell.{HasPoint}
 use Rattle.plane_terms.specs.declared.op.Op.{Op}
 use Rattle.plane_terms.specs.declared.op.Op.TheVariants.{Over, AtLeast, Zero}
 use Rattle.number_laws.proofs.Ring.{num, neg, ◌⊕◌, ◌⊖◌, ◌⊗◌, same_by}
-use Rattle.number_laws.proofs.Order.{product_over, natural}
-use Rattle.convex_cell.proofs.Uprights.{gap}
+use Rattle.number_laws.proofs.Order.{product_over, turned_over, difference_over, natural}
 
 -- ---- with d the product of both slopes of y, and u and v twice the values at height 0
 at_base : (a m d c : ℤ) → a *ℤ (m *ℤ (pos 2 *ℤ d)) +ℤ c *ℤ (pos 4 *ℤ d) ≡ (a *ℤ m +ℤ c *ℤ pos 2) *ℤ (pos 2 *ℤ d)
@@ -47,9 +46,6 @@ over_is_area e = subst IsArea e tt
     IsArea AtLeast = Unit {0}
     IsArea Zero = ⊥
 
-turned : (b : ℤ) → b <ℤ pos 0 → pos 0 <ℤ neg_ℤ b
-turned b h = omega (arith, ints)
-
 twice_turned : (b : ℤ) → b ≡ neg_ℤ (neg_ℤ b)
 twice_turned b = omega (arith, ints)
 
@@ -74,7 +70,7 @@ open_point l r o u apart area_o area_u rising falling lower = (p, (in_left, (in_
     above = u.a *ℤ m +ℤ u.c *ℤ pos 2
 
     k_over : pos 0 <ℤ k
-    k_over = turned u.b falling
+    k_over = turned_over u.b falling
 
     d_over : pos 0 <ℤ d
     d_over = product_over o.b k rising k_over
@@ -95,7 +91,7 @@ open_point l r o u apart area_o area_u rising falling lower = (p, (in_left, (in_
     height = above *ℤ o.b -ℤ below *ℤ neg_ℤ k
 
     high : pos 0 <ℤ height
-    high = subst (λ b. pos 0 <ℤ (above *ℤ o.b -ℤ below *ℤ b)) (twice_turned u.b) (gap (below *ℤ u.b) (above *ℤ o.b) lower)
+    high = subst (λ b. pos 0 <ℤ (above *ℤ o.b -ℤ below *ℤ b)) (twice_turned u.b) (difference_over (below *ℤ u.b) (above *ℤ o.b) lower)
 
     -- a half-plane holds where its value, with the denominator written out, is above 0
     holds_by : (h : HalfPlane) (v : ℤ) → ¬ (h.op ≡ Zero) → h.a *ℤ (m *ℤ (pos 2 *ℤ d)) +ℤ h.b *ℤ y +ℤ h.c *ℤ (pos 4 *ℤ d) ≡ v → pos 0 <ℤ v

@@ -2,7 +2,7 @@
 use Rattle.std.proofs.Common.{◌≡◌, ℤ, pos, ◌+ℤ◌, ◌-ℤ◌, ◌*ℤ◌, neg_ℤ, ◌≤ℤ◌, ◌<ℤ◌, arith, ◌⊎◌, inl, inr}
 use Rattle.std.proofs.lemmas.Int.{ints}
 use Rattle.number_laws.proofs.Ring.{num, neg, ◌⊕◌, ◌⊖◌, ◌⊗◌, same_by, le_by, le_read, lt_read, same_read}
-use Rattle.number_laws.proofs.Order.{sum_at_least, turned_at_least, product_at_least, product_over, cases_order_ℤ}
+use Rattle.number_laws.proofs.Order.{sum_at_least, turned_at_least, turned_over, product_at_least, product_over, cases_order_ℤ}
 
 -- one is above zero and the other is not
 abbrev pub Opposite : ℤ → ℤ → Type 0
@@ -28,9 +28,6 @@ sum_left x y h k = omega (arith, ints)
 
 weak : (x : ℤ) → pos 0 <ℤ x → pos 0 ≤ℤ x
 weak x h = omega (arith, ints)
-
-turned_under : (x : ℤ) → x <ℤ pos 0 → pos 0 <ℤ neg_ℤ x
-turned_under x h = omega (arith, ints)
 
 module _ (z w u v a b c d : ℤ) (pz : pos 0 <ℤ z) (pw : pos 0 <ℤ w) where
   balance_down : pos 0 <ℤ u → v ≤ℤ pos 0 → pos 0 ≤ℤ (neg_ℤ v *ℤ a +ℤ u *ℤ b) → pos 0 ≤ℤ (neg_ℤ v *ℤ c +ℤ u *ℤ d)
@@ -130,7 +127,7 @@ module _ (z w u v a b c d : ℤ) (pz : pos 0 <ℤ z) (pw : pos 0 <ℤ w) where
               let f = le_read (num (pos 0)) (num b ⊗ neg (num u)) (product_at_least b (neg_ℤ u) hb (turned_at_least u hu)) in
               let g = lt_read (num (pos 0)) (num k ⊗ num e) (product_over k e pk he) in
               let h = le_read (num (pos 0)) (neg (num a) ⊗ neg (num v))
-              (product_at_least (neg_ℤ a) (neg_ℤ v) (weak (neg_ℤ a) (turned_under a ha)) (turned_at_least v hv)) in
+              (product_at_least (neg_ℤ a) (neg_ℤ v) (weak (neg_ℤ a) (turned_over a ha)) (turned_at_least v hv)) in
               let j = same_read (num k ⊗ num e) (num b ⊗ num u ⊖ num a ⊗ num v) i in
               absurd (omega (arith, f, g, h, j))
         ]
@@ -141,7 +138,7 @@ module _ (z w u v a b c d : ℤ) (pz : pos 0 <ℤ z) (pw : pos 0 <ℤ w) where
           | inl hu ↦
               let f = le_read (num (pos 0)) (num b ⊗ num u) (product_at_least b u hb (weak u hu)) in
               let g = le_read (num (pos 0)) (num k ⊗ neg (num e)) (product_at_least k (neg_ℤ e) (weak k pk) (turned_at_least e he)) in
-              let h = lt_read (num (pos 0)) (neg (num a) ⊗ num v) (product_over (neg_ℤ a) v (turned_under a ha) hv) in
+              let h = lt_read (num (pos 0)) (neg (num a) ⊗ num v) (product_over (neg_ℤ a) v (turned_over a ha) hv) in
               let j = same_read (num k ⊗ num e) (num b ⊗ num u ⊖ num a ⊗ num v) i in
               absurd (omega (arith, f, g, h, j))
           | inr hu ↦ hu

@@ -6,7 +6,7 @@ use Rattle.plane_terms.specs.Point.{Place, Point, right_by, up_by}
 use Rattle.plane_terms.specs.Segment.{Segment, cross, OnSegment}
 use Rattle.plane_terms.specs.Between.{GoOneWay, LiesBetween}
 use Rattle.number_laws.proofs.Ring.{num, ◌⊕◌, ◌⊖◌, ◌⊗◌, same_by, le_by, lt_by, le_read, lt_read, same_read}
-use Rattle.number_laws.proofs.Order.{product_at_least, product_over, least_unscaled, natural, scaled_le, lt_scaled, cases_order_ℤ}
+use Rattle.number_laws.proofs.Order.{product_at_least, product_over, difference_over, least_unscaled, natural, scaled_le, lt_scaled, cases_order_ℤ}
 use Rattle.cell_laws.proofs.Weights.{Mixed, on_mixed}
 use Rattle.cell_laws.proofs.HalfPlanes.{left_value}
 use Rattle.column_laws.proofs.Signs.{most_scaled}
@@ -24,9 +24,6 @@ depth p q v = up_by p q *ℤ v.x -ℤ right_by p q *ℤ v.y +ℤ (p.y *ℤ q.x -
 
 right_least : (u v : ℤ) → u ≤ℤ v → pos 0 ≤ℤ (v -ℤ u)
 right_least u v h = omega (arith, ints)
-
-right_over : (u v : ℤ) → u <ℤ v → pos 0 <ℤ (v -ℤ u)
-right_over u v h = omega (arith, ints)
 
 right_under : (u v : ℤ) → v <ℤ u → (v -ℤ u) <ℤ pos 0
 right_under u v h = omega (arith, ints)
@@ -164,10 +161,10 @@ module _ (s : Segment) (p q : Point) (miss : Misses s p q) where
       no_balance w
       (balance_right (pos p.w) (pos q.w) (cross s p) (cross s q) (p.x -ℤ s.lo.x *ℤ pos p.w) (q.x -ℤ s.lo.x *ℤ pos q.w)
       (s.hi.x *ℤ pos p.w -ℤ p.x) (s.hi.x *ℤ pos q.w -ℤ q.x) (natural_over p.w p.positive) (natural_over q.w q.positive)
-      (s.hi.x -ℤ s.lo.x) (depth p q s.hi) (right_over s.lo.x s.hi.x w)
+      (s.hi.x -ℤ s.lo.x) (depth p q s.hi) (difference_over s.lo.x s.hi.x w)
       (high_depth s p q)
       (right_least (s.lo.x *ℤ pos p.w) p.x a) (right_least (s.lo.x *ℤ pos q.w) q.x b)
-      (right_over p.x (s.hi.x *ℤ pos p.w) c) (right_most q.x (s.hi.x *ℤ pos q.w) d) o)
+      (difference_over p.x (s.hi.x *ℤ pos p.w) c) (right_most q.x (s.hi.x *ℤ pos q.w) d) o)
 
   -- q is, and the segment begins after p
   pub second_across : p.x <ℤ (s.lo.x *ℤ pos p.w) → p.x <ℤ (s.hi.x *ℤ pos p.w) → (s.lo.x *ℤ pos q.w) ≤ℤ q.x
@@ -177,7 +174,7 @@ module _ (s : Segment) (p q : Point) (miss : Misses s p q) where
       no_balance w
       (balance_left (pos p.w) (pos q.w) (cross s p) (cross s q) (p.x -ℤ s.lo.x *ℤ pos p.w) (q.x -ℤ s.lo.x *ℤ pos q.w)
       (s.hi.x *ℤ pos p.w -ℤ p.x) (s.hi.x *ℤ pos q.w -ℤ q.x) (natural_over p.w p.positive) (natural_over q.w q.positive)
-      (s.hi.x -ℤ s.lo.x) (depth p q s.lo) (right_over s.lo.x s.hi.x w)
+      (s.hi.x -ℤ s.lo.x) (depth p q s.lo) (difference_over s.lo.x s.hi.x w)
       (low_depth (s.hi.x -ℤ s.lo.x) (s.hi.y -ℤ s.lo.y) s.lo.x s.lo.y p.x p.y q.x q.y p.w q.w)
       (right_under (s.lo.x *ℤ pos p.w) p.x a) (right_least (s.lo.x *ℤ pos q.w) q.x b)
       (right_least p.x (s.hi.x *ℤ pos p.w) (over_weak p.x (s.hi.x *ℤ pos p.w) c))

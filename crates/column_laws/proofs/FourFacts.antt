@@ -7,7 +7,7 @@ use Rattle.plane_terms.specs.Point.{Place, Point, right_by}
 use Rattle.plane_terms.specs.Segment.{Segment, cross, comes_before, segment_between}
 use Rattle.plane_terms.specs.Polygon.{counts}
 use Rattle.number_laws.proofs.Ring.{num, ◌⊖◌, ◌⊗◌, le_read, lt_read}
-use Rattle.number_laws.proofs.Order.{scaled_le, lt_scaled, cases_order_ℤ}
+use Rattle.number_laws.proofs.Order.{le_trans_ℤ, scaled_le, lt_scaled, cases_order_ℤ}
 use Rattle.number_laws.proofs.Tests.{Decides-int_le, Decides-int_lt, int_le_false, int_lt_false}
 use Rattle.column_laws.proofs.Parity.{differ, differ_back, in_order, out_of_order}
 use Rattle.column_laws.proofs.Between.{drawn}
@@ -147,13 +147,10 @@ module _ (p q : Point) (from_left : pos 0 ≤ℤ right_by p q) where
     before : (s.hi.x *ℤ pos p.w) ≤ℤ p.x → AreEven
     before h =
         let r = left_of_second s.hi.x h in
-        let l = near (s.lo.x *ℤ pos p.w) (s.hi.x *ℤ pos p.w) p.x (scaled_le s.lo.x s.hi.x p.w order) h in
+        let l = le_trans_ℤ (s.lo.x *ℤ pos p.w) (s.hi.x *ℤ pos p.w) p.x (scaled_le s.lo.x s.hi.x p.w order) h in
         even_by false false false false (second_not p_from p_to p_over (int_lt_false p.x (s.hi.x *ℤ pos p.w) h))
         (second_not q_from q_to q_over (int_lt_false q.x (s.hi.x *ℤ pos q.w) r)) (first_not lo_from q_from lo_under (int_lt_false p.x (s.lo.x *ℤ pos p.w) l))
         (first_not p_to hi_to hi_under (int_lt_false p.x (s.hi.x *ℤ pos p.w) h)) refl
-      where
-        near : (u v x : ℤ) → u ≤ℤ v → v ≤ℤ x → u ≤ℤ x
-        near u v x h k = omega (arith, ints)
 
     -- it reaches what lies between p and q across
     module _ (lo_left : (s.lo.x *ℤ pos q.w) ≤ℤ q.x) (hi_right : p.x <ℤ (s.hi.x *ℤ pos p.w)) where

@@ -9,7 +9,7 @@ use Rattle.column_laws.specs.Slots.{IsAcross}
 use Rattle.cell_laws.proofs.LinePoints.{gap_is, point_on, point_on-is, scaled_gap}
 use Rattle.number_laws.proofs.Ring.{num, neg, ◌⊕◌, ◌⊖◌, ◌⊗◌, same_by, lt_by, le_read, lt_read}
 use Rattle.column_laws.proofs.Signs.{under_unscaled, under_scaled}
-use Rattle.number_laws.proofs.Order.{over_unscaled, zero_unscaled, product_over, product_at_least, natural, lt_scaled, cases_order_ℤ}
+use Rattle.number_laws.proofs.Order.{over_unscaled, zero_unscaled, turned_over, product_over, product_at_least, natural, lt_scaled, cases_order_ℤ}
 
 -- it is on another line too where the two have no gap
 pub point_on-other : (l m : HalfPlane) (x : ℤ) (w b : ℕ) (p : 0 < w) (q : 0 < b) → l.b ≡ pos b → pos 0 <ℤ l.b
@@ -95,7 +95,7 @@ pub meet_within : (s t : ℤ) (l m : HalfPlane) (x1 x2 : ℤ) (w1 w2 : ℕ) → 
 meet_within s t l m x1 x2 w1 w2 pw pl h k r1 l1 r2 l2 =
     let b = natural l.b pl in
     let m' = natural (gap_at l m x1 (pos w1)) h in
-    let n' = natural (neg_ℤ (gap_at l m x2 (pos w2))) (negative (gap_at l m x2 (pos w2)) k) in
+    let n' = natural (neg_ℤ (gap_at l m x2 (pos w2))) (turned_over (gap_at l m x2 (pos w2)) k) in
     let x = pos n'.0 *ℤ x1 +ℤ pos m'.0 *ℤ x2 in
     let w = n'.0 * w1 + m'.0 * w2 in
     let pw' : 0 < w = omega (arith, mul-pos n'.1 pw) in
@@ -108,9 +108,6 @@ meet_within s t l m x1 x2 w1 w2 pw pl h k r1 l1 r2 l2 =
       within = point_on-within s t l x w b.0 pw' b.1 (right_middle s x1 x2 w1 w2 m'.0 n'.0 n'.1 r1 r2)
           (left_middle t x1 x2 w1 w2 m'.0 n'.0 n'.1 l1 l2);
     }
-  where
-    negative : (v : ℤ) → v <ℤ pos 0 → pos 0 <ℤ neg_ℤ v
-    negative v h = omega (arith, ints)
 
 -- l is at most as high as m over the strip from s to t
 pub record IsLower (s t : ℤ) (l m : HalfPlane) : Type 0 where

@@ -18,7 +18,7 @@ use Rattle.cell_laws.proofs.HalfPlanes.{left_value}
 use Rattle.column_laws.proofs.Segments.{Spans, on_from_line}
 use Rattle.column_laws.proofs.Order.{every-column, column-spans, chain-column}
 use Rattle.column_laws.proofs.Slots.{IsOff, below_it, is_above, slots_out, slots_in}
-use Rattle.number_laws.proofs.Order.{scaled_le, lt_scaled, le_from_scaled}
+use Rattle.number_laws.proofs.Order.{le_trans_ℤ, scaled_le, lt_scaled, le_from_scaled}
 
 abbrev pub in_column_test : ℤ → ℤ → Segment → Bool
 in_column_test x y s = int_le s.lo.x x && int_le y s.hi.x
@@ -127,11 +127,8 @@ module _ (x y : ℤ) (p : Point) (a : IsFrom x y p) where
           inr (
             between (x *ℤ pos p.w) p.x (s.hi.x *ℤ pos p.w) e a.right c.left,
             same s.hi.x x h
-                (le_from_scaled x s.hi.x p.w p.positive (le_trans (x *ℤ pos p.w) p.x (s.hi.x *ℤ pos p.w) a.right c.left)),
+                (le_from_scaled x s.hi.x p.w p.positive (le_trans_ℤ (x *ℤ pos p.w) p.x (s.hi.x *ℤ pos p.w) a.right c.left)),
           )
-        where
-          le_trans : (u v z : ℤ) → u ≤ℤ v → v ≤ℤ z → u ≤ℤ z
-          le_trans u v z h k = omega (arith, ints)
 
 place_parts : (P : Segment → Type 0) (x y : ℤ) (s : Segment) (ts : List Segment) → Every P (place x y s ts) → P s × Every P ts
 place_parts P x y s [] h = (h.0, tt)

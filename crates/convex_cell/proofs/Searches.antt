@@ -2,6 +2,7 @@
 use Rattle.std.proofs.Common.{◌≡◌, ◌≢◌, ◌⊎◌, ℕ, ◌<◌, ℤ, ◌≤ℤ◌, ◌<ℤ◌, List, length, get_or, set, arith, refl, sym, subst, inl, inr}
 use Rattle.std.proofs.lemmas.Int.{ints}
 use Rattle.std.proofs.lemmas.List.{get_or-set_same, get_or-set_other, length-set}
+use Rattle.number_laws.proofs.Order.{le_trans_ℤ}
 use Rattle.convex_cell.specs.declared.span.Span.{Span}
 use Rattle.convex_cell.specs.declared.bounds.Bounds.{Bounds}
 use Rattle.convex_cell.specs.Span.{AreApart, Covers, Encloses, AreRound}
@@ -9,9 +10,6 @@ use Rattle.convex_cell.proofs.Steps.{same_at}
 
 at_least : (x : ℤ) → x ≤ℤ x
 at_least x = omega (arith, ints)
-
-through : (x y z : ℤ) → x ≤ℤ y → y ≤ℤ z → x ≤ℤ z
-through x y z h k = omega (arith, ints)
 
 ends_under : (x y z : ℤ) → x ≤ℤ y → y <ℤ z → x <ℤ z
 ends_under x y z h k = omega (arith, ints)
@@ -26,7 +24,7 @@ encloses_same b = record {
 }
 
 covers_through : (s t u : Span) → Covers s t → Covers t u → Covers s u
-covers_through s t u h k = record { from = through _ _ _ h.from k.from; to = through _ _ _ k.to h.to }
+covers_through s t u h k = record { from = le_trans_ℤ _ _ _ h.from k.from; to = le_trans_ℤ _ _ _ k.to h.to }
 
 encloses_through : (b c d : Bounds) → Encloses b c → Encloses c d → Encloses b d
 encloses_through b c d h k = record { x = covers_through b.x c.x d.x h.x k.x; y = covers_through b.y c.y d.y h.y k.y }

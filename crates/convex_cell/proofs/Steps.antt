@@ -1,6 +1,5 @@
 -- Steps on a line: what stands after one, before one, and between two.
 use Rattle.std.proofs.Common.{◌≡◌, ℕ, zero, suc, ◌+◌, ◌*◌, ◌<◌, ◌≤◌, ◌^◌, ◌∙◌, ℤ, pos, negsuc, ◌+ℤ◌, ◌-ℤ◌, ◌*ℤ◌, neg_ℤ, ◌≤ℤ◌, ◌<ℤ◌, Bool, true, false, unsigned_abs, arith, sym, subst, inl, inr}
-use Rattle.std.proofs.Common.{◌⊎◌}
 use Rattle.std.proofs.Common.{List, [], ◌∷◌, ◌++◌, length, get_or, take, ap, append-nil, refl, map, cond, ◌-◌}
 use Rattle.std.proofs.lemmas.List.{take_more}
 use Rattle.std.proofs.lemmas.Slice.Zip.{all_zipped_more, AllZip-long}
@@ -17,13 +16,13 @@ use Rattle.plane_terms.specs.HalfPlane.{HalfPlane, Holds, Says, value_at, turned
 use Rattle.plane_terms.specs.Cell.{Cell, InCell, meet_of}
 use Rattle.plane_terms.specs.declared.op.Op.TheVariants.{Over, AtLeast, Zero}
 use Rattle.number_laws.proofs.Ring.{num, neg, ◌⊕◌, ◌⊖◌, ◌⊗◌, same_by, le_by, lt_by, le_read, lt_read}
-use Rattle.number_laws.proofs.Order.{scaled_le, lt_scaled, product_at_least, over_unscaled, cases_order_ℤ}
+use Rattle.number_laws.proofs.Order.{le_trans_ℤ, scaled_le, lt_scaled, product_at_least, over_unscaled, cases_order_ℤ}
 use Rattle.cell_laws.specs.Bounds.{Above}
 use Rattle.cell_laws.proofs.Outside.{turned_value}
 use Rattle.convex_cell.proofs.Spans.{floor_at, rounded_holds}
 use Rattle.convex_cell.specs.declared.bounds.Bounds.{Bounds}
 use Rattle.convex_cell.specs.Span.{After, Before, IsSpan, InBounds, IsBoundsOf, AreApart, AreBeside, Follows, AreRisingTo}
-use Rattle.std.proofs.lemmas.Bool.{cases_Bool}
+use Rattle.std.proofs.lemmas.Bool.{cases_Bool, cases_lt}
 use Rattle.plane_terms.specs.Decide.{has_point}
 use Rattle.cell_laws.proofs.Decision.{has_point-true}
 use Rattle.cell_laws.proofs.Meets.{meet_points}
@@ -45,13 +44,10 @@ floor_code k m r f g h p e =
 -- ---- a step that is known
 pub after_at : (u t : ℤ) (w : ℕ) → 0 < w → (u *ℤ pos w) ≤ℤ t → After (pos 2 *ℤ u) t w
 after_at u t w p h = record {
-  at = λ v n k. through (v *ℤ pos w) (u *ℤ pos w) t (scaled_le v u w (omega (arith, ints))) h;
+  at = λ v n k. le_trans_ℤ (v *ℤ pos w) (u *ℤ pos w) t (scaled_le v u w (omega (arith, ints))) h;
   over = λ v n k. through_lt (v *ℤ pos w) (u *ℤ pos w) t (lt_scaled v u w p (omega (arith, ints))) h;
 }
   where
-    through : (a b c : ℤ) → a ≤ℤ b → b ≤ℤ c → a ≤ℤ c
-    through a b c h k = omega (arith, ints)
-
     through_lt : (a b c : ℤ) → a <ℤ b → b ≤ℤ c → a <ℤ c
     through_lt a b c h k = omega (arith, ints)
 
@@ -255,24 +251,21 @@ bounds_at bs cs i b c z e h g = subst (IsBoundsOf (get_or bs i b)) (sym g) (zip_
 abbrev pub nowhere : Bounds
 nowhere = record { x = record { from = pos 0; to = pos 0 }; y = record { from = pos 0; to = pos 0 } }
 
-through_ℤ : (x y z : ℤ) → x ≤ℤ y → y ≤ℤ z → x ≤ℤ z
-through_ℤ x y z h k = omega (arith, ints)
-
 between : (x y z : ℤ) → x ≤ℤ y → y ≤ℤ z → x ≡ z → (x ≡ y) × (y ≡ z)
 between x y z h k e = (omega (arith, ints), omega (arith, ints))
 
 follows_through : (b d e : Bounds) → Follows b d → Follows d e → Follows b e
 follows_through b d e h k = record {
-  from = through_ℤ b.x.from d.x.from e.x.from h.from k.from;
-  to = through_ℤ b.x.to d.x.to e.x.to h.to k.to;
+  from = le_trans_ℤ b.x.from d.x.from e.x.from h.from k.from;
+  to = le_trans_ℤ b.x.to d.x.to e.x.to h.to k.to;
   up_from = λ f t.
       let i = between b.x.from d.x.from e.x.from h.from k.from f in
       let j = between b.x.to d.x.to e.x.to h.to k.to t in
-      through_ℤ b.y.from d.y.from e.y.from (h.up_from (i.0) (j.0)) (k.up_from (i.1) (j.1));
+      le_trans_ℤ b.y.from d.y.from e.y.from (h.up_from (i.0) (j.0)) (k.up_from (i.1) (j.1));
   up_to = λ f t.
       let i = between b.x.from d.x.from e.x.from h.from k.from f in
       let j = between b.x.to d.x.to e.x.to h.to k.to t in
-      through_ℤ b.y.to d.y.to e.y.to (h.up_to (i.0) (j.0)) (k.up_to (i.1) (j.1));
+      le_trans_ℤ b.y.to d.y.to e.y.to (h.up_to (i.0) (j.0)) (k.up_to (i.1) (j.1));
 }
 
 follows_itself : (b : Bounds) → Follows b b
@@ -290,9 +283,6 @@ pub rising_one : (bs : List Bounds) (n : ℕ) → n ≤ 1 → AreRisingTo n bs
 rising_one bs n h j k d l m =
     let e : j ≡ k = omega arith in
     rw e (follows_itself (get_or bs k d))
-
-pub cases_lt : (a b : ℕ) → (a < b) ⊎ (b ≤ a)
-cases_lt a b = grind arith
 
 pub rising_more : (bs : List Bounds) (i : ℕ) → 1 ≤ i → AreRisingTo i bs → ((d : Bounds) → Follows (get_or bs (i - 1) d) (get_or bs i d))
     → AreRisingTo (i + 1) bs

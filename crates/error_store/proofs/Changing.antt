@@ -3,7 +3,7 @@ use Rattle.std.proofs.Common.{◌≡◌, ◌≢◌, inl, inr, ℕ, zero, suc, �
 use Rattle.std.specs.Prelude.{IsTrue, ◌↔◌}
 use Rattle.std.specs.List.{AllWithin}
 use Rattle.std.specs.Option.{option_to_list, IfSome}
-use Rattle.std.proofs.lemmas.Bool.{cases_Bool}
+use Rattle.std.proofs.lemmas.Bool.{cases_Bool, cases_lt}
 use Rattle.std.proofs.lemmas.List.{take-append-drop, take-set, drop-set, get_or_default}
 use Rattle.plane_terms.specs.Lists.{Every}
 use Rattle.plane_terms.proofs.ListLemmas.{every_right}
@@ -16,7 +16,6 @@ use Rattle.error_store.specs.Keys as own_keys
 use Rattle.error_store.specs.Runs.{HasNoneOf, IsOf, IsNext}
 use Rattle.error_store.specs.Changing.{parts, IsHere, IsGap, Stood, IsPut, ArePut, Stays, IsThinned}
 use Rattle.error_store.proofs.Merging.{at_push_here, at_push_other, self_remarked}
-use Rattle.error_store.proofs.Places.{late_or_not}
 
 -- ---- one key set
 abbrev IsSplit : Key → List Entry → Option Entry → List Entry → Type 0
@@ -178,7 +177,7 @@ thin_none handles fresh es u = record {
 -- up to the next error of the subjects
 stays_up : (handles : List ℕ) (fresh cur : List Entry) (i k : ℕ) → AllWithin (Stays handles fresh) cur 0 i → HasNoneOf handles cur i k
     → AllWithin (Stays handles fresh) cur 0 k
-stays_up handles fresh cur i k h g m d low high = elim (late_or_not m i) [ inl l ↦ h m d low l | inr l ↦ λ c. absurd (g m d l high c) ]
+stays_up handles fresh cur i k h g m d low high = elim (cases_lt m i) [ inl l ↦ h m d low l | inr l ↦ λ c. absurd (g m d l high c) ]
 
 pub thin_past : (handles : List ℕ) (fresh old cur : List Entry) (i k : ℕ) (e : Entry) → IsThinning handles fresh old cur i
     → IsNext handles cur i k → e ≡ get_or cur k e → ¬ (entry_at fresh e.rule e.subject e.other ≡ None)
@@ -187,7 +186,7 @@ thin_past handles fresh old cur i k e t n is there = record {
   ascending = t.ascending;
   within = omega (arith, n.within);
   kept = t.kept;
-  stays = λ m d low high. elim (late_or_not m k) [
+  stays = λ m d low high. elim (cases_lt m k) [
     | inl l ↦ stays_up handles fresh cur i k t.stays n.none m d low l
     | inr l ↦
         let same : m ≡ k = omega arith in

@@ -4,6 +4,7 @@ use Rattle.std.specs.Prelude.{OnOk, OnErr}
 use Rattle.std.specs.declared.result.Result.{Result}
 use Rattle.std.specs.declared.result.Result.TheVariants.{Ok, Err}
 use Rattle.std.specs.List.{AllWithin}
+use Rattle.std.proofs.lemmas.Bool.{cases_lt}
 use Rattle.std.proofs.lemmas.List.{take_more, take-append-drop, get_or_default}
 use Rattle.plane_terms.specs.Lists.{SomeOf}
 use Rattle.plane_terms.proofs.ListLemmas.{every_map, every_append, SomeOf-append_left, SomeOf-append_right}
@@ -15,7 +16,6 @@ use Rattle.grid_index.specs.declared.placed.Placed.{Placed}
 use Rattle.grid_index.specs.Near.{HoldsSame, Gains, Loses}
 use Rattle.error_store.specs.Runs.{HasNoneOf, IsOf, IsNext}
 use Rattle.error_store.proofs.Leaving.{selected_or_not}
-use Rattle.error_store.proofs.Places.{late_or_not}
 use Rattle.error_store.specs.Frames.{framed_of, IsFrame, AreFramed}
 
 abbrev pub Holds : List Placed → List Placed → Type 0
@@ -103,7 +103,7 @@ gone_next ps qs rs frames es i p l is before more q c =
     let m = more q c in
     let b = before q m.0 in (
       b.0,
-      λ j h e. elim (late_or_not j i) [
+      λ j h e. elim (cases_lt j i) [
         | inl k ↦ b.1 j k e
         | inr k ↦
             let same : j ≡ i = omega arith in
@@ -157,14 +157,14 @@ off_at p handles e c n q = n (subst (Contains handles) (ap (λ (x : Placed). x.h
 
 pub none_past : (p : Placed) (handles : List ℕ) (es : List Entry) (i k : ℕ) → Contains handles p.handle → AllWithin (IsNotAt p) es 0 i
     → HasNoneOf handles es i k → AllWithin (IsNotAt p) es 0 k
-none_past p handles es i k c h g m d low high = elim (late_or_not m i) [
+none_past p handles es i k c h g m d low high = elim (cases_lt m i) [
   | inl l ↦ h m d low l
   | inr l ↦ off_at p handles (get_or es m d) c (g m d l high)
 ]
 
 pub none_one : (p : Placed) (handles : List ℕ) (es : List Entry) (i k : ℕ) (e : Entry) → Contains handles p.handle
     → AllWithin (IsNotAt p) es 0 i → IsNext handles es i k → e ≡ get_or es k e → IsNotAt p e → AllWithin (IsNotAt p) es 0 (k + 1)
-none_one p handles es i k e c h n is other m d low high = elim (late_or_not m k) [
+none_one p handles es i k e c h n is other m d low high = elim (cases_lt m k) [
   | inl l ↦ none_past p handles es i k c h n.none m d low l
   | inr l ↦
       let same : m ≡ k = omega arith in

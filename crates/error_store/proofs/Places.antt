@@ -1,5 +1,5 @@
--- Elements of lists, by place: of the front, and of the rest; which of two places is the later one.
-use Rattle.std.proofs.Common.{◌⊎◌, ℕ, ◌<◌, ◌≤◌, ◌+◌, List, sym, subst, arith, take, drop, length}
+-- Elements of lists, by place: of the front, and of the rest.
+use Rattle.std.proofs.Common.{ℕ, ◌<◌, ◌+◌, List, sym, subst, arith, take, drop, length}
 use Rattle.std.specs.List.{AllWithin}
 use Rattle.std.proofs.lemmas.List.{get_or-take, get_or-drop, length-take, length-drop}
 use Rattle.plane_terms.specs.Lists.{Every}
@@ -15,6 +15,3 @@ pub every_rest : {A : Type 0} (P : A → Type 0) (xs : List A) (i : ℕ) → All
 every_rest P xs i h = every_by_index P (drop i xs) (λ k d l.
     let n = length-drop i xs in
     subst P (sym (get_or-drop i xs k d)) (h (i + k) d (omega arith) (omega arith)))
-
-pub late_or_not : (m n : ℕ) → (m < n) ⊎ (n ≤ m)
-late_or_not m n = grind arith

@@ -5,12 +5,11 @@ use Rattle.std.proofs.lemmas.List.{get_or_default}
 use Rattle.std.specs.List.{HoldsAt}
 use Rattle.std.specs.List.Sorted.{IsStrictlyIncreasing, IsPartitionPoint, IsPartitionedBy}
 use Rattle.std.proofs.lemmas.List.Kept.{AllPairs-from_increasing}
-use Rattle.std.proofs.lemmas.Bool.{false≢true}
+use Rattle.std.proofs.lemmas.Bool.{false≢true, cases_lt}
 use Rattle.std.proofs.lemmas.Bool.Decides.{nat_tests}
 use Rattle.plane_terms.proofs.ListLemmas.{every_at}
 use Rattle.topology_terms.specs.Entry.{Entry, IsKeyBelow, IsAscending}
 use Rattle.error_store.specs.Runs.{is_before, IsOf, IsLeastFrom, HasNoneOf, IsSkip}
-use Rattle.error_store.proofs.Places.{late_or_not}
 
 -- a test that each earlier entry passes too parts the list
 pub parted : (test : Entry → Bool) → ((e f : Entry) → IsKeyBelow e f → test f ≡ true → test e ≡ true) → (es : List Entry) → IsAscending es
@@ -47,7 +46,7 @@ Parts r s es k = IsPartitionPoint (λ (e : Entry). is_before r s e ≡ true) (λ
 
 -- an entry before the rule and the subject stands before the place of both
 beyond : (es : List Entry) (r s i k : ℕ) (e : Entry) → i < length es → e ≡ get_or es i e → is_before r s e ≡ true → Parts r s es k → i < k
-beyond es r s i k e l is t p = elim (late_or_not i k) [
+beyond es r s i k e l is t p = elim (cases_lt i k) [
   | inl m ↦ m
   | inr m ↦ absurd (false≢true (sym (subst (λ (f : Entry). is_before r s f ≡ false) (sym is) (p.1 i e m l)) ∙ t))
 ]
@@ -134,14 +133,14 @@ none_yet handles es i k d low high = absurd (omega arith)
 
 pub none_further : (handles : List ℕ) (es : List Entry) (i j k : ℕ) → HasNoneOf handles es i j → HasNoneOf handles es j k
     → HasNoneOf handles es i k
-none_further handles es i j k h g m d low high = elim (late_or_not m j) [ inl l ↦ h m d low l | inr l ↦ g m d l high ]
+none_further handles es i j k h g m d low high = elim (cases_lt m j) [ inl l ↦ h m d low l | inr l ↦ g m d l high ]
 
 pub none_more : (handles : List ℕ) (es : List Entry) (i j k : ℕ) → k ≤ j → HasNoneOf handles es i j → HasNoneOf handles es i k
 none_more handles es i j k l h m d low high = h m d low (omega arith)
 
 -- ---- the least handle from one on
 pub handles_parted : (hs : List ℕ) (from : ℕ) → IsStrictlyIncreasing hs → IsPartitionedBy (λ a. nat_lt a from) hs
-handles_parted hs from up i j d upto short t = elim (late_or_not i j) [
+handles_parted hs from up i j d upto short t = elim (cases_lt i j) [
   | inl l ↦ let m = AllPairs-from_increasing hs up i j d l short in earlier (get_or hs i d) (get_or hs j d) from m t
   | inr l ↦ let same : i ≡ j = omega arith in rw same t
 ]
@@ -157,9 +156,9 @@ pub least_there : (hs : List ℕ) (from i a : ℕ) → IsStrictlyIncreasing hs �
 least_there hs from i a up p l is = record {
   there = (i, l, sym is);
   beyond = subst (λ b. from ≤ b) (sym is) (grind (arith, nat_tests, p.1 i a (omega arith) l));
-  least = λ b c far. elim (late_or_not c.0 i) [
+  least = λ b c far. elim (cases_lt c.0 i) [
     | inl early ↦ let m : b < from = subst (λ n. n < from) c.2 (grind (arith, nat_tests, p.0 c.0 b (omega arith) early)) in absurd (omega arith)
-    | inr late ↦ elim (late_or_not i c.0) [
+    | inr late ↦ elim (cases_lt i c.0) [
       | inl further ↦
           let m = AllPairs-from_increasing hs up i c.0 a further c.1 in
           let n : get_or hs c.0 a ≡ b = sym (get_or_default hs c.0 b a c.1) ∙ c.2 in

@@ -1,5 +1,5 @@
 -- Products of whole numbers: their signs and their order.
-use Rattle.std.proofs.Common.{◌≡◌, false, ℕ, suc, zero, ◌+◌, ◌*◌, ◌<◌, ◌≤◌, ℤ, pos, negsuc, ◌+ℤ◌, ◌*ℤ◌, neg_ℤ, ◌≤ℤ◌, ◌<ℤ◌, arith, refl, ◌⊎◌}
+use Rattle.std.proofs.Common.{◌≡◌, false, ℕ, suc, zero, ◌+◌, ◌*◌, ◌<◌, ◌≤◌, ℤ, pos, negsuc, ◌+ℤ◌, ◌-ℤ◌, ◌*ℤ◌, neg_ℤ, ◌≤ℤ◌, ◌<ℤ◌, arith, refl, ◌⊎◌}
 use Rattle.std.specs.Ordering.{int_cmp, is_lt}
 use Rattle.std.proofs.lemmas.Int.{ints}
 use Rattle.std.proofs.Math.Nat.{le_of_mul-le-mul_right, mul-le-mul_right, mul-pos, mul-lt-mul_of_pos_right}
@@ -28,6 +28,15 @@ sum_at_least a b h k = omega (arith, ints)
 
 pub turned_at_least : (a : ℤ) → a ≤ℤ pos 0 → pos 0 ≤ℤ neg_ℤ a
 turned_at_least a h = omega (arith, ints)
+
+pub turned_over : (a : ℤ) → a <ℤ pos 0 → pos 0 <ℤ neg_ℤ a
+turned_over a h = omega (arith, ints)
+
+pub difference_over : (a b : ℤ) → a <ℤ b → pos 0 <ℤ (b -ℤ a)
+difference_over a b h = omega (arith, ints)
+
+pub le_trans_ℤ : (a b c : ℤ) → a ≤ℤ b → b ≤ℤ c → a ≤ℤ c
+le_trans_ℤ a b c h k = omega (arith, ints)
 
 pub product_over : (a b : ℤ) → pos 0 <ℤ a → pos 0 <ℤ b → pos 0 <ℤ (a *ℤ b)
 product_over (pos a) (pos b) h k =

@@ -2,6 +2,7 @@
 use Rattle.std.proofs.Common.{ℕ, ℤ, pos, negsuc, suc, ◌≡◌, ◌≤◌, ◌+◌, ◌-◌, ◌==◌, Bool, true, false, ◌&&◌, nat_le, List, [], ◌∷◌, Option, Some, None, if◌then◌else◌, refl, ap, subst, ◌∙◌, arith}
 use Rattle.std.specs.Prelude.{bytes_eq, slice_get}
 use Rattle.std.proofs.lemmas.Bool.Decides.{nat_tests}
+use Rattle.std.proofs.lemmas.Option.{same_Some}
 use Rattle.std.proofs.lemmas.Slice.Eq.{bytes_eq-Decides}
 use Rattle.std.proofs.lemmas.Bool.{and_parts}
 use Rattle.plane_terms.specs.declared.kind.Kind.{Kind}
@@ -12,13 +13,13 @@ use Rattle.topology_terms.specs.Causes.{is_kind, is_fit}
 use Rattle.feature_store.proofs.Keeping.{kinds_same}
 use Rattle.project_terms.specs.Lines.{natural}
 use Rattle.project_terms.specs.Verdicts.{RuleForm, row, row_of, dest_in}
-use Rattle.project_text.proofs.Spelled.{bound, tested, one}
+use Rattle.project_text.proofs.Spelled.{bound, tested}
 
 pub natural_said : (low high : ℕ) (z : ℤ) (n : ℕ) → natural low high z ≡ Some n → (z ≡ pos n) × (low ≤ n) × (n ≤ high)
 natural_said low high (negsuc m) n e = absurd cc
 natural_said low high (pos m) n e =
     let t = tested (nat_le low m && nat_le m high) (Some m) n e in
-    let same : m ≡ n = one m n t.1 in
+    let same : m ≡ n = same_Some m n t.1 in
     let b = and_parts (nat_le low m) (nat_le m high) t.0 in
     let above : low ≤ m = grind (arith, nat_tests, b.0) in
     let below : m ≤ high = grind (arith, nat_tests, b.1) in
@@ -42,7 +43,7 @@ named_from n (c ∷ cs) name k e = by (bytes_eq c.name name) refl e (named_from 
     by : (b : Bool) → bytes_eq c.name name ≡ b → (if b then Some n else number_from (n + 1) cs name) ≡ Some k
         → (number_from (n + 1) cs name ≡ Some k → IsNamed (n + 1) k cs name) → IsNamed n k (c ∷ cs) name
     by true t f rest =
-        let same : n ≡ k = one n k f in
+        let same : n ≡ k = same_Some n k f in
         let first : k - n ≡ 0 = omega (arith, same) in
         record {
           class = c;
@@ -79,4 +80,4 @@ row_said cs q r e =
     let a = bound (number_from 1 cs q.origin) _ r e in
     let b = bound (dest_in cs q.dest) _ r a.2 in
     let t = tested (is_fit cs (row q.kind a.0 b.0)) (Some (row q.kind a.0 b.0)) r b.2 in
-    subst (IsRowOf cs q) (one (row q.kind a.0 b.0) r t.1) (record { kind = refl; origin = a.1; dest = b.1; fit = t.0 })
+    subst (IsRowOf cs q) (same_Some (row q.kind a.0 b.0) r t.1) (record { kind = refl; origin = a.1; dest = b.1; fit = t.0 })

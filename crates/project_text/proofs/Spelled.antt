@@ -4,6 +4,7 @@ use Rattle.std.specs.Prelude.{codes, IfSome}
 use Rattle.std.specs.List.{list_all}
 use Rattle.std.specs.Option.{option_map}
 use Rattle.std.specs.Fmt.{signed_decimal}
+use Rattle.std.proofs.lemmas.Option.{same_Some}
 use Rattle.std.proofs.lemmas.Slice.Eq.{bytes_eq-Decides}
 use Rattle.std.proofs.lemmas.Bool.{and_parts}
 use Rattle.plane_terms.specs.Rectangle.{Rectangle, rect_of as rectangle}
@@ -41,22 +42,19 @@ pub tested : {A : Type 0} (b : Bool) (o : Option A) (y : A) → (if b then o els
 tested true o y e = (refl, e)
 tested false o y e = absurd cc
 
-pub one : {A : Type 0} (x y : A) → Some x ≡ Some y → x ≡ y
-one x y e = cc
-
 -- ---- words
 kind_spelled : (w : List ℕ) (k : Kind) → kind_of_word w ≡ Some k → w ≡ kind_word k
 kind_spelled w k =
     let P : Option Kind → Type 0 = λ o. o ≡ Some k → w ≡ kind_word k in
-    pick P w (codes "point") _ _ (λ e s. e ∙ ap kind_word (one kind.Point k s))
-    (pick P w (codes "line") _ _ (λ e s. e ∙ ap kind_word (one kind.Line k s))
-    (pick P w (codes "polygon") _ _ (λ e s. e ∙ ap kind_word (one kind.Polygon k s)) (λ s. absurd cc)))
+    pick P w (codes "point") _ _ (λ e s. e ∙ ap kind_word (same_Some kind.Point k s))
+    (pick P w (codes "line") _ _ (λ e s. e ∙ ap kind_word (same_Some kind.Line k s))
+    (pick P w (codes "polygon") _ _ (λ e s. e ∙ ap kind_word (same_Some kind.Polygon k s)) (λ s. absurd cc)))
 
 extent_spelled : (w : List ℕ) (b : Bool) → extent_of w ≡ Some b → w ≡ extent_word b
 extent_spelled w b =
     let P : Option Bool → Type 0 = λ o. o ≡ Some b → w ≡ extent_word b in
-    pick P w (codes "cells") _ _ (λ e s. e ∙ ap extent_word (one false b s))
-    (pick P w (codes "whole") _ _ (λ e s. e ∙ ap extent_word (one true b s)) (λ s. absurd cc))
+    pick P w (codes "cells") _ _ (λ e s. e ∙ ap extent_word (same_Some false b s))
+    (pick P w (codes "whole") _ _ (λ e s. e ∙ ap extent_word (same_Some true b s)) (λ s. absurd cc))
 
 abbrev sign_of : Op × Bool → List ℕ
 sign_of s = sign_text s.0 s.1
@@ -64,19 +62,19 @@ sign_of s = sign_text s.0 s.1
 sign_spelled : (w : List ℕ) (s : Op × Bool) → op_of w ≡ Some s → w ≡ sign_of s
 sign_spelled w s =
     let P : Option (Op × Bool) → Type 0 = λ o. o ≡ Some s → w ≡ sign_of s in
-    pick P w (codes ">") _ _ (λ e t. e ∙ ap sign_of (one (Over, false) s t))
-    (pick P w (codes ">=") _ _ (λ e t. e ∙ ap sign_of (one (AtLeast, false) s t))
-    (pick P w (codes "=") _ _ (λ e t. e ∙ ap sign_of (one (Zero, false) s t))
-    (pick P w (codes ">,") _ _ (λ e t. e ∙ ap sign_of (one (Over, true) s t))
-    (pick P w (codes ">=,") _ _ (λ e t. e ∙ ap sign_of (one (AtLeast, true) s t))
-    (pick P w (codes "=,") _ _ (λ e t. e ∙ ap sign_of (one (Zero, true) s t)) (λ t. absurd cc))))))
+    pick P w (codes ">") _ _ (λ e t. e ∙ ap sign_of (same_Some (Over, false) s t))
+    (pick P w (codes ">=") _ _ (λ e t. e ∙ ap sign_of (same_Some (AtLeast, false) s t))
+    (pick P w (codes "=") _ _ (λ e t. e ∙ ap sign_of (same_Some (Zero, false) s t))
+    (pick P w (codes ">,") _ _ (λ e t. e ∙ ap sign_of (same_Some (Over, true) s t))
+    (pick P w (codes ">=,") _ _ (λ e t. e ∙ ap sign_of (same_Some (AtLeast, true) s t))
+    (pick P w (codes "=,") _ _ (λ e t. e ∙ ap sign_of (same_Some (Zero, true) s t)) (λ t. absurd cc))))))
 
 rule_spelled : (w : List ℕ) (k : RuleKind) → first_of_word w all_rules ≡ Some k → w ≡ word_of k
 rule_spelled w k e = by (first_of_word w all_rules) (has_word w all_rules) e
   where
     by : (o : Option RuleKind) → IfSome o (λ r. word_of r ≡ w) → o ≡ Some k → w ≡ word_of k
     by None h s = absurd cc
-    by (Some r) h s = sym h ∙ ap word_of (one r k s)
+    by (Some r) h s = sym h ∙ ap word_of (same_Some r k s)
 
 -- ---- lines
 pub one_said : (fs : List (List ℕ)) → is_one fs ≡ true → fs ≡ codes "1" ∷ []
@@ -115,10 +113,10 @@ pub record IsRuleLine (fs : List (List ℕ)) (q : RuleForm) : Type 0 where
   pub spelled : fs ≡ numeral ∷ word_of q.kind ∷ q.origin ∷ second q.dest
 
 second_said : (fs : List (List ℕ)) (o : Option (List ℕ)) → second_of fs ≡ Some o → IfSome o (λ n. is_name n ≡ true) × (fs ≡ second o)
-second_said [] o e = subst (λ (p : Option (List ℕ)). IfSome p (λ n. is_name n ≡ true) × ([] ≡ second p)) (one None o e) (tt, refl)
+second_said [] o e = subst (λ (p : Option (List ℕ)). IfSome p (λ n. is_name n ≡ true) × ([] ≡ second p)) (same_Some None o e) (tt, refl)
 second_said (n ∷ []) o e =
     let t = tested (is_name n) (Some (Some n)) o e in
-    subst (λ (p : Option (List ℕ)). IfSome p (λ n. is_name n ≡ true) × (n ∷ [] ≡ second p)) (one (Some n) o t.1) (t.0, refl)
+    subst (λ (p : Option (List ℕ)). IfSome p (λ n. is_name n ≡ true) × (n ∷ [] ≡ second p)) (same_Some (Some n) o t.1) (t.0, refl)
 second_said (n ∷ m ∷ fs) o e = absurd cc
 
 pub rule_said : (fs : List (List ℕ)) (q : RuleForm) → rule_of fs ≡ Some q → IsRuleLine fs q
@@ -132,7 +130,7 @@ rule_said (r ∷ w ∷ n ∷ fs) q e =
     let t = tested (is_name n) _ q c.2 in
     let s = second_said fs c.0 c.1 in
     let made : RuleForm = record { number = a.0; kind = b.0; origin = n; dest = c.0 } in
-    subst (IsRuleLine (r ∷ w ∷ n ∷ fs)) (one made q t.1) (record {
+    subst (IsRuleLine (r ∷ w ∷ n ∷ fs)) (same_Some made q t.1) (record {
       numeral = r;
       number = a.1;
       name = t.0;
@@ -267,7 +265,7 @@ pub record AreSaid (hs : List HalfPlane) (more : Bool) (fs : List (List ℕ)) (c
 pub halves_said : (fs : List (List ℕ)) (hs : List HalfPlane) (more : Bool) (c : Cell) → halves_behind hs more fs ≡ Some c
     → AreSaid hs more fs c
 halves_said [] hs true c e = absurd cc
-halves_said [] hs false c e = record { rest = []; all = sym (one hs c e) ∙ sym (append-nil hs); signed = refl; spelled = λ t. refl }
+halves_said [] hs false c e = record { rest = []; all = sym (same_Some hs c e) ∙ sym (append-nil hs); signed = refl; spelled = λ t. refl }
 halves_said (a ∷ []) hs more c e = absurd cc
 halves_said (a ∷ b ∷ []) hs more c e = absurd cc
 halves_said (a ∷ b ∷ d ∷ []) hs more c e = absurd cc

@@ -1,10 +1,10 @@
 -- The search for what polygons leave of an open piece: cells that are no walls are enough.
-use Rattle.std.proofs.Common.{◌≡◌, ◌↔◌, inl, inr, ℕ, ◌+◌, ◌<◌, ◌≤◌, Bool, true, false, List, [], ◌∷◌, ◌++◌, ◌⊎◌, zero, suc, pos, ◌+ℤ◌, ◌-ℤ◌, arith, refl, sym, ◌∙◌, subst, Option, Some, drop, map}
+use Rattle.std.proofs.Common.{◌≡◌, ◌↔◌, inl, inr, ℕ, ◌+◌, ◌<◌, ◌≤◌, Bool, true, false, List, [], ◌∷◌, ◌++◌, zero, suc, pos, ◌+ℤ◌, ◌-ℤ◌, arith, refl, sym, ◌∙◌, subst, Option, Some, drop, map}
 use Rattle.std.specs.Bool.{OnTrue}
 use Rattle.std.specs.List.{filter}
 use Rattle.std.specs.Prelude.{slice_get, ◌&&◌, not}
 use Rattle.std.proofs.lemmas.Int.{ints}
-use Rattle.std.proofs.lemmas.Bool.{false≢true}
+use Rattle.std.proofs.lemmas.Bool.{false≢true, cases_lt}
 use Rattle.plane_terms.specs.Lists.{Every, SomeOf}
 use Rattle.plane_terms.specs.Point.{Point}
 use Rattle.plane_terms.specs.Cell.{Cell, InCell, InCells, HasPoint, box_round}
@@ -49,9 +49,6 @@ some_off q [] h = absurd h
 some_off q (d ∷ ds) (inl h) = (0, d, refl, h)
 some_off q (d ∷ ds) (inr h) = let k = some_off q ds h in (suc k.0, k.1, k.2, k.3)
 
-pub before_or_not : (j n : ℕ) → (j < n) ⊎ (n ≤ j)
-before_or_not j n = grind arith
-
 module _ (near : List (List Cell)) (c : Cell) (ds : List Cell) (n : ℕ) (later : (p : Point) → IsInEach near p → InCells ds p)
     (clear : (j : ℕ) → (d : Cell) → slice_get ds j ≡ Some d → n ≤ j → (p : Point) → InCell c p → ¬ (InCell d p)) where
   shut_off : AreOffWalls ds → LastsRight (InCell c) → LastsRight (IsInEach near) → AreShutBut true near c ds n → (p : Point) → InCell c p
@@ -65,7 +62,7 @@ module _ (near : List (List Cell)) (c : Cell) (ds : List Cell) (n : ℕ) (later 
       let q = moved m o p in
       let s = some_off q ds (off.1 m o (omega arith)) in
       let here = own.1 m o (omega arith) in
-      elim (before_or_not s.0 n) [
+      elim (cases_lt s.0 n) [
         | inl b ↦ h s.0 s.1 b s.2 (s.3).0 q here (s.3).1 (each.1 m o (omega arith))
         | inr l ↦ clear s.0 s.1 s.2 l q here (s.3).1
       ]
@@ -77,17 +74,14 @@ module _ (near : List (List Cell)) (c : Cell) (ds : List Cell) (n : ℕ) (later 
 
 pub shut_one : (is_open : Bool) (near : List (List Cell)) (c : Cell) (ds : List Cell) (i : ℕ) → AreShutBut is_open near c ds i
     → ((d : Cell) → slice_get ds i ≡ Some d → is_passed is_open d ≡ false → IsShutIn near c d) → AreShutBut is_open near c ds (i + 1)
-shut_one is_open near c ds i h f j d l e = elim (before_or_at j i l) [
+shut_one is_open near c ds i h f j d l e = elim (cases_lt j i) [
   | inl b ↦ h j d b e
-  | inr s ↦ f d (subst (λ k. slice_get ds k ≡ Some d) s e)
+  | inr a ↦ let s : j ≡ i = omega arith in f d (subst (λ k. slice_get ds k ≡ Some d) s e)
 ]
-  where
-    before_or_at : (j i : ℕ) → j < i + 1 → (j < i) ⊎ (j ≡ i)
-    before_or_at j i l = grind arith
 
 pub shut_more : (is_open : Bool) (near : List (List Cell)) (c o : Cell) (ds : List Cell) (m n : ℕ) → o ≡ c → AreShutBut is_open near c ds m
     → ((k : ℕ) → (d : Cell) → slice_get ds k ≡ Some d → m ≤ k → k < n → (p : Point) → InCell o p → ¬ (InCell d p)) → AreShutBut is_open near c ds n
-shut_more is_open near c o ds m n s h clear j d l e = elim (before_or_not j m) [
+shut_more is_open near c o ds m n s h clear j d l e = elim (cases_lt j m) [
   | inl b ↦ h j d b e
   | inr a ↦ λ w p k i _. clear j d e a l p (subst (λ (hs : Cell). InCell hs p) (sym s) k) i
 ]

@@ -1,6 +1,7 @@
 -- A piece of a cell, which is narrowed by one cell of a polygon's outside after the other, and widened again.
-use Rattle.std.proofs.Common.{◌≡◌, ◌∙◌, ◌≤◌, ◌<◌, ◌⊎◌, inl, inr, ℕ, zero, suc, List, [], ◌∷◌, Some, arith, refl, ap, subst, length, get_or, take, drop}
+use Rattle.std.proofs.Common.{◌≡◌, ◌∙◌, ◌≤◌, ◌<◌, inl, inr, ℕ, zero, suc, List, [], ◌∷◌, Some, arith, refl, ap, subst, length, get_or, take, drop}
 use Rattle.std.specs.Prelude.{slice_get}
+use Rattle.std.proofs.lemmas.Bool.{cases_lt}
 use Rattle.std.proofs.lemmas.List.{length-take}
 use Rattle.std.proofs.lemmas.Option.{slice_get-get_or}
 use Rattle.plane_terms.specs.Point.{Point}
@@ -27,10 +28,7 @@ pub all_shut : (near : List (List Cell)) (c : Cell) (ds : List Cell) (n : ℕ) �
     → ¬ (IsInEach near p)
 all_shut near c ds n e h f p m i =
     let s = some_index p ds (e p i) in
-    elim (before_or_not s.0 n) [ inl b ↦ h s.0 s.1 b s.2 p m s.3 i | inr a ↦ f s.0 s.1 s.2 a p m s.3 ]
-  where
-    before_or_not : (j n : ℕ) → (j < n) ⊎ (n ≤ j)
-    before_or_not j n = grind arith
+    elim (cases_lt s.0 n) [ inl b ↦ h s.0 s.1 b s.2 p m s.3 i | inr a ↦ f s.0 s.1 s.2 a p m s.3 ]
 
 pub at_index : (ds : List Cell) (i : ℕ) → i < length ds → slice_get ds i ≡ Some (get_or ds i [])
 at_index ds i l = slice_get-get_or ds i [] l

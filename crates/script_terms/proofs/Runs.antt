@@ -23,7 +23,7 @@ use Rattle.script_terms.specs.Run.{Outcome, Reading, Reads, Faulty, Run, ComesOf
 use Rattle.script_terms.specs.Keeping.{IsKeeping}
 use Rattle.script_terms.proofs.Keeping.{undo_keeps, redo_keeps, altered_keeps}
 use Rattle.script_terms.proofs.Commands.{same_keeps, equal_keeps, begun_keeps, ended_keeps, discard_keeps, added_keeps}
-use Rattle.std.proofs.lemmas.Bool.{eqb-true}
+use Rattle.std.proofs.lemmas.Bool.{eqb-true, not-false}
 
 -- ---- what is known where a command is not refused
 pub first_none : (o : Option Refusal) (rs : List (Option Refusal)) → first_of (o ∷ rs) ≡ None → (o ≡ None) × (first_of rs ≡ None)
@@ -34,15 +34,11 @@ when_none : {A : Type 0} (b : Bool) (r : A) → when b r ≡ None → b ≡ fals
 when_none true r e = cc
 when_none false r e = refl
 
-not_false : (b : Bool) → not b ≡ false → b ≡ true
-not_false true e = refl
-not_false false e = cc
-
 pub by_none : (ss : List Session) (o : Option (List ℕ)) (editor : List ℕ) (h : ℕ) → AreAllApart ss → holder ss h ≡ o
     → held_by o editor ≡ None → IsAlone ss editor h
 by_none ss None editor h a e n = free_alone ss editor h e
 by_none ss (Some name) editor h a e n =
-    let same : name ≡ editor = (bytes_eq-Decides name editor).0 (not_false (bytes_eq name editor)
+    let same : name ≡ editor = (bytes_eq-Decides name editor).0 (not-false (bytes_eq name editor)
     (when_none (not (bytes_eq name editor)) (HeldBy name) n)) in
     held_alone ss editor h a (e ∙ ap (λ (m : List ℕ). Some m) same)
 

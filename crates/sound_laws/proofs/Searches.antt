@@ -5,6 +5,7 @@ use Rattle.std.specs.declared.cmp.Ordering.{Ordering}
 use Rattle.std.specs.declared.cmp.Ordering.TheVariants.{Less, Equal, Greater}
 use Rattle.std.specs.List.{HoldsAt}
 use Rattle.std.specs.List.Sorted.{IsPartitionPoint, IsNonDecreasingBy}
+use Rattle.std.proofs.lemmas.Bool.{cases_lt}
 use Rattle.plane_terms.proofs.ListLemmas.{every_at, every_by_index}
 use Rattle.topology_terms.specs.Keyed.{Keyed, item_at, IsAscendingBy}
 use Rattle.sound_laws.proofs.Keyed.{AreKeys, none_lacks, contained_found, apart_later}
@@ -92,12 +93,9 @@ module _ {A K : Type 0} (by : Keyed A K) (keys : AreKeys by) where
   pub not_there : (xs : List A) (k : K) (i : ℕ) → IsPartitionPoint (λ x. order_of (by.key x) k ≡ Less)
       (λ x. order_of (by.key x) k ≡ Greater) xs i → item_at by xs k ≡ None
   not_there xs k i p = none_lacks by keys k xs (every_by_index (λ (x : A). by.same (by.key x) k ≡ false) xs
-      (λ j d l. elim (early_or_not j i) [
+      (λ j d l. elim (cases_lt j i) [
         | inl s ↦ keys.apart (by.key (get_or xs j d)) k (subst (λ o. Stands o (by.key (get_or xs j d)) k) (p.0 j d (omega arith) s)
             (stands (by.key (get_or xs j d)) k))
         | inr s ↦ apart_later by keys k (by.key (get_or xs j d)) (subst (λ o. Stands o (by.key (get_or xs j d)) k) (p.1 j d s l)
             (stands (by.key (get_or xs j d)) k))
       ]))
-    where
-      early_or_not : (m n : ℕ) → (m < n) ⊎ (n ≤ m)
-      early_or_not m n = grind arith

@@ -1,6 +1,7 @@
 use Rattle.std.proofs.Common.{◌≡◌, arith, subst, inl, inr}
 use Rattle.convex_cell.specs.Span.{AreApart}
-use Rattle.convex_cell.proofs.Steps.{cases_lt, same_at}
+use Rattle.std.proofs.lemmas.Bool.{cases_lt}
+use Rattle.convex_cell.proofs.Steps.{same_at}
 use Rattle.convex_cell.proofs.stack.next_near.Goals as goal
 
 pub loop-i-preserved-then-rising : goal.loop-i-preserved-then-rising

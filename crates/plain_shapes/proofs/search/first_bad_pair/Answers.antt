@@ -1,6 +1,7 @@
-use Rattle.std.proofs.Common.{◌≡◌, ◌<◌, ◌≤◌, ◌+◌, ℕ, zero, suc, arith, ◌⊎◌, inl, inr, subst, List, length}
+use Rattle.std.proofs.Common.{◌≡◌, ◌<◌, ◌≤◌, ◌+◌, ℕ, arith, inl, inr, subst, List, length}
 use Rattle.plane_terms.specs.Segment.{Segment}
 use Rattle.plane_terms.specs.ShapeFaults.{AreBad, IsPair, IsFirstPair}
+use Rattle.std.proofs.lemmas.Bool.{cases_lt}
 use Rattle.std.proofs.lemmas.Option.{slice_get_within}
 use Rattle.plain_shapes.proofs.search.first_bad_pair.Goals as goal
 
@@ -12,18 +13,12 @@ first_so ss i j f p g =
       first = λ a b l q. elim l [ inl k ↦ f a b k q | inr k ↦ g b k.1 (subst (λ (n : ℕ). IsPair AreBad ss n b) k.0 q) ];
     }
 
-lower_or_same : (a i : ℕ) → a < i + 1 → (a < i) ⊎ (a ≡ i)
-lower_or_same a zero h = inr (omega (arith, h))
-lower_or_same zero (suc i) h = inl (omega arith)
-lower_or_same (suc a) (suc i) h = elim (lower_or_same a i (omega (arith, h))) [
-  | inl l ↦ inl (omega (arith, l))
-  | inr e ↦ inr
-      (omega (arith, e))
-]
-
 none_more : (ss : List Segment) (i : ℕ) → ((a b : ℕ) → a < i → ¬ (IsPair AreBad ss a b)) → ((b : ℕ) → ¬ (IsPair AreBad ss i b)) → (a b : ℕ)
     → a < i + 1 → ¬ (IsPair AreBad ss a b)
-none_more ss i f g a b h q = elim (lower_or_same a i h) [ inl l ↦ f a b l q | inr e ↦ g b (subst (λ (n : ℕ). IsPair AreBad ss n b) e q) ]
+none_more ss i f g a b h q = elim (cases_lt a i) [
+  | inl l ↦ f a b l q
+  | inr k ↦ let e : a ≡ i = omega arith in g b (subst (λ (n : ℕ). IsPair AreBad ss n b) e q)
+]
 
 none_at_all : (ss : List Segment) (i : ℕ) → ((a b : ℕ) → a < i → ¬ (IsPair AreBad ss a b)) → length ss ≤ i → (a b : ℕ)
     → ¬ (IsPair AreBad ss a b)

@@ -1,11 +1,11 @@
 use Rattle.std.proofs.Common.{◌≡◌, ◌∙◌, ◌≤◌, ◌<◌, ◌+◌, inl, inr, true, false, Some, arith, rules, refl, sym, subst, length, get_or, [], take, drop, List}
 use Rattle.std.specs.Prelude.{slice_get, ◌&&◌, not}
-use Rattle.std.proofs.lemmas.Bool.{OnTrue_at}
+use Rattle.std.proofs.lemmas.Bool.{OnTrue_at, cases_lt}
 use Rattle.std.proofs.lemmas.Option.{slice_get_read}
 use Rattle.plane_terms.specs.Cell.{Cell, InCell}
 use Rattle.convex_cell.specs.Piece.{IsMarkOf}
 use Rattle.rule_loops.proofs.Shut.{at_index, begins_within, restored, each_later, in_one}
-use Rattle.rule_loops.proofs.OpenPieces.{before_or_not, shut_one, shut_more, shut_by, part_lasts, passed_wall, each_off_from}
+use Rattle.rule_loops.proofs.OpenPieces.{shut_one, shut_more, shut_by, part_lasts, passed_wall, each_off_from}
 use Rattle.rule_loops.specs.Rightward.{is_wall, AreOffWalls}
 use Rattle.plane_terms.proofs.ListLemmas.{every_got}
 use Rattle.rule_loops.proofs.open.+is_shut.Goals.{else-is_open-via-then-is_open+else-is_wall, else-is_open-via-else-is_open}
@@ -129,7 +129,7 @@ returns-clause-shut t c =
     let ds : List Cell = c.deref-outside.result.now in
     shut_by (drop c.args.from near) c.args.piece.now ds c.loop-i.next
     (λ p h. in_one near c.args.from k ds later (rw same at read) p h)
-    (λ j d e a p m. elim (before_or_not j c.window-window.result.last) [
+    (λ j d e a p m. elim (cases_lt j c.window-window.result.last) [
       | inl b ↦ c.in_default-next_near.ensures.none j d e a b p (subst (λ (hs : Cell). InCell hs p) (sym c.loop-i.invariant.same) m)
       | inr l ↦ c.window-window.ensures.clear j d e (inr l) p m
     ]) c.args.is_open

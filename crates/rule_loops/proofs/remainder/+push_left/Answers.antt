@@ -1,7 +1,7 @@
 use Rattle.std.proofs.Common.{◌≡◌, ◌↔◌, ◌∙◌, ◌<◌, ◌+◌, ◌++◌, ◌∷◌, [], ℕ, inl, inr, true, Some, arith, rules, refl, ap, sym, subst, length, get_or, take, drop, List, append-nil}
 use Rattle.std.specs.Bool.{OnTrue}
 use Rattle.std.specs.Prelude.{slice_get}
-use Rattle.std.proofs.lemmas.Bool.{OnTrue_at}
+use Rattle.std.proofs.lemmas.Bool.{OnTrue_at, cases_lt}
 use Rattle.std.proofs.lemmas.Option.{slice_get_read}
 use Rattle.plane_terms.specs.Point.{Point}
 use Rattle.plane_terms.specs.Cell.{Cell, InCell, meet_of}
@@ -10,7 +10,7 @@ use Rattle.convex_cell.specs.Piece.{IsMarkOf}
 use Rattle.rule_loops.proofs.Depth.{none_yet, left_passed, all_of_it, one_with, one_without, same_met}
 use Rattle.rule_loops.specs.Rightward.{LastsRight}
 use Rattle.rule_loops.proofs.Rest.{drop_one}
-use Rattle.rule_loops.proofs.OpenPieces.{before_or_not, part_lasts}
+use Rattle.rule_loops.proofs.OpenPieces.{part_lasts}
 use Rattle.rule_loops.proofs.Shares.{point_shared}
 use Rattle.rule_loops.proofs.Shut.{at_index, begins_within, restored}
 use Rattle.rule_loops.proofs.remainder.+push_left.Goals.{After-stays_open-part_open, then-not-branch+in_ok-narrow+in_ok-push_left, else-not-branch}
@@ -162,7 +162,7 @@ returns-clause-left t c =
     slice_get_read near (length near) c.args.from ds refl c.in-Some.ensures.lookup.3.0 (rw same at c.in-Some.ensures.lookup.1) in
     let inv = c.loop-i.invariant in
     inv.left ∙ ap (λ us. c.args.left.now ++ us) (all_of_it own ds (drop (c.args.from + 1) near) c.loop-i.next
-    (λ k d e l p m. elim (before_or_not k c.window-window.result.last) [
+    (λ k d e l p m. elim (cases_lt k c.window-window.result.last) [
       | inl b ↦ c.in_default-next_near.ensures.none k d e l b p (rw (inv.piece) ((c.requires.piece p).1 m))
       | inr a ↦ c.window-window.ensures.clear k d e (inr a) p ((c.requires.piece p).1 m)
     ])

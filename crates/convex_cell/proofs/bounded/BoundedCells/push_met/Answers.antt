@@ -1,8 +1,9 @@
 use Rattle.std.proofs.Common.{◌≡◌, ◌∙◌, ◌++◌, ◌+◌, ◌<◌, length, arith, inl, inr, ap, sym, subst}
+use Rattle.std.proofs.lemmas.Bool.{cases_lt}
 use Rattle.std.proofs.lemmas.Option.{get_or_from_slice_get, slice_get_within}
 use Rattle.convex_cell.specs.Span.{AreApart}
 use Rattle.convex_cell.proofs.Carves.{met_more}
-use Rattle.convex_cell.proofs.Steps.{bounds_at, apart_at, unchanged, passed, none_after, cases_lt, same_at}
+use Rattle.convex_cell.proofs.Steps.{bounds_at, apart_at, unchanged, passed, none_after, same_at}
 use Rattle.convex_cell.proofs.Searches.{round_apart}
 use Rattle.convex_cell.proofs.bounded.BoundedCells.push_met.Goals as goal
 
