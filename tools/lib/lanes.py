@@ -48,9 +48,10 @@ def hand_on(name: str, source: str, target: str) -> None:
     os.rename(library + '.new', library)
 
 
-def start(words: list[str], folder: str, log: TextIO) -> subprocess.Popen[bytes]:
-    """Starts rt in the folder; what it says goes to the log."""
-    return subprocess.Popen(['rt', *words], cwd=folder, stdin=subprocess.DEVNULL, stdout=log, stderr=subprocess.STDOUT)
+def start(words: list[str], folder: str, log: TextIO, behind: bool = False) -> subprocess.Popen[bytes]:
+    """Starts rt in the folder, behind other programs where that is said; what it says goes to the log."""
+    nice = ['nice', '-n', '10'] if behind and shutil.which('nice') else []
+    return subprocess.Popen([*nice, 'rt', *words], cwd=folder, stdin=subprocess.DEVNULL, stdout=log, stderr=subprocess.STDOUT)
 
 
 def lock(held: int) -> None:
@@ -104,12 +105,12 @@ class Lane:
 
 
 class Run:
-    """A crate that is being proved by so many jobs."""
+    """A crate that is being proved by so many jobs, behind others or not."""
 
-    def __init__(self, name: str, lane: Lane, jobs: int) -> None:
-        self.name, self.lane, self.jobs = name, lane, jobs
+    def __init__(self, name: str, lane: Lane, jobs: int, behind: bool) -> None:
+        self.name, self.lane, self.jobs, self.behind = name, lane, jobs, behind
         with open(lane.log, 'w', encoding='utf-8') as log:
-            self.process = start(['lib', '--jobs', str(jobs)], os.path.join(lane.crates, name), log)
+            self.process = start(['lib', '--jobs', str(jobs)], os.path.join(lane.crates, name), log, behind)
 
     def said(self) -> str:
         with open(self.lane.log, encoding='utf-8', errors='replace') as file:
@@ -123,9 +124,9 @@ class Run:
 class Lanes:
     """The crates that are being proved, each in a lane of its own. The folder keeps the lanes for the next build."""
 
-    def __init__(self, folder: str, below: dict[str, set[str]], processors: int) -> None:
+    def __init__(self, folder: str, below: dict[str, set[str]], processors: int, jobs: int) -> None:
         os.makedirs(folder, exist_ok=True)
-        self.folder, self.below, self.processors = folder, below, processors
+        self.folder, self.below, self.processors, self.jobs = folder, below, processors, jobs
         self.lanes: list[Lane] = []
         self.runs: list[Run] = []
 
@@ -138,22 +139,34 @@ class Lanes:
         self.lanes.append(Lane(os.path.join(self.folder, str(len(self.lanes) + 1))))
         return self.lanes[-1]
 
-    def begin(self, name: str, jobs: int) -> None:
+    def begin(self, name: str, jobs: int, behind: bool) -> None:
         lane = self.free_lane()
         for it in self.below[name]:
             hand_on(it, CRATES, lane.crates)
         for other in self.lanes:
             if other is not lane:
                 lane.take_work(name, other)
-        self.runs.append(Run(name, lane, jobs))
+        self.runs.append(Run(name, lane, jobs, behind))
 
-    def begin_all(self, ready: list[str]) -> list[str]:
-        """Begins these crates in their order, as long as a processor is idle; the first get those that are not wanted. Answers which."""
+    def jobs_for(self, behind: bool, others: int) -> int:
+        """How many jobs the next run gets, where so many others wait to begin."""
+        taken = sum(run.jobs for run in self.runs)
+        idle = self.processors - taken
+        wanted = max(1, -(-idle // (others + 1))) if behind else self.processors
+        return min(wanted, self.jobs - taken)
+
+    def begin_all(self, ready: list[str], chain: dict[str, float]) -> list[str]:
+        """Begins these crates in their order, as long as there are lanes and jobs. Answers which.
+
+        The one with the longest chain above it gets all processors, before the others; those fill what it leaves idle.
+        """
         begun: list[str] = []
         for name in ready:
-            idle = self.processors - sum(run.jobs for run in self.runs)
-            if idle > 0:
-                self.begin(name, -(-idle // (len(ready) - len(begun))))
+            longest = max((chain[run.name] for run in self.runs if not run.behind), default=0.0)
+            behind = chain[name] < longest
+            jobs = self.jobs_for(behind, len(ready) - len(begun) - 1)
+            if len(self.runs) < self.processors and jobs > 0:
+                self.begin(name, jobs, behind)
                 begun.append(name)
         return begun
 
