@@ -4,3 +4,4 @@ pub mod Marked
 pub mod Members
 pub mod Nodes
 pub mod Reaches
+pub mod Snugs

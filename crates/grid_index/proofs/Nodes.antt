@@ -1,19 +1,20 @@
 -- What several nodes hold, where one of them changes.
-use Rattle.std.proofs.Common.{◌≡◌, Bool, true, false, inl, inr, refl, sym, ap, ◌∙◌, subst, ℕ, ◌+◌, ◌<◌, zero, suc, List, [], ◌∷◌, ◌++◌, Contains, length, take, set, get_or, Option, None, Some, Result, Ok, Err, arith}
-use Rattle.std.specs.Prelude.{slice_get, OnErr, IsSomeAnd}
+use Rattle.std.proofs.Common.{◌≡◌, ◌≢◌, Bool, true, false, inl, inr, refl, sym, ap, ◌∙◌, subst, ℕ, ◌+◌, ◌<◌, zero, suc, List, [], ◌∷◌, ◌++◌, Contains, length, take, set, get_or, Option, None, Some, Result, Ok, Err, arith}
+use Rattle.std.specs.Prelude.{slice_get, All, OnOk, OnErr, IsSomeAnd}
 use Rattle.std.specs.List.{items_where_true}
 use Rattle.std.specs.List.Retain.{IsFiltered, ReturnsInTurn}
 use Rattle.std.proofs.lemmas.Option.{slice_get_within}
 use Rattle.std.proofs.lemmas.List.{take_more, take_more_set, append-nil}
 use Rattle.std.proofs.lemmas.List.Concat.{flat_map-append}
-use Rattle.std.proofs.lemmas.List.Elements.{Contains-append_left, Contains-append_right, Contains-append_cases}
+use Rattle.std.proofs.lemmas.List.Elements.{All-nil, All-push, All-set, Contains-append_left, Contains-append_right, Contains-append_cases}
 use Rattle.grid_index.specs.declared.placed.Placed.{Placed}
 use Rattle.plane_terms.specs.Rectangle.{Rectangle}
 use Rattle.plane_terms.proofs.ListLemmas.{contains_among}
 use Rattle.grid_index.specs.Near.{HoldsSame, Gains, Loses, Adds}
-use Rattle.grid_index.specs.Nodes.{NodeView, all_items, height_over}
+use Rattle.grid_index.specs.Nodes.{NodeView, all_items, height_over, AreFilled}
 use Rattle.grid_index.proofs.Adding.{contains_none, adds_joined}
 use Rattle.grid_index.proofs.Members.{among, gained}
+use Rattle.grid_index.proofs.Snugs.{filled_through}
 
 -- ---- two lists joined
 pub held_itself : (ps : List Placed) → HoldsSame ps ps
@@ -97,6 +98,21 @@ items_pushed ns n = flat_map-append (λ (m : NodeView). m.items) ns (n ∷ []) �
 pub gained_pushed : (ns ms : List NodeView) (n : NodeView) (p : Placed) → n.items ≡ p ∷ [] → ms ≡ ns ++ n ∷ [] → Gains (all_items ns) (all_items ms) p
 gained_pushed ns ms n p one e = gained (all_items ns) (all_items ms) p (ap all_items e ∙ (items_pushed ns n ∙ ap (λ ps. all_items ns ++ ps) one))
 
+-- ---- nodes each of which holds something
+append_none : {A : Type 0} (xs ys : List A) → xs ++ ys ≡ [] → xs ≡ []
+append_none [] ys e = refl
+append_none (x ∷ xs) ys e = absurd (omega (arith, ap length e))
+
+pub none_held : (ps : List Placed) (ns : List NodeView) → AreFilled ns → ps ++ all_items ns ≡ [] → (ps ≡ []) × (ns ≡ [])
+none_held [] [] all e = (refl, refl)
+none_held [] (n ∷ ns) all e = absurd (all 0 n (omega arith) (append_none n.items (all_items ns) e))
+none_held (p ∷ ps) ns all e = absurd (omega (arith, ap length e))
+
+pub filled_at : {T E : Type 0} (o : Result T E) (ns : List NodeView) (i : ℕ) (d m : NodeView) (p : Placed) → i < length ns → d ≡ get_or ns i d → AreFilled ns
+    → OnOk o (Gains d.items m.items p) → OnErr o (HoldsSame d.items m.items) → AreFilled (set ns i m)
+filled_at o ns i d m p h is all ok err = All-set (λ (n : NodeView). n.items ≢ []) ns i m
+    (filled_through o d.items m.items p ok err (subst (λ (n : NodeView). n.items ≢ []) (sym is) (all i d h))) all
+
 -- ---- the nodes that hold nothing go
 pub items_left : {F : Type 0} (R : F → NodeView → Bool → F → Type 0) → ((f : F) (n : NodeView) (b : Bool) (g : F) → R f n b g → b ≡ false → n.items ≡ [])
     → (f : F) (ns ms : List NodeView) → IsFiltered R f ns ms → all_items ms ≡ all_items ns
@@ -178,6 +194,14 @@ gained_first ps p = λ q. (
   (λ h. elim (among (p ∷ ps) q h) [ inl e ↦ inr e | inr k ↦ inl (contains_among ps q k) ]),
   (λ h. contains_among (p ∷ ps) q (elim h [ inl k ↦ inr (among ps q k) | inr e ↦ inl e ])),
 )
+
+pub filled_beside : (ns ms os : List NodeView) (n m : NodeView) (p : Placed) → ns ≡ [] → ms ≡ ns ++ n ∷ [] → os ≡ ms ++ m ∷ [] → n.items ≡ p ∷ []
+    → m.items ≢ [] → AreFilled os
+filled_beside ns ms os n m p none first second one some =
+    let P : NodeView → Type 0 = λ (l : NodeView). l.items ≢ [] in
+    let single : All P ns = subst (All P) (sym none) (All-nil P) in
+    let each : All P ms = subst (All P) (sym first) (All-push P ns n single (λ e. absurd (omega (arith, ap length (sym one ∙ e))))) in
+    subst (All P) (sym second) (All-push P ms m each some)
 
 pub gained_beside : (ps qs : List Placed) (ns ms os : List NodeView) (n m : NodeView) (p : Placed) → qs ≡ [] → ns ≡ [] → ms ≡ ns ++ n ∷ []
     → os ≡ ms ++ m ∷ [] → n.items ≡ p ∷ [] → m.items ≡ ps → Gains ps (qs ++ all_items os) p

@@ -1,22 +1,22 @@
 -- Rectangles that hold others, and what they do not reach.
-use Rattle.std.proofs.Common.{◌≡◌, inl, inr, sym, ap, ◌∙◌, subst, ℕ, ◌+◌, ◌<◌, true, false, List, [], ◌∷◌, ◌++◌, take, length, get_or, Contains, Option, None, Some, Result, Ok, Err, arith}
-use Rattle.std.specs.Prelude.{OnOk, OnErr}
+use Rattle.std.proofs.Common.{◌≡◌, ◌≢◌, ◌⊎◌, inl, inr, refl, sym, ap, ◌∙◌, subst, ℕ, ◌+◌, ◌<◌, true, false, List, [], ◌∷◌, ◌++◌, take, length, get_or, Contains, Option, None, Some, arith}
 use Rattle.std.specs.Option.{unwrap_or}
 use Rattle.std.proofs.lemmas.Bool.{false≢true}
 use Rattle.std.proofs.lemmas.Int.{ints}
 use Rattle.std.proofs.lemmas.List.{append-nil, take_more}
-use Rattle.std.proofs.lemmas.List.Elements.{Contains-append_cases}
+use Rattle.std.proofs.lemmas.List.Elements.{Contains-append_left, Contains-append_right, Contains-append_cases}
 use Rattle.plane_terms.specs.Rectangle.{Rectangle, IsWithin, is_within, rects_meet, join_of}
-use Rattle.grid_plane.specs.Rectangles.{IsJoin}
+use Rattle.plane_terms.proofs.ListLemmas.{contains_among}
 use Rattle.sound_laws.proofs.Meetings.{meets_wider}
 use Rattle.sound_laws.proofs.Planes.{within_self, within_trans}
 use Rattle.validation_laws.proofs.Frames.{within_join_left, within_join_right}
 use Rattle.grid_index.specs.declared.placed.Placed.{Placed}
 use Rattle.grid_index.specs.Near.{HoldsSame, Gains, Loses, Adds}
-use Rattle.grid_index.specs.Nodes.{NodeView, all_items, AreWithin, IsReach, reach_with, reach_of_both}
+use Rattle.grid_index.specs.Nodes.{NodeView, all_items, AreFilled, AreWithin, IsSnug, IsReach, reach_with, reach_of_both}
 use Rattle.grid_index.proofs.Adding.{adds_none, adds_same, contains_none}
 use Rattle.grid_index.proofs.Members.{among}
 use Rattle.grid_index.proofs.Nodes.{items_more}
+use Rattle.grid_index.proofs.Snugs.{snug_more, snug_one, snug_joined, snug_filled}
 
 -- ---- what a rectangle holds
 pub none_within : (r : Rectangle) (ps : List Placed) → ps ≡ [] → AreWithin r ps
@@ -57,19 +57,26 @@ lost_beyond s ps p all out q = (
 )
 
 -- ---- the reach of several
-pub reach_more : (o : Option Rectangle) (r : Rectangle) (ps qs : List Placed) → IsReach o ps → AreWithin r qs → IsReach (reach_with o r) (ps ++ qs)
-reach_more None r ps qs e all = subst (λ l. AreWithin r (l ++ qs)) (sym e) all
-reach_more (Some q) r ps qs first second = all_joined (join_of q r) ps qs
-    (all_wider q (join_of q r) ps (within_join_left q r) first)
-    (all_wider r (join_of q r) qs (within_join_right q r) second)
+pub reach_more : (o : Option Rectangle) (r : Rectangle) (ps qs : List Placed) → IsReach o ps → AreWithin r qs → IsSnug r qs
+    → IsReach (reach_with o r) (ps ++ qs)
+reach_more None r ps qs e all snug = subst (λ l. AreWithin r (l ++ qs) × IsSnug r (l ++ qs)) (sym e) (all, snug)
+reach_more (Some q) r ps qs first all snug = (
+  all_joined (join_of q r) ps qs
+      (all_wider q (join_of q r) ps (within_join_left q r) first.0)
+      (all_wider r (join_of q r) qs (within_join_right q r) all),
+  snug_joined q r (ps ++ qs)
+      (snug_more q ps (ps ++ qs) (λ p h. Contains-append_left ps qs p h) first.1)
+      (snug_more r qs (ps ++ qs) (λ p h. Contains-append_right ps qs p h) snug),
+)
 
 pub reach_both : (o u : Option Rectangle) (ps qs : List Placed) → IsReach o ps → IsReach u qs → IsReach (reach_of_both o u) (ps ++ qs)
 reach_both o None ps qs first e = subst (λ l. IsReach o (ps ++ l)) (sym e) (subst (IsReach o) (sym (append-nil ps)) first)
-reach_both o (Some r) ps qs first second = reach_more o r ps qs first second
+reach_both o (Some r) ps qs first second = reach_more o r ps qs first second.0 second.1
 
-pub reach_kept : (o : Option Rectangle) (r s : Rectangle) (ps : List Placed) → s ≡ unwrap_or o r → IsReach o ps → AreWithin s ps
-reach_kept None r s ps e none = none_within s ps none
-reach_kept (Some q) r s ps e all = subst (λ t. AreWithin t ps) (sym e) all
+pub reach_kept : (o : Option Rectangle) (r s : Rectangle) (ps : List Placed) → s ≡ unwrap_or o r → IsReach o ps
+    → AreWithin s ps × ((ps ≡ []) ⊎ IsSnug s ps)
+reach_kept None r s ps e none = (none_within s ps none, inl none)
+reach_kept (Some q) r s ps e h = subst (λ t. AreWithin t ps × ((ps ≡ []) ⊎ IsSnug t ps)) (sym e) (h.0, inr h.1)
 
 one_within : (p : Placed) → AreWithin p.rect (p ∷ [])
 one_within p q h = elim (among (p ∷ []) q h) [ inl e ↦ subst (λ (o : Placed). IsWithin o.rect p.rect) (sym e) (within_self p.rect) | inr k ↦ absurd k ]
@@ -79,18 +86,24 @@ pub reach_placed : (o u : Option Rectangle) (ps : List Placed) (i : ℕ) (p : Pl
 reach_placed o u ps i p l is e reach =
     let more : take (i + 1) ps ≡ take i ps ++ p ∷ [] = take_more ps i p l ∙ ap (λ q. take i ps ++ q ∷ []) (sym is) in
     subst (λ t. IsReach t (take (i + 1) ps)) (sym e)
-    (subst (IsReach (reach_with o p.rect)) (sym more) (reach_more o p.rect (take i ps) (p ∷ []) reach (one_within p)))
+    (subst (IsReach (reach_with o p.rect)) (sym more) (reach_more o p.rect (take i ps) (p ∷ []) reach (one_within p) (snug_one p (p ∷ []) (contains_among (p ∷ []) p (inl refl)))))
 
 pub reach_node : (o u : Option Rectangle) (ns : List NodeView) (i : ℕ) (n : NodeView) (r : Rectangle) → i < length ns → n ≡ get_or ns i n
-    → u ≡ reach_with o r → AreWithin r n.items → IsReach o (all_items (take i ns)) → IsReach u (all_items (take (i + 1) ns))
-reach_node o u ns i n r l is e all reach =
+    → u ≡ reach_with o r → AreWithin r n.items → (n.items ≡ []) ⊎ IsSnug r n.items → AreFilled ns → IsReach o (all_items (take i ns))
+    → IsReach u (all_items (take (i + 1) ns))
+reach_node o u ns i n r l is e all snug filled reach =
+    let some : n.items ≢ [] = subst (λ (m : NodeView). m.items ≢ []) (sym is) (filled i n l) in
     let more : all_items (take (i + 1) ns) ≡ all_items (take i ns) ++ n.items =
     items_more ns i n l ∙ ap (λ (m : NodeView). all_items (take i ns) ++ m.items) (sym is) in
     subst (λ t. IsReach t (all_items (take (i + 1) ns))) (sym e)
-    (subst (IsReach (reach_with o r)) (sym more) (reach_more o r (all_items (take i ns)) n.items reach all))
+    (subst (IsReach (reach_with o r)) (sym more) (reach_more o r (all_items (take i ns)) n.items reach all (snug_filled r n.items some snug)))
 
--- ---- what a node holds after a change that may be refused
-pub within_through : {T E : Type 0} (o : Result T E) (r s : Rectangle) (ps qs : List Placed) (p : Placed) → IsJoin s r p.rect → AreWithin r ps
-    → OnOk o (Gains ps qs p) → OnErr o (HoldsSame ps qs) → AreWithin s qs
-within_through (Ok x) r s ps qs p join all ok err = all_gained s ps qs p (all_wider r s ps join.first all) join.second ok
-within_through (Err e) r s ps qs p join all ok err = all_same s ps qs (all_wider r s ps join.first all) err
+-- ---- one rectangle more
+pub reach_gained : (r j : Rectangle) (ps qs : List Placed) (p : Placed) → j ≡ join_of r p.rect → AreWithin r ps → (ps ≡ []) ⊎ IsSnug r ps → ps ≢ []
+    → Gains ps qs p → AreWithin j qs × ((qs ≡ []) ⊎ IsSnug j qs)
+reach_gained r j ps qs p is all snug some gains = subst (λ t. AreWithin t qs × ((qs ≡ []) ⊎ IsSnug t qs)) (sym is) (
+  all_gained (join_of r p.rect) ps qs p (all_wider r (join_of r p.rect) ps (within_join_left r p.rect) all) (within_join_right r p.rect) gains,
+  inr (snug_joined r p.rect qs
+      (snug_more r ps qs (λ q h. (gains q).1 (inl h)) (snug_filled r ps some snug))
+      (snug_one p qs ((gains p).1 (inr refl)))),
+)

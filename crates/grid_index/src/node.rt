@@ -1,8 +1,8 @@
-ghost use Rattle.std.specs.Prelude.{◌≡◌, ◌<◌, ◌∷◌, ◌++◌, [], true, IsTrue, ◌↔◌, Contains, IfOk, OnOk, OnErr};
+ghost use Rattle.std.specs.Prelude.{◌≡◌, ◌≢◌, ◌<◌, ◌∷◌, ◌++◌, ◌⊎◌, [], IsTrue, ◌↔◌, Contains, IfOk, OnOk, OnErr};
 ghost use Rattle.std.specs.List.{list_any};
 ghost use Rattle.grid_index.specs.Near.{HoldsSame, Gains, Loses, AddsHandles, AddsRects};
 ghost use Rattle.grid_index.specs.Middles.{middle_of, IsCrowded};
-ghost use Rattle.grid_index.specs.Nodes.{AreWithin, all_items};
+ghost use Rattle.grid_index.specs.Nodes.{AreFilled, AreWithin, IsSnug, all_items};
 ghost use Rattle.grid_index.specs.Relations.{is_found};
 
 use crate::middle::Middle;
@@ -20,10 +20,12 @@ use std::mem;
 /// A node that holds so many rectangles itself is divided before it takes one that lies elsewhere.
 const FULL: usize = 32;
 
-/// A node of the tree: rectangles whose middles lie in one square, and whose reach holds them all. It holds them itself, or by
-/// the quarters of the square. What a question finds rests on the reaches alone; where a rectangle is put makes it quick.
+/// A node of the tree: rectangles whose middles lie in one square, and whose reach holds them all and no more than they need. It
+/// holds them itself, or by the quarters of the square. What a question finds rests on the reaches alone; where a rectangle is
+/// put makes it quick.
 #[derive(Drop)]
 pub(crate) struct Node {
+    // Left as it was where the last rectangle is taken out: the node is then let go.
     reach: Rect,
     // Of the first rectangle.
     middle: Middle,
@@ -34,15 +36,16 @@ pub(crate) struct Node {
 }
 
 impl Model for Node {
-    ghost use Rattle.std.specs.Prelude.{◌++◌, ◌<◌};
+    ghost use Rattle.std.specs.Prelude.{◌≡◌, ◌++◌, ◌<◌, ◌⊎◌, []};
     ghost use Rattle.std.proofs.Common.{arith};
-    ghost use Rattle.grid_index.specs.Nodes.{NodeView, all_items, height_over, AreWithin};
+    ghost use Rattle.grid_index.specs.Nodes.{NodeView, all_items, height_over, AreFilled, AreWithin, IsSnug};
 
     ghost Value = { NodeView };
 
-    ghost view = { λ n. record { middle = n.middle; items = n.placed.items ++ all_items n.quarters.items; height = height_over n.quarters.items } };
+    ghost view = { λ n. record { reach = n.reach; middle = n.middle; items = n.placed.items ++ all_items n.quarters.items; height = height_over n.quarters.items } };
 
-    ghost invariant = { λ n. AreWithin n.reach (n.placed.items ++ all_items n.quarters.items) × (n.digit < 32) };
+    ghost invariant = { λ n. let items = n.placed.items ++ all_items n.quarters.items in
+        AreWithin n.reach items × ((items ≡ []) ⊎ IsSnug n.reach items) × (n.digit < 32) × AreFilled n.quarters.items };
 
     ghost size = { λ v. v.height };
 
@@ -56,12 +59,15 @@ fn is_crowded(list: &[Placed], first: &Middle, middle: &Middle) -> bool
     list.len() >= FULL && first.apart(middle) != 0
 }
 
-// A reach for what is left when a rectangle is gone. One that did not touch a side of the reach leaves it as it is.
-fn reach_left(reach: &Rect, gone: &Rect, placed: &[Placed], quarters: &[Node]) -> Rect
-    requires { AreWithin reach.now (placed.now ++ all_items quarters.now) }
-    ensures { AreWithin result (placed.now ++ all_items quarters.now) }
+// The reach of what is left when a rectangle is gone. One that did not touch a side of the reach leaves it as it is.
+fn reach_left(reach: &Rect, gone: &Placed, placed: &[Placed], quarters: &[Node]) -> Rect
+    requires within { AreWithin reach.now (placed.now ++ all_items quarters.now) }
+    requires snug { let left = placed.now ++ all_items quarters.now in (left ≡ []) ⊎ IsSnug reach.now (gone.now ∷ left) }
+    requires filled { AreFilled quarters.now }
+    ensures within { AreWithin result (placed.now ++ all_items quarters.now) }
+    ensures snug { let left = placed.now ++ all_items quarters.now in (left ≡ []) ⊎ IsSnug result left }
 {
-    if !touches_side(reach, gone) {
+    if !touches_side(reach, &gone.rect) {
         return *reach;
     }
     let left = reach_of_both(reach_of(placed), reach_of_nodes(quarters));
@@ -90,25 +96,29 @@ impl Node {
         self.middle
     }
 
+    /// Holds what the node holds, and is as small as that: each of its sides is a side of a rectangle under the node.
     pub(crate) fn reach(&self) -> Rect
-        ensures { AreWithin result self.now.items }
+        ensures value { result ≡ self.now.reach }
+        ensures within { AreWithin result self.now.items }
+        ensures snug { (self.now.items ≡ []) ⊎ IsSnug result self.now.items }
     {
         self.reach
     }
 
     pub(crate) fn is_empty(&self) -> bool
-        ensures { result ≡ true → self.now.items ≡ [] }
+        ensures { IsTrue result ↔ (self.now.items ≡ []) }
     {
         self.placed.is_empty() && self.quarters.is_empty()
     }
 
     /// Puts a rectangle into the node itself.
     pub(crate) fn push(&mut self, placed: &Placed) -> Result<(), NoMemory>
+        requires { self.old.items ≢ [] }
         ensures ok { OnOk result (Gains self.old.items self.new.items placed.now) }
         ensures err { OnErr result (HoldsSame self.old.items self.new.items) }
     {
-        self.reach = self.reach.join(&placed.rect);
         self.placed.push(*placed)?;
+        self.reach = self.reach.join(&placed.rect);
         Ok(())
     }
 
@@ -116,6 +126,7 @@ impl Node {
     fn divide(&mut self, alloc: Global, placed: &Placed, digit: u32) -> Result<(), NoMemory>
         requires digit { digit < 32 }
         requires whole { self.old.height ≡ 0 }
+        requires filled { self.old.items ≢ [] }
         ensures ok { OnOk result (Gains self.old.items self.new.items placed.now) }
         ensures err { OnErr result (HoldsSame self.old.items self.new.items) }
     {
@@ -130,7 +141,8 @@ impl Node {
 
     // Puts a rectangle into a node without quarters.
     fn put_whole(&mut self, alloc: Global, placed: &Placed, middle: &Middle) -> Result<(), NoMemory>
-        requires { self.old.height ≡ 0 }
+        requires whole { self.old.height ≡ 0 }
+        requires filled { self.old.items ≢ [] }
         ensures ok { OnOk result (Gains self.old.items self.new.items placed.now) }
         ensures err { OnErr result (HoldsSame self.old.items self.new.items) }
     {
@@ -145,7 +157,8 @@ impl Node {
 
     // Puts a rectangle in that lies outside of the square: the node becomes one of the quarters of a larger square.
     fn put_outside(&mut self, alloc: Global, placed: &Placed, digit: u32) -> Result<(), NoMemory>
-        requires { digit < 32 }
+        requires digit { digit < 32 }
+        requires filled { self.old.items ≢ [] }
         ensures ok { OnOk result (Gains self.old.items self.new.items placed.now) }
         ensures err { OnErr result (HoldsSame self.old.items self.new.items) }
     {
@@ -173,6 +186,7 @@ impl Node {
         placed: &Placed,
         middle: &Middle,
     ) -> Result<(), NoMemory>
+        requires { self.old.items ≢ [] }
         ensures ok { OnOk result (Gains self.old.items self.new.items placed.now) }
         ensures err { OnErr result (HoldsSame self.old.items self.new.items) }
     {
@@ -183,8 +197,9 @@ impl Node {
             let digit = self.middle.apart(middle).ilog2();
             return self.put_outside(alloc, placed, digit);
         }
+        put_in(alloc, &mut self.quarters, placed, middle, self.digit)?;
         self.reach = self.reach.join(&placed.rect);
-        put_in(alloc, &mut self.quarters, placed, middle, self.digit)
+        Ok(())
     }
 
     /// Takes a rectangle out, where it is here.
@@ -195,7 +210,7 @@ impl Node {
         if self.reach.holds_rect(&placed.rect) {
             drop_placed(&mut self.placed, placed);
             take_from(&mut self.quarters, placed);
-            self.reach = reach_left(&self.reach, &placed.rect, &self.placed, &self.quarters);
+            self.reach = reach_left(&self.reach, placed, &self.placed, &self.quarters);
         }
     }
 

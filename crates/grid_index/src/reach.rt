@@ -1,5 +1,5 @@
 ghost use Rattle.std.specs.Prelude.{◌≡◌};
-ghost use Rattle.grid_index.specs.Nodes.{IsReach, reach_with, reach_of_both};
+ghost use Rattle.grid_index.specs.Nodes.{IsReach, reach_with, reach_of_both, touches_side};
 
 use crate::placed::Placed;
 use grid_plane::Rect;
@@ -24,7 +24,7 @@ pub(crate) fn reach_of_both(first: Option<Rect>, second: Option<Rect>) -> Option
     }
 }
 
-/// A rectangle that holds those of the list; none where the list is empty.
+/// The least rectangle that holds those of the list; none where the list is empty.
 pub(crate) fn reach_of(list: &[Placed]) -> Option<Rect>
     ensures { IsReach result list.now }
 {
@@ -36,7 +36,9 @@ pub(crate) fn reach_of(list: &[Placed]) -> Option<Rect>
 }
 
 /// Whether the rectangle has a side in common with the reach that holds it.
-pub(crate) fn touches_side(reach: &Rect, r: &Rect) -> bool {
+pub(crate) fn touches_side(reach: &Rect, r: &Rect) -> bool
+    ensures { result ≡ touches_side reach.now r.now }
+{
     if reach.x0() == r.x0() || reach.y0() == r.y0() {
         return true;
     }

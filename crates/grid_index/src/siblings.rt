@@ -2,7 +2,7 @@ ghost use Rattle.std.specs.Prelude.{◌≡◌, ◌<◌, true, length, slice_get,
 ghost use Rattle.std.specs.List.{list_any};
 ghost use Rattle.grid_index.specs.Near.{HoldsSame, Gains, Loses, AddsHandles, AddsRects};
 ghost use Rattle.grid_index.specs.Middles.{is_beside};
-ghost use Rattle.grid_index.specs.Nodes.{all_items, IsReach};
+ghost use Rattle.grid_index.specs.Nodes.{all_items, AreFilled, IsReach};
 ghost use Rattle.grid_index.specs.Relations.{is_found};
 
 use crate::middle::Middle;
@@ -25,8 +25,10 @@ fn place_of(nodes: &[Node], middle: &Middle, digit: u32) -> Option<usize>
 
 // Puts a rectangle into a node more.
 fn add_node(alloc: Global, nodes: &mut Vec<Node>, placed: &Placed) -> Result<(), NoMemory>
+    requires { AreFilled nodes.old.items }
     ensures ok { OnOk result (Gains (all_items nodes.old.items) (all_items nodes.new.items) placed.now) }
     ensures err { OnErr result (nodes.new.items ≡ nodes.old.items) }
+    ensures filled { AreFilled nodes.new.items }
 {
     let node = Node::of(alloc, placed)?;
     nodes.push(node)?;
@@ -34,9 +36,11 @@ fn add_node(alloc: Global, nodes: &mut Vec<Node>, placed: &Placed) -> Result<(),
 }
 
 fn push_at(nodes: &mut Vec<Node>, i: usize, placed: &Placed) -> Result<(), NoMemory>
-    requires { i < length nodes.old.items }
+    requires i { i < length nodes.old.items }
+    requires filled { AreFilled nodes.old.items }
     ensures ok { OnOk result (Gains (all_items nodes.old.items) (all_items nodes.new.items) placed.now) }
     ensures err { OnErr result (HoldsSame (all_items nodes.old.items) (all_items nodes.new.items)) }
+    ensures filled { AreFilled nodes.new.items }
 {
     nodes[i].push(placed)
 }
@@ -48,9 +52,11 @@ pub(crate) fn push_in(
     placed: &Placed,
     digit: u32,
 ) -> Result<(), NoMemory>
-    requires { digit < 32 }
+    requires digit { digit < 32 }
+    requires filled { AreFilled nodes.old.items }
     ensures ok { OnOk result (Gains (all_items nodes.old.items) (all_items nodes.new.items) placed.now) }
     ensures err { OnErr result (HoldsSame (all_items nodes.old.items) (all_items nodes.new.items)) }
+    ensures filled { AreFilled nodes.new.items }
 {
     match place_of(nodes, &Middle::of(&placed.rect), digit) {
         Some(i) => push_at(nodes, i, placed),
@@ -61,7 +67,8 @@ pub(crate) fn push_in(
 /// The rectangles of a list, in one node for each square.
 pub(crate) fn divided(alloc: Global, list: &[Placed], digit: u32) -> Result<Vec<Node>, NoMemory>
     requires { digit < 32 }
-    ensures { IfOk result (λ ns. HoldsSame list.now (all_items ns.items)) }
+    ensures same { IfOk result (λ ns. HoldsSame list.now (all_items ns.items)) }
+    ensures filled { IfOk result (λ ns. AreFilled ns.items) }
 {
     let mut nodes = Vec::new(alloc);
     for placed in list {
@@ -78,9 +85,11 @@ fn put_at(
     placed: &Placed,
     middle: &Middle,
 ) -> Result<(), NoMemory>
-    requires { i < length nodes.old.items }
+    requires i { i < length nodes.old.items }
+    requires filled { AreFilled nodes.old.items }
     ensures ok { OnOk result (Gains (all_items nodes.old.items) (all_items nodes.new.items) placed.now) }
     ensures err { OnErr result (HoldsSame (all_items nodes.old.items) (all_items nodes.new.items)) }
+    ensures filled { AreFilled nodes.new.items }
 {
     nodes[i].put(alloc, placed, middle)
 }
@@ -94,9 +103,11 @@ pub(crate) fn put_in(
     middle: &Middle,
     digit: u32,
 ) -> Result<(), NoMemory>
-    requires { digit < 32 }
+    requires digit { digit < 32 }
+    requires filled { AreFilled nodes.old.items }
     ensures ok { OnOk result (Gains (all_items nodes.old.items) (all_items nodes.new.items) placed.now) }
     ensures err { OnErr result (HoldsSame (all_items nodes.old.items) (all_items nodes.new.items)) }
+    ensures filled { AreFilled nodes.new.items }
 {
     match place_of(nodes, middle, digit) {
         Some(i) => put_at(alloc, nodes, i, placed, middle),
@@ -115,7 +126,8 @@ fn take_from_each(nodes: &mut [Node], placed: &Placed)
 
 // Lets the nodes go that hold nothing.
 fn drop_empty(nodes: &mut Vec<Node>)
-    ensures { all_items nodes.new.items ≡ all_items nodes.old.items }
+    ensures same { all_items nodes.new.items ≡ all_items nodes.old.items }
+    ensures filled { AreFilled nodes.new.items }
 {
     nodes.retain(|n| !n.is_empty());
 }
@@ -123,14 +135,16 @@ fn drop_empty(nodes: &mut Vec<Node>)
 /// Takes a rectangle out, where it is there, and each node that then holds nothing.
 #[cycle(take)]
 pub(crate) fn take_from(nodes: &mut Vec<Node>, placed: &Placed)
-    ensures { Loses (all_items nodes.old.items) (all_items nodes.new.items) placed.now }
+    ensures lost { Loses (all_items nodes.old.items) (all_items nodes.new.items) placed.now }
+    ensures filled { AreFilled nodes.new.items }
 {
     take_from_each(nodes, placed);
     drop_empty(nodes);
 }
 
-/// A rectangle that holds what the nodes hold; none where they hold nothing.
+/// The least rectangle that holds what the nodes hold; none where there is no node.
 pub(crate) fn reach_of_nodes(nodes: &[Node]) -> Option<Rect>
+    requires { AreFilled nodes.now }
     ensures { IsReach result (all_items nodes.now) }
 {
     let mut reach = None;
