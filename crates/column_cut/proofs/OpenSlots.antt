@@ -101,10 +101,10 @@ open_point l r o u apart area_o area_u rising falling lower = (p, (in_left, (in_
         holds h.op (value_at h p) area (subst (λ z. pos 0 <ℤ z) (sym at) f)
 
     in_left : Holds (x_over l) p
-    in_left = holds_by (x_over l) ((pos 2 *ℤ d) *ℤ (r -ℤ l)) over_is_area (right_base l r d y) (product_over (pos 2 *ℤ d) (r -ℤ l) twice (gap l r apart))
+    in_left = holds_by (x_over l) ((pos 2 *ℤ d) *ℤ (r -ℤ l)) over_is_area (right_base l r d y) (product_over (pos 2 *ℤ d) (r -ℤ l) twice (difference_over l r apart))
 
     in_right : Holds (x_under r) p
-    in_right = holds_by (x_under r) ((pos 2 *ℤ d) *ℤ (r -ℤ l)) over_is_area (left_base l r d y) (product_over (pos 2 *ℤ d) (r -ℤ l) twice (gap l r apart))
+    in_right = holds_by (x_under r) ((pos 2 *ℤ d) *ℤ (r -ℤ l)) over_is_area (left_base l r d y) (product_over (pos 2 *ℤ d) (r -ℤ l) twice (difference_over l r apart))
 
     in_over : Holds o p
     in_over = holds_by o (o.b *ℤ height) area_o (between (o.a *ℤ (m *ℤ (pos 2 *ℤ d))) (o.b *ℤ y) (o.c *ℤ (pos 4 *ℤ d)) ∙ ap (λ s. s +ℤ o.b *ℤ y) (at_base o.a m d o.c) ∙ over_base below above o.b k)
