@@ -3,5 +3,8 @@ pub mod Finding
 pub mod Marked
 pub mod Members
 pub mod Nodes
+pub mod Parts
 pub mod Reaches
 pub mod Snugs
+pub mod Squares
+pub mod Stays

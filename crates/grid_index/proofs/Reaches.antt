@@ -78,7 +78,7 @@ pub reach_kept : (o : Option Rectangle) (r s : Rectangle) (ps : List Placed) →
 reach_kept None r s ps e none = (none_within s ps none, inl none)
 reach_kept (Some q) r s ps e h = subst (λ t. AreWithin t ps × ((ps ≡ []) ⊎ IsSnug t ps)) (sym e) (h.0, inr h.1)
 
-one_within : (p : Placed) → AreWithin p.rect (p ∷ [])
+pub one_within : (p : Placed) → AreWithin p.rect (p ∷ [])
 one_within p q h = elim (among (p ∷ []) q h) [ inl e ↦ subst (λ (o : Placed). IsWithin o.rect p.rect) (sym e) (within_self p.rect) | inr k ↦ absurd k ]
 
 pub reach_placed : (o u : Option Rectangle) (ps : List Placed) (i : ℕ) (p : Placed) → i < length ps → p ≡ get_or ps i p → u ≡ reach_with o p.rect

@@ -2,3 +2,4 @@ pub mod Middles
 pub mod Near
 pub mod Nodes
 pub mod Relations
+pub mod Squares

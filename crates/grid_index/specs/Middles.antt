@@ -3,10 +3,7 @@
 -- middle_of r       twice the middle of r, from the western and the southern edge of the grid
 -- apart a b         the digits in which a and b differ, along either axis: 1 in each of those places
 -- spread m ps       the digits in which the middles of ps differ from m
--- is_beside k a b   the test whether a and b agree in all digits from k on: they lie in one square, of a side of 2 to the power k
--- is_round k a b    the test whether they agree in all digits above k: they lie in one square of twice that side
--- IsCrowded ps a b  ps are 32 or more, and a and b differ
-use Rattle.std.specs.Prelude.{◌≢◌, ℕ, ◌+◌, ◌/◌, ◌^◌, ◌≤◌, negsuc, ◌-ℤ◌, unsigned_abs, Bool, List, length, bit_or, bit_xor, nat_eq, nat_le}
+use Rattle.std.specs.Prelude.{ℕ, ◌+◌, negsuc, ◌-ℤ◌, unsigned_abs, List, bit_or, bit_xor}
 use Rattle.std.specs.List.{fold}
 use Rattle.plane_terms.specs.Rectangle.{Rectangle}
 use Rattle.grid_index.specs.declared.placed.Placed.{Placed}
@@ -23,12 +20,3 @@ apart a b = bit_or (bit_xor a.x b.x) (bit_xor a.y b.y)
 
 abbrev pub spread : Middle → List Placed → ℕ
 spread m ps = fold (λ n p. bit_or n (apart m (middle_of p.rect))) 0 ps
-
-abbrev pub is_beside : ℕ → Middle → Middle → Bool
-is_beside k a b = nat_eq (apart a b / 2 ^ k) 0
-
-abbrev pub is_round : ℕ → Middle → Middle → Bool
-is_round k a b = nat_le (apart a b / 2 ^ k) 1
-
-abbrev pub IsCrowded : List Placed → Middle → Middle → Type 0
-IsCrowded ps a b = (32 ≤ length ps) × (apart a b ≢ 0)

@@ -1,7 +1,7 @@
 -- What is seen of a node of the tree, and how far the rectangles under it reach.
 --
--- NodeView          the reach of its rectangles, the middle of the first one, what it holds, how many nodes stand on the longest
---                   way down from it
+-- NodeView          the reach of its rectangles, a middle that tells its square, the digit by which its quarters are told apart, what
+--                   it holds, how many nodes stand on the longest way down from it
 -- all_items ns      what the nodes hold
 -- AreFilled ns      each of the nodes holds something
 -- AreWithin r ps    r holds each rectangle of ps
@@ -22,6 +22,7 @@ use denote.Param.Weighed.{most}
 pub record NodeView : Type 0 where
   pub reach : Rectangle
   pub middle : Middle
+  pub digit : ℕ
   pub items : List Placed
   pub height : ℕ
 

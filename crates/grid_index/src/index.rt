@@ -31,13 +31,14 @@ pub struct Index {
 impl Model for Index {
     ghost use Rattle.std.specs.Prelude.{List};
     ghost use Rattle.grid_index.specs.declared.placed.Placed.{Placed};
-    ghost use Rattle.grid_index.specs.Nodes.{all_items, AreFilled};
+    ghost use Rattle.grid_index.specs.Nodes.{all_items};
+    ghost use Rattle.grid_index.specs.Squares.{AreParts};
 
     ghost Value = { List Placed };
 
     ghost view = { λ x. all_items x.nodes.items };
 
-    ghost invariant = { λ x. AreFilled x.nodes.items };
+    ghost invariant = { λ x. AreParts 25 x.nodes.items };
 }
 
 impl Index {

@@ -1,5 +1,6 @@
-ghost use Rattle.std.specs.Prelude.{◌≡◌, ◌<◌, ◌↔◌, IsTrue};
-ghost use Rattle.grid_index.specs.Middles.{middle_of, apart, spread, is_beside, is_round};
+ghost use Rattle.std.specs.Prelude.{◌≡◌, ◌<◌, ◌+◌};
+ghost use Rattle.grid_index.specs.Middles.{middle_of, apart, spread};
+ghost use Rattle.grid_index.specs.Squares.{same_square, IsOnGrid};
 
 use crate::placed::Placed;
 use grid_plane::Rect;
@@ -16,7 +17,8 @@ pub(crate) struct Middle {
 
 impl Middle {
     pub(crate) fn of(r: &Rect) -> Middle
-        ensures { result ≡ middle_of r.now }
+        ensures value { result ≡ middle_of r.now }
+        ensures on_grid { IsOnGrid result }
     {
         Middle {
             x: r.x0().abs_diff(EDGE) + r.x1().abs_diff(EDGE),
@@ -34,7 +36,7 @@ impl Middle {
     /// Whether both lie in one square whose side, doubled like them, is 2 to the power `digit`.
     pub(crate) fn is_beside(&self, other: &Middle, digit: u32) -> bool
         requires { digit < 32 }
-        ensures { result ≡ is_beside digit self.now other.now }
+        ensures { result ≡ same_square digit self.now other.now }
     {
         self.apart(other) >> digit == 0
     }
@@ -42,7 +44,7 @@ impl Middle {
     /// Whether both lie in one square of twice that side.
     pub(crate) fn is_round(&self, other: &Middle, digit: u32) -> bool
         requires { digit < 32 }
-        ensures { result ≡ is_round digit self.now other.now }
+        ensures { result ≡ same_square (digit + 1) self.now other.now }
     {
         self.apart(other) >> digit <= 1
     }

@@ -1,9 +1,10 @@
-ghost use Rattle.std.specs.Prelude.{◌≡◌, ◌≢◌, ◌<◌, ◌∷◌, ◌++◌, ◌⊎◌, [], IsTrue, ◌↔◌, Contains, IfOk, OnOk, OnErr};
+ghost use Rattle.std.specs.Prelude.{◌≡◌, ◌≢◌, ◌<◌, ◌+◌, ◌∷◌, ◌++◌, ◌⊎◌, [], ℕ, true, false, IsTrue, ◌↔◌, Contains, IfSome, IfNone, IfOk, OnOk, OnErr};
 ghost use Rattle.std.specs.List.{list_any};
 ghost use Rattle.grid_index.specs.Near.{HoldsSame, Gains, Loses, AddsHandles, AddsRects};
-ghost use Rattle.grid_index.specs.Middles.{middle_of, IsCrowded};
+ghost use Rattle.grid_index.specs.Middles.{middle_of};
 ghost use Rattle.grid_index.specs.Nodes.{AreFilled, AreWithin, IsSnug, all_items};
 ghost use Rattle.grid_index.specs.Relations.{is_found};
+ghost use Rattle.grid_index.specs.Squares.{same_square, IsOnGrid, MayTake, StaysPart, IsPart, IsLeft, IsSingle, IsTaken, IsBetween};
 
 use crate::middle::Middle;
 use crate::placed::{Placed, add_met, add_met_rects, any_found, drop_placed};
@@ -20,6 +21,9 @@ use std::mem;
 /// A node that holds so many rectangles itself is divided before it takes one that lies elsewhere.
 const FULL: usize = 32;
 
+/// A node that holds more rectangles itself holds only such with one middle.
+const MOST: usize = 64;
+
 /// A node of the tree: rectangles whose middles lie in one square, and whose reach holds them all and no more than they need. It
 /// holds them itself, or by the quarters of the square. What a question finds rests on the reaches alone; where a rectangle is
 /// put makes it quick.
@@ -27,7 +31,7 @@ const FULL: usize = 32;
 pub(crate) struct Node {
     // Left as it was where the last rectangle is taken out: the node is then let go.
     reach: Rect,
-    // Of the first rectangle.
+    // Of one of the rectangles that it holds or held: it tells the square.
     middle: Middle,
     // By which the quarters are told apart: the square's side, doubled like the middles, is 2 to the power `digit + 1`.
     digit: u32,
@@ -38,25 +42,34 @@ pub(crate) struct Node {
 impl Model for Node {
     ghost use Rattle.std.specs.Prelude.{◌≡◌, ◌++◌, ◌<◌, ◌⊎◌, []};
     ghost use Rattle.std.proofs.Common.{arith};
-    ghost use Rattle.grid_index.specs.Nodes.{NodeView, all_items, height_over, AreFilled, AreWithin, IsSnug};
+    ghost use Rattle.grid_index.specs.Nodes.{NodeView, all_items, height_over, AreWithin, IsSnug};
+    ghost use Rattle.grid_index.specs.Squares.{IsDivided};
 
     ghost Value = { NodeView };
 
-    ghost view = { λ n. record { reach = n.reach; middle = n.middle; items = n.placed.items ++ all_items n.quarters.items; height = height_over n.quarters.items } };
+    ghost view = { λ n. record { reach = n.reach; middle = n.middle; digit = n.digit; items = n.placed.items ++ all_items n.quarters.items; height = height_over n.quarters.items } };
 
     ghost invariant = { λ n. let items = n.placed.items ++ all_items n.quarters.items in
-        AreWithin n.reach items × ((items ≡ []) ⊎ IsSnug n.reach items) × (n.digit < 32) × AreFilled n.quarters.items };
+        AreWithin n.reach items × ((items ≡ []) ⊎ IsSnug n.reach items) × (n.digit < 32) × IsDivided n.middle n.digit n.placed.items n.quarters.items };
 
     ghost size = { λ v. v.height };
 
     ghost size_decreases = { λ a h. Prim.omega arith };
 }
 
-// Whether a node with these rectangles is to be divided for one more.
-fn is_crowded(list: &[Placed], first: &Middle, middle: &Middle) -> bool
-    ensures { IsTrue result ↔ IsCrowded list.now first.now middle.now }
+// The digit by which a node with these rectangles, whose square the first middle tells, is divided for one more with this middle;
+// none where it takes that one itself.
+fn digit_between(list: &[Placed], first: &Middle, middle: &Middle) -> Option<u32>
+    ensures none { IfNone result (IsTaken list.now first.now middle.now) }
+    ensures some { IfSome result (λ d. (d < 32) × IsBetween d middle.now list.now) }
 {
-    list.len() >= FULL && first.apart(middle) != 0
+    if list.len() < FULL {
+        return None;
+    }
+    if list.len() > MOST && first.apart(middle) == 0 {
+        return None;
+    }
+    middle.spread(list).checked_ilog2()
 }
 
 // The reach of what is left when a rectangle is gone. One that did not touch a side of the reach leaves it as it is.
@@ -77,7 +90,7 @@ fn reach_left(reach: &Rect, gone: &Placed, placed: &[Placed], quarters: &[Node])
 impl Node {
     /// Holds one rectangle.
     pub(crate) fn of(alloc: Global, placed: &Placed) -> Result<Node, NoMemory>
-        ensures { IfOk result (λ n. n.items ≡ placed.now ∷ []) }
+        ensures { IfOk result (IsSingle placed.now) }
     {
         let mut list = Vec::new(alloc);
         list.push(*placed)?;
@@ -111,28 +124,43 @@ impl Node {
         self.placed.is_empty() && self.quarters.is_empty()
     }
 
-    /// Puts a rectangle into the node itself.
-    pub(crate) fn push(&mut self, placed: &Placed) -> Result<(), NoMemory>
-        requires { self.old.items ≢ [] }
-        ensures ok { OnOk result (Gains self.old.items self.new.items placed.now) }
-        ensures err { OnErr result (HoldsSame self.old.items self.new.items) }
+    /// Puts a rectangle with this middle into the node itself; its middle tells the square from then on.
+    pub(crate) fn push(&mut self, placed: &Placed, middle: &Middle) -> Result<(), NoMemory>
+        requires leaf { self.old.height ≡ 0 }
+        requires filled { self.old.items ≢ [] }
+        ensures items { OnOk result (self.new.items ≡ self.old.items ++ placed.now ∷ []) }
+        ensures middle { OnOk result (self.new.middle ≡ middle.now) }
+        ensures leaf { OnOk result (self.new.height ≡ 0) }
+        ensures err { OnErr result (self.new ≡ self.old) }
     {
         self.placed.push(*placed)?;
         self.reach = self.reach.join(&placed.rect);
+        self.middle = *middle;
         Ok(())
     }
 
     // Divides a node without quarters, and puts one more into its quarter.
-    fn divide(&mut self, alloc: Global, placed: &Placed, digit: u32) -> Result<(), NoMemory>
+    fn divide(
+        &mut self,
+        alloc: Global,
+        placed: &Placed,
+        middle: &Middle,
+        digit: u32,
+    ) -> Result<(), NoMemory>
         requires digit { digit < 32 }
-        requires whole { self.old.height ≡ 0 }
-        requires filled { self.old.items ≢ [] }
+        requires middle { middle.now ≡ middle_of placed.now.rect }
+        requires on_grid { IsOnGrid middle.now }
+        requires leaf { self.old.height ≡ 0 }
+        requires part { MayTake self.old middle.now }
+        requires between { IsBetween digit middle.now self.old.items }
         ensures ok { OnOk result (Gains self.old.items self.new.items placed.now) }
-        ensures err { OnErr result (HoldsSame self.old.items self.new.items) }
+        ensures err { OnErr result (self.new ≡ self.old) }
+        ensures part { StaysPart self.old self.new middle.now }
     {
         let mut quarters = divided(alloc, &self.placed, digit)?;
         push_in(alloc, &mut quarters, placed, digit)?;
         self.reach = self.reach.join(&placed.rect);
+        self.middle = *middle;
         self.digit = digit;
         self.placed = Vec::new(alloc);
         self.quarters = quarters;
@@ -141,26 +169,38 @@ impl Node {
 
     // Puts a rectangle into a node without quarters.
     fn put_whole(&mut self, alloc: Global, placed: &Placed, middle: &Middle) -> Result<(), NoMemory>
-        requires whole { self.old.height ≡ 0 }
-        requires filled { self.old.items ≢ [] }
+        requires middle { middle.now ≡ middle_of placed.now.rect }
+        requires on_grid { IsOnGrid middle.now }
+        requires leaf { self.old.height ≡ 0 }
+        requires part { MayTake self.old middle.now }
         ensures ok { OnOk result (Gains self.old.items self.new.items placed.now) }
-        ensures err { OnErr result (HoldsSame self.old.items self.new.items) }
+        ensures err { OnErr result (self.new ≡ self.old) }
+        ensures part { StaysPart self.old self.new middle.now }
     {
-        if !is_crowded(&self.placed, &self.middle, middle) {
-            return self.push(placed);
-        }
-        match middle.spread(&self.placed).checked_ilog2() {
-            Some(digit) => self.divide(alloc, placed, digit),
-            None => self.push(placed),
+        match digit_between(&self.placed, &self.middle, middle) {
+            Some(digit) => self.divide(alloc, placed, middle, digit),
+            None => self.push(placed, middle),
         }
     }
 
     // Puts a rectangle in that lies outside of the square: the node becomes one of the quarters of a larger square.
-    fn put_outside(&mut self, alloc: Global, placed: &Placed, digit: u32) -> Result<(), NoMemory>
+    fn put_outside(
+        &mut self,
+        alloc: Global,
+        placed: &Placed,
+        middle: &Middle,
+        digit: u32,
+    ) -> Result<(), NoMemory>
         requires digit { digit < 32 }
-        requires filled { self.old.items ≢ [] }
+        requires middle { middle.now ≡ middle_of placed.now.rect }
+        requires divided { self.old.height ≢ 0 }
+        requires part { MayTake self.old middle.now }
+        requires outside { same_square (self.old.digit + 1) self.old.middle middle.now ≡ false }
+        requires apart { same_square digit self.old.middle middle.now ≡ false }
+        requires around { same_square (digit + 1) self.old.middle middle.now ≡ true }
         ensures ok { OnOk result (Gains self.old.items self.new.items placed.now) }
-        ensures err { OnErr result (HoldsSame self.old.items self.new.items) }
+        ensures err { OnErr result (self.new ≡ self.old) }
+        ensures part { StaysPart self.old self.new middle.now }
     {
         let mut quarters = Vec::with_capacity(alloc, 4)?;
         quarters.push(Node::of(alloc, placed)?)?;
@@ -186,16 +226,19 @@ impl Node {
         placed: &Placed,
         middle: &Middle,
     ) -> Result<(), NoMemory>
-        requires { self.old.items ≢ [] }
+        requires middle { middle.now ≡ middle_of placed.now.rect }
+        requires on_grid { IsOnGrid middle.now }
+        requires part { MayTake self.old middle.now }
         ensures ok { OnOk result (Gains self.old.items self.new.items placed.now) }
         ensures err { OnErr result (HoldsSame self.old.items self.new.items) }
+        ensures part { StaysPart self.old self.new middle.now }
     {
         if self.quarters.is_empty() {
             return self.put_whole(alloc, placed, middle);
         }
         if !self.middle.is_round(middle, self.digit) {
             let digit = self.middle.apart(middle).ilog2();
-            return self.put_outside(alloc, placed, digit);
+            return self.put_outside(alloc, placed, middle, digit);
         }
         put_in(alloc, &mut self.quarters, placed, middle, self.digit)?;
         self.reach = self.reach.join(&placed.rect);
@@ -205,7 +248,9 @@ impl Node {
     /// Takes a rectangle out, where it is here.
     #[cycle(take)]
     pub(crate) fn take(&mut self, placed: &Placed)
-        ensures { Loses self.old.items self.new.items placed.now }
+        ensures lost { Loses self.old.items self.new.items placed.now }
+        ensures middle { self.new.middle ≡ self.old.middle }
+        ensures part { (k : ℕ) → IsPart k self.old → IsLeft k self.new }
     {
         if self.reach.holds_rect(&placed.rect) {
             drop_placed(&mut self.placed, placed);

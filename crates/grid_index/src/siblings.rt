@@ -1,9 +1,12 @@
-ghost use Rattle.std.specs.Prelude.{◌≡◌, ◌<◌, true, length, slice_get, Contains, IfOk, OnOk, OnErr, IfSome, IsSomeAnd};
-ghost use Rattle.std.specs.List.{list_any};
+ghost use Rattle.std.specs.Prelude.{◌≡◌, ◌≢◌, ◌<◌, ◌+◌, ℕ, [], true, length, slice_get, Contains, IfOk, OnOk, OnErr, IfSome, IfNone, IsSomeAnd};
+ghost use Rattle.std.specs.List.{list_any, IsDistinct};
+ghost use Rattle.plane_terms.specs.Lists.{Every};
+ghost use Rattle.grid_index.specs.declared.middle.Middle.{Middle};
 ghost use Rattle.grid_index.specs.Near.{HoldsSame, Gains, Loses, AddsHandles, AddsRects};
-ghost use Rattle.grid_index.specs.Middles.{is_beside};
+ghost use Rattle.grid_index.specs.Middles.{middle_of};
 ghost use Rattle.grid_index.specs.Nodes.{all_items, AreFilled, IsReach};
 ghost use Rattle.grid_index.specs.Relations.{is_found};
+ghost use Rattle.grid_index.specs.Squares.{same_square, IsOnGrid, IsPart, AreParts, AreAround, AreOutside, AreGathered, MayTake, IsLeft, IsAdded, IsPushedAt, IsPutAt, StayAround, middles_of};
 
 use crate::middle::Middle;
 use crate::node::Node;
@@ -13,10 +16,11 @@ use crate::relation::Relation;
 use grid_plane::{NoMemory, Rect};
 use std::alloc::Global;
 
-// The place of a node whose square the middle lies in.
+// The place of the node whose square the middle lies in.
 fn place_of(nodes: &[Node], middle: &Middle, digit: u32) -> Option<usize>
     requires { digit < 32 }
-    ensures { IfSome result (λ i. IsSomeAnd (slice_get nodes.now i) (λ n. is_beside digit middle.now n.middle ≡ true)) }
+    ensures some { IfSome result (λ i. IsSomeAnd (slice_get nodes.now i) (λ n. same_square digit middle.now n.middle ≡ true)) }
+    ensures none { IfNone result (AreOutside digit middle.now nodes.now) }
 {
     nodes
         .iter()
@@ -25,27 +29,32 @@ fn place_of(nodes: &[Node], middle: &Middle, digit: u32) -> Option<usize>
 
 // Puts a rectangle into a node more.
 fn add_node(alloc: Global, nodes: &mut Vec<Node>, placed: &Placed) -> Result<(), NoMemory>
-    requires { AreFilled nodes.old.items }
     ensures ok { OnOk result (Gains (all_items nodes.old.items) (all_items nodes.new.items) placed.now) }
     ensures err { OnErr result (nodes.new.items ≡ nodes.old.items) }
-    ensures filled { AreFilled nodes.new.items }
+    ensures added { OnOk result (IsAdded nodes.old.items nodes.new.items placed.now) }
 {
     let node = Node::of(alloc, placed)?;
     nodes.push(node)?;
     Ok(())
 }
 
-fn push_at(nodes: &mut Vec<Node>, i: usize, placed: &Placed) -> Result<(), NoMemory>
-    requires i { i < length nodes.old.items }
-    requires filled { AreFilled nodes.old.items }
+// Puts a rectangle with this middle into the leaf at this place.
+fn push_at(
+    nodes: &mut Vec<Node>,
+    i: usize,
+    placed: &Placed,
+    middle: &Middle,
+) -> Result<(), NoMemory>
+    requires within { i < length nodes.old.items }
+    requires leaf { IsSomeAnd (slice_get nodes.old.items i) (λ n. (n.height ≡ 0) × (n.items ≢ [])) }
     ensures ok { OnOk result (Gains (all_items nodes.old.items) (all_items nodes.new.items) placed.now) }
     ensures err { OnErr result (HoldsSame (all_items nodes.old.items) (all_items nodes.new.items)) }
-    ensures filled { AreFilled nodes.new.items }
+    ensures pushed { OnOk result (IsPushedAt nodes.old.items i nodes.new.items placed.now middle.now) }
 {
-    nodes[i].push(placed)
+    nodes[i].push(placed, middle)
 }
 
-/// Puts a rectangle into the node of its square, itself.
+/// Puts a rectangle into the leaf of its square, itself.
 pub(crate) fn push_in(
     alloc: Global,
     nodes: &mut Vec<Node>,
@@ -53,22 +62,23 @@ pub(crate) fn push_in(
     digit: u32,
 ) -> Result<(), NoMemory>
     requires digit { digit < 32 }
-    requires filled { AreFilled nodes.old.items }
+    requires leaves { (c : ℕ) × AreGathered digit c nodes.old.items }
     ensures ok { OnOk result (Gains (all_items nodes.old.items) (all_items nodes.new.items) placed.now) }
     ensures err { OnErr result (HoldsSame (all_items nodes.old.items) (all_items nodes.new.items)) }
-    ensures filled { AreFilled nodes.new.items }
+    ensures leaves { OnOk result ((c : ℕ) → AreGathered digit c nodes.old.items → AreGathered digit (c + 1) nodes.new.items) }
 {
-    match place_of(nodes, &Middle::of(&placed.rect), digit) {
-        Some(i) => push_at(nodes, i, placed),
+    let middle = Middle::of(&placed.rect);
+    match place_of(nodes, &middle, digit) {
+        Some(i) => push_at(nodes, i, placed, &middle),
         None => add_node(alloc, nodes, placed),
     }
 }
 
-/// The rectangles of a list, in one node for each square.
+/// The rectangles of a list, in one leaf for each square.
 pub(crate) fn divided(alloc: Global, list: &[Placed], digit: u32) -> Result<Vec<Node>, NoMemory>
     requires { digit < 32 }
     ensures same { IfOk result (λ ns. HoldsSame list.now (all_items ns.items)) }
-    ensures filled { IfOk result (λ ns. AreFilled ns.items) }
+    ensures leaves { IfOk result (λ ns. AreGathered digit (length list.now) ns.items) }
 {
     let mut nodes = Vec::new(alloc);
     for placed in list {
@@ -85,11 +95,13 @@ fn put_at(
     placed: &Placed,
     middle: &Middle,
 ) -> Result<(), NoMemory>
-    requires i { i < length nodes.old.items }
-    requires filled { AreFilled nodes.old.items }
+    requires within { i < length nodes.old.items }
+    requires middle { middle.now ≡ middle_of placed.now.rect }
+    requires on_grid { IsOnGrid middle.now }
+    requires part { IsSomeAnd (slice_get nodes.old.items i) (λ n. MayTake n middle.now) }
     ensures ok { OnOk result (Gains (all_items nodes.old.items) (all_items nodes.new.items) placed.now) }
     ensures err { OnErr result (HoldsSame (all_items nodes.old.items) (all_items nodes.new.items)) }
-    ensures filled { AreFilled nodes.new.items }
+    ensures part { IsPutAt nodes.old.items i nodes.new.items middle.now }
 {
     nodes[i].put(alloc, placed, middle)
 }
@@ -104,10 +116,13 @@ pub(crate) fn put_in(
     digit: u32,
 ) -> Result<(), NoMemory>
     requires digit { digit < 32 }
-    requires filled { AreFilled nodes.old.items }
+    requires middle { middle.now ≡ middle_of placed.now.rect }
+    requires on_grid { IsOnGrid middle.now }
+    requires parts { AreParts digit nodes.old.items }
     ensures ok { OnOk result (Gains (all_items nodes.old.items) (all_items nodes.new.items) placed.now) }
     ensures err { OnErr result (HoldsSame (all_items nodes.old.items) (all_items nodes.new.items)) }
-    ensures filled { AreFilled nodes.new.items }
+    ensures parts { AreParts digit nodes.new.items }
+    ensures around { StayAround (digit + 1) nodes.old.items nodes.new.items middle.now }
 {
     match place_of(nodes, middle, digit) {
         Some(i) => put_at(alloc, nodes, i, placed, middle),
@@ -117,7 +132,9 @@ pub(crate) fn put_in(
 
 #[cycle(take)]
 fn take_from_each(nodes: &mut [Node], placed: &Placed)
-    ensures { Loses (all_items nodes.old) (all_items nodes.new) placed.now }
+    ensures lost { Loses (all_items nodes.old) (all_items nodes.new) placed.now }
+    ensures middles { middles_of nodes.new ≡ middles_of nodes.old }
+    ensures left { (k : ℕ) → Every (IsPart k) nodes.old → Every (IsLeft k) nodes.new }
 {
     for node in nodes {
         node.take(placed);
@@ -127,7 +144,8 @@ fn take_from_each(nodes: &mut [Node], placed: &Placed)
 // Lets the nodes go that hold nothing.
 fn drop_empty(nodes: &mut Vec<Node>)
     ensures same { all_items nodes.new.items ≡ all_items nodes.old.items }
-    ensures filled { AreFilled nodes.new.items }
+    ensures parts { (k : ℕ) → Every (IsLeft k) nodes.old.items → IsDistinct (same_square k) (middles_of nodes.old.items) → AreParts k nodes.new.items }
+    ensures around { (k : ℕ) → (m : Middle) → AreAround k m nodes.old.items → AreAround k m nodes.new.items }
 {
     nodes.retain(|n| !n.is_empty());
 }
@@ -136,7 +154,8 @@ fn drop_empty(nodes: &mut Vec<Node>)
 #[cycle(take)]
 pub(crate) fn take_from(nodes: &mut Vec<Node>, placed: &Placed)
     ensures lost { Loses (all_items nodes.old.items) (all_items nodes.new.items) placed.now }
-    ensures filled { AreFilled nodes.new.items }
+    ensures parts { (k : ℕ) → AreParts k nodes.old.items → AreParts k nodes.new.items }
+    ensures around { (k : ℕ) → (m : Middle) → AreAround k m nodes.old.items → AreAround k m nodes.new.items }
 {
     take_from_each(nodes, placed);
     drop_empty(nodes);

@@ -1,43 +1,31 @@
-use Rattle.std.proofs.Common.{◌≡◌, List, ◌∷◌, ◌≢◌, [], ◌++◌, sym, ap, subst}
-use Rattle.grid_index.specs.declared.placed.Placed.{Placed}
-use Rattle.grid_index.specs.Near.{HoldsSame, Gains}
+use Rattle.std.proofs.Common.{[], ◌≡◌, ◌≢◌, subst, ◌∷◌, ◌++◌, ap, ◌∙◌, sym}
+use Rattle.std.proofs.lemmas.List.{append-nil}
+use Rattle.grid_index.specs.Near.{Gains}
 use Rattle.grid_index.specs.Nodes.{NodeView, all_items}
-use Rattle.grid_index.proofs.Members.{gained, same_held}
-use Rattle.grid_index.proofs.Nodes.{gained_left, on_err}
-use Rattle.grid_index.proofs.Reaches.{all_same, reach_gained}
-use Rattle.grid_index.proofs.Snugs.{snug_same}
+use Rattle.grid_index.proofs.Members.{gained}
+use Rattle.grid_index.proofs.Nodes.{gained_left, none_below}
+use Rattle.grid_index.proofs.Reaches.{reach_gained}
+use Rattle.grid_index.proofs.Parts.{none_divided}
 use Rattle.grid_index.proofs.node.Node.push.Goals as goal
 
-same : (c : goal.After-from_residual) → HoldsSame (c.self.inside.placed.items ++ all_items c.self.inside.quarters.items)
-    (c.push.new.self.items ++ all_items c.self.inside.quarters.items)
-same c = same_held _ _ (ap (λ ps. ps ++ all_items c.self.inside.quarters.items) c.in_err-push.ensures.items)
+none : (c : goal.After-self-3-1) → c.self.inside.quarters.items ≡ []
+none c = none_below c.self.inside.quarters.items (ap (λ (n : NodeView). n.height) c.self.view_is ∙ c.requires.leaf)
 
-more : (ps qs ss : List Placed) (p : Placed) → qs ≡ ps ++ p ∷ [] → Gains (ps ++ ss) (qs ++ ss) p
-more ps qs ss p e = gained_left ps qs ss p (gained ps qs p e)
-
-pub invariant_of-self : goal.invariant_of-self
-invariant_of-self c =
-    let old = c.self.inside.placed.items ++ all_items c.self.inside.quarters.items in
-    let new = c.push.new.self.items ++ all_items c.self.inside.quarters.items in (
-      all_same c.self.inside.reach old new c.self.invariant.0 (same c),
-      snug_same c.self.inside.reach old new (same c) c.self.invariant.1,
-      c.self.invariant.2,
-      c.self.invariant.3,
-    )
-
-pub returns-in_err-push-clause-err : goal.returns-in_err-push-clause-err
-returns-in_err-push-clause-err c = on_err c.from_residual.result _
-    (subst (λ (n : NodeView). HoldsSame n.items (c.push.new.self.items ++ all_items c.self.inside.quarters.items)) c.self.view_is (same c))
+more : (c : goal.After-self-3-1) → Gains (c.self.inside.placed.items ++ all_items c.self.inside.quarters.items)
+    (c.push.new.self.items ++ all_items c.self.inside.quarters.items) c.args.placed.now
+more c = gained_left c.self.inside.placed.items c.push.new.self.items (all_items c.self.inside.quarters.items) c.args.placed.now
+    (gained c.self.inside.placed.items c.push.new.self.items c.args.placed.now c.in_ok-push.ensures.items)
 
 pub invariant_of-self-2 : goal.invariant_of-self-2
 invariant_of-self-2 c =
     let reach = reach_gained c.self.inside.reach c.join-self-inside.result (c.self.inside.placed.items ++ all_items c.self.inside.quarters.items)
     (c.push.new.self.items ++ all_items c.self.inside.quarters.items) c.args.placed.now c.join-self-inside.ensures.value c.self.invariant.0
-    c.self.invariant.1 (subst (λ (n : NodeView). n.items ≢ []) (sym c.self.view_is) c.requires)
-    (more c.self.inside.placed.items c.push.new.self.items (all_items c.self.inside.quarters.items) c.args.placed.now c.in_ok-push.ensures.items) in
-    (reach.0, reach.1, c.self.invariant.2, c.self.invariant.3)
+    c.self.invariant.1 (subst (λ (n : NodeView). n.items ≢ []) (sym c.self.view_is) c.requires.filled) (more c) in
+    (reach.0, reach.1, c.self.invariant.2, none_divided c.args.middle.now c.self.inside.digit c.push.new.self.items c.self.inside.quarters.items (none c))
 
-pub returns-clause-ok : goal.returns-clause-ok
-returns-clause-ok c = subst (λ (n : NodeView). Gains n.items (c.push.new.self.items ++ all_items c.self.inside.quarters.items) c.args.placed.now)
-    c.self.view_is
-    (more c.self.inside.placed.items c.push.new.self.items (all_items c.self.inside.quarters.items) c.args.placed.now c.in_ok-push.ensures.items)
+pub returns-clause-items : goal.returns-clause-items
+returns-clause-items c =
+    let old : c.self.inside.placed.items ++ all_items c.self.inside.quarters.items ≡ c.args.self.now.items = ap (λ (n : NodeView). n.items) c.self.view_is in
+    ap (λ ns. c.push.new.self.items ++ all_items ns) (none c) ∙ (append-nil c.push.new.self.items ∙ (c.in_ok-push.ensures.items
+    ∙ ap (λ ps. ps ++ c.args.placed.now ∷ []) (sym (append-nil c.self.inside.placed.items)
+    ∙ (ap (λ ns. c.self.inside.placed.items ++ all_items ns) (sym (none c)) ∙ old))))
