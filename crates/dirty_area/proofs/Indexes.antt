@@ -3,7 +3,7 @@ use Rattle.std.proofs.Common.{◌≡◌, ◌≢◌, ◌⊎◌, inl, inr, refl, s
 use Rattle.std.specs.Prelude.{◌↔◌, IfSome, IfOk}
 use Rattle.std.specs.Result.{result_ok}
 use Rattle.std.specs.List.{list_any, filter}
-use Rattle.std.proofs.lemmas.Bool.{and_parts, and_from, or_cases, not_from_false, false≢true}
+use Rattle.std.proofs.lemmas.Bool.{and_parts, and_from, or_cases, not-true, not_from_false, false≢true}
 use Rattle.std.proofs.lemmas.Int.{ints}
 use Rattle.std.proofs.lemmas.List.{take_more, get_or-set_same, get_or-set_other}
 use Rattle.std.proofs.lemmas.List.Elements.{Contains-append_left, Contains-append_right, Contains-append_cases, Contains-push, Contains-push_cases}
@@ -12,12 +12,14 @@ use Rattle.plane_terms.specs.Lists.{Every}
 use Rattle.plane_terms.specs.Rectangle.{Rectangle, IsProper, IsRectangle, is_within, rects_meet}
 use Rattle.plane_terms.proofs.ListLemmas.{every_among, contains_among}
 use Rattle.plane_terms.proofs.Truths.{same_by_truth}
+use Rattle.sound_laws.proofs.Edits.{same_or_not}
 use Rattle.sound_laws.proofs.Planes.{within_from_test}
 use Rattle.grid_index.specs.declared.placed.Placed.{Placed}
 use Rattle.grid_index.specs.declared.relation.Relation.{Relation}
 use Rattle.grid_index.specs.declared.relation.Relation.TheVariants.{Meets, Holds, IsNested}
 use Rattle.grid_index.specs.Near.{Gains, Loses, IsNear, IsNearRect}
 use Rattle.grid_index.specs.Relations.{stands, is_found}
+use Rattle.grid_index.proofs.Adding.{contains_none}
 use Rattle.grid_index.proofs.Members.{among, filtered_from, filtered_to}
 use Rattle.dirty_area.specs.Blocks.{joined}
 use Rattle.dirty_area.specs.Indexed.{IsIndexed, IsAt, GainsSome, LosesSome, MeetsAt, placed_at, is_same}
@@ -31,9 +33,6 @@ pub ok_in_some : {A E : Type 0} (P : A → Type 0) (o : Result A E) (u : Option 
 ok_in_some P (Ok x) u e h = subst (λ v. IfSome v P) (sym e) h
 ok_in_some P (Err x) u e h = subst (λ v. IfSome v P) (sym e) tt
 
-pub some_one : {A : Type 0} (x y : A) → Some x ≡ Some y → x ≡ y
-some_one x y e = cc
-
 -- one that another is made from
 pub through : (o u : Option (List Placed)) (P : List Placed → Type 0) (R : List Placed → List Placed → Type 0) (Q : List Placed → Type 0)
     → ((ps qs : List Placed) → P ps → R ps qs → Q qs) → ((ps : List Placed) → o ≡ Some ps → IfSome u (R ps)) → (o ≡ None → u ≡ None)
@@ -43,32 +42,21 @@ through (Some ps) None P R Q step some none h = tt
 through None (Some qs) P R Q step some none h = absurd (let e = none refl in cc)
 through None None P R Q step some none h = tt
 
-pub from_not_true : (b : Bool) → not b ≡ true → b ≡ false
-from_not_true false e = refl
-from_not_true true e = absurd cc
-
-pub from_not_false : (b : Bool) → not b ≡ false → b ≡ true
-from_not_false false e = absurd cc
-from_not_false true e = refl
-
 -- ---- lists one after another
-pub none_in : {A : Type 0} (x : A) → Contains [] x → ⊥
-none_in x h = absurd (omega (arith, h.1))
-
 pub at_joined : (xss : List (List Rectangle)) (k : ℕ) (s : Rectangle) → Contains (get_or xss k []) s → Contains (joined xss) s
-at_joined [] k s h = absurd (none_in s h)
+at_joined [] k s h = absurd (contains_none s h)
 at_joined (xs ∷ xss) zero s h = Contains-append_left xs (joined xss) s h
 at_joined (xs ∷ xss) (suc k) s h = Contains-append_right xs (joined xss) s (at_joined xss k s h)
 
 pub joined_at : (xss : List (List Rectangle)) (s : Rectangle) → Contains (joined xss) s → (k : ℕ) × Contains (get_or xss k []) s
-joined_at [] s h = absurd (none_in s h)
+joined_at [] s h = absurd (contains_none s h)
 joined_at (xs ∷ xss) s h = elim (Contains-append_cases xs (joined xss) s h) [
   | inl m ↦ (0, m)
   | inr m ↦ let k = joined_at xss s m in (suc k.0, k.1)
 ]
 
 pub within_length : {A : Type 0} (xss : List (List A)) (k : ℕ) (s : A) → Contains (get_or xss k []) s → k < length xss
-within_length [] k s h = absurd (none_in s h)
+within_length [] k s h = absurd (contains_none s h)
 within_length (xs ∷ xss) zero s h = omega arith
 within_length (xs ∷ xss) (suc k) s h = let l = within_length xss k s h in omega (arith, l)
 
@@ -147,10 +135,10 @@ same_placed k r q e z =
     same
 
 pub gained_none : (k : ℕ) (f : Rectangle → Bool) (ps : List Placed) → GainsSome k [] f ps ps
-gained_none k f ps q = ((λ h. inl h), (λ h. elim h [ inl m ↦ m | inr m ↦ absurd (none_in q.rect m.0.1) ]))
+gained_none k f ps q = ((λ h. inl h), (λ h. elim h [ inl m ↦ m | inr m ↦ absurd (contains_none q.rect m.0.1) ]))
 
 pub lost_none : (k : ℕ) (f : Rectangle → Bool) (ps : List Placed) → LosesSome k [] f ps ps
-lost_none k f ps q = ((λ h. (h, λ m. none_in q.rect m.0.1)), (λ h. h.0))
+lost_none k f ps q = ((λ h. (h, λ m. contains_none q.rect m.0.1)), (λ h. h.0))
 
 gained_one : (k : ℕ) (xs : List Rectangle) (f : Rectangle → Bool) (r : Rectangle) (os ps qs : List Placed) → f r ≡ true
     → Gains ps qs (placed_at k r) → GainsSome k xs f os ps → GainsSome k (xs ++ r ∷ []) f os qs
@@ -252,17 +240,11 @@ lost_next k xs f i r os ps qs l is passing other before =
     at false e = subst (λ o. LosesSome k (take i xs ++ r ∷ []) f os o) (sym (other e)) (lost_other k (take i xs) f r os ps e before)
 
 -- ---- one block
-pub place_cases : (i k : ℕ) → (i ≡ k) ⊎ (i ≢ k)
-place_cases zero zero = inl refl
-place_cases zero (suc k) = inr (λ e. absurd cc)
-place_cases (suc i) zero = inr (λ e. absurd cc)
-place_cases (suc i) (suc k) = elim (place_cases i k) [ inl e ↦ inl (ap suc e) | inr n ↦ inr (λ e. n (omega (arith, e))) ]
-
 -- a list in place of another, where the index holds the same of it
 pub block_set : (xss : List (List Rectangle)) (k : ℕ) (ys : List Rectangle) (ps qs : List Placed) → k < length xss → IsIndexed xss ps
     → ((q : Placed) → q.handle ≢ k → Contains qs q ↔ Contains ps q) → ((q : Placed) → q.handle ≡ k → Contains qs q ↔ Contains ys q.rect)
     → IsIndexed (set xss k ys) qs
-block_set xss k ys ps qs l indexed others here q = elim (place_cases q.handle k) [
+block_set xss k ys ps qs l indexed others here q = elim (same_or_not q.handle k) [
   | inl e ↦
       let same : get_or (set xss k ys) q.handle [] ≡ ys = ap (λ i. get_or (set xss k ys) i []) e ∙ get_or-set_same xss k ys [] l in
       subst (λ zs. Contains qs q ↔ Contains zs q.rect) (sym same) (here q e)
@@ -323,7 +305,7 @@ some_dropped xss k xs f ps qs l is loses indexed = block_set xss k (filter (λ s
           let a = filtered_from (λ s. not (f s)) xs q.rect (among _ q.rect h) in
           (loses q).1 (
             (indexed q).1 (subst (λ zs. Contains zs q.rect) (sym (at q e)) (contains_among xs q.rect a.0)),
-            λ m. false≢true (sym (from_not_true (f q.rect) a.1) ∙ m.1),
+            λ m. false≢true (sym (not-true (f q.rect) a.1) ∙ m.1),
           )),
     )
 
@@ -389,7 +371,7 @@ block_traded xss k xs ys ps qs os l is loses gains indexed = block_set xss k ys 
         was false t = (gains q).1 (inr ((e, h), not_from_false (has_one xs q.rect) t))
         was true t = (gains q).1 (inl ((loses q).1 (
           (indexed q).1 (subst (λ zs. Contains zs q.rect) (sym (at q e)) (has_from xs q.rect t)),
-          λ m. false≢true (sym (from_not_true (has_one ys q.rect) m.1) ∙ has_to ys q.rect h),
+          λ m. false≢true (sym (not-true (has_one ys q.rect) m.1) ∙ has_to ys q.rect h),
         )))
 
     here : (q : Placed) → q.handle ≡ k → Contains os q ↔ Contains ys q.rect
@@ -398,8 +380,8 @@ block_traded xss k xs ys ps qs os l is loses gains indexed = block_set xss k ys 
 -- ---- a block more
 at_pushed : (xss : List (List Rectangle)) (ys : List Rectangle) (k : ℕ) (s : Rectangle) → Contains (get_or (xss ++ ys ∷ []) k []) s
     ↔ (Contains (get_or xss k []) s ⊎ ((k ≡ length xss) × Contains ys s))
-at_pushed [] ys zero s = ((λ h. inr (refl, h)), (λ h. elim h [ inl m ↦ absurd (none_in s m) | inr m ↦ m.1 ]))
-at_pushed [] ys (suc k) s = ((λ h. absurd (none_in s h)), (λ h. elim h [ inl m ↦ absurd (none_in s m) | inr m ↦ absurd (omega (arith, m.0)) ]))
+at_pushed [] ys zero s = ((λ h. inr (refl, h)), (λ h. elim h [ inl m ↦ absurd (contains_none s m) | inr m ↦ m.1 ]))
+at_pushed [] ys (suc k) s = ((λ h. absurd (contains_none s h)), (λ h. elim h [ inl m ↦ absurd (contains_none s m) | inr m ↦ absurd (omega (arith, m.0)) ]))
 at_pushed (xs ∷ xss) ys zero s = ((λ h. inl h), (λ h. elim h [ inl m ↦ m | inr m ↦ absurd (omega (arith, m.0)) ]))
 at_pushed (xs ∷ xss) ys (suc k) s =
     let i = at_pushed xss ys k s in (

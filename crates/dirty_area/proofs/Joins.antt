@@ -1,7 +1,8 @@
 -- The lists of blocks, one after another.
-use Rattle.std.proofs.Common.{◌≡◌, ◌⊎◌, inl, inr, refl, sym, ap, ◌∙◌, subst, ℕ, zero, suc, ◌+◌, ◌<◌, ◌≤◌, Bool, true, false, List, [], ◌∷◌, ◌++◌, Contains, take, drop, length, get_or, arith, append-nil}
+use Rattle.std.proofs.Common.{◌≡◌, inl, inr, refl, sym, ap, ◌∙◌, subst, ℕ, zero, suc, ◌+◌, ◌<◌, ◌≤◌, Bool, true, false, List, [], ◌∷◌, ◌++◌, Contains, take, drop, length, get_or, arith, append-nil}
 use Rattle.std.specs.Prelude.{◌↔◌}
 use Rattle.std.specs.List.{list_any, flat_map, All}
+use Rattle.std.proofs.Math.Nat.{eq-or-lt_of_le}
 use Rattle.std.proofs.lemmas.Bool.{or_left, or_right, false≢true}
 use Rattle.std.proofs.lemmas.List.{take_more, map-append, drop_more}
 use Rattle.std.proofs.lemmas.List.Concat.{flat_map-append}
@@ -80,12 +81,6 @@ none_near_at bs i b r l is e m =
 abbrev pub ArePlaces : List (List Rectangle) → Rectangle → ℕ → List ℕ → Type 0
 ArePlaces xss r i v = (k : ℕ) → Contains v k ↔ ((k < i) × MeetsAt xss r k)
 
-last_or_less : (k i : ℕ) → k < i + 1 → (k < i) ⊎ (k ≡ i)
-last_or_less zero zero l = inr refl
-last_or_less zero (suc i) l = inl (omega arith)
-last_or_less (suc k) zero l = absurd (omega (arith, l))
-last_or_less (suc k) (suc i) l = elim (last_or_less k i (omega (arith, l))) [ inl h ↦ inl (omega (arith, h)) | inr e ↦ inr (ap suc e) ]
-
 pub one_place : (xss : List (List Rectangle)) (r : Rectangle) (i : ℕ) (v : List ℕ) → MeetsAt xss r i → ArePlaces xss r i v
     → ArePlaces xss r (i + 1) (v ++ i ∷ [])
 one_place xss r i v m before k = (
@@ -93,9 +88,9 @@ one_place xss r i v m before k = (
     | inl o ↦ let a = (before k).0 o in (omega (arith, a.0), a.1)
     | inr e ↦ (omega (arith, e), subst (MeetsAt xss r) e m)
   ]),
-  (λ h. elim (last_or_less k i h.0) [
-    | inl l ↦ Contains-append_left v (i ∷ []) k ((before k).1 (l, h.1))
-    | inr e ↦ subst (λ j. Contains (v ++ i ∷ []) j) (sym e) (Contains-push v i)
+  (λ h. elim (eq-or-lt_of_le (omega (arith, h.0))) [
+    | inl e ↦ subst (λ j. Contains (v ++ i ∷ []) j) (sym e) (Contains-push v i)
+    | inr l ↦ Contains-append_left v (i ∷ []) k ((before k).1 (l, h.1))
   ]),
 )
 
@@ -103,9 +98,9 @@ pub no_place : (xss : List (List Rectangle)) (r : Rectangle) (i : ℕ) (v : List
     → ArePlaces xss r (i + 1) v
 no_place xss r i v n before k = (
   (λ h. let a = (before k).0 h in (omega (arith, a.0), a.1)),
-  (λ h. elim (last_or_less k i h.0) [
-    | inl l ↦ (before k).1 (l, h.1)
-    | inr e ↦ absurd (n (subst (MeetsAt xss r) e h.1))
+  (λ h. elim (eq-or-lt_of_le (omega (arith, h.0))) [
+    | inl e ↦ absurd (n (subst (MeetsAt xss r) e h.1))
+    | inr l ↦ (before k).1 (l, h.1)
   ]),
 )
 

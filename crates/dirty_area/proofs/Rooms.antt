@@ -4,10 +4,11 @@ use Rattle.std.proofs.lemmas.List.{map-set, length-set, get_or-set_same, get_or-
 use Rattle.std.proofs.Math.Seq.{get_or-append_seam}
 use Rattle.plane_terms.specs.Rectangle.{Rectangle}
 use Rattle.std.specs.Prelude.{IfSome, OnOk, OnErr}
+use Rattle.sound_laws.proofs.Edits.{same_or_not}
 use Rattle.grid_index.specs.declared.placed.Placed.{Placed}
 use Rattle.dirty_area.specs.Indexed.{IsIndexed}
 use Rattle.dirty_area.specs.Blocks.{Block, runs, joined, all_rects, HasRoom, LastHasRoom}
-use Rattle.dirty_area.proofs.Indexes.{place_cases, empty_pushed}
+use Rattle.dirty_area.proofs.Indexes.{empty_pushed}
 use Rattle.dirty_area.proofs.Joins.{run_at, length_runs, joined_pushed, runs_pushed}
 
 pub runs_set : (bs : List Block) (i : ℕ) (b : Block) → runs (set bs i b) ≡ set (runs bs) i b.items
@@ -38,7 +39,7 @@ pub room_set : (bs : List Block) (i : ℕ) (b c : Block) (n m : ℕ) → i < len
 room_set bs i b c n m l is keeps fewer room = (subst (λ k. 0 < k) (sym (length-set bs i c)) room.0, last)
   where
     last : (d : Block) → HasRoom (get_or (set bs i c) (length (set bs i c) - 1) d) m
-    last d = subst (λ k. HasRoom (get_or (set bs i c) (k - 1) d) m) (sym (length-set bs i c)) (by (place_cases (length bs - 1) i))
+    last d = subst (λ k. HasRoom (get_or (set bs i c) (k - 1) d) m) (sym (length-set bs i c)) (by (same_or_not (length bs - 1) i))
       where
         by : (length bs - 1 ≡ i) ⊎ ((length bs - 1 ≡ i) → ⊥) → HasRoom (get_or (set bs i c) (length bs - 1) d) m
         by (inl e) =

@@ -10,12 +10,14 @@ use Rattle.plane_terms.specs.Lists.{Every}
 use Rattle.plane_terms.specs.Rectangle.{Rectangle, IsProper, rects_meet}
 use Rattle.plane_terms.specs.Dirt.{AreLoose, IsLoose, add_all, cut_dirt, pieces}
 use Rattle.plane_terms.proofs.ListLemmas.{IsAmong, contains_among, every_among}
+use Rattle.sound_laws.proofs.Edits.{same_or_not}
+use Rattle.grid_index.proofs.Adding.{contains_none}
 use Rattle.grid_index.proofs.Members.{among}
 use Rattle.dirty_area.specs.Blocks.{joined}
 use Rattle.dirty_area.specs.Cuts.{between}
 use Rattle.dirty_area.specs.Indexed.{MeetsAt}
 use Rattle.dirty_area.specs.Parts.{IsDirt, IsPartway}
-use Rattle.dirty_area.proofs.Indexes.{none_in, joined_at, place_cases}
+use Rattle.dirty_area.proofs.Indexes.{joined_at}
 use Rattle.dirty_area.proofs.Joins.{joined-append, joined_rest}
 use Rattle.dirty_area.proofs.Kept.{every_from}
 use Rattle.dirty_area.proofs.Runs.{one_beside, run_beside, one_met, ended}
@@ -64,8 +66,8 @@ between_rest xss n m l =
 
 get_first : (k m : ℕ) (s : Rectangle) (xss : List (List Rectangle)) → Contains (get_or (take m xss) k []) s
     → (k < m) × Contains (get_or xss k []) s
-get_first k zero s xss h = absurd (none_in s h)
-get_first k (suc m) s [] h = absurd (none_in s h)
+get_first k zero s xss h = absurd (contains_none s h)
+get_first k (suc m) s [] h = absurd (contains_none s h)
 get_first zero (suc m) s (xs ∷ xss) h = (omega arith, h)
 get_first (suc k) (suc m) s (xs ∷ xss) h = let a = get_first k m s xss h in (omega (arith, a.0), a.1)
 
@@ -110,7 +112,7 @@ place_meets xss w places i d l meet = (meet (get_or places i d)).0 (i, l, get_or
 
 not_before : (places : List ℕ) (i j k place : ℕ) → IsStrictlyIncreasing places → i ≤ j → j < length places → place ≡ get_or places i place
     → get_or places j k ≡ k → place ≤ k
-not_before places i j k place rising l short is at = elim (place_cases i j) [
+not_before places i j k place rising l short is at = elim (same_or_not i j) [
   | inl e ↦
       let same : place ≡ k = is ∙ (ap (λ a. get_or places a place) e ∙ (get_or_default places j place k short ∙ at)) in
       omega (arith, same)
@@ -137,7 +139,7 @@ next_to_come xss w places i n place l rising is come = record {
   among_them = λ k a m.
       let low = come.later i place (omega arith) l in
       let c = come.among_them k (omega (arith, low, is, a)) m in
-      elim (place_cases i c.0) [
+      elim (same_or_not i c.0) [
         | inl e ↦
             let same : place ≡ k = is ∙ (ap (λ b. get_or places b place) e ∙ (get_or_default places c.0 place k c.2 ∙ c.3)) in
             absurd (omega (arith, same, a))

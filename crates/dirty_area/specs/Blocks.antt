@@ -6,7 +6,8 @@
 -- all_rects bs      the rectangles of the blocks, one after another
 -- HasRoom b n       there is room for n rectangles more in the block b
 -- LastHasRoom bs n  there is a last block, with room for n rectangles more
-use Rattle.std.specs.Prelude.{ℕ, ◌+◌, ◌-◌, ◌<◌, ◌≤◌, List, map, length, get_or}
+-- IsNumber bs o     the blocks have as many rectangles as o says, where it says how many
+use Rattle.std.specs.Prelude.{◌≡◌, ℕ, ◌+◌, ◌-◌, ◌<◌, ◌≤◌, List, map, length, get_or, Option, IfSome}
 use Rattle.std.specs.List.{flat_map}
 use Rattle.plane_terms.specs.Rectangle.{Rectangle}
 
@@ -28,3 +29,6 @@ HasRoom b n = (n ≤ b.room) × (length b.items + n ≤ 4294967295)
 
 abbrev pub LastHasRoom : List Block → ℕ → Type 0
 LastHasRoom bs n = (0 < length bs) × ((d : Block) → HasRoom (get_or bs (length bs - 1) d) n)
+
+abbrev pub IsNumber : List Block → Option ℕ → Type 0
+IsNumber bs o = IfSome o (λ n. n ≡ length (all_rects bs))

@@ -1,4 +1,4 @@
-ghost use Rattle.std.specs.Prelude.{◌≡◌, ◌<◌, ◌≤◌, ◌+◌, ℕ, [], ◌∷◌, ◌++◌, true, false, length, not, filter, IfOk, OnOk, OnErr};
+ghost use Rattle.std.specs.Prelude.{◌≡◌, ◌<◌, ◌≤◌, ◌+◌, ℕ, [], ◌∷◌, ◌++◌, true, false, length, nat_le, not, filter, IfOk, OnOk, OnErr};
 ghost use Rattle.std.specs.List.{list_any};
 ghost use Rattle.plane_terms.specs.Rectangle.{is_within, rects_meet};
 ghost use Rattle.grid_index.specs.Relations.{stands};
@@ -67,7 +67,10 @@ impl Block {
         self.rects.len()
     }
 
-    pub(crate) fn is_full(&self) -> bool {
+    /// Whether it gets none more at its end.
+    pub(crate) fn is_full(&self) -> bool
+        ensures { result ≡ nat_le 16 (length self.now.items) }
+    {
         self.rects.len() >= FULL
     }
 

@@ -5,7 +5,7 @@ ghost use Rattle.plane_terms.specs.Lists.{Every};
 ghost use Rattle.plane_terms.specs.Rectangle.{IsRectangle, is_within, rects_meet};
 ghost use Rattle.plane_terms.specs.Dirt.{AreLoose, add_dirt, add_all, cut_dirt, pieces};
 ghost use Rattle.dirty_area.specs.declared.left.Change as changes_of;
-ghost use Rattle.dirty_area.specs.Blocks.{runs, joined, all_rects};
+ghost use Rattle.dirty_area.specs.Blocks.{IsNumber, runs, joined, all_rects};
 ghost use Rattle.dirty_area.specs.Cuts.{front, patched};
 ghost use Rattle.dirty_area.specs.Indexed.{IsIndexed, MeetsAt};
 ghost use Rattle.dirty_area.specs.Parts.{IsDirt, IsCommon, IsSplit, IsApart, IsPartway};
@@ -14,13 +14,12 @@ use crate::block::Block;
 use crate::dirt::Dirt;
 use crate::finder::Finder;
 use crate::left::{Change, Left};
-use crate::list::drop_empty;
+use crate::list::{changed, drop_empty};
 use crate::pieces::{above, below, left, right};
 use grid_index::Relation;
 use grid_plane::{NoMemory, Rect};
 use std::alloc::Global;
 use std::marker::Model;
-use std::mem;
 
 /// Dirt that a window is cut out of: what it was, what is left of it, and the rectangles of it that met the window.
 #[derive(Drop)]
@@ -28,6 +27,8 @@ pub struct Cut {
     pub(crate) alloc: Global,
     pub(crate) blocks: Vec<Block>,
     pub(crate) finder: Finder,
+    // How many rectangles the dirt had.
+    pub(crate) number: Option<usize>,
     pub(crate) changes: Vec<Change>,
     pub(crate) met: Vec<Rect>,
 }
@@ -36,7 +37,7 @@ impl Model for Cut {
     ghost use Rattle.std.specs.Prelude.{◌<◌, ◌≤◌, length, IfSome};
     ghost use Rattle.plane_terms.specs.Lists.{Every};
     ghost use Rattle.dirty_area.specs.declared.left.Change.{Change};
-    ghost use Rattle.dirty_area.specs.Blocks.{runs, joined, all_rects};
+    ghost use Rattle.dirty_area.specs.Blocks.{IsNumber, runs, joined, all_rects};
     ghost use Rattle.dirty_area.specs.Cuts as terms;
     ghost use Rattle.dirty_area.specs.Cuts.{patched};
     ghost use Rattle.dirty_area.specs.Indexed.{IsIndexed};
@@ -46,53 +47,74 @@ impl Model for Cut {
 
     ghost view = { λ c. record { whole = all_rects c.blocks.items; left = joined (patched (runs c.blocks.items) c.changes.items); met = c.met.items } };
 
-    ghost invariant = { λ c. IsDirt (all_rects c.blocks.items) × IsDirt (joined (patched (runs c.blocks.items) c.changes.items)) × (length c.blocks.items ≤ 4294967295) × Every (λ (h : Change). h.place < length c.blocks.items) c.changes.items × IfSome c.finder (λ ps. IsIndexed (runs c.blocks.items) ps) };
+    ghost invariant = { λ c. IsDirt (all_rects c.blocks.items) × IsDirt (joined (patched (runs c.blocks.items) c.changes.items)) × (length c.blocks.items ≤ 4294967295) × Every (λ (h : Change). h.place < length c.blocks.items) c.changes.items × IfSome c.finder (λ ps. IsIndexed (runs c.blocks.items) ps) × IsNumber c.blocks.items c.number };
 }
 
-fn put_change(blocks: &mut Vec<Block>, finder: &mut Finder, change: Change)
+// Puts a change in place of its block.
+fn put_change(
+    blocks: &mut Vec<Block>,
+    finder: &mut Finder,
+    number: &mut Option<usize>,
+    change: Change,
+)
     requires place { change.place < length blocks.old.items }
     requires few { length blocks.old.items ≤ 4294967295 }
     requires indexed { IfSome finder.old (λ ps. IsIndexed (runs blocks.old.items) ps) }
+    requires number { IsNumber blocks.old.items number.old }
     ensures put { runs blocks.new.items ≡ set (runs blocks.old.items) change.place change.block.items }
     ensures len { length blocks.new.items ≡ length blocks.old.items }
     ensures indexed { IfSome finder.new (λ ps. IsIndexed (runs blocks.new.items) ps) }
+    ensures number { IsNumber blocks.new.items number.new }
 {
-    finder.trade(
-        change.place,
-        blocks[change.place].rects(),
-        change.block.rects(),
-    );
-    blocks[change.place] = change.block;
+    let place = change.place;
+    finder.trade(place, blocks[place].rects(), change.block.rects());
+    *number = changed(*number, blocks[place].len(), change.block.len());
+    blocks[place] = change.block;
 }
 
-fn put_changes(blocks: &mut Vec<Block>, finder: &mut Finder, changes: Vec<Change>)
+// Puts changes in place of their blocks.
+fn put_changes(
+    blocks: &mut Vec<Block>,
+    finder: &mut Finder,
+    number: &mut Option<usize>,
+    changes: Vec<Change>,
+)
     requires places { Every (λ (c : changes_of.Change). c.place < length blocks.old.items) changes.items }
     requires few { length blocks.old.items ≤ 4294967295 }
     requires indexed { IfSome finder.old (λ ps. IsIndexed (runs blocks.old.items) ps) }
+    requires number { IsNumber blocks.old.items number.old }
     ensures put { runs blocks.new.items ≡ patched (runs blocks.old.items) changes.items }
     ensures len { length blocks.new.items ≡ length blocks.old.items }
     ensures indexed { IfSome finder.new (λ ps. IsIndexed (runs blocks.new.items) ps) }
+    ensures number { IsNumber blocks.new.items number.new }
 {
     for change in changes {
-        put_change(blocks, finder, change);
+        put_change(blocks, finder, number, change);
     }
 }
 
 // The same. Where most blocks change, to make a new index is quicker than to trade them one by one.
-fn put_all(blocks: &mut Vec<Block>, finder: &mut Finder, changes: Vec<Change>)
+fn put_all(
+    blocks: &mut Vec<Block>,
+    finder: &mut Finder,
+    number: &mut Option<usize>,
+    changes: Vec<Change>,
+)
     requires places { Every (λ (c : changes_of.Change). c.place < length blocks.old.items) changes.items }
     requires few { length blocks.old.items ≤ 4294967295 }
     requires indexed { IfSome finder.old (λ ps. IsIndexed (runs blocks.old.items) ps) }
+    requires number { IsNumber blocks.old.items number.old }
     ensures put { runs blocks.new.items ≡ patched (runs blocks.old.items) changes.items }
     ensures len { length blocks.new.items ≡ length blocks.old.items }
     ensures indexed { IfSome finder.new (λ ps. IsIndexed (runs blocks.new.items) ps) }
+    ensures number { IsNumber blocks.new.items number.new }
 {
     if !finder.has_index() || changes.len() <= blocks.len() / 2 {
-        put_changes(blocks, finder, changes);
+        put_changes(blocks, finder, number, changes);
         return;
     }
     finder.forget();
-    put_changes(blocks, finder, changes);
+    put_changes(blocks, finder, number, changes);
     finder.prepare(blocks);
 }
 
@@ -110,16 +132,17 @@ impl Cut {
     {
         let mut blocks = self.blocks;
         let mut finder = self.finder;
-        put_all(&mut blocks, &mut finder, self.changes);
+        let mut number = self.number;
+        put_all(&mut blocks, &mut finder, &mut number, self.changes);
         drop_empty(&mut blocks);
-        Dirt::of(self.alloc, blocks, finder)
+        Dirt::of(self.alloc, blocks, finder, number)
     }
 
     /// The dirt as it was.
     pub fn into_whole(self) -> Dirt
         ensures { result ≡ self.whole }
     {
-        Dirt::of(self.alloc, self.blocks, self.finder)
+        Dirt::of(self.alloc, self.blocks, self.finder, self.number)
     }
 }
 
@@ -154,6 +177,7 @@ fn add_one(dirt: &mut Left<'_>, round: &mut Dirt, r: Rect) -> Result<(), NoMemor
     dirt.push(r)
 }
 
+// Adds a piece, where it is there.
 fn add_piece(dirt: &mut Left<'_>, round: &mut Dirt, piece: Option<Rect>) -> Result<(), NoMemory>
     requires split { IfSome piece (λ r. IsSplit dirt.old.left round.old (λ s. AreLoose r s)) }
     requires kept { IsDirt dirt.old.left }
@@ -215,6 +239,7 @@ fn add_pieces(dirt: &mut Left<'_>, round: &mut Dirt, r: &Rect, w: &Rect) -> Resu
     }
 }
 
+// Adds what the window leaves of a rectangle: all of it where it lies beside the window, and else the pieces round the window.
 fn cut_rect(
     dirt: &mut Left<'_>,
     round: &mut Dirt,
@@ -238,6 +263,7 @@ fn cut_rect(
     Ok(())
 }
 
+// Adds what the window leaves of the next block.
 fn cut_block(
     dirt: &mut Left<'_>,
     round: &mut Dirt,

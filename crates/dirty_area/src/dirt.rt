@@ -5,7 +5,7 @@ ghost use Rattle.plane_terms.specs.Point.{Point};
 ghost use Rattle.plane_terms.specs.Rectangle.{RectHolds, IsRectangle, is_within, rects_meet};
 ghost use Rattle.plane_terms.specs.Dirt.{MeetsPart, Covers, MeetsDirt, add_dirt, add_all, cut_dirt};
 ghost use Rattle.grid_index.specs.Relations.{stands};
-ghost use Rattle.dirty_area.specs.Blocks.{runs, all_rects};
+ghost use Rattle.dirty_area.specs.Blocks.{IsNumber, runs, all_rects};
 ghost use Rattle.dirty_area.specs.Cuts.{IsCut};
 ghost use Rattle.dirty_area.specs.Indexed.{IsIndexed};
 ghost use Rattle.dirty_area.specs.Parts.{IsDirt, AreNear};
@@ -27,12 +27,14 @@ pub struct Dirt {
     alloc: Global,
     blocks: Vec<Block>,
     finder: Finder,
+    // How many rectangles there are; none where that is too large for a number.
+    number: Option<usize>,
 }
 
 impl Model for Dirt {
     ghost use Rattle.std.specs.Prelude.{◌≤◌, List, length, IfSome};
     ghost use Rattle.plane_terms.specs.Rectangle.{Rectangle};
-    ghost use Rattle.dirty_area.specs.Blocks.{runs, all_rects};
+    ghost use Rattle.dirty_area.specs.Blocks.{IsNumber, runs, all_rects};
     ghost use Rattle.dirty_area.specs.Parts.{IsDirt};
     ghost use Rattle.dirty_area.specs.Indexed.{IsIndexed};
 
@@ -40,7 +42,7 @@ impl Model for Dirt {
 
     ghost view = { λ d. all_rects d.blocks.items };
 
-    ghost invariant = { λ d. IsDirt (all_rects d.blocks.items) × (length d.blocks.items ≤ 4294967295) × IfSome d.finder (λ ps. IsIndexed (runs d.blocks.items) ps) };
+    ghost invariant = { λ d. IsDirt (all_rects d.blocks.items) × (length d.blocks.items ≤ 4294967295) × IfSome d.finder (λ ps. IsIndexed (runs d.blocks.items) ps) × IsNumber d.blocks.items d.number };
 }
 
 // The law that a rectangle is one of the grid.
@@ -61,6 +63,7 @@ impl Dirt {
             alloc,
             blocks: Vec::new(alloc),
             finder: Finder::new(alloc),
+            number: Some(0),
         }
     }
 
@@ -72,6 +75,7 @@ impl Dirt {
             alloc,
             blocks: Vec::new(alloc),
             finder: Finder::indexed(alloc),
+            number: Some(0),
         }
     }
 
@@ -79,7 +83,10 @@ impl Dirt {
     pub fn len(&self) -> usize
         ensures { result ≡ length self.now }
     {
-        count(&self.blocks)
+        match self.number {
+            Some(n) => n,
+            None => count(&self.blocks),
+        }
     }
 
     /// The blocks of the list, whose rectangles are the list, one block after another.
@@ -164,7 +171,7 @@ impl Dirt {
     {
         r.corner_law();
         make_room(self.alloc, &mut self.blocks, 1)?;
-        add_in(&mut self.blocks, &mut self.finder, r);
+        add_in(&mut self.blocks, &mut self.finder, &mut self.number, r);
         Ok(())
     }
 
@@ -177,7 +184,7 @@ impl Dirt {
     {
         r.corner_law();
         make_room(self.alloc, &mut self.blocks, 1)?;
-        put_last(&mut self.blocks, &mut self.finder, r);
+        put_last(&mut self.blocks, &mut self.finder, &mut self.number, r);
         Ok(())
     }
 
@@ -190,8 +197,8 @@ impl Dirt {
         corner_laws(&first);
         corner_laws(&second);
         make_room(self.alloc, &mut self.blocks, 2)?;
-        add_some(&mut self.blocks, &mut self.finder, first);
-        add_some(&mut self.blocks, &mut self.finder, second);
+        add_some(&mut self.blocks, &mut self.finder, &mut self.number, first);
+        add_some(&mut self.blocks, &mut self.finder, &mut self.number, second);
         Ok(())
     }
 
@@ -215,22 +222,30 @@ impl Dirt {
             alloc,
             blocks: mem::replace(&mut self.blocks, Vec::new(alloc)),
             finder: mem::replace(&mut self.finder, Finder::new(alloc)),
+            number: mem::replace(&mut self.number, Some(0)),
             changes: taken.changes,
             met: taken.met,
         })
     }
 
-    // Dirt of these blocks.
-    pub(crate) fn of(alloc: Global, blocks: Vec<Block>, finder: Finder) -> Dirt
+    /// Dirt of these blocks, which have this number of rectangles.
+    pub(crate) fn of(
+        alloc: Global,
+        blocks: Vec<Block>,
+        finder: Finder,
+        number: Option<usize>,
+    ) -> Dirt
         requires dirt { IsDirt (all_rects blocks.items) }
         requires few { length blocks.items ≤ 4294967295 }
         requires indexed { IfSome finder (λ ps. IsIndexed (runs blocks.items) ps) }
+        requires number { IsNumber blocks.items number }
         ensures { result ≡ all_rects blocks.items }
     {
         Dirt {
             alloc,
             blocks,
             finder,
+            number,
         }
     }
 
@@ -242,6 +257,7 @@ impl Dirt {
             alloc,
             blocks: copy_of(alloc, &self.blocks)?,
             finder: Finder::new(alloc),
+            number: self.number,
         })
     }
 }

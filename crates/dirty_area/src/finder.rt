@@ -1,4 +1,4 @@
-ghost use Rattle.std.specs.Prelude.{◌≡◌, ◌↔◌, ◌<◌, ◌≤◌, ℕ, [], ◌∷◌, ◌++◌, true, false, None, Some, List, length, get_or, set, not, filter, Contains, IfSome, IfOk, OnOk};
+ghost use Rattle.std.specs.Prelude.{◌≡◌, ◌↔◌, ◌<◌, ◌≤◌, ℕ, [], ◌∷◌, ◌++◌, true, false, None, Some, is_some, List, length, get_or, set, not, filter, Contains, IfSome, IfOk, OnOk};
 ghost use Rattle.std.specs.List.{list_any};
 ghost use Rattle.std.specs.List.Sorted.{IsStrictlyIncreasing};
 ghost use Rattle.plane_terms.specs.Lists.{Every};
@@ -11,6 +11,7 @@ ghost use Rattle.dirty_area.specs.Indexed.{IsIndexed, GainsSome, LosesSome, Meet
 ghost use Rattle.dirty_area.specs.Parts.{AreNear};
 
 use crate::block::Block;
+use crate::seeker::Seeker;
 use grid_index::{Index, Placed, Relation};
 use grid_plane::{NoMemory, Rect};
 use std::alloc::Global;
@@ -63,6 +64,7 @@ fn put_each(index: &mut Index, place: usize, rects: &[Rect]) -> Result<(), NoMem
     Ok(())
 }
 
+// An index of the list.
 fn make_index(alloc: Global, blocks: &[Block]) -> Result<Index, NoMemory>
     requires { length blocks.now ≤ 4294967295 }
     ensures { IfOk result (λ ps. IsIndexed (runs blocks.now) ps) }
@@ -130,24 +132,14 @@ fn without_held(index: Option<Index>, place: usize, rects: &[Rect], r: &Rect) ->
     Some(index)
 }
 
-fn is_same(s: &Rect, t: &Rect) -> bool
-    ensures { result ≡ is_same s.now t.now }
-{
-    s.holds_rect(t) && t.holds_rect(s)
-}
-
-fn is_among(rects: &[Rect], s: &Rect) -> bool
-    ensures { result ≡ list_any (λ t. is_same t s.now) rects.now }
-{
-    rects.iter().any(|t| is_same(t, s))
-}
-
-fn take_unless(index: &mut Index, place: usize, s: &Rect, kept: &[Rect])
+// Takes the rectangle out of the index unless it is kept.
+fn take_unless(index: &mut Index, place: usize, s: &Rect, kept: &mut Seeker<'_>)
     requires { place ≤ 4294967295 }
-    ensures other { list_any (λ t. is_same t s.now) kept.now ≡ false → Loses index.old index.new (placed_at place s.now) }
-    ensures kept { list_any (λ t. is_same t s.now) kept.now ≡ true → index.new ≡ index.old }
+    ensures other { list_any (λ t. is_same t s.now) kept.old ≡ false → Loses index.old index.new (placed_at place s.now) }
+    ensures kept { list_any (λ t. is_same t s.now) kept.old ≡ true → index.new ≡ index.old }
+    ensures same { kept.new ≡ kept.old }
 {
-    if !is_among(kept, s) {
+    if !kept.has(s) {
         index.take(&placed_of(s, place));
     }
 }
@@ -157,17 +149,25 @@ fn take_others(index: &mut Index, place: usize, rects: &[Rect], kept: &[Rect])
     requires { place ≤ 4294967295 }
     ensures { LosesSome place rects.now (λ s. not (list_any (λ t. is_same t s) kept.now)) index.old index.new }
 {
+    let mut seeker = Seeker::new(kept);
     for s in rects {
-        take_unless(index, place, s, kept);
+        take_unless(index, place, s, &mut seeker);
     }
 }
 
-fn put_unless(index: &mut Index, place: usize, s: &Rect, there: &[Rect]) -> Result<(), NoMemory>
+// Puts the rectangle into the index unless it is there.
+fn put_unless(
+    index: &mut Index,
+    place: usize,
+    s: &Rect,
+    there: &mut Seeker<'_>,
+) -> Result<(), NoMemory>
     requires { place ≤ 4294967295 }
-    ensures other { OnOk result (list_any (λ t. is_same t s.now) there.now ≡ false → Gains index.old index.new (placed_at place s.now)) }
-    ensures there { list_any (λ t. is_same t s.now) there.now ≡ true → index.new ≡ index.old }
+    ensures other { OnOk result (list_any (λ t. is_same t s.now) there.old ≡ false → Gains index.old index.new (placed_at place s.now)) }
+    ensures there { list_any (λ t. is_same t s.now) there.old ≡ true → index.new ≡ index.old }
+    ensures same { there.new ≡ there.old }
 {
-    if is_among(there, s) {
+    if there.has(s) {
         return Ok(());
     }
     index.put(placed_of(s, place))
@@ -183,8 +183,9 @@ fn put_others(
     requires { place ≤ 4294967295 }
     ensures { OnOk result (GainsSome place rects.now (λ s. not (list_any (λ t. is_same t s) there.now)) index.old index.new) }
 {
+    let mut seeker = Seeker::new(there);
     for s in rects {
-        put_unless(index, place, s, there)?;
+        put_unless(index, place, s, &mut seeker)?;
     }
     Ok(())
 }
@@ -214,6 +215,7 @@ fn any_standing(blocks: &[Block], r: &Rect, relation: Relation) -> bool
     false
 }
 
+// Adds those of these rectangles that meet this one.
 fn add_met(rects: &[Rect], r: &Rect, met: &mut Vec<Rect>) -> Result<(), NoMemory>
     ensures { OnOk result (met.new.items ≡ met.old.items ++ filter (λ s. rects_meet s r.now) rects.now) }
 {
@@ -370,7 +372,10 @@ impl Finder {
         self.index = traded(self.index.take(), place, before, after);
     }
 
-    pub(crate) fn has_index(&self) -> bool {
+    /// Whether there is an index.
+    pub(crate) fn has_index(&self) -> bool
+        ensures { result ≡ is_some self.now }
+    {
         self.index.is_some()
     }
 

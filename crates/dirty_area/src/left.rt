@@ -15,7 +15,9 @@ use std::mem;
 /// What comes in place of a block.
 #[derive(Drop)]
 pub(crate) struct Change {
+    // The place of the block that goes.
     pub(crate) place: usize,
+    // The block that comes there.
     pub(crate) block: Block,
 }
 
@@ -48,6 +50,7 @@ impl<'a> Model for Left<'a> {
     ghost invariant = { λ l. IsDirt (all_rects l.blocks.now) × (l.next ≤ length l.blocks.now) × Every (λ (c : Change). c.place < l.next) l.changes.items };
 }
 
+// Puts the rectangle last.
 fn push_one(rects: &mut Vec<Rect>, r: Rect) -> Result<(), NoMemory>
     ensures { OnOk result (rects.new.items ≡ rects.old.items ++ r ∷ []) }
 {
@@ -59,6 +62,7 @@ fn push_one(rects: &mut Vec<Rect>, r: Rect) -> Result<(), NoMemory>
     Ok(())
 }
 
+// Takes the rectangles that this one holds out of each block that comes.
 fn drop_held_of_each(changes: &mut Vec<Change>, r: &Rect)
     ensures { AreTrimmed r.now changes.old.items changes.new.items }
 {
@@ -68,6 +72,7 @@ fn drop_held_of_each(changes: &mut Vec<Change>, r: &Rect)
 }
 
 impl<'a> Left<'a> {
+    /// No block is done.
     pub(crate) fn new(alloc: Global, blocks: &'a [Block]) -> Left<'a>
         requires { IsDirt (all_rects blocks.now) }
         ensures runs { result.runs ≡ runs blocks.now }
@@ -136,6 +141,7 @@ impl<'a> Left<'a> {
         Ok(())
     }
 
+    /// What comes in place of blocks, once all are done.
     pub(crate) fn into_changes(self) -> Vec<Change>
         requires begun { self.begun ≡ [] }
         requires next { self.next ≡ length self.runs }

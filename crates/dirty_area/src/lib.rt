@@ -8,6 +8,7 @@ mod finder;
 mod left;
 mod list;
 mod pieces;
+mod seeker;
 
 pub use block::Block;
 pub use cut::Cut;

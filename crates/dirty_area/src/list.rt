@@ -1,10 +1,10 @@
-ghost use Rattle.std.specs.Prelude.{◌≡◌, ◌<◌, ◌≤◌, ◌+◌, ◌-◌, ℕ, true, false, [], ◌∷◌, ◌++◌, List, length, get_or, set, not, filter, IfSome, IfOk, OnOk, OnErr};
+ghost use Rattle.std.specs.Prelude.{◌≡◌, ◌<◌, ◌≤◌, ◌+◌, ◌-◌, ◌^◌, ℕ, is_some, true, false, [], ◌∷◌, ◌++◌, List, length, get_or, set, not, filter, IfSome, IfOk, OnOk, OnErr};
 ghost use Rattle.std.specs.Option.{option_to_list};
 ghost use Rattle.plane_terms.specs.Lists.{Every};
 ghost use Rattle.plane_terms.specs.Rectangle.{IsRectangle, is_within};
 ghost use Rattle.plane_terms.specs.Dirt.{add_dirt, add_all};
 ghost use Rattle.grid_index.specs.declared.placed.Placed.{Placed};
-ghost use Rattle.dirty_area.specs.Blocks.{LastHasRoom, runs, all_rects};
+ghost use Rattle.dirty_area.specs.Blocks.{IsNumber, LastHasRoom, runs, all_rects};
 ghost use Rattle.dirty_area.specs.Indexed.{IsIndexed};
 
 use crate::block::Block;
@@ -16,6 +16,7 @@ use std::alloc::Global;
 /// A list has no more blocks, so that an index can tell them apart.
 const MOST: usize = 4294967295;
 
+// Whether there is no block, or the last one gets none more.
 fn needs_block(blocks: &[Block]) -> bool
     ensures { result ≡ false → 0 < length blocks.now }
 {
@@ -25,6 +26,7 @@ fn needs_block(blocks: &[Block]) -> bool
     }
 }
 
+// Puts a block last that has no rectangle, and room for so many.
 fn add_block(alloc: Global, blocks: &mut Vec<Block>, more: usize) -> Result<(), NoMemory>
     requires { more ≤ 4294967295 }
     ensures ok { OnOk result (runs blocks.new.items ≡ runs blocks.old.items ++ [] ∷ []) }
@@ -57,12 +59,29 @@ pub(crate) fn make_room(alloc: Global, blocks: &mut Vec<Block>, more: usize) -> 
     blocks[last].reserve(more)
 }
 
-// Puts the rectangle last. There is room.
-pub(crate) fn put_last(blocks: &mut Vec<Block>, finder: &mut Finder, r: Rect)
+/// The number after so many went and so many came; none where that is too large for a number.
+pub(crate) fn changed(number: Option<usize>, gone: usize, come: usize) -> Option<usize>
+    requires { IfSome number (λ n. gone ≤ n) }
+    ensures sum { (k : ℕ) → IfSome number (λ n. n ≡ k) → IfSome result (λ m. m + gone ≡ k + come) }
+    ensures some { IfSome number (λ n. n - gone + come < 2 ^ 64 → is_some result ≡ true) }
+{
+    let n = number?;
+    (n - gone).checked_add(come)
+}
+
+/// Puts the rectangle last. There is room.
+pub(crate) fn put_last(
+    blocks: &mut Vec<Block>,
+    finder: &mut Finder,
+    number: &mut Option<usize>,
+    r: Rect,
+)
     requires room { LastHasRoom blocks.old.items 1 }
     requires few { length blocks.old.items ≤ 4294967295 }
     requires indexed { IfSome finder.old (λ ps. IsIndexed (runs blocks.old.items) ps) }
+    requires number { IsNumber blocks.old.items number.old }
     ensures put { all_rects blocks.new.items ≡ all_rects blocks.old.items ++ r ∷ [] }
+    ensures number { IsNumber blocks.new.items number.new }
     ensures room { (n : ℕ) → LastHasRoom blocks.old.items (n + 1) → LastHasRoom blocks.new.items n }
     ensures len { length blocks.new.items ≡ length blocks.old.items }
     ensures indexed { IfSome finder.new (λ ps. IsIndexed (runs blocks.new.items) ps) }
@@ -70,6 +89,7 @@ pub(crate) fn put_last(blocks: &mut Vec<Block>, finder: &mut Finder, r: Rect)
     let last = blocks.len() - 1;
     finder.put(last, &r);
     blocks[last].put(r);
+    *number = changed(*number, 0, 1);
 }
 
 // Takes the rectangles that this one holds out of a block.
@@ -102,60 +122,77 @@ fn drop_held(blocks: &mut Vec<Block>, finder: &mut Finder, r: &Rect)
 }
 
 // Puts the rectangle last, in place of those that it holds. There is room. A long list has an index then, where there is memory.
-fn put_round(blocks: &mut Vec<Block>, finder: &mut Finder, r: Rect)
+fn put_round(blocks: &mut Vec<Block>, finder: &mut Finder, number: &mut Option<usize>, r: Rect)
     requires room { LastHasRoom blocks.old.items 1 }
     requires few { length blocks.old.items ≤ 4294967295 }
     requires indexed { IfSome finder.old (λ ps. IsIndexed (runs blocks.old.items) ps) }
     ensures put { all_rects blocks.new.items ≡ filter (λ s. not (is_within s r)) (all_rects blocks.old.items) ++ r ∷ [] }
+    ensures number { IsNumber blocks.new.items number.new }
     ensures room { (n : ℕ) → LastHasRoom blocks.old.items (n + 1) → LastHasRoom blocks.new.items n }
     ensures len { length blocks.new.items ≡ length blocks.old.items }
     ensures indexed { IfSome finder.new (λ ps. IsIndexed (runs blocks.new.items) ps) }
 {
     drop_held(blocks, finder, &r);
     finder.prepare(blocks);
-    put_last(blocks, finder, r);
+    *number = Some(count(blocks));
+    put_last(blocks, finder, number, r);
 }
 
 /// Adds the rectangle to a list of dirt that has room for it.
-pub(crate) fn add_in(blocks: &mut Vec<Block>, finder: &mut Finder, r: Rect)
+pub(crate) fn add_in(
+    blocks: &mut Vec<Block>,
+    finder: &mut Finder,
+    number: &mut Option<usize>,
+    r: Rect,
+)
     requires room { LastHasRoom blocks.old.items 1 }
     requires few { length blocks.old.items ≤ 4294967295 }
     requires rects { Every IsRectangle (all_rects blocks.old.items) }
     requires rect { IsRectangle r }
     requires indexed { IfSome finder.old (λ ps. IsIndexed (runs blocks.old.items) ps) }
+    requires number { IsNumber blocks.old.items number.old }
     ensures added { all_rects blocks.new.items ≡ add_dirt (all_rects blocks.old.items) r }
+    ensures number { IsNumber blocks.new.items number.new }
     ensures room { (n : ℕ) → LastHasRoom blocks.old.items (n + 1) → LastHasRoom blocks.new.items n }
     ensures len { length blocks.new.items ≡ length blocks.old.items }
     ensures indexed { IfSome finder.new (λ ps. IsIndexed (runs blocks.new.items) ps) }
 {
     finder.count_look(blocks);
     if !finder.has(blocks, &r, Relation::IsNested) {
-        put_last(blocks, finder, r);
+        put_last(blocks, finder, number, r);
         return;
     }
     if !finder.has(blocks, &r, Relation::Holds) {
-        put_round(blocks, finder, r);
+        put_round(blocks, finder, number, r);
     }
 }
 
 /// Adds the rectangle, where it is there, to a list of dirt that has room for it.
-pub(crate) fn add_some(blocks: &mut Vec<Block>, finder: &mut Finder, some: Option<Rect>)
+pub(crate) fn add_some(
+    blocks: &mut Vec<Block>,
+    finder: &mut Finder,
+    number: &mut Option<usize>,
+    some: Option<Rect>,
+)
     requires room { LastHasRoom blocks.old.items 1 }
     requires few { length blocks.old.items ≤ 4294967295 }
     requires rects { Every IsRectangle (all_rects blocks.old.items) }
     requires some { IfSome some IsRectangle }
     requires indexed { IfSome finder.old (λ ps. IsIndexed (runs blocks.old.items) ps) }
+    requires number { IsNumber blocks.old.items number.old }
     ensures added { all_rects blocks.new.items ≡ add_all (all_rects blocks.old.items) (option_to_list some) }
+    ensures number { IsNumber blocks.new.items number.new }
     ensures room { (n : ℕ) → LastHasRoom blocks.old.items (n + 1) → LastHasRoom blocks.new.items n }
     ensures len { length blocks.new.items ≡ length blocks.old.items }
     ensures indexed { IfSome finder.new (λ ps. IsIndexed (runs blocks.new.items) ps) }
 {
     match some {
-        Some(r) => add_in(blocks, finder, r),
+        Some(r) => add_in(blocks, finder, number, r),
         None => {}
     }
 }
 
+// Whether there is a last block and it has no rectangle.
 fn ends_empty(blocks: &[Block]) -> bool
     ensures some { result ≡ true → 0 < length blocks.now }
     ensures empty { result ≡ true → get_or (runs blocks.now) (length blocks.now - 1) [] ≡ [] }

@@ -11,4 +11,5 @@ loop-change-preserved c =
       c.put_change.ensures.put ∙ (ap (λ yss. set yss d.place d.block.items) h.0 ∙ sym (patched_pushed xss c.loop-change.yielded d)),
       c.put_change.ensures.len ∙ h.1,
       c.put_change.ensures.indexed,
+      c.put_change.ensures.number,
     )

@@ -1,17 +1,24 @@
-use Rattle.std.proofs.Common.{arith, subst, not}
+use Rattle.std.proofs.Common.{arith, subst, not, ap, ◌∙◌}
+use Rattle.std.proofs.lemmas.Bool.{not-true, not-false}
 use Rattle.std.proofs.lemmas.List.{take_all}
+use Rattle.plane_terms.specs.Rectangle.{Rectangle}
 use Rattle.dirty_area.specs.Indexed.{GainsSome}
-use Rattle.dirty_area.proofs.Indexes.{has_one, gained_none, gained_next, from_not_true, from_not_false}
+use Rattle.dirty_area.proofs.Indexes.{has_one, gained_none, gained_next}
 use Rattle.dirty_area.proofs.finder.put_others.Goals as goal
 
 pub loop-s-init : goal.loop-s-init
-loop-s-init c = gained_none c.args.place (λ s. not (has_one c.args.there.now s)) c.args.index.now
+loop-s-init c = (c.new-seeker.ensures, gained_none c.args.place (λ s. not (has_one c.args.there.now s)) c.args.index.now)
 
 pub loop-s-preserved : goal.loop-s-preserved
-loop-s-preserved c = gained_next c.args.place c.args.rects.now (λ s. not (has_one c.args.there.now s)) c.loop-s.s-index c.s-item.result
-    c.args.index.now c.loop-s.index c.put_unless.new.index c.loop-s-test.true c.s-item.is
-    (λ e. c.in_ok-put_unless.ensures.other (from_not_true _ e)) (λ e. c.put_unless.ensures.there (from_not_false _ e)) c.loop-s.invariant
+loop-s-preserved c =
+    let f = λ (s : Rectangle). not (has_one c.args.there.now s) in
+    let same = ap (λ xs. has_one xs c.s-item.result) c.loop-s.invariant.0 in (
+      c.put_unless.ensures.same ∙ c.loop-s.invariant.0,
+      gained_next c.args.place c.args.rects.now f c.loop-s.s-index c.s-item.result c.args.index.now c.loop-s.index c.put_unless.new.index
+          c.loop-s-test.true c.s-item.is (λ e. c.in_ok-put_unless.ensures.other (same ∙ not-true _ e))
+          (λ e. c.put_unless.ensures.there (same ∙ not-false _ e)) c.loop-s.invariant.1,
+    )
 
 pub returns : goal.returns
 returns c = subst (λ xs. GainsSome c.args.place xs (λ s. not (has_one c.args.there.now s)) c.args.index.now c.loop-s.index)
-    (take_all c.loop-s.s-index c.args.rects.now (omega arith)) c.loop-s.invariant
+    (take_all c.loop-s.s-index c.args.rects.now (omega arith)) c.loop-s.invariant.1

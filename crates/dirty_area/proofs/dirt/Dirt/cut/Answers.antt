@@ -5,7 +5,7 @@ use Rattle.plane_terms.specs.Dirt.{Covers, cut_dirt}
 use Rattle.sound_laws.proofs.Dirts.{cut_covers}
 use Rattle.sound_laws.proofs.Pieces.{cut_only}
 use Rattle.dirty_area.specs.declared.left.Change.{Change}
-use Rattle.dirty_area.specs.Blocks.{runs, joined, all_rects}
+use Rattle.dirty_area.specs.Blocks.{IsNumber, runs, joined, all_rects}
 use Rattle.dirty_area.specs.Cuts.{patched}
 use Rattle.dirty_area.specs.Indexed.{IsIndexed, MeetsAt}
 use Rattle.dirty_area.specs.Parts.{IsDirt}
@@ -29,6 +29,7 @@ invariant_of-result c =
       subst (λ bs. Every (λ (h : Change). h.place < length bs) cs) (sym same) c.in_ok-taken.ensures.places,
       rw c.replace-2.ensures.value (subst (λ bs. IfSome c.count_look.new.self (λ ps. IsIndexed (runs bs) ps))
           (c.deref.ensures.value ∙ sym was) c.count_look.ensures),
+      rw c.replace-3.ensures.value (subst (λ bs. IsNumber bs c.self.inside.number) (sym was) c.self.invariant.3),
     )
 
 pub returns-clause-stays : goal.returns-clause-stays
