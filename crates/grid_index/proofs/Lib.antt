@@ -1,10 +1,13 @@
 pub mod Adding
+pub mod Counted
 pub mod Finding
 pub mod Marked
 pub mod Members
 pub mod Nodes
 pub mod Parts
+pub mod Ranges
 pub mod Reaches
 pub mod Snugs
 pub mod Squares
 pub mod Stays
+pub mod Steps

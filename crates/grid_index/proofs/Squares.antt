@@ -15,10 +15,10 @@ use Rattle.grid_index.specs.Squares.{same_square, AreInSquare, AreAt, IsBetween}
 use Rattle.grid_index.proofs.Members.{among}
 
 -- ---- one square
-abbrev AreOne : ℕ → Middle → Middle → Type 0
+abbrev pub AreOne : ℕ → Middle → Middle → Type 0
 AreOne k a b = (a.x / 2 ^ k ≡ b.x / 2 ^ k) × (a.y / 2 ^ k ≡ b.y / 2 ^ k)
 
-one_square : (k : ℕ) (a b : Middle) → Decides (same_square k a b) (AreOne k a b)
+pub one_square : (k : ℕ) (a b : Middle) → Decides (same_square k a b) (AreOne k a b)
 one_square k a b = Decides-and _ _ (Decides-eqb (a.x / 2 ^ k) (b.x / 2 ^ k)) (Decides-eqb (a.y / 2 ^ k) (b.y / 2 ^ k))
 
 pub square_self : (k : ℕ) (a : Middle) → same_square k a a ≡ true

@@ -3,3 +3,4 @@ pub mod Near
 pub mod Nodes
 pub mod Relations
 pub mod Squares
+pub mod Steps

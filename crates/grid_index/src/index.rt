@@ -1,10 +1,12 @@
-ghost use Rattle.std.specs.Prelude.{◌≡◌, ◌↔◌, ◌<◌, ◌≤◌, ℕ, [], length, slice_get, Contains, IfOk, OnOk, OnErr, IsSomeAnd};
+ghost use Rattle.std.specs.Prelude.{◌≡◌, ◌↔◌, ◌<◌, ◌≤◌, ◌+◌, ℕ, [], length, slice_get, Contains, IfOk, OnOk, OnErr, IsSomeAnd};
 ghost use Rattle.std.specs.List.{list_any};
 ghost use Rattle.std.specs.List.Sorted.{IsStrictlyIncreasing};
 ghost use Rattle.plane_terms.specs.Rectangle.{Rectangle};
 ghost use Rattle.grid_index.specs.Near.{HoldsSame, Gains, Loses, IsNear, IsNearRect, AddsRects};
 ghost use Rattle.grid_index.specs.Relations.{is_found};
+ghost use Rattle.grid_index.specs.Steps.{most_steps};
 
+use crate::meter::{Meter, NoCount};
 use crate::middle::Middle;
 use crate::node::Node;
 use crate::once::once_each;
@@ -75,8 +77,24 @@ impl Index {
         ensures ascending { IfOk result (λ v. IsStrictlyIncreasing v.items) }
         ensures near { IfOk result (λ v. (a : ℕ) → Contains v.items a ↔ IsNear r.now self.now a) }
     {
+        self.query_counted(alloc, r, &mut NoCount)
+    }
+
+    /// What `query` gives, and the steps that it takes: one for each node and for each rectangle that it looks at. They are no more
+    /// than the squares near to this rectangle allow, with what is longer than any length that one may choose.
+    pub fn query_counted<M: Meter>(
+        &self,
+        alloc: Global,
+        r: &Rect,
+        meter: &mut M,
+    ) -> Result<Vec<u32>, NoMemory>
+        ensures ascending { IfOk result (λ v. IsStrictlyIncreasing v.items) }
+        ensures near { IfOk result (λ v. (a : ℕ) → Contains v.items a ↔ IsNear r.now self.now a) }
+        ensures rises { M.taken meter.old ≤ M.taken meter.new }
+        ensures steps { (s : ℕ) → M.taken meter.new ≤ M.taken meter.old + most_steps s r.now self.now }
+    {
         let mut found = Vec::with_capacity(alloc, FEW)?;
-        add_from_each(&self.nodes, r, &mut found)?;
+        add_from_each(&self.nodes, r, &mut found, meter)?;
         once_each(alloc, &mut found)?;
         Ok(found)
     }

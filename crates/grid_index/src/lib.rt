@@ -3,6 +3,7 @@
 
 mod index;
 mod marks;
+mod meter;
 mod middle;
 mod node;
 mod once;
@@ -12,6 +13,7 @@ mod relation;
 mod siblings;
 
 pub use index::Index;
+pub use meter::{Count, Meter};
 pub use once::once_each;
 pub use placed::Placed;
 pub use relation::Relation;

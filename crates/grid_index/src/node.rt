@@ -1,11 +1,13 @@
-ghost use Rattle.std.specs.Prelude.{◌≡◌, ◌≢◌, ◌<◌, ◌+◌, ◌∷◌, ◌++◌, ◌⊎◌, [], ℕ, true, false, IsTrue, ◌↔◌, Contains, IfSome, IfNone, IfOk, OnOk, OnErr};
+ghost use Rattle.std.specs.Prelude.{◌≡◌, ◌≢◌, ◌<◌, ◌≤◌, ◌+◌, ◌∷◌, ◌++◌, ◌⊎◌, [], ℕ, true, false, IsTrue, ◌↔◌, Contains, IfSome, IfNone, IfOk, OnOk, OnErr};
 ghost use Rattle.std.specs.List.{list_any};
 ghost use Rattle.grid_index.specs.Near.{HoldsSame, Gains, Loses, AddsHandles, AddsRects};
 ghost use Rattle.grid_index.specs.Middles.{middle_of};
 ghost use Rattle.grid_index.specs.Nodes.{AreFilled, AreWithin, IsSnug, all_items};
 ghost use Rattle.grid_index.specs.Relations.{is_found};
 ghost use Rattle.grid_index.specs.Squares.{same_square, IsOnGrid, MayTake, StaysPart, IsPart, IsLeft, IsSingle, IsTaken, IsBetween};
+ghost use Rattle.grid_index.specs.Steps.{part_steps};
 
+use crate::meter::Meter;
 use crate::middle::Middle;
 use crate::placed::{Placed, add_met, add_met_rects, any_found, drop_placed};
 use crate::reach::{reach_of, reach_of_both, touches_side};
@@ -259,16 +261,27 @@ impl Node {
         }
     }
 
-    /// Adds the handles of the rectangles that this one meets.
+    /// Adds the handles of the rectangles that this one meets: a step for the node itself, and then for what it looks at.
     #[cycle(near)]
-    pub(crate) fn add_near(&self, r: &Rect, found: &mut Vec<u32>) -> Result<(), NoMemory>
-        ensures { OnOk result (AddsHandles r.now (Contains self.now.items) found.old.items found.new.items) }
+    pub(crate) fn add_near<M: Meter>(
+        &self,
+        r: &Rect,
+        found: &mut Vec<u32>,
+        meter: &mut M,
+    ) -> Result<(), NoMemory>
+        ensures met { OnOk result (AddsHandles r.now (Contains self.now.items) found.old.items found.new.items) }
+        ensures rises { M.taken meter.old ≤ M.taken meter.new }
+        ensures steps { (k s : ℕ) → IsPart k self.now → M.taken meter.new ≤ M.taken meter.old + part_steps k s r.now self.now.items }
     {
-        if !r.meets(&self.reach) {
+        r.corner_law();
+        self.reach.corner_law();
+        meter.tick();
+        let near = r.meets(&self.reach);
+        if !near {
             return Ok(());
         }
-        add_met(&self.placed, r, found)?;
-        add_from_each(&self.quarters, r, found)
+        add_met(&self.placed, r, found, meter)?;
+        add_from_each(&self.quarters, r, found, meter)
     }
 
     /// Adds the rectangles that this one meets.

@@ -1,8 +1,9 @@
-ghost use Rattle.std.specs.Prelude.{◌≡◌, [], ◌∷◌, ◌++◌, if◌then◌else◌, not, filter, Contains, OnOk};
+ghost use Rattle.std.specs.Prelude.{◌≡◌, ◌+◌, ◌≤◌, [], ◌∷◌, ◌++◌, length, if◌then◌else◌, not, filter, Contains, OnOk};
 ghost use Rattle.std.specs.List.{list_any};
 ghost use Rattle.grid_index.specs.Near.{is_placed, AddsHandles, AddsRects};
 ghost use Rattle.grid_index.specs.Relations.{is_found};
 
+use crate::meter::Meter;
 use crate::relation::Relation;
 use grid_plane::{NoMemory, Rect};
 
@@ -54,11 +55,19 @@ fn push_if(found: &mut Vec<u32>, test: bool, handle: u32) -> Result<(), NoMemory
     Ok(())
 }
 
-/// Puts the handles of those of the list that the rectangle meets last.
-pub(crate) fn add_met(list: &[Placed], r: &Rect, found: &mut Vec<u32>) -> Result<(), NoMemory>
-    ensures { OnOk result (AddsHandles r.now (Contains list.now) found.old.items found.new.items) }
+/// Puts the handles of those of the list that the rectangle meets last: a step for each that it looks at.
+pub(crate) fn add_met<M: Meter>(
+    list: &[Placed],
+    r: &Rect,
+    found: &mut Vec<u32>,
+    meter: &mut M,
+) -> Result<(), NoMemory>
+    ensures met { OnOk result (AddsHandles r.now (Contains list.now) found.old.items found.new.items) }
+    ensures rises { M.taken meter.old ≤ M.taken meter.new }
+    ensures steps { M.taken meter.new ≤ M.taken meter.old + length list.now }
 {
     for placed in list {
+        meter.tick();
         push_if(found, r.meets(&placed.rect), placed.handle)?;
     }
     Ok(())

@@ -1,4 +1,4 @@
-ghost use Rattle.std.specs.Prelude.{◌≡◌, ◌≢◌, ◌<◌, ◌+◌, ℕ, [], true, length, slice_get, Contains, IfOk, OnOk, OnErr, IfSome, IfNone, IsSomeAnd};
+ghost use Rattle.std.specs.Prelude.{◌≡◌, ◌≢◌, ◌<◌, ◌≤◌, ◌+◌, ℕ, [], true, length, slice_get, Contains, IfOk, OnOk, OnErr, IfSome, IfNone, IsSomeAnd};
 ghost use Rattle.std.specs.List.{list_any, IsDistinct};
 ghost use Rattle.plane_terms.specs.Lists.{Every};
 ghost use Rattle.grid_index.specs.declared.middle.Middle.{Middle};
@@ -7,7 +7,9 @@ ghost use Rattle.grid_index.specs.Middles.{middle_of};
 ghost use Rattle.grid_index.specs.Nodes.{all_items, AreFilled, IsReach};
 ghost use Rattle.grid_index.specs.Relations.{is_found};
 ghost use Rattle.grid_index.specs.Squares.{same_square, IsOnGrid, IsPart, AreParts, AreAround, AreOutside, AreGathered, MayTake, IsLeft, IsAdded, IsPushedAt, IsPutAt, StayAround, middles_of};
+ghost use Rattle.grid_index.specs.Steps.{parts_steps};
 
+use crate::meter::Meter;
 use crate::middle::Middle;
 use crate::node::Node;
 use crate::placed::Placed;
@@ -175,11 +177,18 @@ pub(crate) fn reach_of_nodes(nodes: &[Node]) -> Option<Rect>
 
 /// Adds the handles of the rectangles that this one meets.
 #[cycle(near)]
-pub(crate) fn add_from_each(nodes: &[Node], r: &Rect, found: &mut Vec<u32>) -> Result<(), NoMemory>
-    ensures { OnOk result (AddsHandles r.now (Contains (all_items nodes.now)) found.old.items found.new.items) }
+pub(crate) fn add_from_each<M: Meter>(
+    nodes: &[Node],
+    r: &Rect,
+    found: &mut Vec<u32>,
+    meter: &mut M,
+) -> Result<(), NoMemory>
+    ensures met { OnOk result (AddsHandles r.now (Contains (all_items nodes.now)) found.old.items found.new.items) }
+    ensures rises { M.taken meter.old ≤ M.taken meter.new }
+    ensures steps { (k s : ℕ) → AreParts k nodes.now → M.taken meter.new ≤ M.taken meter.old + parts_steps k s r.now nodes.now }
 {
     for node in nodes {
-        node.add_near(r, found)?;
+        node.add_near(r, found, meter)?;
     }
     Ok(())
 }

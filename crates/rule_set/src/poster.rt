@@ -8,8 +8,7 @@ use rule_core::{Findings, RuleRow, RuleSet, View, Work};
 use std::alloc::Global;
 use topo_core::KindRules;
 
-/// The rules of the topology rules poster, each by the rule of its row's kind. A row of a kind that is not built has no
-/// findings.
+/// The rules of the topology rules poster, each by the rule of its row's kind.
 #[derive(Clone, Copy)]
 pub struct PosterRules;
 

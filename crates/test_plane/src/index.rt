@@ -2,15 +2,13 @@
 ghost use Rattle.std.specs.Prelude.{◌^◌, ◌<◌, ◌≤ℤ◌, ◌<ℤ◌, pos};
 
 use crate::given::rect;
-use grid_index::{Index, Placed};
+use grid_index::{Count, Index, Meter, Placed};
 use grid_plane::{NoMemory, Rect};
 use std::alloc::Global;
 use std::test::Fail;
 
 // A row of squares of side 50, a hundred apart: the handle k begins at 100 k.
-#[test]
-fn one_of_a_row_is_near(rt: HostRuntime) -> Result<(), Fail> {
-    let alloc = rt.alloc();
+fn row(alloc: Global) -> Result<Index, Fail> {
     let mut index = Index::new(alloc);
     for handle in 1..=1000u32 {
         let x = 100 * i64::from(handle);
@@ -20,9 +18,28 @@ fn one_of_a_row_is_near(rt: HostRuntime) -> Result<(), Fail> {
             handle,
         })?;
     }
-    let near = index.query(alloc, &rect(0, 0, 120, 20)?)?;
+    Ok(index)
+}
+
+#[test]
+fn one_of_a_row_is_near(rt: HostRuntime) -> Result<(), Fail> {
+    let alloc = rt.alloc();
+    let near = row(alloc)?.query(alloc, &rect(0, 0, 120, 20)?)?;
     assert_eq!(rt; near.len(), 1);
     assert!(rt; near[0] == 1);
+    Ok(())
+}
+
+// A question looks at few of a thousand.
+#[test]
+fn few_of_a_row_are_looked_at(rt: HostRuntime) -> Result<(), Fail> {
+    let alloc = rt.alloc();
+    let mut steps = Count::new();
+    let near = row(alloc)?.query_counted(alloc, &rect(0, 0, 200, 0)?, &mut steps)?;
+    assert_eq!(rt; near.len(), 2);
+    let taken = steps.count();
+    assert!(rt; taken >= 2);
+    assert!(rt; taken <= 100);
     Ok(())
 }
 

@@ -5,10 +5,20 @@ use Rattle.grid_index.proofs.Adding.{adds_more}
 use Rattle.grid_index.proofs.placed.add_met.Goals as goal
 
 pub loop-placed-preserved : goal.loop-placed-preserved
-loop-placed-preserved c = adds_more handle_of c.args.r.now c.args.list.now c.loop-placed.placed-index c.placed-item.result c.args.found.now.items
-    c.loop-placed.found.items c.push_if.new.found.items c.loop-placed-test.true c.placed-item.is c.loop-placed.invariant
-    (rw c.meets.ensures.value at c.in_ok-push_if.ensures)
+loop-placed-preserved g c = record {
+  met = adds_more handle_of c.args.r.now c.args.list.now c.loop-placed.placed-index c.placed-item.result c.args.found.now.items
+      c.loop-placed.found.items c.push_if.new.found.items c.loop-placed-test.true c.placed-item.is c.loop-placed.invariant.met
+      (rw c.meets.ensures.value at c.in_ok-push_if.ensures);
+  rises = omega (arith, c.tick.ensures.rises, c.loop-placed.invariant.rises);
+  steps = omega (arith, c.tick.ensures.one, c.loop-placed.invariant.steps);
+}
 
-pub returns : goal.returns
-returns c = subst (λ ps. AddsHandles c.args.r.now (Contains ps) c.args.found.now.items c.loop-placed.found.items)
-    (take_all c.loop-placed.placed-index c.args.list.now (omega arith)) c.loop-placed.invariant
+pub returns-in_err-push_if-clause-rises : goal.returns-in_err-push_if-clause-rises
+returns-in_err-push_if-clause-rises g c = omega (arith, c.tick.ensures.rises, c.loop-placed.invariant.rises)
+
+pub returns-in_err-push_if-clause-steps : goal.returns-in_err-push_if-clause-steps
+returns-in_err-push_if-clause-steps g c = omega (arith, c.tick.ensures.one, c.loop-placed.invariant.steps)
+
+pub returns-clause-met : goal.returns-clause-met
+returns-clause-met g c = subst (λ ps. AddsHandles c.args.r.now (Contains ps) c.args.found.now.items c.loop-placed.found.items)
+    (take_all c.loop-placed.placed-index c.args.list.now (omega arith)) c.loop-placed.invariant.met
