@@ -4,16 +4,11 @@ from __future__ import annotations
 import re
 from typing import Callable, NamedTuple, Optional
 
-from .replies import Answer, Ending
+from .forms import DEEDS, FORMS
+from .replies import Answer, Ending, ReplyError, misfit_text
 from .rules import KINDS_OF, nearest
 from .texts import KINDS, lists_of, misfit_of, sides_of, tokens_of
 
-FORMS = {'class': 'class NAME KIND', 'rule': 'rule WORD ORIGIN', 'droprule': 'droprule R', 'begin': 'begin EDITOR',
-         'end': 'end EDITOR', 'discard': 'discard EDITOR', 'by': 'by EDITOR add CLASS WKT', 'validate': 'validate X0 Y0 X1 Y1',
-         'dirty': 'dirty', 'errors': 'errors', 'cells': 'cells', 'features': 'features', 'rules': 'rules',
-         'mark': 'mark R SUBJECT OTHER', 'unmark': 'unmark R SUBJECT OTHER'}
-DEEDS = {'add': 'by EDITOR add CLASS WKT', 'change': 'by EDITOR change H WKT', 'delete': 'by EDITOR delete H', 'undo': 'by EDITOR undo',
-         'redo': 'by EDITOR redo'}
 NUMBERS = {'H': 4294967295, 'SUBJECT': 4294967295, 'OTHER': 4294967295, 'R': 65535}
 REACH = 4194304
 
@@ -236,9 +231,13 @@ SENTENCES: dict[str, Callable[[Refused], str]] = {
 
 
 def sentence_of(answer: Answer, before: Ending) -> Optional[str]:
-    """Why a line was refused, by what stood before it; none where it was not, or where the code is not known here."""
+    """Why a line was refused, by what stood before it; none where it was not, or where the code is not known here. A ReplyError where the
+    refusal tells of a place that the line does not have."""
     word, *told = answer.reply[-1].split()
     if word != 'refused' or not told or told[0] not in SENTENCES:
         return None
     code, *details = told
-    return SENTENCES[code](Refused(answer.line, re.split('[ \t]+', answer.line.strip(' \t')), details, before))
+    try:
+        return SENTENCES[code](Refused(answer.line, re.split('[ \t]+', answer.line.strip(' \t')), details, before))
+    except IndexError:
+        raise ReplyError(misfit_text(answer)) from None

@@ -2,15 +2,19 @@
 from __future__ import annotations
 
 import json
+import re
 from dataclasses import dataclass, field
 from typing import BinaryIO, Iterator, NamedTuple, Optional
 
+from .forms import can_answer
 from .grid import Grid, grid_of
 from .texts import KINDS
 
 MOST_BYTES = 1048576
 LISTINGS = ('errors', 'cells', 'dirty', 'features', 'rules')
 ENDS = ('ok', 'refused', 'total ')
+SOURCE = re.compile(r'# fid (\S+)(?: id ("(?:[^"\\]|\\["\\/bfnrt]|\\u[0-9a-fA-F]{4})*"))?')
+ROLE = re.compile('# (subject|neighbour) ([0-9]+)')
 
 Half = tuple[int, int, int, str]
 Frame = tuple[int, int, int, int]
@@ -86,8 +90,14 @@ def check_whole(number: int, reply: list[str]) -> None:
         raise ReplyError('the reply to line %d is not whole: the replay ended within it' % number)
 
 
+def misfit_text(answer: Answer) -> str:
+    """What is said of a reply that its line cannot have."""
+    return 'line %d cannot have the reply `%s`: the replies are not those of this script' % (answer.number, answer.reply[0][:60])
+
+
 def answers_of(script: BinaryIO, replies: BinaryIO) -> Iterator[Answer]:
-    """The lines of a script with their replies, one at a time; a ReplyError where a reply is missing, cut off or one too many."""
+    """The lines of a script with their replies, one at a time; a ReplyError where a reply is missing, cut off, one too many, or none
+    that its line can have."""
     for number, line in enumerate(script, 1):
         line = line[:-1] if line.endswith(b'\n') else line
         text = line.decode('utf-8', 'replace').rstrip('\r')
@@ -96,7 +106,10 @@ def answers_of(script: BinaryIO, replies: BinaryIO) -> Iterator[Answer]:
             continue
         reply = reply_of(replies)
         check_whole(number, reply)
-        yield Answer(number, text, reply)
+        answer = Answer(number, text, reply)
+        if not can_answer(text, reply):
+            raise ReplyError(misfit_text(answer))
+        yield answer
     if replies.read(1):
         raise ReplyError('there are more replies than lines')
 
@@ -158,14 +171,13 @@ class Ending:
 
     def remark(self, line: str) -> None:
         """Takes a remark line: of the grid, or of the feature that the next line adds."""
-        fields = line.split(None, 2)
+        source, role = SOURCE.fullmatch(line), ROLE.fullmatch(line)
         if line.startswith('# grid '):
             self.remarks.append(line)
-        elif fields[:2] == ['#', 'fid'] and len(fields) == 3:
-            fid, _, named = fields[2].partition(' id ')
-            self.waiting.update(fid=fid, id=str(json.loads(named)) if named else '')
-        elif fields[:1] == ['#'] and fields[1:2] in (['subject'], ['neighbour']) and len(fields) == 3:
-            self.waiting.update(handle=int(fields[2]), is_subject=fields[1] == 'subject')
+        elif source:
+            self.waiting.update(fid=source[1], id=json.loads(source[2] or '""', strict=False))
+        elif role:
+            self.waiting.update(handle=int(role[2]), is_subject=role[1] == 'subject')
 
     def listed(self, lines: list[str]) -> None:
         """Takes the features of a listing: where the script began with a saved project, they tell of its classes."""

@@ -1,0 +1,75 @@
+"""The forms of a script's lines, and which replies a line of each can have (docs/script.md, docs/refusals.md)."""
+from __future__ import annotations
+
+import re
+from typing import NamedTuple
+
+from .rules import KINDS_OF
+from .texts import KINDS
+
+FORMS = {'class': 'class NAME KIND', 'rule': 'rule WORD ORIGIN', 'droprule': 'droprule R', 'begin': 'begin EDITOR',
+         'end': 'end EDITOR', 'discard': 'discard EDITOR', 'by': 'by EDITOR add CLASS WKT', 'validate': 'validate X0 Y0 X1 Y1',
+         'dirty': 'dirty', 'errors': 'errors', 'cells': 'cells', 'features': 'features', 'rules': 'rules',
+         'mark': 'mark R SUBJECT OTHER', 'unmark': 'unmark R SUBJECT OTHER'}
+DEEDS = {'add': 'by EDITOR add CLASS WKT', 'change': 'by EDITOR change H WKT', 'delete': 'by EDITOR delete H', 'undo': 'by EDITOR undo',
+         'redo': 'by EDITOR redo'}
+
+# The codes of refusals by the word of the line, beside E01 and E02, which any line can have; and what stands behind a code.
+OF_SHAPES = 'E14 E15 E16 E17 E18 '
+CODES = {'class': 'E03 E04', 'rule': 'E05 E06 E07 E08', 'droprule': 'E09', 'begin': 'E10 E11', 'end': 'E12', 'discard': 'E12',
+         'add': OF_SHAPES + 'E12 E05 E13 E21', 'change': OF_SHAPES + 'E12 E19 E20 E13', 'delete': 'E12 E19 E20', 'undo': 'E12 E22',
+         'redo': 'E12 E23', 'validate': 'E15 E24', 'mark': 'E25 E26', 'unmark': 'E25 E26'}
+DETAILS = {'E14': 'N', 'E15': 'N', 'E16': 'N', 'E17': 'N', 'E18': '(?:few N|many N|cross N N|along N N)', 'E20': 'NAME'}
+
+# The replies by the word of the line: where it has none here, `ok`. The lines of a listing, without its total.
+DONE = {'class': 'ok N', 'rule': 'ok N', 'add': 'ok N', 'validate': 'ok judged N errors N dirty N'}
+ERROR = '(?:error|exception) N N N (?:cells|whole) I I I I'
+LISTED = {'dirty': 'dirty I I I I', 'errors': ERROR, 'cells': ERROR + '|cell HALF(?:, HALF)*', 'features': 'feature N NAME SHAPE .+',
+          'rules': 'rule N WORD NAME(?: NAME)?'}
+
+NUMBER, INTEGER, NAME = '[0-9]+', '-?[0-9]+', '[A-Za-z][A-Za-z0-9_]*'
+PIECES = {'N': NUMBER, 'R': NUMBER, 'H': NUMBER, 'SUBJECT': NUMBER, 'OTHER': NUMBER, 'I': INTEGER, 'X0': INTEGER, 'Y0': INTEGER,
+          'X1': INTEGER, 'Y1': INTEGER, 'KIND': '(?:point|line|polygon)', 'WORD': '(?:%s)' % '|'.join(KINDS_OF), 'WKT': '.+',
+          'SHAPE': '(?:%s)' % '|'.join(KINDS), 'HALF': ' '.join([INTEGER] * 3) + ' (?:>=|>|=)'}
+
+
+class Fit(NamedTuple):
+    """What fits a word: the lines that have a form with it, the reply to one that is done, its refusals, the lines of its listing."""
+
+    line: re.Pattern
+    done: re.Pattern
+    refused: re.Pattern
+    listed: re.Pattern
+
+
+def pattern(form: str) -> re.Pattern:
+    """The texts of a form, in which each word in capitals stands for its piece: for a name, where PIECES has none."""
+    return re.compile(re.sub(r'\b[A-Z]+[01]?\b', lambda word: PIECES.get(word[0], NAME), form))
+
+
+def fit_of(word: str) -> Fit:
+    forms = {**FORMS, **DEEDS, 'rule': FORMS['rule'] + '(?: DEST)?', 'validate': 'validate all|' + FORMS['validate']}
+    codes = ['%s %s' % (code, DETAILS[code]) if code in DETAILS else code for code in CODES.get(word, '').split()]
+    return Fit(pattern(forms[word]), pattern(DONE.get(word, 'ok')), pattern('refused (?:%s)' % '|'.join(codes)), pattern(LISTED.get(word, '')))
+
+
+FITS = {word: fit_of(word) for word in [*FORMS, *DEEDS] if word != 'by'}
+
+
+def is_listing(fit: Fit, reply: list[str]) -> bool:
+    """Whether the reply is a listing, its total last, of lines that all fit."""
+    lines, total = reply[:-1], sum(not line.startswith('cell ') for line in reply[:-1])
+    return reply[-1] == 'total %d' % total and not reply[0].startswith('cell ') and all(map(fit.listed.fullmatch, lines))
+
+
+def can_answer(line: str, reply: list[str]) -> bool:
+    """Whether a line can have this reply, which is whole."""
+    if reply in (['refused E01'], ['refused E02']):
+        return True
+    fields = re.split('[ \t]+', line.strip(' \t'), maxsplit=4)
+    fit = FITS.get(''.join(fields[2:3]) if fields[0] == 'by' else fields[0])
+    if fit is None or not fit.line.fullmatch(' '.join(fields)):
+        return False
+    if fit.listed.pattern:
+        return is_listing(fit, reply)
+    return len(reply) == 1 and bool(fit.done.fullmatch(reply[0]) or fit.refused.fullmatch(reply[0]))
