@@ -33,7 +33,10 @@ class Installed(Case):
         self.assertEqual(self.run_words([words['answers'], 'p.topo', 'p.replies']).status, 0)
         self.assertEqual(self.run_words([words['report'], 'p.topo', 'p.replies']).out.count(',error,'), 3)
         self.assertEqual(self.run_words([words['draw'], '--html', os.path.join(root, 'usr/bin/topo'), 'p.topo', 'p.html']).status, 0)
-        self.assertEqual(self.run_words([words['tiles'], 'merge', '.']).status, 0)
+        self.assertEqual(self.run_words([words['tiles'], 'split', 'p.gpkg', '--grid', '0.001', '--tiles', '1', '--into', 'tiles']).status, 0)
+        with open(self.path('tiles/001.topo'), 'rb') as tile, open(self.path('tiles/001.replies'), 'w', encoding='utf-8') as out:
+            out.write(self.run_words([os.path.join(root, 'usr/bin/topo'), 'replay'], tile.read()).out)
+        self.assertEqual(self.run_words([words['tiles'], 'merge', 'tiles']).out, 'total 0\n')
         self.assertIn('class parcels polygon', self.run_words([words['towns'], '--script', '7', '3']).out)
         for name in words:
             self.assertEqual(os.readlink(os.path.join(root, 'usr/bin/topo-' + name)), '/usr/lib/topo/' + name)
