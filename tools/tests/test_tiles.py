@@ -45,11 +45,18 @@ class Tiles(Case):
             self.assertEqual(set(pool.map(self.run_tile, range(1, TILES + 1))), {0})
         merged = self.tool('tiles', 'merge', 'tiles')
         self.assertEqual((merged.status, merged.told), (0, ''))
-        whole = self.replay(self.tool('from-ogr', *words).out)
+        script = self.tool('from-ogr', *words).out
+        whole = self.replay(script)
         at = next(i for i, line in enumerate(whole) if line.startswith('ok judged'))
         listing = whole[at + 1:whole.index(next(line for line in whole[at:] if line.startswith('total'))) + 1]
         self.assertGreater(len(errors_of(listing[:-1])), 4000 * rows ** 2 // 40000)
         self.assertEqual(merged.out.splitlines(), listing)
+        for end, text in (('topo', script), ('replies', by_lines(*whole))):
+            with open(self.path('whole.' + end), 'w', encoding='utf-8') as out:
+                out.write(text)
+        tables = [self.tool('report', *words) for words in (['tiles'], ['whole.topo', 'whole.replies'])]
+        self.assertEqual([(table.status, table.told) for table in tables], [(0, '')] * 2)
+        self.assertEqual(tables[0].out, tables[1].out)
 
 
 class Ends(Case):
@@ -88,13 +95,93 @@ class Ends(Case):
                              ['error 1 1 2', 'error 1 2 3', 'error 1 3 4', 'total 3\n'])
         self.assertEqual(self.rows('tiles/errors.gpkg', 'SELECT count(*) AS n FROM error_polygons'), [{'n': 3}])
 
-    def test_tiles_without_replies(self):
-        self.source('a.gpkg', [rectangle(0, 0, 1, 1)])
-        self.tool('tiles', 'split', 'a.gpkg', '--grid', '0.1', '--tiles', '3', '--into', 'tiles')
-        self.assertEqual(len(os.listdir(self.path('tiles'))), 3)
+
+
+class Belonging(Case):
+    """Tiles and replies that belong together, and others."""
+
+    def split(self, *words: str):
+        return self.tool('tiles', 'split', 'row.gpkg', '--grid', '1', '--rule', 'polygon_must_not_overlap', 'lots', '--into', 'tiles', *words)
+
+    def setUp(self) -> None:
+        """A row of lots, each of which overlaps the next one, in four tiles with their replies."""
+        super().setUp()
+        self.source('row.gpkg', [rectangle(x, 0, x + 11, 10) for x in range(0, 120, 10)])
+        self.assertEqual(self.split('--tiles', '4').status, 0)
+
+    def replay_all(self, *names: str) -> None:
+        for name in names:
+            with open(self.path('tiles/%s.topo' % name), encoding='utf-8') as script:
+                self.replayed('tiles/' + name, script.read())
+
+    def refused(self, said: str) -> None:
+        """Each tool that takes tiles says this in one line, and writes nothing."""
+        for tool, words in (('tiles', ['merge', 'tiles']), ('report', ['tiles'])):
+            done = self.tool(tool, *words)
+            self.assertEqual((done.status, done.out, done.told), (2, '', '%s: %s\n' % (tool, said)))
+
+    def test_a_folder_that_has_tiles_is_refused(self):
+        before = sorted(os.listdir(self.path('tiles')))
+        said = 'tiles: tiles has tiles or replies already, such as tiles/001.topo: remove them, or name another folder\n'
+        self.assertEqual(tuple(self.split('--tiles', '2')), (2, '', said))
+        self.assertEqual(sorted(os.listdir(self.path('tiles'))), before)
+        for name in before:
+            os.rename(self.path('tiles/' + name), self.path('tiles/%s.replies' % name[:3]))
+        self.assertEqual(tuple(self.split('--tiles', '2')), (2, '', said.replace('.topo', '.replies')))
+
+    def test_a_split_that_fails_leaves_no_tile(self):
+        self.source('far.gpkg', [rectangle(x, 0, x + 10, 10) for x in (0, 20, 40, 10000000)])
+        done = self.tool('tiles', 'split', 'far.gpkg', '--grid', '1', '--tiles', '2', '--into', 'others')
+        self.assertEqual(done.status, 2)
+        self.assertIn('others/001.topo: 2 subjects', done.told)
+        self.assertEqual(os.listdir(self.path('others')), [])
+
+    def test_all_tiles_of_one_split(self):
+        self.replay_all('001', '002', '003', '004')
+        merged, table = self.tool('tiles', 'merge', 'tiles'), self.tool('report', 'tiles')
+        self.assertEqual((merged.status, merged.out.splitlines()[-1]), (0, 'total 11'))
+        self.assertEqual(table.out.splitlines()[1].split(',')[:6], ['1', 'polygon_must_not_overlap', '1', '2', 'cells', 'error'])
+        self.assertEqual(table.out.count('\n'), 12)
+        os.remove(self.path('tiles/004.topo'))
+        self.refused('tiles/001.topo is tile 1 of 4, and not 1 of 3: these are not all tiles of one split, or more')
+        self.assertEqual(self.tool('to-gis', 'tiles', 'out').status, 2)
+
+    def test_a_tile_twice(self):
+        self.replay_all('001', '002', '003', '004')
+        with open(self.path('tiles/003.topo'), encoding='utf-8') as script:
+            text = script.read().replace('# neighbour', '# subject')
+        self.replayed('tiles/003', text)
+        self.refused('two tiles in tiles have the error 1 6 7: a feature is the subject of one alone')
+
+    def test_replies_of_another_tile(self):
+        self.replay_all('001', '002', '003', '004')
+        shutil.copy(self.path('tiles/002.replies'), self.path('tiles/001.replies'))
+        self.refused('tiles/001.topo: line 22 cannot have the reply `ok 5`: the replies are not those of this script')
+        with open(self.path('tiles/002.replies'), encoding='utf-8') as replies:
+            text = replies.read()
+        for old, new in ((' 1 2 cells', ' 1 9 cells'), ('error 1', 'error 2')):
+            with open(self.path('tiles/002.replies'), 'w', encoding='utf-8') as out:
+                out.write(text.replace(old, new))
+            self.replay_all('001')
+            self.assertIn('cannot be one of this script', self.tool('report', 'tiles').told)
+
+    def test_without_replies_and_without_tiles(self):
         done = self.tool('tiles', 'merge', 'tiles')
         self.assertEqual(done.status, 2)
         self.assertIn('001.replies', done.told)
+        shutil.rmtree(self.path('tiles'))
+        os.mkdir(self.path('tiles'))
+        self.refused('no tiles in tiles')
+        self.replayed('tiles/001', 'class lots polygon\ncells\n')
+        self.refused('tiles/001.topo is no tile of tools/tiles')
+
+    def test_a_refused_line(self):
+        with open(self.path('tiles/001.topo'), 'a', encoding='utf-8') as script:
+            script.write('frobnicate\n')
+        self.replay_all('001', '002', '003', '004')
+        for tool, words in (('tiles', ['merge', 'tiles']), ('report', ['tiles'])):
+            done = self.tool(tool, *words)
+            self.assertEqual((done.status, done.told), (1, '%stiles/001.topo: refused lines: 1\n' % ('report: ' * (tool == 'report'))))
 
 
 if __name__ == '__main__':
