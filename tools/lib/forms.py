@@ -50,7 +50,8 @@ def pattern(form: str) -> re.Pattern:
 def fit_of(word: str) -> Fit:
     forms = {**FORMS, **DEEDS, 'rule': FORMS['rule'] + '(?: DEST)?', 'validate': 'validate all|' + FORMS['validate']}
     codes = ['%s %s' % (code, DETAILS[code]) if code in DETAILS else code for code in CODES.get(word, '').split()]
-    return Fit(pattern(forms[word]), pattern(DONE.get(word, 'ok')), pattern('refused (?:%s)' % '|'.join(codes)), pattern(LISTED.get(word, '')))
+    line = '[ \t]*(?:%s)[ \t]*' % forms[word].replace(' ', '[ \t]+')
+    return Fit(pattern(line), pattern(DONE.get(word, 'ok')), pattern('refused (?:%s)' % '|'.join(codes)), pattern(LISTED.get(word, '')))
 
 
 FITS = {word: fit_of(word) for word in [*FORMS, *DEEDS] if word != 'by'}
@@ -66,9 +67,9 @@ def can_answer(line: str, reply: list[str]) -> bool:
     """Whether a line can have this reply, which is whole."""
     if reply in (['refused E01'], ['refused E02']):
         return True
-    fields = re.split('[ \t]+', line.strip(' \t'), maxsplit=4)
-    fit = FITS.get(''.join(fields[2:3]) if fields[0] == 'by' else fields[0])
-    if fit is None or not fit.line.fullmatch(' '.join(fields)):
+    words = line.split(None, 3)
+    fit = FITS.get(''.join(words[2:3] if words[:1] == ['by'] else words[:1]))
+    if fit is None or not fit.line.fullmatch(line):
         return False
     if fit.listed.pattern:
         return is_listing(fit, reply)

@@ -171,12 +171,11 @@ class Ending:
 
     def remark(self, line: str) -> None:
         """Takes a remark line: of the grid, or of the feature that the next line adds."""
-        source, role = SOURCE.fullmatch(line), ROLE.fullmatch(line)
         if line.startswith('# grid '):
             self.remarks.append(line)
-        elif source:
+        elif source := SOURCE.fullmatch(line):
             self.waiting.update(fid=source[1], id=json.loads(source[2] or '""', strict=False))
-        elif role:
+        elif role := ROLE.fullmatch(line):
             self.waiting.update(handle=int(role[2]), is_subject=role[1] == 'subject')
 
     def listed(self, lines: list[str]) -> None:
