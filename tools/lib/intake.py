@@ -10,7 +10,7 @@ from fractions import Fraction
 from typing import Iterator, NamedTuple, Optional, TextIO
 
 from .grid import Extent, Grid, GridError, chosen_grid, decimal_text
-from .ogr import Feature, Layer, SourceError, features_of, layer_names, layer_of
+from .ogr import Feature, Layer, SourceError, features_of, is_source, layer_names, layer_of
 from .rules import nearest
 from .scripts import Converter, LeftOut, Taken, class_name, kind_of_layer, moved_text
 
@@ -161,21 +161,55 @@ class Report:
             (format(self.read, ','), format(self.added, ','), format(self.left_out, ','), format(self.moved, ','), moved_text(self.most)))
 
 
-def check_id(classes: list[Class], id_field: Optional[str]) -> None:
-    """Tells of layers that have no such field; a SourceError where none has it."""
-    known = sorted({field for of in classes for field in of.layer.fields})
-    if id_field and id_field not in known:
-        raise SourceError('there is no field `%s`%s' % (id_field, nearest(id_field, known) or '; there are ' + ', '.join(known)))
+def sources_of(source: list[str], ids: list[list[str]]) -> tuple[list[str], list[list[str]]]:
+    """The sources and the words of each `--id`. Where no source stands elsewhere, an `--id` has them behind its own words: from the first
+    word that is one, or where none is, the last word of the last `--id`."""
+    places = [(n, i) for n, words in enumerate(ids) for i, word in enumerate(words) if i and is_source(word)]
+    places += [(len(ids) - 1, len(words) - 1) for words in ids[-1:] if len(words) > 1]
+    if source or not places:
+        return source, ids
+    n, i = places[0]
+    return ids[n][i:], ids[:n] + [ids[n][:i]] + ids[n + 1:]
+
+
+def named_classes(classes: list[Class], name: str) -> list[Class]:
+    """The class of this name, or the classes of the layers of this name; a SourceError where there is none."""
+    found = [of for of in classes if of.name == name] or [of for of in classes if of.layer.name == name]
+    if not found:
+        known = [of.name for of in classes]
+        raise SourceError('there is no class or layer `%s`%s' % (name, nearest(name, known) or '; there are ' + ', '.join(known)))
+    return found
+
+
+def check_field(field: str, classes: list[Class]) -> None:
+    """Raises a SourceError where none of the classes has the field."""
+    known = sorted({each for of in classes for each in of.layer.fields})
+    if field not in known:
+        raise SourceError('there is no field `%s`%s' % (field, nearest(field, known) or '; there are ' + ', '.join(known)))
+
+
+def id_fields(classes: list[Class], asked: list[list[str]]) -> dict[str, str]:
+    """The field of the ids of each class, by the class's name, as `--id FIELD` says of all classes and `--id CLASS FIELD` of one. Tells of
+    classes that have none of theirs."""
+    fields: dict[str, str] = {}
+    for words in sorted(asked, key=len):
+        if len(words) > 2:
+            raise SourceError('`--id %s`: it takes a field, or a class or layer and its field' % ' '.join(words))
+        of_words = named_classes(classes, words[0]) if len(words) == 2 else classes
+        check_field(words[-1], of_words)
+        fields.update({of.name: words[-1] for of in of_words})
     for of in classes:
-        if id_field and id_field not in of.layer.fields:
-            say('layer %s: it has no field %s' % (of.layer.name, id_field))
+        if of.name in fields and fields[of.name] not in of.layer.fields:
+            say('layer %s: it has no field %s' % (of.layer.name, fields.pop(of.name)))
+    return fields
 
 
-def arrivals(classes: list[Class], converter: Converter, id_field: Optional[str], report: Report) -> Iterator[Arrival]:
-    """The shapes of all features, one feature at a time, in the order of their handles; what has none is told in the report."""
+def arrivals(classes: list[Class], converter: Converter, ids: dict[str, str], report: Report) -> Iterator[Arrival]:
+    """The shapes of all features, one feature at a time, in the order of their handles, with the ids of these fields by class; what has
+    none is told in the report."""
     handle = 1
     for of in classes:
-        for feature in features_of(of.layer, id_field):
+        for feature in features_of(of.layer, ids.get(of.name)):
             report.count()
             try:
                 shapes = list(converter.shapes(feature.wkt, of.kind))

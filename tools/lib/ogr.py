@@ -69,9 +69,14 @@ def run(words: list[str]) -> str:
     return done.stdout.decode('utf-8', 'replace')
 
 
+def is_source(word: str) -> bool:
+    """Whether a word is the path of a file or folder, or may be a connection."""
+    return os.path.exists(word) or re.match('/vsi|[A-Za-z]+:', word) is not None
+
+
 def layer_names(source: str) -> list[str]:
     """The layers in their order; after a name ogrinfo may have a title and a type, both in brackets."""
-    if not os.path.exists(source) and not re.match('/vsi|[A-Za-z]+:', source):
+    if not is_source(source):
         raise SourceError('there is no file or folder %s' % source)
     lines = run(['ogrinfo', '-ro', '-q', source]).splitlines()
     found = (re.fullmatch(r'\d+: (.*?)(?: \(title: .*\))?(?: \([^()]*(?:\(any\))?\))?', line) for line in lines)

@@ -73,6 +73,28 @@ class Sources(Case):
         done = self.tool('from-ogr', source, '--grid', '0.01', '--id', 'nrr')
         self.assertEqual((done.status, done.out, done.told), (2, '', 'from-ogr: there is no field `nrr`; did you mean `nr`?\n'))
 
+    def test_ids_of_a_field_of_each_layer(self):
+        self.source('j.gpkg', LOTS[:2], layer='lots')
+        self.source('j.gpkg', LOTS[:1], '-update', '-sql', 'SELECT nr AS house FROM "old houses"', layer='old houses')
+        remarks = lambda *words: [line for line in self.tool('from-ogr', *words, '--grid', '0.01').out.splitlines() if line.startswith('# fid')]
+        both = ['# fid 1 id "N1"', '# fid 2 id "N2"', '# fid 1 id "N1"']
+        self.assertEqual(remarks('j.gpkg', '--id', 'lots', 'nr', '--id', 'old_houses', 'house'), both)
+        self.assertEqual(remarks('j.gpkg', '--id', 'old houses', 'house', '--id', 'nr'), both)
+        self.assertEqual(remarks('j.gpkg', '--id', 'old houses', 'house'), ['# fid 1', '# fid 2', both[2]])
+        self.assertEqual(remarks('j.gpkg', '--id', 'nr'), both[:2] + ['# fid 1'])
+
+    def test_a_source_behind_an_id(self):
+        self.source('k.gpkg', LOTS[:1])
+        for words in (['nr', 'k.gpkg'], ['lots', 'nr', 'k.gpkg'], ['nr', 'k.gpkg', '--id', 'lots', 'nr']):
+            self.assertIn('\n# fid 1 id "N1"\n', self.tool('from-ogr', '--grid', '0.01', '--id', *words).out)
+        for words, said in ((['nr', 'gone.gpkg'], 'from-ogr: there is no file or folder gone.gpkg\n'),
+                            (['lot', 'nr', 'k.gpkg'], 'from-ogr: there is no class or layer `lot`; did you mean `lots`?\n'),
+                            (['lots', 'nrr', 'k.gpkg'], 'from-ogr: there is no field `nrr`; did you mean `nr`?\n')):
+            done = self.tool('from-ogr', '--grid', '0.01', '--id', *words)
+            self.assertEqual((done.status, done.out, done.told), (2, '', said))
+        for words in (['--id', 'nr'], []):
+            self.assertIn('required: source', self.tool('from-ogr', '--grid', '0.01', *words).told)
+
     def frame(self, script: str) -> str:
         """The frame of the first feature."""
         line = next(line for line in script.splitlines() if line.startswith('by'))

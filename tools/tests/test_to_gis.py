@@ -10,7 +10,7 @@ from lib.maps import Rounding, are_valid, geometries_of
 from lib.grid import Grid
 from lib.outlines import doubled_area, outlines_of
 from lib.replies import half_of
-from working import TOOLS, Case, by_lines
+from working import TOOLS, Case, by_lines, rectangle
 
 UNIT = Grid(Fraction(1), Fraction(0), Fraction(0))
 
@@ -31,6 +31,20 @@ class Layers(Case):
                            "(a.parcel, b.parcel) IN (VALUES ('03/06', '03/07'), ('10/13', '10/13a'), ('19/18', '19/19')) ORDER BY a.fid")
         for row, of_both in zip(rows, common):
             self.assertAlmostEqual(row['a'], of_both['a'], 5)
+
+    def test_ids_of_a_field_of_each_layer(self):
+        self.source('two.gpkg', [rectangle(0, 0, 9, 9)], layer='lots')
+        self.source('two.gpkg', [rectangle(20, 0, 29, 9), rectangle(5, 0, 12, 9)], '-update', '-sql', 'SELECT nr AS name FROM lakes', layer='lakes')
+        words = ['two.gpkg', '--grid', '1', '--rule', 'polygon_must_not_overlap_with', 'lots', 'lakes', '--id', 'lots', 'nr', '--id', 'lakes', 'name']
+        self.assertEqual(self.tool('to-gis', *self.replayed('two', self.tool('from-ogr', *words).out), 'out.gpkg').status, 0)
+        asked = 'SELECT class, subject_id, other_class, other_id FROM error_polygons'
+        self.assertEqual([tuple(row.values()) for row in self.rows('out.gpkg', asked)], [('lots', 'N1', 'lakes', 'N2')])
+        self.assertEqual(self.tool('tiles', 'split', *words, '--tiles', '2', '--into', 'tiles').status, 0)
+        for name in ('001', '002'):
+            with open(self.path('tiles/%s.topo' % name), encoding='utf-8') as script:
+                self.replayed('tiles/' + name, script.read())
+        self.assertEqual(self.tool('to-gis', 'tiles', 'tiled.gpkg').status, 0)
+        self.assertEqual([tuple(row.values()) for row in self.rows('tiled.gpkg', asked)], [('lots', 'N1', 'lakes', 'N2')])
 
     def errors(self, *lines: str, words=()) -> dict:
         """The layers of a script with two classes of lots, as GeoJSON, by name."""
