@@ -14,6 +14,8 @@ from .ogr import Feature, Layer, SourceError, features_of, is_source, layer_name
 from .rules import nearest
 from .scripts import Converter, LeftOut, Taken, class_name, kind_of_layer, moved_text
 
+# The columns of the table of features.
+COLUMNS = ['layer', 'fid', 'id', 'class', 'handle', 'moved', 'note']
 SHOWN = 3
 PAUSE = 5
 
@@ -112,7 +114,7 @@ class Report:
     def __init__(self, table: Optional[TextIO], of: int):
         self.rows = csv.writer(table, lineterminator='\n') if table else None
         if self.rows:
-            self.rows.writerow(['layer', 'fid', 'id', 'class', 'handle', 'moved', 'note'])
+            self.rows.writerow(COLUMNS)
         self.of, self.read, self.added, self.left_out, self.moved = of, 0, 0, 0, 0
         self.most = Fraction(0)
         self.shown: dict[str, int] = {}

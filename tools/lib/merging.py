@@ -35,7 +35,8 @@ def check_place(script: str, ending: Ending, number: int, count: int) -> None:
     if said is None or ending.grid is None:
         raise ReplyError('%s is no tile of tools/tiles' % script)
     if said != tile_remark(number, count):
-        raise ReplyError('%s is tile %s, and not %d of %d: these are not all tiles of one split, or more' % (script, said[len(TILE):], number, count))
+        raise ReplyError('%s is tile %s, and not %d of %d: these are not all tiles of one split, or more' %
+                         (script, said[len(TILE):], number, count))
 
 
 def endings_of(folder: str) -> Iterator[tuple[str, Ending]]:
@@ -80,7 +81,8 @@ def errors_of_tile(script: str, listing: Listing, ending: Ending) -> list[Error]
     errors = errors_of(listing.lines)
     stray = next((error for error in errors if not is_of_tile(error, listing, ending)), None)
     if stray:
-        raise ReplyError('%s: the error %d %d %d cannot be one of this script: the replies are not those of this script' % (script, *stray[1:4]))
+        raise ReplyError('%s: the error %d %d %d cannot be one of this script: the replies are not those of this script' %
+                         (script, *stray[1:4]))
     by = ending.grid.whole_offset(ending.remarks)
     return [moved_back(error, ending, by) for error in errors if ending.origins[error.subject].is_subject]
 

@@ -142,6 +142,12 @@ def rules_of(lines: list[str]) -> dict[int, Rule]:
     return {int(number): rule_of(words) for _, number, *words in map(str.split, lines)}
 
 
+def source_of(remark: str) -> Optional[tuple[str, str]]:
+    """The number and the id of a feature in its source, which the remark above its line says; none where it says something else."""
+    found = SOURCE.fullmatch(remark)
+    return (found[1], json.loads(found[2] or '""', strict=False)) if found else None
+
+
 @dataclass
 class Listing:
     """The lines of a listing, the number of its line, how many lines before it changed something, and the rules in force there."""
@@ -173,8 +179,8 @@ class Ending:
         """Takes a remark line: of the grid, or of the feature that the next line adds."""
         if line.startswith('# grid '):
             self.remarks.append(line)
-        elif source := SOURCE.fullmatch(line):
-            self.waiting.update(fid=source[1], id=json.loads(source[2] or '""', strict=False))
+        elif source := source_of(line):
+            self.waiting.update(fid=source[0], id=source[1])
         elif role := ROLE.fullmatch(line):
             self.waiting.update(handle=int(role[2]), is_subject=role[1] == 'subject')
 
