@@ -48,6 +48,7 @@ class Tools(Case):
         for tool, words in (('report', []), ('answers', ['--refused']), ('to-gis', ['out'])):
             done = self.tool(tool, 'lots.topo', 'wells.replies', *words)
             self.assertEqual((done.status, done.out, done.told), (2, '', '%s: %s' % (tool, said)))
+        self.assertFalse(os.path.exists(self.path('out')))
 
     def test_a_refusal_at_a_place_that_the_line_does_not_have(self):
         for name, text in (('s.topo', LOTS), ('s.replies', by_lines('ok 1', 'ok', 'refused E18 cross 4 7', 'total 0'))):

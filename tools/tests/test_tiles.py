@@ -157,6 +157,11 @@ class Belonging(Case):
         self.replay_all('001', '002', '003', '004')
         shutil.copy(self.path('tiles/002.replies'), self.path('tiles/001.replies'))
         self.refused('tiles/001.topo: line 22 cannot have the reply `ok 5`: the replies are not those of this script')
+        os.rename(self.path('tiles/001.replies'), self.path('tiles/004.replies'))
+        self.replay_all('001')
+        self.assertEqual(self.tool('to-gis', 'tiles', 'out').status, 2)
+        self.assertFalse(os.path.exists(self.path('out')))
+        self.replay_all('004')
         with open(self.path('tiles/002.replies'), encoding='utf-8') as replies:
             text = replies.read()
         for old, new in ((' 1 2 cells', ' 1 9 cells'), ('error 1', 'error 2')):
