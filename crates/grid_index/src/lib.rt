@@ -13,7 +13,7 @@ mod relation;
 mod siblings;
 
 pub use index::Index;
-pub use meter::{Count, Meter};
+pub use meter::{Count, Meter, NoCount};
 pub use once::once_each;
 pub use placed::Placed;
 pub use relation::Relation;

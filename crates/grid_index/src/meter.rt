@@ -59,7 +59,7 @@ impl Meter for Count {
 
 /// Counts no step, and takes no time.
 #[derive(Drop)]
-pub(crate) struct NoCount;
+pub struct NoCount;
 
 impl Meter for NoCount {
     ghost taken = { λ _. 0 };

@@ -1,2 +1,2 @@
-// Products of whole numbers: identities, signs and order; numbers that are not 0. Lemmas alone.
+// Whole numbers: identities of products, the order of products, sums and differences; numbers that are not 0. Lemmas alone.
 #![tactic(auto)]
