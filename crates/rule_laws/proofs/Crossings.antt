@@ -59,7 +59,7 @@ polygon_even p s e =
     (every_of_all (λ t. Unit {0}) (λ t. tt) (segments_of s))
 
 -- ---- above and below both ends
-cross_above : (s : Segment) (p : Point) → (s.lo.x *ℤ pos p.w) ≤ℤ p.x → p.x <ℤ (s.hi.x *ℤ pos p.w) → (s.lo.y *ℤ pos p.w) <ℤ p.y
+pub cross_above : (s : Segment) (p : Point) → (s.lo.x *ℤ pos p.w) ≤ℤ p.x → p.x <ℤ (s.hi.x *ℤ pos p.w) → (s.lo.y *ℤ pos p.w) <ℤ p.y
     → (s.hi.y *ℤ pos p.w) <ℤ p.y → pos 0 <ℤ cross s p
 cross_above s p l r a b =
     let w = num (pos p.w) in

@@ -6,12 +6,13 @@ mod Carved
 mod Chosen
 mod Depth
 mod HeldBy
+mod LineSides
 mod More
 mod Neighbours
 mod Once
 mod OpenPieces
 mod Opened
-mod Parting
+mod Stacking
 mod Parts
 mod Rest
 mod Rightwards
@@ -21,3 +22,4 @@ mod Shares
 mod Shut
 mod Spots
 mod Tested
+mod Turned

@@ -45,7 +45,7 @@ three_tests u v z k e = (from u v z k e, to u v z k e, over u v z k e)
     over : (u v z k : ℤ) → (int_le u z && (int_lt z v && int_lt (pos 0) k)) ≡ true → pos 0 <ℤ k
     over u v z k e = grind (arith, ints)
 
-low_end : (s : Segment) (p : Point) (v : ℤ) → (s.lo.x *ℤ pos p.w) ≤ℤ p.x → p.x <ℤ (s.hi.x *ℤ pos p.w) → v ≤ℤ s.lo.y → v ≤ℤ s.hi.y
+pub low_end : (s : Segment) (p : Point) (v : ℤ) → (s.lo.x *ℤ pos p.w) ≤ℤ p.x → p.x <ℤ (s.hi.x *ℤ pos p.w) → v ≤ℤ s.lo.y → v ≤ℤ s.hi.y
     → pos 0 <ℤ cross s p → (v *ℤ pos p.w) <ℤ p.y
 low_end s p v l r a b c = elim (cases_order_ℤ (v *ℤ pos p.w) p.y) [
   | inl h ↦ h

@@ -3,8 +3,8 @@ ghost use Rattle.std.specs.Bool.{OnTrue};
 ghost use Rattle.topology_terms.specs.Plans as plans;
 ghost use Rattle.rule_loops.specs.Beside.{AreBeside};
 
-use crate::parted::are_parted;
 use crate::polygon::{are_polygons, inside_of};
+use crate::stacked::are_stacked;
 use convex_cell::Cells;
 use grid_plane::{NoMemory, Rect};
 use rule_core::Work;
@@ -27,19 +27,19 @@ fn are_beside(r: &Rect, s: &Rect) -> bool
     s.y1() <= r.y0()
 }
 
-// Whether the envelopes, or a line between the polygons, show that they have no inside point in common.
+// Whether the envelopes show that they have no inside point in common, or that one stands above the other or beside it.
 fn are_clear(subject: &Feature, partner: &Feature) -> bool
     ensures { OnTrue result (plans.overlap_cells subject.now partner.now ≡ []) }
 {
     if are_polygons(subject, partner) {
         let (own, other) = (subject.shape(), partner.shape());
-        return are_beside(&own.env(), &other.env()) || are_parted(own, other);
+        return are_beside(&own.env(), &other.env()) || are_stacked(own, other);
     }
     false
 }
 
 /// The cells of what two polygons have inside in common. None are made of polygons whose envelopes only touch, and none of small
-/// polygons that a line through a segment of one of them parts.
+/// polygons one of which stands above the other or beside it.
 pub fn common_inside(
     alloc: Global,
     subject: &Feature,

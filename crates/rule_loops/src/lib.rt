@@ -19,7 +19,6 @@ mod off_ends;
 mod open;
 mod own;
 mod pairs;
-mod parted;
 mod partners;
 mod places;
 mod polygon;
@@ -27,6 +26,7 @@ mod remainder;
 mod shared;
 mod sides;
 mod single;
+mod stacked;
 mod stretches;
 mod uncovered;
 

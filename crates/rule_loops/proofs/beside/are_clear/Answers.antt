@@ -1,11 +1,11 @@
 use Rattle.std.proofs.Common.{◌≡◌, ◌∙◌, ap}
 use Rattle.std.proofs.lemmas.Bool.{OnTrue_at, OnTrue_from}
-use Rattle.plane_terms.specs.Shape.{Shape, envelope_of}
+use Rattle.plane_terms.specs.Shape.{Shape, envelope_of, segments_of}
 use Rattle.topology_terms.specs.Feature.{env}
 use Rattle.rule_loops.specs.Beside.{AreBeside}
-use Rattle.rule_loops.specs.Parted.{AreParted}
+use Rattle.rule_loops.specs.Stacked.{AreStacked}
 use Rattle.rule_loops.proofs.Neighbours.{beside_common}
-use Rattle.rule_loops.proofs.Parting.{parted_common}
+use Rattle.rule_loops.proofs.Stacking.{stacked_common}
 use Rattle.rule_loops.proofs.beside.are_clear.Goals as goal
 
 pub returns-then-are_beside : goal.returns-then-are_beside
@@ -21,7 +21,7 @@ returns-then-are_beside c =
 
 pub returns-else-are_beside : goal.returns-else-are_beside
 returns-else-are_beside c =
-    OnTrue_from _ _ (λ t. parted_common c.args.subject.now c.args.partner.now
+    OnTrue_from _ _ (λ t. stacked_common c.args.subject.now c.args.partner.now
     (OnTrue_at c.if-are_polygons.true c.are_polygons.ensures.subject) (OnTrue_at c.if-are_polygons.true c.are_polygons.ensures.polygon)
     (rw (c.shape-own.ensures, c.shape-other.ensures) at
-    (OnTrue_at {P = AreParted c.shape-own.result.now c.shape-other.result.now} t c.are_parted.ensures)))
+    (OnTrue_at {P = AreStacked (segments_of c.shape-own.result.now) (segments_of c.shape-other.result.now)} t c.are_stacked.ensures)))

@@ -1,31 +1,23 @@
--- Polygons that a line parts have no inside point in common: what is inside the one on its left is left of it, since a segment of that one
--- runs below it; and what is inside the other is not, since a segment of that one runs above it or through it.
+-- What is above a segment is above a line that has the segment on its left; what is not above one is not above a line that has it on its
+-- right. Of a point inside a polygon some segment runs above or through it, in its column.
 use Rattle.std.proofs.Common.{◌≡◌, inl, inr, ℕ, ℤ, pos, ◌+ℤ◌, ◌-ℤ◌, ◌*ℤ◌, ◌≤ℤ◌, ◌<ℤ◌, arith, refl, ap, ◌∙◌, Bool, true, false, List, [], ◌∷◌}
-use Rattle.std.specs.Prelude.{◌&&◌, ◌||◌, ◌⊎◌}
-use Rattle.std.specs.List.{list_all}
+use Rattle.std.specs.Prelude.{◌&&◌, ◌⊎◌}
 use Rattle.std.specs.Int.RustNames.{int_le, int_lt}
 use Rattle.std.proofs.lemmas.Int.{ints}
 use Rattle.std.proofs.lemmas.Bool.{false≢true}
-use Rattle.plane_terms.specs.Lists.{Every, SomeOf}
+use Rattle.plane_terms.specs.Lists.{SomeOf}
 use Rattle.plane_terms.specs.Point.{Point}
-use Rattle.plane_terms.specs.Segment.{Segment, IsSegment, cross, first_of}
+use Rattle.plane_terms.specs.Segment.{Segment, IsSegment, cross}
 use Rattle.plane_terms.specs.Share.{turn}
 use Rattle.plane_terms.specs.Polygon.{counts, IsInside}
 use Rattle.plane_terms.specs.declared.kind.Kind.TheVariants as shapes
-use Rattle.topology_terms.specs.Feature.{Feature, sides, env}
-use Rattle.topology_terms.specs.Plans.{overlap_cells}
+use Rattle.topology_terms.specs.Feature.{Feature, sides}
 use Rattle.number_laws.proofs.Ring.{num, ◌⊕◌, ◌⊖◌, ◌⊗◌, same_by, same_read}
 use Rattle.number_laws.proofs.Order.{scaled_le, product_at_least, product_over, over_unscaled, cases_order_ℤ}
-use Rattle.number_laws.proofs.Tests.{Decides-int_le}
 use Rattle.column_laws.proofs.Parity.{differ, odd_differ}
 use Rattle.column_laws.proofs.Signs.{most_scaled}
 use Rattle.rule_laws.proofs.Crossings.{spans, polygon_even, both_tests}
-use Rattle.rule_laws.proofs.Envelopes.{BothEnds, firsts_both}
-use Rattle.rule_laws.proofs.Families.{IsFit}
-use Rattle.rule_laws.proofs.Held.{some_each}
-use Rattle.rule_laws.proofs.Tests.{any_some}
-use Rattle.rule_loops.specs.Parted.{is_left, is_right, parts, has_end_in, some_parts, AreParted}
-use Rattle.rule_loops.proofs.Neighbours.{some_passes, three_tests, none_common}
+use Rattle.rule_loops.proofs.Neighbours.{some_passes}
 
 -- ---- the two crosses of a point, and the turns of the ends of a segment that spans its column
 -- the line t goes dx to the right and dy up, the segment s width to the right and rise up, and from its lower end to the point it is
@@ -166,75 +158,9 @@ idle s p e =
     first_alone true false d e = absurd (false≢true e)
     first_alone false c d e = absurd (false≢true e)
 
-some_idle : (f : Feature) (p : Point) → f.shape.kind ≡ shapes.Polygon → IsInside (sides f) p
+pub some_idle : (f : Feature) (p : Point) → f.shape.kind ≡ shapes.Polygon → IsInside (sides f) p
     → SomeOf (λ s. differ (counts s p) (spans p s) ≡ true) (sides f)
 unfolding differ
 some_idle f p e i =
     some_passes (λ s. differ (counts s p) (spans p s)) (sides f)
     (odd_differ (λ s. counts s p) (spans p) (sides f) ∙ rw (i.odd, polygon_even p f.shape e) refl)
-
--- what the tests say
-both_true : (b c : Bool) → b && c ≡ true → (b ≡ true) × (c ≡ true)
-both_true true c e = (refl, e)
-both_true false c e = absurd (false≢true e)
-
-lefts : (t : Segment) (ss : List Segment) → list_all (is_left t) ss ≡ true → Every (λ s. pos 0 ≤ℤ turn t (first_of s)) ss
-lefts t [] e = tt
-lefts t (s ∷ ss) e =
-    let k = both_true (is_left t s) (list_all (is_left t) ss) e in
-    ((Decides-int_le (pos 0) (turn t (first_of s))).0 k.0, lefts t ss k.1)
-
-rights : (t : Segment) (ss : List Segment) → list_all (is_right t) ss ≡ true → Every (λ s. turn t (first_of s) ≤ℤ pos 0) ss
-rights t [] e = tt
-rights t (s ∷ ss) e =
-    let k = both_true (is_right t s) (list_all (is_right t) ss) e in
-    ((Decides-int_le (turn t (first_of s)) (pos 0)).0 k.0, rights t ss k.1)
-
-module _ (t : Segment) (f : Feature) (p : Point) (o : IsSegment t) (e : f.shape.kind ≡ shapes.Polygon) (i : IsInside (sides f) p) where
-  inside_left : list_all (is_left t) (sides f) ≡ true → pos 0 <ℤ cross t p
-  inside_left h = some_each (BothEnds (λ q. pos 0 ≤ℤ turn t q)) (λ s. counts s p ≡ true) (pos 0 <ℤ cross t p) one (sides f)
-      (firsts_both (λ q. pos 0 ≤ℤ turn t q) f.shape e (lefts t (sides f) h)) (some_passes (λ s. counts s p) (sides f) i.odd)
-    where
-      one : (s : Segment) → BothEnds (λ q. pos 0 ≤ℤ turn t q) s → counts s p ≡ true → pos 0 <ℤ cross t p
-      one s b c =
-          let k = three_tests (s.lo.x *ℤ pos p.w) (s.hi.x *ℤ pos p.w) p.x (cross s p) c in
-          left_over t s p o (record { from = k.0; to = k.1 }) b.0 b.1 k.2
-
-  inside_right : list_all (is_right t) (sides f) ≡ true → cross t p ≤ℤ pos 0
-  inside_right h = some_each (BothEnds (λ q. turn t q ≤ℤ pos 0)) (λ s. differ (counts s p) (spans p s) ≡ true) (cross t p ≤ℤ pos 0) one (sides f)
-      (firsts_both (λ q. turn t q ≤ℤ pos 0) f.shape e (rights t (sides f) h)) (some_idle f p e i)
-    where
-      one : (s : Segment) → BothEnds (λ q. turn t q ≤ℤ pos 0) s → differ (counts s p) (spans p s) ≡ true → cross t p ≤ℤ pos 0
-      one s b c = let k = idle s p c in right_not_over t s p o k.0 b.0 b.1 k.1
-
--- ---- two polygons
--- f on one side of the line of t, g on the other
-no_common : (t : Segment) (f g : Feature) (p : Point) → IsSegment t → IsFit shapes.Polygon f → IsFit shapes.Polygon g → IsInside (sides f) p
-    → IsInside (sides g) p → parts t (sides f) (sides g) ≡ true → ⊥
-no_common t f g p o u v i j e = by_side (list_all (is_left t) (sides g)) (list_all (is_right t) (sides f)) (list_all (is_right t) (sides g))
-    (list_all (is_left t) (sides f)) refl refl refl refl e
-  where
-    by_side : (a b c d : Bool) → list_all (is_left t) (sides g) ≡ a → list_all (is_right t) (sides f) ≡ b → list_all (is_right t) (sides g) ≡ c
-        → list_all (is_left t) (sides f) ≡ d → (a && b) || (c && d) ≡ true → ⊥
-    by_side true true c d h k l m e =
-        absurd (omega (arith, ints, inside_left t g p o v.kind j h, inside_right t f p o u.kind i k))
-    by_side true false true true h k l m e =
-        absurd (omega (arith, ints, inside_left t f p o u.kind i m, inside_right t g p o v.kind j l))
-    by_side true false true false h k l m e = absurd (false≢true e)
-    by_side true false false d h k l m e = absurd (false≢true e)
-    by_side false b true true h k l m e =
-        absurd (omega (arith, ints, inside_left t f p o u.kind i m, inside_right t g p o v.kind j l))
-    by_side false b true false h k l m e = absurd (false≢true e)
-    by_side false b false d h k l m e = absurd (false≢true e)
-
-parted_by : (f g : Feature) (p : Point) → IsFit shapes.Polygon f → IsFit shapes.Polygon g → IsInside (sides f) p → IsInside (sides g) p
-    → some_parts (env g) (sides f) (sides g) ≡ true → ⊥
-parted_by f g p u v i j e =
-    let test = λ (t : Segment). has_end_in (env g) t && parts t (sides f) (sides g) in
-    some_each IsSegment (λ t. test t ≡ true) ⊥
-    (λ t o k. no_common t f g p o u v i j (both_true (has_end_in (env g) t) (parts t (sides f) (sides g)) k).1) (sides f) u.proper
-    ((any_some IsSegment (λ t. test t ≡ true) test (λ t o. (λ k. k, λ k. k)) (sides f) u.proper).0 e)
-
-pub parted_common : (f g : Feature) → IsFit shapes.Polygon f → IsFit shapes.Polygon g → AreParted f.shape g.shape → overlap_cells f g ≡ []
-parted_common f g u v (inl h) = none_common f g u v (λ p i j. parted_by f g p u v i j h)
-parted_common f g u v (inr h) = none_common f g u v (λ p i j. parted_by g f p v u j i h)
