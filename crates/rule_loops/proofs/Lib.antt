@@ -12,6 +12,7 @@ mod Neighbours
 mod Once
 mod OpenPieces
 mod Opened
+mod Ordered
 mod Stacking
 mod Parts
 mod Rest

@@ -23,7 +23,9 @@ use Rattle.number_laws.proofs.Tests.{Decides-int_le, Decides-int_lt}
 use Rattle.column_laws.proofs.Parity.{differ, odd_differ}
 use Rattle.rule_laws.proofs.Crossings.{spans, both_tests, cross_above}
 use Rattle.rule_laws.proofs.Families.{IsFit}
-use Rattle.rule_loops.specs.Stacked.{highest, lowest, lies_left, lies_right, is_under, rises, is_before, are_under, are_before, AreStacked}
+use Rattle.rule_loops.specs.Stacked.{highest, lowest, lies_left, lies_right, is_under, rises, is_before, are_ordered, AreStacked}
+use Rattle.rule_loops.specs.declared.stacked.Order.{Order}
+use Rattle.rule_loops.specs.declared.stacked.Order.TheVariants as order
 use Rattle.rule_loops.specs.Stacked.{turned_place, turned_point, turned_segment}
 use Rattle.rule_loops.proofs.LineSides.{Spans, left_over, right_not_over, some_idle}
 use Rattle.rule_loops.proofs.Neighbours.{some_passes, three_tests, low_end, none_common}
@@ -68,15 +70,15 @@ counts_too s t p u v h i c =
     counts_from s p i (above_too s t p u v h (record { from = k.0; to = k.1 }) (record { from = m.0; to = m.1 }) m.2)
 
 -- ---- what the tests say
-either : (b c : Bool) → b || c ≡ true → (b ≡ true) ⊎ (c ≡ true)
+pub either : (b c : Bool) → b || c ≡ true → (b ≡ true) ⊎ (c ≡ true)
 either true c e = inl refl
 either false c e = inr e
 
-both : (b c : Bool) → b && c ≡ true → (b ≡ true) × (c ≡ true)
+pub both : (b c : Bool) → b && c ≡ true → (b ≡ true) × (c ≡ true)
 both true c e = (refl, e)
 both false c e = absurd (false≢true e)
 
-at_most : (a b : ℤ) → int_le a b ≡ true → a ≤ℤ b
+pub at_most : (a b : ℤ) → int_le a b ≡ true → a ≤ℤ b
 at_most a b e = (Decides-int_le a b).0 e
 
 on_right : (t s : Segment) → lies_right t s ≡ true → (turn t s.lo ≤ℤ pos 0) × (turn t s.hi ≤ℤ pos 0)
@@ -285,17 +287,15 @@ some_idle_turned f p e i =
     (odd_differ (λ s. counts (turned_segment s) (turned_point p)) (λ s. spans (turned_point p) (turned_segment s)) (sides f)
     ∙ rw (turned_odd f p e i, turned_even f p e) refl)
 
-no_common : (f g : Feature) (p : Point) → IsFit shapes.Polygon f → IsFit shapes.Polygon g → IsInside (sides f) p → IsInside (sides g) p
-    → (are_under (sides f) (sides g) ≡ true) ⊎ (are_before (sides f) (sides g) ≡ true) → ⊥
-no_common f g p u v i j (inl e) =
+no_common : (o : Order) (f g : Feature) (p : Point) → IsFit shapes.Polygon f → IsFit shapes.Polygon g → IsInside (sides f) p
+    → IsInside (sides g) p → are_ordered o (sides f) (sides g) ≡ true → ⊥
+no_common order.Under f g p u v i j e =
     none_between is_under (λ s. s) p (under_too p) (sides f) (sides g) u.proper v.proper e (some_idle f p u.kind i)
     (some_passes (λ s. counts s p) (sides g) j.odd)
-no_common f g p u v i j (inr e) =
+no_common order.Before f g p u v i j e =
     none_between is_before turned_segment (turned_point p) (before_too (turned_point p)) (sides f) (sides g) u.proper v.proper e
     (some_idle_turned f p u.kind i) (some_turned g p v.kind j)
 
 pub stacked_common : (f g : Feature) → IsFit shapes.Polygon f → IsFit shapes.Polygon g → AreStacked (sides f) (sides g) → overlap_cells f g ≡ []
-stacked_common f g u v (inl (inl h)) = none_common f g u v (λ p i j. no_common f g p u v i j (inl h))
-stacked_common f g u v (inl (inr h)) = none_common f g u v (λ p i j. no_common g f p v u j i (inl h))
-stacked_common f g u v (inr (inl h)) = none_common f g u v (λ p i j. no_common f g p u v i j (inr h))
-stacked_common f g u v (inr (inr h)) = none_common f g u v (λ p i j. no_common g f p v u j i (inr h))
+stacked_common f g u v (o, inl h) = none_common f g u v (λ p i j. no_common o f g p u v i j h)
+stacked_common f g u v (o, inr h) = none_common f g u v (λ p i j. no_common o g f p v u j i h)

@@ -1,15 +1,27 @@
-ghost use Rattle.std.specs.Prelude.{◌≡◌, OnTrue, if◌then◌else◌};
+ghost use Rattle.std.specs.Prelude.{◌≡◌, ◌<◌, pos, true, ◌||◌, int_le};
+ghost use Rattle.plane_terms.specs.Share.{turn};
+ghost use Rattle.std.specs.Bool.{OnTrue};
 ghost use Rattle.std.specs.List.{list_all};
-ghost use Rattle.topology_terms.specs.Feature.{sides};
 ghost use Rattle.plane_terms.specs.Shape.{segments_of};
-ghost use Rattle.rule_loops.specs.Stacked.{highest, lowest, lies_left, lies_right, is_under, rises, is_before, are_under, are_before, AreStacked};
+ghost use Rattle.rule_loops.specs.Stacked.{highest, lowest, ends_below, ends_west, lies_left, lies_right, rises, lies_west, lies_east, no_column, no_row, is_under, is_before, frame_stands, are_ordered, AreStacked};
+ghost use Rattle.rule_loops.specs.Blocks.{block_count, block_of};
 
-use grid_plane::Seg;
+use crate::blocks::{block, block_count, block_frame};
+use grid_plane::{GridPoint, Rect, Seg};
 use shape::Shape;
 
-/// The most segments of a polygon of which each is compared with each of the other: the comparisons grow with the product of both
-/// numbers.
-const MOST: usize = 64;
+/// With so many blocks of the other polygon a block is compared segment by segment. The work so grows with the blocks, and not with the
+/// product of the segments.
+const LOOKS: usize = 8;
+
+/// How a segment stands to another, wherever both have points in one column, or in one row.
+#[derive(Clone, Copy)]
+pub(crate) enum Order {
+    /// In no column above it.
+    Under,
+    /// In no row east of it.
+    Before,
+}
 
 fn highest(s: &Seg) -> i32
     ensures { result ≡ highest s.now }
@@ -23,29 +35,42 @@ fn lowest(s: &Seg) -> i32
     s.lo().y().min(s.hi().y())
 }
 
-// Whether no end of the segment lies right of the line through the first.
+fn ends_below(s: &Seg, t: &Seg) -> bool
+    ensures { result ≡ ends_below s.now t.now }
+{
+    highest(s) <= lowest(t)
+}
+
+fn ends_west(s: &Seg, t: &Seg) -> bool
+    ensures { result ≡ ends_west s.now t.now }
+{
+    s.hi().x() <= t.lo().x()
+}
+
+// Whether the place lies left of the line, or on it.
+fn is_on_left(line: &Seg, place: GridPoint) -> bool
+    ensures { result ≡ int_le (pos 0) (turn line.now place) }
+{
+    line.side(place) >= 0
+}
+
+// Whether the place lies right of the line, or on it.
+fn is_on_right(line: &Seg, place: GridPoint) -> bool
+    ensures { result ≡ int_le (turn line.now place) (pos 0) }
+{
+    line.side(place) <= 0
+}
+
 fn lies_left(line: &Seg, s: &Seg) -> bool
     ensures { result ≡ lies_left line.now s.now }
 {
-    line.side(s.lo()) >= 0 && line.side(s.hi()) >= 0
+    is_on_left(line, s.lo()) && is_on_left(line, s.hi())
 }
 
-// Whether no end of the segment lies left of the line through the first.
 fn lies_right(line: &Seg, s: &Seg) -> bool
     ensures { result ≡ lies_right line.now s.now }
 {
-    line.side(s.lo()) <= 0 && line.side(s.hi()) <= 0
-}
-
-// Whether the first runs nowhere above the second, in the columns of both.
-fn is_under(s: &Seg, t: &Seg) -> bool
-    ensures { result ≡ is_under s.now t.now }
-{
-    s.hi().x() <= t.lo().x()
-        || t.hi().x() <= s.lo().x()
-        || highest(s) <= lowest(t)
-        || lies_right(t, s)
-        || lies_left(s, t)
+    is_on_right(line, s.lo()) && is_on_right(line, s.hi())
 }
 
 fn rises(s: &Seg) -> bool
@@ -54,9 +79,8 @@ fn rises(s: &Seg) -> bool
     s.lo().y() <= s.hi().y()
 }
 
-// Whether the second lies on the line through the first, or west of it.
 fn lies_west(line: &Seg, s: &Seg) -> bool
-    ensures { result ≡ (if rises line.now then lies_left line.now s.now else lies_right line.now s.now) }
+    ensures { result ≡ lies_west line.now s.now }
 {
     if rises(line) {
         lies_left(line, s)
@@ -65,9 +89,8 @@ fn lies_west(line: &Seg, s: &Seg) -> bool
     }
 }
 
-// Whether the second lies on the line through the first, or east of it.
 fn lies_east(line: &Seg, s: &Seg) -> bool
-    ensures { result ≡ (if rises line.now then lies_right line.now s.now else lies_left line.now s.now) }
+    ensures { result ≡ lies_east line.now s.now }
 {
     if rises(line) {
         lies_right(line, s)
@@ -76,15 +99,44 @@ fn lies_east(line: &Seg, s: &Seg) -> bool
     }
 }
 
-// Whether the first runs nowhere east of the second, in the rows of both.
+// Whether a line shows that the first runs nowhere above the second.
+fn lies_under(s: &Seg, t: &Seg) -> bool
+    ensures { result ≡ (lies_right t.now s.now || lies_left s.now t.now) }
+{
+    lies_right(t, s) || lies_left(s, t)
+}
+
+// Whether a line shows that the first runs nowhere east of the second.
+fn lies_before(s: &Seg, t: &Seg) -> bool
+    ensures { result ≡ (lies_west t.now s.now || lies_east s.now t.now) }
+{
+    lies_west(t, s) || lies_east(s, t)
+}
+
+fn have_no_column(s: &Seg, t: &Seg) -> bool
+    ensures { result ≡ no_column s.now t.now }
+{
+    ends_west(s, t) || ends_west(t, s)
+}
+
+fn have_no_row(s: &Seg, t: &Seg) -> bool
+    ensures { result ≡ no_row s.now t.now }
+{
+    ends_below(s, t) || ends_below(t, s)
+}
+
+// Whether the first is found to run nowhere above the second, in the columns of both.
+fn is_under(s: &Seg, t: &Seg) -> bool
+    ensures { result ≡ is_under s.now t.now }
+{
+    have_no_column(s, t) || (ends_below(s, t) || lies_under(s, t))
+}
+
+// Whether the first is found to run nowhere east of the second, in the rows of both.
 fn is_before(s: &Seg, t: &Seg) -> bool
     ensures { result ≡ is_before s.now t.now }
 {
-    highest(s) <= lowest(t)
-        || highest(t) <= lowest(s)
-        || s.hi().x() <= t.lo().x()
-        || lies_west(t, s)
-        || lies_east(s, t)
+    have_no_row(s, t) || (ends_west(s, t) || lies_before(s, t))
 }
 
 fn is_under_each(s: &Seg, others: &[Seg]) -> bool
@@ -94,7 +146,7 @@ fn is_under_each(s: &Seg, others: &[Seg]) -> bool
 }
 
 fn are_under(own: &[Seg], others: &[Seg]) -> bool
-    ensures { result ≡ are_under own.now others.now }
+    ensures { result ≡ list_all (λ s. list_all (is_under s) others.now) own.now }
 {
     own.iter().all(|s| is_under_each(s, others))
 }
@@ -106,26 +158,91 @@ fn is_before_each(s: &Seg, others: &[Seg]) -> bool
 }
 
 fn are_before(own: &[Seg], others: &[Seg]) -> bool
-    ensures { result ≡ are_before own.now others.now }
+    ensures { result ≡ list_all (λ s. list_all (is_before s) others.now) own.now }
 {
     own.iter().all(|s| is_before_each(s, others))
 }
 
-// Whether one list runs nowhere above the other, or nowhere east of it.
-fn are_in_order(own: &[Seg], others: &[Seg]) -> bool
-    ensures { OnTrue result (AreStacked own.now others.now) }
+fn are_ordered(order: Order, own: &[Seg], others: &[Seg]) -> bool
+    ensures { result ≡ are_ordered order own.now others.now }
 {
-    are_under(own, others)
-        || are_under(others, own)
-        || are_before(own, others)
-        || are_before(others, own)
+    match order {
+        Order::Under => are_under(own, others),
+        Order::Before => are_before(own, others),
+    }
 }
 
-/// Whether one of two polygons stands above the other or beside it, so that no segment of the one runs above one of the other in a
-/// column, or east of one in a row. Polygons of many segments are not tried.
+// Whether the frames of two blocks show that each segment of the one stands so to each of the other.
+fn frame_stands(order: Order, r: &Rect, q: &Rect) -> bool
+    ensures { result ≡ frame_stands order r.now q.now }
+{
+    match order {
+        Order::Under => r.x1() <= q.x0() || q.x1() <= r.x0() || r.y1() <= q.y0(),
+        Order::Before => r.y1() <= q.y0() || q.y1() <= r.y0() || r.x1() <= q.x0(),
+    }
+}
+
+// Whether each segment of the one block is found to stand so to each of the other. Where the frames do not show it the segments are
+// compared, as long as some of so many looks are left.
+fn is_block_ordered(
+    order: Order,
+    one: &Shape,
+    i: usize,
+    other: &Shape,
+    j: usize,
+    looks: &mut usize,
+) -> bool
+    requires own { i < block_count (segments_of one.now) }
+    requires others { j < block_count (segments_of other.now) }
+    ensures { OnTrue result (are_ordered order (block_of i (segments_of one.now)) (block_of j (segments_of other.now)) ≡ true) }
+{
+    if frame_stands(order, &block_frame(one, i), &block_frame(other, j)) {
+        return true;
+    }
+    if *looks == 0 {
+        return false;
+    }
+    *looks -= 1;
+    are_ordered(order, block(one, i), block(other, j))
+}
+
+// Whether each segment of the block is found to stand so to each of the other polygon.
+fn is_ordered_to_all(order: Order, one: &Shape, i: usize, other: &Shape) -> bool
+    requires { i < block_count (segments_of one.now) }
+    ensures { OnTrue result (are_ordered order (block_of i (segments_of one.now)) (segments_of other.now) ≡ true) }
+{
+    let mut looks = LOOKS;
+    for j in 0..block_count(other) {
+        if !is_block_ordered(order, one, i, other, j, &mut looks) {
+            return false;
+        }
+    }
+    true
+}
+
+// Whether each segment of the one polygon is found to stand so to each of the other.
+fn are_all_ordered(order: Order, one: &Shape, other: &Shape) -> bool
+    ensures { OnTrue result (are_ordered order (segments_of one.now) (segments_of other.now) ≡ true) }
+{
+    for i in 0..block_count(one) {
+        if !is_ordered_to_all(order, one, i, other) {
+            return false;
+        }
+    }
+    true
+}
+
+fn are_ordered_either_way(order: Order, one: &Shape, other: &Shape) -> bool
+    ensures { OnTrue result (AreStacked (segments_of one.now) (segments_of other.now)) }
+{
+    are_all_ordered(order, one, other) || are_all_ordered(order, other, one)
+}
+
+/// Whether one of two polygons is found to stand above the other or beside it: no segment of the one runs above one of the other in a
+/// column, or east of one in a row. Of a block of segments that lies near many blocks of the other polygon it is not found.
 pub(crate) fn are_stacked(one: &Shape, other: &Shape) -> bool
     ensures { OnTrue result (AreStacked (segments_of one.now) (segments_of other.now)) }
 {
-    let (own, others) = (one.segs(), other.segs());
-    own.len() <= MOST && others.len() <= MOST && are_in_order(own, others)
+    are_ordered_either_way(Order::Under, one, other)
+        || are_ordered_either_way(Order::Before, one, other)
 }
