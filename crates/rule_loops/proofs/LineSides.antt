@@ -1,6 +1,6 @@
 -- What is above a segment is above a line that has the segment on its left; what is not above one is not above a line that has it on its
 -- right. Of a point inside a polygon some segment runs above or through it, in its column.
-use Rattle.std.proofs.Common.{◌≡◌, inl, inr, ℕ, ℤ, pos, ◌+ℤ◌, ◌-ℤ◌, ◌*ℤ◌, ◌≤ℤ◌, ◌<ℤ◌, arith, refl, ap, ◌∙◌, Bool, true, false, List, [], ◌∷◌}
+use Rattle.std.proofs.Common.{◌≡◌, inl, inr, ℕ, ℤ, pos, ◌+ℤ◌, ◌-ℤ◌, ◌*ℤ◌, ◌≤ℤ◌, ◌<ℤ◌, arith, refl, ap, ◌∙◌, Bool, true, false}
 use Rattle.std.specs.Prelude.{◌&&◌, ◌⊎◌}
 use Rattle.std.specs.Int.RustNames.{int_le, int_lt}
 use Rattle.std.proofs.lemmas.Int.{ints}

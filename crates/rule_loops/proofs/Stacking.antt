@@ -1,7 +1,7 @@
 -- Polygons one of which stands above the other, or beside it, have no inside point in common: what is inside the upper one is above a segment
 -- of it, so above every segment of the lower one in that column; but of what is inside the lower one some segment runs above it or through
 -- it. The same holds in rows, where abscissas and ordinates are exchanged.
-use Rattle.std.proofs.Common.{◌≡◌, inl, inr, ℤ, pos, ◌-ℤ◌, ◌*ℤ◌, neg_ℤ, ◌≤ℤ◌, ◌<ℤ◌, arith, refl, sym, ap, ◌∙◌, Bool, true, false, List, [], ◌∷◌}
+use Rattle.std.proofs.Common.{◌≡◌, inl, inr, ℤ, pos, ◌-ℤ◌, ◌*ℤ◌, neg_ℤ, ◌≤ℤ◌, ◌<ℤ◌, arith, refl, ap, ◌∙◌, Bool, true, false, List, [], ◌∷◌}
 use Rattle.std.specs.Prelude.{◌&&◌, ◌||◌, ◌⊎◌, if◌then◌else◌}
 use Rattle.std.specs.List.{list_all}
 use Rattle.std.specs.Int.{int_max, int_min}
@@ -9,15 +9,15 @@ use Rattle.std.specs.Ordering.{int_eq}
 use Rattle.std.specs.Int.RustNames.{int_le, int_lt}
 use Rattle.std.proofs.lemmas.Int.{ints, clamps}
 use Rattle.std.proofs.lemmas.Bool.{false≢true}
-use Rattle.plane_terms.specs.Lists.{Every, SomeOf, how_many, is_odd}
+use Rattle.plane_terms.specs.Lists.{Every, SomeOf}
 use Rattle.plane_terms.specs.Point.{Place, Point}
-use Rattle.plane_terms.specs.Segment.{Segment, IsSegment, cross, comes_before}
+use Rattle.plane_terms.specs.Segment.{Segment, IsSegment, cross}
 use Rattle.plane_terms.specs.Share.{turn}
 use Rattle.plane_terms.specs.Polygon.{counts, IsInside}
 use Rattle.plane_terms.specs.declared.kind.Kind.TheVariants as shapes
 use Rattle.topology_terms.specs.Feature.{Feature, sides}
 use Rattle.topology_terms.specs.Plans.{overlap_cells}
-use Rattle.number_laws.proofs.Ring.{num, neg, ◌⊖◌, ◌⊗◌, same_by}
+use Rattle.number_laws.proofs.Ring.{num, ◌⊖◌, ◌⊗◌, same_by}
 use Rattle.number_laws.proofs.Order.{scaled_le, cases_order_ℤ}
 use Rattle.number_laws.proofs.Tests.{Decides-int_le, Decides-int_lt}
 use Rattle.column_laws.proofs.Parity.{differ, odd_differ}

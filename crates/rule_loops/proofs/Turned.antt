@@ -1,7 +1,7 @@
 -- An inside point of a polygon has an odd number of sides left of it in its row, as it has below it in its column. A side counts in one of
 -- the two and not in the other just where one of its ends, and not the other, is in the quadrant left of the point and below it: each vertex
 -- is an end of two sides, so the two numbers differ by an even one. And an even number of sides goes through the row.
-use Rattle.std.proofs.Common.{◌≡◌, inl, inr, ℕ, ℤ, pos, ◌+ℤ◌, ◌-ℤ◌, ◌*ℤ◌, ◌≤ℤ◌, ◌<ℤ◌, neg_ℤ, arith, sym, ap, refl, ◌∙◌, Bool, true, false, not}
+use Rattle.std.proofs.Common.{◌≡◌, inl, inr, ℕ, ℤ, pos, ◌+ℤ◌, ◌-ℤ◌, ◌*ℤ◌, ◌≤ℤ◌, ◌<ℤ◌, neg_ℤ, arith, sym, refl, ◌∙◌, Bool, true, false, not}
 use Rattle.std.specs.Prelude.{◌&&◌, if◌then◌else◌}
 use Rattle.std.specs.Int.RustNames.{int_le, int_lt}
 use Rattle.std.proofs.lemmas.Int.{ints}

@@ -10,8 +10,8 @@ use crate::blocks::{block, block_count, block_frame};
 use grid_plane::{GridPoint, Rect, Seg};
 use shape::Shape;
 
-/// With so many blocks of the other polygon a block is compared segment by segment. The work so grows with the blocks, and not with the
-/// product of the segments.
+/// For each block of the two polygons so many pairs of blocks are compared segment by segment, and no more. So the work grows with the
+/// segments, and not with the product of their numbers.
 const LOOKS: usize = 8;
 
 /// How a segment stands to another, wherever both have points in one column, or in one row.
@@ -207,25 +207,31 @@ fn is_block_ordered(
 }
 
 // Whether each segment of the block is found to stand so to each of the other polygon.
-fn is_ordered_to_all(order: Order, one: &Shape, i: usize, other: &Shape) -> bool
+fn is_ordered_to_all(order: Order, one: &Shape, i: usize, other: &Shape, looks: &mut usize) -> bool
     requires { i < block_count (segments_of one.now) }
     ensures { OnTrue result (are_ordered order (block_of i (segments_of one.now)) (segments_of other.now) ≡ true) }
 {
-    let mut looks = LOOKS;
     for j in 0..block_count(other) {
-        if !is_block_ordered(order, one, i, other, j, &mut looks) {
+        if !is_block_ordered(order, one, i, other, j, looks) {
             return false;
         }
     }
     true
 }
 
+// So many pairs of blocks may be compared segment by segment.
+fn looks_for(one: &Shape, other: &Shape) -> usize {
+    let blocks = block_count(one).saturating_add(block_count(other));
+    LOOKS.saturating_mul(blocks)
+}
+
 // Whether each segment of the one polygon is found to stand so to each of the other.
 fn are_all_ordered(order: Order, one: &Shape, other: &Shape) -> bool
     ensures { OnTrue result (are_ordered order (segments_of one.now) (segments_of other.now) ≡ true) }
 {
+    let mut looks = looks_for(one, other);
     for i in 0..block_count(one) {
-        if !is_ordered_to_all(order, one, i, other) {
+        if !is_ordered_to_all(order, one, i, other, &mut looks) {
             return false;
         }
     }
@@ -239,7 +245,7 @@ fn are_ordered_either_way(order: Order, one: &Shape, other: &Shape) -> bool
 }
 
 /// Whether one of two polygons is found to stand above the other or beside it: no segment of the one runs above one of the other in a
-/// column, or east of one in a row. Of a block of segments that lies near many blocks of the other polygon it is not found.
+/// column, or east of one in a row. It may not be found where many blocks of segments lie near many of the other polygon.
 pub(crate) fn are_stacked(one: &Shape, other: &Shape) -> bool
     ensures { OnTrue result (AreStacked (segments_of one.now) (segments_of other.now)) }
 {

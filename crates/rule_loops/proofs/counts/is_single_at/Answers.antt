@@ -1,5 +1,4 @@
-use Rattle.std.proofs.Common.{◌+◌, take, sym, ap, arith}
-use Rattle.std.specs.Prelude.{◌==◌}
+use Rattle.std.proofs.Common.{◌+◌, take, sym}
 use Rattle.topology_terms.specs.Tests as terms
 use Rattle.rule_loops.specs.Views.{of_class}
 use Rattle.rule_loops.proofs.Seen.{segments_next, segments_fewer, not_single}

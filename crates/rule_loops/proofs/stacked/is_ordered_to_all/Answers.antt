@@ -1,5 +1,5 @@
-use Rattle.std.proofs.Common.{ap, sym, ◌∙◌, arith}
-use Rattle.std.proofs.lemmas.Bool.{OnTrue_at, OnTrue_from}
+use Rattle.std.proofs.Common.{ap, arith}
+use Rattle.std.proofs.lemmas.Bool.{OnTrue_at}
 use Rattle.plane_terms.specs.Shape.{segments_of}
 use Rattle.rule_loops.specs.Blocks.{block_of}
 use Rattle.rule_loops.specs.Stacked.{are_ordered}
