@@ -17,7 +17,7 @@ unfoldable pub differ : Bool → Bool → Bool
 differ true b = not b
 differ false b = b
 
-differ_self : (b : Bool) → differ b b ≡ false
+pub differ_self : (b : Bool) → differ b b ≡ false
 unfolding differ
 differ_self true = refl
 differ_self false = refl

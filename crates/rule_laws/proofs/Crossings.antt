@@ -44,7 +44,7 @@ spans_ordered p a b h =
     by_cases false true h = h refl
     by_cases false false h = refl
 
-spans_between : (p : Point) (a b : Place) → spans p (segment_between a b) ≡ differ (is_before p a) (is_before p b)
+pub spans_between : (p : Point) (a b : Place) → spans p (segment_between a b) ≡ differ (is_before p a) (is_before p b)
 spans_between p a b = by_order (comes_before a b) refl
   where
     by_order : (t : Bool) → comes_before a b ≡ t

@@ -18,8 +18,9 @@ use Rattle.plane_terms.specs.declared.kind.Kind.TheVariants as shapes
 use Rattle.topology_terms.specs.Feature.{Feature, sides}
 use Rattle.topology_terms.specs.Plans.{overlap_cells}
 use Rattle.number_laws.proofs.Ring.{num, ◌⊖◌, ◌⊗◌, same_by}
-use Rattle.number_laws.proofs.Order.{scaled_le, cases_order_ℤ}
+use Rattle.number_laws.proofs.Order.{scaled_le, turned_at_least, cases_order_ℤ}
 use Rattle.number_laws.proofs.Tests.{Decides-int_le, Decides-int_lt}
+use Rattle.cell_laws.proofs.Envelope.{ends_rise}
 use Rattle.column_laws.proofs.Parity.{differ, odd_differ}
 use Rattle.rule_laws.proofs.Crossings.{spans, both_tests, cross_above}
 use Rattle.rule_laws.proofs.Families.{IsFit}
@@ -150,16 +151,13 @@ both_x true s =
 both_x false s =
     ((low_highest s.lo.y s.hi.y (highest s) (same (highest s))).0, (high_lowest s.lo.y s.hi.y (lowest s) (same (lowest s))).1)
 
-eastward : (s : Segment) → IsSegment s → s.lo.x ≤ℤ s.hi.x
-eastward s u = elim u.ordered [ inl h ↦ omega (arith, ints, h) | inr h ↦ let k = h.0 in omega (arith, ints, k) ]
-
 below_east : (b : Bool) (s : Segment) → IsSegment s → ((turned_by b s).lo.y ≤ℤ s.hi.x) × ((turned_by b s).hi.y ≤ℤ s.hi.x)
-below_east true s u = (eastward s u, same s.hi.x)
-below_east false s u = (same s.hi.x, eastward s u)
+below_east true s u = (ends_rise s u, same s.hi.x)
+below_east false s u = (same s.hi.x, ends_rise s u)
 
 above_west : (b : Bool) (s : Segment) → IsSegment s → (s.lo.x ≤ℤ (turned_by b s).lo.y) × (s.lo.x ≤ℤ (turned_by b s).hi.y)
-above_west true s u = (same s.lo.x, eastward s u)
-above_west false s u = (eastward s u, same s.lo.x)
+above_west true s u = (same s.lo.x, ends_rise s u)
+above_west false s u = (ends_rise s u, same s.lo.x)
 
 -- a turn of what is turned: the other way where the segment rises
 turns_same : (lx ly hx hy qx qy : ℤ) → (ly -ℤ hy) *ℤ (qx -ℤ hx) -ℤ (lx -ℤ hx) *ℤ (qy -ℤ hy) ≡ (hx -ℤ lx) *ℤ (qy -ℤ ly) -ℤ (hy -ℤ ly) *ℤ (qx -ℤ lx)
@@ -175,9 +173,6 @@ turn_falling t q = turns_same t.lo.x t.lo.y t.hi.x t.hi.y q.x q.y
 
 under_turned : (z : ℤ) → pos 0 ≤ℤ z → neg_ℤ z ≤ℤ pos 0
 under_turned z h = omega (arith, ints)
-
-over_turned : (z : ℤ) → z ≤ℤ pos 0 → pos 0 ≤ℤ neg_ℤ z
-over_turned z h = omega (arith, ints)
 
 -- the ends of a turned segment are those of the segment, turned
 at_ends : (P : Place → Type 0) (b : Bool) (s : Segment) → P (turned_place s.lo) → P (turned_place s.hi)
@@ -199,8 +194,8 @@ left_of_turned : (b c : Bool) (s t : Segment) → (if b then lies_right s t else
     → (pos 0 ≤ℤ turn (turned_by b s) (turned_by c t).lo) × (pos 0 ≤ℤ turn (turned_by b s) (turned_by c t).hi)
 left_of_turned true c s t e =
     let k = on_right s t e in
-    at_ends (λ q. pos 0 ≤ℤ turn (turned_by true s) q) c t (rw (turn_rising s t.lo) (over_turned (turn s t.lo) k.0))
-    (rw (turn_rising s t.hi) (over_turned (turn s t.hi) k.1))
+    at_ends (λ q. pos 0 ≤ℤ turn (turned_by true s) q) c t (rw (turn_rising s t.lo) (turned_at_least (turn s t.lo) k.0))
+    (rw (turn_rising s t.hi) (turned_at_least (turn s t.hi) k.1))
 left_of_turned false c s t e =
     let k = on_left s t e in
     at_ends (λ q. pos 0 ≤ℤ turn (turned_by false s) q) c t (rw (turn_falling s t.lo) k.0) (rw (turn_falling s t.hi) k.1)

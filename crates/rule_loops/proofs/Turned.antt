@@ -15,9 +15,9 @@ use Rattle.topology_terms.specs.Feature.{Feature, sides}
 use Rattle.number_laws.proofs.Ring.{num, neg, ◌⊕◌, ◌⊖◌, ◌⊗◌, same_by}
 use Rattle.number_laws.proofs.Order.{scaled_le, product_at_least, product_over, least_unscaled, cases_order_ℤ}
 use Rattle.number_laws.proofs.Tests.{Decides-int_le, Decides-int_lt, int_lt_false}
-use Rattle.column_laws.proofs.Parity.{differ, differ_back, differ_none, odd_differ, in_order, out_of_order, round_even}
+use Rattle.column_laws.proofs.Parity.{differ, differ_self, differ_back, differ_none, odd_differ, in_order, out_of_order, round_even}
 use Rattle.column_laws.proofs.Strip.{each_by_clear}
-use Rattle.rule_laws.proofs.Crossings.{is_before, spans, cross_below}
+use Rattle.rule_laws.proofs.Crossings.{is_before, spans, spans_between, cross_below}
 use Rattle.rule_loops.specs.Stacked.{turned_place, turned_point, turned_segment}
 
 -- ---- of plain numbers
@@ -82,17 +82,6 @@ one_over k n e off = elim (cases_order_ℤ (pos 0) k) [
     | inr l ↦ absurd (off (omega (arith, ints, h, l)))
   ]
 ]
-
-first_alone : (b c : Bool) → (b ≡ false → c ≡ true → ⊥) → (b && not c) ≡ differ b c
-unfolding differ
-first_alone true c h = refl
-first_alone false true h = absurd (h refl refl)
-first_alone false false h = refl
-
-self_same : (b : Bool) → differ b b ≡ false
-unfolding differ
-self_same true = refl
-self_same false = refl
 
 -- ---- a segment that spans the column
 abbrev is_low : Point → Place → Bool
@@ -212,7 +201,7 @@ module _ (s : Segment) (p : Point) where
         by_tests true true false true e f g i = rw (both_low s p e g off f i) refl
         by_tests true false true true e f g i = both_low (fallen s) (turned_point p) i f off_fallen g e
         by_tests true false true false e f g i = refl
-        by_tests true false false true e f g i = rw fall_cross (self_same (int_lt (pos 0) (cross s p)))
+        by_tests true false false true e f g i = rw fall_cross (differ_self (int_lt (pos 0) (cross s p)))
         by_tests true false false false e f g i = rw (neither_low s p e g f i) refl
         by_tests false true false true e f g i = refl
         by_tests false false false true e f g i = neither_low (fallen s) (turned_point p) i f g e
@@ -229,17 +218,7 @@ module _ (s : Segment) (p : Point) where
         by_order false e = falls (out_of_order (turned_place s.lo) (turned_place s.hi) e)
 
   spans_turned : spans (turned_point p) (turned_segment s) ≡ differ (is_low p s.lo) (is_low p s.hi)
-  spans_turned = by_order (comes_before (turned_place s.lo) (turned_place s.hi)) refl
-    where
-      by_order : (t : Bool) → comes_before (turned_place s.lo) (turned_place s.hi) ≡ t
-          → spans (turned_point p) (if t then risen s else fallen s) ≡ differ (is_low p s.lo) (is_low p s.hi)
-      by_order true e =
-          rw (before_not (s.hi.y *ℤ pos p.w) p.y) (first_alone (is_low p s.lo) (is_low p s.hi)
-          (in_turn s.lo.y s.hi.y p.y p.w (in_order (turned_place s.lo) (turned_place s.hi) e)))
-      by_order false e =
-          rw (before_not (s.lo.y *ℤ pos p.w) p.y) (first_alone (is_low p s.hi) (is_low p s.lo)
-          (in_turn s.hi.y s.lo.y p.y p.w (out_of_order (turned_place s.lo) (turned_place s.hi) e)))
-          ∙ differ_back (is_low p s.hi) (is_low p s.lo)
+  spans_turned = spans_between (turned_point p) (turned_place s.lo) (turned_place s.hi)
 
 -- ---- between two vertices
 -- in their order, or not
