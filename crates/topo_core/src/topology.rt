@@ -25,14 +25,14 @@ use crate::rules::{drop_from, free_number, has_number, number_of_row, put_rule};
 use dirty_area::Dirt;
 use error_store::{Errors, Key, MarkFault};
 use feature_store::{Store, StoreFault};
-use grid_index::Index;
+use grid_index::{Index, Meter, NoCount};
 use grid_plane::{Name, NoMemory, Rect};
 use project_check::{Unsound, check_project};
 use rule_core::{InForce, RuleRow, Work};
 use shape::{Feature, Kind, Shape};
 use std::alloc::Global;
 use std::marker::Model;
-use validation::{RuledFeatures, validate};
+use validation::{RuledFeatures, validate_counted};
 
 // The most rules there may be.
 const RULE_LIMIT: usize = 256;
@@ -287,17 +287,38 @@ impl<R: KindRules> Topology<R> {
         ensures ordered { IsOrdered self.new }
         ensures err { OnErr result (self.new ≡ self.old) }
     {
+        self.validate_counted(window, work, &mut NoCount)
+    }
+
+    /// What `validate` does, and the steps of its questions to an index: what it asks of where features lie, and of where errors
+    /// do, is counted by the meter.
+    pub fn validate_counted<M: Meter>(
+        &mut self,
+        window: Rect,
+        work: &mut Work,
+        meter: &mut M,
+    ) -> Result<Summary, NoMemory>
+        ensures ok { OnOk result (IsValidatedBy R.meaning window self.old self.new) }
+        ensures judged { OnOk result (IsCounted window self.old work.old work.new) }
+        ensures stopped { OnErr result (IsCountWithin window self.old work.old work.new) }
+        ensures summary { IfOk result (λ s. (s.judged ≡ work.new - work.old) × (s.errors ≡ length self.new.entries) × (s.dirty ≡ length self.new.dirt)) }
+        ensures sound { IsSoundUnder R.meaning self.old → IsSoundUnder R.meaning self.new }
+        ensures settled { IsSettledUnder R.meaning self.old → IsSettledUnder R.meaning self.new }
+        ensures ordered { IsOrdered self.new }
+        ensures err { OnErr result (self.new ≡ self.old) }
+        ensures rises { M.taken meter.old ≤ M.taken meter.new }
+    {
         let before = work.judged();
         let features = self.store.features();
-        let ruled = RuledFeatures::of(&self.rules, &features, &self.index);
-        validate(
-            &self.judging,
+        let ruled = RuledFeatures::of(&self.judging, &self.rules, &features, &self.index);
+        validate_counted(
             self.alloc,
             &ruled,
             &mut self.entries,
             &mut self.dirt,
             &window,
             work,
+            meter,
         )?;
         Ok(Summary {
             judged: work.judged().saturating_sub(before),

@@ -1,4 +1,4 @@
-ghost use Rattle.std.specs.Prelude.{◌≡◌, ◌↔◌, [], IsTrue, IfOk, MatchOption};
+ghost use Rattle.std.specs.Prelude.{◌≡◌, ◌↔◌, ◌≤◌, [], IsTrue, IfOk, MatchOption};
 ghost use Rattle.plane_terms.specs.Lists.{Every};
 ghost use Rattle.plane_terms.specs.Point.{Point};
 ghost use Rattle.plane_terms.specs.Rectangle.{Rectangle, IsRectangle, IsWithin, RectHolds};
@@ -7,7 +7,7 @@ ghost use Rattle.validation.specs.Placed.{HasNear};
 
 use crate::lists::put_behind;
 use crate::sorted::SortedRects;
-use grid_index::Index;
+use grid_index::{Index, Meter};
 use grid_plane::{NoMemory, Rect};
 use std::alloc::Global;
 use std::marker::Model;
@@ -60,23 +60,35 @@ fn join_of_all(rects: &[Rect]) -> Option<Rect>
 }
 
 // The handles of the placed rectangles that meet one of these, one after another: a handle may come twice.
-fn near_each(alloc: Global, index: &Index, rects: &[Rect]) -> Result<Vec<u32>, NoMemory>
-    ensures { IfOk result (λ v. HasNear v.items index.now rects.now) }
+fn near_each<M: Meter>(
+    alloc: Global,
+    index: &Index,
+    rects: &[Rect],
+    meter: &mut M,
+) -> Result<Vec<u32>, NoMemory>
+    ensures near { IfOk result (λ v. HasNear v.items index.now rects.now) }
+    ensures rises { M.taken meter.old ≤ M.taken meter.new }
 {
     let mut found = Vec::new(alloc);
     for r in rects {
-        let near = index.query(alloc, r)?;
+        let near = index.query_counted(alloc, r, meter)?;
         put_behind(&mut found, near)?;
     }
     Ok(found)
 }
 
 // The handles of the placed rectangles that meet the least rectangle that holds these.
-fn near_join(alloc: Global, index: &Index, rects: &[Rect]) -> Result<Vec<u32>, NoMemory>
-    ensures { IfOk result (λ v. HasNear v.items index.now rects.now) }
+fn near_join<M: Meter>(
+    alloc: Global,
+    index: &Index,
+    rects: &[Rect],
+    meter: &mut M,
+) -> Result<Vec<u32>, NoMemory>
+    ensures near { IfOk result (λ v. HasNear v.items index.now rects.now) }
+    ensures rises { M.taken meter.old ≤ M.taken meter.new }
 {
     match join_of_all(rects) {
-        Some(joined) => index.query(alloc, &joined),
+        Some(joined) => index.query_counted(alloc, &joined, meter),
         None => Ok(Vec::new(alloc)),
     }
 }
@@ -124,13 +136,19 @@ impl DirtyParts {
 
     /// The handles of the placed rectangles that meet a part, and it may be of others; a handle may come twice. Asks the
     /// index once, for the least rectangle that holds all parts, where they fill half of it or are more than 64, else for each.
-    pub fn near(&self, alloc: Global, index: &Index) -> Result<Vec<u32>, NoMemory>
-        ensures { IfOk result (λ v. HasNear v.items index.now self.now) }
+    pub fn near<M: Meter>(
+        &self,
+        alloc: Global,
+        index: &Index,
+        meter: &mut M,
+    ) -> Result<Vec<u32>, NoMemory>
+        ensures near { IfOk result (λ v. HasNear v.items index.now self.now) }
+        ensures rises { M.taken meter.old ≤ M.taken meter.new }
     {
         let parts = self.parts.rects();
         if parts.len() > PART_LIMIT || lie_close(parts) {
-            return near_join(alloc, index, parts);
+            return near_join(alloc, index, parts, meter);
         }
-        near_each(alloc, index, parts)
+        near_each(alloc, index, parts, meter)
     }
 }

@@ -15,4 +15,4 @@ mod window;
 pub use near::FeatureIndex;
 pub use parts::{RulePart, judge_subject};
 pub use ruled::RuledFeatures;
-pub use window::validate;
+pub use window::{validate, validate_counted};

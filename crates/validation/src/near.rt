@@ -1,4 +1,4 @@
-ghost use Rattle.std.specs.Prelude.{◌≡◌, [], ◌∷◌, filter, None, Some, IfSome, IfOk, MatchOption};
+ghost use Rattle.std.specs.Prelude.{◌≡◌, ◌≤◌, [], ◌∷◌, filter, None, Some, IfSome, IfOk, MatchOption};
 ghost use Rattle.std.specs.Option.{option_to_list};
 ghost use Rattle.std.specs.List.Sorted.{IsStrictlyIncreasing};
 ghost use Rattle.plane_terms.specs.Rectangle.{rects_meet};
@@ -9,7 +9,7 @@ ghost use Rattle.validation_laws.specs.Views.{IsView};
 ghost use Rattle.validation.specs.Placed.{ArePlaced};
 
 use feature_store::Features;
-use grid_index::Index;
+use grid_index::{Index, Meter};
 use grid_plane::{NoMemory, Rect};
 use rule_core::View;
 use shape::Feature;
@@ -86,13 +86,20 @@ impl<'a> FeatureIndex<'a> {
         self.features.get(handle)
     }
 
-    /// The features whose envelope meets the subject's. Looks only at those that the index gives for it.
-    pub fn view_of(&self, alloc: Global, f: &Feature) -> Result<View<'a>, NoMemory>
+    /// The features whose envelope meets the subject's. Looks only at those that the index gives for it. The meter counts the
+    /// steps in the index.
+    pub fn view_of<M: Meter>(
+        &self,
+        alloc: Global,
+        f: &Feature,
+        meter: &mut M,
+    ) -> Result<View<'a>, NoMemory>
         requires { IsAscending self.now }
-        ensures { IfOk result (λ v. IsView self.now f.now v) }
+        ensures view { IfOk result (λ v. IsView self.now f.now v) }
+        ensures rises { M.taken meter.old ≤ M.taken meter.new }
     {
         let env = f.shape().env();
-        let handles = self.index.query(alloc, &env)?;
+        let handles = self.index.query_counted(alloc, &env, meter)?;
         view_among(alloc, self.features, &handles, &env)
     }
 }

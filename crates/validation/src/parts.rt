@@ -16,6 +16,7 @@ use crate::judge::judge_shown;
 use crate::lists::put_behind;
 use crate::near::FeatureIndex;
 use error_store::Entry;
+use grid_index::{Meter, NoCount};
 use grid_plane::{Handles, NoMemory};
 use rule_core::{InForce, RuleSet, View, Work};
 use shape::Feature;
@@ -129,14 +130,16 @@ fn judge_shown_by_each<R: RuleSet>(
     Ok(())
 }
 
-// Each rule judges the live feature. What lies near it is looked up once, and only where some rule judges it.
-fn judge_live_by_each<R: RuleSet>(
+// Each rule judges the live feature. What lies near it is looked up once, and only where some rule judges it; the meter counts the
+// steps.
+fn judge_live_by_each<R: RuleSet, M: Meter>(
     rules: &R,
     alloc: Global,
     parts: &mut [RulePart],
     features: &FeatureIndex<'_>,
     f: &Feature,
     work: &mut Work,
+    meter: &mut M,
 ) -> Result<(), NoMemory>
     requires ascending { IsAscending features.now }
     requires live { feature_at features.now f.now.handle ≡ Some f.now }
@@ -144,31 +147,34 @@ fn judge_live_by_each<R: RuleSet>(
     ensures grown { OnOk result (AreGrown R.meaning features.now f.now.handle parts.old parts.new) }
     ensures judged { OnOk result (work.new ≡ raised work.old (judged_of (rules_of parts.old) (f.now ∷ []))) }
     ensures stopped { OnErr result (work.new ≤ raised work.old (judged_of (rules_of parts.old) (f.now ∷ []))) }
+    ensures rises { M.taken meter.old ≤ M.taken meter.new }
 {
     if !judges_any(parts, f) {
         return Ok(());
     }
-    let view = features.view_of(alloc, f)?;
+    let view = features.view_of(alloc, f, meter)?;
     judge_shown_by_each(rules, alloc, parts, &view, f, work)
 }
 
 // Each rule judges the subject; where it is not live, none has an entry more.
-fn judge_by_each<R: RuleSet>(
+fn judge_by_each<R: RuleSet, M: Meter>(
     rules: &R,
     alloc: Global,
     parts: &mut [RulePart],
     features: &FeatureIndex<'_>,
     subject: u32,
     work: &mut Work,
+    meter: &mut M,
 ) -> Result<(), NoMemory>
     requires ascending { IsAscending features.now }
     requires fits { Every (λ (q : projects.InForce). R.meaning.Fits q.row features.now) (rules_of parts.old) }
     ensures grown { OnOk result (AreGrown R.meaning features.now subject parts.old parts.new) }
     ensures judged { OnOk result (work.new ≡ raised work.old (judged_of (rules_of parts.old) (option_to_list (feature_at features.now subject)))) }
     ensures stopped { OnErr result (work.new ≤ raised work.old (judged_of (rules_of parts.old) (option_to_list (feature_at features.now subject)))) }
+    ensures rises { M.taken meter.old ≤ M.taken meter.new }
 {
     match features.find(subject) {
-        Some(f) => judge_live_by_each(rules, alloc, parts, features, f, work),
+        Some(f) => judge_live_by_each(rules, alloc, parts, features, f, work, meter),
         None => Ok(()),
     }
 }
@@ -191,18 +197,20 @@ pub fn judge_subject<R: RuleSet>(
     ensures stopped { OnErr result (work.new ≤ raised work.old (judged_of in_force.now (option_to_list (feature_at features.now subject)))) }
 {
     let mut parts = empty_parts(alloc, in_force)?;
-    judge_by_each(rules, alloc, &mut parts, features, subject, work)?;
+    let meter = &mut NoCount;
+    judge_by_each(rules, alloc, &mut parts, features, subject, work, meter)?;
     Ok(parts)
 }
 
 // Each rule judges each of the selected subjects, of which there was no entry yet.
-fn judge_selected<R: RuleSet>(
+fn judge_selected<R: RuleSet, M: Meter>(
     rules: &R,
     alloc: Global,
     parts: &mut [RulePart],
     features: &FeatureIndex<'_>,
     selected: &Handles,
     work: &mut Work,
+    meter: &mut M,
 ) -> Result<(), NoMemory>
     requires ascending { IsAscending features.now }
     requires fits { Every (λ (q : projects.InForce). R.meaning.Fits q.row features.now) (rules_of parts.old) }
@@ -211,44 +219,48 @@ fn judge_selected<R: RuleSet>(
     ensures rules { OnOk result (rules_of parts.new ≡ rules_of parts.old) }
     ensures judged { OnOk result (work.new ≡ raised work.old (judged_of (rules_of parts.old) (live_of features.now selected.now))) }
     ensures stopped { OnErr result (work.new ≤ raised work.old (judged_of (rules_of parts.old) (live_of features.now selected.now))) }
+    ensures rises { M.taken meter.old ≤ M.taken meter.new }
 {
     for i in 0..selected.len() {
-        judge_by_each(rules, alloc, parts, features, selected.at(i), work)?;
+        let subject = selected.at(i);
+        judge_by_each(rules, alloc, parts, features, subject, work, meter)?;
     }
     Ok(())
 }
 
-// Puts the entries of each rule last, in the order of the rules.
-fn put_parts(out: &mut Vec<Entry>, parts: Vec<RulePart>) -> Result<(), NoMemory>
-    ensures { OnOk result (out.new.items ≡ out.old.items ++ entries_of parts.items) }
+// The entries of each rule, in the order of the rules.
+fn entries_in(alloc: Global, parts: Vec<RulePart>) -> Result<Vec<Entry>, NoMemory>
+    ensures { IfOk result (λ es. es.items ≡ entries_of parts.items) }
 {
+    let mut all = Vec::new(alloc);
     for part in parts {
-        put_behind(out, part.entries)?;
+        put_behind(&mut all, part.entries)?;
     }
-    Ok(())
+    Ok(all)
 }
 
-/// Puts the new entries of the selected subjects: rule by rule, subject by subject, in the order of partners. It goes subject by
-/// subject, so that what lies near one is looked up once for all rules.
-pub fn judge_all<R: RuleSet>(
+/// The new entries of the selected subjects: rule by rule, subject by subject, in the order of partners. It goes subject by
+/// subject, so that what lies near one is looked up once for all rules; the meter counts the steps.
+pub fn judge_all<R: RuleSet, M: Meter>(
     rules: &R,
     alloc: Global,
     in_force: &[InForce],
     features: &FeatureIndex<'_>,
     selected: &Handles,
-    out: &mut Vec<Entry>,
     work: &mut Work,
-) -> Result<(), NoMemory>
+    meter: &mut M,
+) -> Result<Vec<Entry>, NoMemory>
     requires ascending { IsAscending features.now }
     requires fits { Every (λ (q : projects.InForce). R.meaning.Fits q.row features.now) in_force.now }
-    ensures part { OnOk result ((es : List entries.Entry) × (out.new.items ≡ out.old.items ++ es) × IsJudging R.meaning features.now in_force.now selected.now es) }
-    ensures judged { OnOk result (work.new ≡ raised work.old (judged_of in_force.now (live_of features.now selected.now))) }
+    ensures judging { IfOk result (λ es. IsJudging R.meaning features.now in_force.now selected.now es.items) }
+    ensures judged { IfOk result (λ _. work.new ≡ raised work.old (judged_of in_force.now (live_of features.now selected.now))) }
     ensures stopped { OnErr result (work.new ≤ raised work.old (judged_of in_force.now (live_of features.now selected.now))) }
+    ensures rises { M.taken meter.old ≤ M.taken meter.new }
 {
     if selected.len() == 0 {
-        return Ok(());
+        return Ok(Vec::new(alloc));
     }
     let mut parts = empty_parts(alloc, in_force)?;
-    judge_selected(rules, alloc, &mut parts, features, selected, work)?;
-    put_parts(out, parts)
+    judge_selected(rules, alloc, &mut parts, features, selected, work, meter)?;
+    entries_in(alloc, parts)
 }

@@ -9,16 +9,18 @@ use grid_index::Index;
 use rule_core::InForce;
 use std::marker::Model;
 
-/// What a validation looks at and leaves as it is: rules in force in the order of their numbers, features in the order of their
-/// handles, and an index in which each of them stands. Other pairs that stand in the index change nothing.
+/// What a validation looks at and leaves as it is: what each kind of rule finds, rules in force in the order of their numbers,
+/// features in the order of their handles, and an index in which each of them stands. Other pairs that stand in the index change
+/// nothing.
 #[derive(Drop)]
-pub struct RuledFeatures<'a> {
+pub struct RuledFeatures<'a, R> {
+    rules: &'a R,
     in_force: &'a [InForce],
     features: &'a Features<'a>,
     index: &'a Index,
 }
 
-impl<'a> Model for RuledFeatures<'a> {
+impl<'a, R> Model for RuledFeatures<'a, R> {
     ghost use Rattle.topology_terms.specs.Feature.{IsAscending};
     ghost use Rattle.topology_terms.specs.Project.{AreAscending};
     ghost use Rattle.validation.specs.Placed.{ArePlaced};
@@ -31,23 +33,30 @@ impl<'a> Model for RuledFeatures<'a> {
     ghost invariant = { λ x. AreAscending x.in_force.now × IsAscending x.features.now × ArePlaced x.index.now x.features.now };
 }
 
-impl<'a> RuledFeatures<'a> {
+impl<'a, R> RuledFeatures<'a, R> {
     /// These rules and these features, each of which stands in the index.
     pub fn of(
+        rules: &'a R,
         in_force: &'a [InForce],
         features: &'a Features<'a>,
         index: &'a Index,
-    ) -> RuledFeatures<'a>
+    ) -> RuledFeatures<'a, R>
         requires rules { AreAscending in_force.now }
         requires features { IsAscending features.now }
         requires placed { ArePlaced index.now features.now }
         ensures { result ≡ record { in_force = in_force.now; features = features.now } }
     {
         RuledFeatures {
+            rules,
             in_force,
             features,
             index,
         }
+    }
+
+    /// What each kind of rule finds.
+    pub(crate) fn rules(&self) -> &'a R {
+        self.rules
     }
 
     /// The rules in force.

@@ -1,4 +1,4 @@
-ghost use Rattle.std.specs.Prelude.{◌≡◌, ◌↔◌, ℕ, [], ◌∷◌, ◌++◌, if◌then◌else◌, Contains, filter, IfOk, OnOk};
+ghost use Rattle.std.specs.Prelude.{◌≡◌, ◌↔◌, ◌≤◌, ℕ, [], ◌∷◌, ◌++◌, if◌then◌else◌, Contains, filter, IfOk, OnOk};
 ghost use Rattle.std.specs.Option.{option_to_list};
 ghost use Rattle.std.specs.List.Sorted.{IsStrictlyIncreasing};
 ghost use Rattle.topology_terms.specs.Feature.{env, feature_at};
@@ -17,7 +17,7 @@ use crate::dirty::DirtyParts;
 use crate::ruled::RuledFeatures;
 use error_store::{Entry, Errors, next_of};
 use feature_store::Features;
-use grid_index::{Index, once_each};
+use grid_index::{Index, Meter, once_each};
 use grid_plane::{Handles, NoMemory, Rect};
 use std::alloc::Global;
 
@@ -85,31 +85,39 @@ fn add_subjects(
 }
 
 // The handles that an index gives for what is dirty of the window, once each, ascending; it may give others too.
-fn near_of(alloc: Global, dirty: &DirtyParts, index: &Index) -> Result<Vec<u32>, NoMemory>
+fn near_of<M: Meter>(
+    alloc: Global,
+    dirty: &DirtyParts,
+    index: &Index,
+    meter: &mut M,
+) -> Result<Vec<u32>, NoMemory>
     ensures rising { IfOk result (λ v. IsStrictlyIncreasing v.items) }
     ensures near { IfOk result (λ v. HasNear v.items index.now dirty.now) }
+    ensures rises { M.taken meter.old ≤ M.taken meter.new }
 {
-    let mut near = dirty.near(alloc, index)?;
+    let mut near = dirty.near(alloc, index, meter)?;
     once_each(alloc, &mut near)?;
     Ok(near)
 }
 
 /// The handles that the window and the dirt select: of live features by their envelope, and of subjects of errors by the
 /// error's frame. Of the dirt it takes the rectangles that meet the window. It looks only at those features and errors that the
-/// indexes give.
-pub fn select(
+/// indexes give. The meter counts the steps in both.
+pub fn select<R, M: Meter>(
     alloc: Global,
-    ruled: &RuledFeatures<'_>,
+    ruled: &RuledFeatures<'_, R>,
     errors: &Errors,
     met: &[Rect],
     window: &Rect,
+    meter: &mut M,
 ) -> Result<Handles, NoMemory>
     ensures rising { IfOk result IsRising }
     ensures chosen { IfOk result (λ s. (p : Project) → p.features ≡ ruled.now.features → met.now ≡ filter (λ r. rects_meet r window.now) p.dirt → p.entries ≡ errors.now → (a : ℕ) → Contains s a ↔ IsSelected p window.now a) }
+    ensures rises { M.taken meter.old ≤ M.taken meter.new }
 {
     let dirty = DirtyParts::of(alloc, met, window)?;
-    let near = near_of(alloc, &dirty, ruled.index())?;
-    let framed = near_of(alloc, &dirty, errors.frames())?;
+    let near = near_of(alloc, &dirty, ruled.index(), meter)?;
+    let framed = near_of(alloc, &dirty, errors.frames(), meter)?;
     ruled.order_law();
     let mut found = Vec::with_capacity(alloc, near.len())?;
     add_features(ruled.features(), &near, &dirty, &mut found)?;

@@ -18,17 +18,18 @@ use crate::ruled::RuledFeatures;
 use crate::selection::select;
 use dirty_area::Dirt;
 use error_store::{Entry, Errors};
+use grid_index::{Meter, NoCount};
 use grid_plane::{Handles, NoMemory, Rect};
 use rule_core::{RuleSet, Work};
 use std::alloc::Global;
 
 // The new entries of the selected subjects, in the order of their keys.
-fn rejudge<R: RuleSet>(
-    rules: &R,
+fn rejudge<R: RuleSet, M: Meter>(
     alloc: Global,
-    ruled: &RuledFeatures<'_>,
+    ruled: &RuledFeatures<'_, R>,
     selected: &Handles,
     work: &mut Work,
+    meter: &mut M,
 ) -> Result<Vec<Entry>, NoMemory>
     requires fits { (n : ℕ) (row : Row) → rule_at ruled.now.in_force n ≡ Some row → R.meaning.Fits row ruled.now.features }
     requires selected { IsRising selected.now }
@@ -36,24 +37,24 @@ fn rejudge<R: RuleSet>(
     ensures ascending { IfOk result (λ es. entries_of.IsAscending es.items) }
     ensures judged { IfOk result (λ _. work.new ≡ raised work.old (judged_of ruled.now.in_force (live_of ruled.now.features selected.now))) }
     ensures stopped { OnErr result (work.new ≤ raised work.old (judged_of ruled.now.in_force (live_of ruled.now.features selected.now))) }
+    ensures rises { M.taken meter.old ≤ M.taken meter.new }
 {
     ruled.order_law();
+    let rules = ruled.rules();
     let in_force = ruled.in_force();
     let indexed = ruled.indexed();
-    let mut found = Vec::new(alloc);
-    judge_all(rules, alloc, in_force, &indexed, selected, &mut found, work)?;
-    Ok(found)
+    judge_all(rules, alloc, in_force, &indexed, selected, work, meter)
 }
 
 // The entries of the subjects that the window and these rectangles of the dirt select give way to the findings.
-fn renew<R: RuleSet>(
-    rules: &R,
+fn renew<R: RuleSet, M: Meter>(
     alloc: Global,
-    ruled: &RuledFeatures<'_>,
+    ruled: &RuledFeatures<'_, R>,
     errors: &mut Errors,
     met: &[Rect],
     window: &Rect,
     work: &mut Work,
+    meter: &mut M,
 ) -> Result<(), NoMemory>
     requires { (n : ℕ) (row : Row) → rule_at ruled.now.in_force n ≡ Some row → R.meaning.Fits row ruled.now.features }
     ensures step { OnOk result ((p : Project) (d new : List Rectangle) → HasParts p ruled.now d errors.old → met.now ≡ filter (λ r. rects_meet r window.now) d → new ≡ cut_dirt d window.now → IsValidatedBy R.meaning window.now p (with_parts p new errors.new)) }
@@ -61,10 +62,11 @@ fn renew<R: RuleSet>(
     ensures stopped { OnErr result ((p : Project) (d : List Rectangle) → HasParts p ruled.now d errors.old → met.now ≡ filter (λ r. rects_meet r window.now) d → (fs : List features_of.Feature) → IsThose (λ (f : features_of.Feature). IsSelected p window.now f.handle) ruled.now.features fs → work.new ≤ raised work.old (judged_of ruled.now.in_force fs)) }
     ensures ordered { OnOk result (entries_of.IsAscending errors.new) }
     ensures errors_kept { OnErr result (errors.new ≡ errors.old) }
+    ensures rises { M.taken meter.old ≤ M.taken meter.new }
 {
     ruled.order_law();
-    let selected = select(alloc, ruled, errors, met, window)?;
-    let fresh = rejudge(rules, alloc, ruled, &selected, work)?;
+    let selected = select(alloc, ruled, errors, met, window, meter)?;
+    let fresh = rejudge(alloc, ruled, &selected, work, meter)?;
     errors.replace(alloc, &selected, fresh)
 }
 
@@ -75,9 +77,8 @@ fn renew<R: RuleSet>(
 /// After an `Err`, out of memory, it has risen by no more, and errors and dirt are as they were: all growth comes before the
 /// first change.
 pub fn validate<R: RuleSet>(
-    rules: &R,
     alloc: Global,
-    ruled: &RuledFeatures<'_>,
+    ruled: &RuledFeatures<'_, R>,
     errors: &mut Errors,
     dirt: &mut Dirt,
     window: &Rect,
@@ -94,9 +95,35 @@ pub fn validate<R: RuleSet>(
     ensures errors_kept { OnErr result (errors.new ≡ errors.old) }
     ensures dirt_kept { OnErr result (dirt.new ≡ dirt.old) }
 {
+    validate_counted(alloc, ruled, errors, dirt, window, work, &mut NoCount)
+}
+
+/// What `validate` does, and the steps of its questions to an index: what it asks of where features lie, and of where errors do, is
+/// counted by the meter. The count does not fall, whatever is answered.
+pub fn validate_counted<R: RuleSet, M: Meter>(
+    alloc: Global,
+    ruled: &RuledFeatures<'_, R>,
+    errors: &mut Errors,
+    dirt: &mut Dirt,
+    window: &Rect,
+    work: &mut Work,
+    meter: &mut M,
+) -> Result<(), NoMemory>
+    requires { (n : ℕ) (row : Row) → rule_at ruled.now.in_force n ≡ Some row → R.meaning.Fits row ruled.now.features }
+    ensures step { OnOk result ((p : Project) → HasParts p ruled.now dirt.old errors.old → IsValidatedBy R.meaning window.now p (with_parts p dirt.new errors.new)) }
+    ensures valid { OnOk result ((p : Project) → HasParts p ruled.now dirt.old errors.old → IsProject R.meaning p → IsProject R.meaning (with_parts p dirt.new errors.new)) }
+    ensures sound { OnOk result ((p : Project) → HasParts p ruled.now dirt.old errors.old → IsProject R.meaning p → IsSoundUnder R.meaning p → IsSoundUnder R.meaning (with_parts p dirt.new errors.new)) }
+    ensures settled { OnOk result ((p : Project) → HasParts p ruled.now dirt.old errors.old → IsProject R.meaning p → IsSettledUnder R.meaning p → IsSettledUnder R.meaning (with_parts p dirt.new errors.new)) }
+    ensures judged { OnOk result ((p : Project) → HasParts p ruled.now dirt.old errors.old → (fs : List features_of.Feature) × IsThose (λ (f : features_of.Feature). IsSelected p window.now f.handle) ruled.now.features fs × (work.new ≡ raised work.old (judged_of ruled.now.in_force fs))) }
+    ensures stopped { OnErr result ((p : Project) → HasParts p ruled.now dirt.old errors.old → (fs : List features_of.Feature) → IsThose (λ (f : features_of.Feature). IsSelected p window.now f.handle) ruled.now.features fs → work.new ≤ raised work.old (judged_of ruled.now.in_force fs)) }
+    ensures ordered { OnOk result (entries_of.IsAscending errors.new) }
+    ensures errors_kept { OnErr result (errors.new ≡ errors.old) }
+    ensures dirt_kept { OnErr result (dirt.new ≡ dirt.old) }
+    ensures rises { M.taken meter.old ≤ M.taken meter.new }
+{
     ruled.order_law();
     let cut = dirt.cut(alloc, window)?;
-    match renew(rules, alloc, ruled, errors, cut.met(), window, work) {
+    match renew(alloc, ruled, errors, cut.met(), window, work, meter) {
         Ok(()) => {
             *dirt = cut.into_left();
             Ok(())

@@ -1,11 +1,14 @@
+use Rattle.std.proofs.Common.{arith}
 use Rattle.std.proofs.lemmas.List.{take_all}
 use Rattle.validation.proofs.Nearby.{near_more}
 use Rattle.validation.proofs.dirty.near_each.Goals as goal
 
 pub loop-r-preserved : goal.loop-r-preserved
-loop-r-preserved c =
-    near_more c.args.index.now c.args.rects.now c.loop-r.r-index c.r-item.result c.loop-r.found.items c.in_ok-near.near.items
-    c.put_behind.new.out.items c.loop-r-test.true c.r-item.is c.loop-r.invariant c.in_ok-near.ensures.near c.in_ok-put_behind.ensures
+loop-r-preserved g c = (
+  near_more c.args.index.now c.args.rects.now c.loop-r.r-index c.r-item.result c.loop-r.found.items c.in_ok-near.near.items
+      c.put_behind.new.out.items c.loop-r-test.true c.r-item.is c.loop-r.invariant.0 c.in_ok-near.ensures.near c.in_ok-put_behind.ensures,
+  omega (arith, c.loop-r.invariant.1, c.query_counted.ensures.rises),
+)
 
-pub returns : goal.returns
-returns c = λ q k. rw (take_all c.loop-r.r-index c.args.rects.now c.loop-r-test.false) at (c.loop-r.invariant q k)
+pub returns-clause-near : goal.returns-clause-near
+returns-clause-near g c = λ q k. rw (take_all c.loop-r.r-index c.args.rects.now c.loop-r-test.false) at (c.loop-r.invariant.0 q k)

@@ -1,5 +1,5 @@
-use Rattle.std.proofs.Common.{◌≡◌, ◌∙◌, ℕ, List, [], ◌∷◌, append-nil, refl, ap, sym, subst, length, arith}
-use Rattle.std.proofs.lemmas.Result.{on_ok_weaker}
+use Rattle.std.proofs.Common.{◌≡◌, ◌∙◌, ℕ, List, [], ◌∷◌, refl, ap, sym, subst, length, arith}
+use Rattle.std.proofs.lemmas.Result.{IfOk-weaker}
 use Rattle.shape.proofs.Changed.{written}
 use Rattle.validation_laws.specs.Parts.{IsJudging}
 use Rattle.validation_laws.proofs.Counting.{raised_none}
@@ -19,18 +19,18 @@ none : (s : List ℕ) → length s ≡ 0 → s ≡ []
 none [] e = refl
 none (a ∷ s) e = absurd (omega (arith, e))
 
-pub returns-then-len-eq0-clause-part : goal.returns-then-len-eq0-clause-part
-returns-then-len-eq0-clause-part g c =
+pub returns-then-len-eq0-clause-judging : goal.returns-then-len-eq0-clause-judging
+returns-then-len-eq0-clause-judging g c =
     let e = none c.args.selected.now (omega (arith, c.len.ensures.value, c.if-len-eq0.true)) in
-    ([], sym (append-nil c.args.out.now.items), rw e (judging_none g.R.RuleSet.meaning c.args.features.now c.args.in_force.now))
+    rw (e, c.new.ensures.items) (judging_none g.R.RuleSet.meaning c.args.features.now c.args.in_force.now)
 
 pub returns-then-len-eq0-clause-judged : goal.returns-then-len-eq0-clause-judged
 returns-then-len-eq0-clause-judged g c =
     let e = none c.args.selected.now (omega (arith, c.len.ensures.value, c.if-len-eq0.true)) in
     rw (e, judged_nothing c.args.in_force.now) (sym (raised_none c.args.work.now))
 
-pub returns-clause-part : goal.returns-clause-part
-returns-clause-part g c =
+pub returns-clause-judging : goal.returns-clause-judging
+returns-clause-judging g c =
     let M = g.R.RuleSet.meaning in
     let F = c.args.features.now in
     let s = c.args.selected.now in
@@ -45,10 +45,7 @@ returns-clause-part g c =
       length_rules c.in_ok-parts.parts.items,
     ) in
     let all = written c.in_ok-parts.parts.len new c.in_ok-parts.parts.items same (omega (arith, c.in_ok-parts.parts.ok)) in
-    on_ok_weaker c.put_parts.result
-    (λ h. (
-      entries_of new,
-      rw all at h,
-      subst (λ rs. IsJudging M F rs s (entries_of new)) rules (judging_parts M F s new c.in_ok-judge_selected.ensures.done),
-    ))
-    c.put_parts.ensures
+    IfOk-weaker c.entries_in.result _ (λ es. IsJudging M F c.args.in_force.now s es.items)
+    (λ es h. rw (rw all at h) (subst (λ rs. IsJudging M F rs s (entries_of new)) rules (judging_parts M F s new
+    c.in_ok-judge_selected.ensures.done)))
+    c.entries_in.ensures

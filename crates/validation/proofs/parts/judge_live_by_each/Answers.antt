@@ -16,17 +16,17 @@ returns-then-not-judges_any-clause-judged g c =
 
 pub judge_shown_by_each-requires-clause-live : goal.judge_shown_by_each-requires-clause-live
 judge_shown_by_each-requires-clause-live g c = subject_seen c.args.features.now c.in_ok-view.view c.args.f.now.handle c.args.f.now
-    c.requires.live c.in_ok-view.ensures
+    c.requires.live c.in_ok-view.ensures.view
 
 pub judge_shown_by_each-requires-clause-near : goal.judge_shown_by_each-requires-clause-near
-judge_shown_by_each-requires-clause-near g c = view_own c.args.features.now c.in_ok-view.view c.args.f.now c.in_ok-view.ensures
+judge_shown_by_each-requires-clause-near g c = view_own c.args.features.now c.in_ok-view.view c.args.f.now c.in_ok-view.ensures.view
 
 pub judge_shown_by_each-requires-clause-fits : goal.judge_shown_by_each-requires-clause-fits
 judge_shown_by_each-requires-clause-fits g c = all_fit g.R.RuleSet.meaning g.met.R.RuleSet.laws g.met.R.RuleSet.views c.args.features.now
-    c.in_ok-view.view c.args.f.now c.requires.ascending c.requires.live c.in_ok-view.ensures (rules_of c.args.parts.now) c.requires.fits
+    c.in_ok-view.view c.args.f.now c.requires.ascending c.requires.live c.in_ok-view.ensures.view (rules_of c.args.parts.now) c.requires.fits
 
 pub returns-clause-grown : goal.returns-clause-grown
 returns-clause-grown g c = on_ok_weaker c.judge_shown_by_each.result
     (λ h. all_seen g.R.RuleSet.meaning g.met.R.RuleSet.laws g.met.R.RuleSet.views c.args.features.now c.in_ok-view.view c.args.f.now
-    c.requires.ascending c.requires.live c.in_ok-view.ensures c.args.parts.now c.judge_shown_by_each.new.parts c.requires.fits h)
+    c.requires.ascending c.requires.live c.in_ok-view.ensures.view c.args.parts.now c.judge_shown_by_each.new.parts c.requires.fits h)
     c.judge_shown_by_each.ensures.grown

@@ -11,6 +11,7 @@ loop-i-init g c = (
   c.requires.new,
   refl,
   rw (judged_nothing (rules_of c.args.parts.now)) (sym (raised_none c.args.work.now)),
+  omega arith,
 )
 
 pub judge_by_each-requires-clause-fits : goal.judge_by_each-requires-clause-fits
@@ -20,9 +21,9 @@ pub returns-in_err-judge_by_each-clause-stopped : goal.returns-in_err-judge_by_e
 returns-in_err-judge_by_each-clause-stopped g c =
     let s = c.args.selected.now in
     let i = c.loop-i.i in
-    let a = c.at.result in
+    let a = c.at-subject.result in
     let l : i < length s = omega (arith, c.len-i-end.ensures.value, c.loop-i-test.true) in
-    let e : a ≡ get_or s i a = c.at.ensures ∙ get_or_default s i 0 a l in
+    let e : a ≡ get_or s i a = c.at-subject.ensures ∙ get_or_default s i 0 a l in
     on_err c.from_residual.result _ (judged_subject_within (rules_of c.args.parts.now) c.args.features.now s i a c.args.work.now
     c.loop-i.work c.judge_by_each.new.work l e c.loop-i.invariant.2 (rw c.loop-i.invariant.1 at c.in_err-judge_by_each.ensures.stopped))
 
@@ -32,12 +33,13 @@ loop-i-preserved g c =
     let F = c.args.features.now in
     let s = c.args.selected.now in
     let i = c.loop-i.i in
-    let a = c.at.result in
+    let a = c.at-subject.result in
     let l : i < length s = omega (arith, c.len-i-end.ensures.value, c.loop-i-test.true) in
-    let e : a ≡ get_or s i a = c.at.ensures ∙ get_or_default s i 0 a l in
+    let e : a ≡ get_or s i a = c.at-subject.ensures ∙ get_or_default s i 0 a l in
     let grown = c.in_ok-judge_by_each.ensures.grown in (
       done_more M F s i a c.loop-i.parts c.judge_by_each.new.parts l e c.loop-i.invariant.0 grown,
       rules_kept M F a c.loop-i.parts c.judge_by_each.new.parts grown ∙ c.loop-i.invariant.1,
       judged_subject_more (rules_of c.args.parts.now) F s i a c.args.work.now c.loop-i.work c.judge_by_each.new.work l e
           c.loop-i.invariant.2 (rw c.loop-i.invariant.1 at c.in_ok-judge_by_each.ensures.judged),
+      omega (arith, c.loop-i.invariant.3, c.judge_by_each.ensures.rises),
     )

@@ -1,4 +1,4 @@
-use Rattle.std.proofs.Common.{◌≡◌, take}
+use Rattle.std.proofs.Common.{◌≡◌, ◌≤◌, take}
 use Rattle.plane_terms.specs.Lists.{Every}
 use Rattle.topology_terms.specs.Counts.{raised, judged_of}
 use Rattle.validation_laws.specs.Parts.{live_of}
@@ -9,3 +9,4 @@ abbrev pub invariant-loop-i : goal.invariant-loop-i
 invariant-loop-i g l = Every (IsDone g.R.RuleSet.meaning l.features (take l.i l.selected)) l.parts
     × (rules_of l.parts ≡ rules_of l.initial.parts)
     × (l.work ≡ raised l.initial.work (judged_of (rules_of l.initial.parts) (live_of l.features (take l.i l.selected))))
+    × (g.M.Meter.taken l.initial.meter ≤ g.M.Meter.taken l.meter)

@@ -12,10 +12,10 @@ use Rattle.validation.proofs.Framed.{frames_near}
 use Rattle.validation.proofs.selection.select.Goals as goal
 
 pub returns-clause-rising : goal.returns-clause-rising
-returns-clause-rising c = rw c.of-2.ensures (rising c.once_each.new.found.items c.in_ok-once_each.ensures.ascending)
+returns-clause-rising g c = rw c.of-2.ensures (rising c.once_each.new.found.items c.in_ok-once_each.ensures.ascending)
 
 pub returns-clause-chosen : goal.returns-clause-chosen
-returns-clause-chosen c = λ p ef ed ee a.
+returns-clause-chosen g c = λ p ef ed ee a.
     let w = c.args.window.now in
     let early = c.add_features.new.found.items in
     let late = c.add_subjects.new.found.items in
@@ -36,5 +36,5 @@ returns-clause-chosen c = λ p ef ed ee a.
     rw c.of-2.ensures ((λ k. chosen.0 (once.0 k)), (λ k. once.1 (chosen.1 k)))
 
 pub add_subjects-requires-clause-enough : goal.add_subjects-requires-clause-enough
-add_subjects-requires-clause-enough c = rw (c.deref-2.ensures.value, c.entries.ensures.value) (frames_near c.frames.result.now
+add_subjects-requires-clause-enough g c = rw (c.deref-2.ensures.value, c.entries.ensures.value) (frames_near c.frames.result.now
     c.args.errors.now c.in_ok-dirty.dirty c.in_ok-framed.framed.items c.frames.ensures c.in_ok-framed.ensures.near)

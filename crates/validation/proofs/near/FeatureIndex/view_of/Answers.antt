@@ -3,8 +3,8 @@ use Rattle.validation_laws.specs.Views.{IsView}
 use Rattle.validation.proofs.Nearby.{view_near}
 use Rattle.validation.proofs.near.FeatureIndex.view_of.Goals as goal
 
-pub returns : goal.returns
-returns c =
+pub returns-clause-view : goal.returns-clause-view
+returns-clause-view g c =
     let F = c.self.inside.features.now in
     let f = c.args.f.now in
     let near = rw (c.env-env.ensures, c.shape.ensures) at c.in_ok-handles.ensures.near in

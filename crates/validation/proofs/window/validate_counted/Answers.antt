@@ -4,7 +4,7 @@ use Rattle.validation.specs.Projects.{with_parts}
 use Rattle.topology_terms.specs.Counts.{judged_of}
 use Rattle.validation_laws.proofs.Counting.{not_raised}
 use Rattle.grid_index.proofs.Nodes.{on_err}
-use Rattle.validation.proofs.window.validate.Goals as goal
+use Rattle.validation.proofs.window.validate_counted.Goals as goal
 
 pub returns-in-Ok-clause-step : goal.returns-in-Ok-clause-step
 returns-in-Ok-clause-step g c = λ p h. c.in-Ok.ensures.step p c.args.dirt.now c.into_left.result h
