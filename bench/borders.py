@@ -103,7 +103,7 @@ def lots(lake):
 
 def maps():
     """The name of each line of the table, and a function that makes its script, and says how often the map stands in it."""
-    for count, times in (101, 64), (201, 32), (1024, 1):
+    for count, times in (101, 128), (201, 64), (1024, 16):
         for name, make in (('jagged', jagged), ('winding', winding)):
             title = '%s border of %d vertices' % (name, count)
             for way, turn in (('north', list), ('turned', turned)):
