@@ -16,6 +16,7 @@ use Rattle.validation_laws.specs.Parts.{IsRising}
 use Rattle.validation_laws.proofs.Handles.{among, among_or_not}
 use Rattle.sound_laws.proofs.Keyed.{found_contained, key_found, every_found, contained_found}
 use Rattle.sound_laws.proofs.RuleLists.{rule_numbers, found_rule, rule_found}
+use Rattle.grid_index.specs.declared.placed.Placed.{Placed}
 use Rattle.validation.specs.Projects.{HasParts}
 use Rattle.project_check.specs.Subjects.{HasLists, HasSubjects, IsFirstNot}
 use Rattle.project_check.proofs.Places.{holds_below}
@@ -62,9 +63,9 @@ first_not P ns i x other u l e h n = record {
 }
 
 -- ---- rules in force
-pub lists_of : (p : Project) (rules : List InForce) (F G : List Feature) (d : List Rectangle) (es fs : List Entry)
-    → HasParts p (record { in_force = rules; features = F }) d es → G ≡ F → fs ≡ es → HasLists p G d fs
-lists_of p rules F G d es fs h e k = record { features = h.features ∙ sym e; dirt = h.dirt; entries = h.entries ∙ sym k }
+pub lists_of : (p : Project) (rules : List InForce) (F G : List Feature) (ps : List Placed) (d : List Rectangle)
+    (es fs : List Entry) → HasParts p (record { in_force = rules; features = F; placed = ps }) d es → G ≡ F → fs ≡ es → HasLists p G d fs
+lists_of p rules F G ps d es fs h e k = record { features = h.features ∙ sym e; dirt = h.dirt; entries = h.entries ∙ sym k }
 
 abbrev pub IsSoundBy : Meaning → Project → InForce → Type 0
 IsSoundBy M p q = (a : ℕ) → IsSoundAt M p q.number q.row a

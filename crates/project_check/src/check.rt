@@ -42,12 +42,12 @@ fn first_unsound<R: RuleSet>(
     work: &mut Work,
 ) -> Result<Option<Unsound>, NoMemory>
     requires rules { AreAscending in_force.now }
-    requires features { features_of.IsAscending features.now }
+    requires features { features_of.IsAscending features.now.features }
     requires entries { entries_of.IsAscending entries.now }
-    requires fits { Every (λ (q : projects.InForce). R.meaning.Fits q.row features.now) in_force.now }
+    requires fits { Every (λ (q : projects.InForce). R.meaning.Fits q.row features.now.features) in_force.now }
     requires rising { IsRising subjects.now }
-    requires all { HasSubjects features.now entries.now subjects.now }
-    ensures { IfOk result (λ found. (p : Project) → HasLists p features.now dirt.now entries.now → p.rules ≡ in_force.now → IsChecked R.meaning p found) }
+    requires all { HasSubjects features.now.features entries.now subjects.now }
+    ensures { IfOk result (λ found. (p : Project) → HasLists p features.now.features dirt.now entries.now → p.rules ≡ in_force.now → IsChecked R.meaning p found) }
 {
     let mut left = in_force.len();
     let mut found = None;
@@ -88,7 +88,7 @@ pub fn check_project<R: RuleSet>(
     requires features { features_of.IsAscending features.now }
     requires fits { (n : ℕ) (row : Row) → rule_at in_force.now n ≡ Some row → R.meaning.Fits row features.now }
     requires placed { ArePlaced index.now features.now }
-    ensures { IfOk result (λ found. (p : Project) → HasParts p (record { in_force = in_force.now; features = features.now }) dirt.now errors.now → IsChecked R.meaning p found) }
+    ensures { IfOk result (λ found. (p : Project) → HasParts p (record { in_force = in_force.now; features = features.now; placed = index.now }) dirt.now errors.now → IsChecked R.meaning p found) }
 {
     let entries = errors.entries();
     let subjects = subjects_of(alloc, features, entries)?;

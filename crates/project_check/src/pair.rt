@@ -20,8 +20,8 @@ use validation::{FeatureIndex, RulePart, judge_subject};
 
 // The envelope of the live feature of this handle.
 fn envelope_of(features: &FeatureIndex<'_>, handle: u32) -> Option<Rect>
-    requires { features_of.IsAscending features.now }
-    ensures { result ≡ option_map env (feature_at features.now handle) }
+    requires { features_of.IsAscending features.now.features }
+    ensures { result ≡ option_map env (feature_at features.now.features handle) }
 {
     match features.find(handle) {
         Some(f) => Some(f.shape().env()),
@@ -61,11 +61,11 @@ pub fn first_rule<R: RuleSet>(
     subject: u32,
     work: &mut Work,
 ) -> Result<Option<usize>, NoMemory>
-    requires features { features_of.IsAscending features.now }
+    requires features { features_of.IsAscending features.now.features }
     requires entries { entries_of.IsAscending entries.now }
-    requires fits { Every (λ (q : projects.InForce). R.meaning.Fits q.row features.now) in_force.now }
+    requires fits { Every (λ (q : projects.InForce). R.meaning.Fits q.row features.now.features) in_force.now }
     ensures within { IfOk result (λ place. IfSome place (λ k. k < length in_force.now)) }
-    ensures first { IfOk result (λ place. (p : Project) → HasLists p features.now dirt.now entries.now → IsFirstRule R.meaning p in_force.now subject place) }
+    ensures first { IfOk result (λ place. (p : Project) → HasLists p features.now.features dirt.now entries.now → IsFirstRule R.meaning p in_force.now subject place) }
 {
     let fresh = judge_subject(rules, alloc, in_force, features, subject, work)?;
     let envelope = envelope_of(features, subject);

@@ -1,4 +1,4 @@
-// How many steps a validation takes in the indexes of a topology, as a meter counts them.
+// How many steps a validation takes in the indexes of a topology, as meters count them.
 use feature_store::{Kind, Name, Shape};
 use grid_index::{Count, Meter};
 use grid_plane::{GridPoint, Rect};
@@ -33,14 +33,16 @@ fn row(alloc: Global, work: &mut Work) -> Result<Topology<PosterRules>, Fail> {
 #[test]
 fn a_validation_looks_at_few_of_a_row(rt: HostRuntime) -> Result<(), Fail> {
     let mut work = Work::new();
-    let mut steps = Count::new();
+    let mut near = Count::new();
+    let mut framed = Count::new();
     let mut town = row(rt.alloc(), &mut work)?;
     town.change(1, Shape::point(place(101)?))?;
     let window = Rect::round(place(0)?).join(&Rect::round(place(200)?));
-    let done = town.validate_counted(window, &mut work, &mut steps)?;
+    let done = town.validate_counted(window, &mut work, &mut near, &mut framed)?;
     assert_eq!(rt; (done.judged, done.errors, done.dirty), (1, 0, 0));
-    let taken = steps.count();
+    let taken = near.count();
     assert!(rt; taken >= 1);
     assert!(rt; taken <= 100);
+    assert!(rt; framed.count() <= 1);
     Ok(())
 }

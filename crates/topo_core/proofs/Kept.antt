@@ -23,12 +23,14 @@ use Rattle.topo_core.specs.Topologies.{IsErrorOf, IsTopology}
 use Rattle.topo_core.proofs.Rows.{fit_end}
 use Rattle.topo_core.proofs.Whole.{valid}
 use Rattle.topo_core.proofs.Fresh.{validated_errors}
+use Rattle.grid_index.specs.declared.placed.Placed.{Placed}
 use Rattle.validation.specs.Projects.{RuledFeatures, HasParts}
 
 -- ---- what a validation reads of the project
-pub parts_of : (p : Project) (r : RuledFeatures) (rules : List InForce) (F : List Feature) → r ≡ record { in_force = rules; features = F }
+pub parts_of : (p : Project) (r : RuledFeatures) (rules : List InForce) (F : List Feature) (ps : List Placed)
+    → r ≡ record { in_force = rules; features = F; placed = ps }
     → rules ≡ p.rules → F ≡ p.features → HasParts p r p.dirt p.entries
-parts_of p r rules F e q f = record {
+parts_of p r rules F ps e q f = record {
   rules = sym (ap (λ (x : RuledFeatures). x.in_force) e ∙ q);
   features = sym (ap (λ (x : RuledFeatures). x.features) e ∙ f);
   dirt = refl;

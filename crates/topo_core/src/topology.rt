@@ -287,16 +287,17 @@ impl<R: KindRules> Topology<R> {
         ensures ordered { IsOrdered self.new }
         ensures err { OnErr result (self.new ≡ self.old) }
     {
-        self.validate_counted(window, work, &mut NoCount)
+        self.validate_counted(window, work, &mut NoCount, &mut NoCount)
     }
 
-    /// What `validate` does, and the steps of its questions to an index: what it asks of where features lie, and of where errors
-    /// do, is counted by the meter.
-    pub fn validate_counted<M: Meter>(
+    /// What `validate` does, and the steps of its questions to the indexes: the first meter counts those in the index of where
+    /// features lie, and the second those in that of the errors' frames.
+    pub fn validate_counted<M: Meter, N: Meter>(
         &mut self,
         window: Rect,
         work: &mut Work,
-        meter: &mut M,
+        feature_meter: &mut M,
+        error_meter: &mut N,
     ) -> Result<Summary, NoMemory>
         ensures ok { OnOk result (IsValidatedBy R.meaning window self.old self.new) }
         ensures judged { OnOk result (IsCounted window self.old work.old work.new) }
@@ -306,19 +307,26 @@ impl<R: KindRules> Topology<R> {
         ensures settled { IsSettledUnder R.meaning self.old → IsSettledUnder R.meaning self.new }
         ensures ordered { IsOrdered self.new }
         ensures err { OnErr result (self.new ≡ self.old) }
-        ensures rises { M.taken meter.old ≤ M.taken meter.new }
+        ensures rises { M.taken feature_meter.old ≤ M.taken feature_meter.new }
+        ensures error_rises { N.taken error_meter.old ≤ N.taken error_meter.new }
     {
         let before = work.judged();
         let features = self.store.features();
-        let ruled = RuledFeatures::of(&self.judging, &self.rules, &features, &self.index);
-        validate_counted(
+        let ruled = RuledFeatures::of(
             self.alloc,
+            &self.judging,
+            &self.rules,
+            &features,
+            &self.index,
+        );
+        validate_counted(
             &ruled,
             &mut self.entries,
             &mut self.dirt,
             &window,
             work,
-            meter,
+            feature_meter,
+            error_meter,
         )?;
         Ok(Summary {
             judged: work.judged().saturating_sub(before),

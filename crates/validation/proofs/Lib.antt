@@ -1,3 +1,4 @@
+mod Asking
 mod CellFrames
 mod Dirtied
 mod Elements

@@ -1,3 +1,4 @@
+pub mod Asked
 pub mod Parted
 pub mod Placed
 pub mod Projects

@@ -1,8 +1,11 @@
-ghost use Rattle.std.specs.Prelude.{◌≡◌, ◌↔◌, ◌≤◌, [], IsTrue, IfOk, MatchOption};
+ghost use Rattle.std.specs.Prelude.{◌≡◌, ◌↔◌, ◌≤◌, ◌+◌, ◌-ℤ◌, unsigned_abs, ℕ, [], IsTrue, IfOk, IfSome, MatchOption};
+ghost use Rattle.std.specs.List.Sorted.{IsPermutation};
 ghost use Rattle.plane_terms.specs.Lists.{Every};
 ghost use Rattle.plane_terms.specs.Point.{Point};
-ghost use Rattle.plane_terms.specs.Rectangle.{Rectangle, IsRectangle, IsWithin, RectHolds};
+ghost use Rattle.plane_terms.specs.Rectangle.{IsRectangle, RectHolds};
 ghost use Rattle.plane_terms.specs.Dirt.{Covers, MeetsDirt};
+ghost use Rattle.validation.specs.Asked.{IsRound, IsClose, IsAskedOf, dirty_parts, places_of, asked_steps};
+ghost use Rattle.validation.specs.Asked as terms;
 ghost use Rattle.validation.specs.Placed.{HasNear};
 
 use crate::lists::put_behind;
@@ -37,9 +40,12 @@ impl Model for DirtyParts {
 fn parts_of(alloc: Global, rects: &[Rect], window: &Rect) -> Result<Vec<Rect>, NoMemory>
     ensures covers { IfOk result (λ v. (p : Point) → Covers v.items p ↔ (Covers rects.now p × RectHolds window.now p)) }
     ensures on_grid { IfOk result (λ v. Every IsRectangle v.items) }
+    ensures parts { IfOk result (λ v. v.items ≡ dirty_parts rects.now window.now) }
 {
+    window.corner_law();
     let mut parts = Vec::new(alloc);
     for r in rects {
+        r.corner_law();
         if let Some(part) = r.part(window) {
             part.corner_law();
             parts.push(part)?;
@@ -50,13 +56,58 @@ fn parts_of(alloc: Global, rects: &[Rect], window: &Rect) -> Result<Vec<Rect>, N
 
 // The least rectangle that holds them all; none where there are none.
 fn join_of_all(rects: &[Rect]) -> Option<Rect>
-    ensures { MatchOption result (rects.now ≡ []) (λ j. Every (λ (r : Rectangle). IsWithin r j) rects.now) }
+    ensures { MatchOption result (rects.now ≡ []) (λ j. IsRound j rects.now) }
 {
     let mut joined = *rects.first()?;
     for r in rects {
         joined = joined.join(r);
     }
     Some(joined)
+}
+
+// How many places lie along the southern side of the rectangle.
+fn places_across(r: &Rect) -> u64
+    ensures { result ≡ unsigned_abs (r.now.x1 -ℤ r.now.x0) + 1 }
+{
+    u64::from(r.x1().abs_diff(r.x0())) + 1
+}
+
+// How many places lie along its western side.
+fn places_up(r: &Rect) -> u64
+    ensures { result ≡ unsigned_abs (r.now.y1 -ℤ r.now.y0) + 1 }
+{
+    u64::from(r.y1().abs_diff(r.y0())) + 1
+}
+
+// How many places lie in the rectangle.
+fn places_in(r: &Rect) -> u64
+    ensures { result ≡ places_of r.now }
+{
+    r.corner_law();
+    places_across(r).saturating_mul(places_up(r))
+}
+
+// How many places lie in these; one that lies in several counts as often.
+fn places_in_all(rects: &[Rect]) -> u64
+    ensures { result ≤ terms.places_in rects.now }
+{
+    let mut count: u64 = 0;
+    for r in rects {
+        count = count.saturating_add(places_in(r));
+    }
+    count
+}
+
+// The least rectangle that holds them all, where they fill half of it or are more than an index is asked for one by one.
+fn close_join(rects: &[Rect]) -> Option<Rect>
+    ensures { IfSome result (λ j. IsRound j rects.now × IsClose j rects.now) }
+{
+    let joined = join_of_all(rects)?;
+    if rects.len() > PART_LIMIT || places_in(&joined) / 2 <= places_in_all(rects) {
+        Some(joined)
+    } else {
+        None
+    }
 }
 
 // The handles of the placed rectangles that meet one of these, one after another: a handle may come twice.
@@ -67,6 +118,7 @@ fn near_each<M: Meter>(
     meter: &mut M,
 ) -> Result<Vec<u32>, NoMemory>
     ensures near { IfOk result (λ v. HasNear v.items index.now rects.now) }
+    ensures steps { (s : ℕ) → M.taken meter.new ≤ M.taken meter.old + asked_steps s rects.now index.now }
     ensures rises { M.taken meter.old ≤ M.taken meter.new }
 {
     let mut found = Vec::new(alloc);
@@ -77,50 +129,11 @@ fn near_each<M: Meter>(
     Ok(found)
 }
 
-// The handles of the placed rectangles that meet the least rectangle that holds these.
-fn near_join<M: Meter>(
-    alloc: Global,
-    index: &Index,
-    rects: &[Rect],
-    meter: &mut M,
-) -> Result<Vec<u32>, NoMemory>
-    ensures near { IfOk result (λ v. HasNear v.items index.now rects.now) }
-    ensures rises { M.taken meter.old ≤ M.taken meter.new }
-{
-    match join_of_all(rects) {
-        Some(joined) => index.query_counted(alloc, &joined, meter),
-        None => Ok(Vec::new(alloc)),
-    }
-}
-
-// How many places lie in the rectangle.
-fn places_in(r: &Rect) -> u64 {
-    let width = u64::from(r.x1().abs_diff(r.x0())) + 1;
-    let height = u64::from(r.y1().abs_diff(r.y0())) + 1;
-    width.saturating_mul(height)
-}
-
-// How many places lie in these; one that lies in several counts as often.
-fn places_in_all(rects: &[Rect]) -> u64 {
-    let mut count: u64 = 0;
-    for r in rects {
-        count = count.saturating_add(places_in(r));
-    }
-    count
-}
-
-// Whether they fill half of the least rectangle that holds them.
-fn lie_close(rects: &[Rect]) -> bool {
-    match join_of_all(rects) {
-        Some(joined) => places_in(&joined) / 2 <= places_in_all(rects),
-        None => false,
-    }
-}
-
 impl DirtyParts {
     /// What is dirty of the window, of these dirty rectangles.
     pub fn of(alloc: Global, dirt: &[Rect], window: &Rect) -> Result<DirtyParts, NoMemory>
-        ensures { IfOk result (λ x. (p : Point) → Covers x p ↔ (Covers dirt.now p × RectHolds window.now p)) }
+        ensures covers { IfOk result (λ x. (p : Point) → Covers x p ↔ (Covers dirt.now p × RectHolds window.now p)) }
+        ensures parts { IfOk result (λ x. IsPermutation (dirty_parts dirt.now window.now) x) }
     {
         let parts = SortedRects::of(parts_of(alloc, dirt, window)?);
         Ok(DirtyParts { parts })
@@ -143,12 +156,13 @@ impl DirtyParts {
         meter: &mut M,
     ) -> Result<Vec<u32>, NoMemory>
         ensures near { IfOk result (λ v. HasNear v.items index.now self.now) }
+        ensures asked { IsAskedOf self.now index.now (M.taken meter.old) (M.taken meter.new) }
         ensures rises { M.taken meter.old ≤ M.taken meter.new }
     {
         let parts = self.parts.rects();
-        if parts.len() > PART_LIMIT || lie_close(parts) {
-            return near_join(alloc, index, parts, meter);
+        match close_join(parts) {
+            Some(joined) => index.query_counted(alloc, &joined, meter),
+            None => near_each(alloc, index, parts, meter),
         }
-        near_each(alloc, index, parts, meter)
     }
 }

@@ -1,4 +1,4 @@
-ghost use Rattle.std.specs.Prelude.{◌≡◌, ◌≤◌, [], ◌∷◌, filter, None, Some, IfSome, IfOk, MatchOption};
+ghost use Rattle.std.specs.Prelude.{◌≡◌, ◌≤◌, ◌+◌, ℕ, [], ◌∷◌, filter, None, Some, IfSome, IfOk, MatchOption};
 ghost use Rattle.std.specs.Option.{option_to_list};
 ghost use Rattle.std.specs.List.Sorted.{IsStrictlyIncreasing};
 ghost use Rattle.plane_terms.specs.Rectangle.{rects_meet};
@@ -6,6 +6,7 @@ ghost use Rattle.topology_terms.specs.Feature.{feature_at, env, IsAscending};
 ghost use Rattle.topology_terms.specs.Feature as terms;
 ghost use Rattle.validation_laws.specs.Parts.{live_of};
 ghost use Rattle.validation_laws.specs.Views.{IsView};
+ghost use Rattle.grid_index.specs.Steps.{most_steps};
 ghost use Rattle.validation.specs.Placed.{ArePlaced};
 
 use feature_store::Features;
@@ -24,13 +25,12 @@ pub struct FeatureIndex<'a> {
 }
 
 impl<'a> Model for FeatureIndex<'a> {
-    ghost use Rattle.std.specs.Prelude.{List};
-    ghost use Rattle.topology_terms.specs.Feature.{Feature};
     ghost use Rattle.validation.specs.Placed.{ArePlaced};
+    ghost use Rattle.validation.specs.Projects.{IndexedFeatures};
 
-    ghost Value = { List Feature };
+    ghost Value = { IndexedFeatures };
 
-    ghost view = { λ x. x.features.now };
+    ghost view = { λ x. record { features = x.features.now; placed = x.index.now } };
 
     ghost invariant = { λ x. ArePlaced x.index.now x.features.now };
 }
@@ -73,15 +73,15 @@ impl<'a> FeatureIndex<'a> {
     /// These features, each of which stands in the index.
     pub fn of(features: &'a Features<'a>, index: &'a Index) -> FeatureIndex<'a>
         requires { ArePlaced index.now features.now }
-        ensures { result ≡ features.now }
+        ensures { result ≡ record { features = features.now; placed = index.now } }
     {
         FeatureIndex { features, index }
     }
 
     /// The feature of this handle. Takes steps by the logarithm of their number.
     pub fn find(&self, handle: u32) -> Option<&'a Feature>
-        requires { IsAscending self.now }
-        ensures { MatchOption result (feature_at self.now handle ≡ None) (λ f. feature_at self.now handle ≡ Some f.now) }
+        requires { IsAscending self.now.features }
+        ensures { MatchOption result (feature_at self.now.features handle ≡ None) (λ f. feature_at self.now.features handle ≡ Some f.now) }
     {
         self.features.get(handle)
     }
@@ -94,9 +94,10 @@ impl<'a> FeatureIndex<'a> {
         f: &Feature,
         meter: &mut M,
     ) -> Result<View<'a>, NoMemory>
-        requires { IsAscending self.now }
-        ensures view { IfOk result (λ v. IsView self.now f.now v) }
+        requires { IsAscending self.now.features }
+        ensures view { IfOk result (λ v. IsView self.now.features f.now v) }
         ensures rises { M.taken meter.old ≤ M.taken meter.new }
+        ensures steps { (s : ℕ) → M.taken meter.new ≤ M.taken meter.old + most_steps s (env f.now) self.now.placed }
     {
         let env = f.shape().env();
         let handles = self.index.query_counted(alloc, &env, meter)?;

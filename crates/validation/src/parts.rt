@@ -1,4 +1,4 @@
-ghost use Rattle.std.specs.Prelude.{◌≡◌, ◌≤◌, ◌++◌, [], ◌∷◌, List, map, IfOk, OnOk, OnErr};
+ghost use Rattle.std.specs.Prelude.{◌≡◌, ◌≤◌, ◌+◌, ◌++◌, ℕ, [], ◌∷◌, List, map, IfOk, OnOk, OnErr};
 ghost use Rattle.std.specs.List.{list_any};
 ghost use Rattle.std.specs.Option.{option_to_list};
 ghost use Rattle.plane_terms.specs.Lists.{Every, Paired, how_many};
@@ -9,6 +9,7 @@ ghost use Rattle.topology_terms.specs.Project as projects;
 ghost use Rattle.topology_terms.specs.Counts.{raised, judged_of};
 ghost use Rattle.validation_laws.specs.Parts.{IsJudging, live_of};
 ghost use Rattle.validation_laws.specs.Views.{IsView};
+ghost use Rattle.validation.specs.Asked.{asked_steps, judged_envelopes};
 ghost use Rattle.validation.specs.Parted.{IsPartOf, IsGrown, AreGrown, IsDone, rules_of, entries_of};
 ghost use Rattle.validation.specs.Parted as terms;
 
@@ -141,13 +142,14 @@ fn judge_live_by_each<R: RuleSet, M: Meter>(
     work: &mut Work,
     meter: &mut M,
 ) -> Result<(), NoMemory>
-    requires ascending { IsAscending features.now }
-    requires live { feature_at features.now f.now.handle ≡ Some f.now }
-    requires fits { Every (λ (q : projects.InForce). R.meaning.Fits q.row features.now) (rules_of parts.old) }
-    ensures grown { OnOk result (AreGrown R.meaning features.now f.now.handle parts.old parts.new) }
+    requires ascending { IsAscending features.now.features }
+    requires live { feature_at features.now.features f.now.handle ≡ Some f.now }
+    requires fits { Every (λ (q : projects.InForce). R.meaning.Fits q.row features.now.features) (rules_of parts.old) }
+    ensures grown { OnOk result (AreGrown R.meaning features.now.features f.now.handle parts.old parts.new) }
     ensures judged { OnOk result (work.new ≡ raised work.old (judged_of (rules_of parts.old) (f.now ∷ []))) }
     ensures stopped { OnErr result (work.new ≤ raised work.old (judged_of (rules_of parts.old) (f.now ∷ []))) }
     ensures rises { M.taken meter.old ≤ M.taken meter.new }
+    ensures steps { (s : ℕ) → M.taken meter.new ≤ M.taken meter.old + asked_steps s (judged_envelopes (rules_of parts.old) (f.now ∷ [])) features.now.placed }
 {
     if !judges_any(parts, f) {
         return Ok(());
@@ -166,12 +168,13 @@ fn judge_by_each<R: RuleSet, M: Meter>(
     work: &mut Work,
     meter: &mut M,
 ) -> Result<(), NoMemory>
-    requires ascending { IsAscending features.now }
-    requires fits { Every (λ (q : projects.InForce). R.meaning.Fits q.row features.now) (rules_of parts.old) }
-    ensures grown { OnOk result (AreGrown R.meaning features.now subject parts.old parts.new) }
-    ensures judged { OnOk result (work.new ≡ raised work.old (judged_of (rules_of parts.old) (option_to_list (feature_at features.now subject)))) }
-    ensures stopped { OnErr result (work.new ≤ raised work.old (judged_of (rules_of parts.old) (option_to_list (feature_at features.now subject)))) }
+    requires ascending { IsAscending features.now.features }
+    requires fits { Every (λ (q : projects.InForce). R.meaning.Fits q.row features.now.features) (rules_of parts.old) }
+    ensures grown { OnOk result (AreGrown R.meaning features.now.features subject parts.old parts.new) }
+    ensures judged { OnOk result (work.new ≡ raised work.old (judged_of (rules_of parts.old) (option_to_list (feature_at features.now.features subject)))) }
+    ensures stopped { OnErr result (work.new ≤ raised work.old (judged_of (rules_of parts.old) (option_to_list (feature_at features.now.features subject)))) }
     ensures rises { M.taken meter.old ≤ M.taken meter.new }
+    ensures steps { (s : ℕ) → M.taken meter.new ≤ M.taken meter.old + asked_steps s (judged_envelopes (rules_of parts.old) (option_to_list (feature_at features.now.features subject))) features.now.placed }
 {
     match features.find(subject) {
         Some(f) => judge_live_by_each(rules, alloc, parts, features, f, work, meter),
@@ -190,11 +193,11 @@ pub fn judge_subject<R: RuleSet>(
     subject: u32,
     work: &mut Work,
 ) -> Result<Vec<RulePart>, NoMemory>
-    requires ascending { IsAscending features.now }
-    requires fits { Every (λ (q : projects.InForce). R.meaning.Fits q.row features.now) in_force.now }
-    ensures parts { IfOk result (λ v. Paired (IsPartOf R.meaning features.now subject) in_force.now v.items) }
-    ensures judged { IfOk result (λ _. work.new ≡ raised work.old (judged_of in_force.now (option_to_list (feature_at features.now subject)))) }
-    ensures stopped { OnErr result (work.new ≤ raised work.old (judged_of in_force.now (option_to_list (feature_at features.now subject)))) }
+    requires ascending { IsAscending features.now.features }
+    requires fits { Every (λ (q : projects.InForce). R.meaning.Fits q.row features.now.features) in_force.now }
+    ensures parts { IfOk result (λ v. Paired (IsPartOf R.meaning features.now.features subject) in_force.now v.items) }
+    ensures judged { IfOk result (λ _. work.new ≡ raised work.old (judged_of in_force.now (option_to_list (feature_at features.now.features subject)))) }
+    ensures stopped { OnErr result (work.new ≤ raised work.old (judged_of in_force.now (option_to_list (feature_at features.now.features subject)))) }
 {
     let mut parts = empty_parts(alloc, in_force)?;
     let meter = &mut NoCount;
@@ -212,14 +215,15 @@ fn judge_selected<R: RuleSet, M: Meter>(
     work: &mut Work,
     meter: &mut M,
 ) -> Result<(), NoMemory>
-    requires ascending { IsAscending features.now }
-    requires fits { Every (λ (q : projects.InForce). R.meaning.Fits q.row features.now) (rules_of parts.old) }
-    requires new { Every (IsDone R.meaning features.now []) parts.old }
-    ensures done { OnOk result (Every (IsDone R.meaning features.now selected.now) parts.new) }
+    requires ascending { IsAscending features.now.features }
+    requires fits { Every (λ (q : projects.InForce). R.meaning.Fits q.row features.now.features) (rules_of parts.old) }
+    requires new { Every (IsDone R.meaning features.now.features []) parts.old }
+    ensures done { OnOk result (Every (IsDone R.meaning features.now.features selected.now) parts.new) }
     ensures rules { OnOk result (rules_of parts.new ≡ rules_of parts.old) }
-    ensures judged { OnOk result (work.new ≡ raised work.old (judged_of (rules_of parts.old) (live_of features.now selected.now))) }
-    ensures stopped { OnErr result (work.new ≤ raised work.old (judged_of (rules_of parts.old) (live_of features.now selected.now))) }
+    ensures judged { OnOk result (work.new ≡ raised work.old (judged_of (rules_of parts.old) (live_of features.now.features selected.now))) }
+    ensures stopped { OnErr result (work.new ≤ raised work.old (judged_of (rules_of parts.old) (live_of features.now.features selected.now))) }
     ensures rises { M.taken meter.old ≤ M.taken meter.new }
+    ensures steps { (s : ℕ) → M.taken meter.new ≤ M.taken meter.old + asked_steps s (judged_envelopes (rules_of parts.old) (live_of features.now.features selected.now)) features.now.placed }
 {
     for i in 0..selected.len() {
         let subject = selected.at(i);
@@ -250,12 +254,13 @@ pub fn judge_all<R: RuleSet, M: Meter>(
     work: &mut Work,
     meter: &mut M,
 ) -> Result<Vec<Entry>, NoMemory>
-    requires ascending { IsAscending features.now }
-    requires fits { Every (λ (q : projects.InForce). R.meaning.Fits q.row features.now) in_force.now }
-    ensures judging { IfOk result (λ es. IsJudging R.meaning features.now in_force.now selected.now es.items) }
-    ensures judged { IfOk result (λ _. work.new ≡ raised work.old (judged_of in_force.now (live_of features.now selected.now))) }
-    ensures stopped { OnErr result (work.new ≤ raised work.old (judged_of in_force.now (live_of features.now selected.now))) }
+    requires ascending { IsAscending features.now.features }
+    requires fits { Every (λ (q : projects.InForce). R.meaning.Fits q.row features.now.features) in_force.now }
+    ensures judging { IfOk result (λ es. IsJudging R.meaning features.now.features in_force.now selected.now es.items) }
+    ensures judged { IfOk result (λ _. work.new ≡ raised work.old (judged_of in_force.now (live_of features.now.features selected.now))) }
+    ensures stopped { OnErr result (work.new ≤ raised work.old (judged_of in_force.now (live_of features.now.features selected.now))) }
     ensures rises { M.taken meter.old ≤ M.taken meter.new }
+    ensures steps { (s : ℕ) → M.taken meter.new ≤ M.taken meter.old + asked_steps s (judged_envelopes in_force.now (live_of features.now.features selected.now)) features.now.placed }
 {
     if selected.len() == 0 {
         return Ok(Vec::new(alloc));

@@ -7,13 +7,15 @@ use crate::near::FeatureIndex;
 use feature_store::Features;
 use grid_index::Index;
 use rule_core::InForce;
+use std::alloc::Global;
 use std::marker::Model;
 
-/// What a validation looks at and leaves as it is: what each kind of rule finds, rules in force in the order of their numbers,
-/// features in the order of their handles, and an index in which each of them stands. Other pairs that stand in the index change
-/// nothing.
+/// What a validation looks at and leaves as it is, and where it takes memory: what each kind of rule finds, rules in force in the
+/// order of their numbers, features in the order of their handles, and an index in which each of them stands. Other pairs that
+/// stand in the index change nothing.
 #[derive(Drop)]
 pub struct RuledFeatures<'a, R> {
+    alloc: Global,
     rules: &'a R,
     in_force: &'a [InForce],
     features: &'a Features<'a>,
@@ -28,7 +30,7 @@ impl<'a, R> Model for RuledFeatures<'a, R> {
 
     ghost Value = { terms.RuledFeatures };
 
-    ghost view = { λ x. record { in_force = x.in_force.now; features = x.features.now } };
+    ghost view = { λ x. record { in_force = x.in_force.now; features = x.features.now; placed = x.index.now } };
 
     ghost invariant = { λ x. AreAscending x.in_force.now × IsAscending x.features.now × ArePlaced x.index.now x.features.now };
 }
@@ -36,6 +38,7 @@ impl<'a, R> Model for RuledFeatures<'a, R> {
 impl<'a, R> RuledFeatures<'a, R> {
     /// These rules and these features, each of which stands in the index.
     pub fn of(
+        alloc: Global,
         rules: &'a R,
         in_force: &'a [InForce],
         features: &'a Features<'a>,
@@ -44,14 +47,20 @@ impl<'a, R> RuledFeatures<'a, R> {
         requires rules { AreAscending in_force.now }
         requires features { IsAscending features.now }
         requires placed { ArePlaced index.now features.now }
-        ensures { result ≡ record { in_force = in_force.now; features = features.now } }
+        ensures { result ≡ record { in_force = in_force.now; features = features.now; placed = index.now } }
     {
         RuledFeatures {
+            alloc,
             rules,
             in_force,
             features,
             index,
         }
+    }
+
+    /// Where memory is taken.
+    pub(crate) fn alloc(&self) -> Global {
+        self.alloc
     }
 
     /// What each kind of rule finds.
@@ -75,14 +84,15 @@ impl<'a, R> RuledFeatures<'a, R> {
 
     /// The index in which each feature stands.
     pub(crate) fn index(&self) -> &'a Index
-        ensures { ArePlaced result.now self.now.features }
+        ensures value { result.now ≡ self.now.placed }
+        ensures placed { ArePlaced result.now self.now.features }
     {
         self.index
     }
 
     /// The features with their index.
     pub(crate) fn indexed(&self) -> FeatureIndex<'a>
-        ensures { result ≡ self.now.features }
+        ensures { result ≡ record { features = self.now.features; placed = self.now.placed } }
     {
         FeatureIndex::of(self.features, self.index)
     }

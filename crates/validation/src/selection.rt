@@ -11,6 +11,7 @@ ghost use Rattle.plane_terms.specs.Rectangle.{rects_meet};
 ghost use Rattle.validation_laws.specs.Parts.{IsRising, live_of};
 ghost use Rattle.validation_laws.specs.Picked.{ArePicked};
 ghost use Rattle.plane_terms.specs.Lists.{Every};
+ghost use Rattle.validation.specs.Asked.{IsAskedOf, dirty_parts};
 ghost use Rattle.validation.specs.Placed.{HasNear};
 
 use crate::dirty::DirtyParts;
@@ -93,6 +94,7 @@ fn near_of<M: Meter>(
 ) -> Result<Vec<u32>, NoMemory>
     ensures rising { IfOk result (λ v. IsStrictlyIncreasing v.items) }
     ensures near { IfOk result (λ v. HasNear v.items index.now dirty.now) }
+    ensures asked { IsAskedOf dirty.now index.now (M.taken meter.old) (M.taken meter.new) }
     ensures rises { M.taken meter.old ≤ M.taken meter.new }
 {
     let mut near = dirty.near(alloc, index, meter)?;
@@ -102,22 +104,25 @@ fn near_of<M: Meter>(
 
 /// The handles that the window and the dirt select: of live features by their envelope, and of subjects of errors by the
 /// error's frame. Of the dirt it takes the rectangles that meet the window. It looks only at those features and errors that the
-/// indexes give. The meter counts the steps in both.
-pub fn select<R, M: Meter>(
-    alloc: Global,
+/// indexes give. The first meter counts the steps in that of the features, and the second those in that of the errors' frames.
+pub fn select<R, M: Meter, N: Meter>(
     ruled: &RuledFeatures<'_, R>,
     errors: &Errors,
     met: &[Rect],
     window: &Rect,
-    meter: &mut M,
+    feature_meter: &mut M,
+    error_meter: &mut N,
 ) -> Result<Handles, NoMemory>
     ensures rising { IfOk result IsRising }
     ensures chosen { IfOk result (λ s. (p : Project) → p.features ≡ ruled.now.features → met.now ≡ filter (λ r. rects_meet r window.now) p.dirt → p.entries ≡ errors.now → (a : ℕ) → Contains s a ↔ IsSelected p window.now a) }
-    ensures rises { M.taken meter.old ≤ M.taken meter.new }
+    ensures asked { IsAskedOf (dirty_parts met.now window.now) ruled.now.placed (M.taken feature_meter.old) (M.taken feature_meter.new) }
+    ensures rises { M.taken feature_meter.old ≤ M.taken feature_meter.new }
+    ensures error_rises { N.taken error_meter.old ≤ N.taken error_meter.new }
 {
+    let alloc = ruled.alloc();
     let dirty = DirtyParts::of(alloc, met, window)?;
-    let near = near_of(alloc, &dirty, ruled.index(), meter)?;
-    let framed = near_of(alloc, &dirty, errors.frames(), meter)?;
+    let near = near_of(alloc, &dirty, ruled.index(), feature_meter)?;
+    let framed = near_of(alloc, &dirty, errors.frames(), error_meter)?;
     ruled.order_law();
     let mut found = Vec::with_capacity(alloc, near.len())?;
     add_features(ruled.features(), &near, &dirty, &mut found)?;

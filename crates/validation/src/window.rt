@@ -1,4 +1,4 @@
-ghost use Rattle.std.specs.Prelude.{◌≡◌, ◌≤◌, ℕ, List, [], filter, Some, IfOk, OnOk, OnErr};
+ghost use Rattle.std.specs.Prelude.{◌≡◌, ◌≤◌, ◌+◌, ℕ, List, [], filter, Some, IfOk, OnOk, OnErr};
 ghost use Rattle.plane_terms.specs.Lists.{IsThose};
 ghost use Rattle.plane_terms.specs.Rectangle.{Rectangle, rects_meet};
 ghost use Rattle.plane_terms.specs.Dirt.{cut_dirt};
@@ -11,6 +11,7 @@ ghost use Rattle.topology_terms.specs.Settled.{IsSettledUnder, IsValidatedBy};
 ghost use Rattle.topology_terms.specs.Changes.{IsSelected};
 ghost use Rattle.validation_laws.specs.Parts.{IsRising, IsJudging, live_of};
 ghost use Rattle.topology_terms.specs.Counts.{raised, judged_of};
+ghost use Rattle.validation.specs.Asked.{IsAskedFor, dirty_parts, asked_steps, judged_envelopes};
 ghost use Rattle.validation.specs.Projects.{HasParts, with_parts};
 
 use crate::parts::judge_all;
@@ -25,7 +26,6 @@ use std::alloc::Global;
 
 // The new entries of the selected subjects, in the order of their keys.
 fn rejudge<R: RuleSet, M: Meter>(
-    alloc: Global,
     ruled: &RuledFeatures<'_, R>,
     selected: &Handles,
     work: &mut Work,
@@ -38,8 +38,10 @@ fn rejudge<R: RuleSet, M: Meter>(
     ensures judged { IfOk result (λ _. work.new ≡ raised work.old (judged_of ruled.now.in_force (live_of ruled.now.features selected.now))) }
     ensures stopped { OnErr result (work.new ≤ raised work.old (judged_of ruled.now.in_force (live_of ruled.now.features selected.now))) }
     ensures rises { M.taken meter.old ≤ M.taken meter.new }
+    ensures steps { (s : ℕ) → M.taken meter.new ≤ M.taken meter.old + asked_steps s (judged_envelopes ruled.now.in_force (live_of ruled.now.features selected.now)) ruled.now.placed }
 {
     ruled.order_law();
+    let alloc = ruled.alloc();
     let rules = ruled.rules();
     let in_force = ruled.in_force();
     let indexed = ruled.indexed();
@@ -47,14 +49,14 @@ fn rejudge<R: RuleSet, M: Meter>(
 }
 
 // The entries of the subjects that the window and these rectangles of the dirt select give way to the findings.
-fn renew<R: RuleSet, M: Meter>(
-    alloc: Global,
+fn renew<R: RuleSet, M: Meter, N: Meter>(
     ruled: &RuledFeatures<'_, R>,
     errors: &mut Errors,
     met: &[Rect],
     window: &Rect,
     work: &mut Work,
-    meter: &mut M,
+    feature_meter: &mut M,
+    error_meter: &mut N,
 ) -> Result<(), NoMemory>
     requires { (n : ℕ) (row : Row) → rule_at ruled.now.in_force n ≡ Some row → R.meaning.Fits row ruled.now.features }
     ensures step { OnOk result ((p : Project) (d new : List Rectangle) → HasParts p ruled.now d errors.old → met.now ≡ filter (λ r. rects_meet r window.now) d → new ≡ cut_dirt d window.now → IsValidatedBy R.meaning window.now p (with_parts p new errors.new)) }
@@ -62,12 +64,14 @@ fn renew<R: RuleSet, M: Meter>(
     ensures stopped { OnErr result ((p : Project) (d : List Rectangle) → HasParts p ruled.now d errors.old → met.now ≡ filter (λ r. rects_meet r window.now) d → (fs : List features_of.Feature) → IsThose (λ (f : features_of.Feature). IsSelected p window.now f.handle) ruled.now.features fs → work.new ≤ raised work.old (judged_of ruled.now.in_force fs)) }
     ensures ordered { OnOk result (entries_of.IsAscending errors.new) }
     ensures errors_kept { OnErr result (errors.new ≡ errors.old) }
-    ensures rises { M.taken meter.old ≤ M.taken meter.new }
+    ensures asked { (p : Project) (d : List Rectangle) → HasParts p ruled.now d errors.old → met.now ≡ filter (λ r. rects_meet r window.now) d → (fs : List features_of.Feature) → IsThose (λ (f : features_of.Feature). IsSelected p window.now f.handle) ruled.now.features fs → IsAskedFor ruled.now (dirty_parts d window.now) fs (M.taken feature_meter.old) (M.taken feature_meter.new) }
+    ensures rises { M.taken feature_meter.old ≤ M.taken feature_meter.new }
+    ensures error_rises { N.taken error_meter.old ≤ N.taken error_meter.new }
 {
     ruled.order_law();
-    let selected = select(alloc, ruled, errors, met, window, meter)?;
-    let fresh = rejudge(alloc, ruled, &selected, work, meter)?;
-    errors.replace(alloc, &selected, fresh)
+    let selected = select(ruled, errors, met, window, feature_meter, error_meter)?;
+    let fresh = rejudge(ruled, &selected, work, feature_meter)?;
+    errors.replace(ruled.alloc(), &selected, fresh)
 }
 
 /// Validates the window: every rule in force judges each live feature of its subjects that the window and the dirt select;
@@ -77,7 +81,6 @@ fn renew<R: RuleSet, M: Meter>(
 /// After an `Err`, out of memory, it has risen by no more, and errors and dirt are as they were: all growth comes before the
 /// first change.
 pub fn validate<R: RuleSet>(
-    alloc: Global,
     ruled: &RuledFeatures<'_, R>,
     errors: &mut Errors,
     dirt: &mut Dirt,
@@ -95,19 +98,31 @@ pub fn validate<R: RuleSet>(
     ensures errors_kept { OnErr result (errors.new ≡ errors.old) }
     ensures dirt_kept { OnErr result (dirt.new ≡ dirt.old) }
 {
-    validate_counted(alloc, ruled, errors, dirt, window, work, &mut NoCount)
+    let feature_meter = &mut NoCount;
+    let error_meter = &mut NoCount;
+    validate_counted(
+        ruled,
+        errors,
+        dirt,
+        window,
+        work,
+        feature_meter,
+        error_meter,
+    )
 }
 
-/// What `validate` does, and the steps of its questions to an index: what it asks of where features lie, and of where errors do, is
-/// counted by the meter. The count does not fall, whatever is answered.
-pub fn validate_counted<R: RuleSet, M: Meter>(
-    alloc: Global,
+/// What `validate` does, and the steps of its questions to the indexes: the first meter counts those in that of the features, and the
+/// second those in that of the errors' frames. Neither count falls, whatever is answered. Features are asked for by the dirty parts of
+/// the window, and then by the envelope of each selected one that a rule judges, once; and the first count rises by no more than
+/// these questions allow.
+pub fn validate_counted<R: RuleSet, M: Meter, N: Meter>(
     ruled: &RuledFeatures<'_, R>,
     errors: &mut Errors,
     dirt: &mut Dirt,
     window: &Rect,
     work: &mut Work,
-    meter: &mut M,
+    feature_meter: &mut M,
+    error_meter: &mut N,
 ) -> Result<(), NoMemory>
     requires { (n : ℕ) (row : Row) → rule_at ruled.now.in_force n ≡ Some row → R.meaning.Fits row ruled.now.features }
     ensures step { OnOk result ((p : Project) → HasParts p ruled.now dirt.old errors.old → IsValidatedBy R.meaning window.now p (with_parts p dirt.new errors.new)) }
@@ -119,11 +134,21 @@ pub fn validate_counted<R: RuleSet, M: Meter>(
     ensures ordered { OnOk result (entries_of.IsAscending errors.new) }
     ensures errors_kept { OnErr result (errors.new ≡ errors.old) }
     ensures dirt_kept { OnErr result (dirt.new ≡ dirt.old) }
-    ensures rises { M.taken meter.old ≤ M.taken meter.new }
+    ensures asked { (p : Project) → HasParts p ruled.now dirt.old errors.old → (fs : List features_of.Feature) → IsThose (λ (f : features_of.Feature). IsSelected p window.now f.handle) ruled.now.features fs → IsAskedFor ruled.now (dirty_parts dirt.old window.now) fs (M.taken feature_meter.old) (M.taken feature_meter.new) }
+    ensures rises { M.taken feature_meter.old ≤ M.taken feature_meter.new }
+    ensures error_rises { N.taken error_meter.old ≤ N.taken error_meter.new }
 {
     ruled.order_law();
-    let cut = dirt.cut(alloc, window)?;
-    match renew(alloc, ruled, errors, cut.met(), window, work, meter) {
+    let cut = dirt.cut(ruled.alloc(), window)?;
+    match renew(
+        ruled,
+        errors,
+        cut.met(),
+        window,
+        work,
+        feature_meter,
+        error_meter,
+    ) {
         Ok(()) => {
             *dirt = cut.into_left();
             Ok(())

@@ -34,7 +34,7 @@ loop-subject-preserved g c =
       λ p h is.
           let M = g.R.RuleSet.meaning in
           let L = g.met.R.RuleSet.laws in
-          let F = c.args.features.now in
+          let F = c.args.features.now.features in
           let ns = c.args.subjects.now in
           let i = c.loop-subject.subject-index in
           let a = get_or ns i 0 in
@@ -52,6 +52,6 @@ loop-subject-preserved g c =
 pub returns : goal.returns
 returns g c = λ p h is.
     let ns = c.args.subjects.now in
-    checked g.R.RuleSet.meaning g.met.R.RuleSet.laws p c.args.features.now c.args.dirt.now c.args.entries.now c.args.in_force.now ns h
+    checked g.R.RuleSet.meaning g.met.R.RuleSet.laws p c.args.features.now.features c.args.dirt.now c.args.entries.now c.args.in_force.now ns h
     c.requires.all c.loop-subject.left c.loop-subject.found is c.requires.rules c.requires.fits
     (rw (take_all c.loop-subject.subject-index ns c.loop-subject-test.false) at (c.loop-subject.invariant.1 p h is))

@@ -14,7 +14,7 @@ use Rattle.project_check.proofs.pair.first_rule.Goals as goal
 pub is_sound_part-requires-clause-fresh : goal.is_sound_part-requires-clause-fresh
 is_sound_part-requires-clause-fresh g c =
     let M = g.R.RuleSet.meaning in
-    let F = c.args.features.now in
+    let F = c.args.features.now.features in
     let fresh = c.index.result.now in
     let short : c.loop-i.i < length c.in_ok-fresh.fresh.items = omega (arith, c.len-i-end.ensures, c.loop-i-test.true, c.in_ok-fresh.fresh.ok)
     in
@@ -25,7 +25,7 @@ is_sound_part-requires-clause-fresh g c =
 pub is_sound_part-requires-clause-own : goal.is_sound_part-requires-clause-own
 is_sound_part-requires-clause-own g c =
     let M = g.R.RuleSet.meaning in
-    let F = c.args.features.now in
+    let F = c.args.features.now.features in
     let fresh = c.index.result.now in
     let short : c.loop-i.i < length c.in_ok-fresh.fresh.items = omega (arith, c.len-i-end.ensures, c.loop-i-test.true, c.in_ok-fresh.fresh.ok)
     in
@@ -35,14 +35,14 @@ is_sound_part-requires-clause-own g c =
 
 pub returns-then-not-branch-clause-within : goal.returns-then-not-branch-clause-within
 returns-then-not-branch-clause-within g c =
-    let same = paired_length (IsPartOf g.R.RuleSet.meaning c.args.features.now c.args.subject) c.args.in_force.now c.in_ok-fresh.fresh.items
+    let same = paired_length (IsPartOf g.R.RuleSet.meaning c.args.features.now.features c.args.subject) c.args.in_force.now c.in_ok-fresh.fresh.items
     c.in_ok-fresh.ensures.parts in
     omega (arith, same, c.len-i-end.ensures, c.loop-i-test.true, c.in_ok-fresh.fresh.ok)
 
 pub returns-then-not-branch-clause-first : goal.returns-then-not-branch-clause-first
 returns-then-not-branch-clause-first g c = λ p h.
     let M = g.R.RuleSet.meaning in
-    let F = c.args.features.now in
+    let F = c.args.features.now.features in
     let a = c.args.subject in
     let fresh = c.index.result.now in
     let short : c.loop-i.i < length c.in_ok-fresh.fresh.items = omega (arith, c.len-i-end.ensures, c.loop-i-test.true, c.in_ok-fresh.fresh.ok)
@@ -64,7 +64,7 @@ returns-then-not-branch-clause-first g c = λ p h.
 pub loop-i-preserved : goal.loop-i-preserved
 loop-i-preserved g c = λ p h.
     let M = g.R.RuleSet.meaning in
-    let F = c.args.features.now in
+    let F = c.args.features.now.features in
     let a = c.args.subject in
     let fresh = c.index.result.now in
     let short : c.loop-i.i < length c.in_ok-fresh.fresh.items = omega (arith, c.len-i-end.ensures, c.loop-i-test.true, c.in_ok-fresh.fresh.ok)
@@ -80,7 +80,7 @@ loop-i-preserved g c = λ p h.
 
 pub returns-clause-first : goal.returns-clause-first
 returns-clause-first g c = λ p h.
-    let same = paired_length (IsPartOf g.R.RuleSet.meaning c.args.features.now c.args.subject) c.args.in_force.now c.in_ok-fresh.fresh.items
+    let same = paired_length (IsPartOf g.R.RuleSet.meaning c.args.features.now.features c.args.subject) c.args.in_force.now c.in_ok-fresh.fresh.items
     c.in_ok-fresh.ensures.parts in
     let all : length c.args.in_force.now ≤ c.loop-i.i = omega (arith, same, c.len-i-end.ensures, c.loop-i-test.false, c.in_ok-fresh.fresh.ok) in
     rw (take_all c.loop-i.i c.args.in_force.now all) at (c.loop-i.invariant p h)

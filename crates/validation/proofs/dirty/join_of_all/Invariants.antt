@@ -5,3 +5,4 @@ use Rattle.validation.proofs.dirty.join_of_all.Given as goal
 
 abbrev pub invariant-loop-r : goal.invariant-loop-r
 invariant-loop-r l = Every (λ (s : Rectangle). IsWithin s l.joined) (take l.r-index l.rects)
+    × ((t : Rectangle) → Every (λ (s : Rectangle). IsWithin s t) l.rects → IsWithin l.joined t)

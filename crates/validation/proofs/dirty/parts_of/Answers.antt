@@ -1,4 +1,5 @@
 use Rattle.std.proofs.lemmas.List.{take_all}
+use Rattle.validation.proofs.Asking.{part_more, part_same}
 use Rattle.validation.proofs.Dirtied.{parts_more, parts_same, grid_more}
 use Rattle.validation.proofs.dirty.parts_of.Goals as goal
 use Rattle.validation.proofs.dirty.parts_of.Goals.{in-Some+in_ok-push, in_default}
@@ -18,10 +19,19 @@ loop-r-preserved c =
           rw w.parts-is (
             parts_more before after s rs window r i c.loop-r-test.true c.r-item.is w.in-Some.ensures.meaning.points
                 w.in_ok-push.ensures.items h.0,
-            grid_more before after s w.in_ok-push.ensures.items h.1 w.corner_law.ensures,
+            grid_more before after s w.in_ok-push.ensures.items h.1 w.corner_law-in-Some.ensures,
+            part_more rs window r s i before after c.loop-r-test.true c.r-item.is w.in-Some.ensures.value w.in_ok-push.ensures.items h.2,
           )
-      | in_default w ↦ rw w.parts-is (parts_same before rs window r i c.loop-r-test.true c.r-item.is w.in_default.ensures.meaning h.0, h.1)
+      | in_default w ↦ rw w.parts-is (
+        parts_same before rs window r i c.loop-r-test.true c.r-item.is w.in_default.ensures.meaning h.0,
+        h.1,
+        part_same rs window r i before c.loop-r-test.true c.r-item.is c.corner_law-in-loop-r.ensures.proper c.corner_law.ensures.proper
+            w.in_default.ensures.meaning h.2,
+      )
     ]
 
 pub returns-clause-covers : goal.returns-clause-covers
 returns-clause-covers c = λ p. rw (take_all c.loop-r.r-index c.args.rects.now c.loop-r-test.false) at (c.loop-r.invariant.0 p)
+
+pub returns-clause-parts : goal.returns-clause-parts
+returns-clause-parts c = rw (take_all c.loop-r.r-index c.args.rects.now c.loop-r-test.false) at c.loop-r.invariant.2

@@ -12,7 +12,7 @@ judge_selected-requires-clause-fits g c = rw (c.deref_mut.ensures.value, c.in_ok
 
 pub judge_selected-requires-clause-new : goal.judge_selected-requires-clause-new
 judge_selected-requires-clause-new g c = rw (c.deref_mut.ensures.value, c.in_ok-parts.ensures) (done_empty g.R.RuleSet.meaning
-    c.args.features.now c.args.in_force.now)
+    c.args.features.now.features c.args.in_force.now)
 
 -- nothing is selected
 none : (s : List ℕ) → length s ≡ 0 → s ≡ []
@@ -22,7 +22,7 @@ none (a ∷ s) e = absurd (omega (arith, e))
 pub returns-then-len-eq0-clause-judging : goal.returns-then-len-eq0-clause-judging
 returns-then-len-eq0-clause-judging g c =
     let e = none c.args.selected.now (omega (arith, c.len.ensures.value, c.if-len-eq0.true)) in
-    rw (e, c.new.ensures.items) (judging_none g.R.RuleSet.meaning c.args.features.now c.args.in_force.now)
+    rw (e, c.new.ensures.items) (judging_none g.R.RuleSet.meaning c.args.features.now.features c.args.in_force.now)
 
 pub returns-then-len-eq0-clause-judged : goal.returns-then-len-eq0-clause-judged
 returns-then-len-eq0-clause-judged g c =
@@ -32,7 +32,7 @@ returns-then-len-eq0-clause-judged g c =
 pub returns-clause-judging : goal.returns-clause-judging
 returns-clause-judging g c =
     let M = g.R.RuleSet.meaning in
-    let F = c.args.features.now in
+    let F = c.args.features.now.features in
     let s = c.args.selected.now in
     let new = c.judge_selected.new.parts in
     let was = c.deref_mut.ensures.value in
@@ -49,3 +49,11 @@ returns-clause-judging g c =
     (λ es h. rw (rw all at h) (subst (λ rs. IsJudging M F rs s (entries_of new)) rules (judging_parts M F s new
     c.in_ok-judge_selected.ensures.done)))
     c.entries_in.ensures
+
+pub returns-clause-steps : goal.returns-clause-steps
+returns-clause-steps g c =
+    rw (c.deref_mut.ensures.value, c.in_ok-parts.ensures, rules_empty c.args.in_force.now) at c.judge_selected.ensures.steps
+
+pub returns-in_err-judge_selected-clause-steps : goal.returns-in_err-judge_selected-clause-steps
+returns-in_err-judge_selected-clause-steps g c =
+    rw (c.deref_mut.ensures.value, c.in_ok-parts.ensures, rules_empty c.args.in_force.now) at c.judge_selected.ensures.steps

@@ -10,7 +10,7 @@ judge_by_each-requires-clause-fits g c = rw (c.deref_mut.ensures.value, c.in_ok-
 pub returns-clause-parts : goal.returns-clause-parts
 returns-clause-parts g c =
     let M = g.R.RuleSet.meaning in
-    let F = c.args.features.now in
+    let F = c.args.features.now.features in
     let a = c.args.subject in
     let new = c.judge_by_each.new.parts in
     let was = c.deref_mut.ensures.value in

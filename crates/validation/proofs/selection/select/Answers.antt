@@ -6,6 +6,8 @@ use Rattle.validation_laws.specs.Parts.{live_of}
 use Rattle.validation_laws.specs.Picked.{ArePicked}
 use Rattle.validation_laws.proofs.Handles.{rising}
 use Rattle.validation_laws.proofs.Selecting.{selected_picked}
+use Rattle.validation.specs.Asked.{dirty_parts}
+use Rattle.validation.proofs.Asking.{asked_moved, asked_none}
 use Rattle.validation.proofs.Dirtied.{cover_met, meets_parts, picked_as}
 use Rattle.validation.proofs.Picking.{picked_near, dirty_near}
 use Rattle.validation.proofs.Framed.{frames_near}
@@ -19,10 +21,10 @@ returns-clause-chosen g c = λ p ef ed ee a.
     let w = c.args.window.now in
     let early = c.add_features.new.found.items in
     let late = c.add_subjects.new.found.items in
-    let meets = meets_parts c.in_ok-dirty.dirty p.dirt w (cover_met c.in_ok-dirty.dirty c.args.met.now p.dirt w ed c.in_ok-dirty.ensures) in
+    let meets = meets_parts c.in_ok-dirty.dirty p.dirt w (cover_met c.in_ok-dirty.dirty c.args.met.now p.dirt w ed c.in_ok-dirty.ensures.covers) in
     let dirty : Feature → Type 0 = λ (f : Feature). MeetsDirt c.in_ok-dirty.dirty (env f) in
     let F = c.args.ruled.now.features in
-    let enough = dirty_near c.index.result.now F c.in_ok-dirty.dirty c.in_ok-near.near.items c.index.ensures c.in_ok-near.ensures.near in
+    let enough = dirty_near c.index.result.now F c.in_ok-dirty.dirty c.in_ok-near.near.items c.index.ensures.placed c.in_ok-near.ensures.near in
     let among : ArePicked dirty (λ (f : Feature). f.handle) (live_of F c.in_ok-near.near.items) [] early =
     rw (c.in_ok-found.ensures.items, c.deref.ensures.value, c.features.ensures) at c.in_ok-add_features.ensures in
     let first : ArePicked (λ (f : Feature). MeetsPart p.dirt w (env f)) (λ (f : Feature). f.handle) p.features [] early =
@@ -38,3 +40,42 @@ returns-clause-chosen g c = λ p ef ed ee a.
 pub add_subjects-requires-clause-enough : goal.add_subjects-requires-clause-enough
 add_subjects-requires-clause-enough g c = rw (c.deref-2.ensures.value, c.entries.ensures.value) (frames_near c.frames.result.now
     c.args.errors.now c.in_ok-dirty.dirty c.in_ok-framed.framed.items c.frames.ensures c.in_ok-framed.ensures.near)
+
+pub returns-clause-asked : goal.returns-clause-asked
+returns-clause-asked g c = rw (← c.index.ensures.value) (asked_moved (dirty_parts c.args.met.now c.args.window.now) c.in_ok-dirty.dirty
+    c.index.result.now (g.M.Meter.taken c.args.feature_meter.now) (g.M.Meter.taken c.near_of.new.meter) c.in_ok-dirty.ensures.parts
+    c.near_of.ensures.asked)
+
+pub returns-in_err-near-clause-asked : goal.returns-in_err-near-clause-asked
+returns-in_err-near-clause-asked g c = rw (← c.index.ensures.value) (asked_moved (dirty_parts c.args.met.now c.args.window.now) c.in_ok-dirty.dirty
+    c.index.result.now (g.M.Meter.taken c.args.feature_meter.now) (g.M.Meter.taken c.near_of.new.meter) c.in_ok-dirty.ensures.parts
+    c.near_of.ensures.asked)
+
+pub returns-in_err-framed-clause-asked : goal.returns-in_err-framed-clause-asked
+returns-in_err-framed-clause-asked g c = rw (← c.index.ensures.value) (asked_moved (dirty_parts c.args.met.now c.args.window.now) c.in_ok-dirty.dirty
+    c.index.result.now (g.M.Meter.taken c.args.feature_meter.now) (g.M.Meter.taken c.near_of.new.meter) c.in_ok-dirty.ensures.parts
+    c.near_of.ensures.asked)
+
+pub returns-in_err-found-clause-asked : goal.returns-in_err-found-clause-asked
+returns-in_err-found-clause-asked g c = rw (← c.index.ensures.value) (asked_moved (dirty_parts c.args.met.now c.args.window.now) c.in_ok-dirty.dirty
+    c.index.result.now (g.M.Meter.taken c.args.feature_meter.now) (g.M.Meter.taken c.near_of.new.meter) c.in_ok-dirty.ensures.parts
+    c.near_of.ensures.asked)
+
+pub returns-in_err-add_features-clause-asked : goal.returns-in_err-add_features-clause-asked
+returns-in_err-add_features-clause-asked g c = rw (← c.index.ensures.value) (asked_moved (dirty_parts c.args.met.now c.args.window.now) c.in_ok-dirty.dirty
+    c.index.result.now (g.M.Meter.taken c.args.feature_meter.now) (g.M.Meter.taken c.near_of.new.meter) c.in_ok-dirty.ensures.parts
+    c.near_of.ensures.asked)
+
+pub returns-in_err-add_subjects-clause-asked : goal.returns-in_err-add_subjects-clause-asked
+returns-in_err-add_subjects-clause-asked g c = rw (← c.index.ensures.value) (asked_moved (dirty_parts c.args.met.now c.args.window.now) c.in_ok-dirty.dirty
+    c.index.result.now (g.M.Meter.taken c.args.feature_meter.now) (g.M.Meter.taken c.near_of.new.meter) c.in_ok-dirty.ensures.parts
+    c.near_of.ensures.asked)
+
+pub returns-in_err-once_each-clause-asked : goal.returns-in_err-once_each-clause-asked
+returns-in_err-once_each-clause-asked g c = rw (← c.index.ensures.value) (asked_moved (dirty_parts c.args.met.now c.args.window.now) c.in_ok-dirty.dirty
+    c.index.result.now (g.M.Meter.taken c.args.feature_meter.now) (g.M.Meter.taken c.near_of.new.meter) c.in_ok-dirty.ensures.parts
+    c.near_of.ensures.asked)
+
+pub returns-in_err-dirty-clause-asked : goal.returns-in_err-dirty-clause-asked
+returns-in_err-dirty-clause-asked g c = asked_none (dirty_parts c.args.met.now c.args.window.now) c.args.ruled.now.placed
+    (g.M.Meter.taken c.args.feature_meter.now)

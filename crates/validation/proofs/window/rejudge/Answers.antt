@@ -13,7 +13,7 @@ returns-clause-judging g c = rw (c.indexed-indexed.ensures, c.in_force-in_force.
 
 pub returns-clause-ascending : goal.returns-clause-ascending
 returns-clause-ascending g c = IfOk-weaker c.judge_all.result _ (λ es. IsAscending es.items) (λ es h. judging_ascends
-    g.R.RuleSet.meaning c.indexed-indexed.result c.args.selected.now c.in_force-in_force.result.now es.items
+    g.R.RuleSet.meaning c.indexed-indexed.result.features c.args.selected.now c.in_force-in_force.result.now es.items
     (rw c.in_force-in_force.ensures c.order_law.ensures.rules) c.requires.selected h) c.judge_all.ensures.judging
 
 pub returns-clause-judged : goal.returns-clause-judged
@@ -21,3 +21,6 @@ returns-clause-judged g c = rw (c.indexed-indexed.ensures, c.in_force-in_force.e
 
 pub returns-clause-stopped : goal.returns-clause-stopped
 returns-clause-stopped g c = rw (c.indexed-indexed.ensures, c.in_force-in_force.ensures) at c.judge_all.ensures.stopped
+
+pub returns-clause-steps : goal.returns-clause-steps
+returns-clause-steps g c = rw (c.indexed-indexed.ensures, c.in_force-in_force.ensures) at c.judge_all.ensures.steps

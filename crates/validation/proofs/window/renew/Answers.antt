@@ -4,6 +4,8 @@ use Rattle.topology_terms.specs.Counts.{judged_of}
 use Rattle.validation_laws.proofs.Counting.{not_raised}
 use Rattle.grid_index.proofs.Nodes.{on_err}
 use Rattle.std.proofs.lemmas.Result.{on_ok_weaker}
+use Rattle.validation.specs.Asked.{dirty_parts}
+use Rattle.validation.proofs.Asking.{asked_selected, asked_before, asked_met}
 use Rattle.validation.proofs.Settled.{met_of, validated, selected_live, judged_upto, le_of_eq}
 use Rattle.validation.proofs.window.renew.Goals as goal
 
@@ -45,3 +47,27 @@ returns-in_err-fresh-clause-stopped g c = on_err c.from_residual-in_err-fresh.re
     c.order_law.ensures.features c.in_ok-selected.ensures.rising
     (λ a. c.in_ok-selected.ensures.chosen p h.features (met_of p d c.args.met.now c.args.window.now h.dirt e) h.entries a)
     c.in_err-fresh.ensures.stopped fs those)
+
+pub returns-clause-asked : goal.returns-clause-asked
+returns-clause-asked g c = λ p d h e. asked_selected c.args.ruled.now (dirty_parts d c.args.window.now) c.args.window.now p c.in_ok-selected.selected
+    (g.M.Meter.taken c.args.feature_meter.now) (g.M.Meter.taken c.select.new.feature_meter) (g.M.Meter.taken c.rejudge.new.meter)
+    c.order_law.ensures.features c.in_ok-selected.ensures.rising
+    (λ a. c.in_ok-selected.ensures.chosen p h.features (met_of p d c.args.met.now c.args.window.now h.dirt e) h.entries a)
+    (asked_met d c.args.met.now c.args.window.now c.args.ruled.now.placed (g.M.Meter.taken c.args.feature_meter.now)
+    (g.M.Meter.taken c.select.new.feature_meter) e c.select.ensures.asked)
+    c.rejudge.ensures.steps
+
+pub returns-in_err-fresh-clause-asked : goal.returns-in_err-fresh-clause-asked
+returns-in_err-fresh-clause-asked g c = λ p d h e. asked_selected c.args.ruled.now (dirty_parts d c.args.window.now) c.args.window.now p c.in_ok-selected.selected
+    (g.M.Meter.taken c.args.feature_meter.now) (g.M.Meter.taken c.select.new.feature_meter) (g.M.Meter.taken c.rejudge.new.meter)
+    c.order_law.ensures.features c.in_ok-selected.ensures.rising
+    (λ a. c.in_ok-selected.ensures.chosen p h.features (met_of p d c.args.met.now c.args.window.now h.dirt e) h.entries a)
+    (asked_met d c.args.met.now c.args.window.now c.args.ruled.now.placed (g.M.Meter.taken c.args.feature_meter.now)
+    (g.M.Meter.taken c.select.new.feature_meter) e c.select.ensures.asked)
+    c.rejudge.ensures.steps
+
+pub returns-in_err-selected-clause-asked : goal.returns-in_err-selected-clause-asked
+returns-in_err-selected-clause-asked g c = λ p d h e fs those. asked_before c.args.ruled.now (dirty_parts d c.args.window.now) fs
+    (g.M.Meter.taken c.args.feature_meter.now) (g.M.Meter.taken c.select.new.feature_meter)
+    (asked_met d c.args.met.now c.args.window.now c.args.ruled.now.placed (g.M.Meter.taken c.args.feature_meter.now)
+    (g.M.Meter.taken c.select.new.feature_meter) e c.select.ensures.asked)

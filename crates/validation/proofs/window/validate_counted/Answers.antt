@@ -4,6 +4,8 @@ use Rattle.validation.specs.Projects.{with_parts}
 use Rattle.topology_terms.specs.Counts.{judged_of}
 use Rattle.validation_laws.proofs.Counting.{not_raised}
 use Rattle.grid_index.proofs.Nodes.{on_err}
+use Rattle.validation.specs.Asked.{dirty_parts}
+use Rattle.validation.proofs.Asking.{asked_before, asked_none}
 use Rattle.validation.proofs.window.validate_counted.Goals as goal
 
 pub returns-in-Ok-clause-step : goal.returns-in-Ok-clause-step
@@ -32,3 +34,14 @@ returns-in-Err-clause-stopped g c = λ p h. c.in-Err.ensures.stopped p c.args.di
 pub returns-in_err-cut-clause-stopped : goal.returns-in_err-cut-clause-stopped
 returns-in_err-cut-clause-stopped g c = on_err c.from_residual.result _ (λ p h fs those. not_raised c.args.work.now
     (judged_of c.args.ruled.now.in_force fs))
+
+pub returns-in-Ok-clause-asked : goal.returns-in-Ok-clause-asked
+returns-in-Ok-clause-asked g c = λ p h. c.renew.ensures.asked p c.args.dirt.now h (c.met.ensures ∙ c.in_ok-cut.ensures.parts.met)
+
+pub returns-in-Err-clause-asked : goal.returns-in-Err-clause-asked
+returns-in-Err-clause-asked g c = λ p h. c.renew.ensures.asked p c.args.dirt.now h (c.met.ensures ∙ c.in_ok-cut.ensures.parts.met)
+
+pub returns-in_err-cut-clause-asked : goal.returns-in_err-cut-clause-asked
+returns-in_err-cut-clause-asked g c = λ p h fs those. asked_before c.args.ruled.now (dirty_parts c.args.dirt.now c.args.window.now) fs
+    (g.M.Meter.taken c.args.feature_meter.now) (g.M.Meter.taken c.args.feature_meter.now) (asked_none
+    (dirty_parts c.args.dirt.now c.args.window.now) c.args.ruled.now.placed (g.M.Meter.taken c.args.feature_meter.now))

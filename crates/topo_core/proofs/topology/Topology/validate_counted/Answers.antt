@@ -22,7 +22,7 @@ returns-in_err-validate_counted-clause-ordered g c = rw (c.in_err-validate_count
 pub invariant_of-self-2 : goal.invariant_of-self-2
 invariant_of-self-2 g c =
     let p = project_of c.self.inside.store c.self.inside.rules.items c.self.inside.dirt c.self.inside.entries in
-    let parts = parts_of p _ _ _ c.of-ruled.ensures c.deref.ensures.value c.features-features.ensures.value in
+    let parts = parts_of p _ _ _ _ c.of-ruled.ensures c.deref.ensures.value c.features-features.ensures.value in
     record {
       topology = validated_keeps g.R.RuleSet.meaning g.met.R.RuleSet.right g.met.R.KindRules.kinds g.met.R.KindRules.partners
           c.args.window p _
@@ -33,13 +33,13 @@ invariant_of-self-2 g c =
 pub returns-clause-ok : goal.returns-clause-ok
 returns-clause-ok g c =
     let p = project_of c.self.inside.store c.self.inside.rules.items c.self.inside.dirt c.self.inside.entries in
-    rw (← c.self.view_is) (c.in_ok-validate_counted.ensures.step p (parts_of p _ _ _ c.of-ruled.ensures c.deref.ensures.value
+    rw (← c.self.view_is) (c.in_ok-validate_counted.ensures.step p (parts_of p _ _ _ _ c.of-ruled.ensures c.deref.ensures.value
     c.features-features.ensures.value))
 
 pub returns-clause-judged : goal.returns-clause-judged
 returns-clause-judged g c =
     let p = project_of c.self.inside.store c.self.inside.rules.items c.self.inside.dirt c.self.inside.entries in
-    let parts = parts_of p _ _ _ c.of-ruled.ensures c.deref.ensures.value c.features-features.ensures.value in
+    let parts = parts_of p _ _ _ _ c.of-ruled.ensures c.deref.ensures.value c.features-features.ensures.value in
     let j = c.in_ok-validate_counted.ensures.judged p parts in
     rw (← c.self.view_is) (record {
       subjects = j.0;
@@ -50,21 +50,21 @@ returns-clause-judged g c =
 pub returns-clause-sound : goal.returns-clause-sound
 returns-clause-sound g c =
     let p = project_of c.self.inside.store c.self.inside.rules.items c.self.inside.dirt c.self.inside.entries in
-    let parts = parts_of p _ _ _ c.of-ruled.ensures c.deref.ensures.value c.features-features.ensures.value in
+    let parts = parts_of p _ _ _ _ c.of-ruled.ensures c.deref.ensures.value c.features-features.ensures.value in
     λ k. validated_sound_kept g.R.RuleSet.meaning g.met.R.RuleSet.laws g.met.R.RuleSet.right g.met.R.KindRules.kinds c.args.window p _
     c.self.invariant.topology (c.in_ok-validate_counted.ensures.step p parts) (subst (IsSoundUnder g.R.RuleSet.meaning) (sym c.self.view_is) k)
 
 pub returns-clause-settled : goal.returns-clause-settled
 returns-clause-settled g c =
     let p = project_of c.self.inside.store c.self.inside.rules.items c.self.inside.dirt c.self.inside.entries in
-    let parts = parts_of p _ _ _ c.of-ruled.ensures c.deref.ensures.value c.features-features.ensures.value in
+    let parts = parts_of p _ _ _ _ c.of-ruled.ensures c.deref.ensures.value c.features-features.ensures.value in
     λ k. validated_settled_kept g.R.RuleSet.meaning g.met.R.RuleSet.laws g.met.R.RuleSet.right g.met.R.KindRules.kinds c.args.window p _
     c.self.invariant.topology (c.in_ok-validate_counted.ensures.step p parts) (subst (IsSettledUnder g.R.RuleSet.meaning) (sym c.self.view_is) k)
 
 pub returns-clause-ordered : goal.returns-clause-ordered
 returns-clause-ordered g c =
     let p = project_of c.self.inside.store c.self.inside.rules.items c.self.inside.dirt c.self.inside.entries in
-    let parts = parts_of p _ _ _ c.of-ruled.ensures c.deref.ensures.value c.features-features.ensures.value in
+    let parts = parts_of p _ _ _ _ c.of-ruled.ensures c.deref.ensures.value c.features-features.ensures.value in
     ordered _ (validated_keeps g.R.RuleSet.meaning g.met.R.RuleSet.right g.met.R.KindRules.kinds g.met.R.KindRules.partners
     c.args.window p _ c.self.invariant.topology
     (c.in_ok-validate_counted.ensures.step p parts) c.in_ok-validate_counted.ensures.ordered)
@@ -72,7 +72,7 @@ returns-clause-ordered g c =
 pub returns-in_err-validate_counted-clause-stopped : goal.returns-in_err-validate_counted-clause-stopped
 returns-in_err-validate_counted-clause-stopped g c =
     let p = project_of c.self.inside.store c.self.inside.rules.items c.self.inside.dirt c.self.inside.entries in
-    let parts = parts_of p _ _ _ c.of-ruled.ensures c.deref.ensures.value c.features-features.ensures.value in
+    let parts = parts_of p _ _ _ _ c.of-ruled.ensures c.deref.ensures.value c.features-features.ensures.value in
     on_err c.from_residual.result _ (rw (← c.self.view_is) (λ fs those. subst (λ rules. c.validate_counted.new.work ≤ raised c.args.work.now
     (judged_of rules fs)) (sym parts.rules)
     (c.in_err-validate_counted.ensures.stopped p parts fs
