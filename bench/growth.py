@@ -80,7 +80,7 @@ def gap_edits(make, count):
 def all_series():
     """The name of each series, its unit, its sizes, and what makes the two parts of the script and says how many steps the second has."""
     yield 'an edit in a town of N parcels', [900, 3600, 10000, 90000], lambda size: town(round(size ** 0.5))
-    yield 'a point moved, of N', [10000, 100000, 300000], points
+    yield 'a point moved, of N', [10000, 100000, 1000000], points
     for kind in LATE_HEADS:
         yield 'a window in N dirty %s' % kind, [3000, 10000, 30000], lambda size, kind=kind: late(kind, size)
     yield 'an undo or a redo, of N steps', [1000, 10000, 100000], session
