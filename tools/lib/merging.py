@@ -46,8 +46,11 @@ def endings_of(folder: str) -> Iterator[tuple[str, Ending]]:
     if not scripts:
         raise ReplyError('no tiles in %s' % folder)
     for number, script in enumerate(scripts, 1):
+        replies = script[:-len(SCRIPT)] + REPLIES
         try:
-            ending = ending_of(script, script[:-len(SCRIPT)] + REPLIES)
+            ending = ending_of(script, replies)
+        except FileNotFoundError:
+            raise ReplyError('%s has no replies: there is no file %s' % (script, replies)) from None
         except ReplyError as fault:
             raise ReplyError('%s: %s' % (script, fault)) from None
         check_place(script, ending, number, len(scripts))

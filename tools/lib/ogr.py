@@ -78,7 +78,10 @@ def layer_names(source: str) -> list[str]:
     """The layers in their order; after a name ogrinfo may have a title and a type, both in brackets."""
     if not is_source(source):
         raise SourceError('there is no file or folder %s' % source)
-    lines = run(['ogrinfo', '-ro', '-q', source]).splitlines()
+    try:
+        lines = run(['ogrinfo', '-ro', '-q', source]).splitlines()
+    except SourceError as fault:
+        raise SourceError('GDAL cannot open this source: %s' % fault) from None
     found = (re.fullmatch(r'\d+: (.*?)(?: \(title: .*\))?(?: \([^()]*(?:\(any\))?\))?', line) for line in lines)
     return [match[1] for match in found if match]
 

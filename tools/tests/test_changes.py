@@ -1,6 +1,7 @@
 """tools/changes: a project follows its source, keeps handles and exceptions, and is then what the source makes; what is refused."""
 import csv
 import random
+import shutil
 import unittest
 
 from working import PROGRAM, Case, by_lines, rectangle
@@ -44,6 +45,14 @@ class Changes(Case):
         self.assertEqual((done.status, done.told), (0, '1 the same, 0 changed, 0 added, 0 deleted; 1 in the project alone\n'))
         self.assertEqual(done.out.splitlines()[3], 'validate all')
 
+    def test_a_class_without_a_feature_now_is_told(self):
+        both = PROJECT.replace('class lots polygon\n', 'class lots polygon\nclass lakes polygon\n').replace('2 lots', '2 lakes')
+        done = self.changes(script('A'), both, TABLE.replace('B,lots', 'B,lakes'))
+        self.assertEqual((done.status, done.told), (1, 'the source has no feature of class lakes, so all of them are deleted: are the sources and '
+                                                       'layers those of the first script?\n1 the same, 0 changed, 0 added, 1 deleted; 0 in the '
+                                                       'project alone\n'))
+        self.assertIn('by import delete 2', done.out)
+
     def test_what_is_refused(self):
         for words, said in (((script('A', 'A'),), 'new.topo: two features of class lots have the id A'),
                             ((script('A', ''),), 'new.topo: a feature of class lots has no id'),
@@ -54,6 +63,7 @@ class Changes(Case):
                                                                                          'the table is of another one')):
             self.assertEqual(tuple(self.changes(*words)), (2, '', 'changes: %s\n' % said))
 
+    @unittest.skipUnless(shutil.which('ogr2ogr'), 'ogr2ogr is not installed (package gdal-bin)')
     def test_a_map_from_night_to_night(self):
         """The project of a source that changes five times has its features by their ids, and its errors, as a new script would; and a mark
         goes where one of its two lots does, or their overlap changes."""

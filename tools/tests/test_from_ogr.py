@@ -64,6 +64,11 @@ class Sources(Case):
         self.assertIn('did you mean `polygon_must_not_overlap`?', wrong.told)
         gone = self.tool('from-ogr', 'gone.gpkg', '--grid', '0.01')
         self.assertEqual((gone.status, gone.told), (2, 'from-ogr: there is no file or folder gone.gpkg\n'))
+        with open(self.path('lots.txt'), 'w', encoding='utf-8') as text:
+            text.write('POLYGON ((0 0, 9 0, 0 9, 0 0))\n')
+        other = self.tool('from-ogr', 'lots.txt', '--grid', '0.01')
+        self.assertEqual((other.status, other.out), (2, ''))
+        self.assertIn('from-ogr: GDAL cannot open this source: ogrinfo', other.told)
         none = self.tool('from-ogr', 'e.gpkg', '--grid', '0.01', '--layer', 'streets')
         self.assertEqual((none.status, none.told), (2, "from-ogr: no layer 'streets'; there are lots, Gebäude 2\n"))
 

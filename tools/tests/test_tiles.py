@@ -171,9 +171,7 @@ class Belonging(Case):
             self.assertIn('cannot be one of this script', self.tool('report', 'tiles').told)
 
     def test_without_replies_and_without_tiles(self):
-        done = self.tool('tiles', 'merge', 'tiles')
-        self.assertEqual(done.status, 2)
-        self.assertIn('001.replies', done.told)
+        self.refused('tiles/001.topo has no replies: there is no file tiles/001.replies')
         shutil.rmtree(self.path('tiles'))
         os.mkdir(self.path('tiles'))
         self.refused('no tiles in tiles')
