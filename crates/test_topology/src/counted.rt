@@ -23,7 +23,7 @@ fn row(alloc: Global, work: &mut Work) -> Result<Topology<PosterRules>, Fail> {
         dest: None,
     })?;
     for k in 1..=1000i64 {
-        town.add(1, Shape::point(place(100 * k)?))?;
+        town.add(1, Shape::point(place(k.saturating_mul(100))?))?;
     }
     town.validate(Rect::whole(), work)?;
     Ok(town)
