@@ -7,6 +7,7 @@ use Rattle.std.proofs.Math.Nat.{pow-le-pow_right}
 use Rattle.std.proofs.lemmas.Bool.{false≢true, le-leb, leb-true}
 use Rattle.std.proofs.lemmas.Bool.Decides.{Decides-and, Decides-eqb}
 use Rattle.std.proofs.lemmas.Nat.{pow_pos, pow-add, shr-shr, shr_split, mod_below, div_below, and_le_l, and_le_r, le_or_l, le_or_r, or_shr, xor_shr, or_lt}
+use Rattle.plane_terms.proofs.Truths.{same_by_truth}
 use Rattle.plane_terms.proofs.ListLemmas.{IsAmong, contains_among}
 use Rattle.grid_index.specs.declared.placed.Placed.{Placed}
 use Rattle.grid_index.specs.declared.middle.Middle.{Middle}
@@ -109,13 +110,8 @@ none_of_square k a b t =
     ∙ (ap (λ n. bit_or n (bit_xor (a.y / 2 ^ k) (b.y / 2 ^ k))) (same_xor (a.x / 2 ^ k) (b.x / 2 ^ k) e.0)
     ∙ (ap (λ n. bit_or 0 n) (same_xor (a.y / 2 ^ k) (b.y / 2 ^ k) e.1) ∙ or_self 0))
 
-same_tests : (b c : Bool) → (b ≡ true → c ≡ true) → (c ≡ true → b ≡ true) → b ≡ c
-same_tests true c f g = sym (f refl)
-same_tests false true f g = g refl
-same_tests false false f g = refl
-
 pub beside_is : (k : ℕ) (a b : Middle) → nat_eq (apart a b / 2 ^ k) 0 ≡ same_square k a b
-beside_is k a b = same_tests (nat_eq (apart a b / 2 ^ k) 0) (same_square k a b)
+beside_is k a b = same_by_truth (nat_eq (apart a b / 2 ^ k) 0) (same_square k a b)
     (λ t. square_of_none k a b ((Decides-eqb (apart a b / 2 ^ k) 0).0 t))
     (λ t. (Decides-eqb (apart a b / 2 ^ k) 0).1 (none_of_square k a b t))
 
@@ -126,7 +122,7 @@ from_half : (n : ℕ) → n / 2 ^ 1 ≡ 0 → n ≤ 1
 from_half n e = omega (arith, none_below n 1 e)
 
 pub round_is : (k : ℕ) (a b : Middle) → nat_le (apart a b / 2 ^ k) 1 ≡ same_square (k + 1) a b
-round_is k a b = same_tests (nat_le (apart a b / 2 ^ k) 1) (same_square (k + 1) a b)
+round_is k a b = same_by_truth (nat_le (apart a b / 2 ^ k) 1) (same_square (k + 1) a b)
     (λ t. square_of_none (k + 1) a b (sym (shr-shr (apart a b) k 1) ∙ halved (apart a b / 2 ^ k) (leb-true (apart a b / 2 ^ k) 1 t)))
     (λ t. le-leb (apart a b / 2 ^ k) 1 (from_half (apart a b / 2 ^ k) (shr-shr (apart a b) k 1 ∙ none_of_square (k + 1) a b t)))
 

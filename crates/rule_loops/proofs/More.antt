@@ -10,6 +10,7 @@ use Rattle.plane_terms.specs.Rectangle.{Rectangle, rects_meet}
 use Rattle.plane_terms.specs.Segment.{Segment, box_of}
 use Rattle.plane_terms.specs.Cell.{Cell, on_segment, out_of_segment, weak_of}
 use Rattle.plane_terms.specs.Carve.{carve_of}
+use Rattle.plane_terms.proofs.Truths.{both_parts}
 use Rattle.topology_terms.specs.Feature.{Feature, sides, env}
 use Rattle.topology_terms.specs.Cells.{uncovered, outside, box_meets, out_of_segments}
 use Rattle.topology_terms.specs.Plans.{others, open_ground, gap_cells}
@@ -108,11 +109,7 @@ by_class s n F i g left e t h =
     ∙ uncovered-append (on_segment s ∷ []) (flat_map outs gs) (outs g))))
 
 pub of_beside : (n : ℕ) (s : Segment) (g : Feature) → beside n s g ≡ true → (g.class == n) ≡ true
-of_beside n s g e = both (g.class == n) (rects_meet (box_of s) (env g)) e
-  where
-    both : (b c : Bool) → (b && c) ≡ true → b ≡ true
-    both true c e = refl
-    both false c e = e
+of_beside n s g e = (both_parts (g.class == n) (rects_meet (box_of s) (env g)) e).0
 
 pub segment_more : (s : Segment) (n : ℕ) (F : List Feature) (i : ℕ) (g : Feature) (left : List Cell) → slice_get F i ≡ Some g
     → beside n s g ≡ true → left ≡ left_of_segment (of_class n (take i F)) s

@@ -14,7 +14,8 @@ use Rattle.rule_loops.specs.Stacked.{highest, lowest, lies_left, lies_right, is_
 use Rattle.rule_loops.specs.declared.stacked.Order.{Order}
 use Rattle.rule_loops.specs.declared.stacked.Order.TheVariants as order
 use Rattle.rule_loops.proofs.Blocked.{left_block, left_none}
-use Rattle.rule_loops.proofs.Stacking.{either, both, at_most}
+use Rattle.plane_terms.proofs.Truths.{both_parts}
+use Rattle.rule_loops.proofs.Stacking.{either, at_most}
 
 -- ---- blocks
 -- what is true of each of a block is asked of the others alone
@@ -32,7 +33,7 @@ all_end test k ts all l h = sym h ∙ ap (list_all test) (left_none k ts l)
 joined : (o : Order) (us xs ys : List Segment) → are_ordered o us xs ≡ true → are_ordered o us (xs ++ ys) ≡ are_ordered o us ys
 joined o [] xs ys e = refl
 joined o (s ∷ us) xs ys e =
-    let k = both (list_all (stands o s) xs) (are_ordered o us xs) e in
+    let k = both_parts (list_all (stands o s) xs) (are_ordered o us xs) e in
     let first : list_all (stands o s) (xs ++ ys) ≡ list_all (stands o s) ys = list_all-append (stands o s) xs ys
     ∙ ap (λ b. b && list_all (stands o s) ys) k.0 in
     rw (first, joined o us xs ys k.1) refl

@@ -15,6 +15,7 @@ use Rattle.plane_terms.specs.Segment.{Segment, IsSegment, cross}
 use Rattle.plane_terms.specs.Share.{turn}
 use Rattle.plane_terms.specs.Polygon.{counts, IsInside}
 use Rattle.plane_terms.specs.declared.kind.Kind.TheVariants as shapes
+use Rattle.plane_terms.proofs.Truths.{both_parts}
 use Rattle.topology_terms.specs.Feature.{Feature, sides}
 use Rattle.topology_terms.specs.Plans.{overlap_cells}
 use Rattle.number_laws.proofs.Ring.{num, ◌⊖◌, ◌⊗◌, same_by}
@@ -75,21 +76,17 @@ pub either : (b c : Bool) → b || c ≡ true → (b ≡ true) ⊎ (c ≡ true)
 either true c e = inl refl
 either false c e = inr e
 
-pub both : (b c : Bool) → b && c ≡ true → (b ≡ true) × (c ≡ true)
-both true c e = (refl, e)
-both false c e = absurd (false≢true e)
-
 pub at_most : (a b : ℤ) → int_le a b ≡ true → a ≤ℤ b
 at_most a b e = (Decides-int_le a b).0 e
 
 on_right : (t s : Segment) → lies_right t s ≡ true → (turn t s.lo ≤ℤ pos 0) × (turn t s.hi ≤ℤ pos 0)
 on_right t s e =
-    let k = both (int_le (turn t s.lo) (pos 0)) (int_le (turn t s.hi) (pos 0)) e in
+    let k = both_parts (int_le (turn t s.lo) (pos 0)) (int_le (turn t s.hi) (pos 0)) e in
     (at_most (turn t s.lo) (pos 0) k.0, at_most (turn t s.hi) (pos 0) k.1)
 
 on_left : (t s : Segment) → lies_left t s ≡ true → (pos 0 ≤ℤ turn t s.lo) × (pos 0 ≤ℤ turn t s.hi)
 on_left t s e =
-    let k = both (int_le (pos 0) (turn t s.lo)) (int_le (pos 0) (turn t s.hi)) e in
+    let k = both_parts (int_le (pos 0) (turn t s.lo)) (int_le (pos 0) (turn t s.hi)) e in
     (at_most (pos 0) (turn t s.lo) k.0, at_most (pos 0) (turn t s.hi) k.1)
 
 low_highest : (a b z : ℤ) → int_max a b ≤ℤ z → (a ≤ℤ z) × (b ≤ℤ z)
@@ -248,16 +245,16 @@ module _ (test : Segment → Segment → Bool) (seen : Segment → Segment) (p :
       → Every IsSegment vs → list_all (test s) vs ≡ true → SomeOf (λ t. counts (seen t) p ≡ true) vs → ⊥
   none_over s u i [] v e h = h
   none_over s u i (t ∷ vs) v e (inl h) =
-      idle_alone (counts (seen s) p) (spans p (seen s)) i (λ k. too s t u v.0 (both (test s t) (list_all (test s) vs) e).0 k h) (spans_of (seen s))
-  none_over s u i (t ∷ vs) v e (inr h) = none_over s u i vs v.1 (both (test s t) (list_all (test s) vs) e).1 h
+      idle_alone (counts (seen s) p) (spans p (seen s)) i (λ k. too s t u v.0 (both_parts (test s t) (list_all (test s) vs) e).0 k h) (spans_of (seen s))
+  none_over s u i (t ∷ vs) v e (inr h) = none_over s u i vs v.1 (both_parts (test s t) (list_all (test s) vs) e).1 h
 
   none_between : (us vs : List Segment) → Every IsSegment us → Every IsSegment vs → list_all (λ s. list_all (test s) vs) us ≡ true
       → SomeOf (λ s. differ (counts (seen s) p) (spans p (seen s)) ≡ true) us → SomeOf (λ t. counts (seen t) p ≡ true) vs → ⊥
   none_between [] vs u v e i h = i
   none_between (s ∷ us) vs u v e (inl i) h =
-      none_over s u.0 i vs v (both (list_all (test s) vs) (list_all (λ s. list_all (test s) vs) us) e).0 h
+      none_over s u.0 i vs v (both_parts (list_all (test s) vs) (list_all (λ s. list_all (test s) vs) us) e).0 h
   none_between (s ∷ us) vs u v e (inr i) h =
-      none_between us vs u.1 v (both (list_all (test s) vs) (list_all (λ s. list_all (test s) vs) us) e).1 i h
+      none_between us vs u.1 v (both_parts (list_all (test s) vs) (list_all (λ s. list_all (test s) vs) us) e).1 i h
 
 under_too : (p : Point) (s t : Segment) → IsSegment s → IsSegment t → is_under s t ≡ true → spans p s ≡ true → counts t p ≡ true
     → counts s p ≡ true

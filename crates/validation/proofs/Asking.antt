@@ -7,9 +7,9 @@ use Rattle.std.specs.Option.{option_to_list}
 use Rattle.std.proofs.lemmas.Bool.{cases_Bool}
 use Rattle.std.proofs.Math.Nat.{mul-le-mul_left, mul-le-mul_right, min-eq_left}
 use Rattle.std.proofs.lemmas.Int.{ints}
-use Rattle.std.proofs.lemmas.List.{take_more, map-append, take-append-drop}
-use Rattle.std.proofs.lemmas.List.Elements.{All-from_recursion, recursion_from_All, filter-append}
-use Rattle.std.proofs.lemmas.List.Sorted.{All-permutation, IsPermutation-sym, length_permutation, sum_by-IsPermutation}
+use Rattle.std.proofs.lemmas.List.{map-append, take-append-drop}
+use Rattle.std.proofs.lemmas.List.Elements.{filter-append}
+use Rattle.std.proofs.lemmas.List.Sorted.{IsPermutation-sym, length_permutation, sum_by-IsPermutation}
 use Rattle.std.proofs.lemmas.List.Sums.{sum_by-cons, sum_by-append, sum_by_push, sum_by-take-le}
 use Rattle.std.proofs.lemmas.Grind.{flat_map-append}
 use Rattle.plane_terms.specs.Lists.{Every, IsThose}
@@ -27,11 +27,9 @@ use Rattle.grid_plane.specs.Rectangles.{IsJoin}
 use Rattle.validation.specs.Asked.{dirty_parts, places_of, places_in, IsRound, IsClose, AreAsked, asked_steps, judged_envelopes, IsAskedOf, IsAskedFor}
 use Rattle.validation.specs.Projects.{RuledFeatures}
 use Rattle.validation.specs.Parted.{RulePart, rules_of}
+use Rattle.validation.proofs.Dirtied.{front_more, every_moved}
 use Rattle.validation.proofs.Nearby.{live_more}
 use Rattle.validation.proofs.Settled.{selected_live}
-
-front_more : {A : Type 0} (rs : List A) (i : ℕ) (r : A) → i < length rs → r ≡ get_or rs i r → take (i + 1) rs ≡ take i rs ++ r ∷ []
-front_more rs i r l e = take_more rs i r l ∙ ap (λ y. take i rs ++ y ∷ []) (sym e)
 
 -- ---- the parts of the dirt
 passed : (t : Bool) (w r : Rectangle) (d : List Rectangle) → rects_meet r w ≡ t
@@ -98,9 +96,6 @@ places_exact r a b n i e f h =
     rw (e, f) at h ∙ min-eq_left few
 
 -- ---- in another order
-every_moved : (P : Rectangle → Type 0) (xs ys : List Rectangle) → IsPermutation xs ys → Every P xs → Every P ys
-every_moved P xs ys m h = recursion_from_All P ys (All-permutation P xs ys m (All-from_recursion P xs h))
-
 round_moved : (j : Rectangle) (rs qs : List Rectangle) → IsPermutation rs qs → IsRound j qs → IsRound j rs
 round_moved j rs qs m h = record {
   holds = every_moved (λ (r : Rectangle). IsWithin r j) qs rs (IsPermutation-sym rs qs m) h.holds;

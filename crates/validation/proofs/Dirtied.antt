@@ -31,7 +31,7 @@ covers_last (a ∷ A) m p =
 abbrev pub CoverParts : List Rectangle → List Rectangle → Rectangle → Type 0
 CoverParts ss rs w = (p : Point) → Covers ss p ↔ (Covers rs p × RectHolds w p)
 
-front_more : (rs : List Rectangle) (i : ℕ) (r : Rectangle) → i < length rs → r ≡ get_or rs i r → take (i + 1) rs ≡ take i rs ++ r ∷ []
+pub front_more : {A : Type 0} (rs : List A) (i : ℕ) (r : A) → i < length rs → r ≡ get_or rs i r → take (i + 1) rs ≡ take i rs ++ r ∷ []
 front_more rs i r l e = take_more rs i r l ∙ ap (λ y. take i rs ++ y ∷ []) (sym e)
 
 -- ---- of those that meet the window
@@ -85,9 +85,11 @@ pub grid_more : (ss new : List Rectangle) (s : Rectangle) → new ≡ ss ++ s �
 grid_more ss new s grown h k = rw grown (every_append IsRectangle ss (s ∷ []) h (k, tt))
 
 -- ---- in another order
+pub every_moved : (P : Rectangle → Type 0) (xs ys : List Rectangle) → IsPermutation xs ys → Every P xs → Every P ys
+every_moved P xs ys m h = recursion_from_All P ys (All-permutation P xs ys m (All-from_recursion P xs h))
+
 pub grid_moved : (ss new : List Rectangle) → IsPermutation ss new → Every IsRectangle ss → Every IsRectangle new
-grid_moved ss new m h =
-    recursion_from_All IsRectangle new (All-permutation IsRectangle ss new m (All-from_recursion IsRectangle ss h))
+grid_moved ss new m h = every_moved IsRectangle ss new m h
 
 pub cover_moved : (ss new : List Rectangle) (rs : List Rectangle) (w : Rectangle) → IsPermutation ss new → CoverParts ss rs w
     → CoverParts new rs w

@@ -15,8 +15,8 @@ use std::marker::Model;
 /// stand in the index change nothing.
 #[derive(Drop)]
 pub struct RuledFeatures<'a, R> {
-    alloc: Global,
-    rules: &'a R,
+    pub(crate) alloc: Global,
+    pub(crate) rules: &'a R,
     in_force: &'a [InForce],
     features: &'a Features<'a>,
     index: &'a Index,
@@ -56,16 +56,6 @@ impl<'a, R> RuledFeatures<'a, R> {
             features,
             index,
         }
-    }
-
-    /// Where memory is taken.
-    pub(crate) fn alloc(&self) -> Global {
-        self.alloc
-    }
-
-    /// What each kind of rule finds.
-    pub(crate) fn rules(&self) -> &'a R {
-        self.rules
     }
 
     /// The rules in force.

@@ -119,7 +119,7 @@ pub fn select<R, M: Meter, N: Meter>(
     ensures rises { M.taken feature_meter.old ≤ M.taken feature_meter.new }
     ensures error_rises { N.taken error_meter.old ≤ N.taken error_meter.new }
 {
-    let alloc = ruled.alloc();
+    let alloc = ruled.alloc;
     let dirty = DirtyParts::of(alloc, met, window)?;
     let near = near_of(alloc, &dirty, ruled.index(), feature_meter)?;
     let framed = near_of(alloc, &dirty, errors.frames(), error_meter)?;

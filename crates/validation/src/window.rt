@@ -41,8 +41,8 @@ fn rejudge<R: RuleSet, M: Meter>(
     ensures steps { (s : ℕ) → M.taken meter.new ≤ M.taken meter.old + asked_steps s (judged_envelopes ruled.now.in_force (live_of ruled.now.features selected.now)) ruled.now.placed }
 {
     ruled.order_law();
-    let alloc = ruled.alloc();
-    let rules = ruled.rules();
+    let alloc = ruled.alloc;
+    let rules = ruled.rules;
     let in_force = ruled.in_force();
     let indexed = ruled.indexed();
     judge_all(rules, alloc, in_force, &indexed, selected, work, meter)
@@ -71,7 +71,7 @@ fn renew<R: RuleSet, M: Meter, N: Meter>(
     ruled.order_law();
     let selected = select(ruled, errors, met, window, feature_meter, error_meter)?;
     let fresh = rejudge(ruled, &selected, work, feature_meter)?;
-    errors.replace(ruled.alloc(), &selected, fresh)
+    errors.replace(ruled.alloc, &selected, fresh)
 }
 
 /// Validates the window: every rule in force judges each live feature of its subjects that the window and the dirt select;
@@ -139,7 +139,7 @@ pub fn validate_counted<R: RuleSet, M: Meter, N: Meter>(
     ensures error_rises { N.taken error_meter.old ≤ N.taken error_meter.new }
 {
     ruled.order_law();
-    let cut = dirt.cut(ruled.alloc(), window)?;
+    let cut = dirt.cut(ruled.alloc, window)?;
     match renew(
         ruled,
         errors,
