@@ -7,8 +7,8 @@ usage: bench/growth.py [--baseline WORDS] [--lines NAME ..] [--program WORDS]
   the others        as in bench/run.py
 
 A series is a map of several sizes. Each figure is what a script takes beyond one that ends earlier, divided by the number of
-steps: edits with their windows, windows in much dirt, undos, vertices of a border. The last column says how many times the figure
-of the size before it is, and how many times that size. Needs valgrind, which counts the instructions.
+steps: edits with their windows, errors that come and go, windows in much dirt, undos, vertices of a border. The last column says how
+many times the figure of the size before it is, and how many times that size. Needs valgrind, which counts the instructions.
 """
 import re
 import shutil
@@ -54,6 +54,15 @@ def points(count):
     return HEADS['points'] + added_features('points', count) + ['validate all'], moved(count, EDITS), EDITS
 
 
+def errors(count):
+    """Wells off the one road, each of them an error, and the first of them moved on to the road and off it again."""
+    head = ['class wells point', 'class roads line', 'rule point_must_be_covered_by_line wells roads', 'begin ann']
+    ends = ['by ann add wells POINT (-4000000 0)', 'by ann add roads LINESTRING (-4000000 1, -4000000 2)']
+    window = 'validate -4000003 -3 -3999997 3'
+    moves = [line for i in range(EDITS) for line in ('by ann change 1 POINT (-4000000 %d)' % (1 - i % 2), window)]
+    return head + ends[:1] + added_features('points', count - 1) + ends[1:] + ['validate all'], moves, EDITS
+
+
 def late(kind, count):
     """The late features of bench/late.py, and small windows."""
     early, more, numbers = early_and_late(kind, count)
@@ -81,6 +90,7 @@ def all_series():
     """The name of each series, its unit, its sizes, and what makes the two parts of the script and says how many steps the second has."""
     yield 'an edit in a town of N parcels', [900, 3600, 10000, 90000], lambda size: town(round(size ** 0.5))
     yield 'a point moved, of N', [10000, 100000, 1000000], points
+    yield 'an error that comes or goes, of N', [1000, 10000, 100000], errors
     for kind in LATE_HEADS:
         yield 'a window in N dirty %s' % kind, [3000, 10000, 30000], lambda size, kind=kind: late(kind, size)
     yield 'an undo or a redo, of N steps', [1000, 10000, 100000], session
