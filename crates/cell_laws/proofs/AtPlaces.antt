@@ -2,10 +2,9 @@
 use Rattle.std.proofs.Common.{◌≡◌, ℕ, ℤ, pos, ◌*ℤ◌, true, arith, inl, inr, refl, ◌∙◌}
 use Rattle.std.proofs.lemmas.Bool.Decides.{Decides-and, Decides-int_eq}
 use Rattle.std.proofs.lemmas.Int.{ints}
-use Rattle.plane_terms.specs.Point.{Place, Point, IsAt, same_place}
+use Rattle.plane_terms.specs.Point.{Place, Point, IsAt, same_place, point_at}
 use Rattle.plane_terms.specs.Segment.{Segment, OnSegment, IsBetween}
 use Rattle.plane_terms.specs.Share.{turn}
-use Rattle.plane_terms.proofs.Points.{point_at}
 use Rattle.number_laws.proofs.Order.{scaled_le}
 use Rattle.cell_laws.proofs.Meeting.{turn_zero, at_turn, times_zero}
 use Rattle.cell_laws.proofs.OnLine.{at_itself}

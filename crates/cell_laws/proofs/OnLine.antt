@@ -1,8 +1,7 @@
 -- Two segments of one line, by the order of their ends.
 use Rattle.std.proofs.Common.{◌≡◌, ℕ, ◌<◌, ℤ, pos, ◌+ℤ◌, ◌-ℤ◌, ◌*ℤ◌, neg_ℤ, ◌≤ℤ◌, ◌<ℤ◌, arith, refl, sym, ◌⊎◌, inl, inr, ◌∙◌}
 use Rattle.std.proofs.lemmas.Int.{ints}
-use Rattle.plane_terms.specs.Point.{Place, Point, IsAt}
-use Rattle.plane_terms.proofs.Points.{point_at}
+use Rattle.plane_terms.specs.Point.{Place, Point, IsAt, point_at}
 use Rattle.plane_terms.specs.Segment.{Segment, IsSegment, cross, IsBetween, OnSegment, Overlap}
 use Rattle.plane_terms.specs.Share.{AreSame, TouchOnce, turn}
 use Rattle.cell_laws.proofs.Meeting.{NoneShared}

@@ -7,13 +7,13 @@ use Rattle.topology_terms.specs.Settled.{IsSettled}
 use Rattle.topology_terms.specs.Sound.{IsSound}
 use Rattle.sound_laws.proofs.Settling.{clean_points, clean_live, clean_whole}
 use Rattle.topo_core.specs.Topologies.{IsTopology}
-use Rattle.script_terms.specs.Headline.{Headline, Invariant, IsExact}
+use Rattle.script_terms.specs.Headline.{Headline, Invariant, IsExact, SoundHeadline}
 use Rattle.command_answers.proofs.FromScratch.{scratch}
 use Rattle.session_terms.specs.Kept.{KeptSession}
 use Rattle.command_answers.specs.Worlds.{state_of, IsWorld}
 use Rattle.script_terms.specs.State.{empty_state}
 
-pub headline : (p : Project) → IsTopology p → IsSound p → Headline p
+headline : (p : Project) → IsTopology p → IsSound p → Headline p
 headline p t s = record {
   points = λ r row e q off a b. (s.each r row e a).points q off b;
   features = λ r row e a f live clear. (s.each r row e a).whole f live clear;
@@ -21,20 +21,23 @@ headline p t s = record {
       let row = t.made.ruled r a b e found in
       let framed = (s.each r row.0 row.1 a).cells b e found cells in
       (framed.some, framed.points);
-  whole = λ r a b e found whole. (t.made.bare r a b e found whole).0;
+  whole = t.made.bare;
   ruled = t.made.ruled;
   by_key = t.order;
 }
 
-pub invariant : (p : Project) → IsTopology p → IsSound p → IsSettled p → Invariant p
-invariant p t s k = record { sound = s; settled = k; headline = headline p t s; scratch = scratch p t k }
-
-pub exact : (p : Project) → Laws poster → IsTopology p → IsSound p → p.dirt ≡ [] → IsExact p
+exact : (p : Project) → Laws poster → IsTopology p → IsSound p → p.dirt ≡ [] → IsExact p
 exact p L t s clean = record {
   points = λ r row e a b q. clean_points poster p s clean r row e a b q;
   features = λ r row e a. clean_whole poster L p s clean r row e a;
   live = λ r a b x found. let row = t.made.ruled r a b x found in clean_live poster p s clean r row.0 row.1 a b x found;
 }
+
+pub sound_headline : (p : Project) → Laws poster → IsTopology p → IsSound p → SoundHeadline p
+sound_headline p L t s = record { sound = s; headline = headline p t s; clean = exact p L t s }
+
+pub invariant : (p : Project) → Laws poster → IsTopology p → IsSound p → IsSettled p → Invariant p
+invariant p L t s k = record { sound = s; settled = k; headline = headline p t s; clean = exact p L t s; scratch = scratch p t k }
 
 -- no session has a step
 pub begun : (p : Project) (ss : List KeptSession) → ss ≡ [] → IsWorld p ss

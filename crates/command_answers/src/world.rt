@@ -4,7 +4,7 @@ ghost use Rattle.topology_terms.specs.Settled.{IsSettled};
 ghost use Rattle.topology_terms.specs.Sound.{IsSound};
 ghost use Rattle.script_terms.specs.State.{empty_state};
 ghost use Rattle.script_terms.specs.Keeping.{IsKeeping};
-ghost use Rattle.script_terms.specs.Headline.{Headline, Invariant, IsExact};
+ghost use Rattle.script_terms.specs.Headline.{Invariant, SoundHeadline};
 
 use edit_session::Sessions;
 use rule_core::Work;
@@ -55,26 +55,19 @@ impl World {
         }
     }
 
-    /// The law of every state: where it is sound, the headline holds; where it is settled too, and has no dirt, the errors, marks
+    /// The law of every state: where it is sound, the headline holds, and with no dirt the errors say exactly what is broken at
+    /// every point and for every feature, and each is of a live feature; where it is settled too, and has no dirt, the errors, marks
     /// aside, are those of one full validation from scratch; its lists stand in order; and the sessions' steps fit one another and
     /// what stands.
     pub fn headline_law(&self)
-        ensures sound { IsSound self.now.project → Headline self.now.project }
+        ensures sound { IsSound self.now.project → SoundHeadline self.now.project }
         ensures invariant { IsSound self.now.project → IsSettled self.now.project → Invariant self.now.project }
         ensures ordered { IsOrdered self.now.project }
         ensures keeping { IsKeeping self.now }
     {
-        self.topology.topology_law();
-        self.topology.order_law();
-    }
-
-    /// The law of a sound state with no dirt: at every point and for every feature the errors say exactly what is broken, and each
-    /// is of a live feature.
-    pub fn clean_law(&self)
-        ensures { IsSound self.now.project → self.now.project.dirt ≡ [] → IsExact self.now.project }
-    {
         poster_law();
         self.topology.topology_law();
+        self.topology.order_law();
     }
 
     /// The topology.

@@ -2,10 +2,9 @@
 use Rattle.std.proofs.Common.{◌≡◌, ℤ, pos, ◌*ℤ◌, ◌↔◌, arith, sym, ◌∙◌, true, false}
 use Rattle.std.proofs.lemmas.Int.{ints}
 use Rattle.std.proofs.lemmas.Bool.{false≢true}
-use Rattle.plane_terms.specs.Point.{Place}
+use Rattle.plane_terms.specs.Point.{Place, point_at}
 use Rattle.plane_terms.specs.Segment.{Segment, IsSegment, OnSegment, comes_before}
 use Rattle.plane_terms.specs.Share.{turn}
-use Rattle.plane_terms.proofs.Points.{point_at}
 use Rattle.cell_laws.proofs.AtPlaces.{on_all_at}
 use Rattle.cell_laws.proofs.OnLine.{Upto, from_lo, to_hi, on_from_order, at_itself}
 use Rattle.cell_laws.proofs.Shares.{before_not, read_not_before}

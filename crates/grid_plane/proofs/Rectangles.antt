@@ -4,10 +4,9 @@ use Rattle.std.specs.Bool.{Decides}
 use Rattle.std.proofs.lemmas.Bool.Decides.{Decides-and, Decides-like}
 use Rattle.std.proofs.lemmas.Int.{ints, clamps}
 use Rattle.std.specs.Int.{int_max, int_min}
-use Rattle.plane_terms.specs.Point.{Place, Point, IsAt}
+use Rattle.plane_terms.specs.Point.{Place, Point, IsAt, point, point_at}
 use Rattle.plane_terms.specs.Rectangle.{Rectangle, RectHolds, RectsMeet, IsWithin, IsProper, is_within, rects_meet, rect_at, join_of}
 use Rattle.plane_terms.specs.Rectangle.{part_of}
-use Rattle.plane_terms.proofs.Points.{point, point_at}
 use Rattle.number_laws.proofs.Order.{le_from_scaled, scaled_le}
 use Rattle.number_laws.proofs.Tests.{Decides-int_le}
 use Rattle.grid_plane.specs.Rectangles.{HoldsAt, IsJoin, IsPart}

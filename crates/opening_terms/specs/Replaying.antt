@@ -9,7 +9,7 @@
 --   whole                a script that is told, within the limit, is answered whole, and the status is 0 or 1; or it is 5
 --   long                 of a longer one the lines within the limit are answered, and the status is 10; or it is 5
 --
--- In every state of a run from a sound start the headline holds, and from a settled one the invariant (`WritesRun`). Source: own.
+-- In every state of a run from a sound start the headline holds, and from a sound and settled one the invariant (`WritesRun`). Source: own.
 use Rattle.std.specs.Prelude.{ℕ, ◌≡◌, ◌≢◌, ◌≤◌, ◌<◌, ◌⊎◌, Bool, true, false, List, [], codes, length, take, Option, Some}
 use Rattle.topology_terms.specs.Project.{Project, empty_project}
 use Rattle.outside_terms.specs.Faults.{Rose}

@@ -6,11 +6,10 @@ use Rattle.std.proofs.lemmas.Bool.{false≢true}
 use Rattle.std.proofs.lemmas.Int.{ints}
 use Rattle.std.proofs.lemmas.List.Elements.{All-from_all_within, All-contains}
 use Rattle.std.specs.Option.{option_map}
-use Rattle.plane_terms.specs.Point.{Place, Point, IsAt}
+use Rattle.plane_terms.specs.Point.{Place, Point, IsAt, point_at}
 use Rattle.plane_terms.specs.Rectangle.{Rectangle}
 use Rattle.plane_terms.specs.Dirt.{Covers}
 use Rattle.plane_terms.specs.Cell.{InCells, HavePoints}
-use Rattle.plane_terms.proofs.Points.{point_at}
 use Rattle.topology_terms.specs.Feature.{Feature, feature_at, place}
 use Rattle.topology_terms.specs.Broken.{Row, BrokenAt, BrokenWhole}
 use Rattle.topology_terms.specs.Entry.{Entry, entry_at, has_key, HasCellsAt, IsAscending}

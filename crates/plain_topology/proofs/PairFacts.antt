@@ -7,9 +7,8 @@ use Rattle.std.proofs.lemmas.List.Elements.{Contains-push, Contains-push_cases, 
 use Rattle.std.proofs.lemmas.List.Elements.{Contains-get_or}
 use Rattle.std.proofs.lemmas.List.{take_more, drop_more}
 use Rattle.plane_terms.specs.Lists.{Every, EveryPair}
-use Rattle.plane_terms.specs.Point.{Place, Point, IsAt}
+use Rattle.plane_terms.specs.Point.{Place, Point, IsAt, point_at}
 use Rattle.plane_terms.proofs.ListLemmas.{every_append}
-use Rattle.plane_terms.proofs.Points.{point_at}
 use Rattle.topology_terms.specs.Feature.{Feature, feature_at, place, IsAscending}
 use Rattle.topology_terms.specs.Broken.{BrokenAt}
 use Rattle.plain_topology.specs.Plain.{feature_of, features_of, row_of, Breaks, AreRising, IsPairBelow, AreAscending}

@@ -6,7 +6,7 @@ use Rattle.std.proofs.lemmas.Int.{ints}
 use Rattle.std.proofs.lemmas.Bool.{false≢true}
 use Rattle.std.proofs.lemmas.Bool.Decides.{nat_tests}
 use Rattle.plane_terms.specs.Lists.{Every, SomeOf}
-use Rattle.plane_terms.specs.Point.{Point}
+use Rattle.plane_terms.specs.Point.{Point, point_at}
 use Rattle.plane_terms.specs.Rectangle.{rects_meet}
 use Rattle.plane_terms.specs.Segment.{Segment, IsSegment, OnSegment}
 use Rattle.plane_terms.specs.Polygon.{IsInClosure}
@@ -17,7 +17,6 @@ use Rattle.plane_terms.specs.declared.op.Op.{Op}
 use Rattle.plane_terms.specs.declared.op.Op.TheVariants.{Over, AtLeast, Zero}
 use Rattle.plane_terms.specs.declared.kind.Kind.{Kind}
 use Rattle.plane_terms.specs.declared.kind.Kind.TheVariants as shapes
-use Rattle.plane_terms.proofs.Points.{point_at}
 use Rattle.plane_terms.proofs.ListLemmas.{some_or_none, every_filter, every_map}
 use Rattle.topology_terms.specs.Feature.{Feature, Side, is_on_side, sides, place, env}
 use Rattle.topology_terms.specs.Plans.{near, none_covers, none_inside, has_parts}

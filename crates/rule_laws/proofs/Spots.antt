@@ -5,7 +5,7 @@ use Rattle.std.specs.List.{list_any}
 use Rattle.std.proofs.lemmas.Int.{ints}
 use Rattle.std.proofs.lemmas.Bool.{false≢true}
 use Rattle.plane_terms.specs.Lists.{Every, SomeOf, how_many, is_odd, AreMany}
-use Rattle.plane_terms.specs.Point.{Place, Point, IsAt, same_place}
+use Rattle.plane_terms.specs.Point.{Place, Point, IsAt, same_place, point_at}
 use Rattle.plane_terms.specs.Rectangle.{RectHolds}
 use Rattle.plane_terms.specs.Segment.{Segment, IsSegment, OnSegment, cross}
 use Rattle.plane_terms.specs.Polygon.{IsInside, counts}
@@ -14,7 +14,6 @@ use Rattle.plane_terms.specs.Cell.{InCell, InCells, HavePoints, at_place}
 use Rattle.plane_terms.specs.declared.kind.Kind.{Kind}
 use Rattle.plane_terms.specs.Share.{turn}
 use Rattle.plane_terms.specs.declared.kind.Kind.TheVariants as shapes
-use Rattle.plane_terms.proofs.Points.{point_at}
 use Rattle.topology_terms.specs.Feature.{Feature, sides, place, env}
 use Rattle.topology_terms.specs.Together.{ends, sides_all, ends_all}
 use Rattle.topology_terms.specs.Tests.{holds_at, is_inside_at, in_order_once, segments_at, ends_at}

@@ -7,14 +7,13 @@ use Rattle.std.proofs.lemmas.Bool.{false≢true}
 use Rattle.std.proofs.lemmas.Bool.Decides.{Decides-and, Decides-or, Decides-int_eq}
 use Rattle.std.proofs.lemmas.Int.{ints, clamps}
 use Rattle.plane_terms.specs.Lists.{Every, SomeOf}
-use Rattle.plane_terms.specs.Point.{Place, Point, IsAt, same_place}
+use Rattle.plane_terms.specs.Point.{Place, Point, IsAt, same_place, point_at}
 use Rattle.plane_terms.specs.Rectangle.{Rectangle}
 use Rattle.plane_terms.specs.Segment.{Segment, IsSegment, OnSegment, IsBetween, Overlap, overlap, is_in_line, comes_before, box_of}
 use Rattle.plane_terms.specs.Line.{holds_place, box_holds}
 use Rattle.plane_terms.specs.Share.{turn, one_side, share_on_line, is_beside, is_parallel, has_end_on, share_of}
 use Rattle.plane_terms.specs.declared.share.Share.{Share}
 use Rattle.plane_terms.specs.declared.share.Share.TheVariants.{Nothing, Along, Cross, Touch}
-use Rattle.plane_terms.proofs.Points.{point_at}
 use Rattle.topology_terms.specs.Tests.{has_end_at, holds_at}
 use Rattle.number_laws.proofs.Ring.{num, ◌⊖◌, ◌⊗◌, same_by}
 use Rattle.number_laws.proofs.Order.{cases_order_ℤ, zero_unscaled, le_from_scaled}

@@ -2,14 +2,13 @@
 use Rattle.std.proofs.Common.{◌≡◌, ◌↔◌, inl, inr, Bool, true, false, refl, List, [], ◌∷◌, map}
 use Rattle.std.specs.Prelude.{flat_map, filter, cond}
 use Rattle.plane_terms.specs.Lists.{Every, SomeOf}
-use Rattle.plane_terms.specs.Point.{Point}
+use Rattle.plane_terms.specs.Point.{Point, point_at}
 use Rattle.plane_terms.specs.Segment.{Segment, IsSegment, OnSegment, box_of}
 use Rattle.plane_terms.specs.Cell.{Cell, InCell, InCells, HasPoint, HavePoints, on_segment, out_of_segment}
 use Rattle.plane_terms.specs.Carve.{carve_of}
 use Rattle.plane_terms.specs.Polygon.{IsInside, IsInClosure}
 use Rattle.plane_terms.specs.declared.kind.Kind.{Kind}
 use Rattle.plane_terms.specs.declared.kind.Kind.TheVariants as shapes
-use Rattle.plane_terms.proofs.Points.{point_at}
 use Rattle.topology_terms.specs.Feature.{Feature, sides}
 use Rattle.topology_terms.specs.Cells.{uncovered, inside, outside, out_of_segments, box_meets}
 use Rattle.topology_terms.specs.Plans.{area_left, sides_left}

@@ -8,14 +8,13 @@ use Rattle.std.proofs.lemmas.Bool.Decides.{Decides-and, nat_tests}
 use Rattle.std.proofs.lemmas.Int.{ints, clamps}
 use Rattle.std.proofs.lemmas.List.Folds.{list_any-append}
 use Rattle.plane_terms.specs.Lists.{Every, how_many, is_odd}
-use Rattle.plane_terms.specs.Point.{Place}
+use Rattle.plane_terms.specs.Point.{Place, point_at}
 use Rattle.plane_terms.specs.Rectangle.{Rectangle, IsWithin, rect_at, is_within}
 use Rattle.plane_terms.specs.Segment.{Segment, IsSegment, box_of}
 use Rattle.plane_terms.specs.Share.{turn}
 use Rattle.plane_terms.specs.Line.{holds_place, box_holds}
 use Rattle.plane_terms.specs.Polygon.{counts}
 use Rattle.plane_terms.proofs.ListLemmas.{how_many_joined}
-use Rattle.plane_terms.proofs.Points.{point_at}
 use Rattle.plane_terms.proofs.Truths.{both_parts}
 use Rattle.number_laws.proofs.Order.{product_at_least, cases_order_ℤ}
 use Rattle.number_laws.proofs.Ring.{num, ◌⊖◌, ◌⊗◌, same_by}

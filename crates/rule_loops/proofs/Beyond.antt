@@ -6,11 +6,10 @@ use Rattle.std.proofs.lemmas.Int.{ints}
 use Rattle.std.proofs.lemmas.Bool.{false≢true}
 use Rattle.std.proofs.lemmas.Bool.Decides.{Decides-and}
 use Rattle.plane_terms.specs.Lists.{SomeOf}
-use Rattle.plane_terms.specs.Point.{Place, Point}
+use Rattle.plane_terms.specs.Point.{Place, Point, point_at}
 use Rattle.plane_terms.specs.Rectangle.{Rectangle, RectHolds, rect_at, is_within}
 use Rattle.plane_terms.specs.Segment.{Segment, OnSegment}
 use Rattle.plane_terms.specs.declared.kind.Kind.TheVariants as shapes
-use Rattle.plane_terms.proofs.Points.{point_at}
 use Rattle.topology_terms.specs.Feature.{Feature, sides, env}
 use Rattle.topology_terms.specs.Tests.{covers}
 use Rattle.number_laws.proofs.Tests.{Decides-int_le}

@@ -6,12 +6,11 @@ use Rattle.std.proofs.lemmas.Int.{ints}
 use Rattle.std.proofs.lemmas.List.{take-append-drop}
 use Rattle.std.proofs.lemmas.Option.{slice_get_read}
 use Rattle.plane_terms.specs.Lists.{Every, SomeOf}
-use Rattle.plane_terms.specs.Point.{Point}
+use Rattle.plane_terms.specs.Point.{Point, point_at}
 use Rattle.plane_terms.specs.Segment.{Segment, IsSegment, IsBetween, OnSegment, cross}
 use Rattle.plane_terms.specs.Share.{turn}
 use Rattle.plane_terms.specs.Line.{holds_place}
 use Rattle.plane_terms.specs.Cell.{Cell, InCells, on_segment}
-use Rattle.plane_terms.proofs.Points.{point_at}
 use Rattle.plane_terms.proofs.ListLemmas.{every_right, SomeOf-append_left, SomeOf-append_right}
 use Rattle.topology_terms.specs.Feature.{Feature, sides}
 use Rattle.topology_terms.specs.Cells.{out_of_segments}

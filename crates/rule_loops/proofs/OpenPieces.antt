@@ -6,12 +6,11 @@ use Rattle.std.specs.Prelude.{slice_get, ◌&&◌, not}
 use Rattle.std.proofs.lemmas.Int.{ints}
 use Rattle.std.proofs.lemmas.Bool.{false≢true, cases_lt}
 use Rattle.plane_terms.specs.Lists.{Every, SomeOf}
-use Rattle.plane_terms.specs.Point.{Point}
+use Rattle.plane_terms.specs.Point.{Point, point_at}
 use Rattle.plane_terms.specs.Cell.{Cell, InCell, InCells, HasPoint, box_round}
 use Rattle.plane_terms.specs.Rectangle.{Rectangle, IsProper}
 use Rattle.topology_terms.specs.Feature.{Feature, sides}
 use Rattle.topology_terms.specs.Cells.{outside}
-use Rattle.plane_terms.proofs.Points.{point_at}
 use Rattle.plane_terms.proofs.ListLemmas.{every_append, every_left, every_got}
 use Rattle.cell_laws.proofs.GridLines.{x_over_holds, y_over_holds, y_under_holds, x_under_holds}
 use Rattle.rule_loops.specs.Open.{IsInEach, chosen, outsides}

@@ -4,12 +4,11 @@ use Rattle.std.specs.Prelude.{◌||◌}
 use Rattle.std.specs.List.{filter, list_any}
 use Rattle.std.proofs.lemmas.Bool.{false≢true}
 use Rattle.plane_terms.specs.Lists.{SomeOf}
-use Rattle.plane_terms.specs.Point.{Place, Point, IsAt}
+use Rattle.plane_terms.specs.Point.{Place, Point, IsAt, point_at}
 use Rattle.plane_terms.specs.Segment.{Segment, IsSegment, OnSegment, SharePoint}
 use Rattle.plane_terms.specs.Share.{AreSame, MeetOnce}
 use Rattle.plane_terms.specs.Cell.{Cell, HasPoint, InCells, HavePoints, meet_of, on_segment, out_of_place}
 use Rattle.plane_terms.specs.Carve.{kept}
-use Rattle.plane_terms.proofs.Points.{point_at}
 use Rattle.plane_terms.proofs.Truths.{both_parts}
 use Rattle.topology_terms.specs.Cells.{uncovered, in_common, on_both, off_places}
 use Rattle.cell_laws.proofs.Decision.{has_point-true}

@@ -7,11 +7,10 @@ use Rattle.std.proofs.lemmas.Option.{get_or_from_slice_get, slice_get_within}
 use Rattle.plane_terms.specs.Lists.{how_many, is_odd}
 use Rattle.plane_terms.proofs.ListLemmas.{how_many_joined}
 use Rattle.plane_terms.proofs.Truths.{same_by_truth}
-use Rattle.plane_terms.specs.Point.{Place}
+use Rattle.plane_terms.specs.Point.{Place, point_at}
 use Rattle.plane_terms.specs.Rectangle.{rect_at, is_within}
 use Rattle.plane_terms.specs.Segment.{Segment, IsSegment, OnSegment, is_in_line, box_of}
 use Rattle.plane_terms.specs.Line.{holds_place, box_holds}
-use Rattle.plane_terms.proofs.Points.{point_at}
 use Rattle.grid_plane.specs.Rectangles.{HoldsAt}
 use Rattle.cell_laws.proofs.OnLine.{at_itself}
 use Rattle.rule_laws.proofs.Tests.{place_from, place_test}

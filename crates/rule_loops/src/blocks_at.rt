@@ -3,7 +3,7 @@ ghost use Rattle.plane_terms.specs.Lists.{how_many, is_odd};
 ghost use Rattle.plane_terms.specs.Line.{holds_place};
 ghost use Rattle.plane_terms.specs.Polygon.{counts};
 ghost use Rattle.plane_terms.specs.Shape.{segments_of};
-ghost use Rattle.plane_terms.proofs.Points.{point_at};
+ghost use Rattle.plane_terms.specs.Point.{point_at};
 ghost use Rattle.topology_terms.specs.Tests as terms;
 ghost use Rattle.rule_loops.specs.Blocks.{block_count, block_of, reaches_below};
 ghost use Rattle.rule_loops.specs.Views.{up_to_three};

@@ -1,9 +1,8 @@
 ghost use Rattle.std.specs.Prelude.{◌≡◌, ◌↔◌, ◌≤ℤ◌, ◌<ℤ◌, IsTrue};
 ghost use Rattle.plane_terms.specs.Lists.{how_many, is_odd};
 ghost use Rattle.plane_terms.specs.Line.{holds_place};
-ghost use Rattle.plane_terms.specs.Point.{same_place};
+ghost use Rattle.plane_terms.specs.Point.{same_place, point_at};
 ghost use Rattle.plane_terms.specs.Polygon.{counts};
-ghost use Rattle.plane_terms.proofs.Points.{point_at};
 ghost use Rattle.plane_terms.specs.Shape as planes;
 ghost use Rattle.topology_terms.specs.Tests as terms;
 ghost use Rattle.rule_loops.specs.Views.{up_to_three};

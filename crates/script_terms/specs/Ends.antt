@@ -16,7 +16,8 @@
 -- EndsAsUsage k status   it was written, or a prefix of it
 -- IsComplete s k code    with no fault counted and a script within the limit the whole text is written and the status is 0 or 1, or it is 5
 --
--- In every state of a run from a sound start the headline holds, and from a settled one the invariant (`WritesRun`). Source: own.
+-- In every state of a run from a sound start the headline holds, and from a sound and settled one the invariant (`WritesRun`). Of a source or a
+-- sink that does not tell its text, nothing ties the text that is spoken of to it. Source: own.
 use Rattle.std.specs.Prelude.{ℕ, ◌≡◌, ◌<◌, ◌≤◌, ◌⊎◌, Bool, true, false, List, [], ◌∷◌, ◌++◌, codes, map, length, take, Some, String, string_bytes}
 use Rattle.std.specs.Io.KnownBytes.{Appends}
 use Rattle.std.specs.declared.alloc.Global.{Global}

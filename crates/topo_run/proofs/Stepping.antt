@@ -15,7 +15,7 @@ use Rattle.script_terms.specs.Reply.{Judged, reply_text}
 use Rattle.script_terms.specs.Reply as replies
 use Rattle.script_terms.specs.State.{State}
 use Rattle.script_terms.specs.Answer.{Answers, IsDone}
-use Rattle.script_terms.specs.Headline.{Headline, Invariant}
+use Rattle.script_terms.specs.Headline.{SoundHeadline, Invariant}
 use Rattle.script_terms.proofs.Runs.{answers_by}
 use Rattle.script_terms.specs.Run.{Reads, Faulty, Step, is_refusal}
 use Rattle.reply_text.specs.declared.reply.Reply.{Reply}
@@ -77,9 +77,9 @@ tried s t Rules r h = none_tried (refusal_of s Rules) s t Rules r (λ d. ap judg
 
 -- ---- what a state keeps of the one before
 pub keeps_by : (s t : State) → (IsSound s.project → IsSound t.project) → (IsSettled s.project → IsSettled t.project)
-    → (IsSound t.project → Headline t.project) → (IsSound t.project → IsSettled t.project → Invariant t.project) → Keeps s t
+    → (IsSound t.project → SoundHeadline t.project) → (IsSound t.project → IsSettled t.project → Invariant t.project) → Keeps s t
 keeps_by s t sound settled headline invariant = record {
-  sound = λ k. record { sound = sound k; headline = headline (sound k) };
+  sound = λ k. headline (sound k);
   invariant = λ k l. invariant (sound k) (settled l);
 }
 

@@ -4,7 +4,7 @@ ghost use Rattle.text_terms.specs.Lines.{lines_of, without_cr};
 ghost use Rattle.topology_terms.specs.Project.{IsOrdered};
 ghost use Rattle.topology_terms.specs.Settled.{IsSettled};
 ghost use Rattle.topology_terms.specs.Sound.{IsSound};
-ghost use Rattle.script_terms.specs.Headline.{Headline, Invariant};
+ghost use Rattle.script_terms.specs.Headline.{Invariant, SoundHeadline};
 ghost use Rattle.script_terms.specs.Keeping.{IsKeeping};
 ghost use Rattle.script_terms.specs.Run.{Step, IsPrefix, WritesPrefix};
 ghost use Rattle.outside_terms.specs.Faults.{Rose};
@@ -157,7 +157,7 @@ impl Replayer {
 
     /// The laws of its state.
     pub(crate) fn state_law(&self)
-        ensures sound { IsSound self.now.state.project → Headline self.now.state.project }
+        ensures sound { IsSound self.now.state.project → SoundHeadline self.now.state.project }
         ensures invariant { IsSound self.now.state.project → IsSettled self.now.state.project → Invariant self.now.state.project }
         ensures ordered { IsOrdered self.now.state.project }
         ensures keeping { IsKeeping self.now.state }

@@ -10,13 +10,12 @@
 use Rattle.std.specs.Prelude.{ℕ, Bool, true, false, ◌&&◌, not, List, [], ◌∷◌, ◌++◌, map, filter}
 use Rattle.std.specs.List.{list_any}
 use Rattle.plane_terms.specs.Lists.{how_many, is_odd}
-use Rattle.plane_terms.specs.Point.{Place, same_place}
+use Rattle.plane_terms.specs.Point.{Place, same_place, point_at}
 use Rattle.plane_terms.specs.Segment.{Segment}
 use Rattle.plane_terms.specs.Cell.{Cell, on_segment}
 use Rattle.plane_terms.specs.Carve.{carve_of}
 use Rattle.plane_terms.specs.Polygon.{counts}
 use Rattle.plane_terms.specs.Line.{holds_place}
-use Rattle.plane_terms.proofs.Points.{point_at}
 use Rattle.topology_terms.specs.Feature.{Feature, sides}
 use Rattle.topology_terms.specs.Together.{sides_all, ends_all}
 use Rattle.topology_terms.specs.Cells.{inside, outside}

@@ -1,7 +1,7 @@
 -- Worked rows, told by the sentences and computed by the cuttings.
 use Rattle.std.proofs.Common.{◌≡◌, ℕ, ℤ, pos, negsuc, false, List, [], ◌∷◌, Some, refl, inl, inr, arith, lit<}
 use Rattle.std.proofs.lemmas.Int.{ints}
-use Rattle.plane_terms.specs.Point.{Place, Point}
+use Rattle.plane_terms.specs.Point.{Place, Point, point}
 use Rattle.plane_terms.specs.Rectangle.{RectHolds}
 use Rattle.plane_terms.specs.Shape.{envelope_of}
 use Rattle.plane_terms.specs.HalfPlane.{HalfPlane, x_over, x_under, x_is, y_is}
@@ -9,7 +9,6 @@ use Rattle.plane_terms.specs.Decide.{has_point, parts_allow, pair_allows, parts_
 use Rattle.plane_terms.specs.Polygon.{IsInside, OnBoundary}
 use Rattle.plane_terms.specs.declared.op.Op.TheVariants.{Over}
 use Rattle.plane_terms.specs.declared.kind.Kind.TheVariants as shapes
-use Rattle.plane_terms.proofs.Points.{point}
 use Rattle.topology_terms.specs.Feature.{Feature, Side, feature_at, sides, env}
 use Rattle.topology_terms.specs.Broken.{Row, BrokenAt}
 use Rattle.topology_terms.specs.Plans.{IsCutting}

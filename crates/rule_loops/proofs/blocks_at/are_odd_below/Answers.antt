@@ -3,7 +3,7 @@ use Rattle.std.specs.Prelude.{not}
 use Rattle.plane_terms.specs.Polygon.{counts}
 use Rattle.plane_terms.specs.Segment.{Segment}
 use Rattle.plane_terms.specs.Shape.{segments_of}
-use Rattle.plane_terms.proofs.Points.{point_at}
+use Rattle.plane_terms.specs.Point.{point_at}
 use Rattle.rule_loops.proofs.Below.{odd_first, odd_later, odd_end}
 use Rattle.rule_loops.proofs.blocks_at.are_odd_below.Goals.{then-are_odd, else-are_odd}
 use Rattle.rule_loops.proofs.blocks_at.are_odd_below.Goals as goal

@@ -2,7 +2,7 @@ use Rattle.std.proofs.Common.{◌≡◌, ◌+◌, cond}
 use Rattle.plane_terms.specs.Lists.{how_many, is_odd}
 use Rattle.plane_terms.specs.Polygon.{counts}
 use Rattle.plane_terms.specs.Shape.{segments_of}
-use Rattle.plane_terms.proofs.Points.{point_at}
+use Rattle.plane_terms.specs.Point.{point_at}
 use Rattle.rule_loops.specs.Blocks.{left_from}
 use Rattle.rule_loops.proofs.blocks_at.are_odd_below.Given as goal
 

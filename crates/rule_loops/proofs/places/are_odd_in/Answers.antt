@@ -1,7 +1,7 @@
 use Rattle.std.proofs.Common.{sym, ◌∙◌, true, false}
 use Rattle.plane_terms.specs.Segment.{Segment}
 use Rattle.plane_terms.specs.Polygon.{counts}
-use Rattle.plane_terms.proofs.Points.{point_at}
+use Rattle.plane_terms.specs.Point.{point_at}
 use Rattle.rule_loops.proofs.Spots.{odd_more}
 use Rattle.rule_loops.proofs.places.are_odd_in.Goals.{then-is_below, else-is_below}
 use Rattle.rule_loops.proofs.places.are_odd_in.Goals as goal

@@ -2,10 +2,9 @@ use Rattle.std.proofs.Common.{◌≡◌, pos, arith, sym, ap, ◌∙◌, to_z, o
 use Rattle.std.specs.Prelude.{int_lt}
 use Rattle.std.proofs.lemmas.Int.{ints}
 use Rattle.std.proofs.lemmas.Bool.{false≢true}
-use Rattle.plane_terms.specs.Point.{Place}
+use Rattle.plane_terms.specs.Point.{Place, point_at}
 use Rattle.cell_laws.proofs.Counted.{counted, not_counted}
 use Rattle.cell_laws.proofs.OnLine.{at_itself}
-use Rattle.plane_terms.proofs.Points.{point_at}
 use Rattle.rule_loops.proofs.places.is_below.Goals as goal
 
 pub returns-then-is_from_to : goal.returns-then-is_from_to
