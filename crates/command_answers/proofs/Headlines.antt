@@ -37,7 +37,7 @@ pub sound_headline : (p : Project) → Laws poster → IsTopology p → IsSound 
 sound_headline p L t s = record { sound = s; headline = headline p t s; clean = exact p L t s }
 
 pub invariant : (p : Project) → Laws poster → IsTopology p → IsSound p → IsSettled p → Invariant p
-invariant p L t s k = record { sound = s; settled = k; headline = headline p t s; clean = exact p L t s; scratch = scratch p t k }
+invariant p L t s k = record { base = sound_headline p L t s; settled = k; scratch = scratch p t k }
 
 -- no session has a step
 pub begun : (p : Project) (ss : List KeptSession) → ss ≡ [] → IsWorld p ss
