@@ -11,7 +11,7 @@ bin = $(PREFIX)/bin
 lib = $(PREFIX)/lib/topo
 man = $(PREFIX)/share/man/man1
 doc = $(PREFIX)/share/doc/topo
-tools = from-ogr to-gis draw answers report changes tiles towns
+tools = from-ogr to-gis draw answers report changes lapsed tiles towns
 commands = $(addprefix topo-,$(tools))
 
 .PHONY: install uninstall package program

@@ -22,7 +22,7 @@ class Installed(Case):
     def used(self, root: str) -> None:
         """Goes from a GeoPackage to layers with what is installed below the root."""
         lib, share = os.path.join(root, 'usr/lib/topo'), os.path.join(root, 'usr/share')
-        words = {name: os.path.join(lib, name) for name in ('from-ogr', 'to-gis', 'answers', 'draw', 'report', 'changes', 'tiles', 'towns')}
+        words = {name: os.path.join(lib, name) for name in ('from-ogr', 'to-gis', 'answers', 'draw', 'report', 'changes', 'lapsed', 'tiles', 'towns')}
         self.assertEqual(self.run_words([os.path.join(share, 'doc/topo/examples/make_parcels'), 'p.gpkg']).status, 0)
         script = self.run_words([words['from-ogr'], 'p.gpkg', '--grid', '0.001', '--rule', 'polygon_must_not_overlap', 'parcels']).out
         replies = self.run_words([os.path.join(root, 'usr/bin/topo'), 'replay'], script.encode()).out
@@ -38,6 +38,7 @@ class Installed(Case):
             out.write(self.run_words([os.path.join(root, 'usr/bin/topo'), 'replay'], tile.read()).out)
         self.assertEqual(self.run_words([words['tiles'], 'merge', 'tiles']).out, 'total 0\n')
         self.assertIn('changes PROJECT TABLE SCRIPT NEW_TABLE', self.run_words([words['changes'], '--help']).out)
+        self.assertIn('lapsed EARLIER LATER', self.run_words([words['lapsed'], '--help']).out)
         self.assertIn('class parcels polygon', self.run_words([words['towns'], '--script', '7', '3']).out)
         for name in words:
             self.assertEqual(os.readlink(os.path.join(root, 'usr/bin/topo-' + name)), '/usr/lib/topo/' + name)
