@@ -1,5 +1,5 @@
 -- What a binary search by key finds in an ascending list.
-use Rattle.std.proofs.Common.{◌≡◌, inl, inr, ℕ, ◌<◌, arith, List, Some, None, length, get_or, slice_get, ap, sym, ◌∙◌, take, drop}
+use Rattle.std.proofs.Common.{◌≡◌, inl, inr, ℕ, ◌<◌, arith, List, Some, None, length, get_or, slice_get, ap, sym, ◌∙◌}
 use Rattle.std.proofs.lemmas.Option.{slice_get_cases}
 use Rattle.std.specs.Ordering.{MatchOrdering, ordering_index}
 use Rattle.std.specs.declared.cmp.Ordering.{Ordering}
@@ -12,13 +12,10 @@ use Rattle.sound_laws.proofs.Searches as searches
 use Rattle.sound_laws.proofs.Searches.{order_of}
 use Rattle.sound_laws.proofs.Lists.{keys}
 use Rattle.error_store.specs.Keys.{Key, key_of, IsBefore}
-use Rattle.error_store.specs.Changing.{parts, IsHere, IsGap}
-use Rattle.error_store.proofs.Places.{every_front, every_rest}
-use Rattle.plane_terms.proofs.ListLemmas.{every_map}
-use Rattle.std.specs.List.Sorted.{IsSearchInRange, IsBinarySearchResult}
-use Rattle.std.specs.declared.result.Result.{Result}
-use Rattle.std.specs.declared.result.Result.TheVariants.{Ok, Err}
-use Rattle.std.specs.Prelude.{MatchResult}
+
+-- the key, as a list by keys has it
+abbrev pub parts : Key → terms.Key
+parts k = (k.rule, k.subject, k.other)
 
 -- how an entry's key stands to this one
 abbrev pub entry_order : Key → Entry → Ordering
@@ -50,44 +47,3 @@ pub not_there : (es : List Entry) (k : Key) (i : ℕ) → IsPartitionPoint (λ e
     → entry_at es k.rule k.subject k.other ≡ None
 unfolding entry_at
 not_there es k i p = searches.not_there by_key keys es (parts k) i p
-
--- ---- where it stands, or would stand
-equal_key : (k : Key) (e : Entry) → entry_order k e ≡ Equal → terms.key_of e ≡ parts k
-equal_key k e o = elim (keys.compare (terms.key_of e) (parts k)) [
-  | inl l ↦ absurd (let w = searches.ordered_as by_key keys Less (terms.key_of e) (parts k) l ∙ o in cc)
-  | inr d ↦ elim d [
-    | inl l ↦ absurd (let w = searches.ordered_as by_key keys Greater (terms.key_of e) (parts k) l ∙ o in cc)
-    | inr same ↦ same
-  ]
-]
-
-lesser_key : (k : Key) (e : Entry) → entry_order k e ≡ Less → terms.IsBefore (terms.key_of e) (parts k)
-lesser_key k e o = elim (keys.compare (terms.key_of e) (parts k)) [
-  | inl l ↦ l
-  | inr d ↦ elim d [
-    | inl l ↦ absurd (let w = searches.ordered_as by_key keys Greater (terms.key_of e) (parts k) l ∙ o in cc)
-    | inr same ↦ absurd (let w = searches.ordered_as by_key keys Equal (terms.key_of e) (parts k) same ∙ o in cc)
-  ]
-]
-
-greater_key : (k : Key) (e : Entry) → entry_order k e ≡ Greater → terms.IsBefore (parts k) (terms.key_of e)
-greater_key k e o = elim (keys.compare (terms.key_of e) (parts k)) [
-  | inl l ↦ absurd (let w = searches.ordered_as by_key keys Less (terms.key_of e) (parts k) l ∙ o in cc)
-  | inr d ↦ elim d [
-    | inl l ↦ l
-    | inr same ↦ absurd (let w = searches.ordered_as by_key keys Equal (terms.key_of e) (parts k) same ∙ o in cc)
-  ]
-]
-
-pub here_or_gap : (r : Result ℕ ℕ) (es : List Entry) (k : Key) → IsAscending es → IsSearchInRange r (length es)
-    → IsBinarySearchResult (entry_order k) es r → MatchResult r (IsHere k es) (IsGap k es)
-here_or_gap (Ok i) es k u b h = record { within = b; own = λ d. equal_key k (get_or es i d) (h d) }
-here_or_gap (Err i) es k u b h =
-    let p = h (rises es k u) in
-    record {
-      within = b;
-      before = every_map (λ (e : Entry). entry_order k e ≡ Less) (λ (e : Entry). terms.IsBefore (terms.key_of e) (parts k))
-          (λ e o. lesser_key k e o) (take i es) (every_front (λ (e : Entry). entry_order k e ≡ Less) es i p.0);
-      after = every_map (λ (e : Entry). entry_order k e ≡ Greater) (λ (e : Entry). terms.IsBefore (parts k) (terms.key_of e))
-          (λ e o. greater_key k e o) (drop i es) (every_rest (λ (e : Entry). entry_order k e ≡ Greater) es i p.1);
-    }

@@ -1,20 +1,30 @@
 -- The frames of errors stay in the index.
-use Rattle.std.proofs.Common.{◌≡◌, ◌⊎◌, inl, inr, ℕ, ◌<◌, ◌≤◌, ◌+◌, zero, suc, Bool, List, [], ◌∷◌, Option, Some, None, length, take, drop, get_or, set, arith, refl, sym, ◌∙◌, ap, subst, Contains}
+use Rattle.std.proofs.Common.{◌≡◌, ◌⊎◌, inl, inr, ℕ, ◌<◌, ◌≤◌, ◌+◌, zero, suc, List, [], ◌∷◌, Option, Some, None, length, take, drop, get_or, arith, refl, sym, ◌∙◌, ap, subst, Contains}
 use Rattle.std.specs.Prelude.{OnOk, OnErr}
 use Rattle.std.specs.declared.result.Result.{Result}
 use Rattle.std.specs.declared.result.Result.TheVariants.{Ok, Err}
-use Rattle.std.specs.List.{AllWithin}
+use Rattle.std.specs.BTreeMap.{BTreeMap, IsOrdered, get, is_at}
+use Rattle.std.specs.Global.{Vec}
+use Rattle.std.specs.Map.{values_of, lookup}
+use Rattle.std.specs.declared.ops.Bound.{Bound}
+use Rattle.std.specs.declared.ops.Bound.TheVariants.{Excluded}
 use Rattle.std.proofs.lemmas.Bool.{cases_lt}
 use Rattle.std.proofs.lemmas.List.{take_more, take-append-drop, get_or_default}
 use Rattle.plane_terms.specs.Lists.{SomeOf}
-use Rattle.plane_terms.proofs.ListLemmas.{every_map, every_append, SomeOf-append_left, SomeOf-append_right}
+use Rattle.plane_terms.proofs.ListLemmas.{every_map, every_append, SomeOf-append_left, SomeOf-append_right, SomeOf-either}
+use Rattle.plane_terms.specs.Rectangle.{Rectangle}
+use Rattle.topology_terms.specs.Changes.{SameButMark, IsUnchanged}
 use Rattle.topology_terms.specs.Entry.{Entry, by_key, entry_at, IsAscending}
-use Rattle.sound_laws.proofs.Keyed.{each_found}
-use Rattle.sound_laws.proofs.Lists.{keys, every_found}
+use Rattle.sound_laws.proofs.Keyed.{each_found, some_found, found_some}
+use Rattle.sound_laws.proofs.Lists.{keys, every_found, entry_key}
 use Rattle.validation_laws.specs.Replaced.{AreRemarked, IsReplaced}
 use Rattle.grid_index.specs.declared.placed.Placed.{Placed}
 use Rattle.grid_index.specs.Near.{HoldsSame, Gains, Loses}
-use Rattle.error_store.specs.Runs.{HasNoneOf, IsOf, IsNext}
+use Rattle.error_store.specs.Pairs.{pair, pair_cmp, entries_in, all_entries, AreRuns}
+use Rattle.error_store.specs.Runs.{HasNoneFrom, IsNextRun}
+use Rattle.error_store.specs.declared.pair.Pair.{Pair}
+use Rattle.error_store.proofs.Pairs.{Run, of_pairs, this_pair, found_in, runs_ascend, at_pair}
+use Rattle.error_store.proofs.Walking.{IsFrom}
 use Rattle.error_store.proofs.Leaving.{selected_or_not}
 use Rattle.error_store.specs.Frames.{framed_of, IsFrame, AreFramed}
 
@@ -140,40 +150,104 @@ framed_replaced ps selected old fresh new u h f g =
       | inr c ↦ every_found (λ (x : Entry). Contains ps (framed_of x)) old k.0 k.1 k.2 n f (sym (h.kept k.0 k.1 k.2 c) ∙ e)
     ])
 
--- after a mark
-pub framed_marked : (ps : List Placed) (es : List Entry) (i : ℕ) (e : Entry) (on : Bool) → e ≡ get_or es i e → AreFramed ps es
-    → AreFramed ps (set es i (record e { marked = on }))
-framed_marked ps [] i e on is f = tt
-framed_marked ps (x ∷ es) zero e on is f = (subst (λ (y : Entry). Contains ps (framed_of y)) (sym is) f.0, f.1)
-framed_marked ps (x ∷ es) (suc i) e on is f = (f.0, framed_marked ps es i e on is f.1)
+-- after marks
+pub framed_like : (ps : List Placed) (old new : List Entry) → IsAscending new
+    → ((r a b : ℕ) → SameButMark (entry_at old r a b) (entry_at new r a b)) → AreFramed ps old → AreFramed ps new
+unfolding entry_at
+framed_like ps old new u same f = each_found by_key keys (λ (e : Entry). Contains ps (framed_of e)) new u (λ k n e.
+    by k.0 k.1 k.2 n (entry_at old k.0 k.1 k.2) refl e (subst (λ o. SameButMark (entry_at old k.0 k.1 k.2) o) e (same k.0 k.1 k.2)))
+  where
+    place : (d e : Entry) → d.subject ≡ e.subject → IsUnchanged d e → framed_of d ≡ framed_of e
+    place d e s h = made d.frame d.subject e.frame e.subject h.frame s
+      where
+        made : (r : Rectangle) (a : ℕ) (t : Rectangle) (b : ℕ) → r ≡ t → a ≡ b → let p : Placed = record { rect = r; handle = a } in let q : Placed = record { rect = t; handle = b } in p ≡ q
+        made r a t b x y = rw (x, y) refl
+
+    by : (r a b : ℕ) (n : Entry) (o : Option Entry) → entry_at old r a b ≡ o → entry_at new r a b ≡ Some n → SameButMark (entry_at old r a b) (Some n)
+        → Contains ps (framed_of n)
+    by r a b n None e k h = absurd (subst (λ x. SameButMark x (Some n)) e h)
+    by r a b n (Some d) e k h =
+        let g = subst (λ x. SameButMark x (Some n)) e h in
+        let c = every_found (λ (x : Entry). Contains ps (framed_of x)) old r a b d f e in
+        subst (Contains ps) (place d n ((entry_key old r a b d e).1 ∙ sym (entry_key new r a b n k).1) g) c
 
 -- ---- whether one stands
-abbrev pub IsNotAt : Placed → Entry → Type 0
-IsNotAt p e = ¬ (framed_of e ≡ p)
+pub not_yet : (q : Placed) (es : List Entry) (i : ℕ) (e : Entry) → i < length es → e ≡ get_or es i e → ¬ (IsFrame (take i es) q)
+    → ¬ (framed_of e ≡ q) → ¬ (IsFrame (take (i + 1) es) q)
+not_yet q es i e l is n other s =
+    elim (SomeOf-either (λ (x : Entry). framed_of x ≡ q) (take i es) (get_or es i e ∷ []) (subst (λ fs. IsFrame fs q) (take_more es i e l) s)) [
+      | inl k ↦ n k
+      | inr k ↦ elim k [ inl p ↦ other (subst (λ (x : Entry). framed_of x ≡ q) (sym is) p) | inr z ↦ absurd z ]
+    ]
 
--- an error of another subject does not stand there
-off_at : (p : Placed) (handles : List ℕ) (e : Entry) → Contains handles p.handle → ¬ (IsOf handles e) → IsNotAt p e
-off_at p handles e c n q = n (subst (Contains handles) (ap (λ (x : Placed). x.handle) (sym q)) c)
-
-pub none_past : (p : Placed) (handles : List ℕ) (es : List Entry) (i k : ℕ) → Contains handles p.handle → AllWithin (IsNotAt p) es 0 i
-    → HasNoneOf handles es i k → AllWithin (IsNotAt p) es 0 k
-none_past p handles es i k c h g m d low high = elim (cases_lt m i) [
-  | inl l ↦ h m d low l
-  | inr l ↦ off_at p handles (get_or es m d) c (g m d l high)
+frame_in : (rs : List Run) (p : Pair) (v : Vec Entry) (q : Placed) → lookup (is_at (pair_cmp p)) rs ≡ Some v → IsFrame v.items q
+    → IsFrame (entries_in (values_of rs)) q
+frame_in [] p v q e f = let w : None ≡ Some v = e in absurd cc
+frame_in (x ∷ rs) p v q e f = elim (this_pair p x.0) [
+  | inl t ↦
+      let k : Some x.1 ≡ Some v = rw t.0 at e in
+      let same : x.1 ≡ v = cc in
+      SomeOf-append_left (λ (y : Entry). framed_of y ≡ q) x.1.items (entries_in (values_of rs))
+      (subst (λ (u : Vec Entry). IsFrame u.items q) (sym same) f)
+  | inr t ↦ SomeOf-append_right (λ (y : Entry). framed_of y ≡ q) x.1.items (entries_in (values_of rs)) (frame_in rs p v q (rw t.0 at e) f)
 ]
 
-pub none_one : (p : Placed) (handles : List ℕ) (es : List Entry) (i k : ℕ) (e : Entry) → Contains handles p.handle
-    → AllWithin (IsNotAt p) es 0 i → IsNext handles es i k → e ≡ get_or es k e → IsNotAt p e → AllWithin (IsNotAt p) es 0 (k + 1)
-none_one p handles es i k e c h n is other m d low high = elim (cases_lt m k) [
-  | inl l ↦ none_past p handles es i k c h n.none m d low l
-  | inr l ↦
-      let same : m ≡ k = omega arith in
-      subst (λ j. IsNotAt p (get_or es j d)) (sym same) (subst (IsNotAt p) (is ∙ get_or_default es k e d n.within) other)
+pub frame_of_run : (m : BTreeMap Pair (Vec Entry)) (p : Pair) (v : Vec Entry) (q : Placed) → get pair_cmp m p ≡ Some v → IsFrame v.items q
+    → IsFrame (all_entries m) q
+frame_of_run m p v q e f = frame_in m.entries p v q e f
+
+-- the frame is that of an error of this run
+pub record IsRunAt (m : BTreeMap Pair (Vec Entry)) (q : Placed) : Type 0 where
+  pub place : Pair
+  pub run : Vec Entry
+  pub there : get pair_cmp m place ≡ Some run
+  pub own : place.subject ≡ q.handle
+  pub frame : IsFrame run.items q
+
+run_of_frame : (m : BTreeMap Pair (Vec Entry)) → IsOrdered pair_cmp m → AreRuns m → (q : Placed) → IsFrame (all_entries m) q → IsRunAt m q
+unfolding entry_at
+run_of_frame m s h q f =
+    let e = some_found by_key keys (λ (x : Entry). framed_of x ≡ q) (all_entries m) (runs_ascend m s h) f in
+    by e.0 (get pair_cmp m (pair e.0.rule e.0.subject)) refl
+    (sym (at_pair m s h e.0.rule e.0.subject e.0.other) ∙ e.1) e.2
+  where
+    by : (e : Entry) (o : Option (Vec Entry)) → get pair_cmp m (pair e.rule e.subject) ≡ o
+        → found_in (get pair_cmp m (pair e.rule e.subject)) e.rule e.subject e.other ≡ Some e → framed_of e ≡ q → IsRunAt m q
+    by e None k there is = let w : None ≡ Some e = subst (λ o. found_in o e.rule e.subject e.other ≡ Some e) k there in absurd cc
+    by e (Some v) k there is = record {
+      place = pair e.rule e.subject;
+      run = v;
+      there = k;
+      own = ap (λ (x : Placed). x.handle) is;
+      frame = found_some by_key keys (λ (x : Entry). framed_of x ≡ q) v.items (e.rule, e.subject, e.other) e
+          (subst (λ o. found_in o e.rule e.subject e.other ≡ Some e) k there) is;
+    }
+
+-- where an error of its handle has the frame, its pair is still to come
+abbrev pub StandsFrom : Placed → BTreeMap Pair (Vec Entry) → Bound Pair → Type 0
+StandsFrom q m lo = (p : Pair) (v : Vec Entry) → get pair_cmp m p ≡ Some v → p.subject ≡ q.handle → IsFrame v.items q → IsFrom lo p
+
+its_own : (a b : ℕ) → b ≡ a → Contains (a ∷ []) b
+its_own a b e = (0, omega arith, sym e)
+
+pub stands_on : (q : Placed) (m : BTreeMap Pair (Vec Entry)) (lo : Bound Pair) (p : Pair) (v : Vec Entry) → IsNextRun (q.handle ∷ []) m lo p v
+    → ¬ (IsFrame v.items q) → StandsFrom q m lo → StandsFrom q m (Excluded p)
+stands_on q m lo p v n other h x w e own f = elim (of_pairs p x) [
+  | inl l ↦ l.0
+  | inr d ↦ elim d [
+    | inl k ↦
+        let two : Some v ≡ Some w = sym n.run ∙ (ap (get pair_cmp m) k.1 ∙ e) in
+        let same : v ≡ w = cc in
+        absurd (other (subst (λ (u : Vec Entry). IsFrame u.items q) (sym same) f))
+    | inr k ↦
+        let none : None ≡ Some w = sym (n.none x (h x w e own f) k.1 (its_own q.handle x.subject own)) ∙ e in
+        absurd cc
+  ]
 ]
 
-pub none_of_all : (P : Entry → Type 0) (es : List Entry) → AllWithin (λ (e : Entry). ¬ (P e)) es 0 (length es) → ¬ (SomeOf P es)
-none_of_all P [] h s = s
-none_of_all P (e ∷ es) h s = elim s [
-  | inl p ↦ h 0 e (omega arith) (omega arith) p
-  | inr q ↦ none_of_all P es (λ k d low high. h (suc k) d (omega arith) (omega arith)) q
-]
+pub stands_not : (q : Placed) (m : BTreeMap Pair (Vec Entry)) (lo : Bound Pair) → IsOrdered pair_cmp m → AreRuns m
+    → HasNoneFrom (q.handle ∷ []) m lo → StandsFrom q m lo → ¬ (IsFrame (all_entries m) q)
+stands_not q m lo s r none h f =
+    let at = run_of_frame m s r q f in
+    let w : None ≡ Some at.run = sym (none at.place (h at.place at.run at.there at.own at.frame) (its_own q.handle at.place.subject at.own)) ∙ at.there in
+    cc

@@ -1,13 +1,16 @@
-mod Changing
+mod Collected
+mod Cutting
 mod Dropping
+mod Exchange
 mod Finding
 mod Framing
+mod Joined
 mod Leaving
+mod MarkedRuns
+pub mod Listed
 mod Marking
-mod Merging
 mod Noted
-pub mod Places
-mod Selected
+pub mod Pairs
+mod Remarking
 mod Staying
-mod Steps
-pub mod Walking
+mod Walking

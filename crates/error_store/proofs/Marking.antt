@@ -18,7 +18,7 @@ use Rattle.error_store.specs.Marking.{IsMarkSet}
 abbrev pub remark : Bool → Entry → Entry
 remark on e = record e { marked = on }
 
-same_all : (o : Option Entry) → SameButMark o o
+pub same_all : (o : Option Entry) → SameButMark o o
 same_all None = tt
 same_all (Some e) = record { whole = refl; frame = refl; cells = refl }
 
@@ -30,7 +30,7 @@ same_behind : (b : Bool) (e : Entry) (o p : Option Entry) → SameButMark o p �
 same_behind true e o p h = same_all (Some e)
 same_behind false e o p h = h
 
-alike : (es : List Entry) (i : ℕ) (e : Entry) (on : Bool) → e ≡ get_or es i e → (r a b : ℕ)
+pub alike : (es : List Entry) (i : ℕ) (e : Entry) (on : Bool) → e ≡ get_or es i e → (r a b : ℕ)
     → SameButMark (entry_at es r a b) (entry_at (set es i (remark on e)) r a b)
 unfolding entry_at
 alike [] i e on h r a b = tt

@@ -1,66 +1,79 @@
--- Frames of the errors that pass a test, noted one after another.
-use Rattle.std.proofs.Common.{◌≡◌, ℕ, ◌<◌, ◌≤◌, ◌+◌, zero, suc, Bool, true, false, cond, List, [], ◌∷◌, ◌++◌, length, take, get_or, map, arith, refl, sym, ◌∙◌, ap, subst, inl, inr}
-use Rattle.std.specs.List.{filter, AllWithin}
-use Rattle.std.proofs.Math.Seq.{take-length}
-use Rattle.std.proofs.lemmas.Bool.{cases_Bool}
+-- Frames of the errors that pass a test, noted run after run.
+use Rattle.std.proofs.Common.{◌≡◌, ◌≢◌, ℕ, ◌<◌, ◌+◌, Bool, true, false, ◌==◌, List, [], ◌∷◌, ◌++◌, length, take, get_or, map, append_assoc, arith, refl, sym, ◌∙◌, ap}
+use denote.Ref.{Bor}
+use Rattle.std.specs.List.{filter, flat_map}
+use Rattle.std.specs.Map.{values_of}
+use Rattle.std.proofs.lemmas.Bool.{ne_eqb}
+use Rattle.std.proofs.lemmas.Bool.Decides.{nat_tests}
 use Rattle.std.proofs.lemmas.List.{take_more, map-append}
 use Rattle.std.proofs.lemmas.List.Elements.{filter-append}
+use Rattle.plane_terms.specs.Lists.{Every}
+use Rattle.plane_terms.proofs.ListLemmas.{every_map}
 use Rattle.topology_terms.specs.Entry.{Entry}
 use Rattle.grid_index.specs.declared.placed.Placed.{Placed}
-use Rattle.error_store.specs.Runs.{is_of, IsOf, HasNoneOf, IsNext}
 use Rattle.error_store.specs.Frames.{framed_of, frames_if}
-use Rattle.error_store.proofs.Leaving.{within, among}
+use Rattle.error_store.specs.Pairs.{entries_in, IsOf}
+use Rattle.error_store.specs.declared.pair.Pair.{Pair}
+use Rattle.error_store.proofs.Collected.{spread_more}
+use Rattle.error_store.proofs.Pairs.{Run}
 
--- ---- a list is filtered up to a place
-none_passed : {X : Type 0} (p : X → Bool) (xs : List X) (k : ℕ) → AllWithin (λ x. p x ≡ false) xs 0 k → filter p (take k xs) ≡ []
-none_passed p xs zero h = refl
-none_passed p [] (suc k) h = refl
-none_passed p (x ∷ xs) (suc k) h = ap (λ b. cond b (x ∷ filter p (take k xs)) (filter p (take k xs))) (h 0 x (omega arith) (omega arith))
-    ∙ none_passed p xs k (λ j d low high. h (suc j) d (omega arith) (omega arith))
+pub filter_whole : {X : Type 0} (p : X → Bool) (xs : List X) → Every (λ x. p x ≡ true) xs → filter p xs ≡ xs
+filter_whole p [] h = refl
+filter_whole p (x ∷ xs) h = rw h.0 (ap (λ ys. x ∷ ys) (filter_whole p xs h.1))
 
--- what does not pass may be left out
-pub filter_on : {X : Type 0} (p : X → Bool) (xs : List X) (i k : ℕ) → i ≤ k → AllWithin (λ x. p x ≡ false) xs i k
-    → filter p (take k xs) ≡ filter p (take i xs)
-filter_on p xs zero k l h = none_passed p xs k h
-filter_on p xs (suc i) zero l h = absurd (omega arith)
-filter_on p [] (suc i) (suc k) l h = refl
-filter_on p (x ∷ xs) (suc i) (suc k) l h =
-    ap (λ ys. cond (p x) (x ∷ ys) ys) (filter_on p xs i k (omega arith) (λ j d low high. h (suc j) d (omega arith) (omega arith)))
+pub filter_nothing : {X : Type 0} (p : X → Bool) (xs : List X) → Every (λ x. p x ≡ false) xs → filter p xs ≡ []
+filter_nothing p [] h = refl
+filter_nothing p (x ∷ xs) h = rw h.0 (filter_nothing p xs h.1)
 
 -- ---- one frame more
+pub noted_one : (es : List Entry) (i : ℕ) (e : Entry) (front ps : List Placed) → i < length es → e ≡ get_or es i e
+    → ps ≡ front ++ map framed_of (take i es) → ps ++ framed_of e ∷ [] ≡ front ++ map framed_of (take (i + 1) es)
+noted_one es i e front ps l is h =
+    rw h (append_assoc front (map framed_of (take i es)) (framed_of e ∷ []) ∙ ap (λ qs. front ++ qs)
+    (sym (ap (map framed_of) (take_more es i e l ∙ ap (λ x. take i es ++ x ∷ []) (sym is)) ∙ map-append framed_of (take i es) (e ∷ []))))
+
+-- ---- the frames of one run more
+abbrev pub spread : List (Bor (List Entry)) → List Entry
+spread found = flat_map (λ (r : Bor (List Entry)). r.now) found
+
+pub noted_run : (found : List (Bor (List Entry))) (i : ℕ) (x : Bor (List Entry)) (ps : List Placed) → i < length found → x ≡ get_or found i x
+    → ps ≡ map framed_of (spread (take i found)) → ps ++ map framed_of x.now ≡ map framed_of (spread (take (i + 1) found))
+noted_run found i x ps l is h =
+    rw h (sym (map-append framed_of (spread (take i found)) x.now) ∙ ap (map framed_of)
+    (sym (ap spread (take_more found i x l ∙ ap (λ y. take i found ++ y ∷ []) (sym is)) ∙ spread_more (take i found) x x.now refl)))
+
+-- ---- those of a rule
+abbrev pub is_under : ℕ → Entry → Bool
+is_under n e = e.rule == n
+
+own_rule : (n : ℕ) (p : Pair) → p.rule ≡ n → (e : Entry) → IsOf p.rule p.subject e → is_under n e ≡ true
+own_rule n p r e o = let same : e.rule ≡ n = o.rule ∙ r in grind (arith, nat_tests)
+
+other_rule : (n : ℕ) (p : Pair) → p.rule ≢ n → (e : Entry) → IsOf p.rule p.subject e → is_under n e ≡ false
+other_rule n p d e o = ne_eqb e.rule n (λ s. d (sym o.rule ∙ s))
+
+pub all_under : (n : ℕ) (p : Pair) (es : List Entry) → p.rule ≡ n → Every (IsOf p.rule p.subject) es → Every (λ (e : Entry). is_under n e ≡ true) es
+all_under n p es r o = every_map (IsOf p.rule p.subject) (λ (e : Entry). is_under n e ≡ true) (own_rule n p r) es o
+
+pub none_under : (n : ℕ) (p : Pair) (es : List Entry) → p.rule ≢ n → Every (IsOf p.rule p.subject) es → Every (λ (e : Entry). is_under n e ≡ false) es
+none_under n p es d o = every_map (IsOf p.rule p.subject) (λ (e : Entry). is_under n e ≡ false) (other_rule n p d) es o
+
 frames_append : (p : Entry → Bool) (es fs : List Entry) → frames_if p (es ++ fs) ≡ frames_if p es ++ frames_if p fs
 frames_append p es fs = ap (map framed_of) (filter-append p es fs) ∙ map-append framed_of (filter p es) (filter p fs)
 
-one_frame : (b : Bool) (e : Entry) → b ≡ true → map framed_of (cond b (e ∷ []) []) ≡ framed_of e ∷ []
-one_frame b e t = rw t refl
+pub under_own : (n : ℕ) (q : Run) (rs : List Run) (ps all : List Placed) → q.0.rule ≡ n → Every (IsOf q.0.rule q.0.subject) q.1.items
+    → ps ++ frames_if (is_under n) (entries_in (values_of (q ∷ rs))) ≡ all
+    → (ps ++ map framed_of q.1.items) ++ frames_if (is_under n) (entries_in (values_of rs)) ≡ all
+under_own n q rs ps all r o h =
+    let rest = entries_in (values_of rs) in
+    append_assoc ps (map framed_of q.1.items) (frames_if (is_under n) rest)
+    ∙ (ap (λ qs. ps ++ qs) (sym (frames_append (is_under n) q.1.items rest
+    ∙ ap (λ es. map framed_of es ++ frames_if (is_under n) rest) (filter_whole (is_under n) q.1.items (all_under n q.0 q.1.items r o)))) ∙ h)
 
-noted_more : (p : Entry → Bool) (es : List Entry) (i : ℕ) (e : Entry) → i < length es → e ≡ get_or es i e → p e ≡ true
-    → frames_if p (take (i + 1) es) ≡ frames_if p (take i es) ++ framed_of e ∷ []
-noted_more p es i e l is t =
-    ap (frames_if p) (take_more es i e l ∙ ap (λ x. take i es ++ x ∷ []) (sym is))
-    ∙ (frames_append p (take i es) (e ∷ []) ∙ ap (λ ps. frames_if p (take i es) ++ ps) (one_frame (p e) e t))
-
--- ---- those of some subjects
-not_of : (handles : List ℕ) (e : Entry) → ¬ (IsOf handles e) → is_of handles e ≡ false
-not_of handles e out = elim (cases_Bool (is_of handles e)) [
-  | inl t ↦ absurd (out (within handles e.subject t))
-  | inr t ↦ t
-]
-
-frames_on : (handles : List ℕ) (es : List Entry) (i k : ℕ) → i ≤ k → HasNoneOf handles es i k
-    → frames_if (is_of handles) (take k es) ≡ frames_if (is_of handles) (take i es)
-frames_on handles es i k l h =
-    ap (map framed_of) (filter_on (is_of handles) es i k l (λ j d low high. not_of handles (get_or es j d) (h j d low high)))
-
-pub noted_next : (handles : List ℕ) (es : List Entry) (from at : ℕ) (e : Entry) (q : Placed) (ps : List Placed) → IsNext handles es from at
-    → e ≡ get_or es at e → q ≡ framed_of e → ps ≡ frames_if (is_of handles) (take from es)
-    → ps ++ q ∷ [] ≡ frames_if (is_of handles) (take (at + 1) es)
-noted_next handles es from at e q ps n is own noted =
-    let of : is_of handles e ≡ true = among handles e.subject (subst (IsOf handles) (sym is) (n.here e)) in
-    let on : ps ≡ frames_if (is_of handles) (take at es) = noted ∙ sym (frames_on handles es from at n.on n.none) in
-    rw (own, on) (sym (noted_more (is_of handles) es at e n.within is of))
-
-pub noted_all : (handles : List ℕ) (es : List Entry) (from : ℕ) (ps : List Placed) → from ≤ length es → HasNoneOf handles es from (length es)
-    → ps ≡ frames_if (is_of handles) (take from es) → ps ≡ frames_if (is_of handles) es
-noted_all handles es from ps l h noted =
-    noted ∙ (sym (frames_on handles es from (length es) l h) ∙ ap (frames_if (is_of handles)) (take-length es))
+pub under_other : (n : ℕ) (q : Run) (rs : List Run) (ps all : List Placed) → q.0.rule ≢ n → Every (IsOf q.0.rule q.0.subject) q.1.items
+    → ps ++ frames_if (is_under n) (entries_in (values_of (q ∷ rs))) ≡ all
+    → ps ++ frames_if (is_under n) (entries_in (values_of rs)) ≡ all
+under_other n q rs ps all d o h =
+    let rest = entries_in (values_of rs) in
+    ap (λ qs. ps ++ qs) (sym (frames_append (is_under n) q.1.items rest
+    ∙ ap (λ es. map framed_of es ++ frames_if (is_under n) rest) (filter_nothing (is_under n) q.1.items (none_under n q.0 q.1.items d o)))) ∙ h

@@ -1,142 +1,226 @@
--- From place to place of an ascending list, past all errors that are of none of some subjects.
-use Rattle.std.proofs.Common.{◌≡◌, ◌⊎◌, inl, inr, ℕ, zero, suc, ◌<◌, ◌≤◌, ◌+◌, Bool, true, false, List, [], ◌∷◌, length, get_or, arith, Contains, subst, sym, ◌∙◌}
-use Rattle.std.specs.Prelude.{◌==◌, ◌&&◌, ◌||◌, nat_lt}
+-- From run to run of a map by pairs, past all that are of none of some subjects.
+use Rattle.std.proofs.Common.{◌≡◌, ◌⊎◌, inl, inr, ℕ, ◌<◌, ◌≤◌, ◌-◌, Bool, true, false, List, [], ◌∷◌, length, get_or, arith, Contains, refl, ap, subst, sym, ◌∙◌, Option, Some, None, cond}
+use Rattle.std.specs.Prelude.{nat_lt}
+use Rattle.std.specs.BTreeMap.{BTreeMap, get, is_at}
+use Rattle.std.specs.BTreeMap.Range.{IsRangeOf, IsFromStart, IsLeBy, entries_between, range_contains}
+use Rattle.std.specs.Global.{Vec}
+use Rattle.std.specs.List.{filter}
+use Rattle.std.specs.Map.{lookup}
+use Rattle.std.specs.Option.{IsSome}
+use Rattle.std.specs.Ordering.{is_gt}
+use Rattle.std.specs.declared.cmp.Ordering.TheVariants.{Less}
+use Rattle.std.specs.declared.ops.Bound.{Bound}
+use Rattle.std.specs.declared.ops.Bound.TheVariants.{Included, Excluded, Unbounded}
 use Rattle.std.proofs.lemmas.List.{get_or_default}
-use Rattle.std.specs.List.{HoldsAt}
 use Rattle.std.specs.List.Sorted.{IsStrictlyIncreasing, IsPartitionPoint, IsPartitionedBy}
 use Rattle.std.proofs.lemmas.List.Kept.{AllPairs-from_increasing}
-use Rattle.std.proofs.lemmas.Bool.{false≢true, cases_lt}
+use Rattle.std.proofs.lemmas.Bool.{cases_lt}
 use Rattle.std.proofs.lemmas.Bool.Decides.{nat_tests}
-use Rattle.plane_terms.proofs.ListLemmas.{every_at}
-use Rattle.topology_terms.specs.Entry.{Entry, IsKeyBelow, IsAscending}
-use Rattle.error_store.specs.Runs.{is_before, IsOf, IsLeastFrom, HasNoneOf, IsSkip}
+use Rattle.std.proofs.lemmas.Map.Views.{IsInRange-from_range_contains, range_contains-from_IsInRange}
+use Rattle.topology_terms.specs.Entry.{Entry}
+use Rattle.error_store.specs.Pairs.{pair, pair_cmp, IsPairBefore}
+use Rattle.error_store.specs.Runs.{IsLeastFrom, IsLastOff, HasNoneFrom, IsNextRun}
+use Rattle.error_store.specs.declared.pair.Pair.{Pair}
+use Rattle.error_store.proofs.Pairs.{Run, pairs_total, of_pairs, less_before, this_pair}
 
--- a test that each earlier entry passes too parts the list
-pub parted : (test : Entry → Bool) → ((e f : Entry) → IsKeyBelow e f → test f ≡ true → test e ≡ true) → (es : List Entry) → IsAscending es
-    → IsPartitionedBy test es
-parted test down [] u i j d upto short t = absurd (omega arith)
-parted test down (e ∷ es) u zero zero d upto short t = t
-parted test down (e ∷ es) u zero (suc j) d upto short t =
-    down e (get_or es j d) (every_at (IsKeyBelow e) es j d u.0 (omega arith)) t
-parted test down (e ∷ es) u (suc i) zero d upto short t = absurd (omega arith)
-parted test down (e ∷ es) u (suc i) (suc j) d upto short t = parted test down es u.1 i j d (omega arith) (omega arith) t
+-- ---- where a walk stands
+abbrev pub IsFrom : Bound Pair → Pair → Type 0
+IsFrom lo p = IsFromStart pair_cmp lo p
 
-before_too : (r a : ℕ) (e f : Entry) → IsKeyBelow e f → is_before r a f ≡ true → is_before r a e ≡ true
-before_too r a e f l t = grind (arith, nat_tests)
+-- q is p, or a later pair of its rule
+abbrev pub IsUpTo : Pair → Pair → Type 0
+IsUpTo p q = (q.rule ≡ p.rule) × (p.subject ≤ q.subject)
 
-pub before_parted : (r a : ℕ) (es : List Entry) → IsAscending es → IsPartitionedBy (is_before r a) es
-before_parted r a es u = parted (is_before r a) (before_too r a) es u
+later_still : (p q r : Pair) → IsPairBefore p q → IsPairBefore q r → IsPairBefore p r
+later_still p q r l m = by p.rule p.subject q.rule q.subject r.rule r.subject l m
+  where
+    by : (a b c d e f : ℕ) → (a < c) ⊎ ((a ≡ c) × (b < d)) → (c < e) ⊎ ((c ≡ e) × (d < f)) → (a < e) ⊎ ((a ≡ e) × (b < f))
+    by a b c d e f l m = grind arith
 
--- ---- the entries behind one
-abbrev IsUpTo : Entry → Entry → Type 0
-IsUpTo e f = (e.rule < f.rule) ⊎ ((e.rule ≡ f.rule) × (e.subject ≤ f.subject))
+behind_up_to : (p q r : Pair) → IsUpTo p q → IsPairBefore q r → IsPairBefore p r
+behind_up_to p q r u l = by p.rule p.subject q.rule q.subject r.rule r.subject u.0 u.1 l
+  where
+    by : (a b c d e f : ℕ) → c ≡ a → b ≤ d → (c < e) ⊎ ((c ≡ e) × (d < f)) → (a < e) ⊎ ((a ≡ e) × (b < f))
+    by a b c d e f s u l = grind arith
 
-up_to : (e f : Entry) → IsKeyBelow e f → IsUpTo e f
-up_to e f l = grind arith
+pub never : (p : Pair) → ¬ (IsPairBefore p p)
+never p l = elim l [ inl a ↦ absurd (omega (arith, a)) | inr b ↦ absurd (omega (arith, b.1)) ]
 
-behind : (es : List Entry) (i j : ℕ) (d : Entry) → IsAscending es → i ≤ j → j < length es → IsUpTo (get_or es i d) (get_or es j d)
-behind [] i j d u upto short = absurd (omega arith)
-behind (e ∷ es) zero zero d u upto short = inr (omega arith, omega arith)
-behind (e ∷ es) zero (suc j) d u upto short = up_to e (get_or es j d) (every_at (IsKeyBelow e) es j d u.0 (omega arith))
-behind (e ∷ es) (suc i) zero d u upto short = absurd (omega arith)
-behind (e ∷ es) (suc i) (suc j) d u upto short = behind es i j d u.1 (omega arith) (omega arith)
-
-abbrev pub Parts : ℕ → ℕ → List Entry → ℕ → Type 0
-Parts r s es k = IsPartitionPoint (λ (e : Entry). is_before r s e ≡ true) (λ (e : Entry). is_before r s e ≡ false) es k
-
--- an entry before the rule and the subject stands before the place of both
-beyond : (es : List Entry) (r s i k : ℕ) (e : Entry) → i < length es → e ≡ get_or es i e → is_before r s e ≡ true → Parts r s es k → i < k
-beyond es r s i k e l is t p = elim (cases_lt i k) [
-  | inl m ↦ m
-  | inr m ↦ absurd (false≢true (sym (subst (λ (f : Entry). is_before r s f ≡ false) (sym is) (p.1 i e m l)) ∙ t))
+pub before_less : (p q : Pair) → IsPairBefore p q → pair_cmp p q ≡ Less
+before_less p q l = elim (of_pairs p q) [
+  | inl a ↦ a.0
+  | inr s ↦ elim s [
+    | inl a ↦ absurd (never p (subst (IsPairBefore p) (sym a.1) l))
+    | inr a ↦ absurd (never p (later_still p q p l a.1))
+  ]
 ]
 
--- ---- where it is
-stays_here : (es : List Entry) (handles : List ℕ) (i : ℕ) → i < length es → HoldsAt (IsOf handles) es i → IsSkip handles es i i
-stays_here es handles i l h = record {
-  on = omega arith;
-  within = omega arith;
-  none = λ k d low high. absurd (omega arith);
-  here = λ _. h;
+-- the pair p is q, or stands before it
+not_above : (p q : Pair) → is_gt (pair_cmp p q) ≡ false → IsPairBefore p q ⊎ (p ≡ q)
+not_above p q t = elim (of_pairs p q) [
+  | inl a ↦ inl a.1
+  | inr s ↦ elim s [
+    | inl a ↦ inr a.1
+    | inr a ↦ let w : true ≡ false = rw a.0 at t in absurd cc
+  ]
+]
+
+pub from_on : (lo : Bound Pair) (p q : Pair) → IsFrom lo p → IsPairBefore p q → IsFrom lo q
+from_on Unbounded p q f l = tt
+from_on (Excluded a) p q f l = before_less a q (later_still a p q (less_before a p f) l)
+from_on (Included a) p q f l = elim (not_above a p f) [
+  | inl k ↦ rw (before_less a q (later_still a p q k l)) refl
+  | inr e ↦ rw (before_less a q (subst (λ (x : Pair). IsPairBefore x q) (sym e) l)) refl
+]
+
+-- ---- the first run of what is left
+pub record IsFirstRun (m : BTreeMap Pair (Vec Entry)) (lo : Bound Pair) (p : Pair) (v : Vec Entry) : Type 0 where
+  pub on : IsFrom lo p
+  pub run : get pair_cmp m p ≡ Some v
+  pub least : (q : Pair) → IsFrom lo q → IsSome (get pair_cmp m q) → IsLeBy pair_cmp p q
+
+pub first_in : (m : BTreeMap Pair (Vec Entry)) (lo : Bound Pair) (r t : List Run) (p : Pair) (v : Vec Entry)
+    → IsRangeOf pair_cmp lo Unbounded m r → r ≡ (p, v) ∷ t → IsFirstRun m lo p v
+first_in m lo r t p v is e =
+    let in_it = rw e at is in
+    record { on = in_it.1.0.0; run = in_it.1.1; least = λ q f s. in_it.2 q (f, tt) s }
+
+pub none_in_range : (m : BTreeMap Pair (Vec Entry)) (lo : Bound Pair) (r : List Run) → IsRangeOf pair_cmp lo Unbounded m r → r ≡ []
+    → (q : Pair) → IsFrom lo q → get pair_cmp m q ≡ None
+none_in_range m lo r is e q f = is.5 e q (f, tt)
+
+none_before : (m : BTreeMap Pair (Vec Entry)) (lo : Bound Pair) (p : Pair) (v : Vec Entry) → IsFirstRun m lo p v
+    → (q : Pair) → IsFrom lo q → IsPairBefore q p → get pair_cmp m q ≡ None
+none_before m lo p v first q f l = by (get pair_cmp m q) (first.least q f)
+  where
+    above : is_gt (pair_cmp p q) ≡ false → ⊥
+    above t = elim (not_above p q t) [
+      | inl k ↦ never p (later_still p q p k l)
+      | inr e ↦ never p (subst (λ (x : Pair). IsPairBefore x p) (sym e) l)
+    ]
+
+    by : (o : Option (Vec Entry)) → (IsSome o → IsLeBy pair_cmp p q) → o ≡ None
+    by None h = refl
+    by (Some w) h = absurd (above (h refl))
+
+pub next_here : (handles : List ℕ) (m : BTreeMap Pair (Vec Entry)) (lo : Bound Pair) (p : Pair) (v : Vec Entry) → IsFirstRun m lo p v
+    → Contains handles p.subject → IsNextRun handles m lo p v
+next_here handles m lo p v first c = record { on = first.on; chosen = c; run = first.run; none = λ q f l _. none_before m lo p v first q f l }
+
+-- ---- past the subjects that are not asked for
+not_same : (m n : ℕ) → m ≤ n → ¬ (n ≡ m) → m < n
+not_same m n l other = grind arith
+
+pub off_before : (handles : List ℕ) (p : Pair) (a : ℕ) → IsLeastFrom handles p.subject a → ¬ (a ≡ p.subject)
+    → IsLastOff handles p (pair p.rule (a - 1))
+off_before handles p a least other =
+    let further = not_same p.subject a least.beyond other in
+    record { rule = refl; on = omega arith; none = λ b c low high. let m = least.least b c low in absurd (omega arith) }
+
+pub off_all : (handles : List ℕ) (p : Pair) (a : ℕ) → ((b : ℕ) → Contains handles b → b < p.subject) → p.subject ≤ a
+    → IsLastOff handles p (pair p.rule a)
+off_all handles p a none l = record { rule = refl; on = l; none = λ b c low high. let m = none b c in absurd (omega arith) }
+
+-- ---- on the way from lo it has come to hi, and has passed no run of these subjects
+pub record IsPast (handles : List ℕ) (m : BTreeMap Pair (Vec Entry)) (lo hi : Bound Pair) : Type 0 where
+  pub on : (q : Pair) → IsFrom hi q → IsFrom lo q
+  pub none : (q : Pair) → IsFrom lo q → Contains handles q.subject → (get pair_cmp m q ≡ None) ⊎ IsFrom hi q
+
+pub past_none : (handles : List ℕ) (m : BTreeMap Pair (Vec Entry)) (lo : Bound Pair) → IsPast handles m lo lo
+past_none handles m lo = record { on = λ q f. f; none = λ q f c. inr f }
+
+pub past_off : (handles : List ℕ) (m : BTreeMap Pair (Vec Entry)) (lo hi : Bound Pair) (p q : Pair) (v : Vec Entry) → IsPast handles m lo hi
+    → IsFirstRun m hi p v → IsLastOff handles p q → IsPast handles m lo (Excluded q)
+past_off handles m lo hi p q v w first off = record {
+  on = λ x l. w.on x (from_on hi p x first.on (behind_up_to p q x (off.rule, off.on) (less_before q x l)));
+  none = λ x f c. elim (w.none x f c) [
+    | inl n ↦ inl n
+    | inr h ↦ elim (of_pairs q x) [
+      | inl a ↦ inr a.0
+      | inr s ↦ elim s [
+        | inl a ↦
+            let same : q.subject ≡ x.subject = ap (λ (z : Pair). z.subject) a.1 in
+            absurd (off.none x.subject c (omega (arith, off.on, same)) (omega (arith, same)))
+        | inr a ↦ elim (aside p q x off.rule a.1) [
+          | inl b ↦ inl (none_before m hi p v first x h b)
+          | inr k ↦ absurd (off.none x.subject c k.0 k.1)
+        ]
+      ]
+    ]
+  ];
+}
+  where
+    by : (a b c d e f : ℕ) → c ≡ a → (e < c) ⊎ ((e ≡ c) × (f < d)) → ((e < a) ⊎ ((e ≡ a) × (f < b))) ⊎ ((b ≤ f) × (f ≤ d))
+    by a b c d e f s l = elim l [
+      | inl k ↦ inl (inl (omega arith))
+      | inr k ↦ elim (cases_lt f b) [ inl j ↦ inl (inr (omega (arith, k.0), j)) | inr j ↦ inr (j, omega (arith, k.1)) ]
+    ]
+
+    aside : (p q x : Pair) → q.rule ≡ p.rule → IsPairBefore x q → IsPairBefore x p ⊎ ((p.subject ≤ x.subject) × (x.subject ≤ q.subject))
+    aside p q x s l = by p.rule p.subject q.rule q.subject x.rule x.subject s l
+
+pub past_all : (handles : List ℕ) (m : BTreeMap Pair (Vec Entry)) (lo hi : Bound Pair) → IsPast handles m lo hi
+    → ((q : Pair) → IsFrom hi q → get pair_cmp m q ≡ None) → HasNoneFrom handles m lo
+past_all handles m lo hi w none q f c = elim (w.none q f c) [ inl n ↦ n | inr h ↦ none q h ]
+
+pub past_next : (handles : List ℕ) (m : BTreeMap Pair (Vec Entry)) (lo hi : Bound Pair) (p : Pair) (v : Vec Entry) → IsPast handles m lo hi
+    → IsNextRun handles m hi p v → IsNextRun handles m lo p v
+past_next handles m lo hi p v w next = record {
+  on = w.on p next.on;
+  chosen = next.chosen;
+  run = next.run;
+  none = λ q f l c. elim (w.none q f c) [ inl n ↦ n | inr h ↦ next.none q h l c ];
 }
 
-own_subject : (es : List Entry) (handles : List ℕ) (i a : ℕ) (e : Entry) → i < length es → e ≡ get_or es i e → a ≡ e.subject
-    → Contains handles a → (d : Entry) → IsOf handles (get_or es i d)
-own_subject es handles i a e l is own c d =
-    subst (IsOf handles) (is ∙ get_or_default es i e d l) (subst (Contains handles) own c)
+-- ---- less is left of the map
+abbrev pub left_from : Bound Pair → List Run → ℕ
+left_from lo rs = length (entries_between pair_cmp lo Unbounded rs)
 
-pub skip_none : (es : List Entry) (handles : List ℕ) (i a : ℕ) (e : Entry) → i < length es → e ≡ get_or es i e → a ≡ e.subject
-    → Contains handles a → IsSkip handles es i i
-skip_none es handles i a e l is own c = stays_here es handles i l (own_subject es handles i a e l is own c)
+module _ (t u : Pair → Bool) (lets : (q : Pair) → u q ≡ true → t q ≡ true) where
+  one_more : (a b : Bool) (m n : ℕ) (xs ys : List Run) (x : Run) → (b ≡ true → a ≡ true) → length xs ≤ length ys
+      → length (cond b (x ∷ xs) xs) ≤ length (cond a (x ∷ ys) ys)
+  one_more true true m n xs ys x h l = omega arith
+  one_more true false m n xs ys x h l = omega arith
+  one_more false true m n xs ys x h l = let w : false ≡ true = h refl in absurd cc
+  one_more false false m n xs ys x h l = l
 
--- ---- to a later subject of the rule
-at_own_rule : (e : Entry) (s : ℕ) → e.subject < s → is_before e.rule s e ≡ true
-at_own_rule e s l = grind (arith, nat_tests)
+  not_more : (rs : List Run) → length (filter (λ (e : Run). u e.0) rs) ≤ length (filter (λ (e : Run). t e.0) rs)
+  not_more [] = omega arith
+  not_more (x ∷ rs) = one_more (t x.0) (u x.0) 0 0 (filter (λ (e : Run). u e.0) rs) (filter (λ (e : Run). t e.0) rs) x (lets x.0) (not_more rs)
 
-between_subjects : (handles : List ℕ) (e f : Entry) (s : ℕ) → IsLeastFrom handles e.subject s → IsUpTo e f → is_before e.rule s f ≡ true
-    → ¬ (IsOf handles f)
-between_subjects handles e f s least up t c =
-    let m = least.least f.subject c in
-    absurd (clash e.rule f.rule e.subject f.subject s up t m)
+  still_fewer : (a b : Bool) (xs ys : List Run) (x : Run) → (b ≡ true → a ≡ true) → length xs < length ys
+      → length (cond b (x ∷ xs) xs) < length (cond a (x ∷ ys) ys)
+  still_fewer true true xs ys x h l = omega arith
+  still_fewer true false xs ys x h l = omega arith
+  still_fewer false true xs ys x h l = let w : false ≡ true = h refl in absurd cc
+  still_fewer false false xs ys x h l = l
+
+  pub fewer : (rs : List Run) (p : Pair) (v : Vec Entry) → lookup (is_at (pair_cmp p)) rs ≡ Some v → t p ≡ true → u p ≡ false
+      → length (filter (λ (e : Run). u e.0) rs) < length (filter (λ (e : Run). t e.0) rs)
+  fewer [] p v e k n = let w : None ≡ Some v = e in absurd cc
+  fewer (x ∷ rs) p v e k n = elim (this_pair p x.0) [
+    | inl s ↦
+        let f : t x.0 ≡ true = subst (λ (z : Pair). t z ≡ true) s.1 k in
+        let g : u x.0 ≡ false = subst (λ (z : Pair). u z ≡ false) s.1 n in
+        let h = not_more rs in
+        rw (f, g) (omega arith)
+    | inr s ↦ still_fewer (t x.0) (u x.0) (filter (λ (e : Run). u e.0) rs) (filter (λ (e : Run). t e.0) rs) x (lets x.0)
+        (fewer rs p v (rw s.0 at e) k n)
+  ]
+
+pub less_left : (m : BTreeMap Pair (Vec Entry)) (lo : Bound Pair) (p q : Pair) (v : Vec Entry) → IsFrom lo p → get pair_cmp m p ≡ Some v
+    → IsUpTo p q → left_from (Excluded q) m.entries < left_from lo m.entries
+less_left m lo p q v f e u = fewer (range_contains pair_cmp lo Unbounded) (range_contains pair_cmp (Excluded q) Unbounded)
+    (λ x t.
+    let b = IsInRange-from_range_contains pairs_total (Excluded q) Unbounded x t in
+    range_contains-from_IsInRange pairs_total lo Unbounded x (from_on lo p x f (behind_up_to p q x u (less_before q x b.0)), tt))
+    m.entries p v e (range_contains-from_IsInRange pairs_total lo Unbounded p (f, tt)) (out (range_contains pair_cmp (Excluded q) Unbounded p) refl)
   where
-    clash : (r q a b s : ℕ) → (r < q) ⊎ ((r ≡ q) × (a ≤ b)) → (nat_lt q r || ((q == r) && nat_lt b s)) ≡ true → (a ≤ b → s ≤ b) → ⊥
-    clash r q a b s (inl l) t m = grind (arith, nat_tests)
-    clash r q a b s (inr l) t m = let n = m l.1 in grind (arith, nat_tests)
-
-pub skip_subject : (es : List Entry) (handles : List ℕ) (i k s : ℕ) (e : Entry) → IsAscending es → i < length es → e ≡ get_or es i e
-    → IsLeastFrom handles e.subject s → ¬ (s ≡ e.subject) → k ≤ length es → Parts e.rule s es k → IsSkip handles es i k
-skip_subject es handles i k s e u l is least other within p =
-    let further : e.subject < s = let m = least.beyond in not_same e.subject s m other in
-    let on = beyond es e.rule s i k e l is (at_own_rule e s further) p in
-    record {
-      on = omega arith;
-      within = within;
-      none = λ j d low high.
-          let up = subst (λ (x : Entry). IsUpTo x (get_or es j d)) (sym (is ∙ get_or_default es i e d l)) (behind es i j d u low (omega arith)) in
-          between_subjects handles e (get_or es j d) s least up (p.0 j d (omega arith) high);
-      here = λ z. absurd (omega arith);
-    }
-  where
-    not_same : (m n : ℕ) → m ≤ n → ¬ (n ≡ m) → m < n
-    not_same m n l other = grind arith
-
--- ---- to a later rule
-at_rule : (e : Entry) → is_before (e.rule + 1) 0 e ≡ true
-at_rule e = grind (arith, nat_tests)
-
-of_rule : (handles : List ℕ) (e f : Entry) → ((a : ℕ) → Contains handles a → a < e.subject) → IsUpTo e f → is_before (e.rule + 1) 0 f ≡ true
-    → ¬ (IsOf handles f)
-of_rule handles e f none up t c =
-    let m = none f.subject c in
-    absurd (clash e.rule f.rule e.subject f.subject up t m)
-  where
-    clash : (r q a b : ℕ) → (r < q) ⊎ ((r ≡ q) × (a ≤ b)) → (nat_lt q (r + 1) || ((q == (r + 1)) && nat_lt b 0)) ≡ true → b < a → ⊥
-    clash r q a b (inl l) t m = grind (arith, nat_tests)
-    clash r q a b (inr l) t m = grind (arith, nat_tests)
-
-pub skip_rule : (es : List Entry) (handles : List ℕ) (i k : ℕ) (e : Entry) → IsAscending es → i < length es → e ≡ get_or es i e
-    → ((a : ℕ) → Contains handles a → a < e.subject) → k ≤ length es → Parts (e.rule + 1) 0 es k → IsSkip handles es i k
-skip_rule es handles i k e u l is none within p =
-    let on = beyond es (e.rule + 1) 0 i k e l is (at_rule e) p in
-    record {
-      on = omega arith;
-      within = within;
-      none = λ j d low high.
-          let up = subst (λ (x : Entry). IsUpTo x (get_or es j d)) (sym (is ∙ get_or_default es i e d l)) (behind es i j d u low (omega arith)) in
-          of_rule handles e (get_or es j d) none up (p.0 j d (omega arith) high);
-      here = λ z. absurd (omega arith);
-    }
-
--- ---- one skip after another
-pub none_yet : (handles : List ℕ) (es : List Entry) (i : ℕ) → HasNoneOf handles es i i
-none_yet handles es i k d low high = absurd (omega arith)
-
-pub none_further : (handles : List ℕ) (es : List Entry) (i j k : ℕ) → HasNoneOf handles es i j → HasNoneOf handles es j k
-    → HasNoneOf handles es i k
-none_further handles es i j k h g m d low high = elim (cases_lt m j) [ inl l ↦ h m d low l | inr l ↦ g m d l high ]
-
-pub none_more : (handles : List ℕ) (es : List Entry) (i j k : ℕ) → k ≤ j → HasNoneOf handles es i j → HasNoneOf handles es i k
-none_more handles es i j k l h m d low high = h m d low (omega arith)
+    out : (b : Bool) → b ≡ range_contains pair_cmp (Excluded q) Unbounded p → range_contains pair_cmp (Excluded q) Unbounded p ≡ false
+    out false s = sym s
+    out true s =
+        let b = IsInRange-from_range_contains pairs_total (Excluded q) Unbounded p (sym s) in
+        absurd (never p (behind_up_to p q p u (less_before q p b.0)))
 
 -- ---- the least handle from one on
 pub handles_parted : (hs : List ℕ) (from : ℕ) → IsStrictlyIncreasing hs → IsPartitionedBy (λ a. nat_lt a from) hs

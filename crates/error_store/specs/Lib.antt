@@ -1,7 +1,8 @@
 pub mod Keys
+pub mod Cutting
+pub mod Exchange
+pub mod Pairs
 pub mod Partners
-pub mod Merging
 pub mod Marking
 pub mod Runs
-pub mod Changing
 pub mod Frames

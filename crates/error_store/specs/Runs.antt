@@ -1,18 +1,19 @@
--- Where the errors of some subjects stand in a list that ascends by key.
+-- Where the runs of some subjects stand in a map by pairs.
 --
--- is_before r a e         the entry e stands before those of the rule r and the subject a
--- is_of as e              the subject of e is one of as
+-- is_of as e              the subject of the entry e is one of as
 -- IsLeastFrom as from a   a is the least of as that is not below from
--- HasNoneOf as es i k     from the place i up to k there is no entry of one of the subjects as
--- IsSkip as es i k        at the place i there is an entry of one of the subjects as, and k is that place; or there is none from i up to k,
---                         which is a later place
--- IsNext as es i k        k is the first place from i on at which there is an entry of one of the subjects as
-use Rattle.std.specs.Prelude.{◌≡◌, ℕ, ◌<◌, ◌≤◌, Bool, ◌==◌, ◌&&◌, ◌||◌, nat_eq, nat_lt, List, length, Contains}
-use Rattle.std.specs.List.{AllWithin, HoldsAt, list_any}
+-- IsLastOff as p q        q is p, or a later pair of its rule, and no subject from that of p up to that of q is one of as
+-- HasNoneFrom as m lo     from lo on no pair of one of the subjects as has a run in m
+-- IsNextRun as m lo p v   from lo on p is the first pair of one of the subjects as that has a run in m, and v is that run
+use Rattle.std.specs.Prelude.{◌≡◌, ℕ, ◌≤◌, Bool, nat_eq, List, None, Some, Contains}
+use Rattle.std.specs.BTreeMap.{BTreeMap, get}
+use Rattle.std.specs.BTreeMap.Range.{IsFromStart}
+use Rattle.std.specs.Global.{Vec}
+use Rattle.std.specs.List.{list_any}
+use Rattle.std.specs.declared.ops.Bound.{Bound}
 use Rattle.topology_terms.specs.Entry.{Entry}
-
-abbrev pub is_before : ℕ → ℕ → Entry → Bool
-is_before r a e = nat_lt e.rule r || ((e.rule == r) && nat_lt e.subject a)
+use Rattle.error_store.specs.Pairs.{pair_cmp, IsPairBefore}
+use Rattle.error_store.specs.declared.pair.Pair.{Pair}
 
 abbrev pub is_of : List ℕ → Entry → Bool
 is_of handles e = list_any (nat_eq e.subject) handles
@@ -22,20 +23,16 @@ pub record IsLeastFrom (handles : List ℕ) (from a : ℕ) : Type 0 where
   pub beyond : from ≤ a
   pub least : (b : ℕ) → Contains handles b → from ≤ b → a ≤ b
 
-abbrev pub IsOf : List ℕ → Entry → Type 0
-IsOf handles e = Contains handles e.subject
+pub record IsLastOff (handles : List ℕ) (p q : Pair) : Type 0 where
+  pub rule : q.rule ≡ p.rule
+  pub on : p.subject ≤ q.subject
+  pub none : (a : ℕ) → Contains handles a → p.subject ≤ a → ¬ (a ≤ q.subject)
 
-abbrev pub HasNoneOf : List ℕ → List Entry → ℕ → ℕ → Type 0
-HasNoneOf handles es i k = AllWithin (λ (e : Entry). ¬ (IsOf handles e)) es i k
+abbrev pub HasNoneFrom : List ℕ → BTreeMap Pair (Vec Entry) → Bound Pair → Type 0
+HasNoneFrom handles m lo = (p : Pair) → IsFromStart pair_cmp lo p → Contains handles p.subject → get pair_cmp m p ≡ None
 
-pub record IsSkip (handles : List ℕ) (es : List Entry) (i k : ℕ) : Type 0 where
-  pub on : i ≤ k
-  pub within : k ≤ length es
-  pub none : HasNoneOf handles es i k
-  pub here : k ≡ i → HoldsAt (IsOf handles) es i
-
-pub record IsNext (handles : List ℕ) (es : List Entry) (i k : ℕ) : Type 0 where
-  pub on : i ≤ k
-  pub within : k < length es
-  pub none : HasNoneOf handles es i k
-  pub here : HoldsAt (IsOf handles) es k
+pub record IsNextRun (handles : List ℕ) (m : BTreeMap Pair (Vec Entry)) (lo : Bound Pair) (p : Pair) (v : Vec Entry) : Type 0 where
+  pub on : IsFromStart pair_cmp lo p
+  pub chosen : Contains handles p.subject
+  pub run : get pair_cmp m p ≡ Some v
+  pub none : (q : Pair) → IsFromStart pair_cmp lo q → IsPairBefore q p → Contains handles q.subject → get pair_cmp m q ≡ None

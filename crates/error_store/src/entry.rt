@@ -1,8 +1,7 @@
-ghost use Rattle.std.specs.Prelude.{◌≡◌, ◌↔◌, [], ◌∷◌, ◌++◌, IsTrue, Some, IfOk, OnOk, OnErr};
+ghost use Rattle.std.specs.Prelude.{◌≡◌, ◌↔◌, [], ◌∷◌, ◌++◌, IsTrue, IfOk, OnOk, OnErr};
 ghost use Rattle.topology_terms.specs.Changes.{IsUnchanged};
 ghost use Rattle.topology_terms.specs.Extents.{is_whole};
 ghost use Rattle.topology_terms.specs.Entry as terms;
-ghost use Rattle.validation_laws.specs.Replaced.{IsRemarked};
 ghost use Rattle.error_store.specs.Keys.{key_of};
 
 use crate::key::Key;
@@ -121,7 +120,8 @@ impl Entry {
         self.body.cells.push(cell)
     }
 
-    fn is_unchanged(&self, other: &Entry) -> bool
+    /// Whether extent, frame and cells are the same.
+    pub(crate) fn is_unchanged(&self, other: &Entry) -> bool
         ensures { IsTrue result ↔ IsUnchanged self.now other.now }
     {
         self.whole() == other.whole()
@@ -134,22 +134,6 @@ impl Entry {
         ensures { self.new ≡ record self.old { marked = on } }
     {
         self.body.marked = on;
-    }
-
-    fn with_mark(self, on: bool) -> Entry
-        ensures { result ≡ record self { marked = on } }
-    {
-        let mut entry = self;
-        entry.set_mark(on);
-        entry
-    }
-
-    /// The fresh entry of this key, with this one's mark where its extent, frame and cells are the same.
-    pub(crate) fn remarked(&self, fresh: Entry) -> Entry
-        ensures { IsRemarked (Some self.now) fresh result }
-    {
-        let on = self.marked() && self.is_unchanged(&fresh);
-        fresh.with_mark(on)
     }
 
     /// An equal value.

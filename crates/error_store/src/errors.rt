@@ -1,152 +1,141 @@
-ghost use Rattle.std.specs.Prelude.{◌≡◌, ◌≢◌, ◌==◌, ◌<◌, ◌≤◌, ◌+◌, ℕ, [], not, filter, length, slice_get, None, Some, MatchOption, IfOk, IfErr, OnOk, OnErr, vec_len, vec_capacity};
+ghost use Rattle.std.specs.Prelude.{◌≡◌, ◌≢◌, ◌==◌, ℕ, [], not, filter, length, None, Some, MatchOption, IfOk, IfErr, OnOk, OnErr};
+ghost use Rattle.std.specs.List.{flat_map};
+ghost use Rattle.std.specs.List.Sorted.{IsStrictlyIncreasing};
+ghost use Rattle.plane_terms.specs.Lists.{Every};
 ghost use Rattle.topology_terms.specs.Causes.{mark_cause};
+ghost use Rattle.topology_terms.specs.Changes.{SameButMark};
 ghost use Rattle.topology_terms.specs.Entry.{entry_at, IsAscending};
 ghost use Rattle.topology_terms.specs.Entry as terms;
 ghost use Rattle.validation_laws.specs.Replaced.{IsReplaced, AreFresh};
-ghost use Rattle.std.specs.List.Sorted.{IsStrictlyIncreasing};
 ghost use Rattle.error_store.specs.Frames.{AreFramed, AreFrames};
 ghost use Rattle.error_store.specs.Marking.{IsMarkSet, fault_cause};
+ghost use Rattle.error_store.specs.Pairs.{all_entries, AreRuns, IsOf};
+ghost use Rattle.error_store.specs.Runs.{is_of};
 
+use crate::cut::cut;
 use crate::entry::Entry;
 use crate::fault::MarkFault;
-use crate::few::replace_few;
 use crate::frames::{drop_frames, frames_of, frames_under, index_of, put_frames};
 use crate::key::Key;
-use crate::list::{copy_of, drop_from, drop_selected, find_in, place_of};
-use crate::merge::merge;
+use crate::list::{find_in, mark_in};
+use crate::pair::Pair;
+use crate::replace::replace_runs;
+use crate::runs::{copy_of, drop_from, left_without, order_law};
+use crate::walk::runs_of;
 use grid_index::Index;
 use grid_plane::{Handles, NoMemory};
-use std::alloc::{AllocError, Global};
+use std::alloc::Global;
+use std::collections::BTreeMap;
 use std::marker::Model;
-use std::mem;
 
-/// Errors, each of a key of its own, in the order of their keys; and an index of where their frames lie.
+/// Errors, each of a key of its own, in the order of their keys; and an index of where their frames lie. Those of a rule and a subject
+/// are kept together in a run; the run of a pair may be empty.
 #[derive(Drop)]
 pub struct Errors {
     alloc: Global,
-    entries: Vec<Entry>,
+    runs: BTreeMap<Pair, Vec<Entry>>,
+    number: usize,
     frames: Index,
 }
 
 impl Model for Errors {
-    ghost use Rattle.std.specs.Prelude.{List};
+    ghost use Rattle.std.specs.Prelude.{List, ◌≡◌, length};
     ghost use Rattle.topology_terms.specs.Entry as terms;
     ghost use Rattle.error_store.specs.Frames.{AreFramed};
+    ghost use Rattle.error_store.specs.Pairs.{all_entries, AreRuns};
 
     ghost Value = { List terms.Entry };
 
-    ghost view = { λ e. e.entries.items };
+    ghost view = { λ e. all_entries e.runs };
 
-    ghost invariant = { λ e. terms.IsAscending e.entries.items × AreFramed e.frames e.entries.items };
+    ghost invariant = { λ e. AreRuns e.runs × (e.number ≡ length (all_entries e.runs)) × AreFramed e.frames (all_entries e.runs) };
 }
 
-// Room for the entries of both lists; the list stays as it is.
-fn make_room(out: &mut Vec<Entry>, a: usize, b: usize) -> Result<(), AllocError>
-    ensures room { IfOk result (λ _. vec_len out.old + a + b ≤ vec_capacity out.new) }
-    ensures same { out.new.items ≡ out.old.items }
-    ensures len { vec_len out.new ≡ vec_len out.old }
+// The errors of the pair.
+fn run_of(runs: &BTreeMap<Pair, Vec<Entry>>, pair: Pair) -> &[Entry]
+    requires { AreRuns runs.now }
+    ensures ascending { IsAscending result.now }
+    ensures own { Every (IsOf pair.rule pair.subject) result.now }
+    ensures same { (b : ℕ) → entry_at result.now pair.rule pair.subject b ≡ entry_at (all_entries runs.now) pair.rule pair.subject b }
 {
-    match a.checked_add(b) {
-        Some(n) => out.reserve(n),
-        None => Err(AllocError),
+    order_law(runs);
+    match runs.get(&pair) {
+        Some(run) => run,
+        None => &[],
     }
 }
 
-// Whether so few are selected and fresh that it takes less to look for each than to go over all.
-fn is_few(count: usize, selected: usize, fresh: usize) -> bool {
-    selected.max(fresh) < count / 16
-}
-
-fn replace_many(
-    entries: &mut Vec<Entry>,
-    alloc: Global,
-    selected: &Handles,
-    fresh: Vec<Entry>,
-) -> Result<(), NoMemory>
-    requires old_ascending { IsAscending entries.old.items }
-    requires ascending { IsAscending fresh.items }
-    requires new { AreFresh selected.now fresh.items }
-    ensures replaced { OnOk result (IsReplaced selected.now entries.old.items fresh.items entries.new.items) }
-    ensures ascending { IsAscending entries.new.items }
-    ensures err { OnErr result (entries.new.items ≡ entries.old.items) }
+// Marks the error of this key as an exception, or takes its mark away, in the run of its pair.
+fn mark_run(runs: &mut BTreeMap<Pair, Vec<Entry>>, key: Key, on: bool) -> Result<(), MarkFault>
+    requires { AreRuns runs.old }
+    ensures set { OnOk result (IsMarkSet key.rule key.subject key.other on (all_entries runs.old) (all_entries runs.new)) }
+    ensures may { OnOk result (mark_cause (all_entries runs.old) key.rule key.subject key.other on ≡ None) }
+    ensures refused { IfErr result (λ e. mark_cause (all_entries runs.old) key.rule key.subject key.other on ≡ Some (fault_cause e)) }
+    ensures runs { AreRuns runs.new }
+    ensures ascending { IsAscending (all_entries runs.new) }
+    ensures same { (r a b : ℕ) → SameButMark (entry_at (all_entries runs.old) r a b) (entry_at (all_entries runs.new) r a b) }
+    ensures len { length (all_entries runs.new) ≡ length (all_entries runs.old) }
+    ensures err { OnErr result (all_entries runs.new ≡ all_entries runs.old) }
 {
-    if fresh.is_empty() {
-        drop_selected(entries, selected);
-        return Ok(());
-    }
-    let mut out = Vec::new(alloc);
-    make_room(&mut out, entries.len(), fresh.len())?;
-    let old = mem::replace(entries, Vec::new(alloc));
-    merge(old, selected, fresh, &mut out);
-    *entries = out;
-    Ok(())
-}
-
-fn replace_in(
-    entries: &mut Vec<Entry>,
-    alloc: Global,
-    selected: &Handles,
-    subjects: &[u32],
-    fresh: Vec<Entry>,
-) -> Result<(), NoMemory>
-    requires same { subjects.now ≡ selected.now }
-    requires rising { IsStrictlyIncreasing subjects.now }
-    requires old_ascending { IsAscending entries.old.items }
-    requires ascending { IsAscending fresh.items }
-    requires new { AreFresh selected.now fresh.items }
-    ensures replaced { OnOk result (IsReplaced selected.now entries.old.items fresh.items entries.new.items) }
-    ensures ascending { IsAscending entries.new.items }
-    ensures err { OnErr result (entries.new.items ≡ entries.old.items) }
-{
-    if is_few(entries.len(), selected.len(), fresh.len()) {
-        replace_few(entries, selected, subjects, fresh)
-    } else {
-        replace_many(entries, alloc, selected, fresh)
-    }
+    order_law(runs);
+    let Some(run) = runs.get_mut(&key.pair()) else {
+        return Err(MarkFault::NoError);
+    };
+    mark_in(run, key, on)
 }
 
 // The errors of the selected subjects give way to the fresh ones, and their frames in the index to those of these.
 fn replace_framed(
-    entries: &mut Vec<Entry>,
+    runs: &mut BTreeMap<Pair, Vec<Entry>>,
+    number: usize,
     frames: &mut Index,
     alloc: Global,
     selected: &Handles,
     fresh: Vec<Entry>,
-) -> Result<(), NoMemory>
-    requires old_ascending { IsAscending entries.old.items }
-    requires framed { AreFramed frames.old entries.old.items }
+) -> Result<usize, NoMemory>
+    requires runs { AreRuns runs.old }
+    requires number { number ≡ length (all_entries runs.old) }
+    requires framed { AreFramed frames.old (all_entries runs.old) }
     requires ascending { IsAscending fresh.items }
     requires new { AreFresh selected.now fresh.items }
-    ensures replaced { OnOk result (IsReplaced selected.now entries.old.items fresh.items entries.new.items) }
-    ensures ascending { IsAscending entries.new.items }
-    ensures err { OnErr result (entries.new.items ≡ entries.old.items) }
-    ensures framed { AreFramed frames.new entries.new.items }
-    ensures only { OnOk result (AreFrames frames.old entries.old.items → AreFrames frames.new entries.new.items) }
+    ensures replaced { OnOk result (IsReplaced selected.now (all_entries runs.old) fresh.items (all_entries runs.new)) }
+    ensures number { IfOk result (λ n. n ≡ length (all_entries runs.new)) }
+    ensures runs { AreRuns runs.new }
+    ensures err { OnErr result (all_entries runs.new ≡ all_entries runs.old) }
+    ensures ascending { IsAscending (all_entries runs.new) }
+    ensures framed { AreFramed frames.new (all_entries runs.new) }
+    ensures only { OnOk result (AreFrames frames.old (all_entries runs.old) → AreFrames frames.new (all_entries runs.new)) }
 {
     let subjects = selected.items();
-    let gone = frames_of(alloc, entries, subjects)?;
-    put_frames(frames, entries, &fresh)?;
-    replace_in(entries, alloc, selected, subjects, fresh)?;
-    drop_frames(frames, entries, &gone);
-    Ok(())
+    order_law(runs);
+    let gone = frames_of(alloc, runs, subjects)?;
+    put_frames(frames, runs, &fresh)?;
+    let replaced = replace_runs(runs, number, alloc, subjects, fresh);
+    order_law(runs);
+    let number = replaced?;
+    drop_frames(frames, runs, &gone);
+    Ok(number)
 }
 
 // The errors of the rule go, and their frames in the index, where there is memory to note them.
 fn drop_under(
-    entries: &mut Vec<Entry>,
+    runs: &mut BTreeMap<Pair, Vec<Entry>>,
     frames: &mut Index,
     alloc: Global,
     rule: u16,
 ) -> Result<(), NoMemory>
-    requires ascending { IsAscending entries.old.items }
-    requires framed { AreFramed frames.old entries.old.items }
-    ensures left { entries.new.items ≡ filter (λ (e : terms.Entry). not (e.rule == rule)) entries.old.items }
-    ensures framed { AreFramed frames.new entries.new.items }
-    ensures only { OnOk result (AreFrames frames.old entries.old.items → AreFrames frames.new entries.new.items) }
+    requires runs { AreRuns runs.old }
+    requires framed { AreFramed frames.old (all_entries runs.old) }
+    ensures left { all_entries runs.new ≡ filter (λ (e : terms.Entry). not (e.rule == rule)) (all_entries runs.old) }
+    ensures runs { AreRuns runs.new }
+    ensures ascending { IsAscending (all_entries runs.new) }
+    ensures framed { AreFramed frames.new (all_entries runs.new) }
+    ensures only { OnOk result (AreFrames frames.old (all_entries runs.old) → AreFrames frames.new (all_entries runs.new)) }
 {
-    let gone = frames_under(alloc, entries, rule);
-    drop_from(entries, rule);
-    drop_frames(frames, entries, &gone?);
+    let gone = frames_under(alloc, runs, rule);
+    drop_from(runs, rule);
+    order_law(runs);
+    drop_frames(frames, runs, &gone?);
     Ok(())
 }
 
@@ -157,7 +146,8 @@ impl Errors {
     {
         Errors {
             alloc,
-            entries: Vec::new(alloc),
+            runs: BTreeMap::new(alloc),
+            number: 0,
             frames: Index::new(alloc),
         }
     }
@@ -167,10 +157,13 @@ impl Errors {
         requires { IsAscending entries.items }
         ensures { IfOk result (λ errors. errors ≡ entries.items) }
     {
-        let frames = index_of(alloc, &entries)?;
+        let number = entries.len();
+        let runs = cut(alloc, entries)?;
+        let frames = index_of(alloc, &runs)?;
         Ok(Errors {
             alloc,
-            entries,
+            runs,
+            number,
             frames,
         })
     }
@@ -179,23 +172,39 @@ impl Errors {
     pub fn len(&self) -> usize
         ensures { result ≡ length self.now }
     {
-        self.entries.len()
+        self.number
     }
 
-    /// The error at this place of the list, from 0.
-    pub fn entry(&self, i: usize) -> &Entry
-        requires { i < length self.now }
-        ensures { slice_get self.now i ≡ Some result.now }
+    /// The errors by rule and subject: of each pair its errors, in the order of their partners. Some pairs may have none.
+    pub fn by_pair(&self) -> &BTreeMap<Pair, Vec<Entry>>
+        ensures { all_entries result.now ≡ self.now }
     {
-        &self.entries[i]
+        &self.runs
     }
 
-    /// The errors in their order.
-    pub fn entries(&self) -> &[Entry]
-        ensures value { result.now ≡ self.now }
-        ensures ascending { IsAscending self.now }
+    /// The law that the errors stand in the order of their keys, and that no two have one key.
+    pub fn order_law(&self)
+        ensures { IsAscending self.now }
     {
-        &self.entries
+        order_law(&self.runs);
+    }
+
+    /// The errors of the rule and the subject, in the order of their partners. Takes steps by the logarithm of the number of pairs.
+    pub fn of_pair(&self, rule: u16, subject: u32) -> &[Entry]
+        ensures ascending { IsAscending result.now }
+        ensures own { Every (IsOf rule subject) result.now }
+        ensures same { (b : ℕ) → entry_at result.now rule subject b ≡ entry_at self.now rule subject b }
+    {
+        run_of(&self.runs, Pair { rule, subject })
+    }
+
+    /// The runs of these subjects, in the order of the errors. Takes steps by the logarithm of the number of pairs for each rule
+    /// that has some, and for each of the subjects.
+    pub fn of_subjects(&self, alloc: Global, subjects: &[u32]) -> Result<Vec<&[Entry]>, NoMemory>
+        requires { IsStrictlyIncreasing subjects.now }
+        ensures { IfOk result (λ v. flat_map (λ r. r.now) v.items ≡ filter (is_of subjects.now) self.now) }
+    {
+        runs_of(alloc, &self.runs, subjects)
     }
 
     /// An index in which the frame of each error stands, under the handle of its subject; other pairs may stand there too.
@@ -209,12 +218,13 @@ impl Errors {
     pub fn find(&self, key: Key) -> Option<&Entry>
         ensures { MatchOption result (entry_at self.now key.rule key.subject key.other ≡ None) (λ e. entry_at self.now key.rule key.subject key.other ≡ Some e.now) }
     {
-        find_in(&self.entries, key)
+        find_in(self.of_pair(key.rule, key.subject), key)
     }
 
     /// The errors of the selected subjects give way to the fresh ones, and all others stay. A fresh error is marked exactly
     /// where the old one of its key was, and had the same extent, frame and cells. After an `Err`, out of memory, nothing
-    /// has changed. Where few are selected among many errors it looks for each by its key, else it goes over both lists once.
+    /// has changed. Takes steps by the logarithm of the number of pairs for each rule that has errors, for each of the subjects
+    /// and for each fresh error.
     pub fn replace(
         &mut self,
         alloc: Global,
@@ -227,7 +237,15 @@ impl Errors {
         ensures ascending { IsAscending self.new }
         ensures err { OnErr result (self.new ≡ self.old) }
     {
-        replace_framed(&mut self.entries, &mut self.frames, alloc, selected, fresh)
+        self.number = replace_framed(
+            &mut self.runs,
+            self.number,
+            &mut self.frames,
+            alloc,
+            selected,
+            fresh,
+        )?;
+        Ok(())
     }
 
     /// The errors of the rule of this number go, and all others stay in their order. Where there is no memory to note their
@@ -238,7 +256,8 @@ impl Errors {
         ensures kept { (k a b : ℕ) → k ≢ rule → entry_at self.new k a b ≡ entry_at self.old k a b }
         ensures ascending { IsAscending self.new }
     {
-        let _ = drop_under(&mut self.entries, &mut self.frames, self.alloc, rule);
+        self.number = left_without(&self.runs, self.number, rule);
+        let _ = drop_under(&mut self.runs, &mut self.frames, self.alloc, rule);
     }
 
     /// Marks the error of this key as an exception, or takes its mark away; all else stays. Refused where no error has this
@@ -250,21 +269,20 @@ impl Errors {
         ensures ascending { IsAscending self.new }
         ensures err { OnErr result (self.new ≡ self.old) }
     {
-        let Some(place) = place_of(&self.entries, key) else {
-            return Err(MarkFault::NoError);
-        };
-        let entry = &mut self.entries[place];
-        if entry.marked() == on {
-            return Err(MarkFault::AlreadySo);
-        }
-        entry.set_mark(on);
-        Ok(())
+        mark_run(&mut self.runs, key, on)
     }
 
     /// An equal value.
     pub fn try_copy(&self, alloc: Global) -> Result<Errors, NoMemory>
         ensures { IfOk result (λ e. e ≡ self.now) }
     {
-        Errors::of(alloc, copy_of(alloc, &self.entries)?)
+        let runs = copy_of(alloc, &self.runs)?;
+        let frames = index_of(alloc, &runs)?;
+        Ok(Errors {
+            alloc,
+            runs,
+            number: self.number,
+            frames,
+        })
     }
 }

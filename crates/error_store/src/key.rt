@@ -1,5 +1,7 @@
 ghost use Rattle.std.specs.Prelude.{◌≡◌};
+ghost use Rattle.error_store.specs.Pairs.{pair};
 
+use crate::pair::Pair;
 use std::marker::Model;
 use std::num::NonZeroU32;
 
@@ -38,6 +40,16 @@ impl Key {
             rule,
             subject,
             other: NonZeroU32::new(partner),
+        }
+    }
+
+    /// The rule and the subject.
+    pub(crate) fn pair(&self) -> Pair
+        ensures { result ≡ pair self.now.rule self.now.subject }
+    {
+        Pair {
+            rule: self.rule,
+            subject: self.subject,
         }
     }
 

@@ -2,14 +2,17 @@
 #![tactic(auto)]
 
 mod compare;
+mod cut;
 mod entry;
 mod errors;
 mod fault;
-mod few;
 mod frames;
 mod key;
 mod list;
-mod merge;
+mod marks;
+mod pair;
+mod replace;
+mod runs;
 mod walk;
 
 pub use entry::Entry;
@@ -17,4 +20,4 @@ pub use errors::Errors;
 pub use fault::MarkFault;
 pub use key::Key;
 pub use list::find_in;
-pub use walk::next_of;
+pub use pair::Pair;

@@ -1,12 +1,15 @@
-ghost use Rattle.std.specs.Prelude.{◌≡◌, ◌==◌, ◌<◌, ◌↔◌, IsTrue, Contains, nat_eq, not, filter, length, slice_get, None, Some, IfOk, MatchOption};
-ghost use Rattle.std.specs.List.{list_any};
+ghost use Rattle.std.specs.Prelude.{◌≡◌, ◌<◌, ℕ, length, slice_get, None, Some, IfOk, IfErr, OnOk, OnErr, MatchOption};
+ghost use Rattle.topology_terms.specs.Changes.{SameButMark};
+ghost use Rattle.topology_terms.specs.Causes.{mark_cause};
 ghost use Rattle.topology_terms.specs.Entry.{entry_at};
 ghost use Rattle.topology_terms.specs.Entry as terms;
+ghost use Rattle.error_store.specs.Marking.{IsMarkSet, fault_cause};
 
 use crate::compare::compare;
 use crate::entry::Entry;
+use crate::fault::MarkFault;
 use crate::key::Key;
-use grid_plane::{Handles, NoMemory};
+use grid_plane::NoMemory;
 use std::alloc::Global;
 
 /// Where the error of this key stands.
@@ -30,44 +33,26 @@ pub fn find_in(entries: &[Entry], key: Key) -> Option<&Entry>
     Some(&entries[place])
 }
 
-// Whether the error is of another rule.
-fn is_of_other(e: &Entry, rule: u16) -> bool
-    ensures { result ≡ not (e.now.rule == rule) }
+/// Marks the error of this key as an exception, or takes its mark away.
+pub fn mark_in(entries: &mut Vec<Entry>, key: Key, on: bool) -> Result<(), MarkFault>
+    requires { terms.IsAscending entries.old.items }
+    ensures set { OnOk result (IsMarkSet key.rule key.subject key.other on entries.old.items entries.new.items) }
+    ensures may { OnOk result (mark_cause entries.old.items key.rule key.subject key.other on ≡ None) }
+    ensures refused { IfErr result (λ e. mark_cause entries.old.items key.rule key.subject key.other on ≡ Some (fault_cause e)) }
+    ensures ascending { terms.IsAscending entries.new.items }
+    ensures same { (r a b : ℕ) → SameButMark (entry_at entries.old.items r a b) (entry_at entries.new.items r a b) }
+    ensures len { length entries.new.items ≡ length entries.old.items }
+    ensures err { OnErr result (entries.new.items ≡ entries.old.items) }
 {
-    e.key().rule != rule
-}
-
-/// Takes out the errors of the rule.
-pub fn drop_from(entries: &mut Vec<Entry>, rule: u16)
-    ensures { entries.new.items ≡ filter (λ (e : terms.Entry). not (e.rule == rule)) entries.old.items }
-{
-    entries.retain(|e| is_of_other(e, rule));
-}
-
-/// Whether the handle is selected. The selected handles ascend, so that the first and the last of
-/// them tell most others.
-pub fn is_selected(selected: &Handles, handle: u32) -> bool
-    ensures { IsTrue result ↔ Contains selected.now handle }
-{
-    let count = selected.len();
-    if count == 0 || handle < selected.at(0) || selected.at(count - 1) < handle {
-        return false;
+    let Some(place) = place_of(entries, key) else {
+        return Err(MarkFault::NoError);
+    };
+    let entry = &mut entries[place];
+    if entry.marked() == on {
+        return Err(MarkFault::AlreadySo);
     }
-    selected.has(handle)
-}
-
-// Whether the subject of the error is not selected.
-fn is_left(e: &Entry, selected: &Handles) -> bool
-    ensures { result ≡ not (list_any (nat_eq e.now.subject) selected.now) }
-{
-    !is_selected(selected, e.key().subject)
-}
-
-/// Takes out the errors of the selected subjects.
-pub fn drop_selected(entries: &mut Vec<Entry>, selected: &Handles)
-    ensures { entries.new.items ≡ filter (λ (e : terms.Entry). not (list_any (nat_eq e.subject) selected.now)) entries.old.items }
-{
-    entries.retain(|e| is_left(e, selected));
+    entry.set_mark(on);
+    Ok(())
 }
 
 /// The same list once more.

@@ -1,10 +1,16 @@
-ghost use Rattle.std.specs.Prelude.{◌≡◌, ◌+◌, ◌<◌, ◌≤◌, ℕ, true, false, length, nat_lt, Contains, MatchOption};
+ghost use Rattle.std.specs.Prelude.{◌≡◌, ◌<◌, ◌≤◌, ℕ, true, false, None, Some, length, filter, nat_lt, Contains, MatchOption, IfOk};
+ghost use Rattle.std.specs.BTreeMap.{IsOrdered};
+ghost use Rattle.std.specs.List.{flat_map};
 ghost use Rattle.std.specs.List.Sorted.{IsStrictlyIncreasing, IsPartitionPoint};
-ghost use Rattle.topology_terms.specs.Entry.{IsAscending};
-ghost use Rattle.topology_terms.specs.Entry as terms;
-ghost use Rattle.error_store.specs.Runs.{is_before, HasNoneOf, IsLeastFrom, IsNext, IsSkip};
+ghost use Rattle.error_store.specs.Pairs.{pair_cmp, all_entries, AreRuns};
+ghost use Rattle.error_store.specs.Runs.{is_of, IsLeastFrom, IsLastOff, HasNoneFrom, IsNextRun};
 
 use crate::entry::Entry;
+use crate::pair::Pair;
+use grid_plane::NoMemory;
+use std::alloc::Global;
+use std::collections::BTreeMap;
+use std::ops::Bound;
 
 // The first place from which no handle is below this one.
 fn place_from(handles: &[u32], from: u32) -> usize
@@ -28,58 +34,66 @@ fn least_from(handles: &[u32], from: u32) -> Option<u32>
     }
 }
 
-// Whether the error stands before those of the rule and the subject.
-fn is_before(e: &Entry, rule: u32, subject: u32) -> bool
-    ensures { result ≡ is_before rule subject e.now }
+// The last pair up to which no pair of the rule is of one of these subjects; none, where this one is.
+fn last_off(pair: Pair, subjects: &[u32]) -> Option<Pair>
+    requires { IsStrictlyIncreasing subjects.now }
+    ensures { MatchOption result (Contains subjects.now pair.subject) (IsLastOff subjects.now pair) }
 {
-    let key = e.key();
-    let own = u32::from(key.rule);
-    own < rule || (own == rule && key.subject < subject)
-}
-
-// The first place from which no error stands before those of the rule and the subject.
-fn first_from(entries: &[Entry], rule: u32, subject: u32) -> usize
-    requires { IsAscending entries.now }
-    ensures bound { result ≤ length entries.now }
-    ensures parted { IsPartitionPoint (λ (e : terms.Entry). is_before rule subject e ≡ true) (λ (e : terms.Entry). is_before rule subject e ≡ false) entries.now result }
-{
-    entries.partition_point(|e| is_before(e, rule, subject))
-}
-
-// From the error at this place, which is of none of these subjects, to the next place at which there may be one.
-fn skip(entries: &[Entry], at: usize, subjects: &[u32]) -> usize
-    requires ascending { IsAscending entries.now }
-    requires rising { IsStrictlyIncreasing subjects.now }
-    requires within { at < length entries.now }
-    ensures { IsSkip subjects.now entries.now at result }
-{
-    let key = entries[at].key();
-    match least_from(subjects, key.subject) {
-        Some(subject) => {
-            if subject == key.subject {
-                at
-            } else {
-                first_from(entries, u32::from(key.rule), subject)
+    let rule = pair.rule;
+    match least_from(subjects, pair.subject) {
+        Some(next) => {
+            if next == pair.subject {
+                return None;
             }
+            Some(Pair {
+                rule,
+                subject: next - 1,
+            })
         }
-        None => first_from(entries, u32::from(key.rule) + 1, 0),
+        None => Some(Pair {
+            rule,
+            subject: u32::MAX,
+        }),
     }
 }
 
-/// The first place from this one on at which there is an error of one of these subjects. Takes steps by the logarithm of the
-/// number of errors for each rule that has some, and for each of the subjects.
-pub fn next_of(entries: &[Entry], from: usize, subjects: &[u32]) -> Option<usize>
-    requires ascending { IsAscending entries.now }
-    requires rising { IsStrictlyIncreasing subjects.now }
-    ensures { MatchOption result (HasNoneOf subjects.now entries.now from (length entries.now)) (IsNext subjects.now entries.now from) }
+/// The first run from here on of one of these subjects. Takes steps by the logarithm of the number of pairs for each rule that
+/// has some, and for each of the subjects.
+pub fn next_of<'a>(
+    runs: &'a BTreeMap<Pair, Vec<Entry>>,
+    from: Bound<Pair>,
+    subjects: &[u32],
+) -> Option<(Pair, &'a Vec<Entry>)>
+    requires { IsStrictlyIncreasing subjects.now }
+    ensures next { MatchOption result (HasNoneFrom subjects.now runs.now from) (λ s. IsNextRun subjects.now runs.now from s.0 s.1.now) }
+    ensures ordered { IsOrdered pair_cmp runs.now }
 {
-    let mut at = from;
-    while at < entries.len() {
-        let place = skip(entries, at, subjects);
-        if place == at {
-            return Some(at);
-        }
-        at = place;
+    let mut from = from;
+    while let Some((pair, run)) = runs.range((from, Bound::Unbounded)).next() {
+        let Some(last) = last_off(*pair, subjects) else {
+            return Some((*pair, run));
+        };
+        from = Bound::Excluded(last);
     }
     None
+}
+
+/// The runs of these subjects, in the order of their pairs. Takes steps by the logarithm of the number of pairs for each rule that
+/// has some, and for each of the subjects.
+pub fn runs_of<'a>(
+    alloc: Global,
+    runs: &'a BTreeMap<Pair, Vec<Entry>>,
+    subjects: &[u32],
+) -> Result<Vec<&'a [Entry]>, NoMemory>
+    requires rising { IsStrictlyIncreasing subjects.now }
+    requires runs { AreRuns runs.now }
+    ensures { IfOk result (λ v. flat_map (λ r. r.now) v.items ≡ filter (is_of subjects.now) (all_entries runs.now)) }
+{
+    let mut found = Vec::new(alloc);
+    let mut from = Bound::Unbounded;
+    while let Some((pair, run)) = next_of(runs, from, subjects) {
+        found.push(run.as_slice())?;
+        from = Bound::Excluded(pair);
+    }
+    Ok(found)
 }

@@ -1,5 +1,4 @@
 mod Places
-mod Runs
 mod EachSubject
 mod Judged
 mod Sound

@@ -2,7 +2,6 @@ ghost use Rattle.std.specs.Prelude.{◌≡◌, ℕ, Some, IfOk};
 ghost use Rattle.topology_terms.specs.Feature as features_of;
 ghost use Rattle.plane_terms.specs.Lists.{Every};
 ghost use Rattle.topology_terms.specs.Broken.{Row};
-ghost use Rattle.topology_terms.specs.Entry as entries_of;
 ghost use Rattle.topology_terms.specs.Project as projects;
 ghost use Rattle.topology_terms.specs.Project.{Project, AreAscending, rule_at};
 ghost use Rattle.validation_laws.specs.Parts.{IsRising};
@@ -14,7 +13,7 @@ ghost use Rattle.project_check.specs.Checked.{IsChecked};
 use crate::pair::first_rule;
 use crate::subjects::subjects_of;
 use dirty_area::Dirt;
-use error_store::{Entry, Errors};
+use error_store::Errors;
 use feature_store::Features;
 use grid_index::Index;
 use grid_plane::NoMemory;
@@ -36,25 +35,24 @@ fn first_unsound<R: RuleSet>(
     alloc: Global,
     in_force: &[InForce],
     features: &FeatureIndex<'_>,
-    entries: &[Entry],
+    errors: &Errors,
     dirt: &Dirt,
     subjects: &[u32],
     work: &mut Work,
 ) -> Result<Option<Unsound>, NoMemory>
     requires rules { AreAscending in_force.now }
     requires features { features_of.IsAscending features.now.features }
-    requires entries { entries_of.IsAscending entries.now }
     requires fits { Every (λ (q : projects.InForce). R.meaning.Fits q.row features.now.features) in_force.now }
     requires rising { IsRising subjects.now }
-    requires all { HasSubjects features.now.features entries.now subjects.now }
-    ensures { IfOk result (λ found. (p : Project) → HasLists p features.now.features dirt.now entries.now → p.rules ≡ in_force.now → IsChecked R.meaning p found) }
+    requires all { HasSubjects features.now.features errors.now subjects.now }
+    ensures { IfOk result (λ found. (p : Project) → HasLists p features.now.features dirt.now errors.now → p.rules ≡ in_force.now → IsChecked R.meaning p found) }
 {
     let mut left = in_force.len();
     let mut found = None;
     for subject in subjects {
         let earlier = &in_force[..left];
         let place = first_rule(
-            rules, alloc, earlier, features, entries, dirt, *subject, work,
+            rules, alloc, earlier, features, errors, dirt, *subject, work,
         )?;
         let Some(place) = place else {
             continue;
@@ -90,11 +88,10 @@ pub fn check_project<R: RuleSet>(
     requires placed { ArePlaced index.now features.now }
     ensures { IfOk result (λ found. (p : Project) → HasParts p (record { in_force = in_force.now; features = features.now; placed = index.now }) dirt.now errors.now → IsChecked R.meaning p found) }
 {
-    let entries = errors.entries();
-    let subjects = subjects_of(alloc, features, entries)?;
+    let subjects = subjects_of(alloc, features, errors)?;
     let indexed = FeatureIndex::of(features, index);
     let mut work = Work::new();
     first_unsound(
-        rules, alloc, in_force, &indexed, entries, dirt, &subjects, &mut work,
+        rules, alloc, in_force, &indexed, errors, dirt, &subjects, &mut work,
     )
 }

@@ -3,7 +3,6 @@
 
 mod check;
 mod pair;
-mod run;
 mod subjects;
 
 pub use check::{Unsound, check_project};

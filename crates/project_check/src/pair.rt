@@ -6,12 +6,11 @@ ghost use Rattle.topology_terms.specs.Feature as features_of;
 ghost use Rattle.topology_terms.specs.Entry as entries_of;
 ghost use Rattle.topology_terms.specs.Project as projects;
 ghost use Rattle.topology_terms.specs.Project.{Project};
-ghost use Rattle.sound_check.specs.Pairs.{IsOf};
+ghost use Rattle.error_store.specs.Pairs.{IsOf};
 ghost use Rattle.project_check.specs.Subjects.{HasLists, IsCompared, IsFirstRule};
 
-use crate::run::entries_of;
 use dirty_area::Dirt;
-use error_store::Entry;
+use error_store::Errors;
 use grid_plane::{NoMemory, Rect};
 use rule_core::{InForce, RuleSet, Work};
 use sound_check::is_sound_pair;
@@ -35,17 +34,16 @@ fn is_sound_part(
     fresh: &RulePart,
     subject: u32,
     envelope: Option<Rect>,
-    entries: &[Entry],
+    errors: &Errors,
     dirt: &Dirt,
 ) -> Result<bool, NoMemory>
-    requires entries { entries_of.IsAscending entries.now }
     requires fresh { entries_of.IsAscending fresh.now.entries }
     requires own { Every (IsOf fresh.now.rule.number subject) fresh.now.entries }
-    ensures { IfOk result (IsCompared dirt.now envelope entries.now fresh.now subject) }
+    ensures { IfOk result (IsCompared dirt.now envelope errors.now fresh.now subject) }
 {
     let rule = fresh.rule().number;
     let found = fresh.entries();
-    let stored = entries_of(entries, rule, subject);
+    let stored = errors.of_pair(rule, subject);
     is_sound_pair(alloc, rule, subject, envelope, found, stored, dirt)
 }
 
@@ -56,21 +54,20 @@ pub fn first_rule<R: RuleSet>(
     alloc: Global,
     in_force: &[InForce],
     features: &FeatureIndex<'_>,
-    entries: &[Entry],
+    errors: &Errors,
     dirt: &Dirt,
     subject: u32,
     work: &mut Work,
 ) -> Result<Option<usize>, NoMemory>
     requires features { features_of.IsAscending features.now.features }
-    requires entries { entries_of.IsAscending entries.now }
     requires fits { Every (λ (q : projects.InForce). R.meaning.Fits q.row features.now.features) in_force.now }
     ensures within { IfOk result (λ place. IfSome place (λ k. k < length in_force.now)) }
-    ensures first { IfOk result (λ place. (p : Project) → HasLists p features.now.features dirt.now entries.now → IsFirstRule R.meaning p in_force.now subject place) }
+    ensures first { IfOk result (λ place. (p : Project) → HasLists p features.now.features dirt.now errors.now → IsFirstRule R.meaning p in_force.now subject place) }
 {
     let fresh = judge_subject(rules, alloc, in_force, features, subject, work)?;
     let envelope = envelope_of(features, subject);
     for i in 0..fresh.len() {
-        if !is_sound_part(alloc, &fresh[i], subject, envelope, entries, dirt)? {
+        if !is_sound_part(alloc, &fresh[i], subject, envelope, errors, dirt)? {
             return Ok(Some(i));
         }
     }

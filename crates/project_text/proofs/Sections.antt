@@ -142,25 +142,11 @@ sections p =
     (section dirty_line dirty_text dirty_same p.dirt errors ∙ ap (λ t. flat_map dirty_text p.dirt ++ t)
     (errors_same p.entries (last_line ∷ []))))))
 
-abbrev parts : Project → List InForce → List Rectangle → List Entry → Project
-parts p rs ds es = record { classes = p.classes; rules = rs; features = p.features; next = p.next; dirt = ds; entries = es }
-
 -- what is appended of a project to nothing is its text
-pub all_written : (p : Project) (rs : List InForce) (ds : List Rectangle) (es : List Entry) (old new : List ℕ) → rs ≡ p.rules → ds ≡ p.dirt
-    → es ≡ p.entries
-    → old ≡ [] → new ≡ old ++ text_of (record {
-      classes = p.classes;
-      rules = rs;
-      features = p.features;
-      next = p.next;
-      dirt = ds;
-      entries =
-          es;
-    }) → new ≡ project_text p
-all_written p rs ds es old new r d e o said =
-    said ∙ (ap (λ t. t ++ text_of (parts p rs ds es)) o ∙ (ap (λ x. text_of (parts p x ds es)) r
-    ∙ (ap (λ x. text_of (parts p p.rules x es)) d
-    ∙ (ap (λ x. text_of (parts p p.rules p.dirt x)) e ∙ sym (sections p)))))
+pub all_written : (p : Project) (ds : List Rectangle) (old new : List ℕ) → ds ≡ p.dirt → old ≡ []
+    → new ≡ old ++ text_of (record p { dirt = ds }) → new ≡ project_text p
+all_written p ds old new d o said =
+    said ∙ (ap (λ t. t ++ text_of (record p { dirt = ds })) o ∙ (ap (λ xs. text_of (record p { dirt = xs })) d ∙ sym (sections p)))
 
 one_said : (o a b o1 o2 : List ℕ) → o1 ≡ o ++ a → o2 ≡ o1 ++ b → o2 ≡ o ++ (a ++ b)
 one_said o a b o1 o2 first second = second ∙ (ap (λ t. t ++ b) first ∙ append_assoc o a b)

@@ -105,11 +105,21 @@ fn push_error(out: &mut Vec<u8>, entry: &Entry) -> Result<(), NoMemory>
     push_cells(out, entry.cells())
 }
 
-fn push_errors(out: &mut Vec<u8>, entries: &[Entry]) -> Result<(), NoMemory>
+// The lines of the errors of a run.
+fn push_run(out: &mut Vec<u8>, entries: &[Entry]) -> Result<(), NoMemory>
     ensures { OnOk result (out.new.items ≡ out.old.items ++ flat_map error_texts entries.now) }
 {
     for entry in entries {
         push_error(out, entry)?;
+    }
+    Ok(())
+}
+
+fn push_errors(out: &mut Vec<u8>, errors: &Errors) -> Result<(), NoMemory>
+    ensures { OnOk result (out.new.items ≡ out.old.items ++ flat_map error_texts errors.now) }
+{
+    for run in errors.by_pair().values() {
+        push_run(out, run)?;
     }
     Ok(())
 }
@@ -119,16 +129,16 @@ fn push_project(
     store: &Store,
     rules: &[InForce],
     blocks: &[Block],
-    entries: &[Entry],
+    errors: &Errors,
 ) -> Result<(), NoMemory>
-    ensures { OnOk result (out.new.items ≡ out.old.items ++ text_of (record { classes = store.now.classes; rules = rules.now; features = store.now.features; next = store.now.next; dirt = all_rects blocks.now; entries = entries.now })) }
+    ensures { OnOk result (out.new.items ≡ out.old.items ++ text_of (record { classes = store.now.classes; rules = rules.now; features = store.now.features; next = store.now.next; dirt = all_rects blocks.now; entries = errors.now })) }
 {
     push_head(out, store.next_handle())?;
     push_classes(out, store)?;
     push_rules(out, store, rules)?;
     push_features(out, store)?;
     push_blocks(out, blocks)?;
-    push_errors(out, entries)?;
+    push_errors(out, errors)?;
     push_text(out, b"end\n")?;
     Ok(())
 }
@@ -144,7 +154,7 @@ pub fn write_parts(
     ensures { IfOk result (λ text. text.items ≡ project_text (record { classes = store.now.classes; rules = rules.now; features = store.now.features; next = store.now.next; dirt = dirt.now; entries = errors.now })) }
 {
     let mut out = Vec::new(alloc);
-    push_project(&mut out, store, rules, dirt.blocks(), errors.entries())?;
+    push_project(&mut out, store, rules, dirt.blocks(), errors)?;
     Ok(out)
 }
 

@@ -86,7 +86,8 @@ pub fn push_with_cells(out: &mut Vec<u8>, entry: &Entry) -> Result<(), NoMemory>
     Ok(())
 }
 
-fn push_all_with_cells(out: &mut Vec<u8>, entries: &[Entry]) -> Result<(), NoMemory>
+// The lines of the errors of a run, and behind each those of its cells.
+fn push_run_with_cells(out: &mut Vec<u8>, entries: &[Entry]) -> Result<(), NoMemory>
     ensures { Appends result out.old.items out.new.items (flat_map entry_lines entries.now) }
 {
     for entry in entries {
@@ -95,11 +96,20 @@ fn push_all_with_cells(out: &mut Vec<u8>, entries: &[Entry]) -> Result<(), NoMem
     Ok(())
 }
 
+fn push_all_with_cells(out: &mut Vec<u8>, errors: &Errors) -> Result<(), NoMemory>
+    ensures { Appends result out.old.items out.new.items (flat_map entry_lines errors.now) }
+{
+    for run in errors.by_pair().values() {
+        push_run_with_cells(out, run)?;
+    }
+    Ok(())
+}
+
 /// Appends the line of each error, in the order of their keys, and behind it those of its cells; then the number of errors.
 pub fn push_cell_list(out: &mut Vec<u8>, errors: &Errors) -> Result<(), NoMemory>
     ensures { Appends result out.old.items out.new.items (flat_map entry_lines errors.now ++ total_line (length errors.now)) }
 {
-    push_all_with_cells(out, errors.entries())?;
+    push_all_with_cells(out, errors)?;
     push_total(out, errors.len())?;
     Ok(())
 }

@@ -49,7 +49,8 @@ pub fn push_entry_line(out: &mut Vec<u8>, entry: &Entry) -> Result<(), NoMemory>
     Ok(())
 }
 
-fn push_entry_lines(out: &mut Vec<u8>, entries: &[Entry]) -> Result<(), NoMemory>
+// The lines of the errors of a run.
+fn push_run_lines(out: &mut Vec<u8>, entries: &[Entry]) -> Result<(), NoMemory>
     ensures { Appends result out.old.items out.new.items (flat_map entry_line entries.now) }
 {
     for entry in entries {
@@ -58,11 +59,20 @@ fn push_entry_lines(out: &mut Vec<u8>, entries: &[Entry]) -> Result<(), NoMemory
     Ok(())
 }
 
+fn push_entry_lines(out: &mut Vec<u8>, errors: &Errors) -> Result<(), NoMemory>
+    ensures { Appends result out.old.items out.new.items (flat_map entry_line errors.now) }
+{
+    for run in errors.by_pair().values() {
+        push_run_lines(out, run)?;
+    }
+    Ok(())
+}
+
 /// Appends a line for each error, in the order of their keys, and their number.
 pub fn push_error_list(out: &mut Vec<u8>, errors: &Errors) -> Result<(), NoMemory>
     ensures { Appends result out.old.items out.new.items (flat_map entry_line errors.now ++ total_line (length errors.now)) }
 {
-    push_entry_lines(out, errors.entries())?;
+    push_entry_lines(out, errors)?;
     push_total(out, errors.len())?;
     Ok(())
 }

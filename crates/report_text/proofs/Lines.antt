@@ -1,5 +1,5 @@
 -- A record of plain fields is its line, and each error's fields are plain.
-use Rattle.std.proofs.Common.{◌≡◌, ℕ, ◌+◌, arith, List, [], ◌∷◌, ◌++◌, refl, ap, sym, subst, ◌∙◌, append-nil, take, Option, Some, None}
+use Rattle.std.proofs.Common.{◌≡◌, ℕ, ◌+◌, arith, List, [], ◌∷◌, ◌++◌, refl, ap, sym, subst, ◌∙◌, append-nil, append_assoc, take, Option, Some, None}
 use Rattle.std.specs.Prelude.{flat_map, slice_get}
 use Rattle.std.specs.Io.KnownBytes.{Appends}
 use Rattle.std.specs.List.{join_with_byte}
@@ -65,3 +65,23 @@ lines_more f xs i x start old new at before more =
     let lines = flat_map f (take i xs) in
     subst (λ t. Appends start new t) (said_more f xs i x [] lines (lines ++ f x) at refl refl)
     (appends-more start old new lines (f x) before more)
+
+-- a front of the whole is written, and the rest is to come
+pub record IsWritten (start now : Option (List ℕ)) (whole rest : List ℕ) : Type 0 where
+  pub front : List ℕ
+  pub written : Appends start now front
+  pub is : whole ≡ front ++ rest
+
+pub none_written : (now : Option (List ℕ)) (whole : List ℕ) → IsWritten now now whole whole
+none_written now whole = record { front = []; written = none_more now; is = refl }
+
+pub more_written : (start now new : Option (List ℕ)) (whole text rest : List ℕ) → IsWritten start now whole (text ++ rest)
+    → Appends now new text → IsWritten start new whole rest
+more_written start now new whole text rest h more = record {
+  front = h.front ++ text;
+  written = appends-more start now new h.front text h.written more;
+  is = h.is ∙ sym (append_assoc h.front text rest);
+}
+
+pub all_written : (start now : Option (List ℕ)) (whole : List ℕ) → IsWritten start now whole [] → Appends start now whole
+all_written start now whole h = subst (λ t. Appends start now t) (sym (h.is ∙ append-nil h.front)) h.written

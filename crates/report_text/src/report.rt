@@ -3,18 +3,18 @@ ghost use Rattle.script_terms.specs.Report.{report_of};
 
 use crate::rows::write_report;
 use csv::{Terminator, WriterBuilder};
-use error_store::{Entry, Errors};
+use error_store::Errors;
 use grid_plane::NoMemory;
 use rule_core::InForce;
 use std::alloc::Global;
 
-fn report_bytes(alloc: Global, rules: &[InForce], entries: &[Entry]) -> Result<Vec<u8>, NoMemory>
-    ensures { IfOk result (λ text. text.items ≡ report_of rules.now entries.now) }
+fn report_bytes(alloc: Global, rules: &[InForce], errors: &Errors) -> Result<Vec<u8>, NoMemory>
+    ensures { IfOk result (λ text. text.items ≡ report_of rules.now errors.now) }
 {
     let mut writer = WriterBuilder::new()
         .terminator(Terminator::Any(b'\n'))
         .from_writer(Vec::new(alloc));
-    write_report(&mut writer, alloc, rules, entries)?;
+    write_report(&mut writer, alloc, rules, errors)?;
     match writer.into_inner() {
         Ok(text) => Ok(text),
         Err(_) => Err(NoMemory),
@@ -32,7 +32,7 @@ pub fn push_report(
     ensures text { OnOk result (out.new.items ≡ out.old.items ++ report_of rules.now errors.now) }
     ensures err { OnErr result (out.new.items ≡ out.old.items) }
 {
-    let text = report_bytes(alloc, rules, errors.entries())?;
+    let text = report_bytes(alloc, rules, errors)?;
     out.extend_from_slice(&text)?;
     Ok(())
 }

@@ -7,7 +7,7 @@ ghost use Rattle.report_text.specs.Tables.{IsReady, IsPlainRow, line_of, header_
 
 use crate::fields::set_entry;
 use csv::{ByteRecord, Writer};
-use error_store::Entry;
+use error_store::{Entry, Errors};
 use grid_plane::NoMemory;
 use rule_core::InForce;
 use std::alloc::Global;
@@ -55,20 +55,37 @@ fn write_header<W: Write + Drop>(writer: &mut Writer<W>, alloc: Global) -> Resul
     Ok(())
 }
 
+// A record for each error of a run. What the record had before is lost.
+fn write_run<W: Write + Drop>(
+    writer: &mut Writer<W>,
+    row: &mut ByteRecord,
+    rules: &[InForce],
+    entries: &[Entry],
+) -> Result<(), NoMemory>
+    requires { IsReady writer.old }
+    ensures ready { OnOk result (IsReady writer.new) }
+    ensures text { OnOk result (Appends (text_written W.contents writer.old) (text_written W.contents writer.new) (flat_map (report_line rules.now) entries.now)) }
+{
+    for entry in entries {
+        set_entry(row, rules, entry)?;
+        write_row(writer, row)?;
+    }
+    Ok(())
+}
+
 // A record for each error.
 fn write_entries<W: Write + Drop>(
     writer: &mut Writer<W>,
     alloc: Global,
     rules: &[InForce],
-    entries: &[Entry],
+    errors: &Errors,
 ) -> Result<(), NoMemory>
     requires { IsReady writer.old }
-    ensures { OnOk result (Appends (text_written W.contents writer.old) (text_written W.contents writer.new) (flat_map (report_line rules.now) entries.now)) }
+    ensures { OnOk result (Appends (text_written W.contents writer.old) (text_written W.contents writer.new) (flat_map (report_line rules.now) errors.now)) }
 {
     let mut row = ByteRecord::new(alloc);
-    for entry in entries {
-        set_entry(&mut row, rules, entry)?;
-        write_row(writer, &row)?;
+    for run in errors.by_pair().values() {
+        write_run(writer, &mut row, rules, run)?;
     }
     Ok(())
 }
@@ -78,12 +95,12 @@ pub fn write_report<W: Write + Drop>(
     writer: &mut Writer<W>,
     alloc: Global,
     rules: &[InForce],
-    entries: &[Entry],
+    errors: &Errors,
 ) -> Result<(), NoMemory>
     requires { IsReady writer.old }
-    ensures { OnOk result (Appends (text_written W.contents writer.old) (text_written W.contents writer.new) (report_of rules.now entries.now)) }
+    ensures { OnOk result (Appends (text_written W.contents writer.old) (text_written W.contents writer.new) (report_of rules.now errors.now)) }
 {
     write_header(writer, alloc)?;
-    write_entries(writer, alloc, rules, entries)?;
+    write_entries(writer, alloc, rules, errors)?;
     Ok(())
 }

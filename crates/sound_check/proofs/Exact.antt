@@ -18,7 +18,8 @@ use Rattle.sound_laws.proofs.Lists.{none_at}
 use Rattle.sound_laws.proofs.Settling.{judged_by_cut}
 use Rattle.sound_laws.proofs.Validations.{fresh_points, fresh_whole}
 use Rattle.validation_laws.proofs.Judging.{found_alike}
-use Rattle.sound_check.specs.Pairs.{IsOf, IsSoundPair, AreExact}
+use Rattle.error_store.specs.Pairs.{IsOf}
+use Rattle.sound_check.specs.Pairs.{IsSoundPair, AreExact}
 
 -- ---- fresh entries are exact
 pub exact_live : (M : Meaning) (F : List Feature) (row : Row) (fresh : List Entry) (r a : ℕ) (f : Feature)

@@ -14,7 +14,8 @@ use Rattle.topology_terms.specs.Entry.{Entry, by_key, entry_at, HasCellsAt, HasW
 use Rattle.sound_laws.proofs.Keyed as keyed
 use Rattle.sound_laws.proofs.Lists.{keys, entry_key, every_found}
 use Rattle.sound_check.specs.Rest.{IsWithinOff}
-use Rattle.sound_check.specs.Pairs.{IsOf, LiesIn, IsEntrySound, WholesAgree, IsSoundPair}
+use Rattle.error_store.specs.Pairs.{IsOf}
+use Rattle.sound_check.specs.Pairs.{LiesIn, IsEntrySound, WholesAgree, IsSoundPair}
 
 -- ---- lists
 pub every_more : {A : Type 0} (P : A → Type 0) (xs : List A) (i : ℕ) (x : A) → i < length xs → x ≡ get_or xs i x → Every P (take i xs)

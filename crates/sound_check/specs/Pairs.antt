@@ -1,6 +1,5 @@
 -- The stored entries of a rule and a subject, beside those that are found afresh.
 --
--- IsOf r a e            e is of the rule r and the subject a
 -- LiesIn d es e         off the dirt each point of e is in the entry of its key in es
 -- IsEntrySound d o fresh e    off the dirt e has no point but those of its fresh entry; e is framed, if it is not whole; its frame stands
 -- WholesAgree d o fresh stored r a    where the envelope is there and clear of the dirt, both have a whole entry, or none has
@@ -16,10 +15,6 @@ use Rattle.topology_terms.specs.Broken.{Row}
 use Rattle.topology_terms.specs.Meaning.{Meaning}
 use Rattle.topology_terms.specs.Entry.{Entry, entry_at, HasCellsAt, HasWhole, IsFramed}
 use Rattle.sound_check.specs.Frames.{Stands}
-
-pub record IsOf (r a : ℕ) (e : Entry) : Type 0 where
-  pub rule : e.rule ≡ r
-  pub subject : e.subject ≡ a
 
 abbrev pub LiesIn : List Rectangle → List Entry → Entry → Type 0
 LiesIn d es e = (q : Point) → ¬ (Covers d q) → InCells e.cells q → HasCellsAt es e.rule e.subject e.other q

@@ -1,7 +1,8 @@
 ghost use Rattle.std.specs.Prelude.{◌↔◌, IsTrue, IfOk};
 ghost use Rattle.plane_terms.specs.Lists.{Every};
 ghost use Rattle.topology_terms.specs.Entry.{IsAscending};
-ghost use Rattle.sound_check.specs.Pairs.{IsOf, WholesAgree, IsSoundPair};
+ghost use Rattle.error_store.specs.Pairs.{IsOf};
+ghost use Rattle.sound_check.specs.Pairs.{WholesAgree, IsSoundPair};
 
 use crate::entries::{all_lie_in, are_entries_sound, has_whole};
 use dirty_area::Dirt;

@@ -20,7 +20,7 @@ use crate::kinds::KindRules;
 use crate::places::place_of;
 use crate::topology::Topology;
 use convex_cell::{BorrowedCell, Cells};
-use error_store::Entry;
+use error_store::{Entry, Errors};
 use feature_store::{Slot, Store};
 use grid_index::Index;
 use grid_plane::NoMemory;
@@ -111,13 +111,22 @@ fn cells_law(cells: &Cells)
     }
 }
 
-// The law of the frame and the cells of each error.
-fn errors_law(entries: &[Entry])
+// The law of the frame and the cells of each error of a run.
+fn run_law(entries: &[Entry])
     ensures { Every IsDrawn entries.now }
 {
     for entry in entries {
         entry.frame().corner_law();
         cells_law(entry.cells());
+    }
+}
+
+// The law of the frame and the cells of each error.
+fn errors_law(errors: &Errors)
+    ensures { Every IsDrawn errors.now }
+{
+    for run in errors.by_pair().values() {
+        run_law(run);
     }
 }
 
@@ -150,7 +159,7 @@ impl<R: KindRules> Topology<R> {
         names_law(&self.store);
         shapes_law(self.store.features().slots());
         self.dirt.loose_law();
-        errors_law(self.entries.entries());
+        errors_law(&self.entries);
     }
 
     /// The text of what is saved of the topology.

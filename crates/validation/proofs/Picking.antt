@@ -19,7 +19,7 @@ use Rattle.validation.specs.Placed.{placed_of, ArePlaced, HasNear}
 use Rattle.validation.proofs.Nearby.{live_more}
 
 -- ---- one handle after another
-picked_joined : {X : Type 0} (P : X → Type 0) (number : X → ℕ) (xs ys : List X) (before mid out : List ℕ)
+pub picked_joined : {X : Type 0} (P : X → Type 0) (number : X → ℕ) (xs ys : List X) (before mid out : List ℕ)
     → ArePicked P number xs before mid → ArePicked P number ys mid out → ArePicked P number (xs ++ ys) before out
 picked_joined {X} P number xs ys before mid out h k a =
     let Q : X → Type 0 = λ (x : X). (number x ≡ a) × P x in (

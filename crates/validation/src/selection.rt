@@ -1,4 +1,4 @@
-ghost use Rattle.std.specs.Prelude.{◌≡◌, ◌↔◌, ◌≤◌, ℕ, [], ◌∷◌, ◌++◌, if◌then◌else◌, Contains, filter, IfOk, OnOk};
+ghost use Rattle.std.specs.Prelude.{◌≡◌, ◌↔◌, ◌≤◌, ℕ, [], ◌∷◌, ◌++◌, if◌then◌else◌, Contains, filter, flat_map, IfOk, OnOk};
 ghost use Rattle.std.specs.Option.{option_to_list};
 ghost use Rattle.std.specs.List.Sorted.{IsStrictlyIncreasing};
 ghost use Rattle.topology_terms.specs.Feature.{env, feature_at};
@@ -10,13 +10,12 @@ ghost use Rattle.plane_terms.specs.Dirt.{MeetsDirt};
 ghost use Rattle.plane_terms.specs.Rectangle.{rects_meet};
 ghost use Rattle.validation_laws.specs.Parts.{IsRising, live_of};
 ghost use Rattle.validation_laws.specs.Picked.{ArePicked};
-ghost use Rattle.plane_terms.specs.Lists.{Every};
 ghost use Rattle.validation.specs.Asked.{IsAskedOf, dirty_parts};
 ghost use Rattle.validation.specs.Placed.{HasNear};
 
 use crate::dirty::DirtyParts;
 use crate::ruled::RuledFeatures;
-use error_store::{Entry, Errors, next_of};
+use error_store::{Entry, Errors};
 use feature_store::Features;
 use grid_index::{Index, Meter, once_each};
 use grid_plane::{Handles, NoMemory, Rect};
@@ -63,24 +62,26 @@ fn add_features(
     Ok(())
 }
 
-// The subjects of the errors whose frame does; each of them is one of these.
+// The subjects of the errors of a run whose frame does.
+fn add_run(run: &[Entry], dirty: &DirtyParts, found: &mut Vec<u32>) -> Result<(), NoMemory>
+    ensures { OnOk result (ArePicked (λ (e : entries_of.Entry). MeetsDirt dirty.now e.frame) (λ (e : entries_of.Entry). e.subject) run.now found.old.items found.new.items) }
+{
+    for e in run {
+        push_if(found, dirty.meets(&e.frame()), e.key().subject)?;
+    }
+    Ok(())
+}
+
+// The subjects of the errors of these runs whose frame does.
 fn add_subjects(
-    entries: &[Entry],
-    near: &[u32],
+    runs: &[&[Entry]],
     dirty: &DirtyParts,
     found: &mut Vec<u32>,
 ) -> Result<(), NoMemory>
-    requires ascending { entries_of.IsAscending entries.now }
-    requires rising { IsStrictlyIncreasing near.now }
-    requires enough { Every (λ (e : entries_of.Entry). MeetsDirt dirty.now e.frame → Contains near.now e.subject) entries.now }
-    ensures { OnOk result (ArePicked (λ (e : entries_of.Entry). MeetsDirt dirty.now e.frame) (λ (e : entries_of.Entry). e.subject) entries.now found.old.items found.new.items) }
+    ensures { OnOk result (ArePicked (λ (e : entries_of.Entry). MeetsDirt dirty.now e.frame) (λ (e : entries_of.Entry). e.subject) (flat_map (λ r. r.now) runs.now) found.old.items found.new.items) }
 {
-    let mut from = 0;
-    while let Some(place) = next_of(entries, from, near) {
-        let e = &entries[place];
-        let key = e.key();
-        push_if(found, dirty.meets(&e.frame()), key.subject)?;
-        from = place + 1;
+    for run in runs {
+        add_run(run, dirty, found)?;
     }
     Ok(())
 }
@@ -124,9 +125,11 @@ pub fn select<R, M: Meter, N: Meter>(
     let near = near_of(alloc, &dirty, ruled.index(), feature_meter)?;
     let framed = near_of(alloc, &dirty, errors.frames(), error_meter)?;
     ruled.order_law();
+    errors.order_law();
     let mut found = Vec::with_capacity(alloc, near.len())?;
     add_features(ruled.features(), &near, &dirty, &mut found)?;
-    add_subjects(errors.entries(), &framed, &dirty, &mut found)?;
+    let runs = errors.of_subjects(alloc, &framed)?;
+    add_subjects(&runs, &dirty, &mut found)?;
     once_each(alloc, &mut found)?;
     Ok(Handles::of(found))
 }

@@ -1,10 +1,7 @@
-use Rattle.std.proofs.Common.{◌≡◌, ◌≤◌, ◌-◌, length, take}
-use Rattle.error_store.specs.Frames.{frames_if}
-use Rattle.error_store.specs.Runs.{is_of}
+use Rattle.std.proofs.Common.{◌≡◌, take, map}
+use Rattle.error_store.specs.Frames.{framed_of}
+use Rattle.error_store.proofs.Noted.{spread}
 use Rattle.error_store.proofs.frames.frames_of.Given as goal
 
-abbrev pub invariant-loop-at : goal.invariant-loop-at
-invariant-loop-at l = (l.from ≤ length l.entries) × (l.frames.items ≡ frames_if (is_of l.subjects) (take l.from l.entries))
-
-abbrev pub decreases-loop-at : goal.decreases-loop-at
-decreases-loop-at l = length l.entries - l.from
+abbrev pub invariant-loop-run : goal.invariant-loop-run
+invariant-loop-run l = l.frames.items ≡ map framed_of (spread (take l.run-index l.run-items))

@@ -1,10 +1,27 @@
-use Rattle.std.proofs.Common.{inl, inr, sym}
-use Rattle.error_store.specs.Frames.{framed_of}
-use Rattle.error_store.proofs.Framing.{framed_next}
+use Rattle.std.proofs.Common.{◌∙◌, ◌++◌, [], ap, sym, subst, append_assoc, Contains}
+use Rattle.std.proofs.lemmas.List.{append-nil}
+use Rattle.plane_terms.proofs.ListLemmas.{every_append}
+use Rattle.topology_terms.specs.Entry.{Entry}
+use Rattle.error_store.specs.Frames.{framed_of, AreFramed}
+use Rattle.error_store.specs.Pairs.{entries_in}
+use Rattle.error_store.proofs.Framing.{framed_more}
 use Rattle.error_store.proofs.frames.index_of.Goals as goal
 
-pub loop-e-preserved : goal.loop-e-preserved
-loop-e-preserved c =
-    let gains = c.in_ok-put.ensures.ok in
-    framed_next c.loop-e.index c.put.new.self c.args.entries.now c.loop-e.e-index c.e-item.result c.loop-e-test.true c.e-item.is
-    (λ q m. (gains q).1 (inl m)) c.loop-e.invariant ((gains (framed_of c.e-item.result)).1 (inr (sym c.place_of.ensures)))
+pub loop-run-init : goal.loop-run-init
+loop-run-init c = ([], sym (ap entries_in (c.into_iter-run-iterator.ensures.into_iter_gives ∙ c.values-run-items.ensures.rest)), tt)
+
+pub loop-run-preserved : goal.loop-run-preserved
+loop-run-preserved c =
+    let inv = c.loop-run.invariant in
+    let es = c.in-Some.run'.now.items in
+    let put = c.in_ok-add_frames.ensures in (
+      inv.0 ++ es,
+      inv.1 ∙ (ap (λ vs. inv.0 ++ entries_in vs) c.in-Some.ensures.steps ∙ sym (append_assoc inv.0 es (entries_in c.next.new.self))),
+      every_append (λ (e : Entry). Contains c.add_frames.new.index (framed_of e)) inv.0 es
+          (framed_more c.loop-run.index c.add_frames.new.index inv.0 put.kept inv.2) (rw c.deref.ensures.value at put.there),
+    )
+
+pub returns : goal.returns
+returns c =
+    let inv = c.loop-run.invariant in
+    subst (AreFramed c.loop-run.index) (sym (inv.1 ∙ (ap (λ vs. inv.0 ++ entries_in vs) c.in-None.ensures.steps.0 ∙ append-nil inv.0))) inv.2

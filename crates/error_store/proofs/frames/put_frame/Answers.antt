@@ -1,3 +1,4 @@
+use Rattle.error_store.specs.Pairs.{all_entries}
 use Rattle.std.proofs.Common.{inl, inr, sym}
 use Rattle.std.proofs.lemmas.Result.{on_ok_weaker}
 use Rattle.error_store.specs.Frames.{framed_of}
@@ -5,7 +6,7 @@ use Rattle.error_store.proofs.Framing.{framed_some, kept_of, only_of}
 use Rattle.error_store.proofs.frames.put_frame.Goals as goal
 
 pub returns-then-stands-clause-there : goal.returns-then-stands-clause-there
-returns-then-stands-clause-there c = rw c.place_of-place.ensures at (framed_some c.args.index.now c.args.entries.now
+returns-then-stands-clause-there c = rw c.place_of-place.ensures at (framed_some c.args.index.now (all_entries c.args.runs.now)
     c.place_of-place.result c.requires.framed (c.stands.ensures.0 c.if-stands.true))
 
 pub returns-then-stands-clause-only : goal.returns-then-stands-clause-only

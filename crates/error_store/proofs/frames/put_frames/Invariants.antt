@@ -1,3 +1,4 @@
+use Rattle.error_store.specs.Pairs.{all_entries}
 use Rattle.std.proofs.Common.{◌⊎◌, take, Contains}
 use Rattle.grid_index.specs.declared.placed.Placed.{Placed}
 use Rattle.error_store.specs.Frames.{AreFramed, IsFrame}
@@ -5,7 +6,7 @@ use Rattle.error_store.proofs.frames.put_frames.Given as goal
 
 abbrev pub invariant-loop-e : goal.invariant-loop-e
 invariant-loop-e l = record {
-  framed : AreFramed l.index l.entries;
+  framed : AreFramed l.index (all_entries l.runs);
   there : AreFramed l.index (take l.e-index l.fresh);
   only : (q : Placed) → Contains l.index q → Contains l.fn.index q ⊎ IsFrame (take l.e-index l.fresh) q;
 }

@@ -1,31 +1,30 @@
-use Rattle.std.proofs.Common.{◌≡◌, ◌∷◌, [], false, true, arith, refl, length}
-use Rattle.topology_terms.specs.Entry.{Entry}
-use Rattle.error_store.specs.Frames.{framed_of}
-use Rattle.error_store.proofs.Framing.{none_one, none_past, none_of_all, some_at}
+use Rattle.std.proofs.Common.{◌≡◌, false, true, arith, refl}
+use Rattle.error_store.proofs.Framing.{frame_of_run, stands_on, stands_not}
+use Rattle.error_store.proofs.Walking.{less_left}
 use Rattle.error_store.proofs.frames.stands.Goals as goal
 
-pub returns-then-is_at : goal.returns-then-is_at
-returns-then-is_at c =
-    let n = c.in-Some.ensures in (
-      (λ t. some_at (λ (e : Entry). framed_of e ≡ c.args.place.now) c.args.entries.now c.in-Some.at c.index-entries-at.result n.within
-          c.index-entries-at.is (c.is_at.ensures.0 c.if-is_at.true)),
-      (λ s. refl),
-    )
+pub loop-pair-init : goal.loop-pair-init
+loop-pair-init c = λ p v e s f. tt
 
-pub loop-at-preserved : goal.loop-at-preserved
-loop-at-preserved c =
-    let n = c.in-Some.ensures in
-    let p = c.args.place.now in (
-      omega (arith, n.within),
-      none_one p (p.handle ∷ []) c.args.entries.now c.loop-at.from c.in-Some.at c.index-entries-at.result (0, omega arith, refl)
-          c.loop-at.invariant.1 n c.index-entries-at.is (λ q. let t = c.is_at.ensures.1 q in let f = c.if-is_at.false in cc),
-    )
+pub returns-then-has_at : goal.returns-then-has_at
+returns-then-has_at c = (
+  λ t. frame_of_run c.args.runs.now c.in-Some.pair c.in-Some.run'.now c.args.place.now c.in-Some.ensures.next.run
+      (rw c.deref.ensures.value at (c.has_at.ensures.0 c.if-has_at.true)),
+  λ s. refl,
+)
+
+pub loop-pair-preserved : goal.loop-pair-preserved
+loop-pair-preserved c = stands_on c.args.place.now c.args.runs.now c.loop-pair.from c.in-Some.pair c.in-Some.run'.now
+    c.in-Some.ensures.next (λ f. let t = c.has_at.ensures.1 (rw c.deref.ensures.value f) in let g = c.if-has_at.false in cc) c.loop-pair.invariant
+
+pub loop-pair-smaller : goal.loop-pair-smaller
+loop-pair-smaller c =
+    let n = c.in-Some.ensures.next in
+    less_left c.args.runs.now c.loop-pair.from c.in-Some.pair c.in-Some.pair c.in-Some.run'.now n.on n.run (refl, omega arith)
 
 pub returns : goal.returns
-returns c =
-    let p = c.args.place.now in
-    let es = c.args.entries.now in (
-      (λ (t : false ≡ true). absurd cc),
-      (λ s. absurd (none_of_all (λ (e : Entry). framed_of e ≡ p) es (none_past p (p.handle ∷ []) es c.loop-at.from (length es)
-          (0, omega arith, refl) c.loop-at.invariant.1 c.in_default.ensures) s)),
-    )
+returns c = (
+  (λ (t : false ≡ true). absurd cc),
+  (λ s. absurd (stands_not c.args.place.now c.args.runs.now c.loop-pair.from c.in_default.ensures.ordered c.requires c.in_default.ensures.next
+      c.loop-pair.invariant s)),
+)

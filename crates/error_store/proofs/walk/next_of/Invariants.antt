@@ -1,9 +1,8 @@
-use Rattle.std.proofs.Common.{◌≤◌, ◌-◌, length}
-use Rattle.error_store.specs.Runs.{HasNoneOf}
+use Rattle.error_store.proofs.Walking.{IsPast, left_from}
 use Rattle.error_store.proofs.walk.next_of.Given as goal
 
-abbrev pub invariant-loop-at : goal.invariant-loop-at
-invariant-loop-at l = (l.from ≤ l.at) × HasNoneOf l.subjects l.entries l.from l.at
+abbrev pub invariant-loop-pair : goal.invariant-loop-pair
+invariant-loop-pair l = IsPast l.subjects l.runs l.initial.from l.from
 
-abbrev pub decreases-loop-at : goal.decreases-loop-at
-decreases-loop-at l = length l.entries - l.at
+abbrev pub decreases-loop-pair : goal.decreases-loop-pair
+decreases-loop-pair l = left_from l.from l.runs.entries

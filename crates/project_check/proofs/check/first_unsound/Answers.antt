@@ -44,7 +44,7 @@ loop-subject-preserved g c =
           seen_found M p rules ns i a left c.loop-subject.found c.loop-subject-test.true
           (get_or_default ns i 0 a c.loop-subject-test.true) (c.loop-subject.invariant.1 p h is) k
           (record { rule = c.rule.inside.number; subject = a }) broken c.requires.rising
-          (λ q e l n no. other_sound M L p F c.args.dirt.now c.args.entries.now ns q.number q.row h c.requires.all
+          (λ q e l n no. other_sound M L p F c.args.dirt.now c.args.errors.now ns q.number q.row h c.requires.all
           (every_there (λ (r : InForce). M.Fits r.row F) rules k q c.requires.fits l e) n no)
           number refl,
     )
@@ -52,6 +52,6 @@ loop-subject-preserved g c =
 pub returns : goal.returns
 returns g c = λ p h is.
     let ns = c.args.subjects.now in
-    checked g.R.RuleSet.meaning g.met.R.RuleSet.laws p c.args.features.now.features c.args.dirt.now c.args.entries.now c.args.in_force.now ns h
+    checked g.R.RuleSet.meaning g.met.R.RuleSet.laws p c.args.features.now.features c.args.dirt.now c.args.errors.now c.args.in_force.now ns h
     c.requires.all c.loop-subject.left c.loop-subject.found is c.requires.rules c.requires.fits
     (rw (take_all c.loop-subject.subject-index ns c.loop-subject-test.false) at (c.loop-subject.invariant.1 p h is))

@@ -50,7 +50,7 @@ returns-then-not-branch-clause-first g c = λ p h.
     let there = paired_there (IsPartOf M F a) c.args.in_force.now c.in_ok-fresh.fresh.items c.loop-i.i fresh
     c.in_ok-fresh.ensures.parts short c.index.ensures in
     let fits = every_there (λ (q : InForce). M.Fits q.row F) c.args.in_force.now c.loop-i.i there.x c.requires.fits there.within there.is in
-    let told = compared_at M g.met.R.RuleSet.laws g.met.R.RuleSet.right p F c.args.dirt.now c.args.entries.now there.x a fresh
+    let told = compared_at M g.met.R.RuleSet.laws g.met.R.RuleSet.right p F c.args.dirt.now c.args.errors.now there.x a fresh
     c.envelope_of-envelope.result c.in_ok-is_sound_part.field-0 h c.requires.features fits there.holds c.envelope_of-envelope.ensures
     c.in_ok-is_sound_part.ensures in
     record {
@@ -72,7 +72,7 @@ loop-i-preserved g c = λ p h.
     let there = paired_there (IsPartOf M F a) c.args.in_force.now c.in_ok-fresh.fresh.items c.loop-i.i fresh
     c.in_ok-fresh.ensures.parts short c.index.ensures in
     let fits = every_there (λ (q : InForce). M.Fits q.row F) c.args.in_force.now c.loop-i.i there.x c.requires.fits there.within there.is in
-    let told = compared_at M g.met.R.RuleSet.laws g.met.R.RuleSet.right p F c.args.dirt.now c.args.entries.now there.x a fresh
+    let told = compared_at M g.met.R.RuleSet.laws g.met.R.RuleSet.right p F c.args.dirt.now c.args.errors.now there.x a fresh
     c.envelope_of-envelope.result c.in_ok-is_sound_part.field-0 h c.requires.features fits there.holds c.envelope_of-envelope.ensures
     c.in_ok-is_sound_part.ensures in
     every_more (IsSoundFor M p a) c.args.in_force.now c.loop-i.i there.x there.within there.is (c.loop-i.invariant p h)

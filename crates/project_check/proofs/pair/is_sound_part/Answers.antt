@@ -7,8 +7,8 @@ pub returns : goal.returns
 returns c =
     let number = ap (λ (q : InForce). q.number) c.behind-fresh.view_is in
     IfOk-weaker c.is_sound_pair.result _ _ (λ yes t. record {
-      stored = c.entries_of-stored.result.now;
-      same = rw (number, c.rule.ensures) at c.entries_of-stored.ensures.same;
+      stored = c.of_pair-stored.result.now;
+      same = rw (number, c.rule.ensures) at c.of_pair-stored.ensures.same;
       told = rw (number, c.rule.ensures, c.entries-found.ensures) at t;
     })
     c.is_sound_pair.ensures

@@ -11,6 +11,6 @@ returns-clause-rising c = rising c.once_each.new.found.items c.in_ok-once_each.e
 pub returns-clause-all : goal.returns-clause-all
 returns-clause-all c =
     let found : c.add_subjects.new.subjects.items ≡ map (λ (f : Feature). f.handle) c.args.features.now
-    ++ map (λ (e : Entry). e.subject) c.args.entries.now = search rules in
-    all_there c.args.features.now c.args.entries.now c.add_subjects.new.subjects.items c.once_each.new.found.items found
+    ++ map (λ (e : Entry). e.subject) c.args.errors.now = search rules in
+    all_there c.args.features.now c.args.errors.now c.add_subjects.new.subjects.items c.once_each.new.found.items found
     c.in_ok-once_each.ensures.same

@@ -1,7 +1,8 @@
-use Rattle.std.proofs.Common.{◌≡◌, ◌++◌, take}
 use Rattle.std.specs.Prelude.{flat_map}
+use Rattle.error_store.specs.Pairs.{entries_in}
 use Rattle.project_text.specs.Pushed.{error_texts}
+use Rattle.wkt_text.specs.Appended.{Pushed}
 use Rattle.project_text.proofs.write.push_errors.Given as goal
 
-abbrev pub invariant-loop-entry : goal.invariant-loop-entry
-invariant-loop-entry l = l.out.items ≡ l.initial.out.items ++ flat_map error_texts (take l.entry-index l.entries)
+abbrev pub invariant-loop-run : goal.invariant-loop-run
+invariant-loop-run l = Pushed l.initial.out.items l.out.items (flat_map error_texts l.errors) (flat_map error_texts (entries_in l.run-iterator))

@@ -1,4 +1,3 @@
-use Rattle.std.proofs.Common.{refl}
 use Rattle.topology_terms.specs.Project.{Project}
 use Rattle.project_text.proofs.Sections.{all_written}
 use Rattle.project_text.proofs.write.write_parts.Goals as goal
@@ -10,9 +9,7 @@ returns c =
       rules = c.args.rules.now;
       features = c.args.store.now.features;
       next = c.args.store.now.next;
-      dirt =
-          c.args.dirt.now;
+      dirt = c.args.dirt.now;
       entries = c.args.errors.now;
     } in
-    all_written p _ _ _ _ _ refl c.blocks-2.ensures c.entries.ensures.value
-    c.new-out.ensures.items c.in_ok-push_project.ensures
+    all_written p _ _ _ c.blocks-2.ensures c.new-out.ensures.items c.in_ok-push_project.ensures

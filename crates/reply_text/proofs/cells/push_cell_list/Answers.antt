@@ -1,7 +1,5 @@
 use Rattle.std.proofs.Common.{ap, refl}
-use Rattle.std.specs.Prelude.{flat_map}
 use Rattle.script_terms.specs.Reply.{total_line}
-use Rattle.reply_text.specs.Lines.{entry_lines}
 use Rattle.wkt_text.proofs.Pushing.{failed}
 use Rattle.reply_text.proofs.Fronts.{first_cut, last_cut, next_cut}
 use Rattle.reply_text.proofs.cells.push_cell_list.Goals as goal
@@ -9,10 +7,10 @@ use Rattle.reply_text.proofs.cells.push_cell_list.Goals as goal
 pub returns-in_err-push_all_with_cells : goal.returns-in_err-push_all_with_cells
 returns-in_err-push_all_with_cells c =
     failed c.from_residual.result _ _ _ _ c.from_residual.ensures.0 refl
-    (first_cut _ _ _ _ _ (ap (λ entries. flat_map entry_lines entries) c.entries.ensures.value) c.in_err-push_all_with_cells.ensures)
+    (first_cut _ _ _ _ _ refl c.in_err-push_all_with_cells.ensures)
 
 pub returns-in_err-push_total : goal.returns-in_err-push_total
 returns-in_err-push_total c =
     failed c.from_residual-in_err-push_total.result _ _ _ _ c.from_residual-in_err-push_total.ensures.0 refl
-    (next_cut _ _ _ _ _ _ (ap (λ entries. flat_map entry_lines entries) c.entries.ensures.value) c.in_ok-push_all_with_cells.ensures
+    (next_cut _ _ _ _ _ _ refl c.in_ok-push_all_with_cells.ensures
     (last_cut _ _ _ _ (ap total_line c.len.ensures) c.in_err-push_total.ensures))

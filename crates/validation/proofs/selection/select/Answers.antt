@@ -10,7 +10,7 @@ use Rattle.validation.specs.Asked.{dirty_parts}
 use Rattle.validation.proofs.Asking.{asked_moved, asked_none}
 use Rattle.validation.proofs.Dirtied.{cover_met, meets_parts, picked_as}
 use Rattle.validation.proofs.Picking.{picked_near, dirty_near}
-use Rattle.validation.proofs.Framed.{frames_near}
+use Rattle.validation.proofs.Framed.{frames_near, picked_among}
 use Rattle.validation.proofs.selection.select.Goals as goal
 
 pub returns-clause-rising : goal.returns-clause-rising
@@ -32,14 +32,12 @@ returns-clause-chosen g c = λ p ef ed ee a.
     (λ f. meets (env f)) (picked_near dirty F c.in_ok-near.near.items [] early c.order_law.ensures.features enough among)) in
     let second : ArePicked (λ (e : Entry). MeetsPart p.dirt w e.frame) (λ (e : Entry). e.subject) p.entries early late =
     rw ee (picked_as _ (λ (e : Entry). MeetsPart p.dirt w e.frame) (λ (e : Entry). e.subject) c.args.errors.now early
-    late (λ e. meets e.frame) (rw c.entries.ensures.value at c.in_ok-add_subjects.ensures)) in
-    let chosen = selected_picked p w early late (rw ef c.order_law.ensures.features) (rw ee c.entries.ensures.ascending) first second a in
+    late (λ e. meets e.frame) (picked_among (λ (e : Entry). MeetsDirt c.in_ok-dirty.dirty e.frame) c.in_ok-framed.framed.items c.args.errors.now
+    early late (frames_near c.frames.result.now c.args.errors.now c.in_ok-dirty.dirty c.in_ok-framed.framed.items c.frames.ensures
+    c.in_ok-framed.ensures.near) (rw (c.deref-3.ensures.value, c.in_ok-runs.ensures, c.deref-2.ensures.value) at c.in_ok-add_subjects.ensures))) in
+    let chosen = selected_picked p w early late (rw ef c.order_law.ensures.features) (rw ee c.order_law-2.ensures) first second a in
     let once = c.in_ok-once_each.ensures.same a in
     rw c.of-2.ensures ((λ k. chosen.0 (once.0 k)), (λ k. once.1 (chosen.1 k)))
-
-pub add_subjects-requires-clause-enough : goal.add_subjects-requires-clause-enough
-add_subjects-requires-clause-enough g c = rw (c.deref-2.ensures.value, c.entries.ensures.value) (frames_near c.frames.result.now
-    c.args.errors.now c.in_ok-dirty.dirty c.in_ok-framed.framed.items c.frames.ensures c.in_ok-framed.ensures.near)
 
 pub returns-clause-asked : goal.returns-clause-asked
 returns-clause-asked g c = rw (← c.index.ensures.value) (asked_moved (dirty_parts c.args.met.now c.args.window.now) c.in_ok-dirty.dirty
@@ -63,6 +61,11 @@ returns-in_err-found-clause-asked g c = rw (← c.index.ensures.value) (asked_mo
 
 pub returns-in_err-add_features-clause-asked : goal.returns-in_err-add_features-clause-asked
 returns-in_err-add_features-clause-asked g c = rw (← c.index.ensures.value) (asked_moved (dirty_parts c.args.met.now c.args.window.now) c.in_ok-dirty.dirty
+    c.index.result.now (g.M.Meter.taken c.args.feature_meter.now) (g.M.Meter.taken c.near_of.new.meter) c.in_ok-dirty.ensures.parts
+    c.near_of.ensures.asked)
+
+pub returns-in_err-runs-clause-asked : goal.returns-in_err-runs-clause-asked
+returns-in_err-runs-clause-asked g c = rw (← c.index.ensures.value) (asked_moved (dirty_parts c.args.met.now c.args.window.now) c.in_ok-dirty.dirty
     c.index.result.now (g.M.Meter.taken c.args.feature_meter.now) (g.M.Meter.taken c.near_of.new.meter) c.in_ok-dirty.ensures.parts
     c.near_of.ensures.asked)
 

@@ -1,8 +1,0 @@
-use Rattle.std.proofs.Common.{rules}
-use Rattle.std.proofs.lemmas.List.Sorted.{IsPartitionPoint-from_clause}
-use Rattle.project_check.specs.Runs.{is_upto}
-use Rattle.project_check.proofs.run.first_beyond.Goals as goal
-
-pub returns-clause-parted : goal.returns-clause-parted
-returns-clause-parted c = IsPartitionPoint-from_clause (is_upto c.args.rule c.args.subject) c.args.entries.now c.partition_point.result
-    c.partition_point.ensures.partitioned c.requires (λ a r f k. search rules)
