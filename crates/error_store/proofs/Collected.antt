@@ -4,7 +4,7 @@ use Rattle.std.specs.BTreeMap.{BTreeMap, IsOrdered, get}
 use Rattle.std.specs.Global.{Vec}
 use Rattle.std.specs.List.{filter, flat_map}
 use Rattle.std.specs.declared.ops.Bound.{Bound}
-use Rattle.std.specs.declared.ops.Bound.TheVariants.{Excluded, Unbounded}
+use Rattle.std.specs.declared.ops.Bound.TheVariants.{Excluded}
 use denote.Ref.{Bor}
 use Rattle.std.proofs.lemmas.Bool.{cases_Bool}
 use Rattle.std.proofs.lemmas.List.{flat_map_more}
@@ -33,9 +33,6 @@ pub record IsGathered (handles : List ℕ) (m : BTreeMap Pair (Vec Entry)) (lo :
   pub ascending : IsAscending es
   pub before : (p : Pair) → IsFrom lo p → Every (IsEarlier p) es
   pub same : (r a b : ℕ) → (entry_at es r a b ≡ entry_at (chosen_of handles m) r a b) ⊎ IsFrom lo (pair r a)
-
-pub gathered_none : (handles : List ℕ) (m : BTreeMap Pair (Vec Entry)) → IsGathered handles m Unbounded []
-gathered_none handles m = record { ascending = tt; before = λ p f. tt; same = λ r a b. inr tt }
 
 earlier_lacks : (r a b : ℕ) (e : Entry) → IsEarlier (pair r a) e → Lacks r a b e
 earlier_lacks r a b e l = elim (cases_Bool (has_key e r a b)) [

@@ -13,7 +13,6 @@ use Rattle.std.proofs.lemmas.Cmp.{ranked, nat_cmp_total, on_total, then_total}
 use Rattle.std.proofs.lemmas.List.Elements.{recursion_from_All}
 use Rattle.std.proofs.lemmas.Map.Views.{All-found}
 use Rattle.std.proofs.lemmas.Map.Keys.{sorted_head, sorted_tail}
-use Rattle.std.proofs.lemmas.Map.Lookups.{CmpEqualImpliesEq}
 use Rattle.plane_terms.specs.Lists.{Every}
 use Rattle.plane_terms.proofs.ListLemmas.{every_append, every_map}
 use Rattle.topology_terms.specs.Entry.{Entry, key_of, by_key, has_key, entry_at, IsBefore, IsAscending}
@@ -68,15 +67,6 @@ less_before p q e = elim (of_pairs p q) [
   | inr s ↦ elim s [
     | inl a ↦ let w : Less ≡ Equal = sym e ∙ a.0 in absurd cc
     | inr a ↦ let w : Less ≡ Greater = sym e ∙ a.0 in absurd cc
-  ]
-]
-
-pub exact_pairs : CmpEqualImpliesEq pair_cmp
-exact_pairs p q e = elim (of_pairs p q) [
-  | inl a ↦ let w : Equal ≡ Less = sym e ∙ a.0 in absurd cc
-  | inr s ↦ elim s [
-    | inl a ↦ a.1
-    | inr a ↦ let w : Equal ≡ Greater = sym e ∙ a.0 in absurd cc
   ]
 ]
 
