@@ -23,7 +23,7 @@ from features import added as added_features
 from late import HEADS as LATE_HEADS
 from late import early_and_late, windows
 from moved import moved
-from programs import added, edits, parser_of, programs_of
+from programs import added, edits, parser_of, polygon, programs_of
 from together import steps_of
 from town import HEAD, Town, founding
 
@@ -63,6 +63,19 @@ def errors(count):
     return head + ends[:1] + added_features('points', count - 1) + ends[1:] + ['validate all'], moves, EDITS
 
 
+def square(x, y, side):
+    return polygon([(x, y), (x + side, y), (x + side, y + side), (x, y + side)])
+
+
+def zone(count):
+    """Lots in one zone of their class, each an error of it, and some of them moved by a unit; the zone is judged again each time."""
+    places = [(10 + 60 * (i % 60), 10 + 60 * (i // 60)) for i in range(count)]
+    lots = ['by ann add lots ' + square(x, y, 20) for x, y in places]
+    moves = [line for i, (x, y) in enumerate(places[:20]) for line in
+             ('by ann change %d %s' % (i + 2, square(x + 1, y, 20)), 'validate %d %d %d %d' % (x - 2, y - 2, x + 23, y + 22))]
+    return HEADS['polygons'] + ['by ann add lots ' + square(0, 0, 4000)] + lots + ['validate all'], moves, len(moves) // 2
+
+
 def late(kind, count):
     """The late features of bench/late.py, and small windows."""
     early, more, numbers = early_and_late(kind, count)
@@ -91,6 +104,7 @@ def all_series():
     yield 'an edit in a town of N parcels', [900, 3600, 10000, 90000], lambda size: town(round(size ** 0.5))
     yield 'a point moved, of N', [10000, 100000, 1000000], points
     yield 'an error that comes or goes, of N', [1000, 10000, 100000], errors
+    yield 'an edit in a zone that N lots overlap', [500, 1000, 2000], zone
     for kind in LATE_HEADS:
         yield 'a window in N dirty %s' % kind, [3000, 10000, 30000], lambda size, kind=kind: late(kind, size)
     yield 'an undo or a redo, of N steps', [1000, 10000, 100000], session
