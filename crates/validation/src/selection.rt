@@ -67,17 +67,14 @@ fn add_run(run: &[Entry], dirty: &DirtyParts, found: &mut Vec<u32>) -> Result<()
     ensures { OnOk result (ArePicked (λ (e : entries_of.Entry). MeetsDirt dirty.now e.frame) (λ (e : entries_of.Entry). e.subject) run.now found.old.items found.new.items) }
 {
     for e in run {
-        push_if(found, dirty.meets(&e.frame()), e.key().subject)?;
+        let key = e.key();
+        push_if(found, dirty.meets(&e.frame()), key.subject)?;
     }
     Ok(())
 }
 
 // The subjects of the errors of these runs whose frame does.
-fn add_subjects(
-    runs: &[&[Entry]],
-    dirty: &DirtyParts,
-    found: &mut Vec<u32>,
-) -> Result<(), NoMemory>
+fn add_subjects(runs: &[&[Entry]], dirty: &DirtyParts, found: &mut Vec<u32>) -> Result<(), NoMemory>
     ensures { OnOk result (ArePicked (λ (e : entries_of.Entry). MeetsDirt dirty.now e.frame) (λ (e : entries_of.Entry). e.subject) (flat_map (λ r. r.now) runs.now) found.old.items found.new.items) }
 {
     for run in runs {

@@ -1,7 +1,5 @@
-use Rattle.std.proofs.Common.{◌∙◌, ◌++◌, ap, subst, sym}
+use Rattle.std.proofs.Common.{◌∙◌, ap, subst, sym}
 use Rattle.std.specs.Prelude.{flat_map}
-use Rattle.std.specs.Map.Iter.{deref}
-use Rattle.std.proofs.lemmas.Map.Iter.{rest_more, rest_all}
 use Rattle.error_store.specs.Pairs.{entries_in}
 use Rattle.error_store.proofs.Listed.{said_first}
 use Rattle.project_text.specs.Pushed.{error_texts}
@@ -12,7 +10,7 @@ use Rattle.project_text.proofs.write.push_errors.Goals as goal
 pub loop-run-init : goal.loop-run-init
 loop-run-init c =
     let all = flat_map error_texts c.args.errors.now in
-    let same = ap entries_in c.values.ensures.rest ∙ c.by_pair.ensures in
+    let same = ap entries_in (c.into_iter-run-iterator.ensures.into_iter_gives ∙ c.values-run-items.ensures.rest) ∙ c.by_pair.ensures in
     subst (λ es. Pushed c.args.out.now.items c.args.out.now.items all (flat_map error_texts es)) (sym same) (start c.args.out.now.items all)
 
 pub loop-run-preserved : goal.loop-run-preserved
@@ -20,8 +18,8 @@ loop-run-preserved c =
     let old = c.args.out.now.items in
     let out = c.loop-run.out.items in
     let all = flat_map error_texts c.args.errors.now in
-    let run = c.in-Some.run.now in
-    let first = rest_more deref c.loop-run.run-iterator c.next.new.self c.next.result c.in-Some.run c.in-Some.is c.next.ensures.steps in
+    let run = c.in-Some.run'.now in
+    let first = c.in-Some.ensures.steps in
     more old out c.push_run.new.out.items all (flat_map error_texts run.items) (flat_map error_texts (entries_in c.next.new.self))
     (subst (λ left. Pushed old out all left) (said_first error_texts c.loop-run.run-iterator c.next.new.self run first) c.loop-run.invariant)
     (rw c.deref.ensures.value at c.in_ok-push_run.ensures)
@@ -29,6 +27,6 @@ loop-run-preserved c =
 pub returns : goal.returns
 returns c =
     let all = flat_map error_texts c.args.errors.now in
-    let none = rest_all deref c.loop-run.run-iterator c.next.new.self c.next.result c.in-None.is c.next.ensures.steps in
+    let none = c.in-None.ensures.steps.0 in
     done c.args.out.now.items c.loop-run.out.items all (subst (λ runs. Pushed c.args.out.now.items c.loop-run.out.items all
     (flat_map error_texts (entries_in runs))) none c.loop-run.invariant)

@@ -1,7 +1,5 @@
 use Rattle.std.proofs.Common.{◌∙◌, ap, subst, sym}
 use Rattle.std.specs.Prelude.{flat_map}
-use Rattle.std.specs.Map.Iter.{deref}
-use Rattle.std.proofs.lemmas.Map.Iter.{rest_more, rest_all}
 use Rattle.csv.specs.Writing.{text_written}
 use Rattle.error_store.specs.Pairs.{entries_in}
 use Rattle.error_store.proofs.Listed.{said_first}
@@ -13,7 +11,7 @@ pub loop-run-init : goal.loop-run-init
 loop-run-init g c =
     let now = text_written g.W.Write.contents c.args.writer.now in
     let line = report_line c.args.rules.now in
-    let same = ap entries_in c.values.ensures.rest ∙ c.by_pair.ensures in
+    let same = ap entries_in (c.into_iter-run-iterator.ensures.into_iter_gives ∙ c.values-run-items.ensures.rest) ∙ c.by_pair.ensures in
     record {
       ready = c.requires;
       text = subst (λ es. IsWritten now now (flat_map line c.args.errors.now) (flat_map line es)) (sym same)
@@ -29,8 +27,8 @@ loop-run-preserved g c =
     let now = text_written g.W.Write.contents c.loop-run.writer in
     let line = report_line c.args.rules.now in
     let all = flat_map line c.args.errors.now in
-    let run = c.in-Some.run.now in
-    let first = rest_more deref c.loop-run.run-iterator c.next.new.self c.next.result c.in-Some.run c.in-Some.is c.next.ensures.steps in
+    let run = c.in-Some.run'.now in
+    let first = c.in-Some.ensures.steps in
     record {
       ready = c.in_ok-write_run.ensures.ready;
       text = more_written start now (text_written g.W.Write.contents c.write_run.new.writer) all (flat_map line run.items)
@@ -46,5 +44,5 @@ returns g c =
     let now = text_written g.W.Write.contents c.loop-run.writer in
     let line = report_line c.args.rules.now in
     let all = flat_map line c.args.errors.now in
-    let none = rest_all deref c.loop-run.run-iterator c.next.new.self c.next.result c.in-None.is c.next.ensures.steps in
+    let none = c.in-None.ensures.steps.0 in
     all_written start now all (subst (λ runs. IsWritten start now all (flat_map line (entries_in runs))) none c.loop-run.invariant.text)
