@@ -1,7 +1,6 @@
 -- Where each frame in the index is an error's, this stays so when errors go and others come.
-use Rattle.std.proofs.Common.{◌≡◌, ◌⊎◌, inl, inr, ℕ, suc, Bool, true, false, not, cond, ◌==◌, List, [], ◌∷◌, Option, Some, None, arith, refl, sym, ◌∙◌, ap, subst, Contains}
+use Rattle.std.proofs.Common.{◌≡◌, ◌⊎◌, inl, inr, ℕ, Bool, true, false, not, cond, ◌==◌, List, [], ◌∷◌, Option, Some, None, refl, sym, ◌∙◌, ap, subst, Contains}
 use Rattle.std.specs.List.{filter}
-use Rattle.std.specs.Prelude.{map}
 use Rattle.std.proofs.lemmas.Bool.{cases_Bool}
 use Rattle.plane_terms.specs.Lists.{SomeOf}
 use Rattle.topology_terms.specs.Entry.{Entry, by_key, entry_at, IsAscending}

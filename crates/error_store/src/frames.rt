@@ -99,10 +99,7 @@ pub fn frames_in(alloc: Global, entries: &[Entry]) -> Result<Vec<Placed>, NoMemo
 }
 
 // The frames of all errors.
-fn frames_of_all(
-    alloc: Global,
-    runs: &BTreeMap<Pair, Vec<Entry>>,
-) -> Result<Vec<Placed>, NoMemory>
+fn frames_of_all(alloc: Global, runs: &BTreeMap<Pair, Vec<Entry>>) -> Result<Vec<Placed>, NoMemory>
     ensures { IfOk result (λ frames. frames.items ≡ map framed_of (all_entries runs.now)) }
 {
     let mut frames = Vec::new(alloc);

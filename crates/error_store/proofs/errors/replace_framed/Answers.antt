@@ -43,6 +43,8 @@ returns-clause-only c =
     (rw c.items-subjects.ensures.value at c.in_ok-gone.ensures)
     (rw c.deref-4.ensures.value at c.put_frames.ensures.only)
     (λ q k.
-      let l = (rw c.deref-5.ensures.value at c.drop_frames.ensures.left) q k in
-      (l.0, λ g. frame_of_these fresh q (rw (c.deref-3.ensures.value, c.in_ok-frames_in.ensures, c.deref-2.ensures.value) at
-      ((c.in_ok-staying.ensures q).0 (l.1 g)))))
+    let l = (rw c.deref-5.ensures.value at c.drop_frames.ensures.left) q k in (
+      l.0,
+      λ g. frame_of_these fresh q (rw (c.deref-3.ensures.value, c.in_ok-frames_in.ensures, c.deref-2.ensures.value) at
+          ((c.in_ok-staying.ensures q).0 (l.1 g))),
+    ))

@@ -10,5 +10,8 @@ pub returns-clause-left : goal.returns-clause-left
 returns-clause-left c = left_of c.args.index.now c.take.new.self (HasPlace c.args.staying.now) c.args.frame.now c.take.ensures
 
 pub returns-clause-kept : goal.returns-clause-kept
-returns-clause-kept c = λ q k stay. (c.take.ensures q).1 (k, λ e.
-    let t = c.has.ensures.1 (rw e at (stay (sym e))) in let f = c.if-has.false in cc)
+returns-clause-kept c = λ q k stay. (c.take.ensures q).1 (
+  k,
+  λ e.
+      let t = c.has.ensures.1 (rw e at (stay (sym e))) in let f = c.if-has.false in cc,
+)

@@ -1,5 +1,4 @@
 use Rattle.std.proofs.Common.{Contains}
-use Rattle.grid_index.specs.declared.placed.Placed.{Placed}
 use Rattle.error_store.specs.FrameSets.{HasPlace}
 use Rattle.error_store.specs.Pairs.{all_entries}
 use Rattle.error_store.proofs.Framing.{framed_kept, frame_of_these, these_frames}

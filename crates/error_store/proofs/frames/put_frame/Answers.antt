@@ -1,4 +1,4 @@
-use Rattle.std.proofs.Common.{inl, inr, sym, subst, Contains}
+use Rattle.std.proofs.Common.{inl, inr, sym}
 use Rattle.std.proofs.lemmas.Result.{on_ok_weaker}
 use Rattle.error_store.specs.Frames.{framed_of}
 use Rattle.error_store.proofs.Framing.{kept_of, only_of}
