@@ -227,8 +227,8 @@ impl Errors {
 
     /// The errors of the selected subjects give way to the fresh ones, and all others stay. A fresh error is marked exactly
     /// where the old one of its key was, and had the same extent, frame and cells. After an `Err`, out of memory, nothing
-    /// has changed. Takes steps by the logarithm of the number of pairs for each rule that has errors, for each of the subjects
-    /// and for each fresh error.
+    /// has changed. Takes steps by the logarithm of the number of pairs for each rule that has errors and for each of the subjects,
+    /// and by that of the number of errors for each error that goes or comes.
     pub fn replace(
         &mut self,
         alloc: Global,

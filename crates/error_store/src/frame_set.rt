@@ -1,6 +1,6 @@
-ghost use Rattle.std.specs.Prelude.{◌≡◌, ◌↔◌, Contains, IsTrue, IfOk, OnOk};
+ghost use Rattle.std.specs.Prelude.{◌≡◌, ◌↔◌, Contains, IsTrue, IfOk};
 ghost use Rattle.grid_index.specs.declared.placed.Placed as placed;
-ghost use Rattle.error_store.specs.FrameSets.{key_at, has_place, HasPlace};
+ghost use Rattle.error_store.specs.FrameSets.{key_at, HasPlace};
 
 use grid_index::Placed;
 use grid_plane::NoMemory;
@@ -8,7 +8,7 @@ use std::alloc::Global;
 use std::collections::BTreeSet;
 
 /// A handle and the sides of a rectangle, in grid units. Frames stand in this order.
-#[derive(Clone, Copy, Debug, PartialEq, Eq, PartialOrd, Ord)]
+#[derive(Clone, Copy, PartialEq, Eq, PartialOrd, Ord)]
 pub(crate) struct FrameKey {
     handle: u32,
     x0: i32,
@@ -23,7 +23,7 @@ pub(crate) struct FrameSet {
     keys: BTreeSet<FrameKey>,
 }
 
-fn key_of(place: &Placed) -> FrameKey
+fn key_at(place: &Placed) -> FrameKey
     ensures { result ≡ key_at place.now }
 {
     FrameKey {
@@ -36,13 +36,13 @@ fn key_of(place: &Placed) -> FrameKey
 }
 
 impl FrameSet {
-    /// These frames. Takes steps by the logarithm of their number for each of them.
+    /// These frames. Takes steps by the logarithm of their number for each.
     pub(crate) fn of(alloc: Global, frames: &[Placed]) -> Result<FrameSet, NoMemory>
         ensures { IfOk result (λ set. (q : placed.Placed) → HasPlace set q ↔ Contains frames.now q) }
     {
         let mut keys = BTreeSet::new(alloc);
         for frame in frames {
-            keys.insert(key_of(frame))?;
+            keys.insert(key_at(frame))?;
         }
         Ok(FrameSet { keys })
     }
@@ -51,6 +51,6 @@ impl FrameSet {
     pub(crate) fn has(&self, place: &Placed) -> bool
         ensures { IsTrue result ↔ HasPlace self.now place.now }
     {
-        self.keys.contains(&key_of(place))
+        self.keys.contains(&key_at(place))
     }
 }
