@@ -177,6 +177,9 @@ pub fn drop_unused(
     ensures framed { AreFramed index.new (all_entries runs.now) }
     ensures left { OnOk result ((q : placed.Placed) → Contains index.new q → Contains index.old q × (Contains frames.now q → IsFrame (all_entries runs.now) q)) }
 {
+    if frames.is_empty() {
+        return Ok(());
+    }
     let staying = FrameSet::of(alloc, &frames_of_all(alloc, runs)?)?;
     drop_frames(index, &staying, frames);
     Ok(())

@@ -1,8 +1,15 @@
-use Rattle.std.proofs.Common.{Contains}
+use Rattle.std.proofs.Common.{ℕ, ◌<◌, ◌==◌, ◌≡◌, ◌∙◌, sym, ap, subst, length, arith, Contains}
+use Rattle.std.proofs.lemmas.Bool.{eqb-true}
 use Rattle.error_store.specs.FrameSets.{HasPlace}
 use Rattle.error_store.specs.Pairs.{all_entries}
 use Rattle.error_store.proofs.Framing.{framed_kept, frame_of_these, these_frames}
 use Rattle.error_store.proofs.frames.drop_unused.Goals as goal
+
+pub returns-then-is_empty-clause-left : goal.returns-then-is_empty-clause-left
+returns-then-is_empty-clause-left c = λ q k. (
+  k,
+  λ g. let none = eqb-true (length c.args.frames.now) 0 (sym c.is_empty.ensures ∙ c.if-is_empty.true) in let l = g.1 in absurd (omega (arith, none, l)),
+)
 
 pub returns-clause-framed : goal.returns-clause-framed
 returns-clause-framed c =
