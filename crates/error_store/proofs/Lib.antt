@@ -3,6 +3,7 @@ mod Cutting
 mod Dropping
 mod Exchange
 mod Finding
+mod FrameSets
 mod Framing
 mod Joined
 mod Leaving

@@ -1,7 +1,6 @@
 -- Where each frame in the index is an error's, this stays so when errors go and others come.
-use Rattle.std.proofs.Common.{◌≡◌, ◌⊎◌, inl, inr, ℕ, suc, Bool, true, false, not, cond, ◌==◌, List, [], ◌∷◌, Option, Some, None, arith, refl, sym, ◌∙◌, ap, subst, Contains}
+use Rattle.std.proofs.Common.{◌≡◌, ◌⊎◌, inl, inr, ℕ, Bool, true, false, not, cond, ◌==◌, List, [], ◌∷◌, Option, Some, None, refl, sym, ◌∙◌, ap, subst, Contains}
 use Rattle.std.specs.List.{filter}
-use Rattle.std.specs.Prelude.{map}
 use Rattle.std.proofs.lemmas.Bool.{cases_Bool}
 use Rattle.plane_terms.specs.Lists.{SomeOf}
 use Rattle.topology_terms.specs.Entry.{Entry, by_key, entry_at, IsAscending}
@@ -12,7 +11,8 @@ use Rattle.grid_index.specs.declared.placed.Placed.{Placed}
 use Rattle.error_store.specs.Runs.{is_of}
 use Rattle.error_store.specs.Frames.{framed_of, frames_if, IsFrame, AreFrames}
 use Rattle.error_store.proofs.Dropping.{is_other}
-use Rattle.error_store.proofs.Leaving.{among, selected_or_not}
+use Rattle.error_store.proofs.Framing.{these_frames, frame_of_these}
+use Rattle.error_store.proofs.Leaving.{within, among, selected_or_not}
 
 abbrev IsAt : Placed → Entry → Type 0
 IsAt q e = framed_of e ≡ q
@@ -30,15 +30,8 @@ some_passed P p (x ∷ es) s = elim s [
     behind true h = inr h
     behind false h = h
 
-contained : (q : Placed) (es : List Entry) → SomeOf (IsAt q) es → Contains (map framed_of es) q
-contained q [] s = absurd s
-contained q (x ∷ es) s = elim s [
-  | inl e ↦ (0, omega arith, e)
-  | inr k ↦ let c = contained q es k in (suc c.0, omega (arith, c.1), c.2)
-]
-
 noted : (p : Entry → Bool) (es : List Entry) (q : Placed) → SomeOf (λ (e : Entry). IsAt q e × (p e ≡ true)) es → Contains (frames_if p es) q
-noted p es q s = contained q (filter p es) (some_passed (IsAt q) p es s)
+noted p es q s = these_frames (filter p es) q (some_passed (IsAt q) p es s)
 
 -- ---- after a replacement
 at_new : (q : Placed) (o f : Option Entry) (g : Entry) (new : List Entry) (r a b : ℕ) (n : Option Entry) → entry_at new r a b ≡ n
@@ -79,14 +72,45 @@ kept selected old fresh new gone q u h same left s =
 pub frames_replaced : (selected : List ℕ) (old fresh new : List Entry) (gone ps qs rs : List Placed) → IsAscending old → IsAscending fresh
     → AreFresh selected fresh → IsReplaced selected old fresh new → gone ≡ frames_if (is_of selected) old
     → ((q : Placed) → Contains qs q → Contains ps q ⊎ IsFrame fresh q)
-    → ((q : Placed) → Contains rs q → Contains qs q × (Contains gone q → IsFrame new q))
+    → ((q : Placed) → Contains rs q → Contains qs q × (Contains gone q → IsFrame fresh q))
     → AreFrames ps old → AreFrames rs new
 frames_replaced selected old fresh new gone ps qs rs u v w h same only left before q c =
     let l = left q c in
     elim (only q l.0) [
-      | inl k ↦ kept selected old fresh new gone q u h same l.1 (before q k)
+      | inl k ↦ kept selected old fresh new gone q u h same (λ g. came selected old fresh new q v w h (l.1 g)) (before q k)
       | inr s ↦ came selected old fresh new q v w h s
     ]
+
+-- what is gone and not of a fresh error is the frame of no error
+subject_of : (selected : List ℕ) (es : List Entry) (q : Placed) → IsFrame (filter (is_of selected) es) q → Contains selected q.handle
+subject_of selected [] q s = absurd s
+subject_of selected (x ∷ es) q s = elim (cases_Bool (is_of selected x)) [
+  | inl t ↦ elim (subst (λ b. IsFrame (cond b (x ∷ filter (is_of selected) es) (filter (is_of selected) es)) q) t s) [
+    | inl e ↦ subst (Contains selected) (ap (λ (p : Placed). p.handle) e) (within selected x.subject t)
+    | inr k ↦ subject_of selected es q k
+  ]
+  | inr t ↦ subject_of selected es q (subst (λ b. IsFrame (cond b (x ∷ filter (is_of selected) es) (filter (is_of selected) es)) q) t s)
+]
+
+of_fresh : (q : Placed) (fresh : List Entry) (r a b : ℕ) (o f : Option Entry) (n : Entry) → entry_at fresh r a b ≡ f → framed_of n ≡ q
+    → AreRemarked o f (Some n) → IsFrame fresh q
+unfolding entry_at
+of_fresh q fresh r a b o None n e is h = absurd h
+of_fresh q fresh r a b o (Some g) n e is h = found_some by_key keys (IsAt q) fresh (r, a, b) g e (ap framed_of (sym h.same) ∙ is)
+
+pub frames_stay : (selected : List ℕ) (old fresh new : List Entry) (gone : List Placed) → IsAscending new
+    → IsReplaced selected old fresh new → gone ≡ frames_if (is_of selected) old
+    → (q : Placed) → IsFrame new q → Contains gone q → IsFrame fresh q
+unfolding entry_at
+frames_stay selected old fresh new gone u h same q s g =
+    let f = some_found by_key keys (IsAt q) new u s in
+    let r = f.0.rule in
+    let a = f.0.subject in
+    let b = f.0.other in
+    let own = subject_of selected old q (frame_of_these (filter (is_of selected) old) q (subst (λ ps. Contains ps q) same g)) in
+    let chosen = subst (Contains selected) (sym (ap (λ (p : Placed). p.handle) f.2)) own in
+    of_fresh q fresh r a b (entry_at old r a b) (entry_at fresh r a b) f.0 refl f.2
+    (subst (AreRemarked (entry_at old r a b) (entry_at fresh r a b)) f.1 (h.came r a b chosen))
 
 -- ---- after a rule was dropped
 stays_or_goes : (n : ℕ) (q : Placed) (es : List Entry) → IsFrame es q

@@ -6,3 +6,4 @@ pub mod Partners
 pub mod Marking
 pub mod Runs
 pub mod Frames
+pub mod FrameSets

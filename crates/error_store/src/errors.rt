@@ -15,7 +15,10 @@ ghost use Rattle.error_store.specs.Runs.{is_of};
 use crate::cut::cut;
 use crate::entry::Entry;
 use crate::fault::MarkFault;
-use crate::frames::{drop_frames, frames_of, frames_under, index_of, put_frames};
+use crate::frame_set::FrameSet;
+use crate::frames::{
+    drop_frames, drop_unused, frames_in, frames_of, frames_under, index_of, put_frames,
+};
 use crate::key::Key;
 use crate::list::{find_in, mark_in};
 use crate::pair::Pair;
@@ -109,11 +112,13 @@ fn replace_framed(
     let subjects = selected.items();
     order_law(runs);
     let gone = frames_of(alloc, runs, subjects)?;
-    put_frames(frames, runs, &fresh)?;
+    let standing = FrameSet::of(alloc, &gone)?;
+    let staying = FrameSet::of(alloc, &frames_in(alloc, &fresh)?)?;
+    put_frames(frames, &standing, &fresh)?;
     let replaced = replace_runs(runs, number, alloc, subjects, fresh);
     order_law(runs);
     let number = replaced?;
-    drop_frames(frames, runs, &gone);
+    drop_frames(frames, &staying, &gone);
     Ok(number)
 }
 
@@ -135,8 +140,7 @@ fn drop_under(
     let gone = frames_under(alloc, runs, rule);
     drop_from(runs, rule);
     order_law(runs);
-    drop_frames(frames, runs, &gone?);
-    Ok(())
+    drop_unused(frames, alloc, runs, &gone?)
 }
 
 impl Errors {
@@ -223,8 +227,8 @@ impl Errors {
 
     /// The errors of the selected subjects give way to the fresh ones, and all others stay. A fresh error is marked exactly
     /// where the old one of its key was, and had the same extent, frame and cells. After an `Err`, out of memory, nothing
-    /// has changed. Takes steps by the logarithm of the number of pairs for each rule that has errors, for each of the subjects
-    /// and for each fresh error.
+    /// has changed. Takes steps by the logarithm of the number of pairs for each rule that has errors and for each of the subjects,
+    /// and by that of the number of errors for each error that goes or comes.
     pub fn replace(
         &mut self,
         alloc: Global,

@@ -1,19 +1,20 @@
-ghost use Rattle.std.specs.Prelude.{◌≡◌, ◌==◌, ◌↔◌, ◌⊎◌, ◌++◌, map, IsTrue, Contains, IfOk, OnOk};
+ghost use Rattle.std.specs.Prelude.{◌≡◌, ◌==◌, ◌⊎◌, ◌++◌, map, Contains, IfOk, OnOk};
 ghost use Rattle.std.specs.List.Sorted.{IsStrictlyIncreasing};
 ghost use Rattle.topology_terms.specs.Entry as terms;
 ghost use Rattle.grid_index.specs.declared.placed.Placed as placed;
+ghost use Rattle.error_store.specs.FrameSets.{HasPlace};
 ghost use Rattle.error_store.specs.Frames.{framed_of, frames_if, IsFrame, AreFramed};
 ghost use Rattle.error_store.specs.Pairs.{all_entries, AreRuns};
 ghost use Rattle.error_store.specs.Runs.{is_of};
 
-use crate::entry::{Entry, is_same_rect};
+use crate::entry::Entry;
+use crate::frame_set::FrameSet;
 use crate::pair::Pair;
-use crate::walk::{next_of, runs_of};
+use crate::walk::runs_of;
 use grid_index::{Index, Placed};
 use grid_plane::NoMemory;
 use std::alloc::Global;
 use std::collections::BTreeMap;
-use std::ops::Bound;
 
 // Where the frame of the error lies, and its subject.
 fn place_of(e: &Entry) -> Placed
@@ -23,40 +24,6 @@ fn place_of(e: &Entry) -> Placed
         rect: e.frame(),
         handle: e.key().subject,
     }
-}
-
-fn is_at(e: &Entry, place: &Placed) -> bool
-    ensures { IsTrue result ↔ (framed_of e.now ≡ place.now) }
-{
-    e.key().subject == place.handle && is_same_rect(&e.frame(), &place.rect)
-}
-
-// Whether one of these errors has this frame.
-fn has_at(entries: &[Entry], place: &Placed) -> bool
-    ensures { IsTrue result ↔ IsFrame entries.now place.now }
-{
-    for e in entries {
-        if is_at(e, place) {
-            return true;
-        }
-    }
-    false
-}
-
-// Whether an error of the handle has this frame.
-fn stands(runs: &BTreeMap<Pair, Vec<Entry>>, place: &Placed) -> bool
-    requires { AreRuns runs.now }
-    ensures { IsTrue result ↔ IsFrame (all_entries runs.now) place.now }
-{
-    let subject = [place.handle];
-    let mut from = Bound::Unbounded;
-    while let Some((pair, run)) = next_of(runs, from, &subject) {
-        if has_at(run, place) {
-            return true;
-        }
-        from = Bound::Excluded(pair);
-    }
-    false
 }
 
 // Puts the frames of these errors in.
@@ -81,39 +48,33 @@ pub fn index_of(alloc: Global, runs: &BTreeMap<Pair, Vec<Entry>>) -> Result<Inde
     Ok(index)
 }
 
-// Puts the frame of the fresh error in, unless an error has it, which stands there already.
-fn put_frame(
-    index: &mut Index,
-    runs: &BTreeMap<Pair, Vec<Entry>>,
-    fresh: &Entry,
-) -> Result<(), NoMemory>
-    requires runs { AreRuns runs.now }
-    requires framed { AreFramed index.old (all_entries runs.now) }
+// Puts the frame of the fresh error in, unless it is one of those that stand there.
+fn put_frame(index: &mut Index, standing: &FrameSet, fresh: &Entry) -> Result<(), NoMemory>
+    requires { (q : placed.Placed) → HasPlace standing.now q → Contains index.old q }
     ensures there { OnOk result (Contains index.new (framed_of fresh.now)) }
     ensures kept { (q : placed.Placed) → Contains index.old q → Contains index.new q }
     ensures only { (q : placed.Placed) → Contains index.new q → Contains index.old q ⊎ (framed_of fresh.now ≡ q) }
 {
     let place = place_of(fresh);
-    if stands(runs, &place) {
+    if standing.has(&place) {
         return Ok(());
     }
     index.put(place)
 }
 
-/// Puts the frames of the fresh errors in. Those of the errors stay there, after an `Err`, out of memory, too.
-pub fn put_frames(
+/// Puts the frames of the fresh errors in, but for those that stand there. After an `Err`, out of memory, some may be in.
+pub(crate) fn put_frames(
     index: &mut Index,
-    runs: &BTreeMap<Pair, Vec<Entry>>,
+    standing: &FrameSet,
     fresh: &[Entry],
 ) -> Result<(), NoMemory>
-    requires runs { AreRuns runs.now }
-    requires framed { AreFramed index.old (all_entries runs.now) }
+    requires { (q : placed.Placed) → HasPlace standing.now q → Contains index.old q }
     ensures there { OnOk result (AreFramed index.new fresh.now) }
-    ensures framed { AreFramed index.new (all_entries runs.now) }
+    ensures kept { (q : placed.Placed) → Contains index.old q → Contains index.new q }
     ensures only { (q : placed.Placed) → Contains index.new q → Contains index.old q ⊎ IsFrame fresh.now q }
 {
     for e in fresh {
-        put_frame(index, runs, e)?;
+        put_frame(index, standing, e)?;
     }
     Ok(())
 }
@@ -126,6 +87,26 @@ fn note(frames: &mut Vec<Placed>, entries: &[Entry]) -> Result<(), NoMemory>
         frames.push(place_of(e))?;
     }
     Ok(())
+}
+
+/// The frames of these errors.
+pub fn frames_in(alloc: Global, entries: &[Entry]) -> Result<Vec<Placed>, NoMemory>
+    ensures { IfOk result (λ frames. frames.items ≡ map framed_of entries.now) }
+{
+    let mut frames = Vec::new(alloc);
+    note(&mut frames, entries)?;
+    Ok(frames)
+}
+
+// The frames of all errors.
+fn frames_of_all(alloc: Global, runs: &BTreeMap<Pair, Vec<Entry>>) -> Result<Vec<Placed>, NoMemory>
+    ensures { IfOk result (λ frames. frames.items ≡ map framed_of (all_entries runs.now)) }
+{
+    let mut frames = Vec::new(alloc);
+    for run in runs.values() {
+        note(&mut frames, run)?;
+    }
+    Ok(frames)
 }
 
 /// The frames of the errors of these subjects.
@@ -164,27 +145,42 @@ pub fn frames_under(
     Ok(frames)
 }
 
-// Takes the frame out, unless an error has it.
-fn drop_frame(index: &mut Index, runs: &BTreeMap<Pair, Vec<Entry>>, frame: &Placed)
-    requires runs { AreRuns runs.now }
-    requires framed { AreFramed index.old (all_entries runs.now) }
-    ensures framed { AreFramed index.new (all_entries runs.now) }
-    ensures left { (q : placed.Placed) → Contains index.new q → Contains index.old q × (frame.now ≡ q → IsFrame (all_entries runs.now) q) }
+// Takes the frame out, unless it is one of those that stay.
+fn drop_frame(index: &mut Index, staying: &FrameSet, frame: &Placed)
+    ensures left { (q : placed.Placed) → Contains index.new q → Contains index.old q × (frame.now ≡ q → HasPlace staying.now q) }
+    ensures kept { (q : placed.Placed) → Contains index.old q → (frame.now ≡ q → HasPlace staying.now q) → Contains index.new q }
 {
-    if stands(runs, frame) {
+    if staying.has(frame) {
         return;
     }
     index.take(frame);
 }
 
-/// Takes out these frames, but for those that an error has.
-pub fn drop_frames(index: &mut Index, runs: &BTreeMap<Pair, Vec<Entry>>, frames: &[Placed])
-    requires runs { AreRuns runs.now }
-    requires framed { AreFramed index.old (all_entries runs.now) }
-    ensures framed { AreFramed index.new (all_entries runs.now) }
-    ensures left { (q : placed.Placed) → Contains index.new q → Contains index.old q × (Contains frames.now q → IsFrame (all_entries runs.now) q) }
+/// Takes out these frames, but for those that stay.
+pub(crate) fn drop_frames(index: &mut Index, staying: &FrameSet, frames: &[Placed])
+    ensures left { (q : placed.Placed) → Contains index.new q → Contains index.old q × (Contains frames.now q → HasPlace staying.now q) }
+    ensures kept { (q : placed.Placed) → Contains index.old q → (Contains frames.now q → HasPlace staying.now q) → Contains index.new q }
 {
     for frame in frames {
-        drop_frame(index, runs, frame);
+        drop_frame(index, staying, frame);
     }
+}
+
+/// Takes out these frames, but for those that an error has. After an `Err`, out of memory, all are there.
+pub fn drop_unused(
+    index: &mut Index,
+    alloc: Global,
+    runs: &BTreeMap<Pair, Vec<Entry>>,
+    frames: &[Placed],
+) -> Result<(), NoMemory>
+    requires { AreFramed index.old (all_entries runs.now) }
+    ensures framed { AreFramed index.new (all_entries runs.now) }
+    ensures left { OnOk result ((q : placed.Placed) → Contains index.new q → Contains index.old q × (Contains frames.now q → IsFrame (all_entries runs.now) q)) }
+{
+    if frames.is_empty() {
+        return Ok(());
+    }
+    let staying = FrameSet::of(alloc, &frames_of_all(alloc, runs)?)?;
+    drop_frames(index, &staying, frames);
+    Ok(())
 }

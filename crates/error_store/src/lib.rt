@@ -6,6 +6,7 @@ mod cut;
 mod entry;
 mod errors;
 mod fault;
+mod frame_set;
 mod frames;
 mod key;
 mod list;

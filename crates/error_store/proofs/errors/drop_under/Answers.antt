@@ -1,4 +1,5 @@
 use Rattle.std.specs.Prelude.{Contains}
+use Rattle.std.proofs.lemmas.Result.{on_ok_weaker}
 use Rattle.plane_terms.proofs.ListLemmas.{every_filter}
 use Rattle.topology_terms.specs.Entry.{Entry}
 use Rattle.error_store.specs.Frames.{framed_of}
@@ -11,11 +12,11 @@ pub returns-in_err-gone-clause-framed : goal.returns-in_err-gone-clause-framed
 returns-in_err-gone-clause-framed c = rw c.drop_from.ensures.left (every_filter (λ (e : Entry). Contains c.args.frames.now (framed_of e))
     (is_other c.args.rule) (all_entries c.args.runs.now) c.requires.framed)
 
-pub drop_frames-requires-clause-framed : goal.drop_frames-requires-clause-framed
-drop_frames-requires-clause-framed c = rw c.drop_from.ensures.left (every_filter
+pub drop_unused-requires : goal.drop_unused-requires
+drop_unused-requires c = rw c.drop_from.ensures.left (every_filter
     (λ (e : Entry). Contains c.args.frames.now (framed_of e)) (is_other c.args.rule) (all_entries c.args.runs.now) c.requires.framed)
 
 pub returns-clause-only : goal.returns-clause-only
-returns-clause-only c = frames_dropped c.args.rule (all_entries c.args.runs.now) (all_entries c.drop_from.new.runs) c.in_ok-gone.field-0.items
-    c.args.frames.now c.drop_frames.new.index c.drop_from.ensures.left c.in_ok-gone.ensures
-    (rw c.deref.ensures.value at c.drop_frames.ensures.left)
+returns-clause-only c = on_ok_weaker c.drop_unused.result (λ left. frames_dropped c.args.rule (all_entries c.args.runs.now)
+    (all_entries c.drop_from.new.runs) c.in_ok-gone.field-0.items c.args.frames.now c.drop_unused.new.index c.drop_from.ensures.left c.in_ok-gone.ensures
+    (rw c.deref.ensures.value at left)) c.drop_unused.ensures.left

@@ -1,17 +1,50 @@
+use Rattle.std.proofs.Common.{Contains}
+use Rattle.error_store.specs.FrameSets.{HasPlace}
 use Rattle.error_store.specs.Pairs.{all_entries}
-use Rattle.error_store.proofs.Framing.{framed_replaced}
-use Rattle.error_store.proofs.Staying.{frames_replaced}
+use Rattle.error_store.specs.Runs.{is_of}
+use Rattle.error_store.proofs.Framing.{framed_more, framed_kept, framed_replaced, frames_stand, frame_of_these, these_frames}
+use Rattle.error_store.proofs.Staying.{frames_replaced, frames_stay}
 use Rattle.error_store.proofs.errors.replace_framed.Goals as goal
 
-pub drop_frames-requires-clause-framed : goal.drop_frames-requires-clause-framed
-drop_frames-requires-clause-framed c = framed_replaced c.put_frames.new.index c.args.selected.now
-    (all_entries c.args.runs.now) c.args.fresh.items (all_entries c.replace_runs-replaced.new.runs) c.order_law-2.ensures.ascending
-    (rw c.items-subjects.ensures.value at c.in_ok-number.ensures.replaced) c.put_frames.ensures.framed (rw c.deref.ensures.value at c.in_ok-put_frames.ensures.there)
+pub put_frames-requires : goal.put_frames-requires
+put_frames-requires c = λ q s. frames_stand c.args.frames.now (is_of c.args.selected.now) (all_entries c.args.runs.now) c.requires.framed q
+    (rw c.items-subjects.ensures.value at (rw (c.deref.ensures.value, c.in_ok-gone.ensures) at ((c.in_ok-standing.ensures q).0 s)))
+
+pub returns-in_err-put_frames-clause-framed : goal.returns-in_err-put_frames-clause-framed
+returns-in_err-put_frames-clause-framed c = framed_more c.args.frames.now c.put_frames.new.index (all_entries c.args.runs.now)
+    c.put_frames.ensures.kept c.requires.framed
+
+pub returns-in_err-number-clause-framed : goal.returns-in_err-number-clause-framed
+returns-in_err-number-clause-framed c = rw c.in_err-number.ensures.err (framed_more c.args.frames.now c.put_frames.new.index (all_entries c.args.runs.now)
+    c.put_frames.ensures.kept c.requires.framed)
+
+pub returns-clause-framed : goal.returns-clause-framed
+returns-clause-framed c =
+    let old = all_entries c.args.runs.now in
+    let fresh = c.args.fresh.items in
+    let new = all_entries c.replace_runs-replaced.new.runs in
+    let gone = c.in_ok-gone.gone.items in
+    let replaced = rw c.items-subjects.ensures.value at c.in_ok-number.ensures.replaced in
+    framed_kept c.put_frames.new.index c.drop_frames.new.index new (λ q. Contains gone q → HasPlace c.in_ok-staying.staying q)
+    (λ q s g. (c.in_ok-staying.ensures q).1 (rw (c.deref-3.ensures.value, c.in_ok-frames_in.ensures, c.deref-2.ensures.value) (these_frames fresh q
+    (frames_stay c.args.selected.now old fresh new gone c.order_law-2.ensures.ascending replaced
+    (rw c.items-subjects.ensures.value at c.in_ok-gone.ensures) q s g))))
+    (rw c.deref-5.ensures.value at c.drop_frames.ensures.kept)
+    (framed_replaced c.put_frames.new.index c.args.selected.now old fresh new c.order_law-2.ensures.ascending replaced
+    (framed_more c.args.frames.now c.put_frames.new.index old c.put_frames.ensures.kept c.requires.framed)
+    (rw c.deref-4.ensures.value at c.in_ok-put_frames.ensures.there))
 
 pub returns-clause-only : goal.returns-clause-only
-returns-clause-only c = frames_replaced c.args.selected.now (all_entries c.args.runs.now) c.args.fresh.items (all_entries c.replace_runs-replaced.new.runs)
+returns-clause-only c =
+    let fresh = c.args.fresh.items in
+    frames_replaced c.args.selected.now (all_entries c.args.runs.now) fresh (all_entries c.replace_runs-replaced.new.runs)
     c.in_ok-gone.gone.items c.args.frames.now c.put_frames.new.index c.drop_frames.new.index c.order_law.ensures.ascending c.requires.ascending
     c.requires.new (rw c.items-subjects.ensures.value at c.in_ok-number.ensures.replaced)
     (rw c.items-subjects.ensures.value at c.in_ok-gone.ensures)
-    (rw c.deref.ensures.value at c.put_frames.ensures.only)
-    (rw c.deref-2.ensures.value at c.drop_frames.ensures.left)
+    (rw c.deref-4.ensures.value at c.put_frames.ensures.only)
+    (λ q k.
+    let l = (rw c.deref-5.ensures.value at c.drop_frames.ensures.left) q k in (
+      l.0,
+      λ g. frame_of_these fresh q (rw (c.deref-3.ensures.value, c.in_ok-frames_in.ensures, c.deref-2.ensures.value) at
+          ((c.in_ok-staying.ensures q).0 (l.1 g))),
+    ))

@@ -1,14 +1,17 @@
-use Rattle.error_store.specs.Pairs.{all_entries}
-use Rattle.error_store.proofs.Framing.{framed_left, left_of, left_same}
+use Rattle.error_store.specs.FrameSets.{HasPlace}
+use Rattle.error_store.proofs.Framing.{left_of}
+use Rattle.std.proofs.Common.{sym}
 use Rattle.error_store.proofs.frames.drop_frame.Goals as goal
 
-pub returns-then-stands-clause-left : goal.returns-then-stands-clause-left
-returns-then-stands-clause-left c =
-    left_same c.args.index.now (all_entries c.args.runs.now) c.args.frame.now (c.stands.ensures.0 c.if-stands.true)
-
-pub returns-clause-framed : goal.returns-clause-framed
-returns-clause-framed c = framed_left c.args.index.now c.take.new.self (all_entries c.args.runs.now) c.args.frame.now c.take.ensures
-    (λ s. let t = c.stands.ensures.1 s in let f = c.if-stands.false in cc) c.requires.framed
+pub returns-then-has-clause-left : goal.returns-then-has-clause-left
+returns-then-has-clause-left c = λ q k. (k, λ e. rw (← e) (c.has.ensures.0 c.if-has.true))
 
 pub returns-clause-left : goal.returns-clause-left
-returns-clause-left c = left_of c.args.index.now c.take.new.self (all_entries c.args.runs.now) c.args.frame.now c.take.ensures
+returns-clause-left c = left_of c.args.index.now c.take.new.self (HasPlace c.args.staying.now) c.args.frame.now c.take.ensures
+
+pub returns-clause-kept : goal.returns-clause-kept
+returns-clause-kept c = λ q k stay. (c.take.ensures q).1 (
+  k,
+  λ e.
+      let t = c.has.ensures.1 (rw e at (stay (sym e))) in let f = c.if-has.false in cc,
+)

@@ -1,16 +1,14 @@
-use Rattle.error_store.specs.Pairs.{all_entries}
 use Rattle.std.proofs.Common.{inl, inr, sym}
 use Rattle.std.proofs.lemmas.Result.{on_ok_weaker}
 use Rattle.error_store.specs.Frames.{framed_of}
-use Rattle.error_store.proofs.Framing.{framed_some, kept_of, only_of}
+use Rattle.error_store.proofs.Framing.{kept_of, only_of}
 use Rattle.error_store.proofs.frames.put_frame.Goals as goal
 
-pub returns-then-stands-clause-there : goal.returns-then-stands-clause-there
-returns-then-stands-clause-there c = rw c.place_of-place.ensures at (framed_some c.args.index.now (all_entries c.args.runs.now)
-    c.place_of-place.result c.requires.framed (c.stands.ensures.0 c.if-stands.true))
+pub returns-then-has-clause-there : goal.returns-then-has-clause-there
+returns-then-has-clause-there c = rw c.place_of-place.ensures at (c.requires c.place_of-place.result (c.has.ensures.0 c.if-has.true))
 
-pub returns-then-stands-clause-only : goal.returns-then-stands-clause-only
-returns-then-stands-clause-only c = λ q k. inl k
+pub returns-then-has-clause-only : goal.returns-then-has-clause-only
+returns-then-has-clause-only c = λ q k. inl k
 
 pub returns-clause-there : goal.returns-clause-there
 returns-clause-there c = on_ok_weaker c.put.result (λ g. (g (framed_of c.args.fresh.now)).1 (inr (sym c.place_of-place.ensures)))

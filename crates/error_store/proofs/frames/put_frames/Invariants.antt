@@ -1,12 +1,12 @@
-use Rattle.error_store.specs.Pairs.{all_entries}
 use Rattle.std.proofs.Common.{◌⊎◌, take, Contains}
 use Rattle.grid_index.specs.declared.placed.Placed.{Placed}
 use Rattle.error_store.specs.Frames.{AreFramed, IsFrame}
+use Rattle.error_store.proofs.Framing.{Holds}
 use Rattle.error_store.proofs.frames.put_frames.Given as goal
 
 abbrev pub invariant-loop-e : goal.invariant-loop-e
 invariant-loop-e l = record {
-  framed : AreFramed l.index (all_entries l.runs);
+  kept : Holds l.fn.index l.index;
   there : AreFramed l.index (take l.e-index l.fresh);
   only : (q : Placed) → Contains l.index q → Contains l.fn.index q ⊎ IsFrame (take l.e-index l.fresh) q;
 }
