@@ -1,4 +1,4 @@
-use Rattle.std.proofs.Common.{ℕ, ◌<◌, ◌==◌, ◌≡◌, ◌∙◌, sym, ap, subst, length, arith, Contains}
+use Rattle.std.proofs.Common.{◌∙◌, sym, length, arith, Contains}
 use Rattle.std.proofs.lemmas.Bool.{eqb-true}
 use Rattle.error_store.specs.FrameSets.{HasPlace}
 use Rattle.error_store.specs.Pairs.{all_entries}
