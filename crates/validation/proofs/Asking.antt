@@ -24,7 +24,7 @@ use Rattle.validation_laws.specs.Parts.{IsRising, live_of}
 use Rattle.grid_index.specs.declared.placed.Placed.{Placed}
 use Rattle.grid_index.specs.Steps.{most_steps}
 use Rattle.grid_plane.specs.Rectangles.{IsJoin}
-use Rattle.validation.specs.Asked.{dirty_parts, places_of, places_in, IsRound, IsClose, AreAsked, asked_steps, judged_envelopes, IsAskedOf, IsAskedFor}
+use Rattle.validation.specs.Asked.{dirty_parts, places_of, places_in, IsRound, IsClose, asked_steps, judged_envelopes, IsAskedOf, IsAskedFor}
 use Rattle.validation.specs.Projects.{RuledFeatures}
 use Rattle.validation.specs.Parted.{RulePart, rules_of}
 use Rattle.validation.proofs.Dirtied.{front_more, every_moved}
