@@ -1,7 +1,7 @@
 -- The segments of a shape from one on: those that are left of its block, and of its part.
-use Rattle.std.proofs.Common.{◌≡◌, ℕ, ◌+◌, ◌-◌, ◌*◌, ◌/◌, ◌%◌, ◌<◌, ◌≤◌, List, [], ◌∷◌, ◌++◌, refl, sym, ◌∙◌, ap, cond, take, drop, length, get_or, append-nil, append_assoc, subst, arith}
+use Rattle.std.proofs.Common.{◌≡◌, ℕ, suc, ◌+◌, ◌-◌, ◌*◌, ◌/◌, ◌%◌, ◌<◌, ◌≤◌, List, [], ◌∷◌, ◌++◌, refl, sym, ◌∙◌, ap, cond, take, drop, length, get_or, append-nil, append_assoc, subst, arith}
 use Rattle.std.specs.Prelude.{flat_map, Result, Ok, Err, OnOk}
-use Rattle.std.proofs.lemmas.List.{take-append-drop, drop-drop, drop_all}
+use Rattle.std.proofs.lemmas.List.{take-append-drop, drop-drop, drop_all, length-drop}
 use Rattle.std.proofs.lemmas.Grind.{flat_map-append}
 use Rattle.plane_terms.specs.Point.{Place}
 use Rattle.plane_terms.specs.Segment.{Segment, overlap}
@@ -51,7 +51,7 @@ none_between i ts = let z : i - i ≡ 0 = omega arith in ap (λ n. take n (drop 
 
 between_next : (i j : ℕ) (ts : List Segment) (t : Segment) → i < j → i < length ts → t ≡ get_or ts i t → between i j ts ≡ t ∷ between (i + 1) j ts
 between_next i j ts t l m e =
-    let more : j - i ≡ j - (i + 1) + 1 = omega arith in
+    let more : j - i ≡ suc (j - (i + 1)) = omega arith in
     ap (take (j - i)) (item_dropped ts i t m e) ∙ ap (λ n. take n (t ∷ drop (i + 1) ts)) more
 
 between_rest : (i j : ℕ) (ts : List Segment) → i ≤ j → between i j ts ++ drop j ts ≡ drop i ts
@@ -94,3 +94,10 @@ pub part_done : (es : List Place) (i j : ℕ) (ts : List Segment) → i ≡ j �
 part_done es i j ts e cells all h =
     let none : between i j ts ≡ [] = subst (λ k. between i k ts ≡ []) e (none_between i ts) in
     sym (append-nil cells) ∙ (ap (λ us. cells ++ in_part es us (drop j ts)) (sym none) ∙ h)
+
+-- ---- the segments of the next part
+pub fits_behind : (i n : ℕ) (ts : List Segment) → i ≤ length ts → n ≤ length (drop i ts) → i + n ≤ length ts
+fits_behind i n ts l f = let d = length-drop i ts in omega (arith, d)
+
+pub between_taken : (i n : ℕ) (ts : List Segment) → between i (i + n) ts ≡ take n (drop i ts)
+between_taken i n ts = let e : i + n - i ≡ n = omega arith in ap (λ m. take m (drop i ts)) e

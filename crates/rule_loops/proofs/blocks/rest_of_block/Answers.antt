@@ -10,8 +10,8 @@ returns-then-is_empty c =
     one_block c.args.from ts c.split_at.result.1.now (are_few (length c.frames.result.now) ts c.frames.ensures.count c.if-is_empty.ensures)
     (c.split_at.ensures.back ∙ ap (drop c.args.from) c.segs.ensures.value)
 
-pub returns-then-rest-lt-count : goal.returns-then-rest-lt-count
-returns-then-rest-lt-count c =
+pub returns-then-rest-count : goal.returns-then-rest-count
+returns-then-rest-count c =
     let ts = segments_of c.args.shape.now in
     last_block c.args.from ts c.split_at.result.1.now (are_many (length c.frames.result.now) ts c.frames.ensures.count c.if-is_empty.ensures)
     (c.split_at.ensures.back ∙ ap (drop c.args.from) c.segs.ensures.value) (omega arith)

@@ -18,8 +18,8 @@ returns-then-is_empty c = rw (sym (line_rings_of c.args.line.now c.lines.result.
 pub crossings_by_block-requires : goal.crossings_by_block-requires
 crossings_by_block-requires c =
     let s = c.args.line.now in
-    let parts = c.lines.result.now in
-    rings_segments s kind.Line (rings_in parts) (segments_of s) c.requires (line_rings_of s parts (c.lines.ensures.parts c.requires)) refl
+    let parts = c.lines-2.result.now in
+    rings_segments s kind.Line (rings_in parts) (segments_of s) c.requires (line_rings_of s parts (c.lines-2.ensures.parts c.requires)) refl
 
 pub returns : goal.returns
-returns c = rw (sym (line_rings_of c.args.line.now c.lines.result.now (c.lines.ensures.parts c.requires))) at c.crossings_by_block.ensures
+returns c = rw (sym (line_rings_of c.args.line.now c.lines-2.result.now (c.lines-2.ensures.parts c.requires))) at c.crossings_by_block.ensures
