@@ -65,6 +65,7 @@ pub(crate) fn crossings_by_block(
 {
     let mut cells = Cells::new(alloc);
     let mut from = 0;
+    // No sum below is past the number of segments, which is a `usize`.
     line.seg_count();
     for part in parts {
         let end = from + part.len().saturating_sub(1);

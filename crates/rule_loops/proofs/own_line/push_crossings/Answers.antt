@@ -15,4 +15,4 @@ returns c =
     crossings_after c.args.off.now c.args.segment.now c.index-segs-from.result c.args.from c.args.end (segments_of c.args.line.now)
     (omega arith) (omega arith)
     (c.index-segs-from.is ∙ ap (λ us. get_or us c.args.from c.index-segs-from.result) c.segs.ensures.value)
-    c.args.cells.now c.push_with_next.new.cells c.push_later.new.cells c.push_later.result c.in_ok-push_with_next.ensures c.push_later.ensures
+    c.args.cells.now c.push_with_next.new.cells c.push_later-2.new.cells c.push_later-2.result c.in_ok-push_with_next.ensures c.push_later-2.ensures
