@@ -1,4 +1,4 @@
-use Rattle.std.proofs.Common.{◌≡◌, ◌∙◌, ap, drop, length, arith}
+use Rattle.std.proofs.Common.{◌∙◌, ap, drop, length, arith}
 use Rattle.plane_terms.specs.Shape.{segments_of}
 use Rattle.rule_loops.proofs.Blocked.{are_many, are_few}
 use Rattle.rule_loops.proofs.Later.{one_block, last_block, block_begun}

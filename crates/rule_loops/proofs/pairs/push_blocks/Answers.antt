@@ -1,4 +1,4 @@
-use Rattle.std.proofs.Common.{◌≡◌, false, List, ◌++◌, sym, ◌∙◌, ap, arith}
+use Rattle.std.proofs.Common.{◌≡◌, false, List, ◌++◌, sym, ◌∙◌, arith}
 use Rattle.std.specs.Prelude.{flat_map}
 use Rattle.plane_terms.specs.Rectangle.{rects_meet}
 use Rattle.plane_terms.specs.Segment.{Segment, box_of}
