@@ -6,6 +6,7 @@ mod Carved
 mod Chosen
 mod Depth
 mod HeldBy
+mod Later
 mod LineSides
 mod More
 mod Neighbours

@@ -4,8 +4,9 @@
 -- block_count ts      how many blocks there are, one at least
 -- left_from k ts      the segments from the block of number k on
 -- block_of k ts       those of the block of number k
+-- between i j ts      the segments from number i to before number j
 -- reaches_below r q   a segment in the rectangle r may run below the place q: the span of r along x holds q, and r begins below q
-use Rattle.std.specs.Prelude.{ℕ, ◌+◌, ◌*◌, ◌/◌, nat_lt, int_le, int_lt, Bool, ◌&&◌, List, length, take, drop, if◌then◌else◌}
+use Rattle.std.specs.Prelude.{ℕ, ◌+◌, ◌*◌, ◌/◌, ◌-◌, nat_lt, int_le, int_lt, Bool, ◌&&◌, List, length, take, drop, if◌then◌else◌}
 use Rattle.plane_terms.specs.Point.{Place}
 use Rattle.plane_terms.specs.Rectangle.{Rectangle}
 use Rattle.plane_terms.specs.Segment.{Segment}
@@ -21,6 +22,9 @@ left_from k ts = drop (block_size ts * k) ts
 
 abbrev pub block_of : ℕ → List Segment → List Segment
 block_of k ts = take (block_size ts) (left_from k ts)
+
+abbrev pub between : ℕ → ℕ → List Segment → List Segment
+between i j ts = take (j - i) (drop i ts)
 
 abbrev pub reaches_below : Rectangle → Place → Bool
 reaches_below r q = int_le r.x0 q.x && (int_lt q.x r.x1 && int_lt r.y0 q.y)

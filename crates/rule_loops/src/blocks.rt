@@ -1,7 +1,7 @@
-ghost use Rattle.std.specs.Prelude.{◌≡◌, ◌<◌};
+ghost use Rattle.std.specs.Prelude.{◌≡◌, ◌<◌, ◌≤◌, ◌++◌, drop, length};
 ghost use Rattle.plane_terms.specs.Shape.{segments_of};
 ghost use Rattle.shape.specs.Frames.{IsRound};
-ghost use Rattle.rule_loops.specs.Blocks.{block_count, block_of};
+ghost use Rattle.rule_loops.specs.Blocks.{block_count, block_of, left_from};
 
 use grid_plane::{Rect, Seg};
 use shape::Shape;
@@ -44,4 +44,21 @@ pub(crate) fn block_frame(shape: &Shape, k: usize) -> Rect
         return shape.env();
     }
     frames[k]
+}
+
+/// The segments from this number on that stand in its block, and the number of the next block.
+pub(crate) fn rest_of_block(shape: &Shape, from: usize) -> (&[Seg], usize)
+    requires { from ≤ length (segments_of shape.now) }
+    ensures { drop from (segments_of shape.now) ≡ result.0.now ++ left_from result.1 (segments_of shape.now) }
+{
+    let (_, rest) = shape.segs().split_at(from);
+    if shape.frames().is_empty() {
+        return (rest, 1);
+    }
+    let next = from / BLOCK + 1;
+    let count = BLOCK - from % BLOCK;
+    if rest.len() < count {
+        return (rest, next);
+    }
+    (&rest[..count], next)
 }

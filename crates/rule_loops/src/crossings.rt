@@ -11,8 +11,8 @@ use convex_cell::Cells;
 use grid_plane::{GridPoint, NoMemory, Seg};
 use std::alloc::Global;
 
-// Puts last what a segment gives with the next of its part: nothing where they do not overlap.
-fn push_with_next(
+/// Puts last what a segment gives with the next of its part: nothing where they do not overlap.
+pub(crate) fn push_with_next(
     alloc: Global,
     off: &OffEnds<'_>,
     cells: &mut Cells,

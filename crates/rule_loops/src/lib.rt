@@ -18,6 +18,7 @@ mod nearby;
 mod off_ends;
 mod open;
 mod own;
+mod own_line;
 mod pairs;
 mod partners;
 mod places;

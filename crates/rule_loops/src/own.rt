@@ -7,6 +7,7 @@ ghost use Rattle.topology_terms.specs.Plans as plans;
 
 use crate::crossings::later_crossings;
 use crate::off_ends::{OffEnds, Spared};
+use crate::own_line::crossings_by_block;
 use convex_cell::Cells;
 use grid_plane::{GridPoint, NoMemory, Seg};
 use plane_terms::Kind;
@@ -26,7 +27,10 @@ fn line_crossings(alloc: Global, off: &OffEnds<'_>, line: &Shape) -> Result<Cell
     requires { line.now.kind ≡ kind.Line }
     ensures { IfOk result (λ cells. cells ≡ terms.later_crossings off.now (rings_of line.now)) }
 {
-    later_crossings(alloc, off, line.lines(), line.segs())
+    if line.frames().is_empty() {
+        return later_crossings(alloc, off, line.lines(), line.segs());
+    }
+    crossings_by_block(alloc, off, line.lines(), line)
 }
 
 fn push_rings(

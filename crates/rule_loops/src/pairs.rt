@@ -1,10 +1,11 @@
-ghost use Rattle.std.specs.Prelude.{◌≡◌, ◌++◌, false, [], List, flat_map, IfOk, OnOk};
+ghost use Rattle.std.specs.Prelude.{◌≡◌, ◌≤◌, ◌++◌, false, [], List, drop, length, flat_map, IfOk, OnOk};
 ghost use Rattle.plane_terms.specs.Cell as planes;
 ghost use Rattle.plane_terms.specs.Segment.{Segment, IsSegment};
 ghost use Rattle.plane_terms.specs.Shape.{segments_of};
 ghost use Rattle.topology_terms.specs.Cells as terms;
+ghost use Rattle.rule_loops.specs.Blocks.{left_from};
 
-use crate::blocks::{block, block_count, block_frame};
+use crate::blocks::{block, block_count, block_frame, rest_of_block};
 use convex_cell::Cells;
 use grid_plane::{NoMemory, Seg};
 use shape::Shape;
@@ -46,7 +47,27 @@ pub(crate) fn push_row<C: Crossing>(
     Ok(())
 }
 
-// Puts last what a segment gives with each of the shape's. Blocks that do not come near are passed over.
+// Puts last what a segment gives with the shape's from this block on. Blocks that do not come near are passed over.
+fn push_blocks<C: Crossing>(
+    alloc: Global,
+    crossing: &C,
+    cells: &mut Cells,
+    segment: &Seg,
+    shape: &Shape,
+    first: usize,
+) -> Result<(), NoMemory>
+    ensures { OnOk result (cells.new ≡ cells.old ++ flat_map (C.crossing crossing.now segment.now) (left_from first (segments_of shape.now))) }
+{
+    let own = segment.env();
+    for k in first..block_count(shape) {
+        if own.meets(&block_frame(shape, k)) {
+            push_row(alloc, crossing, cells, segment, block(shape, k))?;
+        }
+    }
+    Ok(())
+}
+
+// Puts last what a segment gives with each of the shape's.
 fn push_with_shape<C: Crossing>(
     alloc: Global,
     crossing: &C,
@@ -56,13 +77,24 @@ fn push_with_shape<C: Crossing>(
 ) -> Result<(), NoMemory>
     ensures { OnOk result (cells.new ≡ cells.old ++ flat_map (C.crossing crossing.now segment.now) (segments_of shape.now)) }
 {
-    let own = segment.env();
-    for k in 0..block_count(shape) {
-        if own.meets(&block_frame(shape, k)) {
-            push_row(alloc, crossing, cells, segment, block(shape, k))?;
-        }
-    }
-    Ok(())
+    push_blocks(alloc, crossing, cells, segment, shape, 0)
+}
+
+// Puts last what a segment gives with the shape's from this number on: those of the block begun, and block by block.
+pub(crate) fn push_later<C: Crossing>(
+    alloc: Global,
+    crossing: &C,
+    cells: &mut Cells,
+    segment: &Seg,
+    shape: &Shape,
+    from: usize,
+) -> Result<(), NoMemory>
+    requires { from ≤ length (segments_of shape.now) }
+    ensures { OnOk result (cells.new ≡ cells.old ++ flat_map (C.crossing crossing.now segment.now) (drop from (segments_of shape.now))) }
+{
+    let (near, next) = rest_of_block(shape, from);
+    push_row(alloc, crossing, cells, segment, near)?;
+    push_blocks(alloc, crossing, cells, segment, shape, next)
 }
 
 // Puts last what each of these segments gives with each of the shape's.
@@ -101,23 +133,18 @@ pub fn each_pair<C: Crossing>(
     Ok(cells)
 }
 
-/// What each of these segments gives with each later one of them.
+/// What each segment of a shape gives with each later one of it.
 pub fn each_later<C: Crossing>(
     alloc: Global,
     crossing: &C,
-    segments: &[Seg],
+    shape: &Shape,
 ) -> Result<Cells, NoMemory>
-    ensures { IfOk result (λ cells. cells ≡ terms.each_later (C.crossing crossing.now) segments.now) }
+    ensures { IfOk result (λ cells. cells ≡ terms.each_later (C.crossing crossing.now) (segments_of shape.now)) }
 {
     let mut cells = Cells::new(alloc);
+    let segments = shape.segs();
     for i in 0..segments.len() {
-        push_row(
-            alloc,
-            crossing,
-            &mut cells,
-            &segments[i],
-            &segments[i + 1..],
-        )?;
+        push_later(alloc, crossing, &mut cells, &segments[i], shape, i + 1)?;
     }
     Ok(cells)
 }

@@ -44,5 +44,5 @@ pub fn common_stretches(
 pub fn own_stretches(alloc: Global, subject: &Feature) -> Result<Cells, NoMemory>
     ensures { IfOk result (λ cells. cells ≡ plans.own_stretches subject.now []) }
 {
-    each_later(alloc, &Along, subject.shape().segs())
+    each_later(alloc, &Along, subject.shape())
 }

@@ -1,5 +1,6 @@
-use Rattle.std.proofs.Common.{sym}
+use Rattle.std.proofs.Common.{refl, sym}
 use Rattle.plane_terms.specs.declared.kind.Kind.TheVariants as kind
+use Rattle.plane_terms.specs.Shape.{segments_of}
 use Rattle.shape.specs.Given.{rings_in}
 use Rattle.rule_loops.proofs.Parts.{line_rings_of, rings_segments}
 use Rattle.rule_loops.proofs.own.line_crossings.Goals as goal
@@ -11,5 +12,14 @@ later_crossings-requires c =
     rings_segments s kind.Line (rings_in parts) c.segs.result.now c.requires
     (line_rings_of s parts (c.lines.ensures.parts c.requires)) c.segs.ensures.value
 
+pub returns-then-is_empty : goal.returns-then-is_empty
+returns-then-is_empty c = rw (sym (line_rings_of c.args.line.now c.lines.result.now (c.lines.ensures.parts c.requires))) at c.later_crossings.ensures
+
+pub crossings_by_block-requires : goal.crossings_by_block-requires
+crossings_by_block-requires c =
+    let s = c.args.line.now in
+    let parts = c.lines-2.result.now in
+    rings_segments s kind.Line (rings_in parts) (segments_of s) c.requires (line_rings_of s parts (c.lines-2.ensures.parts c.requires)) refl
+
 pub returns : goal.returns
-returns c = rw (sym (line_rings_of c.args.line.now c.lines.result.now (c.lines.ensures.parts c.requires))) at c.later_crossings.ensures
+returns c = rw (sym (line_rings_of c.args.line.now c.lines-2.result.now (c.lines-2.ensures.parts c.requires))) at c.crossings_by_block.ensures

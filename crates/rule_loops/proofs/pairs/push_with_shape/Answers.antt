@@ -1,41 +1,6 @@
-use Rattle.std.proofs.Common.{◌≡◌, false, List, ◌++◌, sym, ◌∙◌, ap, arith}
-use Rattle.std.specs.Prelude.{flat_map}
-use Rattle.plane_terms.specs.Rectangle.{rects_meet}
-use Rattle.plane_terms.specs.Segment.{Segment, box_of}
 use Rattle.plane_terms.specs.Shape.{segments_of}
-use Rattle.plane_terms.specs.Cell.{Cell}
-use Rattle.rule_loops.specs.Blocks.{block_of}
-use Rattle.rule_loops.proofs.Blocked.{left_all, none_near, block_more, block_same, blocks_done}
-use Rattle.rule_loops.proofs.pairs.push_with_shape.Goals.{then-meets+in_ok-push_row, else-meets}
+use Rattle.rule_loops.proofs.Blocked.{left_all}
 use Rattle.rule_loops.proofs.pairs.push_with_shape.Goals as goal
 
-pub loop-k-init : goal.loop-k-init
-loop-k-init g c = ap (λ ts. c.args.cells.now ++ flat_map (g.C.Crossing.crossing c.args.crossing.now c.args.segment.now) ts)
-    (left_all (segments_of c.args.shape.now))
-
-pub loop-k-preserved : goal.loop-k-preserved
-loop-k-preserved g c =
-    let gives : Segment → Segment → List Cell = g.C.Crossing.crossing c.args.crossing.now in
-    let s = c.args.segment.now in
-    let ts = segments_of c.args.shape.now in
-    let k = c.loop-k.k in
-    let done = c.loop-k.cells in
-    let all = c.args.cells.now ++ flat_map (gives s) ts in
-    elim c.if-meets.branch [
-      | then-meets+in_ok-push_row w ↦
-          block_more (gives s) k ts done c.if-meets.cells all
-          (w.cells-is ∙ rw (w.block.ensures) at w.in_ok-push_row.ensures) c.loop-k.invariant
-      | else-meets w ↦
-          let r = c.block_frame.result in
-          let far : rects_meet (box_of s) r ≡ false = rw (c.env-own.ensures.value) at (sym c.meets.ensures.value ∙ w.if-meets.false) in
-          let none = none_near gives (g.met.C.Crossing.apart c.args.crossing.now) s r (block_of k ts) c.env-own.ensures.valid.proper
-          c.block_frame.ensures far in
-          block_same (gives s) k ts done c.if-meets.cells all none w.cells-is c.loop-k.invariant
-    ]
-
 pub returns : goal.returns
-returns g c =
-    let gives : Segment → Segment → List Cell = g.C.Crossing.crossing c.args.crossing.now in
-    blocks_done (gives c.args.segment.now) c.loop-k.k (segments_of c.args.shape.now) c.loop-k.cells
-    (c.args.cells.now ++ flat_map (gives c.args.segment.now) (segments_of c.args.shape.now)) (omega (arith, c.block_count-k-end.ensures))
-    c.loop-k.invariant
+returns g c = rw (left_all (segments_of c.args.shape.now)) at c.push_blocks.ensures
