@@ -76,6 +76,13 @@ def zone(count):
     return HEADS['polygons'] + ['by ann add lots ' + square(0, 0, 4000)] + lots + ['validate all'], moves, len(moves) // 2
 
 
+def zigzag(count):
+    """A line of so many vertices under both rules on lines by themselves, and its validation."""
+    head = ['class roads line', 'rule line_must_not_self_intersect roads', 'rule line_must_not_self_overlap roads', 'begin ann']
+    line = ', '.join('%d %d' % (2 * i, i % 2 * 50) for i in range(count))
+    return head + ['by ann add roads LINESTRING (%s)' % line], ['validate all'], count
+
+
 def late(kind, count):
     """The late features of bench/late.py, and small windows."""
     early, more, numbers = early_and_late(kind, count)
@@ -108,6 +115,7 @@ def all_series():
     for kind in LATE_HEADS:
         yield 'a window in N dirty %s' % kind, [3000, 10000, 30000], lambda size, kind=kind: late(kind, size)
     yield 'an undo or a redo, of N steps', [1000, 10000, 100000], session
+    yield 'a vertex of a zigzag of N, compared with itself', [500, 1000, 2000], zigzag
     for name, make in (('jagged', jagged), ('winding', winding)):
         for way, turn in (('north', list), ('turned', turned)):
             map_of = lambda count, make=make, turn=turn: turn(make(count))
