@@ -83,6 +83,13 @@ def zigzag(count):
     return head + ['by ann add roads LINESTRING (%s)' % line], ['validate all'], count
 
 
+def node(count):
+    """Lines that all begin in one place, under both rules on ends that meet, and their validation."""
+    head = ['class roads line', 'rule line_must_not_have_dangles roads', 'rule line_must_not_have_pseudo_nodes roads', 'begin ann']
+    lines = ['by ann add roads LINESTRING (0 0, %d %d)' % (1000 - i, i + 1) for i in range(count)]
+    return head + lines, ['validate all'], count
+
+
 def late(kind, count):
     """The late features of bench/late.py, and small windows."""
     early, more, numbers = early_and_late(kind, count)
@@ -116,6 +123,7 @@ def all_series():
         yield 'a window in N dirty %s' % kind, [3000, 10000, 30000], lambda size, kind=kind: late(kind, size)
     yield 'an undo or a redo, of N steps', [1000, 10000, 100000], session
     yield 'a vertex of a zigzag of N, compared with itself', [500, 1000, 2000], zigzag
+    yield 'a line of N that meet in one place', [100, 200, 400], node
     for name, make in (('jagged', jagged), ('winding', winding)):
         for way, turn in (('north', list), ('turned', turned)):
             map_of = lambda count, make=make, turn=turn: turn(make(count))
