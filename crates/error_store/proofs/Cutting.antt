@@ -3,9 +3,7 @@ use Rattle.std.proofs.Common.{◌≡◌, ◌≢◌, ◌⊎◌, inl, inr, ℕ, �
 use Rattle.std.specs.BTreeMap.{BTreeMap, IsOrdered, insert_entry}
 use Rattle.std.specs.Global.{Vec}
 use Rattle.std.specs.Map.{values_of}
-use Rattle.std.specs.Ordering.{ordering_reverse}
-use Rattle.std.specs.declared.cmp.Ordering.TheVariants.{Less, Greater}
-use Rattle.std.proofs.lemmas.List.{append-nil}
+use Rattle.std.specs.declared.cmp.Ordering.TheVariants.{Less}
 use Rattle.plane_terms.specs.Lists.{Every}
 use Rattle.plane_terms.proofs.ListLemmas.{every_append, every_map, every_right}
 use Rattle.topology_terms.specs.Entry.{Entry, by_key, IsKeyBelow, IsAscending}
@@ -14,7 +12,8 @@ use Rattle.sound_laws.proofs.Lists.{keys}
 use Rattle.error_store.specs.Pairs.{pair_cmp, IsPairBefore, entries_in, all_entries, IsOf, AreRuns}
 use Rattle.error_store.specs.Cutting.{pair_of, AreBehind, BeginsPast, AreFilled}
 use Rattle.error_store.specs.declared.pair.Pair.{Pair}
-use Rattle.error_store.proofs.Pairs.{Run, pairs_total}
+use Rattle.error_store.proofs.Joined.{insert_above, joined_more, keys_above}
+use Rattle.error_store.proofs.Pairs.{Run}
 use Rattle.error_store.proofs.Walking.{before_less}
 
 -- ---- one run
@@ -66,21 +65,7 @@ pub rest_ascends : (all : List Entry) (m : BTreeMap Pair (Vec Entry)) (rest mid 
 rest_ascends all m rest mid first u c is =
     subst IsAscending is (ascending_right by_key keys (all_entries m) rest (subst IsAscending (sym c.list) u))
 
--- a pair behind all others goes to the end
-insert_last : (es : List Run) (p : Pair) (v : Vec Entry) → Every (λ (q : Run). pair_cmp q.0 p ≡ Less) es
-    → insert_entry pair_cmp es p v ≡ es ++ (p, v) ∷ []
-insert_last [] p v l = refl
-insert_last (q ∷ es) p v l =
-    let g : pair_cmp p q.0 ≡ Greater = pairs_total.antisymm p q.0 ∙ ap ordering_reverse l.0 in
-    rw g (ap (λ (rs : List Run). q ∷ rs) (insert_last es p v l.1))
-
--- the entries with one run more
-entries_last : (es : List Run) (p : Pair) (v : Vec Entry)
-    → entries_in (values_of (es ++ (p, v) ∷ [])) ≡ entries_in (values_of es) ++ v.items
-entries_last [] p v = append-nil v.items
-entries_last (q ∷ es) p v = ap (λ xs. q.1.items ++ xs) (entries_last es p v)
-    ∙ sym (append_assoc q.1.items (entries_in (values_of es)) v.items)
-
+-- a run that is cut off stands behind all others
 pub cutting_goes_on : (all : List Entry) (m n : BTreeMap Pair (Vec Entry)) (rest mid rest' : List Entry) (first : Entry) (p : Pair) (v : Vec Entry)
     → IsAscending all → IsCutting all m rest → rest ≡ first ∷ mid → v.items ++ rest' ≡ first ∷ mid
     → Every (IsOf first.rule first.subject) v.items → v.items ≢ [] → AreBehind (pair_of first) rest'
@@ -89,12 +74,12 @@ cutting_goes_on all m n rest mid rest' first q v u c is parts own filled behind 
     let es = m.entries in
     let p = pair_of first in
     let last : n.entries ≡ es ++ (p, v) ∷ [] =
-    subst (λ (x : Pair). n.entries ≡ insert_entry pair_cmp es x v) e put ∙ insert_last es p v (every_map (λ (q : Run). AreBehind q.0 rest) (λ (q : Run). pair_cmp q.0 p ≡ Less)
-    (λ q b. (subst (AreBehind q.0) is b).0) es c.behind) in
+    subst (λ (x : Pair). n.entries ≡ insert_entry pair_cmp es x v) e put ∙ insert_above es p v (keys_above es p (every_map (λ (q : Run). AreBehind q.0 rest) (λ (q : Run). pair_cmp q.0 p ≡ Less)
+    (λ q b. (subst (AreBehind q.0) is b).0) es c.behind)) in
     let whole : v.items ++ rest' ≡ rest = parts ∙ sym is in
     let rises : IsAscending rest = ascending_right by_key keys (all_entries m) rest (subst IsAscending (sym c.list) u) in
     record {
-      list = ap (λ (rs : List Run). entries_in (values_of rs) ++ rest') last ∙ (ap (λ xs. xs ++ rest') (entries_last es p v)
+      list = ap (λ (rs : List Run). entries_in (values_of rs) ++ rest') last ∙ (ap (λ xs. xs ++ rest') (joined_more es p v)
           ∙ (append_assoc (all_entries m) v.items rest' ∙ (ap (λ xs. all_entries m ++ xs) whole ∙ c.list)));
       ordered = s;
       runs = rw last (every_append _ es ((p, v) ∷ []) c.runs

@@ -19,6 +19,10 @@ use Rattle.error_store.proofs.Pairs.{Run, pairs_total}
 abbrev pub IsAbove : Pair → List Pair → Type 0
 IsAbove p ps = Every (λ (q : Pair). pair_cmp q p ≡ Less) ps
 
+pub keys_above : (rs : List Run) (p : Pair) → Every (λ (q : Run). pair_cmp q.0 p ≡ Less) rs → IsAbove p (keys_of rs)
+keys_above [] p h = tt
+keys_above (q ∷ rs) p h = (h.0, keys_above rs p h.1)
+
 above : (p q : Pair) → pair_cmp q p ≡ Less → pair_cmp p q ≡ Greater
 above p q l = pairs_total.antisymm p q ∙ ap ordering_reverse l
 

@@ -181,7 +181,8 @@ impl Errors {
 
     /// The errors by rule and subject: of each pair its errors, in the order of their partners. Some pairs may have none.
     pub fn by_pair(&self) -> &BTreeMap<Pair, Vec<Entry>>
-        ensures { all_entries result.now ≡ self.now }
+        ensures value { all_entries result.now ≡ self.now }
+        ensures runs { AreRuns result.now }
     {
         &self.runs
     }

@@ -6,7 +6,7 @@ use Rattle.project_check.proofs.subjects.add_subjects.Goals as goal
 
 pub loop-run-init : goal.loop-run-init
 loop-run-init c = ap (λ es. c.args.subjects.now.items ++ map (λ (e : Entry). e.subject) es)
-    (ap entries_in (c.into_iter-run-iterator.ensures.into_iter_gives ∙ c.values-run-items.ensures.rest) ∙ c.by_pair.ensures)
+    (ap entries_in (c.into_iter-run-iterator.ensures.into_iter_gives ∙ c.values-run-items.ensures.rest) ∙ c.by_pair.ensures.value)
 
 pub loop-run-preserved : goal.loop-run-preserved
 loop-run-preserved c =

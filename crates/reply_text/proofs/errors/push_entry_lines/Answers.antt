@@ -10,7 +10,7 @@ use Rattle.reply_text.proofs.errors.push_entry_lines.Goals as goal
 pub loop-run-init : goal.loop-run-init
 loop-run-init c =
     let all = flat_map entry_line c.args.errors.now in
-    let same = ap entries_in (c.into_iter-run-iterator.ensures.into_iter_gives ∙ c.values-run-items.ensures.rest) ∙ c.by_pair.ensures in
+    let same = ap entries_in (c.into_iter-run-iterator.ensures.into_iter_gives ∙ c.values-run-items.ensures.rest) ∙ c.by_pair.ensures.value in
     subst (λ es. Pushed c.args.out.now.items c.args.out.now.items all (flat_map entry_line es)) (sym same) (start c.args.out.now.items all)
 
 pub loop-run-preserved : goal.loop-run-preserved

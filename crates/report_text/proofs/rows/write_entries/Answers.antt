@@ -11,7 +11,7 @@ pub loop-run-init : goal.loop-run-init
 loop-run-init g c =
     let now = text_written g.W.Write.contents c.args.writer.now in
     let line = report_line c.args.rules.now in
-    let same = ap entries_in (c.into_iter-run-iterator.ensures.into_iter_gives ∙ c.values-run-items.ensures.rest) ∙ c.by_pair.ensures in
+    let same = ap entries_in (c.into_iter-run-iterator.ensures.into_iter_gives ∙ c.values-run-items.ensures.rest) ∙ c.by_pair.ensures.value in
     record {
       ready = c.requires;
       text = subst (λ es. IsWritten now now (flat_map line c.args.errors.now) (flat_map line es)) (sym same)

@@ -6,7 +6,7 @@ use Rattle.topo_core.specs.Topologies.{IsDrawn}
 use Rattle.topo_core.proofs.data.errors_law.Goals as goal
 
 pub loop-run-init : goal.loop-run-init
-loop-run-init c = subst (Every IsDrawn) (ap entries_in (c.into_iter-run-iterator.ensures.into_iter_gives ∙ c.values-run-items.ensures.rest) ∙ c.by_pair.ensures)
+loop-run-init c = subst (Every IsDrawn) (ap entries_in (c.into_iter-run-iterator.ensures.into_iter_gives ∙ c.values-run-items.ensures.rest) ∙ c.by_pair.ensures.value)
 
 pub loop-run-preserved : goal.loop-run-preserved
 loop-run-preserved c = λ left.
