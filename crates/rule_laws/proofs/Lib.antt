@@ -23,4 +23,5 @@ pub mod Commons
 pub mod Covered
 pub mod Lawful
 pub mod AllRules
+pub mod Ends
 pub mod Posters

@@ -14,6 +14,7 @@ use Rattle.validation_laws.specs.Views.{ViewLaws}
 use Rattle.rule_laws.proofs.Nears.{near_same, near_after_same}
 use Rattle.rule_laws.proofs.Families.{AreExact}
 use Rattle.rule_laws.proofs.AllRules.{lawful}
+use Rattle.rule_laws.proofs.Ends.{cutting_at_ends}
 
 -- ---- a whole fault has a live subject
 whole_alive : (k : RuleKind) (A B : Side) (F : List Feature) (a : ℕ) → broken_whole k A B F a → (f : Feature) × (feature_at F a ≡ Some f)
@@ -116,4 +117,8 @@ poster_views = record {
   idle = λ row F a f e t.
       (f, e, rw t refl);
   fits = fits_part;
+  ends = λ row F V a f t r u w e v xs h.
+      let live : feature_at F a ≡ Some h.0 = (v.forth a h.0 h.1).0 in
+      let same : h.0 ≡ f = cc in
+      (f, e, rw same at h.2 ∙ cutting_at_ends row F V f t u v);
 }

@@ -29,7 +29,7 @@ use Rattle.rule_laws.proofs.Held.{place_held, line_held, end_held}
 use Rattle.rule_laws.proofs.Crossings.{inside_held}
 use Rattle.rule_laws.proofs.Words.{OnSides, AtEnd, AtPlace, IsLoose, IsJoint}
 use Rattle.rule_laws.proofs.Families.{IsFit}
-use Rattle.rule_laws.proofs.None.{NoneRule}
+use Rattle.rule_laws.proofs.None.{NoneRule, none_round}
 use Rattle.rule_laws.proofs.Alone.{AloneRule}
 use Rattle.rule_laws.proofs.Around.{round}
 use Rattle.rule_laws.proofs.Uncovered.{every_flat, none_each, some_same_of}
@@ -274,16 +274,44 @@ dangle_rule = record {
   some = λ f gs u v. places_have (filter (is_dangle gs) (own_ends f));
 }
 
+joint_test : (gs : List Feature) (q : Place) (p : Point) → Every (IsFit shapes.Line) gs → IsAt q p → (is_pseudo gs q ≡ true) ↔ IsJoint gs p
+joint_test gs q p u i = both_tests (ends_at gs q == 2) (segments_at gs q == 2) _ _ (ends_test gs 2 q p i) (loose_test gs 2 q p u i)
+
 -- rule 15
 pub pseudo_rule : AloneRule shapes.Line shapes.Line (λ f gs p. AtEnd f p × IsJoint gs p) (bad_places own_ends is_pseudo)
 pseudo_rule = record {
   held = λ f gs p u h. end_held f p h.0;
   local = λ f gs hs p u v w m e h. (h.0, (ends_round gs hs 2 p v w e h.1.0, segments_round gs hs 2 p v w e h.1.1));
   exact = λ f gs p u v o.
-      let test : (q : Place) → IsAt q p → (is_pseudo gs q ≡ true) ↔ IsJoint gs p =
-      λ q i. both_tests (ends_at gs q == 2) (segments_at gs q == 2) _ _ (ends_test gs 2 q p i) (loose_test gs 2 q p v i) in
-      let a = bad_points own_ends is_pseudo f gs p (IsJoint gs p) test in
+      let a = bad_points own_ends is_pseudo f gs p (IsJoint gs p) (λ q i. joint_test gs q p v i) in
       let b = own_end_points f p in
       (λ h. let m = a.0 h in (b.0 m.0, m.1), λ h. a.1 (b.1 h.0, h.1));
   some = λ f gs u v. places_have (filter (is_pseudo gs) (own_ends f));
 }
+
+-- ---- tests of a place that depend on the features round it
+module _ (l : Kind) (bad : List Feature → Place → Bool) (B : List Feature → Point → Type 0)
+    (test : (gs : List Feature) (q : Place) (p : Point) → Every (IsFit l) gs → IsAt q p → (bad gs q ≡ true) ↔ B gs p)
+    (local : (gs hs : List Feature) (p : Point) → Every (IsFit l) gs → Every (IsFit l) hs → round p gs ≡ round p hs → B gs p → B hs p) where
+  bad_around : (gs hs : List Feature) (q : Place) → Every (IsFit l) gs → Every (IsFit l) hs → round (point_at q) gs ≡ round (point_at q) hs
+      → bad gs q ≡ bad hs q
+  bad_around gs hs q u v e =
+      let p = point_at q in
+      let m = test gs q p u (at_itself q) in
+      let n = test hs q p v (at_itself q) in
+      same_by_truth (bad gs q) (bad hs q) (λ t. n.1 (local gs hs p u v e (m.0 t))) (λ t. m.1 (local hs gs p v u (sym e) (n.0 t)))
+
+pub dangle_around : (gs hs : List Feature) (q : Place) → Every (IsFit shapes.Line) gs → Every (IsFit shapes.Line) hs
+    → round (point_at q) gs ≡ round (point_at q) hs → is_dangle gs q ≡ is_dangle hs q
+dangle_around = bad_around shapes.Line is_dangle IsLoose (λ gs q p u i. loose_test gs 1 q p u i) (λ gs hs p u v e h. segments_round gs hs 1 p u v e h)
+
+pub pseudo_around : (gs hs : List Feature) (q : Place) → Every (IsFit shapes.Line) gs → Every (IsFit shapes.Line) hs
+    → round (point_at q) gs ≡ round (point_at q) hs → is_pseudo gs q ≡ is_pseudo hs q
+pseudo_around = bad_around shapes.Line is_pseudo IsJoint joint_test (λ gs hs p u v e h. (ends_round gs hs 2 p u v e h.0, segments_round gs hs 2 p u v e h.1))
+
+pub point_around : (gs hs : List Feature) (q : Place) → Every (IsFit shapes.Point) gs → Every (IsFit shapes.Point) hs
+    → round (point_at q) gs ≡ round (point_at q) hs → none_at is_point_at gs q ≡ none_at is_point_at hs q
+point_around = bad_around shapes.Point (none_at is_point_at) (λ gs p. Every (λ g. ¬ (AtPlace g p)) gs)
+    (none_test shapes.Line shapes.Point own_ends AtEnd AtPlace is_point_at own_end_points end_held (λ g p u h. place_held g p h)
+    (λ g q p u a. point_test g q p a))
+    (λ gs hs p u v e h. none_round shapes.Point AtPlace (λ g p i c. place_held g p c) gs hs p v e h)
