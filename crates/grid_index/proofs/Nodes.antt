@@ -138,13 +138,13 @@ items_more_set ls i m h =
     ∙ ap (λ ps. all_items (take i ls) ++ ps) (append-nil m.items))
 
 -- one node more is looked at
-pub nodes_more : {A : Type 0} (f : Placed → A) (r : Rectangle) (ns : List NodeView) (i : ℕ) (n : NodeView) (xs ys zs : List A) → i < length ns
-    → n ≡ get_or ns i n → Adds f r (Contains (all_items (take i ns))) xs ys → Adds f r (Contains n.items) ys zs
-    → Adds f r (Contains (all_items (take (i + 1) ns))) xs zs
-nodes_more f r ns i n xs ys zs h is first second =
+pub nodes_more : {A : Type 0} (f : Placed → A) (t : Rectangle → Bool) (ns : List NodeView) (i : ℕ) (n : NodeView) (xs ys zs : List A) → i < length ns
+    → n ≡ get_or ns i n → Adds f t (Contains (all_items (take i ns))) xs ys → Adds f t (Contains n.items) ys zs
+    → Adds f t (Contains (all_items (take (i + 1) ns))) xs zs
+nodes_more f t ns i n xs ys zs h is first second =
     let more : all_items (take (i + 1) ns) ≡ all_items (take i ns) ++ n.items =
     items_more ns i n h ∙ ap (λ (m : NodeView). all_items (take i ns) ++ m.items) (sym is) in
-    subst (λ qs. Adds f r (Contains qs) xs zs) (sym more) (adds_joined f r (all_items (take i ns)) n.items xs ys zs first second)
+    subst (λ qs. Adds f t (Contains qs) xs zs) (sym more) (adds_joined f t (all_items (take i ns)) n.items xs ys zs first second)
 
 -- the nodes before i have lost it, those from i on are as they were; now node i loses it
 pub lost_more : (ls ms : List NodeView) (i : ℕ) (d m : NodeView) (p : Placed) → i < length ls → i < length ms

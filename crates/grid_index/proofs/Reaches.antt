@@ -1,13 +1,12 @@
 -- Rectangles that hold others, and what they do not reach.
-use Rattle.std.proofs.Common.{◌≡◌, ◌≢◌, ◌⊎◌, inl, inr, refl, sym, ap, ◌∙◌, subst, ℕ, ◌+◌, ◌<◌, true, false, List, [], ◌∷◌, ◌++◌, take, length, get_or, Contains, Option, None, Some, arith}
+use Rattle.std.proofs.Common.{◌≡◌, ◌≢◌, ◌⊎◌, inl, inr, refl, sym, ap, ◌∙◌, subst, ℕ, ◌+◌, ◌<◌, Bool, true, false, List, [], ◌∷◌, ◌++◌, take, length, get_or, Contains, Option, None, Some, arith}
 use Rattle.std.specs.Option.{unwrap_or}
 use Rattle.std.proofs.lemmas.Bool.{false≢true}
 use Rattle.std.proofs.lemmas.Int.{ints}
 use Rattle.std.proofs.lemmas.List.{append-nil, take_more}
 use Rattle.std.proofs.lemmas.List.Elements.{Contains-append_left, Contains-append_right, Contains-append_cases}
-use Rattle.plane_terms.specs.Rectangle.{Rectangle, IsWithin, is_within, rects_meet, join_of}
+use Rattle.plane_terms.specs.Rectangle.{Rectangle, IsWithin, is_within, join_of}
 use Rattle.plane_terms.proofs.ListLemmas.{contains_among}
-use Rattle.sound_laws.proofs.Meetings.{meets_wider}
 use Rattle.sound_laws.proofs.Planes.{within_self, within_trans}
 use Rattle.validation_laws.proofs.Frames.{within_join_left, within_join_right}
 use Rattle.grid_index.specs.declared.placed.Placed.{Placed}
@@ -44,11 +43,11 @@ all_lost r ps qs p all loses q h = all q ((loses q).0 h).0
 held_test : (r s : Rectangle) → IsWithin r s → is_within r s ≡ true
 held_test r s w = grind (arith, ints)
 
-pub adds_beyond : {A : Type 0} (f : Placed → A) (r s : Rectangle) (ps : List Placed) (xs : List A) → AreWithin s ps → rects_meet r s ≡ false
-    → Adds f r (Contains ps) xs xs
-adds_beyond f r s ps xs all apart = adds_same f r (λ p. ⊥) (Contains ps) xs xs (adds_none f r (λ p. ⊥) xs (λ p h. h))
+pub adds_beyond : {A : Type 0} (f : Placed → A) (t : Rectangle → Bool) (s : Rectangle) (ps : List Placed) (xs : List A)
+    → ((q r : Rectangle) → IsWithin q r → t q ≡ true → t r ≡ true) → AreWithin s ps → t s ≡ false → Adds f t (Contains ps) xs xs
+adds_beyond f t s ps xs wider all apart = adds_same f t (λ p. ⊥) (Contains ps) xs xs (adds_none f t (λ p. ⊥) xs (λ p h. h))
     (λ p h. absurd h)
-    (λ p h e. absurd (false≢true (sym apart ∙ meets_wider r p.rect s (all p h) e)))
+    (λ p h e. absurd (false≢true (sym apart ∙ wider p.rect s (all p h) e)))
 
 pub lost_beyond : (s : Rectangle) (ps : List Placed) (p : Placed) → AreWithin s ps → is_within p.rect s ≡ false → Loses ps ps p
 lost_beyond s ps p all out q = (

@@ -6,9 +6,9 @@
 -- Loses ps qs p      qs holds what ps holds, without p
 -- IsNear r ps a      a is the handle of a rectangle of ps that r meets; touching is meeting
 -- IsNearRect r ps s  s is a rectangle of ps that r meets
--- IsMet f r P x      x is what f tells of a placed rectangle of which P holds and that r meets
--- Adds f r P xs ys   ys holds what xs holds, and what f tells of the placed rectangles of which P holds and that r meets
--- AddsHandles, AddsRects    the same of their handles, and of the rectangles themselves
+-- IsMet f t P x      x is what f tells of a placed rectangle of which P holds and that passes the test t
+-- Adds f t P xs ys   ys holds what xs holds, and what f tells of the placed rectangles of which P holds and that pass the test t
+-- AddsHandles, AddsRects    the same of their handles, and of the rectangles themselves that r meets
 -- handle_of, rectangle_of     the handle and the rectangle of what is placed
 -- is_placed p q      the test whether q is p: the same rectangle under the same handle
 use Rattle.std.specs.Prelude.{◌≡◌, ◌≢◌, ◌⊎◌, ◌↔◌, ℕ, Bool, true, ◌&&◌, List, Contains, nat_eq}
@@ -31,23 +31,23 @@ handle_of p = p.handle
 abbrev pub rectangle_of : Placed → Rectangle
 rectangle_of p = p.rect
 
-abbrev pub IsMet : {A : Type 0} → (Placed → A) → Rectangle → (Placed → Type 0) → A → Type 0
-IsMet f r P x = (p : Placed) × P p × (f p ≡ x) × (rects_meet r p.rect ≡ true)
+abbrev pub IsMet : {A : Type 0} → (Placed → A) → (Rectangle → Bool) → (Placed → Type 0) → A → Type 0
+IsMet f t P x = (p : Placed) × P p × (f p ≡ x) × (t p.rect ≡ true)
 
 abbrev pub IsNear : Rectangle → List Placed → ℕ → Type 0
-IsNear r ps a = IsMet handle_of r (Contains ps) a
+IsNear r ps a = IsMet handle_of (rects_meet r) (Contains ps) a
 
 abbrev pub IsNearRect : Rectangle → List Placed → Rectangle → Type 0
-IsNearRect r ps s = IsMet rectangle_of r (Contains ps) s
+IsNearRect r ps s = IsMet rectangle_of (rects_meet r) (Contains ps) s
 
-abbrev pub Adds : {A : Type 0} → (Placed → A) → Rectangle → (Placed → Type 0) → List A → List A → Type 0
-Adds f r P xs ys = (x : _) → Contains ys x ↔ (Contains xs x ⊎ IsMet f r P x)
+abbrev pub Adds : {A : Type 0} → (Placed → A) → (Rectangle → Bool) → (Placed → Type 0) → List A → List A → Type 0
+Adds f t P xs ys = (x : _) → Contains ys x ↔ (Contains xs x ⊎ IsMet f t P x)
 
-abbrev pub AddsHandles : Rectangle → (Placed → Type 0) → List ℕ → List ℕ → Type 0
-AddsHandles r P ns ms = Adds handle_of r P ns ms
+abbrev pub AddsHandles : (Rectangle → Bool) → (Placed → Type 0) → List ℕ → List ℕ → Type 0
+AddsHandles t P ns ms = Adds handle_of t P ns ms
 
 abbrev pub AddsRects : Rectangle → (Placed → Type 0) → List Rectangle → List Rectangle → Type 0
-AddsRects r P ss ts = Adds rectangle_of r P ss ts
+AddsRects r P ss ts = Adds rectangle_of (rects_meet r) P ss ts
 
 abbrev pub is_placed : Placed → Placed → Bool
 is_placed p q = nat_eq p.handle q.handle && (int_eq p.rect.x0 q.rect.x0 && (int_eq p.rect.y0 q.rect.y0 &&

@@ -2,17 +2,19 @@ ghost use Rattle.std.specs.Prelude.{◌≡◌, ◌↔◌, ◌<◌, ◌≤◌, �
 ghost use Rattle.std.specs.List.{list_any};
 ghost use Rattle.std.specs.List.Sorted.{IsStrictlyIncreasing};
 ghost use Rattle.plane_terms.specs.Rectangle.{Rectangle};
-ghost use Rattle.grid_index.specs.Near.{HoldsSame, Gains, Loses, IsNear, IsNearRect, AddsRects};
+ghost use Rattle.grid_index.specs.Near.{HoldsSame, Gains, Loses, IsMet, IsNear, IsNearRect, AddsRects, handle_of};
+ghost use Rattle.grid_index.specs.Nodes.{IsReach};
 ghost use Rattle.grid_index.specs.Relations.{is_found};
 ghost use Rattle.grid_index.specs.Steps.{most_steps};
 
+use crate::aim::Aim;
 use crate::meter::{Meter, NoCount};
 use crate::middle::Middle;
 use crate::node::Node;
 use crate::once::once_each;
 use crate::placed::Placed;
 use crate::relation::Relation;
-use crate::siblings::{add_from_each, add_met_of_each, any_has, put_in, take_from};
+use crate::siblings::{add_from_each, add_met_of_each, any_has, put_in, reach_of_nodes, take_from};
 use grid_plane::{NoMemory, Rect};
 use std::alloc::Global;
 use std::marker::Model;
@@ -71,6 +73,13 @@ impl Index {
         take_from(&mut self.nodes, placed);
     }
 
+    /// The least rectangle that holds all that is in; none where there is nothing.
+    pub fn reach(&self) -> Option<Rect>
+        ensures { IsReach result self.now }
+    {
+        reach_of_nodes(&self.nodes)
+    }
+
     /// The handles of the rectangles that meet this one, once each, ascending; touching is meeting. It looks
     /// only into nodes whose reach meets this rectangle.
     pub fn query(&self, alloc: Global, r: &Rect) -> Result<Vec<u32>, NoMemory>
@@ -93,8 +102,24 @@ impl Index {
         ensures rises { M.taken meter.old ≤ M.taken meter.new }
         ensures steps { (s : ℕ) → M.taken meter.new ≤ M.taken meter.old + most_steps s r.now self.now }
     {
+        self.query_about(alloc, r, meter)
+    }
+
+    /// The handles of the rectangles that the aim touches, once each, ascending, and the steps that this takes. They are no more than
+    /// those of a question about the window of the aim.
+    pub fn query_about<A: Aim, M: Meter>(
+        &self,
+        alloc: Global,
+        aim: &A,
+        meter: &mut M,
+    ) -> Result<Vec<u32>, NoMemory>
+        ensures ascending { IfOk result (λ v. IsStrictlyIncreasing v.items) }
+        ensures near { IfOk result (λ v. (a : ℕ) → Contains v.items a ↔ IsMet handle_of (A.touching aim.now) (Contains self.now) a) }
+        ensures rises { M.taken meter.old ≤ M.taken meter.new }
+        ensures steps { (s : ℕ) → M.taken meter.new ≤ M.taken meter.old + most_steps s (A.window aim.now) self.now }
+    {
         let mut found = Vec::with_capacity(alloc, FEW)?;
-        add_from_each(&self.nodes, r, &mut found, meter)?;
+        add_from_each(&self.nodes, aim, &mut found, meter)?;
         once_each(alloc, &mut found)?;
         Ok(found)
     }

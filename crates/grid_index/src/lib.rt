@@ -1,6 +1,7 @@
 // An index of rectangles by where they lie: a question about a small rectangle looks at few of very many.
 #![tactic(auto)]
 
+mod aim;
 mod index;
 mod marks;
 mod meter;
@@ -12,6 +13,7 @@ mod reach;
 mod relation;
 mod siblings;
 
+pub use aim::Aim;
 pub use index::Index;
 pub use meter::{Count, Meter, NoCount};
 pub use once::once_each;

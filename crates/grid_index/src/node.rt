@@ -7,6 +7,7 @@ ghost use Rattle.grid_index.specs.Relations.{is_found};
 ghost use Rattle.grid_index.specs.Squares.{same_square, IsOnGrid, MayTake, StaysPart, IsPart, IsLeft, IsSingle, IsTaken, IsBetween};
 ghost use Rattle.grid_index.specs.Steps.{part_steps};
 
+use crate::aim::Aim;
 use crate::meter::Meter;
 use crate::middle::Middle;
 use crate::placed::{Placed, add_met, add_met_rects, any_found, drop_placed};
@@ -261,27 +262,27 @@ impl Node {
         }
     }
 
-    /// Adds the handles of the rectangles that this one meets: a step for the node itself, and then for what it looks at.
+    /// Adds the handles of the rectangles that the aim touches: a step for the node itself, and then for what it looks at.
     #[cycle(near)]
-    pub(crate) fn add_near<M: Meter>(
+    pub(crate) fn add_near<A: Aim, M: Meter>(
         &self,
-        r: &Rect,
+        aim: &A,
         found: &mut Vec<u32>,
         meter: &mut M,
     ) -> Result<(), NoMemory>
-        ensures met { OnOk result (AddsHandles r.now (Contains self.now.items) found.old.items found.new.items) }
+        ensures met { OnOk result (AddsHandles (A.touching aim.now) (Contains self.now.items) found.old.items found.new.items) }
         ensures rises { M.taken meter.old ≤ M.taken meter.new }
-        ensures steps { (k s : ℕ) → IsPart k self.now → M.taken meter.new ≤ M.taken meter.old + part_steps k s r.now self.now.items }
+        ensures steps { (k s : ℕ) → IsPart k self.now → M.taken meter.new ≤ M.taken meter.old + part_steps k s (A.window aim.now) self.now.items }
     {
-        r.corner_law();
+        aim.window_law();
         self.reach.corner_law();
         meter.tick();
-        let near = r.meets(&self.reach);
+        let near = aim.touches(&self.reach);
         if !near {
             return Ok(());
         }
-        add_met(&self.placed, r, found, meter)?;
-        add_from_each(&self.quarters, r, found, meter)
+        add_met(&self.placed, aim, found, meter)?;
+        add_from_each(&self.quarters, aim, found, meter)
     }
 
     /// Adds the rectangles that this one meets.

@@ -3,6 +3,7 @@ ghost use Rattle.std.specs.List.{list_any};
 ghost use Rattle.grid_index.specs.Near.{is_placed, AddsHandles, AddsRects};
 ghost use Rattle.grid_index.specs.Relations.{is_found};
 
+use crate::aim::Aim;
 use crate::meter::Meter;
 use crate::relation::Relation;
 use grid_plane::{NoMemory, Rect};
@@ -55,20 +56,20 @@ fn push_if(found: &mut Vec<u32>, test: bool, handle: u32) -> Result<(), NoMemory
     Ok(())
 }
 
-/// Puts the handles of those of the list that the rectangle meets last: a step for each that it looks at.
-pub(crate) fn add_met<M: Meter>(
+/// Puts the handles of those of the list that the aim touches last: a step for each that it looks at.
+pub(crate) fn add_met<A: Aim, M: Meter>(
     list: &[Placed],
-    r: &Rect,
+    aim: &A,
     found: &mut Vec<u32>,
     meter: &mut M,
 ) -> Result<(), NoMemory>
-    ensures met { OnOk result (AddsHandles r.now (Contains list.now) found.old.items found.new.items) }
+    ensures met { OnOk result (AddsHandles (A.touching aim.now) (Contains list.now) found.old.items found.new.items) }
     ensures rises { M.taken meter.old ≤ M.taken meter.new }
     ensures steps { M.taken meter.new ≤ M.taken meter.old + length list.now }
 {
     for placed in list {
         meter.tick();
-        push_if(found, r.meets(&placed.rect), placed.handle)?;
+        push_if(found, aim.touches(&placed.rect), placed.handle)?;
     }
     Ok(())
 }

@@ -9,6 +9,7 @@ ghost use Rattle.grid_index.specs.Relations.{is_found};
 ghost use Rattle.grid_index.specs.Squares.{same_square, IsOnGrid, IsPart, AreParts, AreAround, AreOutside, AreGathered, MayTake, IsLeft, IsAdded, IsPushedAt, IsPutAt, StayAround, middles_of};
 ghost use Rattle.grid_index.specs.Steps.{parts_steps};
 
+use crate::aim::Aim;
 use crate::meter::Meter;
 use crate::middle::Middle;
 use crate::node::Node;
@@ -175,20 +176,20 @@ pub(crate) fn reach_of_nodes(nodes: &[Node]) -> Option<Rect>
     reach
 }
 
-/// Adds the handles of the rectangles that this one meets.
+/// Adds the handles of the rectangles that the aim touches.
 #[cycle(near)]
-pub(crate) fn add_from_each<M: Meter>(
+pub(crate) fn add_from_each<A: Aim, M: Meter>(
     nodes: &[Node],
-    r: &Rect,
+    aim: &A,
     found: &mut Vec<u32>,
     meter: &mut M,
 ) -> Result<(), NoMemory>
-    ensures met { OnOk result (AddsHandles r.now (Contains (all_items nodes.now)) found.old.items found.new.items) }
+    ensures met { OnOk result (AddsHandles (A.touching aim.now) (Contains (all_items nodes.now)) found.old.items found.new.items) }
     ensures rises { M.taken meter.old ≤ M.taken meter.new }
-    ensures steps { (k s : ℕ) → AreParts k nodes.now → M.taken meter.new ≤ M.taken meter.old + parts_steps k s r.now nodes.now }
+    ensures steps { (k s : ℕ) → AreParts k nodes.now → M.taken meter.new ≤ M.taken meter.old + parts_steps k s (A.window aim.now) nodes.now }
 {
     for node in nodes {
-        node.add_near(r, found, meter)?;
+        node.add_near(aim, found, meter)?;
     }
     Ok(())
 }

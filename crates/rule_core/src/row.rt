@@ -1,6 +1,7 @@
 ghost use Rattle.std.specs.Prelude.{◌≡◌};
 ghost use Rattle.topology_terms.specs.Feature as terms;
 ghost use Rattle.topology_terms.specs.Broken.{judged};
+ghost use Rattle.validation_laws.specs.Views as views;
 
 use rule_words::RuleKind;
 use std::marker::Model;
@@ -46,6 +47,18 @@ impl RuleRow {
         ensures { (f : terms.Feature) → f.class ≡ class → result ≡ judged self.now f }
     {
         class == self.origin || (self.kind.judges_either() && class == self.dest_number())
+    }
+
+    /// Whether the rule asks of a line only what is at its ends.
+    pub fn looks_at_ends(&self) -> bool
+        ensures { result ≡ views.looks_at_ends self.now.kind }
+    {
+        match self.kind {
+            RuleKind::LineMustNotHaveDangles => true,
+            RuleKind::LineMustNotHavePseudoNodes => true,
+            RuleKind::LineEndpointMustBeCoveredBy => true,
+            _ => false,
+        }
     }
 }
 

@@ -1,31 +1,34 @@
 -- Of a rule that looks at ends, what is cut among the features at the subject's ends is what is cut among all.
-use Rattle.std.proofs.Common.{◌≡◌, ◌↔◌, inl, inr, ℕ, Bool, true, false, cond, refl, sym, ◌∙◌, ap, List, [], ◌∷◌, Some}
-use Rattle.std.specs.Prelude.{◌≢◌, not, if◌then◌else◌}
+use Rattle.std.proofs.Common.{◌≡◌, ◌↔◌, inl, inr, ℕ, ◌≤ℤ◌, arith, Bool, true, refl, sym, ◌∙◌, List, [], ◌∷◌}
+use Rattle.std.specs.Prelude.{◌≢◌, not}
 use Rattle.std.specs.List.{filter}
+use Rattle.std.proofs.lemmas.Int.{ints}
+use Rattle.std.proofs.lemmas.List.Folds.{Any-from_list_any, list_any-from_Any}
 use Rattle.std.proofs.lemmas.Bool.{false≢true}
 use Rattle.plane_terms.specs.Lists.{Every, SomeOf}
-use Rattle.plane_terms.specs.Point.{Place, Point, IsAt, same_place, point_at}
-use Rattle.plane_terms.specs.Rectangle.{Rectangle, RectHolds, rect_at}
+use Rattle.plane_terms.specs.Point.{Place, same_place, point_at}
+use Rattle.plane_terms.specs.Rectangle.{Rectangle, RectHolds, IsWithin, rect_at, is_within, rects_meet}
+use Rattle.plane_terms.specs.Shape.{Shape, ends_of, envelope_of}
 use Rattle.plane_terms.specs.declared.kind.Kind.{Kind}
 use Rattle.plane_terms.specs.declared.kind.Kind.TheVariants as shapes
-use Rattle.plane_terms.proofs.ListLemmas.{every_filter, every_map}
-use Rattle.plane_terms.proofs.Truths.{same_by_truth}
+use Rattle.plane_terms.proofs.ListLemmas.{every_filter, every_map, among_at, every_among, every_of_all}
 use Rattle.cell_laws.proofs.OnLine.{at_itself}
 use Rattle.rule_words.specs.declared.rule_kind.RuleKind.{RuleKind}
 use Rattle.rule_words.specs.declared.rule_kind.RuleKind.TheVariants as rule
-use Rattle.topology_terms.specs.Feature.{Feature, Side, IsOf, feature_at, env, Agree, IsAscending}
+use Rattle.topology_terms.specs.Feature.{Feature, Side, IsOf, env, Agree, IsAscending}
 use Rattle.topology_terms.specs.Together.{ends}
 use Rattle.topology_terms.specs.Tests.{in_order_once}
 use Rattle.topology_terms.specs.Plans.{near, own_ends, plan_of, cut_by, cutting_of, is_dangle, is_pseudo, none_at, is_point_at}
-use Rattle.topology_terms.specs.Broken.{Row, Fits, judged}
+use Rattle.topology_terms.specs.Broken.{Row, Fits}
 use Rattle.sound_laws.proofs.Planes.{within_Holds}
 use Rattle.sound_laws.proofs.FeatureLists.{each_live}
-use Rattle.validation_laws.specs.Views.{looks_at_ends, HoldsEnd, IsEndView}
+use Rattle.validation_laws.specs.Views.{looks_at_ends, holds_end, HoldsEnd, IsEndView}
 use Rattle.rule_laws.proofs.Nears.{near_ascends, near_of}
 use Rattle.rule_laws.proofs.Envelopes.{LiesIn, ends_in}
 use Rattle.rule_laws.proofs.Held.{at_held}
 use Rattle.rule_laws.proofs.Families.{IsFit}
 use Rattle.rule_laws.proofs.Around.{round, round_agree, round_near}
+use Rattle.rule_laws.proofs.Tests.{any_some}
 use Rattle.rule_laws.proofs.Spots.{dangle_around, pseudo_around, point_around}
 use Rattle.rule_laws.proofs.Lawful.{row_of, fit_origin, fit_dest}
 
@@ -43,9 +46,9 @@ each_held f [] u = tt
 each_held f (q ∷ qs) u = (
   (place_in (env f) q u.0, λ g h. inl h),
   every_map (λ r. RectHolds (env f) (point_at r) × ((g : Feature) → RectHolds (env g) (point_at r) → SomeOf (λ s. RectHolds (env g) (point_at s)) qs))
-  (λ r. RectHolds (env f) (point_at r)
-  × ((g : Feature) → RectHolds (env g) (point_at r) → SomeOf (λ s. RectHolds (env g) (point_at s)) (q ∷ qs)))
-  (λ r k. (k.0, λ g h. inr (k.1 g h))) qs (each_held f qs u.1),
+      (λ r. RectHolds (env f) (point_at r)
+      × ((g : Feature) → RectHolds (env g) (point_at r) → SomeOf (λ s. RectHolds (env g) (point_at s)) (q ∷ qs)))
+      (λ r k. (k.0, λ g h. inr (k.1 g h))) qs (each_held f qs u.1),
 )
 
 each_once : (P : Place → Type 0) (qs : List Place) → Every P qs → Every P (in_order_once qs)
@@ -62,6 +65,39 @@ holds_own f n = some_held (ends f) n (ends_in f.shape)
     some_held : (qs : List Place) → qs ≢ [] → Every (LiesIn (env f)) qs → SomeOf (λ q. RectHolds (env f) (point_at q)) qs
     some_held [] n u = absurd (n refl)
     some_held (q ∷ qs) n u = inl (place_in (env f) q u.0)
+
+-- ---- rectangles round a place
+place_wider : (q : Place) (r t : Rectangle) → IsWithin r t → is_within (rect_at q) r ≡ true → is_within (rect_at q) t ≡ true
+place_wider q r t w e = grind (arith, ints)
+
+place_meets : (q : Place) (r t : Rectangle) → IsWithin (rect_at q) r → is_within (rect_at q) t ≡ true → rects_meet r t ≡ true
+place_meets q r t w e = grind (arith, ints)
+
+in_from_test : (q : Place) (r : Rectangle) → is_within (rect_at q) r ≡ true → IsWithin (rect_at q) r
+in_from_test q r e = record { left = grind (arith, ints); right = grind (arith, ints); below = grind (arith, ints); above = grind (arith, ints) }
+
+in_test : (q : Place) (r : Rectangle) → RectHolds r (point_at q) → is_within (rect_at q) r ≡ true
+in_test q r h = within (omega (arith, ints, h.left)) (omega (arith, ints, h.right)) (omega (arith, ints, h.below)) (omega (arith, ints, h.above))
+  where
+    within : r.x0 ≤ℤ q.x → q.x ≤ℤ r.x1 → r.y0 ≤ℤ q.y → q.y ≤ℤ r.y1 → is_within (rect_at q) r ≡ true
+    within a b c d = grind (arith, ints)
+
+-- ---- what the ends of a line touch
+pub ends_wider : (s : Shape) (r t : Rectangle) → IsWithin r t → holds_end s r ≡ true → holds_end s t ≡ true
+ends_wider s r t w e =
+    let f = Any-from_list_any (λ (q : Place). is_within (rect_at q) r) (ends_of s) e in
+    list_any-from_Any (λ (q : Place). is_within (rect_at q) t) (ends_of s) (f.0, f.1, f.2, f.3, place_wider f.1 r t w f.4)
+
+pub ends_inside : (s : Shape) (r : Rectangle) → holds_end s r ≡ true → rects_meet (envelope_of s) r ≡ true
+ends_inside s r e =
+    let f = Any-from_list_any (λ (q : Place). is_within (rect_at q) r) (ends_of s) e in
+    let i = every_among (LiesIn (envelope_of s)) (ends_of s) (ends_in s) f.1 (among_at (ends_of s) f.0 f.1 f.2 f.3) in
+    place_meets f.1 (envelope_of s) r i f.4
+
+pub end_held_test : (f g : Feature) → (holds_end f.shape (env g) ≡ true) ↔ HoldsEnd f g
+end_held_test f g =
+    any_some (λ (q : Place). Unit {0}) (λ q. RectHolds (env g) (point_at q)) (λ (q : Place). is_within (rect_at q) (env g))
+    (λ q u. ((λ e. place_in (env g) q (in_from_test q (env g) e)), in_test q (env g))) (ends f) (every_of_all (λ (q : Place). Unit {0}) (λ q. tt) (ends f))
 
 -- ---- a test that depends on the features round the place picks the same ends
 filter_each : {A : Type 0} (t s : A → Bool) (xs : List A) → Every (λ x. t x ≡ s x) xs → filter t xs ≡ filter s xs

@@ -1,11 +1,15 @@
 -- What the tests of segments and places say.
-use Rattle.std.proofs.Common.{◌≡◌, ◌↔◌, ◌⊎◌, inl, inr, ℤ, pos, ◌-ℤ◌, ◌*ℤ◌, ◌≤ℤ◌, ◌<ℤ◌, Bool, true, false, refl, sym, ◌∙◌, List, [], ◌∷◌, cond, arith, ◌&&◌, ◌||◌}
+use Rattle.std.proofs.Common.{◌≡◌, ◌↔◌, ◌⊎◌, inl, inr, ℕ, ◌+◌, ◌≤◌, ℤ, pos, ◌-ℤ◌, ◌*ℤ◌, ◌≤ℤ◌, ◌<ℤ◌, Bool, true, false, refl, sym, ◌∙◌, List, [], ◌∷◌, Some, ap, take, length, get_or, cond, arith, ◌&&◌, ◌||◌}
+use Rattle.std.specs.Prelude.{slice_get}
 use Rattle.std.specs.List.{list_any}
 use Rattle.std.specs.Int.{int_min, int_max}
 use Rattle.std.specs.Bool.{Decides}
 use Rattle.std.proofs.lemmas.Bool.{false≢true}
 use Rattle.std.proofs.lemmas.Bool.Decides.{Decides-and, Decides-or, Decides-int_eq}
 use Rattle.std.proofs.lemmas.Int.{ints, clamps}
+use Rattle.std.proofs.lemmas.List.{take_all}
+use Rattle.std.proofs.lemmas.List.Folds.{list_any_more, list_any_at}
+use Rattle.std.proofs.lemmas.Option.{get_or_from_slice_get, slice_get_within}
 use Rattle.plane_terms.specs.Lists.{Every, SomeOf}
 use Rattle.plane_terms.specs.Point.{Place, Point, IsAt, same_place, point_at}
 use Rattle.plane_terms.specs.Rectangle.{Rectangle}
@@ -211,3 +215,20 @@ pub side_test : (ss : List Segment) (q : Place) (p : Point) → Every IsSegment 
     → (holds_at ss q ≡ true) ↔ SomeOf (λ s. OnSegment s p) ss
 side_test ss q p u a =
     any_some IsSegment (λ s. OnSegment s p) (λ t. holds_place t q) (λ t g. (place_from t q p a, place_test t q p g a)) ss u
+
+-- ---- one of a list, by its place
+pub any_there : {A : Type 0} (test : A → Bool) (xs : List A) (i : ℕ) (x : A) → slice_get xs i ≡ Some x → test x ≡ true
+    → list_any test xs ≡ true
+any_there test xs i x e t =
+    let there : get_or xs i x ≡ x = get_or_from_slice_get xs i x x e in
+    list_any_at test xs i x (slice_get_within xs i x e) (rw there t)
+
+pub none_more : {A : Type 0} (test : A → Bool) (xs : List A) (i : ℕ) (x : A) → slice_get xs i ≡ Some x → test x ≡ false
+    → list_any test (take i xs) ≡ false → list_any test (take (i + 1) xs) ≡ false
+none_more test xs i x e t h =
+    let there : get_or xs i x ≡ x = get_or_from_slice_get xs i x x e in
+    list_any_more test xs i x (slice_get_within xs i x e) ∙ rw (h, there, t) refl
+
+pub none_in_all : {A : Type 0} (test : A → Bool) (xs : List A) (i : ℕ) → length xs ≤ i → list_any test (take i xs) ≡ false
+    → list_any test xs ≡ false
+none_in_all test xs i l h = ap (list_any test) (sym (take_all i xs l)) ∙ h

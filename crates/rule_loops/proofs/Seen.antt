@@ -1,15 +1,12 @@
 -- Over a view: whether a feature of the class passes a test, and how many of all their segments or ends do.
 use Rattle.std.proofs.Common.{◌≡◌, ℕ, ◌+◌, ◌<◌, ◌≤◌, Bool, true, false, List, [], ◌∷◌, Some}
-use Rattle.std.proofs.Common.{refl, sym, ◌∙◌, ap, take, drop, length, get_or, cond, append-nil, arith}
+use Rattle.std.proofs.Common.{refl, sym, ◌∙◌, ap, take, drop, cond, append-nil, arith}
 use Rattle.std.specs.Prelude.{slice_get, ◌==◌, ◌&&◌, ◌||◌, flat_map}
 use Rattle.std.specs.List.{filter, list_any}
 use Rattle.std.proofs.lemmas.Grind.{flat_map-append}
 use Rattle.std.proofs.lemmas.Int.{ints}
 use Rattle.std.proofs.lemmas.Bool.{false≢true}
 use Rattle.std.proofs.lemmas.Bool.Decides.{nat_tests}
-use Rattle.std.proofs.lemmas.List.Folds.{list_any_more, list_any_at}
-use Rattle.std.proofs.lemmas.List.{take_all}
-use Rattle.std.proofs.lemmas.Option.{get_or_from_slice_get, slice_get_within}
 use Rattle.plane_terms.specs.Lists.{Every, how_many}
 use Rattle.plane_terms.specs.Point.{Place, same_place}
 use Rattle.plane_terms.specs.Rectangle.{Rectangle, IsWithin, rect_at, is_within}
@@ -36,22 +33,6 @@ any_kept {A} kept test (x ∷ xs) = pick (kept x) (any_kept kept test xs)
         → list_any test (cond b (x ∷ filter kept xs) (filter kept xs)) ≡ ((b && test x) || list_any (λ x. kept x && test x) xs)
     pick true e = rw e refl
     pick false e = e
-
-pub any_there : {A : Type 0} (test : A → Bool) (xs : List A) (i : ℕ) (x : A) → slice_get xs i ≡ Some x → test x ≡ true
-    → list_any test xs ≡ true
-any_there test xs i x e t =
-    let there : get_or xs i x ≡ x = get_or_from_slice_get xs i x x e in
-    list_any_at test xs i x (slice_get_within xs i x e) (rw there t)
-
-pub none_more : {A : Type 0} (test : A → Bool) (xs : List A) (i : ℕ) (x : A) → slice_get xs i ≡ Some x → test x ≡ false
-    → list_any test (take i xs) ≡ false → list_any test (take (i + 1) xs) ≡ false
-none_more test xs i x e t h =
-    let there : get_or xs i x ≡ x = get_or_from_slice_get xs i x x e in
-    list_any_more test xs i x (slice_get_within xs i x e) ∙ rw (h, there, t) refl
-
-pub none_in_all : {A : Type 0} (test : A → Bool) (xs : List A) (i : ℕ) → length xs ≤ i → list_any test (take i xs) ≡ false
-    → list_any test xs ≡ false
-none_in_all test xs i l h = ap (list_any test) (sym (take_all i xs l)) ∙ h
 
 -- ---- up to three
 pub three_more : (m n : ℕ) → up_to_three (up_to_three m + up_to_three n) ≡ up_to_three (m + n)
@@ -156,23 +137,40 @@ segments_next q n V i g count new e m h = pick (round_of n q g) refl m
     pick true t m = m ∙ segments_more q n V i g count e t h
     pick false t m = m ∙ segments_same q n V i g count e t h
 
-pub segments_fewer : (q : Place) (n : ℕ) (V : List Feature) (i : ℕ) → segments_at (of_class n (take i V)) q ≤ segments_at (of_class n V) q
-segments_fewer q n V i =
-    let all : segments_at (of_class n V) q ≡ segments_at (of_class n (take i V)) q + segments_at (of_class n (drop i V)) q =
-    ap (λ gs. segments_at gs q) (class_apart n V i)
-    ∙ (ap (how_many (λ t. holds_place t q)) (flat_map-append sides (of_class n (take i V)) (of_class n (drop i V)))
-    ∙ how_many_joined (λ t. holds_place t q) (flat_map sides (of_class n (take i V))) (flat_map sides (of_class n (drop i V)))) in
+fewer : {A : Type 0} (test : A → Bool) (items : Feature → List A) (n : ℕ) (V : List Feature) (i : ℕ)
+    → how_many test (flat_map items (of_class n (take i V))) ≤ how_many test (flat_map items (of_class n V))
+fewer test items n V i =
+    let before = of_class n (take i V) in
+    let behind = of_class n (drop i V) in
+    let all : how_many test (flat_map items (of_class n V)) ≡ how_many test (flat_map items before) + how_many test (flat_map items behind) =
+    ap (λ gs. how_many test (flat_map items gs)) (class_apart n V i)
+    ∙ (ap (how_many test) (flat_map-append items before behind) ∙ how_many_joined test (flat_map items before) (flat_map items behind)) in
     omega (arith, all)
+
+pub segments_fewer : (q : Place) (n : ℕ) (V : List Feature) (i : ℕ) → segments_at (of_class n (take i V)) q ≤ segments_at (of_class n V) q
+segments_fewer q n V i = fewer (λ (t : Segment). holds_place t q) sides n V i
+
+pub ends_fewer : (q : Place) (n : ℕ) (V : List Feature) (i : ℕ) → ends_at (of_class n (take i V)) q ≤ ends_at (of_class n V) q
+ends_fewer q n V i = fewer (same_place q) ends n V i
 
 -- of those so far two, and so of all no single one
 pub not_single : (count m n : ℕ) → count ≡ up_to_three m → 1 < count → m ≤ n → (n == 1) ≡ false
 not_single count m n e l u = grind (arith, nat_tests)
 
-pub ends_more : (q : Place) (n : ℕ) (V : List Feature) (i : ℕ) (g : Feature) (count : ℕ) → slice_get V i ≡ Some g
+-- of those so far three, and so of all three or more
+pub three_there : (count m n : ℕ) → count ≡ up_to_three m → 2 < count → m ≤ n → count ≡ up_to_three n
+three_there count m n e l u = grind (arith, nat_tests)
+
+ends_more : (q : Place) (n : ℕ) (V : List Feature) (i : ℕ) (g : Feature) (count : ℕ) → slice_get V i ≡ Some g
     → round_of n q g ≡ true → count ≡ up_to_three (ends_at (of_class n (take i V)) q)
     → up_to_three (count + up_to_three (how_many (same_place q) (ends g)))
     ≡ up_to_three (ends_at (of_class n (take (i + 1) V)) q)
 ends_more q = round_more (same_place q) ends q (no_end q)
+
+pub ends_next : (q : Place) (n : ℕ) (V : List Feature) (i : ℕ) (g : Feature) (count more new : ℕ) → slice_get V i ≡ Some g
+    → round_of n q g ≡ true → more ≡ up_to_three (how_many (same_place q) (ends g)) → new ≡ up_to_three (count + more)
+    → count ≡ up_to_three (ends_at (of_class n (take i V)) q) → new ≡ up_to_three (ends_at (of_class n (take (i + 1) V)) q)
+ends_next q n V i g count more new e t m k h = k ∙ (ap (λ x. up_to_three (count + x)) m ∙ ends_more q n V i g count e t h)
 
 pub ends_same : (q : Place) (n : ℕ) (V : List Feature) (i : ℕ) (g : Feature) (count : ℕ) → slice_get V i ≡ Some g
     → round_of n q g ≡ false → count ≡ up_to_three (ends_at (of_class n (take i V)) q)

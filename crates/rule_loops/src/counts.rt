@@ -47,15 +47,18 @@ pub fn is_single_at(class: u16, view: &View<'_>, place: GridPoint) -> bool
 {
     let mut count = 0;
     for i in 0..view.len() {
-        count = with_segments(count, class, place, view.feature(i));
-        if count > 1 {
-            return false;
+        let other = view.feature(i);
+        if is_round(class, place, other) {
+            count = with_segments(count, class, place, other);
+            if count > 1 {
+                return false;
+            }
         }
     }
     count == 1
 }
 
-/// How many ends of the features of the class that are shown are at the place, up to three.
+/// How many ends of the features of the class that are shown are at the place, up to three. Looks no further once there are so many.
 pub fn ends_at(class: u16, view: &View<'_>, place: GridPoint) -> usize
     ensures { result ≡ up_to_three (terms.ends_at (of_class class view.now) place) }
 {
@@ -65,6 +68,9 @@ pub fn ends_at(class: u16, view: &View<'_>, place: GridPoint) -> usize
         if is_round(class, place, other) {
             let more = up_to_three(count_ends(other.shape(), place));
             count = up_to_three(count + more);
+            if count > 2 {
+                return count;
+            }
         }
     }
     count

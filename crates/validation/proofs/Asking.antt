@@ -1,6 +1,6 @@
 -- How many steps are taken at most, put together question by question.
-use Rattle.std.proofs.Common.{◌≡◌, ◌↔◌, ℤ, pos, negsuc, ◌≤ℤ◌, ◌⊎◌, inl, inr, ℕ, ◌<◌, ◌≤◌, ◌+◌, ◌*◌, ◌/◌, Bool, true, false, cond, List, [], ◌∷◌, ◌++◌, map, refl, sym, ◌∙◌, ap, subst, arith, take, drop, length, get_or, Contains}
-use Rattle.std.specs.Prelude.{◌||◌, ◌-◌, ◌^◌, ◌-ℤ◌, min, unsigned_abs}
+use Rattle.std.proofs.Common.{◌≡◌, ◌↔◌, ℤ, pos, negsuc, ◌≤ℤ◌, inl, inr, ℕ, ◌<◌, ◌≤◌, ◌+◌, ◌*◌, Bool, true, false, cond, List, [], ◌∷◌, ◌++◌, map, refl, sym, ◌∙◌, ap, subst, arith, take, drop, length, get_or, Contains}
+use Rattle.std.specs.Prelude.{◌-◌, ◌^◌, ◌-ℤ◌, min, unsigned_abs}
 use Rattle.std.specs.List.{filter, list_any}
 use Rattle.std.specs.List.Sorted.{IsPermutation}
 use Rattle.std.specs.Option.{option_to_list}
@@ -30,6 +30,7 @@ use Rattle.validation.specs.Parted.{RulePart, rules_of}
 use Rattle.validation.proofs.Dirtied.{front_more, every_moved}
 use Rattle.validation.proofs.Nearby.{live_more}
 use Rattle.validation.proofs.Settled.{selected_live}
+use Rattle.validation.proofs.Shown.{any_rule}
 
 -- ---- the parts of the dirt
 passed : (t : Bool) (w r : Rectangle) (d : List Rectangle) → rects_meet r w ≡ t
@@ -160,16 +161,11 @@ pub steps_within : (s : ℕ) (rs : List Rectangle) (ps : List Placed) (i m a : �
 steps_within s rs ps i m a h = omega (arith, h, sum_by-take-le (λ (q : Rectangle). most_steps s q ps) rs i)
 
 -- ---- of the features that are judged
-any_rule : (f : Feature) (ps : List RulePart)
-    → list_any (λ (q : InForce). judged q.row f) (rules_of ps) ≡ list_any (λ (p : RulePart). judged p.rule.row f) ps
-any_rule f [] = refl
-any_rule f (p ∷ ps) = ap (λ t. judged p.rule.row f || t) (any_rule f ps)
-
 pub live_steps : (s : ℕ) (f : Feature) (parts : List RulePart) (ps : List Placed) (m n : ℕ)
     → list_any (λ (p : RulePart). judged p.rule.row f) parts ≡ true → n ≤ m + most_steps s (env f) ps
     → n ≤ m + asked_steps s (judged_envelopes (rules_of parts) (f ∷ [])) ps
 live_steps s f parts ps m n t h =
-    let on : list_any (λ (q : InForce). judged q.row f) (rules_of parts) ≡ true = any_rule f parts ∙ t in
+    let on : list_any (λ (q : InForce). judged q.row f) (rules_of parts) ≡ true = any_rule (λ (q : InForce). judged q.row f) parts ∙ t in
     rw on (omega (arith, h, one_asked s (env f) ps))
 
 judged_joined : (s : ℕ) (rules : List InForce) (fs gs : List Feature) (ps : List Placed)

@@ -1,4 +1,5 @@
 mod Asking
+mod AtEnds
 mod CellFrames
 mod Dirtied
 mod Elements
@@ -7,5 +8,6 @@ mod Framed
 mod Nearby
 mod Parted
 mod Picking
+mod Shown
 mod TooFar
 pub mod Settled

@@ -16,13 +16,11 @@ use Rattle.topology_terms.specs.Feature.{Feature, feature_at, env, IsAscending}
 use Rattle.sound_laws.proofs.FeatureLists.{each_live, handle_of}
 use Rattle.sound_laws.proofs.Planes.{within_trans}
 use Rattle.validation_laws.specs.Parts.{live_of}
-use Rattle.validation_laws.specs.Views.{IsView}
 use Rattle.validation_laws.proofs.Handles.{rising}
 use Rattle.validation_laws.proofs.Counting.{live_those}
-use Rattle.validation_laws.proofs.Viewed.{view_filtered}
 use Rattle.grid_plane.specs.Rectangles.{IsJoin}
 use Rattle.dirty_area.proofs.Nearby.{some_place, place_some}
-use Rattle.grid_index.specs.Near.{IsNear}
+use Rattle.grid_index.specs.Near.{IsMet, handle_of as number_of}
 use Rattle.grid_index.specs.declared.placed.Placed.{Placed}
 use Rattle.validation.specs.Placed.{placed_of, ArePlaced, HasNear}
 use Rattle.validation.proofs.Elements.{all_before}
@@ -35,13 +33,17 @@ some_moved P xs ys m h =
     place_some P ys y.0 c.0 c.1 c.2 y.2
 
 -- ---- what an index gives
--- the handles are those of the placed rectangles that meet r
-abbrev pub AreNear : List ℕ → Rectangle → List Placed → Type 0
-AreNear ns r ps = (a : ℕ) → Contains ns a ↔ IsNear r ps a
+-- the handles are those of the placed rectangles that pass the test
+abbrev pub AreMet : List ℕ → (Rectangle → Bool) → List Placed → Type 0
+AreMet ns t ps = (a : ℕ) → Contains ns a ↔ IsMet number_of t (Contains ps) a
 
-given : (ns : List ℕ) (r : Rectangle) (ps : List Placed) (q : Placed) → AreNear ns r ps → Contains ps q → rects_meet r q.rect ≡ true
+-- or meet r
+abbrev pub AreNear : List ℕ → Rectangle → List Placed → Type 0
+AreNear ns r ps = AreMet ns (rects_meet r) ps
+
+given : (ns : List ℕ) (t : Rectangle → Bool) (ps : List Placed) (q : Placed) → AreMet ns t ps → Contains ps q → t q.rect ≡ true
     → Contains ns q.handle
-given ns r ps q near c m = (near q.handle).1 (q, c, refl, m)
+given ns t ps q near c m = (near q.handle).1 (q, c, refl, m)
 
 -- one rectangle more
 pub near_more : (ps : List Placed) (rs : List Rectangle) (i : ℕ) (r : Rectangle) (out v new : List ℕ) → i < length rs → r ≡ get_or rs i r
@@ -51,7 +53,7 @@ near_more ps rs i r out v new l e was near grown q c m =
     let P : Rectangle → Type 0 = λ (s : Rectangle). rects_meet s q.rect ≡ true in
     rw grown (elim (SomeOf-either P (take i rs) (r ∷ []) (subst (SomeOf P) more m)) [
       | inl k ↦ Contains-append_left out v q.handle (was q c k)
-      | inr k ↦ elim k [ inl t ↦ Contains-append_right out v q.handle (given v r ps q near c t) | inr t ↦ absurd t ]
+      | inr k ↦ elim k [ inl t ↦ Contains-append_right out v q.handle (given v (rects_meet r) ps q near c t) | inr t ↦ absurd t ]
     ])
 
 -- ---- of the rectangle that holds them all
@@ -65,7 +67,7 @@ wider_some (r ∷ rs) j e all m = elim m [ inl k ↦ wider r j e all.0 k | inr k
 
 pub near_joined : (ps : List Placed) (rs : List Rectangle) (j : Rectangle) (ns : List ℕ) → Every (λ (r : Rectangle). IsWithin r j) rs
     → AreNear ns j ps → HasNear ns ps rs
-near_joined ps rs j ns all near q c m = given ns j ps q near c (wider_some rs j q.rect all m)
+near_joined ps rs j ns all near q c m = given ns (rects_meet j) ps q near c (wider_some rs j q.rect all m)
 
 pub near_none : (ps : List Placed) (rs : List Rectangle) (ns : List ℕ) → rs ≡ [] → HasNear ns ps rs
 near_none ps rs ns e q c m =
@@ -94,16 +96,16 @@ those_kept Q test (x ∷ xs) V u h = elim h [
       (elim (cases_Bool (test x)) [ inl t ↦ absurd (k.0 (u.0 t)) | inr t ↦ t ]))
 ]
 
-pub view_near : (F V : List Feature) (f : Feature) (ps : List Placed) (ns : List ℕ) → IsAscending F → ArePlaced ps F
-    → IsStrictlyIncreasing ns → AreNear ns (env f) ps → V ≡ filter (λ (g : Feature). rects_meet (env f) (env g)) (live_of F ns)
-    → IsView F f V
-view_near F V f ps ns u placed v near is =
-    let test : Feature → Bool = λ (g : Feature). rects_meet (env f) (env g) in
+pub view_about : (F V : List Feature) (t : Rectangle → Bool) (ps : List Placed) (ns : List ℕ) → IsAscending F → ArePlaced ps F
+    → IsStrictlyIncreasing ns → AreMet ns t ps → V ≡ filter (λ (g : Feature). t (env g)) (live_of F ns)
+    → V ≡ filter (λ (g : Feature). t (env g)) F
+view_about F V t ps ns u placed v near is =
+    let test : Feature → Bool = λ (g : Feature). t (env g) in
     let Q : Feature → Type 0 = λ (g : Feature). Contains ns g.handle in
     let those : IsThose Q F (live_of F ns) = live_those (λ (a : ℕ). Contains ns a) F ns u (rising ns v) (λ a. ((λ h. h), (λ h. h))) in
     let found : Every (λ (g : Feature). test g ≡ true → Q g) F =
-    each_live (λ (g : Feature). test g ≡ true → Q g) F u (λ h g e t. given ns (env f) ps (placed_of g) near (placed h g e) t) in
-    view_filtered F V f u (is ∙ those_kept Q test F (live_of F ns) found those)
+    each_live (λ (g : Feature). test g ≡ true → Q g) F u (λ h g e k. given ns t ps (placed_of g) near (placed h g e) k) in
+    is ∙ those_kept Q test F (live_of F ns) found those
 
 pub one_near : (test : Feature → Bool) (o : Option Feature) (f : Feature) → o ≡ Some f → test f ≡ true
     → filter test (option_to_list o) ≡ f ∷ []

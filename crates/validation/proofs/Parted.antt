@@ -8,57 +8,49 @@ use Rattle.std.proofs.lemmas.List.Sums.{sum_by-cons}
 use Rattle.std.proofs.lemmas.Grind.{flat_map-append}
 use Rattle.plane_terms.specs.Lists.{Every, Paired, how_many}
 use Rattle.plane_terms.proofs.ListLemmas.{how_many_joined}
-use Rattle.topology_terms.specs.Feature.{Feature, feature_at, IsAscending}
-use Rattle.topology_terms.specs.Broken.{Row, judged}
-use Rattle.topology_terms.specs.Meaning.{Meaning, Laws}
+use Rattle.topology_terms.specs.Feature.{Feature, feature_at}
+use Rattle.topology_terms.specs.Broken.{judged}
+use Rattle.topology_terms.specs.Meaning.{Meaning, Finding}
 use Rattle.topology_terms.specs.Entry.{Entry}
 use Rattle.topology_terms.specs.Project.{InForce}
 use Rattle.topology_terms.specs.Counts.{raised, judged_of}
 use Rattle.validation_laws.specs.Parts.{IsSubjectPart, IsJudging, live_of}
-use Rattle.validation_laws.specs.Views.{IsView, ViewLaws}
+use Rattle.validation_laws.specs.Views.{ViewLaws}
 use Rattle.validation_laws.proofs.Joining.{joined_more, paired_more}
-use Rattle.validation_laws.proofs.Viewed.{subject_seen, view_cut, view_fits}
 use Rattle.validation_laws.proofs.Parts.{part_dead, part_idle}
 use Rattle.validation_laws.proofs.Counting.{raised_more, raised_upto}
 use Rattle.validation.specs.Parted.{RulePart, rules_of, entries_of, IsPartOf, IsGrown, AreGrown, IsDone}
 
--- ---- by a view
--- what a view shows is a view of itself
-pub view_own : (F V : List Feature) (f : Feature) → IsView F f V → IsView V f V
-view_own F V f v = record { forth = λ h g e. (e, (v.forth h g e).1); back = λ h g e m. e; ascending = v.ascending }
+-- ---- by what is shown
+-- the rule finds there what it finds among all
+pub record IsEnough (M : Meaning) (F V : List Feature) (f : Feature) (r : InForce) : Type 0 where
+  pub subject : feature_at V f.handle ≡ Some f
+  pub cut : (xs : List Finding) → M.IsCutting r.row V f.handle xs → M.IsCutting r.row F f.handle xs
 
-module _ (M : Meaning) (L : Laws M) (W : ViewLaws M) (F V : List Feature) (f : Feature) (u : IsAscending F)
-    (e : feature_at F f.handle ≡ Some f) (v : IsView F f V) where
-  pub part_seen : (r : ℕ) (row : Row) (es : List Entry) → M.Fits row F → IsSubjectPart M V r row f.handle es
-      → IsSubjectPart M F r row f.handle es
-  part_seen r row es fits h =
-      let seen = subject_seen F V f.handle f e v in
-      record {
-        live = λ g k.
-            let same : f ≡ g = (let l = e in cc) in
-            let y = h.live f seen in
-            (y.0, view_cut M L row F V f.handle f fits (view_fits M W row F V f v fits) e v u y.0 y.1, y.2, rw (← same) y.3);
-        dead = λ n. absurd cc;
-      }
+module _ (M : Meaning) (F V : List Feature) (f : Feature) (e : feature_at F f.handle ≡ Some f) where
+  part_seen : (r : InForce) (es : List Entry) → IsEnough M F V f r → IsSubjectPart M V r.number r.row f.handle es
+      → IsSubjectPart M F r.number r.row f.handle es
+  part_seen r es enough h = record {
+    live = λ g k.
+        let same : f ≡ g = (let l = e in cc) in
+        let y = h.live f enough.subject in
+        (y.0, enough.cut y.0 y.1, y.2, rw (← same) y.3);
+    dead = λ n. absurd cc;
+  }
 
-  grown_seen : (p q : RulePart) → M.Fits p.rule.row F → IsGrown M V f.handle p q → IsGrown M F f.handle p q
-  grown_seen p q fits g = record {
+  grown_seen : (p q : RulePart) → IsEnough M F V f p.rule → IsGrown M V f.handle p q → IsGrown M F f.handle p q
+  grown_seen p q enough g = record {
     rule = g.rule;
     part = g.part;
     put = g.put;
-    own = part_seen p.rule.number p.rule.row g.part fits g.own;
+    own = part_seen p.rule g.part enough g.own;
   }
 
-  pub all_seen : (ps qs : List RulePart) → Every (λ (r : InForce). M.Fits r.row F) (rules_of ps) → AreGrown M V f.handle ps qs
-      → AreGrown M F f.handle ps qs
-  all_seen [] [] fits g = tt
-  all_seen [] (q ∷ qs) fits g = absurd g
-  all_seen (p ∷ ps) [] fits g = absurd g
-  all_seen (p ∷ ps) (q ∷ qs) fits g = (grown_seen p q fits.0 g.0, all_seen ps qs fits.1 g.1)
-
-  pub all_fit : (rules : List InForce) → Every (λ (r : InForce). M.Fits r.row F) rules → Every (λ (r : InForce). M.Fits r.row V) rules
-  all_fit [] fits = tt
-  all_fit (r ∷ rules) fits = (view_fits M W r.row F V f v fits.0, all_fit rules fits.1)
+  pub all_seen : (ps qs : List RulePart) → Every (IsEnough M F V f) (rules_of ps) → AreGrown M V f.handle ps qs → AreGrown M F f.handle ps qs
+  all_seen [] [] enough g = tt
+  all_seen [] (q ∷ qs) enough g = absurd g
+  all_seen (p ∷ ps) [] enough g = absurd g
+  all_seen (p ∷ ps) (q ∷ qs) enough g = (grown_seen p q enough.0 g.0, all_seen ps qs enough.1 g.1)
 
 -- ---- where there is nothing to judge
 either : (a b : Bool) → (a || b) ≡ false → (a ≡ false) × (b ≡ false)

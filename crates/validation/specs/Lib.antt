@@ -1,4 +1,5 @@
 pub mod Asked
+pub mod Ends
 pub mod Parted
 pub mod Placed
 pub mod Projects

@@ -65,15 +65,15 @@ fn join_of_all(rects: &[Rect]) -> Option<Rect>
     Some(joined)
 }
 
-// How many places lie along the southern side of the rectangle.
-fn places_across(r: &Rect) -> u64
+/// How many places lie along the southern side of the rectangle.
+pub(crate) fn places_across(r: &Rect) -> u64
     ensures { result ≡ unsigned_abs (r.now.x1 -ℤ r.now.x0) + 1 }
 {
     u64::from(r.x1().abs_diff(r.x0())) + 1
 }
 
-// How many places lie along its western side.
-fn places_up(r: &Rect) -> u64
+/// How many places lie along its western side.
+pub(crate) fn places_up(r: &Rect) -> u64
     ensures { result ≡ unsigned_abs (r.now.y1 -ℤ r.now.y0) + 1 }
 {
     u64::from(r.y1().abs_diff(r.y0())) + 1

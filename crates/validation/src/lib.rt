@@ -2,6 +2,7 @@
 #![tactic(auto)]
 
 mod dirty;
+mod ends;
 mod frame;
 mod judge;
 mod lists;

@@ -1,16 +1,19 @@
-ghost use Rattle.std.specs.Prelude.{◌≡◌, ◌≤◌, ◌+◌, ℕ, [], ◌∷◌, filter, None, Some, IfSome, IfOk, MatchOption};
+ghost use Rattle.std.specs.Prelude.{◌≡◌, ◌<◌, ◌≤◌, ◌+◌, ℕ, [], ◌∷◌, filter, length, None, Some, true, IfSome, IfOk, MatchOption};
 ghost use Rattle.std.specs.Option.{option_to_list};
 ghost use Rattle.std.specs.List.Sorted.{IsStrictlyIncreasing};
-ghost use Rattle.plane_terms.specs.Rectangle.{rects_meet};
 ghost use Rattle.topology_terms.specs.Feature.{feature_at, env, IsAscending};
 ghost use Rattle.topology_terms.specs.Feature as terms;
+ghost use Rattle.topology_terms.specs.Together.{ends};
 ghost use Rattle.validation_laws.specs.Parts.{live_of};
-ghost use Rattle.validation_laws.specs.Views.{IsView};
+ghost use Rattle.validation_laws.specs.Views.{IsView, IsEndView};
 ghost use Rattle.grid_index.specs.Steps.{most_steps};
+ghost use Rattle.validation.specs.Ends.{IsShownFor};
 ghost use Rattle.validation.specs.Placed.{ArePlaced};
 
+use crate::dirty::{places_across, places_up};
+use crate::ends::LineEnds;
 use feature_store::Features;
-use grid_index::{Index, Meter};
+use grid_index::{Aim, Index, Meter};
 use grid_plane::{NoMemory, Rect};
 use rule_core::View;
 use shape::Feature;
@@ -35,34 +38,51 @@ impl<'a> Model for FeatureIndex<'a> {
     ghost invariant = { λ x. ArePlaced x.index.now x.features.now };
 }
 
-// The live feature of this handle, if its envelope meets the rectangle.
-fn find_near<'a>(features: &'a Features<'a>, handle: u32, r: &Rect) -> Option<&'a Feature>
+// So many features are many to look at.
+const MANY: u64 = 32;
+
+fn product(a: u64, b: u64, c: u64) -> u64 {
+    a.saturating_mul(b).saturating_mul(c)
+}
+
+// Whether many of so many features lie in the rectangle, were they spread evenly over the whole: many along x, along y, or
+// together. No answer rests on it, only how long an answer takes.
+fn is_crowded(r: &Rect, whole: &Rect, count: u64) -> bool {
+    let (wide, high) = (places_across(r), places_up(r));
+    let (all_wide, all_high) = (places_across(whole), places_up(whole));
+    product(wide, wide, count) > product(all_wide, all_wide, MANY * MANY)
+        || product(high, high, count) > product(all_high, all_high, MANY * MANY)
+        || product(wide, high, count) > product(all_wide, all_high, MANY)
+}
+
+// The live feature of this handle, if the aim touches its envelope.
+fn find_touched<'a, A: Aim>(features: &'a Features<'a>, handle: u32, aim: &A) -> Option<&'a Feature>
     requires { IsAscending features.now }
-    ensures near { MatchOption result (filter (λ (g : terms.Feature). rects_meet r.now (env g)) (option_to_list (feature_at features.now handle)) ≡ []) (λ f. filter (λ (g : terms.Feature). rects_meet r.now (env g)) (option_to_list (feature_at features.now handle)) ≡ f.now ∷ []) }
+    ensures touched { MatchOption result (filter (λ (g : terms.Feature). A.touching aim.now (env g)) (option_to_list (feature_at features.now handle)) ≡ []) (λ f. filter (λ (g : terms.Feature). A.touching aim.now (env g)) (option_to_list (feature_at features.now handle)) ≡ f.now ∷ []) }
     ensures live { IfSome result (λ f. feature_at features.now handle ≡ Some f.now) }
 {
     let f = features.get(handle)?;
-    if r.meets(&f.shape().env()) {
+    if aim.touches(&f.shape().env()) {
         Some(f)
     } else {
         None
     }
 }
 
-// The live features of these handles whose envelope meets the rectangle.
-fn view_among<'a>(
+// The live features of these handles whose envelope the aim touches.
+fn view_among<'a, A: Aim>(
     alloc: Global,
     features: &'a Features<'a>,
     handles: &[u32],
-    r: &Rect,
+    aim: &A,
 ) -> Result<View<'a>, NoMemory>
     requires features { IsAscending features.now }
     requires handles { IsStrictlyIncreasing handles.now }
-    ensures { IfOk result (λ v. v ≡ filter (λ (g : terms.Feature). rects_meet r.now (env g)) (live_of features.now handles.now)) }
+    ensures { IfOk result (λ v. v ≡ filter (λ (g : terms.Feature). A.touching aim.now (env g)) (live_of features.now handles.now)) }
 {
     let mut view = View::with_room(alloc, handles.len())?;
     for handle in handles {
-        if let Some(f) = find_near(features, *handle, r) {
+        if let Some(f) = find_touched(features, *handle, aim) {
             view.push(f)?;
         }
     }
@@ -86,6 +106,31 @@ impl<'a> FeatureIndex<'a> {
         self.features.get(handle)
     }
 
+    // Whether many features may lie near this one.
+    fn is_amid_many(&self, f: &Feature) -> bool {
+        let count = self.features.slots().len() as u64;
+        match self.index.reach() {
+            Some(whole) => is_crowded(&f.shape().env(), &whole, count),
+            None => false,
+        }
+    }
+
+    // The features whose envelope the aim touches. The meter counts the steps in the index.
+    fn view_about<A: Aim, M: Meter>(
+        &self,
+        alloc: Global,
+        aim: &A,
+        meter: &mut M,
+    ) -> Result<View<'a>, NoMemory>
+        requires { IsAscending self.now.features }
+        ensures view { IfOk result (λ v. v ≡ filter (λ (g : terms.Feature). A.touching aim.now (env g)) self.now.features) }
+        ensures rises { M.taken meter.old ≤ M.taken meter.new }
+        ensures steps { (s : ℕ) → M.taken meter.new ≤ M.taken meter.old + most_steps s (A.window aim.now) self.now.placed }
+    {
+        let handles = self.index.query_about(alloc, aim, meter)?;
+        view_among(alloc, self.features, &handles, aim)
+    }
+
     /// The features whose envelope meets the subject's. Looks only at those that the index gives for it. The meter counts the
     /// steps in the index.
     pub fn view_of<M: Meter>(
@@ -99,8 +144,44 @@ impl<'a> FeatureIndex<'a> {
         ensures rises { M.taken meter.old ≤ M.taken meter.new }
         ensures steps { (s : ℕ) → M.taken meter.new ≤ M.taken meter.old + most_steps s (env f.now) self.now.placed }
     {
-        let env = f.shape().env();
-        let handles = self.index.query_counted(alloc, &env, meter)?;
-        view_among(alloc, self.features, &handles, &env)
+        self.view_about(alloc, &f.shape().env(), meter)
+    }
+
+    // The features whose envelope holds an end of the line, which has some. Takes no more steps in the index than for its envelope.
+    fn view_at_ends<M: Meter>(
+        &self,
+        alloc: Global,
+        f: &Feature,
+        meter: &mut M,
+    ) -> Result<View<'a>, NoMemory>
+        requires ascending { IsAscending self.now.features }
+        requires ends { 0 < length (ends f.now) }
+        ensures view { IfOk result (λ v. IsEndView self.now.features f.now v) }
+        ensures rises { M.taken meter.old ≤ M.taken meter.new }
+        ensures steps { (s : ℕ) → M.taken meter.new ≤ M.taken meter.old + most_steps s (env f.now) self.now.placed }
+    {
+        self.view_about(alloc, &LineEnds::of(f.shape()), meter)
+    }
+
+    /// What lies near the subject, or, where that is enough and much may lie near it, only what is at its ends. Looks only at what
+    /// the index gives for its envelope or its ends. The meter counts the steps in the index.
+    pub(crate) fn view_for<M: Meter>(
+        &self,
+        alloc: Global,
+        f: &Feature,
+        ends_are_enough: bool,
+        meter: &mut M,
+    ) -> Result<View<'a>, NoMemory>
+        requires ascending { IsAscending self.now.features }
+        requires ends { ends_are_enough ≡ true → 0 < length (ends f.now) }
+        ensures view { IfOk result (λ v. IsShownFor ends_are_enough self.now.features f.now v) }
+        ensures rises { M.taken meter.old ≤ M.taken meter.new }
+        ensures steps { (s : ℕ) → M.taken meter.new ≤ M.taken meter.old + most_steps s (env f.now) self.now.placed }
+    {
+        if ends_are_enough && self.is_amid_many(f) {
+            self.view_at_ends(alloc, f, meter)
+        } else {
+            self.view_of(alloc, f, meter)
+        }
     }
 }

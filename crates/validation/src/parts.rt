@@ -10,6 +10,7 @@ ghost use Rattle.topology_terms.specs.Counts.{raised, judged_of};
 ghost use Rattle.validation_laws.specs.Parts.{IsJudging, live_of};
 ghost use Rattle.validation_laws.specs.Views.{IsView};
 ghost use Rattle.validation.specs.Asked.{asked_steps, judged_envelopes};
+ghost use Rattle.validation.specs.Ends.{looks_beyond, shows_at_ends};
 ghost use Rattle.validation.specs.Parted.{IsPartOf, IsGrown, AreGrown, IsDone, rules_of, entries_of};
 ghost use Rattle.validation.specs.Parted as terms;
 
@@ -71,6 +72,13 @@ impl RulePart {
         self.rule.row.judges(f.class())
     }
 
+    // Whether the rule judges the feature by more than what is at its ends.
+    fn looks_beyond_ends(&self, f: &Feature) -> bool
+        ensures { result ≡ looks_beyond f.now self.now.rule }
+    {
+        self.judges(f) && !self.rule.row.looks_at_ends()
+    }
+
     // Puts the new entries of the subject last, as it is shown here.
     fn judge<R: RuleSet>(
         &mut self,
@@ -109,6 +117,20 @@ fn judges_any(parts: &[RulePart], f: &Feature) -> bool
     parts.iter().any(|p| p.judges(f))
 }
 
+// Whether one of the rules judges the feature by more than what is at its ends.
+fn look_beyond_ends(parts: &[RulePart], f: &Feature) -> bool
+    ensures { result ≡ list_any (λ (p : terms.RulePart). looks_beyond f.now p.rule) parts.now }
+{
+    parts.iter().any(|p| p.looks_beyond_ends(f))
+}
+
+// Whether what is at the ends of the feature is all that the rules that judge it ask for.
+fn is_shown_at_ends(parts: &[RulePart], f: &Feature) -> bool
+    ensures { result ≡ shows_at_ends (rules_of parts.now) f.now }
+{
+    f.shape().end_count() > 0 && !look_beyond_ends(parts, f)
+}
+
 // Each rule judges the subject, as it is shown here.
 fn judge_shown_by_each<R: RuleSet>(
     rules: &R,
@@ -131,8 +153,8 @@ fn judge_shown_by_each<R: RuleSet>(
     Ok(())
 }
 
-// Each rule judges the live feature. What lies near it is looked up once, and only where some rule judges it; the meter counts the
-// steps.
+// Each rule judges the live feature. What lies near it, or at its ends, is looked up once, and only where some rule judges it; the
+// meter counts the steps.
 fn judge_live_by_each<R: RuleSet, M: Meter>(
     rules: &R,
     alloc: Global,
@@ -154,7 +176,8 @@ fn judge_live_by_each<R: RuleSet, M: Meter>(
     if !judges_any(parts, f) {
         return Ok(());
     }
-    let view = features.view_of(alloc, f, meter)?;
+    let at_ends = is_shown_at_ends(parts, f);
+    let view = features.view_for(alloc, f, at_ends, meter)?;
     judge_shown_by_each(rules, alloc, parts, &view, f, work)
 }
 

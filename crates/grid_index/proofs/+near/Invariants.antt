@@ -7,10 +7,10 @@ use Rattle.grid_index.proofs.+near.Given as goal
 
 abbrev pub invariant-siblings::add_from_each-loop-node : goal.invariant-siblings::add_from_each-loop-node
 invariant-siblings::add_from_each-loop-node g l = record {
-  met : AddsHandles l.r (Contains (all_items (take l.node-index l.nodes))) l.initial.found.items l.found.items;
+  met : AddsHandles (g.A.Aim.touching l.aim) (Contains (all_items (take l.node-index l.nodes))) l.initial.found.items l.found.items;
   rises : g.M.Meter.taken l.initial.meter ≤ g.M.Meter.taken l.meter;
   steps : (k s : ℕ) → AreParts k l.nodes
-      → g.M.Meter.taken l.meter + parts_steps k s l.r (drop l.node-index l.nodes) ≤ g.M.Meter.taken l.initial.meter + parts_steps k s l.r l.nodes;
+      → g.M.Meter.taken l.meter + parts_steps k s (g.A.Aim.window l.aim) (drop l.node-index l.nodes) ≤ g.M.Meter.taken l.initial.meter + parts_steps k s (g.A.Aim.window l.aim) l.nodes;
 }
 
 abbrev pub decreases-node::Node::add_near : goal.decreases-node::Node::add_near

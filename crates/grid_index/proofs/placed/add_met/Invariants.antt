@@ -4,7 +4,7 @@ use Rattle.grid_index.proofs.placed.add_met.Given as goal
 
 abbrev pub invariant-loop-placed : goal.invariant-loop-placed
 invariant-loop-placed g l = record {
-  met : AddsHandles l.r (Contains (take l.placed-index l.list)) l.initial.found.items l.found.items;
+  met : AddsHandles (g.A.Aim.touching l.aim) (Contains (take l.placed-index l.list)) l.initial.found.items l.found.items;
   rises : g.M.Meter.taken l.initial.meter ≤ g.M.Meter.taken l.meter;
   steps : g.M.Meter.taken l.meter ≤ g.M.Meter.taken l.initial.meter + l.placed-index;
 }

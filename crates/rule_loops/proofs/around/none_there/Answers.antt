@@ -1,7 +1,8 @@
 use Rattle.std.proofs.Common.{Bool, sym, ◌∙◌, ap, arith}
 use Rattle.std.specs.Prelude.{◌==◌, ◌&&◌, not}
 use Rattle.topology_terms.specs.Feature.{Feature}
-use Rattle.rule_loops.proofs.Seen.{any_kept, any_there, none_more, none_in_all}
+use Rattle.rule_laws.proofs.Tests.{any_there, none_more, none_in_all}
+use Rattle.rule_loops.proofs.Seen.{any_kept}
 use Rattle.rule_loops.proofs.around.none_there.Goals as goal
 
 pub returns-then-is_there : goal.returns-then-is_there

@@ -1,7 +1,7 @@
 use Rattle.std.proofs.Common.{sym, ◌∙◌}
 use Rattle.plane_terms.specs.Shape.{ends_of}
 use Rattle.topology_terms.specs.Cells.{on_both}
-use Rattle.rule_loops.proofs.Seen.{any_there, none_more}
+use Rattle.rule_laws.proofs.Tests.{any_there, none_more}
 use Rattle.rule_loops.proofs.ends.has_end_on.Goals as goal
 
 pub returns-then-is_on_both : goal.returns-then-is_on_both

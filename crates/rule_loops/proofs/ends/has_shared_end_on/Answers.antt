@@ -4,7 +4,8 @@ use Rattle.plane_terms.specs.Point.{Place}
 use Rattle.plane_terms.specs.Shape.{ends_of}
 use Rattle.topology_terms.specs.Cells.{on_both}
 use Rattle.topology_terms.specs.Tests.{has_end_at}
-use Rattle.rule_loops.proofs.Seen.{any_kept, any_there, none_more, none_in_all}
+use Rattle.rule_laws.proofs.Tests.{any_there, none_more, none_in_all}
+use Rattle.rule_loops.proofs.Seen.{any_kept}
 use Rattle.rule_loops.proofs.ends.has_shared_end_on.Goals as goal
 
 pub returns-then-is_end_on : goal.returns-then-is_end_on

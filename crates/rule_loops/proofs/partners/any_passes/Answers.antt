@@ -1,7 +1,8 @@
 use Rattle.std.proofs.Common.{Bool, sym, ◌∙◌, arith}
 use Rattle.std.specs.Prelude.{◌==◌, ◌&&◌}
 use Rattle.topology_terms.specs.Feature.{Feature}
-use Rattle.rule_loops.proofs.Seen.{any_kept, any_there, none_more, none_in_all}
+use Rattle.rule_laws.proofs.Tests.{any_there, none_more, none_in_all}
+use Rattle.rule_loops.proofs.Seen.{any_kept}
 use Rattle.rule_loops.proofs.partners.any_passes.Goals as goal
 
 pub returns-then-branch-clause-any : goal.returns-then-branch-clause-any

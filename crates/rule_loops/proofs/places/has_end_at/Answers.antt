@@ -1,7 +1,7 @@
 use Rattle.std.proofs.Common.{sym, ◌∙◌}
 use Rattle.plane_terms.specs.Point.{same_place}
 use Rattle.plane_terms.specs.Shape.{ends_of}
-use Rattle.rule_loops.proofs.Seen.{any_there, none_more}
+use Rattle.rule_laws.proofs.Tests.{any_there, none_more}
 use Rattle.rule_loops.proofs.places.has_end_at.Goals as goal
 
 pub returns-then-is_same : goal.returns-then-is_same

@@ -1,5 +1,5 @@
 use Rattle.std.proofs.lemmas.Result.{IfOk-weaker}
-use Rattle.topology_terms.specs.Entry.{Entry, IsAscending}
+use Rattle.topology_terms.specs.Entry.{IsAscending}
 use Rattle.validation_laws.proofs.Judging.{judging_ascends}
 use Rattle.sound_laws.proofs.RuleLists.{each_rule}
 use Rattle.validation.proofs.window.rejudge.Goals as goal
