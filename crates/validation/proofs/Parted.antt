@@ -53,9 +53,9 @@ module _ (M : Meaning) (F V : List Feature) (f : Feature) (e : feature_at F f.ha
   all_seen (p ∷ ps) (q ∷ qs) enough g = (grown_seen p q enough.0 g.0, all_seen ps qs enough.1 g.1)
 
 -- ---- where there is nothing to judge
-either : (a b : Bool) → (a || b) ≡ false → (a ≡ false) × (b ≡ false)
-either true b e = cc
-either false b e = (refl, e)
+pub neither : (a b : Bool) → (a || b) ≡ false → (a ≡ false) × (b ≡ false)
+neither true b e = cc
+neither false b e = (refl, e)
 
 still : (M : Meaning) (F : List Feature) (a : ℕ) (p : RulePart) → IsSubjectPart M F p.rule.number p.rule.row a [] → IsGrown M F a p p
 still M F a p h = record { rule = refl; part = []; put = sym (append-nil p.entries); own = h }
@@ -68,7 +68,7 @@ pub grown_idle : (M : Meaning) → ViewLaws M → (F : List Feature) (f : Featur
     → list_any (λ (p : RulePart). judged p.rule.row f) ps ≡ false → AreGrown M F f.handle ps ps
 grown_idle M W F f [] e t = tt
 grown_idle M W F f (p ∷ ps) e t =
-    let y = either (judged p.rule.row f) (list_any (λ (q : RulePart). judged q.rule.row f) ps) t in
+    let y = neither (judged p.rule.row f) (list_any (λ (q : RulePart). judged q.rule.row f) ps) t in
     (still M F f.handle p (part_idle M W F p.rule.number p.rule.row f.handle f e y.0), grown_idle M W F f ps e y.1)
 
 passed : (b : Bool) (n m : ℕ) → b ≡ false → cond b n m ≡ m
@@ -82,7 +82,7 @@ pub judged_idle : (f : Feature) (ps : List RulePart) → list_any (λ (p : RuleP
     → judged_of (rules_of ps) (f ∷ []) ≡ 0
 judged_idle f [] t = refl
 judged_idle f (p ∷ ps) t =
-    let y = either (judged p.rule.row f) (list_any (λ (q : RulePart). judged q.rule.row f) ps) t in
+    let y = neither (judged p.rule.row f) (list_any (λ (q : RulePart). judged q.rule.row f) ps) t in
     let here : how_many (judged p.rule.row) (f ∷ []) ≡ 0 = passed (judged p.rule.row f) 1 0 y.0 in
     omega (arith, count_on (f ∷ []) p.rule (rules_of ps), here, judged_idle f ps y.1)
 

@@ -1,6 +1,6 @@
 -- What a subject is shown is enough for the rules, whether it lies near the subject or at its ends.
 use Rattle.std.proofs.Common.{◌≡◌, inl, inr, ℕ, ◌<◌, arith, Bool, true, false, List, [], ◌∷◌, length, Some, refl, subst, sym}
-use Rattle.std.specs.Prelude.{not, nat_lt, ◌&&◌, ◌||◌}
+use Rattle.std.specs.Prelude.{not, nat_lt, ◌&&◌}
 use Rattle.std.specs.List.{list_any}
 use Rattle.std.proofs.lemmas.Bool.{cases_Bool}
 use Rattle.std.proofs.lemmas.Bool.Decides.{nat_tests}
@@ -16,16 +16,12 @@ use Rattle.validation_laws.proofs.Viewed.{subject_seen, view_cut, view_fits}
 use Rattle.validation.specs.Ends.{looks_beyond, shows_at_ends, IsShownFor}
 use Rattle.validation.specs.Parted.{RulePart, rules_of}
 use Rattle.validation.proofs.AtEnds.{ends_seen}
-use Rattle.validation.proofs.Parted.{IsEnough}
+use Rattle.validation.proofs.Parted.{IsEnough, neither}
 
 -- ---- tests
 off : (b : Bool) → not b ≡ true → b ≡ false
 off true e = cc
 off false e = refl
-
-neither : (a b : Bool) → (a || b) ≡ false → (a ≡ false) × (b ≡ false)
-neither true b e = cc
-neither false b e = (refl, e)
 
 within_ends : (a b : Bool) → (a && not b) ≡ false → a ≡ true → b ≡ true
 within_ends a true e t = refl
