@@ -113,8 +113,8 @@ pub fn validate<R: RuleSet>(
 
 /// What `validate` does, and the steps of its questions to the indexes: the first meter counts those in that of the features, and the
 /// second those in that of the errors' frames. Neither count falls, whatever is answered. Features are asked for by the dirty parts of
-/// the window, and then by the envelope of each selected one that a rule judges, once; and the first count rises by no more than
-/// these questions allow.
+/// the window, and then by the envelope of each selected one that a rule judges, or by its ends, once; and the first count rises by no
+/// more than questions about these parts and envelopes allow.
 pub fn validate_counted<R: RuleSet, M: Meter, N: Meter>(
     ruled: &RuledFeatures<'_, R>,
     errors: &mut Errors,
