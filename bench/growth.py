@@ -23,6 +23,7 @@ from features import added as added_features
 from late import HEADS as LATE_HEADS
 from late import early_and_late, windows
 from moved import moved
+from roads import RULES, long_line
 from programs import added, edits, parser_of, polygon, programs_of
 from together import steps_of
 from town import HEAD, Town, founding
@@ -90,6 +91,12 @@ def node(count):
     return head + lines, ['validate all'], count
 
 
+def under_line(count):
+    """The long line of bench/roads.py over so many short ones, under the rule of dangles, and edits of the short ones."""
+    founded, editing = long_line(RULES['dangles'], count // 1000)
+    return founded + ['validate all'], editing[:2 * EDITS], EDITS
+
+
 def late(kind, count):
     """The late features of bench/late.py, and small windows."""
     early, more, numbers = early_and_late(kind, count)
@@ -124,6 +131,7 @@ def all_series():
     yield 'an undo or a redo, of N steps', [1000, 10000, 100000], session
     yield 'a vertex of a zigzag of N, compared with itself', [500, 1000, 2000], zigzag
     yield 'a line of N that meet in one place', [100, 200, 400], node
+    yield 'an edit on a line that N others touch or cross, dangles', [1000, 2000, 4000, 8000], under_line
     for name, make in (('jagged', jagged), ('winding', winding)):
         for way, turn in (('north', list), ('turned', turned)):
             map_of = lambda count, make=make, turn=turn: turn(make(count))

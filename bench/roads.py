@@ -65,14 +65,15 @@ def network(size, rules):
     return head(*rules) + added('roads', roads, line), edits(roads, 2000, line)
 
 
-def long_line(rule):
-    """A line of 2,000 vertices from side to side, and a thousand short ones over it."""
+def long_line(rule, rounds=1):
+    """A line of 2,000 vertices from side to side, and so many thousands of short ones over it."""
     lot = random.Random(2000)
     winding = [(2000 * (i % 2) + lot.randint(-100, 100), 20 * i) for i in range(2000)]
     short = []
-    for i in range(1000):
+    for number in range(1000 * rounds):
+        part, i = divmod(number, 1000)
         a, b = winding[2 * i], winding[2 * i + 1]
-        x, y = (a[0] + b[0]) // 2, (a[1] + b[1]) // 2
+        x, y = [p + (q - p) * (2 * part + 1) // (2 * rounds) for p, q in zip(a, b)]
         short.append([a, (a[0] - 200, a[1])] if i % 10 == 0 else [(x, y - 12), (x + lot.randint(-9, 9), y + 12)])
     return head(rule) + added('roads', short + [winding], line), edits(short, 1000, line)
 
