@@ -1,4 +1,4 @@
-ghost use Rattle.std.specs.Prelude.{◌≡◌, ◌<◌, ◌≤◌, ◌+◌, ◌-◌, ◌^◌, ◌++◌, ◌∷◌, [], ℕ, List, true, length, take, drop, slice_get, Some, None, MatchOption, IfSome, IfOk, vec_len, vec_capacity};
+ghost use Rattle.std.specs.Prelude.{◌≡◌, ◌<◌, ◌≤◌, ◌+◌, ◌-◌, ◌^◌, ◌++◌, ◌∷◌, [], ℕ, List, true, false, length, take, drop, slice_get, Some, None, MatchOption, IfSome, IfOk, vec_len, vec_capacity};
 ghost use Rattle.std.specs.Option.{option_map, option_to_list};
 ghost use Rattle.plane_terms.specs.Lists.{Every};
 ghost use Rattle.topology_terms.specs.Feature.{Class, feature_at, IsSetAt};
@@ -6,7 +6,7 @@ ghost use Rattle.feature_store.specs.declared.slot.Slot.{Slot};
 ghost use Rattle.feature_store.specs.declared.slot.Slot.TheVariants as slot;
 ghost use Rattle.feature_store.specs.Slots.{handle_in, feature_in, slot_of, filled};
 ghost use Rattle.feature_store.specs.Keeps.{HasSimpleSides, IsGiven, IsOfClass};
-ghost use Rattle.feature_store.specs.Places.{AreSlots, IsPlace, IsFound};
+ghost use Rattle.feature_store.specs.Places.{AreSlots, IsPlace, IsHere, IsGap, IsFound};
 
 use crate::slot::Slot;
 use grid_plane::NoMemory;
@@ -17,20 +17,17 @@ use std::mem;
 // Whether the slot of this handle stands at this place.
 fn is_at(slots: &[Slot], place: usize, handle: u32) -> bool
     requires { AreSlots slots.now }
-    ensures { result ≡ true → IsPlace handle slots.now place }
+    ensures here { result ≡ true → IsHere handle slots.now place }
+    ensures gap { result ≡ false → IsPlace handle slots.now place → IsGap handle slots.now place }
 {
     place < slots.len() && slots[place].handle() == handle
 }
 
-// How many of the slots have handles below this one; they come first. Where no slot before it is gone, one look tells.
+// How many of the slots have handles below this one; they come first.
 fn place_of(slots: &[Slot], handle: u32) -> usize
     requires { AreSlots slots.now }
     ensures { IsPlace handle slots.now result }
 {
-    let place = handle.saturating_sub(1) as usize;
-    if is_at(slots, place, handle) {
-        return place;
-    }
     slots.partition_point(|s| s.handle() < handle)
 }
 
@@ -40,8 +37,12 @@ pub fn find(slots: &[Slot], handle: u32) -> Result<usize, usize>
     requires { AreSlots slots.now }
     ensures { IsFound handle slots.now result }
 {
+    let near = handle.saturating_sub(1) as usize;
+    if is_at(slots, near, handle) {
+        return Ok(near);
+    }
     let place = place_of(slots, handle);
-    if place < slots.len() && slots[place].handle() == handle {
+    if is_at(slots, place, handle) {
         return Ok(place);
     }
     Err(place)
