@@ -28,7 +28,7 @@ from programs import added, edits, parser_of, polygon, programs_of
 from together import steps_of
 from town import HEAD, Town, founding
 
-EDITS, UNDOS, WINDOWS = 500, 1000, 100
+EDITS, UNDOS, WINDOWS, FIRST = 500, 1000, 100, 10
 # A polygon has at most 2,000 vertices.
 DOUBLED = [248, 496, 992, 1984]
 
@@ -98,9 +98,11 @@ def under_line(count):
 
 
 def late(kind, count):
-    """The late features of bench/late.py, and small windows."""
+    """The late features of bench/late.py, and small windows. The first of these stand in both scripts: before them the system's
+    lists of free memory are long, and with a few windows more it puts them in order once, at the end."""
     early, more, numbers = early_and_late(kind, count)
-    return LATE_HEADS[kind] + early + ['validate all'] + more, windows(numbers[:WINDOWS]), WINDOWS
+    small = windows(numbers[:FIRST + WINDOWS])
+    return LATE_HEADS[kind] + early + ['validate all'] + more + small[:FIRST], small[FIRST:], WINDOWS
 
 
 def session(count):

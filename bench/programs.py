@@ -15,7 +15,9 @@ HERE = os.path.dirname(os.path.abspath(__file__))
 ROOT = os.path.dirname(HERE)
 LONG = 5
 # Short runs take more turns, till all of a script have taken so long together, in s, or so many were taken.
-ENOUGH, MOST = 1, 25
+ENOUGH, MOST = 3, 25
+# Two runs of one script differ by as much: a difference of two runs that is a smaller part of the longer one says nothing.
+NOISE = 0.03
 
 
 class Measure:
@@ -235,8 +237,13 @@ def edits(shapes, times, text=polygon):
 
 
 def beyond(after, before, factor):
-    """What a script takes beyond one that ends earlier, in s times the factor, of each program by its place."""
-    return lambda i: (after[i].seconds - before[i].seconds) * factor
+    """What a script takes beyond one that ends earlier, in s times the factor, of each program by its place; 0 where it is noise."""
+
+    def figure_of(i):
+        more = after[i].seconds - before[i].seconds
+        return more * factor if more > NOISE * after[i].seconds else 0
+
+    return figure_of
 
 
 class Table:
