@@ -17,6 +17,7 @@ use Rattle.shape.specs.declared.form.Form.{Form}
 use Rattle.shape.specs.declared.form.Form.TheVariants as form
 use Rattle.shape.specs.Frames.{AreFrames}
 use Rattle.shape.specs.Given.{Ring, lines_in, polygons_in}
+use Rattle.shape.specs.Parts.{parts_in, frames_in}
 
 abbrev pub line_shape : List Ring → Shape
 line_shape parts = record { kind = kind.Line; parts = lines_in parts }
@@ -26,8 +27,8 @@ polygon_shape parts = record { kind = kind.Polygon; parts = polygons_in parts }
 
 abbrev pub shape_in : Form → Shape
 shape_in (form.Point place) = point_shape place
-shape_in (form.Line line) = line_shape line.value.parts.items
-shape_in (form.Polygon polygon) = polygon_shape polygon.value.parts.items
+shape_in (form.Line line) = line_shape (parts_in line.value.parts)
+shape_in (form.Polygon polygon) = polygon_shape (parts_in polygon.value.parts)
 
 pub record IsDrawn (s : Shape) (segs : List Segment) (env : Rectangle) (frames : List Rectangle) : Type 0 where
   pub valid : IsShape s
@@ -38,6 +39,6 @@ pub record IsDrawn (s : Shape) (segs : List Segment) (env : Rectangle) (frames :
 
 abbrev pub IsFormed : Form → Type 0
 IsFormed (form.Point place) = IsInReach place
-IsFormed (form.Line line) = IsDrawn (line_shape line.value.parts.items) line.value.segs.items line.value.env line.value.frames.items
+IsFormed (form.Line line) = IsDrawn (line_shape (parts_in line.value.parts)) line.value.segs.items line.value.env (frames_in line.value.parts)
 IsFormed (form.Polygon polygon) =
-    IsDrawn (polygon_shape polygon.value.parts.items) polygon.value.segs.items polygon.value.env polygon.value.frames.items
+    IsDrawn (polygon_shape (parts_in polygon.value.parts)) polygon.value.segs.items polygon.value.env (frames_in polygon.value.parts)

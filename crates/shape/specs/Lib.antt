@@ -4,3 +4,4 @@ pub mod Frames
 pub mod Given
 pub mod Kept
 pub mod Pairs
+pub mod Parts

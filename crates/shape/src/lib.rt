@@ -8,6 +8,7 @@ mod form;
 mod frames;
 mod line;
 mod pairs;
+mod parts;
 mod polygon;
 mod same;
 mod segments;

@@ -10,7 +10,7 @@ ghost use Rattle.shape.specs.Given.{lines_in, polygons_in, IsCountable};
 ghost use Rattle.plane_terms.specs.ShapeFaults.{IsFault, IsFlawless};
 
 use crate::form::{Form, boxed};
-use crate::line::Line;
+use crate::line::{Line, end_of};
 use crate::polygon::Polygon;
 use crate::same::{are_same_parts, are_same_rings};
 use grid_plane::{GridPoint, NoMemory, Rect, Seg};
@@ -94,8 +94,8 @@ impl Shape {
     {
         match &self.form {
             Form::Point(_) => 1,
-            Form::Line(line) => line.parts.len(),
-            Form::Polygon(polygon) => polygon.parts.len(),
+            Form::Line(line) => line.parts.as_slice().len(),
+            Form::Polygon(polygon) => polygon.parts.as_slice().len(),
         }
     }
 
@@ -107,8 +107,8 @@ impl Shape {
     {
         match &self.form {
             Form::Point(place) => *place,
-            Form::Line(line) => line.parts[0][0],
-            Form::Polygon(polygon) => polygon.parts[0][0][0],
+            Form::Line(line) => line.parts.as_slice()[0][0],
+            Form::Polygon(polygon) => polygon.parts.as_slice()[0][0][0],
         }
     }
 
@@ -118,7 +118,7 @@ impl Shape {
         ensures none { self.now.kind ≢ kind.Line → result.now ≡ [] }
     {
         match &self.form {
-            Form::Line(line) => &line.parts,
+            Form::Line(line) => line.parts.as_slice(),
             _ => &[],
         }
     }
@@ -130,7 +130,7 @@ impl Shape {
         ensures none { self.now.kind ≢ kind.Polygon → result.now ≡ [] }
     {
         match &self.form {
-            Form::Polygon(polygon) => &polygon.parts,
+            Form::Polygon(polygon) => polygon.parts.as_slice(),
             _ => &[],
         }
     }
@@ -165,8 +165,8 @@ impl Shape {
     {
         match &self.form {
             Form::Point(_) => &[],
-            Form::Line(line) => &line.frames,
-            Form::Polygon(polygon) => &polygon.frames,
+            Form::Line(line) => line.parts.frames(),
+            Form::Polygon(polygon) => polygon.parts.frames(),
         }
     }
 
@@ -200,7 +200,7 @@ impl Shape {
         ensures { result ≡ length (ends_of self.now) }
     {
         match &self.form {
-            Form::Line(line) => 2 * line.parts.len(),
+            Form::Line(line) => 2 * line.parts.as_slice().len(),
             _ => 0,
         }
     }
@@ -211,7 +211,7 @@ impl Shape {
         ensures { slice_get (ends_of self.now) i ≡ Some result }
     {
         match &self.form {
-            Form::Line(line) => line.end(i),
+            Form::Line(line) => end_of(line.parts.as_slice(), i),
             _ => self.place(),
         }
     }
@@ -222,9 +222,11 @@ impl Shape {
     {
         match (&self.form, &other.form) {
             (Form::Point(place), Form::Point(other)) => place == other,
-            (Form::Line(line), Form::Line(other)) => are_same_rings(&line.parts, &other.parts),
+            (Form::Line(line), Form::Line(other)) => {
+                are_same_rings(line.parts.as_slice(), other.parts.as_slice())
+            }
             (Form::Polygon(polygon), Form::Polygon(other)) => {
-                are_same_parts(&polygon.parts, &other.parts)
+                are_same_parts(polygon.parts.as_slice(), other.parts.as_slice())
             }
             _ => false,
         }

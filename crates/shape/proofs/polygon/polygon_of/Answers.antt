@@ -2,6 +2,7 @@ use Rattle.std.proofs.Common.{◌∙◌, ap, sym, subst, List, Vec, ◌++◌, fl
 use Rattle.std.specs.Global.{Global}
 use Rattle.plane_terms.specs.Lists.{Every, EveryPair}
 use Rattle.plane_terms.specs.Point.{IsInReach}
+use Rattle.plane_terms.specs.Rectangle.{Rectangle}
 use Rattle.plane_terms.specs.Segment.{Segment, IsSegment}
 use Rattle.plane_terms.specs.Shape.{closed_path, vertices_of, segments_of, envelope_of, AreSimple}
 use Rattle.shape.specs.Given.{Ring, polygons_in, all_rings}
@@ -9,6 +10,7 @@ use Rattle.shape.specs.Kept.{IsClosing}
 use Rattle.shape.specs.Counts.{IsFull}
 use Rattle.plane_terms.specs.ShapeFaults.{IsPair, AreBad, IsFault}
 use Rattle.shape.specs.Frames.{AreFrames}
+use Rattle.shape.specs.Parts.{frames_in}
 use Rattle.shape.specs.Form.{polygon_shape}
 use Rattle.shape.specs.Pairs.{IsPairFault}
 use Rattle.shape.proofs.Made.{in_parts, segments_count, polygon_drawn, full_flawless, pair_fault}
@@ -64,10 +66,11 @@ returns-clause-drawn c =
     subst (λ (qs : List (Vec Ring Global)). Every IsInReach (vertices_of (polygon_shape qs))) c.deref-8.ensures.value
     c.box_of_polygon-env.ensures.reach in
     let simple = subst (λ (ss : List Segment). EveryPair AreSimple ss) c.deref-5.ensures.value c.in_ok-check_pairs.ensures.simple in
-    polygon_drawn ps c.push_polygons.new.segs.items c.box_of_polygon-env.result c.in_ok-frames.frames.items full (c.requires.closing full) reach segs simple
+    polygon_drawn ps c.push_polygons.new.segs.items c.box_of_polygon-env.result (frames_in c.in_ok-of.field-0) full (c.requires.closing full) reach segs simple
     (c.box_of_polygon-env.ensures.value ∙ ap (λ (qs : List (Vec Ring Global)). envelope_of (polygon_shape qs)) c.deref-8.ensures.value)
     (subst (Every IsSegment) c.deref-7.ensures.value c.segments_law.ensures)
-    (subst (AreFrames c.in_ok-frames.frames.items) c.deref-4.ensures.value c.in_ok-frames.ensures)
+    (subst (λ (rs : List Rectangle). AreFrames rs c.push_polygons.new.segs.items) (sym c.in_ok-of.ensures.frames)
+    (subst (AreFrames c.in_ok-frames.frames.items) c.deref-4.ensures.value c.in_ok-frames.ensures))
 
 pub returns-clause-flawless : goal.returns-clause-flawless
 returns-clause-flawless c =

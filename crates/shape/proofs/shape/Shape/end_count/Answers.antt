@@ -1,6 +1,7 @@
-use Rattle.std.proofs.Common.{◌∙◌, sym, ap, subst, arith, length}
+use Rattle.std.proofs.Common.{◌∙◌, sym, ap, subst, length}
 use Rattle.plane_terms.specs.Shape.{Shape, ends_of}
 use Rattle.shape.specs.Form.{shape_in, IsFormed}
+use Rattle.shape.specs.Parts.{parts_in}
 use Rattle.shape.specs.declared.form.Form.{Form}
 use Rattle.shape.specs.declared.form.Form.TheVariants as form
 use Rattle.shape.specs.declared.line.Line.{Line}
@@ -9,8 +10,9 @@ use Rattle.shape.proofs.shape.Shape.end_count.Goals as goal
 
 pub returns-in-Line : goal.returns-in-Line
 returns-in-Line c =
-    let ps = c.in-Line.line.value.parts.items in
+    let ps = parts_in c.in-Line.line.value.parts in
     let d : IsFormed (form.Line c.in-Line.line) = subst (λ (f : Form). IsFormed f) c.in-Line.is c.self.invariant in
     let same =
     ap (λ (f : Form). length (ends_of (shape_in f))) (sym c.in-Line.is) ∙ ap (λ (s : Shape). length (ends_of s)) c.self.view_is in
-    held_long ps c.len.result d.valid (omega (arith, c.len.ensures, c.deref.result.now.parts.ok, ap (λ (l : Line). length l.parts.items) c.deref.ensures)) ∙ same
+    let count = ap length c.as_slice.ensures ∙ ap (λ (l : Line). length (parts_in l.parts)) c.deref.ensures in
+    held_long ps (length c.as_slice.result.now) d.valid count ∙ same
