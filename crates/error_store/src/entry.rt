@@ -21,7 +21,7 @@ struct Body {
 }
 
 /// An error of a rule. Error features and exceptions of a geodatabase topology (Esri). What is said of it stands in a box, so
-/// that it costs little to move it within a long list.
+/// that it costs little to move it.
 #[derive(Drop)]
 pub struct Entry {
     body: Box<Body>,

@@ -20,7 +20,8 @@ use crate::frames::{
     drop_frames, drop_unused, frames_in, frames_of, frames_under, index_of, put_frames,
 };
 use crate::key::Key;
-use crate::list::{find_in, mark_in};
+use crate::list::mark_in;
+use crate::marks::find;
 use crate::pair::Pair;
 use crate::replace::replace_runs;
 use crate::runs::{copy_of, drop_from, left_without, order_law};
@@ -223,7 +224,8 @@ impl Errors {
     pub fn find(&self, key: Key) -> Option<&Entry>
         ensures { MatchOption result (entry_at self.now key.rule key.subject key.other ≡ None) (λ e. entry_at self.now key.rule key.subject key.other ≡ Some e.now) }
     {
-        find_in(self.of_pair(key.rule, key.subject), key)
+        order_law(&self.runs);
+        find(&self.runs, key)
     }
 
     /// The errors of the selected subjects give way to the fresh ones, and all others stay. A fresh error is marked exactly

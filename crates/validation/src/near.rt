@@ -147,7 +147,7 @@ impl<'a> FeatureIndex<'a> {
         self.view_about(alloc, &f.shape().env(), meter)
     }
 
-    // The features whose envelope holds an end of the line, which has some. Takes no more steps in the index than for its envelope.
+    // The features whose envelope holds an end of the line, which has some. The bound of its steps in the index is that for its envelope.
     fn view_at_ends<M: Meter>(
         &self,
         alloc: Global,
