@@ -27,6 +27,15 @@ const FULL: usize = 32;
 /// A node that holds more rectangles itself holds only such with one middle.
 const MOST: usize = 64;
 
+/// The list of a new node has room for so many rectangles.
+const ROOM: usize = 8;
+
+/// A full list gets room for so many more, so that little of it is empty; a large one gets as much again as it has.
+const MORE: usize = 4;
+
+/// So many rectangles, or more, are a large list.
+const LARGE: usize = 16;
+
 /// A node of the tree: rectangles whose middles lie in one square, and whose reach holds them all and no more than they need. It
 /// holds them itself, or by the quarters of the square. What a question finds rests on the reaches alone; where a rectangle is
 /// put makes it quick.
@@ -90,12 +99,24 @@ fn reach_left(reach: &Rect, gone: &Placed, placed: &[Placed], quarters: &[Node])
     left.unwrap_or(*reach)
 }
 
+// Puts a rectangle last in the list of a node.
+fn push_last(list: &mut Vec<Placed>, placed: &Placed) -> Result<(), NoMemory>
+    ensures ok { OnOk result (list.new.items ≡ list.old.items ++ placed.now ∷ []) }
+    ensures err { OnErr result (list.new.items ≡ list.old.items) }
+{
+    if list.len() == list.capacity() && list.len() < LARGE {
+        list.reserve_exact(MORE)?;
+    }
+    list.push(*placed)?;
+    Ok(())
+}
+
 impl Node {
     /// Holds one rectangle.
     pub(crate) fn of(alloc: Global, placed: &Placed) -> Result<Node, NoMemory>
         ensures { IfOk result (IsSingle placed.now) }
     {
-        let mut list = Vec::new(alloc);
+        let mut list = Vec::with_capacity(alloc, ROOM)?;
         list.push(*placed)?;
         Ok(Node {
             reach: placed.rect,
@@ -136,7 +157,7 @@ impl Node {
         ensures leaf { OnOk result (self.new.height ≡ 0) }
         ensures err { OnErr result (self.new ≡ self.old) }
     {
-        self.placed.push(*placed)?;
+        push_last(&mut self.placed, placed)?;
         self.reach = self.reach.join(&placed.rect);
         self.middle = *middle;
         Ok(())

@@ -10,7 +10,7 @@ pub invariant_of-result : goal.invariant_of-result
 invariant_of-result c =
     let p = c.args.placed.now in
     let one : c.push.new.self.items ++ all_items c.new.result.items ≡ p ∷ [] =
-    ap (λ ps. ps ++ all_items c.new.result.items) (c.in_ok-push.ensures.items ∙ ap (λ ps. ps ++ p ∷ []) c.new-list.ensures.items)
+    ap (λ ps. ps ++ all_items c.new.result.items) (c.in_ok-push.ensures.items ∙ ap (λ ps. ps ++ p ∷ []) c.in_ok-list.ensures.items)
     ∙ ap (λ ns. p ∷ all_items ns) c.new.ensures.items in (
       subst (AreWithin p.rect) (sym one) (one_within p),
       inr (subst (IsSnug p.rect) (sym one) (snug_one p (p ∷ []) (0, omega arith, refl))),
