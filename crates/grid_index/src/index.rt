@@ -105,8 +105,8 @@ impl Index {
         self.query_about(alloc, r, meter)
     }
 
-    /// The handles of the rectangles that the aim touches, once each, ascending, and the steps that this takes. They are no more than
-    /// those of a question about the window of the aim.
+    /// The handles of the rectangles that the aim touches, once each, ascending, and the steps that this takes. Their bound is that of
+    /// a question about the window of the aim.
     pub fn query_about<A: Aim, M: Meter>(
         &self,
         alloc: Global,
