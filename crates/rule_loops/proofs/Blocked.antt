@@ -1,6 +1,7 @@
 -- The segments of a shape in blocks: how many there are, what is left from one on, and a block that does not come near.
-use Rattle.std.proofs.Common.{◌≡◌, ◌⊎◌, inl, inr, ℕ, max, ◌+◌, ◌*◌, ◌/◌, ◌<◌, ◌≤◌, Bool, true, false, List, [], ◌∷◌, ◌++◌, refl, sym, ◌∙◌, ap, cond, take, drop, length, arith, add-one, append-nil, append_assoc}
+use Rattle.std.proofs.Common.{◌≡◌, ◌⊎◌, inl, inr, ℕ, max, min, ◌+◌, ◌*◌, ◌/◌, ◌<◌, ◌≤◌, Bool, true, false, List, [], ◌∷◌, ◌++◌, refl, sym, ◌∙◌, ap, cond, take, drop, length, arith, add-one, append-nil, append_assoc, subst}
 use Rattle.std.specs.Prelude.{flat_map, nat_lt, ◌==◌}
+use Rattle.std.specs.Int.{div_ceil}
 use Rattle.std.proofs.Math.Nat.{mul-suc, mul-zero}
 use Rattle.std.proofs.lemmas.Bool.{false≢true}
 use Rattle.std.proofs.lemmas.Grind.{flat_map-append}
@@ -15,7 +16,9 @@ use Rattle.topology_terms.specs.Cells.{box_meets}
 use Rattle.shape.specs.Frames.{IsRound, frame_count}
 use Rattle.rule_laws.proofs.Envelopes.{BothEnds, LiesIn, segments_ends}
 use Rattle.rule_loops.specs.Blocks.{block_size, block_count, left_from, block_of}
-use Rattle.rule_loops.proofs.Boxes.{box_within, wider_meets, off_box}
+use Rattle.rule_loops.specs.Ahead.{IsOff}
+use Rattle.rule_loops.proofs.Boxes.{box_within, wider_meets}
+use Rattle.rule_loops.proofs.Clear.{off_round, off_from, none_off}
 
 -- ---- how many there are
 pub record Many (ts : List Segment) : Type 0 where
@@ -98,6 +101,28 @@ left_none k ts l = elim (many_or_few ts) [
       ap (λ n. drop (n * k) ts) a.size ∙ drop_all (64 * k) ts past
 ]
 
+-- so many blocks are gone through that those behind them begin no earlier than the segment of this number
+pub enough_blocks : (n m : ℕ) (end : ℕ) (ts : List Segment) → n ≡ block_count ts → m ≡ min n (div_ceil end 32)
+    → min end (length ts) ≤ block_size ts * m
+enough_blocks n m end ts e h = elim (many_or_few ts) [
+  | inl a ↦ let b = a.blocks in subst (λ (i : ℕ). min end (length ts) ≤ i * m) (sym a.size) (omega (arith, e, h))
+  | inr a ↦ let b = a.blocks in let l = a.short in subst (λ (i : ℕ). min end (length ts) ≤ i * m) (sym a.size) (omega (arith, e, h))
+]
+
+pub left_off : (s : Segment) (end n k : ℕ) (ts : List Segment) → n ≤ k → min end (length ts) ≤ block_size ts * n → IsOff s (drop end ts)
+    → IsOff s (left_from k ts)
+left_off s end n k ts l h o = off_from s end (block_size ts * k) ts further o
+  where
+    further : min end (length ts) ≤ block_size ts * k
+    further = elim (many_or_few ts) [
+      | inl a ↦
+          let u : min end (length ts) ≤ 32 * n = subst (λ (i : ℕ). min end (length ts) ≤ i * n) a.size h in
+          subst (λ (i : ℕ). min end (length ts) ≤ i * k) (sym a.size) (omega (arith, l, u))
+      | inr a ↦
+          let u : min end (length ts) ≤ 64 * n = subst (λ (i : ℕ). min end (length ts) ≤ i * n) a.size h in
+          subst (λ (i : ℕ). min end (length ts) ≤ i * k) (sym a.size) (omega (arith, l, u))
+    ]
+
 -- ---- one of them
 pub only_block : (ts : List Segment) (k : ℕ) → Few ts → k < block_count ts → block_of k ts ≡ ts
 only_block ts k a l =
@@ -120,8 +145,7 @@ module _ (f : Segment → Segment → List Cell)
     (apart : (s t : Segment) → IsSegment s → IsSegment t → box_meets s t ≡ false → f s t ≡ []) where
   pub none_near : (s : Segment) (r : Rectangle) (ts : List Segment) → IsSegment s → IsRound r ts → rects_meet (box_of s) r ≡ false
       → flat_map (f s) ts ≡ []
-  none_near s r [] g h n = refl
-  none_near s r (t ∷ ts) g h n = rw (apart s t g h.0.0 (off_box s t r h.0.1 n)) (none_near s r ts g h.1 n)
+  none_near s r ts g h n = none_off f apart s ts g (off_round s r ts h n)
 
   nowhere : (s : Segment) (r env : Rectangle) → IsWithin (box_of s) r → rects_meet r env ≡ false → rects_meet (box_of s) env ≡ false
   nowhere s r env w n = by_test (rects_meet (box_of s) env) refl
@@ -149,6 +173,10 @@ pub block_same : {B : Type 0} (f : Segment → List B) (k : ℕ) (ts : List Segm
     → flat_map f (block_of k ts) ≡ [] → new ≡ done → done ++ flat_map f (left_from k ts) ≡ all → new ++ flat_map f (left_from (k + 1) ts) ≡ all
 block_same f k ts done new all z n h = block_more f k ts done new all (n ∙ (sym (append-nil done) ∙ ap (λ ms. done ++ ms) (sym z))) h
 
+pub rest_done : {B : Type 0} (f : Segment → List B) (us : List Segment) (new all : List B) → flat_map f us ≡ []
+    → new ++ flat_map f us ≡ all → new ≡ all
+rest_done f us new all z h = sym (append-nil new) ∙ (ap (λ cs. new ++ cs) (sym z) ∙ h)
+
 pub blocks_done : {B : Type 0} (f : Segment → List B) (k : ℕ) (ts : List Segment) (new all : List B) → block_count ts ≤ k
     → new ++ flat_map f (left_from k ts) ≡ all → new ≡ all
-blocks_done f k ts new all l h = sym (append-nil new) ∙ (ap (λ us. new ++ flat_map f us) (sym (left_none k ts l)) ∙ h)
+blocks_done f k ts new all l h = rest_done f (left_from k ts) new all (ap (flat_map f) (left_none k ts l)) h

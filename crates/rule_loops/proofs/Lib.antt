@@ -4,6 +4,7 @@ mod Blocked
 mod Boxes
 mod Carved
 mod Chosen
+mod Clear
 mod Depth
 mod HeldBy
 mod Later

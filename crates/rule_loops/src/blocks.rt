@@ -1,7 +1,7 @@
-ghost use Rattle.std.specs.Prelude.{◌≡◌, ◌<◌, ◌≤◌, ◌++◌, drop, length};
+ghost use Rattle.std.specs.Prelude.{◌≡◌, ◌<◌, ◌≤◌, ◌*◌, ◌++◌, min, take, drop, length};
 ghost use Rattle.plane_terms.specs.Shape.{segments_of};
 ghost use Rattle.shape.specs.Frames.{IsRound};
-ghost use Rattle.rule_loops.specs.Blocks.{block_count, block_of, left_from};
+ghost use Rattle.rule_loops.specs.Blocks.{block_size, block_count, block_of, left_from};
 
 use grid_plane::{Rect, Seg};
 use shape::Shape;
@@ -14,6 +14,24 @@ pub(crate) fn block_count(shape: &Shape) -> usize
     ensures { result ≡ block_count (segments_of shape.now) }
 {
     shape.frames().len().max(1)
+}
+
+/// How many blocks a walk up to before the segment of this number goes through: what stands behind them begins no earlier.
+pub(crate) fn blocks_before(shape: &Shape, end: usize) -> usize
+    ensures within { result ≤ block_count (segments_of shape.now) }
+    ensures enough { min end (length (segments_of shape.now)) ≤ block_size (segments_of shape.now) * result }
+{
+    block_count(shape).min(end.div_ceil(BLOCK))
+}
+
+/// The first so many of these segments, or all where they are fewer.
+pub(crate) fn first_of(segments: &[Seg], count: usize) -> &[Seg]
+    ensures { result.now ≡ take count segments.now }
+{
+    if segments.len() < count {
+        return segments;
+    }
+    &segments[..count]
 }
 
 /// The segments of the block of this number.

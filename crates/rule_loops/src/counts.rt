@@ -30,13 +30,16 @@ fn with_segments(count: usize, class: u16, place: GridPoint, other: &Feature) ->
     }
 }
 
-/// How many segments of the features of the class that are shown hold the place, up to three.
+/// How many segments of the features of the class that are shown hold the place, up to three. Looks no further once there are so many.
 pub fn segments_at(class: u16, view: &View<'_>, place: GridPoint) -> usize
     ensures { result ≡ up_to_three (terms.segments_at (of_class class view.now) place) }
 {
     let mut count = 0;
     for i in 0..view.len() {
         count = with_segments(count, class, place, view.feature(i));
+        if count > 2 {
+            return count;
+        }
     }
     count
 }

@@ -1,6 +1,7 @@
 // The loops over a view in which the cells of a family of rules are made.
 #![tactic(auto)]
 
+mod ahead;
 mod alongside;
 mod area;
 mod around;

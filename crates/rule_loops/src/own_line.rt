@@ -2,13 +2,15 @@ ghost use Rattle.std.specs.Prelude.{◌≡◌, ◌≤◌, ◌++◌, drop, length
 ghost use Rattle.plane_terms.specs.Shape.{path, segments_of};
 ghost use Rattle.shape.specs.Given.{rings_in};
 ghost use Rattle.topology_terms.specs.Cells as terms;
+ghost use Rattle.rule_loops.specs.Ahead.{AreAhead};
 ghost use Rattle.rule_loops.specs.Blocks.{between};
 
+use crate::ahead::ahead_of;
 use crate::crossings::push_with_next;
 use crate::off_ends::OffEnds;
 use crate::pairs::push_later;
 use convex_cell::Cells;
-use grid_plane::{GridPoint, NoMemory, Seg};
+use grid_plane::{GridPoint, NoMemory, Rect, Seg};
 use shape::Shape;
 use std::alloc::Global;
 
@@ -19,18 +21,20 @@ fn push_crossings(
     cells: &mut Cells,
     segment: &Seg,
     line: &Shape,
+    ahead: &[Rect],
     from: usize,
     end: usize,
 ) -> Result<(), NoMemory>
+    requires round { AreAhead ahead.now (segments_of line.now) }
     requires begun { from ≤ end }
     requires ended { end ≤ length (segments_of line.now) }
     ensures { OnOk result (cells.new ≡ cells.old ++ terms.crossings_of off.now segment.now (between from end (segments_of line.now)) (drop end (segments_of line.now))) }
 {
     if from == end {
-        return push_later(alloc, off, cells, segment, line, from);
+        return push_later(alloc, off, cells, segment, line, ahead, from);
     }
     push_with_next(alloc, off, cells, segment, &line.segs()[from])?;
-    push_later(alloc, off, cells, segment, line, from + 1)
+    push_later(alloc, off, cells, segment, line, ahead, from + 1)
 }
 
 // Puts last what the segments of a part, from the number `from` to before `end`, give with later ones.
@@ -39,16 +43,18 @@ fn push_part(
     off: &OffEnds<'_>,
     cells: &mut Cells,
     line: &Shape,
+    ahead: &[Rect],
     from: usize,
     end: usize,
 ) -> Result<(), NoMemory>
+    requires round { AreAhead ahead.now (segments_of line.now) }
     requires begun { from ≤ end }
     requires ended { end ≤ length (segments_of line.now) }
     ensures { OnOk result (cells.new ≡ cells.old ++ terms.in_part off.now (between from end (segments_of line.now)) (drop end (segments_of line.now))) }
 {
     let segments = line.segs();
     for i in from..end {
-        push_crossings(alloc, off, cells, &segments[i], line, i + 1, end)?;
+        push_crossings(alloc, off, cells, &segments[i], line, ahead, i + 1, end)?;
     }
     Ok(())
 }
@@ -64,12 +70,13 @@ pub(crate) fn crossings_by_block(
     ensures { IfOk result (λ cells. cells ≡ terms.later_crossings off.now (rings_in parts.now)) }
 {
     let mut cells = Cells::new(alloc);
+    let ahead = ahead_of(alloc, line)?;
     let mut from = 0;
     // No sum below is past the number of segments, which is a `usize`.
     line.seg_count();
     for part in parts {
         let end = from + part.len().saturating_sub(1);
-        push_part(alloc, off, &mut cells, line, from, end)?;
+        push_part(alloc, off, &mut cells, line, &ahead, from, end)?;
         from = end;
     }
     Ok(cells)

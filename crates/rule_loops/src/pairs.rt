@@ -3,11 +3,14 @@ ghost use Rattle.plane_terms.specs.Cell as planes;
 ghost use Rattle.plane_terms.specs.Segment.{Segment, IsSegment};
 ghost use Rattle.plane_terms.specs.Shape.{segments_of};
 ghost use Rattle.topology_terms.specs.Cells as terms;
+ghost use Rattle.rule_loops.specs.Ahead.{AreAhead, IsOff};
 ghost use Rattle.rule_loops.specs.Blocks.{left_from};
 
-use crate::blocks::{block, block_count, block_frame, rest_of_block};
+use crate::ahead::{ahead_of, near_end};
+use crate::blocks::{block, block_count, block_frame, blocks_before, first_of, rest_of_block};
+use crate::shared::segment_law;
 use convex_cell::Cells;
-use grid_plane::{NoMemory, Seg};
+use grid_plane::{NoMemory, Rect, Seg};
 use shape::Shape;
 use std::alloc::Global;
 
@@ -47,7 +50,8 @@ pub(crate) fn push_row<C: Crossing>(
     Ok(())
 }
 
-// Puts last what a segment gives with the shape's from this block on. Blocks that do not come near are passed over.
+// Puts last what a segment gives with the shape's from this block on, of which none from the number `end` on comes near.
+// Blocks that do not come near are passed over.
 fn push_blocks<C: Crossing>(
     alloc: Global,
     crossing: &C,
@@ -55,11 +59,13 @@ fn push_blocks<C: Crossing>(
     segment: &Seg,
     shape: &Shape,
     first: usize,
+    end: usize,
 ) -> Result<(), NoMemory>
+    requires { IsOff segment.now (drop end (segments_of shape.now)) }
     ensures { OnOk result (cells.new ≡ cells.old ++ flat_map (C.crossing crossing.now segment.now) (left_from first (segments_of shape.now))) }
 {
     let own = segment.env();
-    for k in first..block_count(shape) {
+    for k in first..blocks_before(shape, end) {
         if own.meets(&block_frame(shape, k)) {
             push_row(alloc, crossing, cells, segment, block(shape, k))?;
         }
@@ -77,24 +83,29 @@ fn push_with_shape<C: Crossing>(
 ) -> Result<(), NoMemory>
     ensures { OnOk result (cells.new ≡ cells.old ++ flat_map (C.crossing crossing.now segment.now) (segments_of shape.now)) }
 {
-    push_blocks(alloc, crossing, cells, segment, shape, 0)
+    push_blocks(alloc, crossing, cells, segment, shape, 0, shape.seg_count())
 }
 
 // Puts last what a segment gives with the shape's from this number on: those of the block begun, and block by block.
+// Looks no further than what is ahead comes near.
 pub(crate) fn push_later<C: Crossing>(
     alloc: Global,
     crossing: &C,
     cells: &mut Cells,
     segment: &Seg,
     shape: &Shape,
+    ahead: &[Rect],
     from: usize,
 ) -> Result<(), NoMemory>
-    requires { from ≤ length (segments_of shape.now) }
+    requires round { AreAhead ahead.now (segments_of shape.now) }
+    requires within { from ≤ length (segments_of shape.now) }
     ensures { OnOk result (cells.new ≡ cells.old ++ flat_map (C.crossing crossing.now segment.now) (drop from (segments_of shape.now))) }
 {
-    let (near, next) = rest_of_block(shape, from);
-    push_row(alloc, crossing, cells, segment, near)?;
-    push_blocks(alloc, crossing, cells, segment, shape, next)
+    segment_law(segment);
+    let end = near_end(segment, shape.segs(), ahead, from);
+    let (rest, next) = rest_of_block(shape, from);
+    push_row(alloc, crossing, cells, segment, first_of(rest, end - from))?;
+    push_blocks(alloc, crossing, cells, segment, shape, next, end)
 }
 
 // Puts last what each of these segments gives with each of the shape's.
@@ -142,9 +153,18 @@ pub fn each_later<C: Crossing>(
     ensures { IfOk result (λ cells. cells ≡ terms.each_later (C.crossing crossing.now) (segments_of shape.now)) }
 {
     let mut cells = Cells::new(alloc);
+    let ahead = ahead_of(alloc, shape)?;
     let segments = shape.segs();
     for i in 0..segments.len() {
-        push_later(alloc, crossing, &mut cells, &segments[i], shape, i + 1)?;
+        push_later(
+            alloc,
+            crossing,
+            &mut cells,
+            &segments[i],
+            shape,
+            &ahead,
+            i + 1,
+        )?;
     }
     Ok(cells)
 }

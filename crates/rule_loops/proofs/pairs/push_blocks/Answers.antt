@@ -5,7 +5,8 @@ use Rattle.plane_terms.specs.Segment.{Segment, box_of}
 use Rattle.plane_terms.specs.Shape.{segments_of}
 use Rattle.plane_terms.specs.Cell.{Cell}
 use Rattle.rule_loops.specs.Blocks.{left_from, block_of}
-use Rattle.rule_loops.proofs.Blocked.{none_near, block_more, block_same, blocks_done}
+use Rattle.rule_loops.proofs.Clear.{none_off}
+use Rattle.rule_loops.proofs.Blocked.{none_near, block_more, block_same, rest_done, left_off}
 use Rattle.rule_loops.proofs.pairs.push_blocks.Goals.{then-meets+in_ok-push_row, else-meets}
 use Rattle.rule_loops.proofs.pairs.push_blocks.Goals as goal
 
@@ -32,6 +33,8 @@ loop-k-preserved g c =
 pub returns : goal.returns
 returns g c =
     let gives : Segment → Segment → List Cell = g.C.Crossing.crossing c.args.crossing.now in
-    blocks_done (gives c.args.segment.now) c.loop-k.k (segments_of c.args.shape.now) c.loop-k.cells
-    (c.args.cells.now ++ flat_map (gives c.args.segment.now) (left_from c.args.first (segments_of c.args.shape.now))) (omega (arith, c.block_count-k-end.ensures))
-    c.loop-k.invariant
+    let s = c.args.segment.now in
+    let ts = segments_of c.args.shape.now in
+    let off = left_off s c.args.end c.blocks_before-k-end.result c.loop-k.k ts (omega arith) c.blocks_before-k-end.ensures.enough c.requires in
+    rest_done (gives s) (left_from c.loop-k.k ts) c.loop-k.cells (c.args.cells.now ++ flat_map (gives s) (left_from c.args.first ts))
+    (none_off gives (g.met.C.Crossing.apart c.args.crossing.now) s (left_from c.loop-k.k ts) c.env-own.ensures.valid.proper off) c.loop-k.invariant

@@ -1,6 +1,14 @@
+use Rattle.std.proofs.Common.{drop, sym, subst, arith}
+use Rattle.std.proofs.lemmas.List.{drop_all}
 use Rattle.plane_terms.specs.Shape.{segments_of}
+use Rattle.rule_loops.specs.Ahead.{IsOff}
 use Rattle.rule_loops.proofs.Blocked.{left_all}
 use Rattle.rule_loops.proofs.pairs.push_with_shape.Goals as goal
+
+pub push_blocks-requires : goal.push_blocks-requires
+push_blocks-requires g c =
+    let ts = segments_of c.args.shape.now in
+    subst (IsOff c.args.segment.now) (sym (drop_all c.seg_count.result ts (omega arith))) tt
 
 pub returns : goal.returns
 returns g c = rw (left_all (segments_of c.args.shape.now)) at c.push_blocks.ensures
