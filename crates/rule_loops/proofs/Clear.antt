@@ -1,6 +1,6 @@
 -- What is ahead of a segment: rectangles round it, and segments that it does not come near.
-use Rattle.std.proofs.Common.{◌≡◌, inl, inr, ℕ, zero, suc, min, ◌+◌, ◌-◌, ◌≤◌, false, List, [], ◌∷◌, ◌++◌, Some, refl, sym, ◌∙◌, ap, take, drop, length, subst, append-nil, arith}
-use Rattle.std.specs.Prelude.{flat_map, slice_get}
+use Rattle.std.proofs.Common.{◌≡◌, inl, inr, ℕ, zero, suc, min, ◌+◌, ◌-◌, ◌≤◌, false, List, [], ◌∷◌, ◌++◌, refl, sym, ◌∙◌, ap, take, drop, length, subst, append-nil, arith}
+use Rattle.std.specs.Prelude.{flat_map}
 use Rattle.std.proofs.lemmas.Bool.{cases_lt}
 use Rattle.std.proofs.lemmas.Option.{get_or_from_slice_get}
 use Rattle.std.proofs.lemmas.Grind.{flat_map-append}

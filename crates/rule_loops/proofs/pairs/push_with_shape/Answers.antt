@@ -1,4 +1,4 @@
-use Rattle.std.proofs.Common.{drop, sym, subst, arith}
+use Rattle.std.proofs.Common.{sym, subst, arith}
 use Rattle.std.proofs.lemmas.List.{drop_all}
 use Rattle.plane_terms.specs.Shape.{segments_of}
 use Rattle.rule_loops.specs.Ahead.{IsOff}
