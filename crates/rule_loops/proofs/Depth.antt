@@ -13,7 +13,7 @@ use Rattle.cell_laws.proofs.Meets.{carve_points, kept_have_points, meet_points}
 use Rattle.convex_cell.proofs.Steps.{none_before, passed, none_after}
 use Rattle.rule_laws.proofs.Uncovered.{uncovered_points, uncovered_have_points}
 use Rattle.rule_loops.specs.Apart.{uncovered-nil}
-use Rattle.rule_loops.specs.Open.{IsInEach}
+use Rattle.rule_loops.specs.Open.{IsInEach, left_of_part}
 use Rattle.rule_loops.proofs.Opened.{uncovered_joined, none_left}
 use Rattle.rule_loops.proofs.Shares.{one_cell, shares_more, kept_one}
 
@@ -52,7 +52,7 @@ all_of_it c ds rest n f = ap (λ us. uncovered us rest) (one_cell c (take n ds) 
     ∙ sym (one_cell c ds)))
 
 part_more : (c : Cell) (ds : List Cell) (rest : List (List Cell)) (i : ℕ) (d : Cell) → slice_get ds i ≡ Some d
-    → left_of_parts c ds rest (i + 1) ≡ left_of_parts c ds rest i ++ uncovered (carve_of (c ∷ []) (d ∷ [])) rest
+    → left_of_parts c ds rest (i + 1) ≡ left_of_parts c ds rest i ++ left_of_part c rest d
 part_more c ds rest i d e =
     ap (λ us. uncovered us rest) (shares_more c ds i d e) ∙ uncovered_joined (carve_of (c ∷ []) (take i ds)) (carve_of (c ∷ []) (d ∷ [])) rest
 
@@ -60,31 +60,40 @@ alone : (b : Cell) (p : Point) → InCells (b ∷ []) p → InCell b p
 alone b p h = elim h [ inl k ↦ k | inr k ↦ absurd k ]
 
 -- a part of which the polygons behind leave nothing
-part_none : (c d : Cell) (rest : List (List Cell)) → ((p : Point) → InCell c p → InCell d p → ¬ (IsInEach rest p))
-    → uncovered (carve_of (c ∷ []) (d ∷ [])) rest ≡ []
+part_none : (c d : Cell) (rest : List (List Cell)) → ((p : Point) → InCell c p → InCell d p → ¬ (IsInEach rest p)) → left_of_part c rest d ≡ []
 part_none c d rest n =
-    none_left (uncovered (carve_of (c ∷ []) (d ∷ [])) rest) (uncovered_have_points (carve_of (c ∷ []) (d ∷ [])) rest (kept_have_points (meet_of c d ∷ []))) none
+    none_left (left_of_part c rest d) (uncovered_have_points (carve_of (c ∷ []) (d ∷ [])) rest (kept_have_points (meet_of c d ∷ []))) none
   where
-    none : (p : Point) → ¬ (InCells (uncovered (carve_of (c ∷ []) (d ∷ [])) rest) p)
+    none : (p : Point) → ¬ (InCells (left_of_part c rest d) p)
     none p k =
         let m = (uncovered_points (carve_of (c ∷ []) (d ∷ [])) rest p).0 k in
         let both = (carve_points (c ∷ []) (d ∷ []) p).0 m.0 in
         n p (alone c p both.0) (alone d p both.1) m.1
 
+pub part_without : (c d : Cell) (rest : List (List Cell)) (left : List Cell) → ((p : Point) → InCell c p → InCell d p → ¬ (IsInEach rest p))
+    → left ≡ left ++ left_of_part c rest d
+part_without c d rest left n = sym (ap (λ us. left ++ us) (part_none c d rest n) ∙ append-nil left)
+
+pub part_with : (c d : Cell) (rest : List (List Cell)) (left new : List Cell) → HasPoint (meet_of c d)
+    → new ≡ left ++ uncovered (meet_of c d ∷ []) rest → new ≡ left ++ left_of_part c rest d
+part_with c d rest left new p n = n ∙ ap (λ us. left ++ us) (sym (ap (λ us. uncovered us rest) (kept_one c d p)))
+
+-- one part more
+pub one_more : (c : Cell) (ds : List Cell) (rest : List (List Cell)) (i : ℕ) (d : Cell) (before left new : List Cell) → slice_get ds i ≡ Some d
+    → new ≡ left ++ left_of_part c rest d → left ≡ before ++ left_of_parts c ds rest i → new ≡ before ++ left_of_parts c ds rest (i + 1)
+one_more c ds rest i d before left new e n h =
+    let part = left_of_part c rest d in
+    n ∙ (ap (λ us. us ++ part) h ∙ (append_assoc before (left_of_parts c ds rest i) part ∙ ap (λ us. before ++ us) (sym (part_more c ds rest i d e))))
+
 pub one_without : (c : Cell) (ds : List Cell) (rest : List (List Cell)) (i : ℕ) (d : Cell) (before left : List Cell) → slice_get ds i ≡ Some d
     → ((p : Point) → InCell c p → InCell d p → ¬ (IsInEach rest p)) → left ≡ before ++ left_of_parts c ds rest i
     → left ≡ before ++ left_of_parts c ds rest (i + 1)
-one_without c ds rest i d before left e n h = h ∙ ap (λ us. before ++ us) (sym (part_more c ds rest i d e
-    ∙ (ap (λ us. left_of_parts c ds rest i ++ us) (part_none c d rest n) ∙ append-nil (left_of_parts c ds rest i))))
+one_without c ds rest i d before left e n h = one_more c ds rest i d before left left e (part_without c d rest left n) h
 
 pub one_with : (c : Cell) (ds : List Cell) (rest : List (List Cell)) (i : ℕ) (d : Cell) (before left new : List Cell) → slice_get ds i ≡ Some d
     → HasPoint (meet_of c d) → new ≡ left ++ uncovered (meet_of c d ∷ []) rest → left ≡ before ++ left_of_parts c ds rest i
     → new ≡ before ++ left_of_parts c ds rest (i + 1)
-one_with c ds rest i d before left new e p n h =
-    let part = uncovered (meet_of c d ∷ []) rest in
-    let own : uncovered (carve_of (c ∷ []) (d ∷ [])) rest ≡ part = ap (λ us. uncovered us rest) (kept_one c d p) in
-    n ∙ (ap (λ us. us ++ part) h ∙ (append_assoc before (left_of_parts c ds rest i) part
-    ∙ ap (λ us. before ++ us) (sym (part_more c ds rest i d e ∙ ap (λ us. left_of_parts c ds rest i ++ us) own))))
+one_with c ds rest i d before left new e p n h = one_more c ds rest i d before left new e (part_with c d rest left new p n) h
 
 -- a whole cell of which nothing is left
 pub cell_none : (c : Cell) (near : List (List Cell)) → HasPoint c → ((p : Point) → InCell c p → ¬ (IsInEach near p)) → uncovered (c ∷ []) near ≡ []

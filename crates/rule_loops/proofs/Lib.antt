@@ -9,6 +9,7 @@ mod Depth
 mod HeldBy
 mod Later
 mod LineSides
+mod Marks
 mod More
 mod Neighbours
 mod Once
