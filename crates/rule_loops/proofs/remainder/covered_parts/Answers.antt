@@ -1,13 +1,12 @@
-use Rattle.std.proofs.Common.{◌≡◌, ◌∙◌, ◌<◌, inl, inr, true, false, Some, List, [], arith, rules, refl, ap, sym, subst, length, drop}
+use Rattle.std.proofs.Common.{◌≡◌, ◌∙◌, inl, inr, true, false, Some, List, [], arith, refl, ap, sym, subst, length, drop}
 use Rattle.std.specs.Prelude.{slice_get}
 use Rattle.std.proofs.lemmas.Bool.{OnTrue_at, cases_lt}
 use Rattle.std.proofs.lemmas.List.{length-replicate}
 use Rattle.std.proofs.lemmas.Option.{get_or_from_slice_get}
 use Rattle.plane_terms.specs.Cell.{Cell, InCell}
 use Rattle.plane_terms.proofs.ListLemmas.{every_got}
-use Rattle.rule_loops.specs.Open.{IsShutAt}
 use Rattle.rule_loops.specs.Rightward.{AreOffWalls}
-use Rattle.rule_loops.proofs.Marks.{unmarked, marked, shut_at, all_more}
+use Rattle.rule_loops.proofs.Marks.{unmarked, all_more}
 use Rattle.rule_loops.proofs.OpenPieces.{shut_by, passed_wall}
 use Rattle.rule_loops.proofs.Shut.{in_one}
 use Rattle.rule_loops.proofs.remainder.covered_parts.Goals as goal

@@ -1,5 +1,4 @@
-use Rattle.std.proofs.Common.{◌≡◌, ◌∙◌, true, Some, [], refl, sym, subst, get_or, take, List}
-use Rattle.std.specs.Prelude.{slice_get}
+use Rattle.std.proofs.Common.{◌≡◌, true, [], refl, sym, subst, get_or, take, List}
 use Rattle.std.proofs.lemmas.Bool.{OnTrue_at, OnTrue_from}
 use Rattle.plane_terms.specs.Cell.{Cell}
 use Rattle.convex_cell.specs.Piece.{IsMarkOf}

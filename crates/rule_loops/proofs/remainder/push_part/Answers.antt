@@ -1,8 +1,7 @@
-use Rattle.std.proofs.Common.{◌≡◌, ◌↔◌, ◌∙◌, ◌<◌, ◌++◌, ◌∷◌, [], true, Some, List, arith, rules, refl, ap, sym, subst, length, get_or, take, drop}
+use Rattle.std.proofs.Common.{◌≡◌, ◌∙◌, ◌++◌, ◌∷◌, [], true, Some, List, refl, ap, sym, subst, get_or, take, drop}
 use Rattle.std.specs.Prelude.{slice_get}
 use Rattle.std.proofs.lemmas.Bool.{OnTrue_at}
-use Rattle.plane_terms.specs.Point.{Point}
-use Rattle.plane_terms.specs.Cell.{Cell, InCell, meet_of}
+use Rattle.plane_terms.specs.Cell.{Cell, meet_of}
 use Rattle.topology_terms.specs.Cells.{uncovered}
 use Rattle.convex_cell.specs.Piece.{IsMarkOf}
 use Rattle.rule_loops.proofs.Depth.{part_without, part_with, same_met}
@@ -17,7 +16,7 @@ push_left-requires-clause-piece c =
     let at = rw c.cells.ensures at c.cell-part.ensures in
     let made = (rw c.in-Some.is at (c.in_ok-mark.ensures.some)) d at in
     λ p. rw (c.in_ok-is_over.ensures.same, c.in_ok-narrow.ensures.ok)
-        (same_met c.args.cell.now c.args.piece.now d c.narrow.new.self c.requires.piece made.points p)
+    (same_met c.args.cell.now c.args.piece.now d c.narrow.new.self c.requires.piece made.points p)
 
 pub widen-requires-clause-long : goal.widen-requires-clause-long
 widen-requires-clause-long c =
@@ -85,4 +84,4 @@ pub returns-in_default-clause-left : goal.returns-in_default-clause-left
 returns-in_default-clause-left c =
     let d : Cell = get_or c.args.outside.now c.args.i [] in
     part_without c.args.cell.now d (drop 1 c.args.near.now) c.args.left.now (λ p m n. absurd ((rw c.in_default.is at (c.in_ok-mark.ensures.clear)) d
-        (at_index c.args.outside.now c.args.i c.requires.within) p ((c.requires.piece p).1 m) n))
+    (at_index c.args.outside.now c.args.i c.requires.within) p ((c.requires.piece p).1 m) n))

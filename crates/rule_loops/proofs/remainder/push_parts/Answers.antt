@@ -1,5 +1,4 @@
-use Rattle.std.proofs.Common.{◌≡◌, ◌↔◌, ◌∙◌, ◌<◌, ◌++◌, ◌∷◌, [], inl, inr, true, false, Some, List, arith, rules, refl, ap, sym, length, get_or, drop, append-nil}
-use Rattle.std.specs.Prelude.{slice_get}
+use Rattle.std.proofs.Common.{◌≡◌, ◌↔◌, ◌∙◌, ◌<◌, ◌++◌, ◌∷◌, [], inl, inr, true, false, List, arith, rules, refl, ap, sym, length, get_or, drop, append-nil}
 use Rattle.std.proofs.lemmas.Bool.{cases_lt}
 use Rattle.plane_terms.specs.Point.{Point}
 use Rattle.plane_terms.specs.Cell.{Cell, InCell}
