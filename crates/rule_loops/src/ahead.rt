@@ -6,6 +6,9 @@ use grid_plane::{NoMemory, Rect, Seg};
 use shape::Shape;
 use std::alloc::Global;
 
+/// Of fewer segments each is compared with all later ones.
+pub(crate) const FEWEST: usize = 16;
+
 // For each segment a rectangle round it and all later ones.
 fn rounds_ahead(alloc: Global, segments: &[Seg]) -> Result<Vec<Rect>, NoMemory>
     ensures { IfOk result (λ ahead. AreAhead ahead.items segments.now) }
@@ -23,11 +26,11 @@ fn rounds_ahead(alloc: Global, segments: &[Seg]) -> Result<Vec<Rect>, NoMemory>
     Ok(ahead)
 }
 
-/// For each segment of a shape with frames a rectangle round it and all later ones; of another shape none.
+/// For each segment of a shape a rectangle round it and all later ones; none where the segments are few.
 pub(crate) fn ahead_of(alloc: Global, shape: &Shape) -> Result<Vec<Rect>, NoMemory>
     ensures { IfOk result (λ ahead. AreAhead ahead.items (segments_of shape.now)) }
 {
-    if shape.frames().is_empty() {
+    if shape.seg_count() < FEWEST {
         return Ok(Vec::new(alloc));
     }
     rounds_ahead(alloc, shape.segs())

@@ -5,6 +5,7 @@ ghost use Rattle.shape.specs.Given.{rings_in, polygons_in, all_rings};
 ghost use Rattle.topology_terms.specs.Cells as terms;
 ghost use Rattle.topology_terms.specs.Plans as plans;
 
+use crate::ahead::FEWEST;
 use crate::crossings::later_crossings;
 use crate::off_ends::{OffEnds, Spared};
 use crate::own_line::crossings_by_block;
@@ -27,7 +28,7 @@ fn line_crossings(alloc: Global, off: &OffEnds<'_>, line: &Shape) -> Result<Cell
     requires { line.now.kind ≡ kind.Line }
     ensures { IfOk result (λ cells. cells ≡ terms.later_crossings off.now (rings_of line.now)) }
 {
-    if line.frames().is_empty() {
+    if line.seg_count() < FEWEST {
         return later_crossings(alloc, off, line.lines(), line.segs());
     }
     crossings_by_block(alloc, off, line.lines(), line)

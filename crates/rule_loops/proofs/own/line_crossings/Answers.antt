@@ -12,8 +12,8 @@ later_crossings-requires c =
     rings_segments s kind.Line (rings_in parts) c.segs.result.now c.requires
     (line_rings_of s parts (c.lines.ensures.parts c.requires)) c.segs.ensures.value
 
-pub returns-then-is_empty : goal.returns-then-is_empty
-returns-then-is_empty c = rw (sym (line_rings_of c.args.line.now c.lines.result.now (c.lines.ensures.parts c.requires))) at c.later_crossings.ensures
+pub returns-then-seg_count-lt-FEWEST : goal.returns-then-seg_count-lt-FEWEST
+returns-then-seg_count-lt-FEWEST c = rw (sym (line_rings_of c.args.line.now c.lines.result.now (c.lines.ensures.parts c.requires))) at c.later_crossings.ensures
 
 pub crossings_by_block-requires : goal.crossings_by_block-requires
 crossings_by_block-requires c =
