@@ -7,7 +7,7 @@ use shape::Shape;
 use std::alloc::Global;
 
 /// Of fewer segments each is compared with all later ones.
-pub(crate) const FEWEST: usize = 16;
+pub(crate) const FEWEST: usize = 24;
 
 // For each segment a rectangle round it and all later ones.
 fn rounds_ahead(alloc: Global, segments: &[Seg]) -> Result<Vec<Rect>, NoMemory>
