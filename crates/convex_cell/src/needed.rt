@@ -10,7 +10,7 @@ ghost use Rattle.convex_cell.specs.Needed.{FitsReach, Reaches, IsInFrame, SameCe
 use crate::bounds::{Bounds, common_bounds, is_small, left_of, right_of};
 use crate::cell::is_empty_together;
 use crate::span::{Span, highest};
-use crate::trials::{is_in_both, middle_of_both};
+use crate::trials::{has_end_in_both, is_in_both, middle_of_both};
 use grid_plane::{Half, NoMemory, Op};
 use std::alloc::Global;
 
@@ -185,8 +185,9 @@ fn meet_is_empty(cell: &[Half], needed: &Option<Vec<Half>>, other: &[Half], comm
     }
 }
 
-/// Whether a point is in both cells: the middle of what their bounds have in common is tried first. The half-planes that are
-/// needed of the first cell are found only if it is no such point, and kept for the next call.
+/// Whether a point is in both cells: the middle of what their bounds have in common is tried first, and then the ends of the first
+/// cell, where it is a side. The half-planes that are needed of the first cell are found only if none is such a point, and kept for
+/// the next call.
 pub(crate) fn meets(
     alloc: Global,
     cell: &[Half],
@@ -203,6 +204,9 @@ pub(crate) fn meets(
 {
     let at = middle_of_both(bounds, other_bounds);
     if is_in_both(cell, other, at) {
+        return Ok(true);
+    }
+    if has_end_in_both(cell, other, bounds) {
         return Ok(true);
     }
     if needed.is_none() {

@@ -7,7 +7,7 @@ use crate::bounds::{Bounds, is_small};
 use crate::middle::Middle;
 use crate::opposed::says;
 use crate::span::{Span, sum_at};
-use grid_plane::Half;
+use grid_plane::{Half, Op};
 
 /// So many steps from its one end lies the middle of a span that has no other.
 const FAR: i64 = 1_048_576;
@@ -22,15 +22,21 @@ fn step_between(from: i64, to: i64) -> i64 {
     from.saturating_add(to).div_euclid(2)
 }
 
+/// The number; 0 where it is far away.
+fn near_or_zero(v: i64) -> i64
+    ensures { unsigned_abs result ≤ 2 ^ 23 }
+{
+    if is_small(v) {
+        return v;
+    }
+    0
+}
+
 /// The middle of what both spans have in common; 0 where that is far away.
 fn middle_of(first: Span, second: Span) -> i64
     ensures { unsigned_abs result ≤ 2 ^ 23 }
 {
-    let middle = step_between(first.from.max(second.from), first.to.min(second.to));
-    if is_small(middle) {
-        return middle;
-    }
-    0
+    near_or_zero(step_between(first.from.max(second.from), first.to.min(second.to)))
 }
 
 /// The middle of what both bounds have in common. No clause says that it is: a point of both is only looked for there.
@@ -76,4 +82,40 @@ pub(crate) fn is_in_both(first: &[Half], second: &[Half], at: Middle) -> bool
         return false;
     }
     all_hold_at(first, at)
+}
+
+fn corner(x: i64, y: i64) -> Middle
+    ensures x { unsigned_abs result.x ≤ 2 ^ 23 }
+    ensures y { unsigned_abs result.y ≤ 2 ^ 23 }
+{
+    Middle {
+        x: near_or_zero(x),
+        y: near_or_zero(y),
+    }
+}
+
+/// Whether the line of the half-plane falls to the right. An upright or a level one may count as either.
+fn falls(half: &Half) -> bool {
+    (half.a() < 0) == (half.b() < 0)
+}
+
+/// Where the first cell is a side, whose ends are corners of its bounds: whether one of them is in both cells.
+pub(crate) fn has_end_in_both(first: &[Half], second: &[Half], bounds: &Bounds) -> bool
+    ensures { OnTrue result (HasPoint (first.now ++ second.now)) }
+{
+    let Some(line) = first.first() else {
+        return false;
+    };
+    if line.op() != Op::Zero {
+        return false;
+    }
+    let (left, right) = if falls(line) {
+        (bounds.y.to, bounds.y.from)
+    } else {
+        (bounds.y.from, bounds.y.to)
+    };
+    if is_in_both(first, second, corner(bounds.x.from, left)) {
+        return true;
+    }
+    is_in_both(first, second, corner(bounds.x.to, right))
 }

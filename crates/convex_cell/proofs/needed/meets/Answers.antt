@@ -12,6 +12,13 @@ returns-then-is_in_both-clause-meets c =
     let some : HasPoint (own ++ other) = c.if-is_in_both.ensures in
     sym ((has_point-true (meet_of own other)).1 ((meet_has own other).1 some))
 
+pub returns-then-has_end_in_both-clause-meets : goal.returns-then-has_end_in_both-clause-meets
+returns-then-has_end_in_both-clause-meets c =
+    let own : Cell = c.args.cell.now in
+    let other : Cell = c.args.other.now in
+    let some : HasPoint (own ++ other) = c.if-has_end_in_both.ensures in
+    sym ((has_point-true (meet_of own other)).1 ((meet_has own other).1 some))
+
 pub meet_is_empty-requires-clause-common : goal.meet_is_empty-requires-clause-common
 meet_is_empty-requires-clause-common c =
     let e = c.common_bounds.ensures in
