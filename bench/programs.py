@@ -15,7 +15,7 @@ HERE = os.path.dirname(os.path.abspath(__file__))
 ROOT = os.path.dirname(HERE)
 LONG = 5
 # Short runs take more turns, till all of a script have taken so long together, in s, or so many were taken.
-ENOUGH, MOST = 3, 25
+ENOUGH, MOST = 2, 25
 # Two runs of one script differ by as much: a difference of two runs that is a smaller part of the longer one says nothing.
 NOISE = 0.03
 

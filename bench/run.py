@@ -8,8 +8,8 @@ usage: bench/run.py [--baseline WORDS] [--sizes N,N,..] [--kinds KIND,..] [--tur
   --kinds KIND,..    apart: no two points share a place; shared: each tenth point stands at the place of the one before;
                      windows: as shared, but validated in 100 windows, one beside the other, in place of all at once;
                      tiles, small-tiles: in 2,500 and in 10,000 windows. All of them where it is left out
-  --turns N          how often each is run at least (3), more often where runs are short, until those of a script have taken a
-                     second together or there were 25, and once where a run takes longer than five seconds; the least time
+  --turns N          how often each is run at least (3), more often where runs are short, until those of a script have taken two
+                     seconds together or there were 25, and once where a run takes longer than five seconds; the least time
                      counts, and with it the least peak of memory
   --seconds N        a run is stopped after so much processor time (600), and its program is not run again on that input
   --program WORDS    what is measured in place of the program that ./topo builds
