@@ -3,6 +3,7 @@
 
 mod finding;
 mod findings;
+mod junctions;
 mod keeping;
 mod kept;
 mod limits;

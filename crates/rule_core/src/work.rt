@@ -2,22 +2,25 @@ ghost use Rattle.std.specs.Prelude.{◌≡◌, IfOk, IfSome};
 ghost use Rattle.topology_terms.specs.Counts.{raised};
 ghost use Rattle.rule_core.specs.Kept.{cells_of};
 
+use crate::junctions::Junctions;
 use crate::keeping::Keeping;
 use crate::region::Region;
 use convex_cell::BoundedCells;
-use grid_plane::NoMemory;
+use grid_plane::{GridPoint, NoMemory};
 use shape::Feature;
 use std::alloc::Global;
 use std::marker::Model;
 use std::rc::Rc;
 
-/// How often a rule was tried on a subject: a count that stops at its greatest number. It also keeps cells of polygons for the
-/// next judgements, of which no clause but their own says anything: what is kept changes no answer.
+/// How often a rule was tried on a subject: a count that stops at its greatest number. It also keeps cells of polygons, and
+/// handles of features at places where many meet, for the next judgements. No clause but their own says anything of them: what is
+/// kept changes no answer.
 #[derive(Drop)]
 pub struct Work {
     judged: u64,
     insides: Option<Keeping>,
     outsides: Option<Keeping>,
+    junctions: Option<Junctions>,
 }
 
 impl Model for Work {
@@ -77,6 +80,7 @@ impl Work {
             judged: 0,
             insides: None,
             outsides: None,
+            junctions: None,
         }
     }
 
@@ -124,6 +128,38 @@ impl Work {
         match region {
             Region::Inside => keep_in(&mut self.insides, alloc, region, f, cells),
             Region::Outside => keep_in(&mut self.outsides, alloc, region, f, cells),
+        }
+    }
+    /// Puts the handles last that are kept for the place, if any are. Which features they are no clause says: whoever uses them
+    /// looks whether they are at the place.
+    pub fn push_junction(
+        &mut self,
+        place: GridPoint,
+        handles: &mut Vec<u32>,
+    ) -> Result<(), NoMemory>
+        ensures uncounted { self.new ≡ self.old }
+    {
+        match &mut self.junctions {
+            Some(junctions) => junctions.push_kept(place, handles),
+            None => Ok(()),
+        }
+    }
+
+    /// Keeps handles of features at the place, for the next `push_junction`.
+    pub fn keep_junction(
+        &mut self,
+        alloc: Global,
+        place: GridPoint,
+        handles: Vec<u32>,
+    ) -> Result<(), NoMemory>
+        ensures uncounted { self.new ≡ self.old }
+    {
+        if self.junctions.is_none() {
+            self.junctions = Some(Junctions::new(alloc)?);
+        }
+        match &mut self.junctions {
+            Some(junctions) => junctions.keep(place, handles),
+            None => Ok(()),
         }
     }
 }

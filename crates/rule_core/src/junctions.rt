@@ -1,0 +1,50 @@
+use grid_plane::{GridPoint, NoMemory};
+use lru::LruCache;
+use std::alloc::Global;
+use std::num::NonZeroUsize;
+
+/// Handles are kept for so many places, at most.
+const MOST_PLACES: usize = 1_024;
+
+/// Handles of a few features each at a place where many meet. What was least recently used goes first where there is too much. No
+/// clause says whether they still are there: whoever uses them looks.
+#[derive(Drop)]
+pub(crate) struct Junctions {
+    cache: LruCache<u64, Vec<u32>>,
+}
+
+// A number for each place.
+fn key_of(place: GridPoint) -> u64 {
+    (place.x() as u32 as u64) << 32 | place.y() as u32 as u64
+}
+
+impl Junctions {
+    /// Nothing is kept yet.
+    pub(crate) fn new(alloc: Global) -> Result<Junctions, NoMemory> {
+        let most = NonZeroUsize::new(MOST_PLACES).unwrap();
+        Ok(Junctions {
+            cache: LruCache::sparse(alloc, most)?,
+        })
+    }
+
+    /// Puts the handles last that are kept for the place.
+    pub(crate) fn push_kept(
+        &mut self,
+        place: GridPoint,
+        handles: &mut Vec<u32>,
+    ) -> Result<(), NoMemory> {
+        let Some(kept) = self.cache.get(&key_of(place)) else {
+            return Ok(());
+        };
+        for handle in kept {
+            handles.push(*handle)?;
+        }
+        Ok(())
+    }
+
+    /// Keeps these handles for the place, in place of others.
+    pub(crate) fn keep(&mut self, place: GridPoint, handles: Vec<u32>) -> Result<(), NoMemory> {
+        self.cache.put(key_of(place), handles)?;
+        Ok(())
+    }
+}
