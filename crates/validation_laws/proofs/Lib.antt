@@ -8,3 +8,4 @@ pub mod Validating
 pub mod Selecting
 pub mod Counting
 pub mod Frames
+pub mod Fewer
