@@ -4,8 +4,9 @@
 -- looks_at_ends k   the rules of this kind ask of a line only what is at its ends
 -- holds_any qs r    the test whether one of the places lies in the rectangle
 -- HoldsEnd f g      the envelope of g holds an end of f
--- counts_at row g q     the test whether g is one of those that the rule counts at an end q: of its first class a line that ends there,
---                   or, if it asks for points at ends, of its second class a point there
+-- counts_at row g q     the test whether g is one of those that the rule counts at an end q: of its first class a line that ends there
+--                   and has a segment there, as every shape with an end there has, or, if it asks for points at ends, of its second
+--                   class a point there
 -- enough_of k       so many of them are enough for a rule of this kind: what it finds there does not change with one more
 -- has_enough row V q    the test whether the rule counts so many of V at q
 -- IsShownAt row F V q   V has enough for the rule at q, or all features of F whose envelope holds q
@@ -22,7 +23,7 @@ use Rattle.rule_words.specs.declared.rule_kind.RuleKind.{RuleKind}
 use Rattle.rule_words.specs.declared.rule_kind.RuleKind.TheVariants as rule
 use Rattle.topology_terms.specs.Feature.{Feature, feature_at, env, is_on_side, IsAscending}
 use Rattle.topology_terms.specs.Together.{ends}
-use Rattle.topology_terms.specs.Plans.{ends_there, is_point_at}
+use Rattle.topology_terms.specs.Plans.{ends_there, has_side_at, is_point_at}
 use Rattle.topology_terms.specs.Broken.{Row, judged}
 use Rattle.topology_terms.specs.Meaning.{Meaning, Finding}
 
@@ -45,7 +46,7 @@ HoldsEnd f g = SomeOf (λ (q : Place). RectHolds (env g) (point_at q)) (ends f)
 
 abbrev counts_by : RuleKind → Row → Feature → Place → Bool
 counts_by rule.LineEndpointMustBeCoveredBy row g q = is_on_side row.dest g && is_point_at g q
-counts_by other row g q = is_on_side row.origin g && ends_there g q
+counts_by other row g q = is_on_side row.origin g && (ends_there g q && has_side_at g q)
 
 abbrev pub counts_at : Row → Feature → Place → Bool
 counts_at row g q = counts_by row.kind row g q
