@@ -1,5 +1,5 @@
--- Of a rule that looks at ends, what is cut among the features at the subject's ends is what is cut among all.
-use Rattle.std.proofs.Common.{◌≡◌, ◌↔◌, inl, inr, ℕ, ◌≤ℤ◌, arith, Bool, true, refl, sym, ◌∙◌, List, [], ◌∷◌}
+-- Of a rule that looks at ends, what is cut among the features shown to it at the subject's ends is what is cut among all.
+use Rattle.std.proofs.Common.{◌≡◌, ◌↔◌, inl, inr, ℕ, ◌≤ℤ◌, arith, Bool, true, false, refl, sym, ◌∙◌, List, [], ◌∷◌, Some}
 use Rattle.std.specs.Prelude.{◌≢◌, not}
 use Rattle.std.specs.List.{filter}
 use Rattle.std.proofs.lemmas.Int.{ints}
@@ -13,16 +13,17 @@ use Rattle.plane_terms.specs.declared.kind.Kind.{Kind}
 use Rattle.plane_terms.specs.declared.kind.Kind.TheVariants as shapes
 use Rattle.plane_terms.proofs.ListLemmas.{every_filter, every_map, among_at, every_among, every_of_all}
 use Rattle.cell_laws.proofs.OnLine.{at_itself}
+use Rattle.column_laws.proofs.Every.{every_both}
 use Rattle.rule_words.specs.declared.rule_kind.RuleKind.{RuleKind}
 use Rattle.rule_words.specs.declared.rule_kind.RuleKind.TheVariants as rule
-use Rattle.topology_terms.specs.Feature.{Feature, Side, IsOf, env, Agree, IsAscending}
+use Rattle.topology_terms.specs.Feature.{Feature, Side, IsOf, feature_at, env, Agree, IsAscending}
 use Rattle.topology_terms.specs.Together.{ends}
 use Rattle.topology_terms.specs.Tests.{in_order_once}
 use Rattle.topology_terms.specs.Plans.{near, own_ends, plan_of, cut_by, cutting_of, is_dangle, is_pseudo, none_at, is_point_at}
 use Rattle.topology_terms.specs.Broken.{Row, Fits}
 use Rattle.sound_laws.proofs.Planes.{within_Holds}
 use Rattle.sound_laws.proofs.FeatureLists.{each_live}
-use Rattle.validation_laws.specs.Views.{looks_at_ends, holds_end, HoldsEnd, IsEndView}
+use Rattle.validation_laws.specs.Views.{looks_at_ends, holds_any, HoldsEnd, has_enough, IsShownAt, IsEndView}
 use Rattle.rule_laws.proofs.Nears.{near_ascends, near_of}
 use Rattle.rule_laws.proofs.Envelopes.{LiesIn, ends_in}
 use Rattle.rule_laws.proofs.Held.{at_held}
@@ -31,40 +32,26 @@ use Rattle.rule_laws.proofs.Around.{round, round_agree, round_near}
 use Rattle.rule_laws.proofs.Tests.{any_some}
 use Rattle.rule_laws.proofs.Spots.{dangle_around, pseudo_around, point_around}
 use Rattle.rule_laws.proofs.Lawful.{row_of, fit_origin, fit_dest}
+use Rattle.rule_laws.proofs.Enough.{enough_more, no_dangle, no_pseudo, not_bare}
 
 -- ---- the ends of the subject
-abbrev IsHeld : Feature → Place → Type 0
-IsHeld f q = RectHolds (env f) (point_at q) × ((g : Feature) → RectHolds (env g) (point_at q) → HoldsEnd f g)
-
 pub place_in : (r : Rectangle) (q : Place) → LiesIn r q → RectHolds r (point_at q)
 place_in r q i = within_Holds (rect_at q) r i (point_at q) (at_held q (point_at q) (at_itself q))
 
-each_held : (f : Feature) (qs : List Place) → Every (LiesIn (env f)) qs
-    → Every (λ q. RectHolds (env f) (point_at q) × ((g : Feature) → RectHolds (env g) (point_at q) → SomeOf (λ r. RectHolds (env g) (point_at r)) qs))
-    qs
-each_held f [] u = tt
-each_held f (q ∷ qs) u = (
-  (place_in (env f) q u.0, λ g h. inl h),
-  every_map (λ r. RectHolds (env f) (point_at r) × ((g : Feature) → RectHolds (env g) (point_at r) → SomeOf (λ s. RectHolds (env g) (point_at s)) qs))
-      (λ r. RectHolds (env f) (point_at r)
-      × ((g : Feature) → RectHolds (env g) (point_at r) → SomeOf (λ s. RectHolds (env g) (point_at s)) (q ∷ qs)))
-      (λ r k. (k.0, λ g h. inr (k.1 g h))) qs (each_held f qs u.1),
-)
+-- the envelope of a line holds its ends
+ends_held : (f : Feature) → Every (λ q. RectHolds (env f) (point_at q)) (ends f)
+ends_held f = every_map (LiesIn (env f)) (λ q. RectHolds (env f) (point_at q)) (place_in (env f)) (ends f) (ends_in f.shape)
+
+pub holds_own : (f : Feature) → ends f ≢ [] → HoldsEnd f f
+holds_own f n = some_held (ends f) n (ends_held f)
+  where
+    some_held : (qs : List Place) → qs ≢ [] → Every (λ q. RectHolds (env f) (point_at q)) qs → SomeOf (λ q. RectHolds (env f) (point_at q)) qs
+    some_held [] n u = absurd (n refl)
+    some_held (q ∷ qs) n u = inl u.0
 
 each_once : (P : Place → Type 0) (qs : List Place) → Every P qs → Every P (in_order_once qs)
 each_once P [] u = tt
 each_once P (q ∷ qs) u = (u.0, every_filter P (λ r. not (same_place q r)) (in_order_once qs) (each_once P qs u.1))
-
-own_held : (f : Feature) → Every (IsHeld f) (own_ends f)
-own_held f = each_once (IsHeld f) (ends f) (each_held f (ends f) (ends_in f.shape))
-
--- the envelope of a line holds its ends
-pub holds_own : (f : Feature) → ends f ≢ [] → HoldsEnd f f
-holds_own f n = some_held (ends f) n (ends_in f.shape)
-  where
-    some_held : (qs : List Place) → qs ≢ [] → Every (LiesIn (env f)) qs → SomeOf (λ q. RectHolds (env f) (point_at q)) qs
-    some_held [] n u = absurd (n refl)
-    some_held (q ∷ qs) n u = inl (place_in (env f) q u.0)
 
 -- ---- rectangles round a place
 place_wider : (q : Place) (r t : Rectangle) → IsWithin r t → is_within (rect_at q) r ≡ true → is_within (rect_at q) t ≡ true
@@ -73,71 +60,85 @@ place_wider q r t w e = grind (arith, ints)
 place_meets : (q : Place) (r t : Rectangle) → IsWithin (rect_at q) r → is_within (rect_at q) t ≡ true → rects_meet r t ≡ true
 place_meets q r t w e = grind (arith, ints)
 
-in_from_test : (q : Place) (r : Rectangle) → is_within (rect_at q) r ≡ true → IsWithin (rect_at q) r
+pub in_from_test : (q : Place) (r : Rectangle) → is_within (rect_at q) r ≡ true → IsWithin (rect_at q) r
 in_from_test q r e = record { left = grind (arith, ints); right = grind (arith, ints); below = grind (arith, ints); above = grind (arith, ints) }
 
-in_test : (q : Place) (r : Rectangle) → RectHolds r (point_at q) → is_within (rect_at q) r ≡ true
+pub in_test : (q : Place) (r : Rectangle) → RectHolds r (point_at q) → is_within (rect_at q) r ≡ true
 in_test q r h = within (omega (arith, ints, h.left)) (omega (arith, ints, h.right)) (omega (arith, ints, h.below)) (omega (arith, ints, h.above))
   where
     within : r.x0 ≤ℤ q.x → q.x ≤ℤ r.x1 → r.y0 ≤ℤ q.y → q.y ≤ℤ r.y1 → is_within (rect_at q) r ≡ true
     within a b c d = grind (arith, ints)
 
 -- ---- what the ends of a line touch
-pub ends_wider : (s : Shape) (r t : Rectangle) → IsWithin r t → holds_end s r ≡ true → holds_end s t ≡ true
-ends_wider s r t w e =
-    let f = Any-from_list_any (λ (q : Place). is_within (rect_at q) r) (ends_of s) e in
-    list_any-from_Any (λ (q : Place). is_within (rect_at q) t) (ends_of s) (f.0, f.1, f.2, f.3, place_wider f.1 r t w f.4)
+pub any_wider : (qs : List Place) (r t : Rectangle) → IsWithin r t → holds_any qs r ≡ true → holds_any qs t ≡ true
+any_wider qs r t w e =
+    let f = Any-from_list_any (λ (q : Place). is_within (rect_at q) r) qs e in
+    list_any-from_Any (λ (q : Place). is_within (rect_at q) t) qs (f.0, f.1, f.2, f.3, place_wider f.1 r t w f.4)
 
-pub ends_inside : (s : Shape) (r : Rectangle) → holds_end s r ≡ true → rects_meet (envelope_of s) r ≡ true
+pub ends_inside : (s : Shape) (r : Rectangle) → holds_any (ends_of s) r ≡ true → rects_meet (envelope_of s) r ≡ true
 ends_inside s r e =
     let f = Any-from_list_any (λ (q : Place). is_within (rect_at q) r) (ends_of s) e in
     let i = every_among (LiesIn (envelope_of s)) (ends_of s) (ends_in s) f.1 (among_at (ends_of s) f.0 f.1 f.2 f.3) in
     place_meets f.1 (envelope_of s) r i f.4
 
-pub end_held_test : (f g : Feature) → (holds_end f.shape (env g) ≡ true) ↔ HoldsEnd f g
+pub end_held_test : (f g : Feature) → (holds_any (ends f) (env g) ≡ true) ↔ HoldsEnd f g
 end_held_test f g =
     any_some (λ (q : Place). Unit {0}) (λ q. RectHolds (env g) (point_at q)) (λ (q : Place). is_within (rect_at q) (env g))
-    (λ q u. ((λ e. place_in (env g) q (in_from_test q (env g) e)), in_test q (env g))) (ends f) (every_of_all (λ (q : Place). Unit {0}) (λ q. tt) (ends f))
+    (λ q u. ((λ e. place_in (env g) q (in_from_test q (env g) e)), in_test q (env g))) (ends f)
+    (every_of_all (λ (q : Place). Unit {0}) (λ q. tt) (ends f))
 
--- ---- a test that depends on the features round the place picks the same ends
+-- ---- a test that depends on the features round the place, and fails where enough are there, picks the same ends
 filter_each : {A : Type 0} (t s : A → Bool) (xs : List A) → Every (λ x. t x ≡ s x) xs → filter t xs ≡ filter s xs
 filter_each t s [] u = refl
 filter_each t s (x ∷ xs) u = rw (u.0, filter_each t s xs u.1) refl
 
 module _ (l : Kind) (bad : List Feature → Place → Bool)
     (local : (gs hs : List Feature) (q : Place) → Every (IsFit l) gs → Every (IsFit l) hs → round (point_at q) gs ≡ round (point_at q) hs
-    → bad gs q ≡ bad hs q) (S : Side) (F V : List Feature) (f : Feature) (u : IsAscending F) (v : IsEndView F f V)
-    (fit : (b : ℕ) (g : Feature) → IsOf F S b g → IsFit l g) where
+    → bad gs q ≡ bad hs q) (S : Side) (row : Row) (F V : List Feature) (f : Feature)
+    (enough : (q : Place) → RectHolds (env f) (point_at q) → (G : List Feature) → has_enough row G q ≡ true → bad (near S f G) q ≡ false)
+    (u : IsAscending F) (v : IsEndView row F f V) (fit : (b : ℕ) (g : Feature) → IsOf F S b g → IsFit l g) where
   near_fit : (G : List Feature) → IsAscending G → ((b : ℕ) (g : Feature) → IsOf G S b g → IsFit l g) → Every (IsFit l) (near S f G)
   near_fit G w m = each_live (IsFit l) (near S f G) (near_ascends S f G w) (λ b g i. m b g (near_of S f G b g w i))
 
   view_fit : (b : ℕ) (g : Feature) → IsOf V S b g → IsFit l g
   view_fit b g i = fit b g (record { live = (v.forth b g i.live).0; on_side = i.on_side })
 
-  round_end : (q : Place) → IsHeld f q → round (point_at q) (near S f V) ≡ round (point_at q) (near S f F)
-  round_end q k =
+  round_end : (q : Place) → RectHolds (env f) (point_at q)
+      → ((h : ℕ) (g : Feature) → feature_at F h ≡ Some g → RectHolds (env g) (point_at q) → feature_at V h ≡ Some g)
+      → round (point_at q) (near S f V) ≡ round (point_at q) (near S f F)
+  round_end q k back =
       let p = point_at q in
-      let agree : Agree (λ g. RectHolds (env g) p) V F =
-      record { forth = λ h g e m. (v.forth h g e).0; back = λ h g e m. v.back h g e (k.1 g m) } in
-      round_near S V f p k.0 ∙ (round_agree S V F p v.ascending u agree ∙ sym (round_near S F f p k.0))
+      let agree : Agree (λ g. RectHolds (env g) p) V F = record { forth = λ h g e m. (v.forth h g e).0; back = back } in
+      round_near S V f p k ∙ (round_agree S V F p v.ascending u agree ∙ sym (round_near S F f p k))
+
+  same_at : (q : Place) → RectHolds (env f) (point_at q) → IsShownAt row F V q → bad (near S f V) q ≡ bad (near S f F) q
+  same_at q k (inl t) = enough q k V t ∙ sym (enough q k F (enough_more row F V q v.ascending u (λ h g e. (v.forth h g e).0) t))
+  same_at q k (inr back) =
+      local (near S f V) (near S f F) q (near_fit V v.ascending view_fit) (near_fit F u fit) (round_end q k back)
 
   pub picked_same : filter (bad (near S f V)) (own_ends f) ≡ filter (bad (near S f F)) (own_ends f)
-  picked_same = filter_each (bad (near S f V)) (bad (near S f F)) (own_ends f)
-      (every_map (IsHeld f) (λ q. bad (near S f V) q ≡ bad (near S f F) q)
-      (λ q k. local (near S f V) (near S f F) q (near_fit V v.ascending view_fit) (near_fit F u fit) (round_end q k)) (own_ends f) (own_held f))
+  picked_same =
+      let each = every_both (λ q. RectHolds (env f) (point_at q)) (IsShownAt row F V) (ends f) (ends_held f) v.at_ends in
+      filter_each (bad (near S f V)) (bad (near S f F)) (own_ends f)
+      (each_once (λ q. bad (near S f V) q ≡ bad (near S f F) q) (ends f)
+      (every_map (λ q. RectHolds (env f) (point_at q) × IsShownAt row F V q) (λ q. bad (near S f V) q ≡ bad (near S f F) q)
+      (λ q k. same_at q k.0 k.1) (ends f) each))
 
 -- ---- so do the rules that look at ends
 pub cut_at_ends : (k : RuleKind) (A B : Side) (F V : List Feature) (f : Feature) → looks_at_ends k ≡ true → Fits (row_of k A B) F
-    → IsEndView F f V → cut_by (plan_of k) (row_of k A B) V f ≡ cut_by (plan_of k) (row_of k A B) F f
+    → IsEndView (row_of k A B) F f V → cut_by (plan_of k) (row_of k A B) V f ≡ cut_by (plan_of k) (row_of k A B) F f
 cut_at_ends rule.LineMustNotHaveDangles A B F V f t u v =
-    rw (picked_same shapes.Line is_dangle dangle_around A F V f u.ascending v (fit_origin (row_of rule.LineMustNotHaveDangles A B) F u)) refl
+    let row = row_of rule.LineMustNotHaveDangles A B in
+    rw (picked_same shapes.Line is_dangle dangle_around A row F V f (no_dangle A B f) u.ascending v (fit_origin row F u)) refl
 cut_at_ends rule.LineMustNotHavePseudoNodes A B F V f t u v =
-    rw (picked_same shapes.Line is_pseudo pseudo_around A F V f u.ascending v (fit_origin (row_of rule.LineMustNotHavePseudoNodes A B) F u)) refl
+    let row = row_of rule.LineMustNotHavePseudoNodes A B in
+    rw (picked_same shapes.Line is_pseudo pseudo_around A row F V f (no_pseudo A B f) u.ascending v (fit_origin row F u)) refl
 cut_at_ends rule.LineEndpointMustBeCoveredBy A B F V f t u v =
-    rw (picked_same shapes.Point (none_at is_point_at) point_around B F V f u.ascending v
-    (fit_dest (row_of rule.LineEndpointMustBeCoveredBy A B) F shapes.Point refl u)) refl
+    let row = row_of rule.LineEndpointMustBeCoveredBy A B in
+    rw (picked_same shapes.Point (none_at is_point_at) point_around B row F V f (not_bare A B f) u.ascending v
+    (fit_dest row F shapes.Point refl u)) refl
 cut_at_ends other A B F V f t u v = absurd (false≢true t)
 
-pub cutting_at_ends : (row : Row) (F V : List Feature) (f : Feature) → looks_at_ends row.kind ≡ true → Fits row F → IsEndView F f V
+pub cutting_at_ends : (row : Row) (F V : List Feature) (f : Feature) → looks_at_ends row.kind ≡ true → Fits row F → IsEndView row F f V
     → cutting_of row V f ≡ cutting_of row F f
 cutting_at_ends row F V f t u v = rw (cut_at_ends row.kind row.origin row.dest F V f t u v) refl

@@ -23,5 +23,7 @@ pub mod Commons
 pub mod Covered
 pub mod Lawful
 pub mod AllRules
+pub mod Sided
+pub mod Enough
 pub mod Ends
 pub mod Posters

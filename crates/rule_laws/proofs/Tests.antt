@@ -4,7 +4,7 @@ use Rattle.std.specs.Prelude.{slice_get}
 use Rattle.std.specs.List.{list_any}
 use Rattle.std.specs.Int.{int_min, int_max}
 use Rattle.std.specs.Bool.{Decides}
-use Rattle.std.proofs.lemmas.Bool.{false≢true}
+use Rattle.std.proofs.lemmas.Bool.{false≢true, and_from}
 use Rattle.std.proofs.lemmas.Bool.Decides.{Decides-and, Decides-or, Decides-int_eq}
 use Rattle.std.proofs.lemmas.Int.{ints, clamps}
 use Rattle.std.proofs.lemmas.List.{take_all}
@@ -177,6 +177,11 @@ on_place t q e =
 pub place_from : (t : Segment) (q : Place) (p : Point) → IsAt q p → holds_place t q ≡ true → OnSegment t p
 place_from t q p a e = on_all_at t q (on_place t q e) p a
 
+-- a place on the line, and in the box
+pub holds_by : (t : Segment) (q : Place) → turn t q ≡ pos 0
+    → ((box_of t).x0 ≤ℤ q.x) × ((q.x ≤ℤ (box_of t).x1) × (((box_of t).y0 ≤ℤ q.y) × (q.y ≤ℤ (box_of t).y1))) → holds_place t q ≡ true
+holds_by t q z b = and_from (is_in_line t q) (box_holds (box_of t) q) (in_line_test t q z) ((Decides-box (box_of t) q).1 b)
+
 pub place_test : (t : Segment) (q : Place) (p : Point) → IsSegment t → IsAt q p → OnSegment t p → holds_place t q ≡ true
 place_test t q p g a o =
     let z = turn_zero t q p a o in
@@ -185,10 +190,7 @@ place_test t q p g a o =
     let r = le_from_scaled q.x (box_of t).x1 p.w p.positive (rw (a.x) at b.right) in
     let d = le_from_scaled (box_of t).y0 q.y p.w p.positive (rw (a.y) at b.below) in
     let u = le_from_scaled q.y (box_of t).y1 p.w p.positive (rw (a.y) at b.above) in
-    both (is_in_line t q) (box_holds (box_of t) q) (in_line_test t q z) ((Decides-box (box_of t) q).1 (l, (r, (d, u))))
-  where
-    both : (a b : Bool) → a ≡ true → b ≡ true → (a && b) ≡ true
-    both a b e f = rw (e, f) refl
+    holds_by t q z (l, (r, (d, u)))
 
 -- ---- lists of tests
 pub any_some : {A : Type 0} (U P : A → Type 0) (test : A → Bool) → ((x : A) → U x → (test x ≡ true) ↔ P x) → (xs : List A) → Every U xs
