@@ -15,7 +15,8 @@ pub(crate) struct Junctions {
 
 // A number for each place.
 fn key_of(place: GridPoint) -> u64 {
-    (place.x() as u32 as u64) << 32 | place.y() as u32 as u64
+    let (x, y) = (place.x().abs_diff(i32::MIN), place.y().abs_diff(i32::MIN));
+    (u64::from(x) << 32) | u64::from(y)
 }
 
 impl Junctions {

@@ -1,6 +1,7 @@
 // What a rule answers for a subject, and how it judges a subject by what lies near it.
 #![tactic(auto)]
 
+mod ends;
 mod finding;
 mod findings;
 mod junctions;
@@ -13,6 +14,7 @@ mod rule;
 mod view;
 mod work;
 
+pub use ends::has_end_at;
 pub use finding::Finding;
 pub use findings::Findings;
 pub use region::Region;

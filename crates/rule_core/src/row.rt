@@ -1,9 +1,14 @@
-ghost use Rattle.std.specs.Prelude.{◌≡◌};
+ghost use Rattle.std.specs.Prelude.{◌≡◌, ◌&&◌};
 ghost use Rattle.topology_terms.specs.Feature as terms;
 ghost use Rattle.topology_terms.specs.Broken.{judged};
+ghost use Rattle.topology_terms.specs.Plans as plans;
 ghost use Rattle.validation_laws.specs.Views as views;
 
+use crate::ends::has_end_at;
+use grid_plane::GridPoint;
+use plane_terms::Kind;
 use rule_words::RuleKind;
+use shape::Feature;
 use std::marker::Model;
 use std::num::NonZeroU16;
 
@@ -29,6 +34,16 @@ impl Model for RuleRow {
     ghost inverse = { λ v. record { kind = v.kind; origin = v.origin.class; dest = given v.dest.class } };
 
     ghost inverse_ok = { λ r _ i. record { kind = r.kind; origin = r.origin; dest = given_back r.dest i } };
+}
+
+// Whether a line ends at the place, and so has a segment there.
+fn ends_there(g: &Feature, place: GridPoint) -> bool
+    ensures { result ≡ (plans.ends_there g.now place && plans.has_side_at g.now place) }
+{
+    match g.shape().kind() {
+        Kind::Line => has_end_at(g.shape(), place),
+        _ => false,
+    }
 }
 
 impl RuleRow {
@@ -58,6 +73,29 @@ impl RuleRow {
             RuleKind::LineMustNotHavePseudoNodes => true,
             RuleKind::LineEndpointMustBeCoveredBy => true,
             _ => false,
+        }
+    }
+
+    /// Whether the feature is one of those that a rule on ends counts at an end there: of its first class a line that ends there, or, if
+    /// it asks for points at ends, of its second class a point there.
+    pub fn counts_at(&self, g: &Feature, place: GridPoint) -> bool
+        ensures { result ≡ views.counts_at self.now g.now place }
+    {
+        match self.kind {
+            RuleKind::LineEndpointMustBeCoveredBy => {
+                g.class() == self.dest_number() && g.shape().place() == place
+            }
+            _ => g.class() == self.origin && ends_there(g, place),
+        }
+    }
+
+    /// So many features that count at an end are enough for a rule on ends: what it finds there does not change with one more.
+    pub fn enough(&self) -> usize
+        ensures { result ≡ views.enough_of self.now.kind }
+    {
+        match self.kind {
+            RuleKind::LineEndpointMustBeCoveredBy => 1,
+            _ => 3,
         }
     }
 }

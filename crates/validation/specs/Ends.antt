@@ -2,14 +2,24 @@
 --
 -- looks_beyond f q      the test whether the rule judges the feature, and by more than what is at its ends
 -- shows_at_ends rules f the test whether the feature has ends, and none of the rules looks beyond them
--- IsShownFor b F f V    V is a view of F for f, or, if b says that it is enough, one of what is at its ends
-use Rattle.std.specs.Prelude.{◌≡◌, ◌⊎◌, Bool, true, ◌&&◌, not, nat_lt, List, length}
+-- OpenEnds              a line, and of its first and its last end whether it is open: whether more is to be shown there than is known
+-- open_ends e           those of the line's ends that are open; of a line that has not two, all
+-- lacks_at f hs q r     the test whether the rule judges the feature, and has not enough of the features hs at the place
+-- AreAtEnds F f K o V   V has, ascending by handle, f, of the features F all whose envelope holds one of the places o, and of the known
+--                       ones K those whose envelope holds an end of f; and no feature of F besides but such whose envelope meets that of f
+-- IsShownFor rules F f V    V is a view of F for f, or, where these rules look at its ends alone, one of what is to be shown to each of
+--                       them that judges f
+use Rattle.std.specs.Prelude.{◌≡◌, ◌⊎◌, Bool, true, ◌&&◌, not, nat_lt, ℕ, List, [], ◌∷◌, ◌++◌, if◌then◌else◌, length, Some}
 use Rattle.std.specs.List.{list_any}
-use Rattle.topology_terms.specs.Feature.{Feature}
+use Rattle.plane_terms.specs.Lists.{Every}
+use Rattle.plane_terms.specs.Point.{Place, point_at}
+use Rattle.plane_terms.specs.Rectangle.{RectHolds, RectsMeet}
+use Rattle.plane_terms.specs.Shape.{Shape, ends_of}
+use Rattle.topology_terms.specs.Feature.{Feature, feature_at, env, IsAscending}
 use Rattle.topology_terms.specs.Together.{ends}
 use Rattle.topology_terms.specs.Broken.{judged}
 use Rattle.topology_terms.specs.Project.{InForce}
-use Rattle.validation_laws.specs.Views.{IsView, IsEndView, looks_at_ends}
+use Rattle.validation_laws.specs.Views.{IsView, IsEndView, HoldsEnd, has_enough, looks_at_ends}
 
 abbrev pub looks_beyond : Feature → InForce → Bool
 looks_beyond f q = judged q.row f && not (looks_at_ends q.row.kind)
@@ -17,5 +27,28 @@ looks_beyond f q = judged q.row f && not (looks_at_ends q.row.kind)
 abbrev pub shows_at_ends : List InForce → Feature → Bool
 shows_at_ends rules f = nat_lt 0 (length (ends f)) && not (list_any (looks_beyond f) rules)
 
-abbrev pub IsShownFor : Bool → List Feature → Feature → List Feature → Type 0
-IsShownFor b F f V = IsView F f V ⊎ (IsEndView F f V × (b ≡ true))
+pub record OpenEnds : Type 0 where
+  pub line : Shape
+  pub first : Bool
+  pub last : Bool
+
+abbrev pub open_of : List Place → Bool → Bool → List Place
+open_of (a ∷ b ∷ []) first last = (if first then a ∷ [] else []) ++ (if last then b ∷ [] else [])
+open_of qs first last = qs
+
+abbrev pub open_ends : OpenEnds → List Place
+open_ends e = open_of (ends_of e.line) e.first e.last
+
+abbrev pub lacks_at : Feature → List Feature → Place → InForce → Bool
+lacks_at f hs q r = judged r.row f && not (has_enough r.row hs q)
+
+pub record AreAtEnds (F : List Feature) (f : Feature) (K : List Feature) (open : List Place) (V : List Feature) : Type 0 where
+  pub forth : (h : ℕ) (g : Feature) → feature_at V h ≡ Some g → (feature_at F h ≡ Some g) × RectsMeet (env f) (env g)
+  pub open : Every (λ (q : Place). (h : ℕ) (g : Feature) → feature_at F h ≡ Some g → RectHolds (env g) (point_at q) → feature_at V h ≡ Some g) open
+  pub known : (h : ℕ) (g : Feature) → feature_at K h ≡ Some g → HoldsEnd f g → feature_at V h ≡ Some g
+  pub subject : feature_at V f.handle ≡ Some f
+  pub ascending : IsAscending V
+
+abbrev pub IsShownFor : List InForce → List Feature → Feature → List Feature → Type 0
+IsShownFor rules F f V = IsView F f V
+    ⊎ ((shows_at_ends rules f ≡ true) × Every (λ (r : InForce). judged r.row f ≡ true → IsEndView r.row F f V) rules)

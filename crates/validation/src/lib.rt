@@ -10,6 +10,7 @@ mod near;
 mod parts;
 mod ruled;
 mod selection;
+mod shown;
 mod sorted;
 mod window;
 

@@ -1,21 +1,21 @@
-ghost use Rattle.std.specs.Prelude.{◌≡◌, ◌<◌, ◌≤◌, ◌+◌, ℕ, [], ◌∷◌, filter, length, None, Some, true, IfSome, IfOk, MatchOption};
+ghost use Rattle.std.specs.Prelude.{◌≡◌, ◌<◌, ◌≤◌, ◌+◌, ◌⊎◌, ℕ, [], ◌∷◌, filter, length, None, Some, true, false, IfSome, IsSomeAnd, IfOk, MatchOption};
 ghost use Rattle.std.specs.Option.{option_to_list};
 ghost use Rattle.std.specs.List.Sorted.{IsStrictlyIncreasing};
 ghost use Rattle.topology_terms.specs.Feature.{feature_at, env, IsAscending};
 ghost use Rattle.topology_terms.specs.Feature as terms;
 ghost use Rattle.topology_terms.specs.Together.{ends};
 ghost use Rattle.validation_laws.specs.Parts.{live_of};
-ghost use Rattle.validation_laws.specs.Views.{IsView, IsEndView};
+ghost use Rattle.validation_laws.specs.Views.{IsView, counts_at, has_enough};
 ghost use Rattle.grid_index.specs.Steps.{most_steps};
-ghost use Rattle.validation.specs.Ends.{IsShownFor};
+ghost use Rattle.validation.specs.Ends.{AreAtEnds, open_of};
 ghost use Rattle.validation.specs.Placed.{ArePlaced};
 
 use crate::dirty::{places_across, places_up};
 use crate::ends::LineEnds;
 use feature_store::Features;
-use grid_index::{Aim, Index, Meter};
-use grid_plane::{NoMemory, Rect};
-use rule_core::View;
+use grid_index::{Aim, Index, Meter, once_each};
+use grid_plane::{GridPoint, NoMemory, Rect};
+use rule_core::{RuleRow, View};
 use shape::Feature;
 use std::alloc::Global;
 use std::marker::Model;
@@ -155,33 +155,87 @@ impl<'a> FeatureIndex<'a> {
         meter: &mut M,
     ) -> Result<View<'a>, NoMemory>
         requires ascending { IsAscending self.now.features }
+        requires live { feature_at self.now.features f.now.handle ≡ Some f.now }
         requires ends { 0 < length (ends f.now) }
-        ensures view { IfOk result (λ v. IsEndView self.now.features f.now v) }
+        ensures view { IfOk result (λ v. AreAtEnds self.now.features f.now [] (ends f.now) v) }
         ensures rises { M.taken meter.old ≤ M.taken meter.new }
         ensures steps { (s : ℕ) → M.taken meter.new ≤ M.taken meter.old + most_steps s (env f.now) self.now.placed }
     {
         self.view_about(alloc, &LineEnds::of(f.shape()), meter)
     }
 
-    /// What lies near the subject, or, where that is enough and much may lie near it, only what is at its ends. Looks only at what
-    /// the index gives for its envelope or its ends. The meter counts the steps in the index.
-    pub(crate) fn view_for<M: Meter>(
+    /// What lies near the line, or, where much may lie near it, only what is at its ends, of which it has some. Looks only at what the
+    /// index gives for its envelope or its ends. The meter counts the steps in the index.
+    pub(crate) fn view_near_or_at_ends<M: Meter>(
         &self,
         alloc: Global,
         f: &Feature,
-        ends_are_enough: bool,
         meter: &mut M,
     ) -> Result<View<'a>, NoMemory>
         requires ascending { IsAscending self.now.features }
-        requires ends { ends_are_enough ≡ true → 0 < length (ends f.now) }
-        ensures view { IfOk result (λ v. IsShownFor ends_are_enough self.now.features f.now v) }
+        requires live { feature_at self.now.features f.now.handle ≡ Some f.now }
+        requires ends { 0 < length (ends f.now) }
+        ensures view { IfOk result (λ v. IsView self.now.features f.now v ⊎ AreAtEnds self.now.features f.now [] (ends f.now) v) }
         ensures rises { M.taken meter.old ≤ M.taken meter.new }
         ensures steps { (s : ℕ) → M.taken meter.new ≤ M.taken meter.old + most_steps s (env f.now) self.now.placed }
     {
-        if ends_are_enough && self.is_amid_many(f) {
+        if self.is_amid_many(f) {
             self.view_at_ends(alloc, f, meter)
         } else {
             self.view_of(alloc, f, meter)
         }
+    }
+
+    /// The line, and of the features whose envelope holds an end of it those of the known handles and all that are at an open end: the
+    /// first and the last of two, as these say. The bound of its steps in the index is that for its envelope.
+    pub(crate) fn view_at_open_ends<M: Meter>(
+        &self,
+        alloc: Global,
+        f: &Feature,
+        known: &[u32],
+        first: bool,
+        last: bool,
+        meter: &mut M,
+    ) -> Result<View<'a>, NoMemory>
+        requires ascending { IsAscending self.now.features }
+        requires live { feature_at self.now.features f.now.handle ≡ Some f.now }
+        requires ends { 0 < length (ends f.now) }
+        requires known { IsStrictlyIncreasing known.now }
+        ensures view { IfOk result (λ v. AreAtEnds self.now.features f.now (live_of self.now.features known.now) (open_of (ends f.now) first last) v) }
+        ensures rises { M.taken meter.old ≤ M.taken meter.new }
+        ensures steps { (s : ℕ) → M.taken meter.new ≤ M.taken meter.old + most_steps s (env f.now) self.now.placed }
+    {
+        let open = LineEnds::open(f.shape(), first, last);
+        let mut handles = self.index.query_about(alloc, &open, meter)?;
+        handles.push(f.handle())?;
+        handles.extend_from_slice(known)?;
+        once_each(alloc, &mut handles)?;
+        view_among(alloc, self.features, &handles, &LineEnds::of(f.shape()))
+    }
+
+    // Whether the feature of this handle is there and counts for the rule at the place.
+    fn counts_at(&self, row: &RuleRow, handle: u32, place: GridPoint) -> bool
+        requires { IsAscending self.now.features }
+        ensures one { result ≡ true → IsSomeAnd (feature_at self.now.features handle) (λ g. counts_at row.now g place ≡ true) }
+        ensures none { result ≡ false → IfSome (feature_at self.now.features handle) (λ g. counts_at row.now g place ≡ false) }
+    {
+        match self.features.get(handle) {
+            Some(g) => row.counts_at(g, place),
+            None => false,
+        }
+    }
+
+    /// Whether the features of these handles are enough for the rule at the place.
+    pub(crate) fn are_enough(&self, row: &RuleRow, handles: &[u32], place: GridPoint) -> bool
+        requires { IsAscending self.now.features }
+        ensures { result ≡ has_enough row.now (live_of self.now.features handles.now) place }
+    {
+        let mut count = 0;
+        for handle in handles {
+            if self.counts_at(row, *handle, place) {
+                count += 1;
+            }
+        }
+        count >= row.enough()
     }
 }

@@ -10,17 +10,18 @@ ghost use Rattle.topology_terms.specs.Counts.{raised, judged_of};
 ghost use Rattle.validation_laws.specs.Parts.{IsJudging, live_of};
 ghost use Rattle.validation_laws.specs.Views.{IsView};
 ghost use Rattle.validation.specs.Asked.{asked_steps, judged_envelopes};
-ghost use Rattle.validation.specs.Ends.{looks_beyond, shows_at_ends};
+ghost use Rattle.validation.specs.Ends.{looks_beyond};
 ghost use Rattle.validation.specs.Parted.{IsPartOf, IsGrown, AreGrown, IsDone, rules_of, entries_of};
 ghost use Rattle.validation.specs.Parted as terms;
 
 use crate::judge::judge_shown;
 use crate::lists::put_behind;
 use crate::near::FeatureIndex;
+use crate::shown::view_for;
 use error_store::Entry;
 use grid_index::{Meter, NoCount};
 use grid_plane::{Handles, NoMemory};
-use rule_core::{InForce, RuleSet, View, Work};
+use rule_core::{InForce, RuleRow, RuleSet, View, Work};
 use shape::Feature;
 use std::alloc::Global;
 use std::marker::Model;
@@ -65,15 +66,22 @@ impl RulePart {
         &self.entries
     }
 
-    // Whether the rule judges the feature.
-    fn judges(&self, f: &Feature) -> bool
+    /// What the rule speaks of.
+    pub(crate) fn row(&self) -> &RuleRow
+        ensures { result.now ≡ self.now.rule.row }
+    {
+        &self.rule.row
+    }
+
+    /// Whether the rule judges the feature.
+    pub(crate) fn judges(&self, f: &Feature) -> bool
         ensures { result ≡ judged self.now.rule.row f.now }
     {
         self.rule.row.judges(f.class())
     }
 
-    // Whether the rule judges the feature by more than what is at its ends.
-    fn looks_beyond_ends(&self, f: &Feature) -> bool
+    /// Whether the rule judges the feature by more than what is at its ends.
+    pub(crate) fn looks_beyond_ends(&self, f: &Feature) -> bool
         ensures { result ≡ looks_beyond f.now self.now.rule }
     {
         self.judges(f) && !self.rule.row.looks_at_ends()
@@ -115,20 +123,6 @@ fn judges_any(parts: &[RulePart], f: &Feature) -> bool
     ensures { result ≡ list_any (λ (p : terms.RulePart). judged p.rule.row f.now) parts.now }
 {
     parts.iter().any(|p| p.judges(f))
-}
-
-// Whether one of the rules judges the feature by more than what is at its ends.
-fn look_beyond_ends(parts: &[RulePart], f: &Feature) -> bool
-    ensures { result ≡ list_any (λ (p : terms.RulePart). looks_beyond f.now p.rule) parts.now }
-{
-    parts.iter().any(|p| p.looks_beyond_ends(f))
-}
-
-// Whether what is at the ends of the feature is all that the rules that judge it ask for.
-fn is_shown_at_ends(parts: &[RulePart], f: &Feature) -> bool
-    ensures { result ≡ shows_at_ends (rules_of parts.now) f.now }
-{
-    f.shape().end_count() > 0 && !look_beyond_ends(parts, f)
 }
 
 // Each rule judges the subject, as it is shown here.
@@ -176,8 +170,7 @@ fn judge_live_by_each<R: RuleSet, M: Meter>(
     if !judges_any(parts, f) {
         return Ok(());
     }
-    let at_ends = is_shown_at_ends(parts, f);
-    let view = features.view_for(alloc, f, at_ends, meter)?;
+    let view = view_for(alloc, parts, features, f, work, meter)?;
     judge_shown_by_each(rules, alloc, parts, &view, f, work)
 }
 
