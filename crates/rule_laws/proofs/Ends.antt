@@ -81,11 +81,10 @@ ends_inside s r e =
     let i = every_among (LiesIn (envelope_of s)) (ends_of s) (ends_in s) f.1 (among_at (ends_of s) f.0 f.1 f.2 f.3) in
     place_meets f.1 (envelope_of s) r i f.4
 
-pub end_held_test : (f g : Feature) → (holds_any (ends f) (env g) ≡ true) ↔ HoldsEnd f g
-end_held_test f g =
+pub any_held_test : (qs : List Place) (g : Feature) → (holds_any qs (env g) ≡ true) ↔ SomeOf (λ q. RectHolds (env g) (point_at q)) qs
+any_held_test qs g =
     any_some (λ (q : Place). Unit {0}) (λ q. RectHolds (env g) (point_at q)) (λ (q : Place). is_within (rect_at q) (env g))
-    (λ q u. ((λ e. place_in (env g) q (in_from_test q (env g) e)), in_test q (env g))) (ends f)
-    (every_of_all (λ (q : Place). Unit {0}) (λ q. tt) (ends f))
+    (λ q u. ((λ e. place_in (env g) q (in_from_test q (env g) e)), in_test q (env g))) qs (every_of_all (λ (q : Place). Unit {0}) (λ q. tt) qs)
 
 -- ---- a test that depends on the features round the place, and fails where enough are there, picks the same ends
 filter_each : {A : Type 0} (t s : A → Bool) (xs : List A) → Every (λ x. t x ≡ s x) xs → filter t xs ≡ filter s xs

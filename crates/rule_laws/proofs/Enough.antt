@@ -13,6 +13,7 @@ use Rattle.plane_terms.proofs.ListLemmas.{how_many_joined}
 use Rattle.plane_terms.proofs.Truths.{both_parts}
 use Rattle.cell_laws.proofs.OnLine.{at_itself}
 use Rattle.cell_laws.proofs.AtPlaces.{same_is}
+use Rattle.rule_words.specs.declared.rule_kind.RuleKind.{RuleKind}
 use Rattle.rule_words.specs.declared.rule_kind.RuleKind.TheVariants as rule
 use Rattle.topology_terms.specs.Feature.{Feature, Side, is_on_side, sides, place, env, feature_at, IsAscending}
 use Rattle.topology_terms.specs.Together.{sides_all}
@@ -20,7 +21,7 @@ use Rattle.topology_terms.specs.Tests.{holds_at, segments_at, ends_at}
 use Rattle.topology_terms.specs.Plans.{near, none_at, is_point_at, has_side_at, ends_there, is_dangle, is_pseudo}
 use Rattle.topology_terms.specs.Broken.{Row}
 use Rattle.sound_laws.proofs.Meetings.{meets_test}
-use Rattle.validation_laws.specs.Views.{counts_at, enough_of, has_enough}
+use Rattle.validation_laws.specs.Views.{counts_at, counts_by, enough_of, has_enough}
 use Rattle.validation_laws.proofs.Fewer.{fewer_pass}
 use Rattle.rule_laws.proofs.Nears.{is_near}
 use Rattle.rule_laws.proofs.Held.{line_held, place_held}
@@ -65,15 +66,31 @@ some_on (s ∷ ss) q e = elim (cases_Bool (holds_place s q)) [
   | inr t ↦ inr (some_on ss q (rw t at e))
 ]
 
+side_held : (g : Feature) (q : Place) → has_side_at g q ≡ true → RectHolds (env g) (point_at q)
+side_held g q e = line_held g (point_at q) (some_on (sides g) q e)
+
+point_held : (g : Feature) (q : Place) → is_point_at g q ≡ true → RectHolds (env g) (point_at q)
+point_held g q e = place_held g (point_at q) (rw (same_is (place g) q e) (at_itself q))
+
+-- the envelope of what counts holds the place
+pub counts_held : (row : Row) (g : Feature) (q : Place) → counts_at row g q ≡ true → RectHolds (env g) (point_at q)
+counts_held row g q t = by_kind row.kind t
+  where
+    by_kind : (k : RuleKind) → counts_by k row g q ≡ true → RectHolds (env g) (point_at q)
+    by_kind rule.LineEndpointMustBeCoveredBy t = point_held g q (both_parts (is_on_side row.dest g) (is_point_at g q) t).1
+    by_kind other t =
+        let ends = (both_parts (is_on_side row.origin g) (ends_there g q && has_side_at g q) t).1 in
+        side_held g q (both_parts (ends_there g q) (has_side_at g q) ends).1
+
 module _ (f : Feature) (q : Place) (held : RectHolds (env f) (point_at q)) where
   is_near_by : (A : Side) (g : Feature) → is_on_side A g ≡ true → RectHolds (env g) (point_at q) → is_near A f g ≡ true
   is_near_by A g t h = and_from (is_on_side A g) (rects_meet (env f) (env g)) t (meets_test (env f) (env g) (point_at q, held, h))
 
   side_near : (A : Side) (g : Feature) → is_on_side A g ≡ true → has_side_at g q ≡ true → is_near A f g ≡ true
-  side_near A g t e = is_near_by A g t (line_held g (point_at q) (some_on (sides g) q e))
+  side_near A g t e = is_near_by A g t (side_held g q e)
 
   point_near : (A : Side) (g : Feature) → is_on_side A g ≡ true → is_point_at g q ≡ true → is_near A f g ≡ true
-  point_near A g t e = is_near_by A g t (place_held g (point_at q) (rw (same_is (place g) q e) (at_itself q)))
+  point_near A g t e = is_near_by A g t (point_held g q e)
 
 -- each that has a segment there counts with one at least
 segments_many : (q : Place) (gs : List Feature) → how_many (λ (g : Feature). has_side_at g q) gs ≤ segments_at gs q
@@ -87,7 +104,7 @@ segments_many q (g ∷ gs) =
     ]
 
 -- ---- tests of numbers
-le_more : (m j k : ℕ) → j ≤ k → nat_le m j ≡ true → nat_le m k ≡ true
+pub le_more : (m j k : ℕ) → j ≤ k → nat_le m j ≡ true → nat_le m k ≡ true
 le_more m j k l t = grind (arith, nat_tests)
 
 not_one : (n : ℕ) → 3 ≤ n → (n == 1) ≡ false

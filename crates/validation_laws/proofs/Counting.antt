@@ -106,13 +106,13 @@ at_one : (o : Option Feature) (rest : List Feature) (n : ℕ) → ((f : Feature)
 at_one None rest n own e = e
 at_one (Some f) rest n own e = at_handle f rest n (eq-eqb f.handle n (own f refl))
 
-live_lacks : (F : List Feature) (selected : List ℕ) (h : ℕ) → ¬ (IsAmong h selected) → feature_at (live_of F selected) h ≡ None
+pub live_lacks : (F : List Feature) (selected : List ℕ) (h : ℕ) → ¬ (IsAmong h selected) → feature_at (live_of F selected) h ≡ None
 unfolding feature_at
 live_lacks F [] h d = refl
 live_lacks F (n ∷ selected) h d = past_one (feature_at F n) (live_of F selected) h n (λ f e. handle_of F n f e) (λ e. d (inl (sym e)))
     ∙ live_lacks F selected h (λ k. d (inr k))
 
-live_has : (F : List Feature) (selected : List ℕ) (h : ℕ) → IsRising selected → IsAmong h selected
+pub live_has : (F : List Feature) (selected : List ℕ) (h : ℕ) → IsRising selected → IsAmong h selected
     → feature_at (live_of F selected) h ≡ feature_at F h
 live_has F [] h u k = absurd k
 live_has F (n ∷ selected) h u k = elim k [
@@ -142,7 +142,7 @@ ascends_one (Some f) rest n own h u = (
   u,
 )
 
-live_ascends : (F : List Feature) (selected : List ℕ) → IsRising selected → IsAscending (live_of F selected)
+pub live_ascends : (F : List Feature) (selected : List ℕ) → IsRising selected → IsAscending (live_of F selected)
 live_ascends F [] u = tt
 live_ascends F (n ∷ selected) u = ascends_one (feature_at F n) (live_of F selected) n (λ f e. handle_of F n f e)
     (live_above F selected n u.0) (live_ascends F selected u.1)

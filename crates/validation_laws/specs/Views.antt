@@ -4,7 +4,7 @@
 -- looks_at_ends k   the rules of this kind ask of a line only what is at its ends
 -- holds_any qs r    the test whether one of the places lies in the rectangle
 -- HoldsEnd f g      the envelope of g holds an end of f
--- counts_at row g q     the test whether g is one of those that the rule counts at an end q: of its first class a line that ends there
+-- counts_at row g q, counts_by k row g q     the test whether g is one of those that the rule counts at an end q: of its first class a line that ends there
 --                   and has a segment there, as every shape with an end there has, or, if it asks for points at ends, of its second
 --                   class a point there
 -- enough_of k       so many of them are enough for a rule of this kind: what it finds there does not change with one more
@@ -44,7 +44,7 @@ holds_any qs r = list_any (λ (q : Place). is_within (rect_at q) r) qs
 abbrev pub HoldsEnd : Feature → Feature → Type 0
 HoldsEnd f g = SomeOf (λ (q : Place). RectHolds (env g) (point_at q)) (ends f)
 
-abbrev counts_by : RuleKind → Row → Feature → Place → Bool
+abbrev pub counts_by : RuleKind → Row → Feature → Place → Bool
 counts_by rule.LineEndpointMustBeCoveredBy row g q = is_on_side row.dest g && is_point_at g q
 counts_by other row g q = is_on_side row.origin g && (ends_there g q && has_side_at g q)
 
