@@ -1,7 +1,7 @@
 -- Of a rule that looks at ends, what is cut among the features shown to it at the subject's ends is what is cut among all.
 use Rattle.std.proofs.Common.{◌≡◌, ◌↔◌, inl, inr, ℕ, ◌≤ℤ◌, arith, Bool, true, false, refl, sym, ◌∙◌, List, [], ◌∷◌, Some}
-use Rattle.std.specs.Prelude.{◌≢◌, not}
-use Rattle.std.specs.List.{filter}
+use Rattle.std.specs.Prelude.{◌≢◌, ◌||◌, not}
+use Rattle.std.specs.List.{filter, list_any}
 use Rattle.std.proofs.lemmas.Int.{ints}
 use Rattle.std.proofs.lemmas.List.Folds.{Any-from_list_any, list_any-from_Any}
 use Rattle.std.proofs.lemmas.Bool.{false≢true}
@@ -23,7 +23,7 @@ use Rattle.topology_terms.specs.Plans.{near, own_ends, plan_of, cut_by, cutting_
 use Rattle.topology_terms.specs.Broken.{Row, Fits}
 use Rattle.sound_laws.proofs.Planes.{within_Holds}
 use Rattle.sound_laws.proofs.FeatureLists.{each_live}
-use Rattle.validation_laws.specs.Views.{looks_at_ends, holds_any, HoldsEnd, has_enough, IsShownAt, IsEndView}
+use Rattle.validation_laws.specs.Views.{OpenEnds, open_ends, open_of, looks_at_ends, holds_any, HoldsEnd, has_enough, IsShownAt, IsEndView}
 use Rattle.rule_laws.proofs.Nears.{near_ascends, near_of}
 use Rattle.rule_laws.proofs.Envelopes.{LiesIn, ends_in}
 use Rattle.rule_laws.proofs.Held.{at_held}
@@ -80,6 +80,28 @@ ends_inside s r e =
     let f = Any-from_list_any (λ (q : Place). is_within (rect_at q) r) (ends_of s) e in
     let i = every_among (LiesIn (envelope_of s)) (ends_of s) (ends_in s) f.1 (among_at (ends_of s) f.0 f.1 f.2 f.3) in
     place_meets f.1 (envelope_of s) r i f.4
+
+-- what an open end of a line touches
+pub open_any : (test : Place → Bool) (qs : List Place) (a b : Bool) → list_any test (open_of qs a b) ≡ true → list_any test qs ≡ true
+open_any test [] a b t = t
+open_any test (p ∷ []) a b t = t
+open_any test (p ∷ (q ∷ (r ∷ qs))) a b t = t
+open_any test (p ∷ (q ∷ [])) true true t = t
+open_any test (p ∷ (q ∷ [])) true false t = by_first (test p) (test q) t
+  where
+    by_first : (a b : Bool) → (a || false) ≡ true → (a || (b || false)) ≡ true
+    by_first a b t = grind arith
+open_any test (p ∷ (q ∷ [])) false true t = by_last (test p) (test q) t
+  where
+    by_last : (a b : Bool) → (b || false) ≡ true → (a || (b || false)) ≡ true
+    by_last a b t = grind arith
+open_any test (p ∷ (q ∷ [])) false false t = cc
+
+pub open_wider : (e : OpenEnds) (r t : Rectangle) → IsWithin r t → holds_any (open_ends e) r ≡ true → holds_any (open_ends e) t ≡ true
+open_wider e r t w h = any_wider (open_ends e) r t w h
+
+pub open_inside : (e : OpenEnds) (r : Rectangle) → holds_any (open_ends e) r ≡ true → rects_meet (envelope_of e.line) r ≡ true
+open_inside e r t = ends_inside e.line r (open_any (λ (q : Place). is_within (rect_at q) r) (ends_of e.line) e.first e.last t)
 
 pub any_held_test : (qs : List Place) (g : Feature) → (holds_any qs (env g) ≡ true) ↔ SomeOf (λ q. RectHolds (env g) (point_at q)) qs
 any_held_test qs g =

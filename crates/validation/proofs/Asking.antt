@@ -30,7 +30,7 @@ use Rattle.validation.specs.Parted.{RulePart, rules_of}
 use Rattle.validation.proofs.Dirtied.{front_more, every_moved}
 use Rattle.validation.proofs.Nearby.{live_more}
 use Rattle.validation.proofs.Settled.{selected_live}
-use Rattle.validation.proofs.Shown.{any_rule}
+use Rattle.validation.proofs.Enough.{any_rule}
 
 -- ---- the parts of the dirt
 passed : (t : Bool) (w r : Rectangle) (d : List Rectangle) → rects_meet r w ≡ t

@@ -7,8 +7,7 @@ use Rattle.std.specs.List.Sorted.{IsStrictlyIncreasing}
 use Rattle.std.proofs.lemmas.Option.{get_or_from_slice_get}
 use Rattle.plane_terms.specs.Lists.{Every, SomeOf}
 use Rattle.plane_terms.specs.Point.{Place, point_at}
-use Rattle.plane_terms.specs.Rectangle.{Rectangle, RectHolds, IsWithin, rect_at, is_within, rects_meet}
-use Rattle.plane_terms.specs.Shape.{ends_of, envelope_of}
+use Rattle.plane_terms.specs.Rectangle.{RectHolds, rect_at, is_within, rects_meet}
 use Rattle.plane_terms.proofs.ListLemmas.{every_map, contains_among, IsAmong}
 use Rattle.topology_terms.specs.Feature.{Feature, feature_at, env, IsAscending}
 use Rattle.topology_terms.specs.Together.{ends}
@@ -17,35 +16,14 @@ use Rattle.sound_laws.proofs.Meetings.{envelope_proper, meets_from_test}
 use Rattle.grid_index.specs.Near.{IsMet, handle_of}
 use Rattle.grid_index.specs.declared.placed.Placed.{Placed}
 use Rattle.validation_laws.specs.Parts.{live_of}
-use Rattle.validation_laws.specs.Views.{holds_any, HoldsEnd}
+use Rattle.validation_laws.specs.Views.{holds_any, HoldsEnd, open_of}
 use Rattle.validation_laws.proofs.Handles.{among, among_or_not, rising}
 use Rattle.validation_laws.proofs.Counting.{live_has, live_lacks, live_ascends}
-use Rattle.rule_laws.proofs.Ends.{any_wider, ends_inside, any_held_test, holds_own}
-use Rattle.validation.specs.Ends.{OpenEnds, open_ends, open_of, AreAtEnds}
+use Rattle.rule_laws.proofs.Ends.{open_any, ends_inside, any_held_test, holds_own}
+use Rattle.validation.specs.Ends.{AreAtEnds}
 use Rattle.validation.specs.Placed.{placed_of, ArePlaced}
 
 -- ---- the open ends of a line
-open_any : (test : Place → Bool) (qs : List Place) (a b : Bool) → list_any test (open_of qs a b) ≡ true → list_any test qs ≡ true
-open_any test [] a b t = t
-open_any test (p ∷ []) a b t = t
-open_any test (p ∷ (q ∷ (r ∷ qs))) a b t = t
-open_any test (p ∷ (q ∷ [])) true true t = t
-open_any test (p ∷ (q ∷ [])) true false t = by_first (test p) (test q) t
-  where
-    by_first : (a b : Bool) → (a || false) ≡ true → (a || (b || false)) ≡ true
-    by_first a b t = grind arith
-open_any test (p ∷ (q ∷ [])) false true t = by_last (test p) (test q) t
-  where
-    by_last : (a b : Bool) → (b || false) ≡ true → (a || (b || false)) ≡ true
-    by_last a b t = grind arith
-open_any test (p ∷ (q ∷ [])) false false t = cc
-
-pub open_wider : (e : OpenEnds) (r s : Rectangle) → IsWithin r s → holds_any (open_ends e) r ≡ true → holds_any (open_ends e) s ≡ true
-open_wider e r s w t = any_wider (open_ends e) r s w t
-
-pub open_inside : (e : OpenEnds) (r : Rectangle) → holds_any (open_ends e) r ≡ true → rects_meet (envelope_of e.line) r ≡ true
-open_inside e r t = ends_inside e.line r (open_any (λ (q : Place). is_within (rect_at q) r) (ends_of e.line) e.first e.last t)
-
 -- a line that has not two has all open
 pub open_all : (qs : List Place) (a b : Bool) → length qs ≢ 2 → open_of qs a b ≡ qs
 open_all [] a b n = refl

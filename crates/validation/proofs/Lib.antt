@@ -8,6 +8,6 @@ mod Framed
 mod Nearby
 mod Parted
 mod Picking
-mod Shown
+mod Enough
 mod TooFar
 pub mod Settled

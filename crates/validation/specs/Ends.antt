@@ -2,20 +2,17 @@
 --
 -- looks_beyond f q      the test whether the rule judges the feature, and by more than what is at its ends
 -- shows_at_ends rules f the test whether the feature has ends, and none of the rules looks beyond them
--- OpenEnds              a line, and of its first and its last end whether it is open: whether more is to be shown there than is known
--- open_ends e           those of the line's ends that are open; of a line that has not two, all
 -- lacks_at f hs q r     the test whether the rule judges the feature, and has not enough of the features hs at the place
 -- AreAtEnds F f K o V   V has, ascending by handle, f, of the features F all whose envelope holds one of the places o, and of the known
 --                       ones K those whose envelope holds an end of f; and no feature of F besides but such whose envelope meets that of f
 -- AreShownAtEnds rules F f V    V has, ascending by handle, what is to be shown at each end of f to each of the rules that judge it, and f
 --                       itself, and no feature of F besides but such whose envelope meets that of f
 -- IsShownFor rules F f V    V is a view of F for f, or, where these rules look at its ends alone, what is to be shown to them there
-use Rattle.std.specs.Prelude.{◌≡◌, ◌⊎◌, Bool, true, ◌&&◌, not, nat_lt, ℕ, List, [], ◌∷◌, ◌++◌, if◌then◌else◌, length, Some}
+use Rattle.std.specs.Prelude.{◌≡◌, ◌⊎◌, Bool, true, ◌&&◌, not, nat_lt, ℕ, List, length, Some}
 use Rattle.std.specs.List.{list_any}
 use Rattle.plane_terms.specs.Lists.{Every}
 use Rattle.plane_terms.specs.Point.{Place, point_at}
 use Rattle.plane_terms.specs.Rectangle.{RectHolds, RectsMeet}
-use Rattle.plane_terms.specs.Shape.{Shape, ends_of}
 use Rattle.topology_terms.specs.Feature.{Feature, feature_at, env, IsAscending}
 use Rattle.topology_terms.specs.Together.{ends}
 use Rattle.topology_terms.specs.Broken.{judged}
@@ -27,18 +24,6 @@ looks_beyond f q = judged q.row f && not (looks_at_ends q.row.kind)
 
 abbrev pub shows_at_ends : List InForce → Feature → Bool
 shows_at_ends rules f = nat_lt 0 (length (ends f)) && not (list_any (looks_beyond f) rules)
-
-pub record OpenEnds : Type 0 where
-  pub line : Shape
-  pub first : Bool
-  pub last : Bool
-
-abbrev pub open_of : List Place → Bool → Bool → List Place
-open_of (a ∷ b ∷ []) first last = (if first then a ∷ [] else []) ++ (if last then b ∷ [] else [])
-open_of qs first last = qs
-
-abbrev pub open_ends : OpenEnds → List Place
-open_ends e = open_of (ends_of e.line) e.first e.last
 
 abbrev pub lacks_at : Feature → List Feature → Place → InForce → Bool
 lacks_at f hs q r = judged r.row f && not (has_enough r.row hs q)

@@ -3,9 +3,8 @@ ghost use Rattle.std.specs.Option.{option_map_or};
 ghost use Rattle.plane_terms.specs.Point.{Place};
 ghost use Rattle.plane_terms.specs.Rectangle.{rect_at, is_within};
 ghost use Rattle.plane_terms.specs.Shape.{ends_of, envelope_of};
-ghost use Rattle.validation_laws.specs.Views.{holds_any};
-ghost use Rattle.validation.specs.Ends.{open_ends};
-ghost use Rattle.validation.proofs.AtEnds.{open_wider, open_inside};
+ghost use Rattle.validation_laws.specs.Views.{holds_any, open_ends};
+ghost use Rattle.rule_laws.proofs.Ends.{open_wider, open_inside};
 
 use grid_index::Aim;
 use grid_plane::{GridPoint, Rect};
@@ -23,7 +22,7 @@ pub(crate) struct LineEnds<'a> {
 impl<'a> Model for LineEnds<'a> {
     ghost use Rattle.std.specs.Prelude.{◌≡◌, ◌-◌, length, slice_get, Some, is_some, IfSome};
     ghost use Rattle.plane_terms.specs.Shape as terms;
-    ghost use Rattle.validation.specs.Ends.{OpenEnds};
+    ghost use Rattle.validation_laws.specs.Views.{OpenEnds};
 
     ghost Value = { OpenEnds };
 
@@ -69,7 +68,7 @@ fn end_if(line: &Shape, i: usize, open: bool) -> Option<GridPoint>
 impl<'a> LineEnds<'a> {
     /// The ends of this line.
     pub(crate) fn of(line: &'a Shape) -> LineEnds<'a>
-        ensures { open_ends result ≡ ends_of line.now }
+        ensures open { open_ends result ≡ ends_of line.now }
         ensures line { result.line ≡ line.now }
     {
         LineEnds::open(line, true, true)
@@ -77,7 +76,7 @@ impl<'a> LineEnds<'a> {
 
     /// The ends of this line; where it has two, the first and the last if these say so.
     pub(crate) fn open(line: &'a Shape, first: bool, last: bool) -> LineEnds<'a>
-        ensures { open_ends result ≡ open_ends (record { line = line.now; first = first; last = last }) }
+        ensures open { open_ends result ≡ open_ends (record { line = line.now; first = first; last = last }) }
         ensures line { result.line ≡ line.now }
     {
         LineEnds {

@@ -5,9 +5,9 @@ ghost use Rattle.topology_terms.specs.Feature.{feature_at, env, IsAscending};
 ghost use Rattle.topology_terms.specs.Feature as terms;
 ghost use Rattle.topology_terms.specs.Together.{ends};
 ghost use Rattle.validation_laws.specs.Parts.{live_of};
-ghost use Rattle.validation_laws.specs.Views.{IsView, counts_at, has_enough};
+ghost use Rattle.validation_laws.specs.Views.{IsView, counts_at, has_enough, open_of};
 ghost use Rattle.grid_index.specs.Steps.{most_steps};
-ghost use Rattle.validation.specs.Ends.{AreAtEnds, open_of};
+ghost use Rattle.validation.specs.Ends.{AreAtEnds};
 ghost use Rattle.validation.specs.Placed.{ArePlaced};
 
 use crate::dirty::{places_across, places_up};

@@ -3,10 +3,12 @@
 -- IsView F f V      V has, ascending by handle, the features of F whose envelope meets that of f
 -- looks_at_ends k   the rules of this kind ask of a line only what is at its ends
 -- holds_any qs r    the test whether one of the places lies in the rectangle
+-- OpenEnds          a line, and of its first and its last end whether it is open: whether more is to be shown there than is known
+-- open_ends e       those of the line's ends that are open; of a line that has not two, all
 -- HoldsEnd f g      the envelope of g holds an end of f
--- counts_at row g q, counts_by k row g q     the test whether g is one of those that the rule counts at an end q: of its first class a line that ends there
---                   and has a segment there, as every shape with an end there has, or, if it asks for points at ends, of its second
---                   class a point there
+-- counts_at row g q, counts_by k row g q     the test whether g is one of those that the rule counts at an end q: of its first class a line
+--                   that ends there and has a segment there, as every shape with an end there has, or, if it asks for points at
+--                   ends, of its second class a point there
 -- enough_of k       so many of them are enough for a rule of this kind: what it finds there does not change with one more
 -- has_enough row V q    the test whether the rule counts so many of V at q
 -- IsShownAt row F V q   V has enough for the rule at q, or all features of F whose envelope holds q
@@ -14,11 +16,12 @@
 --                   besides but such whose envelope meets that of f
 -- ViewLaws M        beside `Laws`: a subject that a row does not judge has no findings, what fits all features fits a part of them
 --                   that ascends, and of a rule that looks at ends the findings depend on what is to be shown to it there
-use Rattle.std.specs.Prelude.{◌≡◌, ◌⊎◌, ◌&&◌, ℕ, Bool, true, false, nat_le, List, [], Some}
+use Rattle.std.specs.Prelude.{◌≡◌, ◌⊎◌, ◌&&◌, ℕ, Bool, true, false, nat_le, List, [], ◌∷◌, ◌++◌, if◌then◌else◌, Some}
 use Rattle.std.specs.List.{list_any}
 use Rattle.plane_terms.specs.Lists.{Every, SomeOf, how_many}
 use Rattle.plane_terms.specs.Point.{Place, point_at}
 use Rattle.plane_terms.specs.Rectangle.{Rectangle, RectHolds, RectsMeet, rect_at, is_within}
+use Rattle.plane_terms.specs.Shape.{Shape, ends_of}
 use Rattle.rule_words.specs.declared.rule_kind.RuleKind.{RuleKind}
 use Rattle.rule_words.specs.declared.rule_kind.RuleKind.TheVariants as rule
 use Rattle.topology_terms.specs.Feature.{Feature, feature_at, env, is_on_side, IsAscending}
@@ -40,6 +43,18 @@ looks_at_ends other = false
 
 abbrev pub holds_any : List Place → Rectangle → Bool
 holds_any qs r = list_any (λ (q : Place). is_within (rect_at q) r) qs
+
+pub record OpenEnds : Type 0 where
+  pub line : Shape
+  pub first : Bool
+  pub last : Bool
+
+abbrev pub open_of : List Place → Bool → Bool → List Place
+open_of (a ∷ b ∷ []) first last = (if first then a ∷ [] else []) ++ (if last then b ∷ [] else [])
+open_of qs first last = qs
+
+abbrev pub open_ends : OpenEnds → List Place
+open_ends e = open_of (ends_of e.line) e.first e.last
 
 abbrev pub HoldsEnd : Feature → Feature → Type 0
 HoldsEnd f g = SomeOf (λ (q : Place). RectHolds (env g) (point_at q)) (ends f)

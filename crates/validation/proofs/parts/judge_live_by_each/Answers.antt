@@ -4,7 +4,7 @@ use Rattle.validation_laws.proofs.Counting.{raised_none}
 use Rattle.validation.specs.Parted.{rules_of}
 use Rattle.validation.proofs.Asking.{live_steps}
 use Rattle.validation.proofs.Parted.{all_seen, grown_idle, judged_idle}
-use Rattle.validation.proofs.Shown.{shown_enough, shown_subject, shown_own, shown_fits, shows_some}
+use Rattle.validation.proofs.Enough.{shown_enough, shown_subject, shown_own, shown_fits, shows_some}
 use Rattle.validation.proofs.parts.judge_live_by_each.Goals as goal
 
 pub returns-then-not-judges_any-clause-grown : goal.returns-then-not-judges_any-clause-grown

@@ -1,4 +1,4 @@
-use Rattle.validation.proofs.Shown.{shows_at}
+use Rattle.validation.proofs.Enough.{shows_at}
 use Rattle.validation.proofs.shown.is_shown_at_ends.Goals as goal
 
 pub returns-then-end_count-gt0 : goal.returns-then-end_count-gt0

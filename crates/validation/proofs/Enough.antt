@@ -15,11 +15,11 @@ use Rattle.topology_terms.specs.Together.{ends}
 use Rattle.topology_terms.specs.Broken.{Row, judged}
 use Rattle.topology_terms.specs.Meaning.{Meaning, Laws, CutsRight, Finding}
 use Rattle.topology_terms.specs.Project.{InForce}
-use Rattle.validation_laws.specs.Views.{IsView, IsShownAt, HoldsEnd, ViewLaws, looks_at_ends, counts_at, enough_of, has_enough}
+use Rattle.validation_laws.specs.Views.{IsView, IsShownAt, HoldsEnd, ViewLaws, looks_at_ends, counts_at, enough_of, has_enough, open_of}
 use Rattle.validation_laws.proofs.Fewer.{fewer_pass}
 use Rattle.validation_laws.proofs.Viewed.{subject_seen, view_cut, view_fits}
 use Rattle.rule_laws.proofs.Enough.{counts_held, le_more}
-use Rattle.validation.specs.Ends.{looks_beyond, shows_at_ends, lacks_at, open_of, AreAtEnds, AreShownAtEnds, IsShownFor}
+use Rattle.validation.specs.Ends.{looks_beyond, shows_at_ends, lacks_at, AreAtEnds, AreShownAtEnds, IsShownFor}
 use Rattle.validation.specs.Parted.{RulePart, rules_of}
 use Rattle.validation.proofs.AtEnds.{AreShown, each_some}
 use Rattle.validation.proofs.Parted.{IsEnough, neither}
