@@ -101,14 +101,7 @@ left_none k ts l = elim (many_or_few ts) [
       ap (λ n. drop (n * k) ts) a.size ∙ drop_all (64 * k) ts past
 ]
 
--- so many blocks are gone through that those behind them begin no earlier than the segment of this number
-pub enough_blocks : (n m : ℕ) (end : ℕ) (ts : List Segment) → n ≡ block_count ts → m ≡ min n (div_ceil end 32)
-    → min end (length ts) ≤ block_size ts * m
-enough_blocks n m end ts e h = elim (many_or_few ts) [
-  | inl a ↦ let b = a.blocks in subst (λ (i : ℕ). min end (length ts) ≤ i * m) (sym a.size) (omega (arith, e, h))
-  | inr a ↦ let b = a.blocks in let l = a.short in subst (λ (i : ℕ). min end (length ts) ≤ i * m) (sym a.size) (omega (arith, e, h))
-]
-
+-- what is left behind blocks that reach to a number from which on none comes near
 pub left_off : (s : Segment) (end n k : ℕ) (ts : List Segment) → n ≤ k → min end (length ts) ≤ block_size ts * n → IsOff s (drop end ts)
     → IsOff s (left_from k ts)
 left_off s end n k ts l h o = off_from s end (block_size ts * k) ts further o

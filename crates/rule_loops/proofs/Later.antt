@@ -28,11 +28,6 @@ block_begun i ts rest a e =
     sym (take-append-drop n (drop i ts)) ∙ (ap (λ us. take n (drop i ts) ++ us) (next_begins i ts a)
     ∙ ap (λ us. take n us ++ left_from (i / 32 + 1) ts) (sym e))
 
-pub last_block : (i : ℕ) (ts rest : List Segment) → Many ts → rest ≡ drop i ts → length rest < 32 - i % 32 → drop i ts ≡ rest ++ left_from (i / 32 + 1) ts
-last_block i ts rest a e l =
-    let all : length (drop i ts) ≤ 32 - i % 32 = omega (arith, ap length e) in
-    sym e ∙ (sym (append-nil rest) ∙ ap (λ us. rest ++ us) (sym (drop_all (32 - i % 32) (drop i ts) all) ∙ next_begins i ts a))
-
 -- what a row of those and a row of the blocks behind them give together
 rows_joined : {B : Type 0} (f : Segment → List B) (near later all : List Segment) (old mid new : List B) → all ≡ near ++ later
     → mid ≡ old ++ flat_map f near → new ≡ mid ++ flat_map f later → new ≡ old ++ flat_map f all

@@ -1,9 +1,7 @@
 ghost use Rattle.std.specs.Prelude.{◌≡◌, ◌≤◌, drop, length, IfOk};
-ghost use Rattle.plane_terms.specs.Shape.{segments_of};
 ghost use Rattle.rule_loops.specs.Ahead.{AreAhead, IsOff};
 
 use grid_plane::{NoMemory, Rect, Seg};
-use shape::Shape;
 use std::alloc::Global;
 
 /// Of fewer segments each is compared with all later ones.
@@ -26,14 +24,14 @@ fn rounds_ahead(alloc: Global, segments: &[Seg]) -> Result<Vec<Rect>, NoMemory>
     Ok(ahead)
 }
 
-/// For each segment of a shape a rectangle round it and all later ones; none where the segments are few.
-pub(crate) fn ahead_of(alloc: Global, shape: &Shape) -> Result<Vec<Rect>, NoMemory>
-    ensures { IfOk result (λ ahead. AreAhead ahead.items (segments_of shape.now)) }
+/// For each segment a rectangle round it and all later ones; none where the segments are few.
+pub(crate) fn ahead_of(alloc: Global, segments: &[Seg]) -> Result<Vec<Rect>, NoMemory>
+    ensures { IfOk result (λ ahead. AreAhead ahead.items segments.now) }
 {
-    if shape.seg_count() < FEWEST {
+    if segments.len() < FEWEST {
         return Ok(Vec::new(alloc));
     }
-    rounds_ahead(alloc, shape.segs())
+    rounds_ahead(alloc, segments)
 }
 
 /// Where a segment need look no further: none from this number on comes near it. Looks in steps that grow.

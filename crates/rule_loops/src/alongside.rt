@@ -1,16 +1,15 @@
 ghost use Rattle.std.specs.Prelude.{◌≡◌, ◌<◌, [], true};
 ghost use Rattle.std.specs.Bool.{OnTrue};
 ghost use Rattle.plane_terms.specs.Lists.{SomeOf};
-ghost use Rattle.plane_terms.specs.Shape.{segments_of};
 ghost use Rattle.topology_terms.specs.Feature.{sides};
 ghost use Rattle.rule_loops.specs.Blocks.{block_count, block_of};
 ghost use Rattle.rule_loops.specs.Views.{of_class, beside, left_of_segment, IsHeldBy};
 
-use crate::blocks::{block, block_count, block_frame};
+use crate::blocks::Blocks;
 use crate::places::is_on;
 use grid_plane::Seg;
 use rule_core::View;
-use shape::{Feature, Shape};
+use shape::Feature;
 
 // Whether both ends of the segment are on the other, and so all of it.
 fn lies_on(segment: &Seg, other: &Seg) -> bool
@@ -32,19 +31,19 @@ fn lies_on_one(segment: &Seg, others: &[Seg]) -> bool
 }
 
 // Whether the segment lies on one of the block: on none where its frame does not hold it.
-fn lies_on_block(segment: &Seg, shape: &Shape, k: usize) -> bool
-    requires { k < block_count (segments_of shape.now) }
-    ensures { OnTrue result (SomeOf (IsHeldBy segment.now) (block_of k (segments_of shape.now))) }
+fn lies_on_block(segment: &Seg, blocks: &Blocks<'_>, k: usize) -> bool
+    requires { k < block_count blocks.now }
+    ensures { OnTrue result (SomeOf (IsHeldBy segment.now) (block_of k blocks.now)) }
 {
-    block_frame(shape, k).holds_rect(&segment.env()) && lies_on_one(segment, block(shape, k))
+    blocks.frame(k).holds_rect(&segment.env()) && lies_on_one(segment, blocks.block(k))
 }
 
 // Whether the segment lies on one of the shape's.
-fn lies_on_shape(segment: &Seg, shape: &Shape) -> bool
-    ensures { OnTrue result (SomeOf (IsHeldBy segment.now) (segments_of shape.now)) }
+fn lies_on_shape(segment: &Seg, blocks: &Blocks<'_>) -> bool
+    ensures { OnTrue result (SomeOf (IsHeldBy segment.now) blocks.now) }
 {
-    for k in 0..block_count(shape) {
-        if lies_on_block(segment, shape, k) {
+    for k in 0..blocks.count() {
+        if lies_on_block(segment, blocks, k) {
             return true;
         }
     }
@@ -62,7 +61,7 @@ fn lies_on_feature(class: u16, segment: &Seg, other: &Feature) -> bool
     ensures beside { OnTrue result (beside class segment.now other.now ≡ true) }
     ensures held { OnTrue result (SomeOf (IsHeldBy segment.now) (sides other.now)) }
 {
-    is_beside(class, segment, other) && lies_on_shape(segment, other.shape())
+    is_beside(class, segment, other) && lies_on_shape(segment, &Blocks::of(other.shape()))
 }
 
 /// Whether the segment is found to lie on one single segment of the features of the class that are shown: then they leave nothing

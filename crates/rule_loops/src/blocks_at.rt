@@ -8,41 +8,59 @@ ghost use Rattle.topology_terms.specs.Tests as terms;
 ghost use Rattle.rule_loops.specs.Blocks.{block_count, block_of, reaches_below};
 ghost use Rattle.rule_loops.specs.Views.{up_to_three};
 
-use crate::blocks::{block, block_count, block_frame};
+use crate::blocks::Blocks;
 use crate::places::{are_odd_in, count_in, holds_in, up_to_three};
 use grid_plane::{GridPoint, Rect};
 use shape::Shape;
 
 // Whether a segment of the block holds the place: none does where its frame does not.
-fn is_held(shape: &Shape, k: usize, place: GridPoint) -> bool
-    requires { k < block_count (segments_of shape.now) }
-    ensures { result ≡ terms.holds_at (block_of k (segments_of shape.now)) place }
+fn is_held(blocks: &Blocks<'_>, k: usize, place: GridPoint) -> bool
+    requires { k < block_count blocks.now }
+    ensures { result ≡ terms.holds_at (block_of k blocks.now) place }
 {
-    block_frame(shape, k).holds_point(place) && holds_in(block(shape, k), place)
+    blocks.frame(k).holds_point(place) && holds_in(blocks.block(k), place)
 }
 
-/// Whether one of the shape's segments holds the place.
-pub(crate) fn holds_at(shape: &Shape, place: GridPoint) -> bool
-    ensures { result ≡ terms.holds_at (segments_of shape.now) place }
+// Whether the place is on one of the segments.
+fn is_on_one(blocks: &Blocks<'_>, place: GridPoint) -> bool
+    ensures { result ≡ terms.holds_at blocks.now place }
 {
-    for k in 0..block_count(shape) {
-        if is_held(shape, k, place) {
+    for k in 0..blocks.count() {
+        if is_held(blocks, k, place) {
             return true;
         }
     }
     false
 }
 
-// How many segments of the block hold the place, up to three: none where its frame does not.
-fn count_held(shape: &Shape, k: usize, place: GridPoint) -> usize
-    requires { k < block_count (segments_of shape.now) }
-    ensures { result ≡ up_to_three (how_many (λ t. holds_place t place) (block_of k (segments_of shape.now))) }
+/// Whether one of the shape's segments holds the place.
+pub(crate) fn holds_at(shape: &Shape, place: GridPoint) -> bool
+    ensures { result ≡ terms.holds_at (segments_of shape.now) place }
 {
-    if block_frame(shape, k).holds_point(place) {
-        up_to_three(count_in(block(shape, k), place))
+    is_on_one(&Blocks::of(shape), place)
+}
+
+// How many segments of the block hold the place, up to three: none where its frame does not.
+fn count_held(blocks: &Blocks<'_>, k: usize, place: GridPoint) -> usize
+    requires { k < block_count blocks.now }
+    ensures { result ≡ up_to_three (how_many (λ t. holds_place t place) (block_of k blocks.now)) }
+{
+    if blocks.frame(k).holds_point(place) {
+        up_to_three(count_in(blocks.block(k), place))
     } else {
         0
     }
+}
+
+// How many of the segments hold the place, up to three.
+fn count_by_block(blocks: &Blocks<'_>, place: GridPoint) -> usize
+    ensures { result ≡ up_to_three (how_many (λ t. holds_place t place) blocks.now) }
+{
+    let mut count = 0;
+    for k in 0..blocks.count() {
+        count = up_to_three(count + count_held(blocks, k, place));
+    }
+    count
 }
 
 /// How many of the shape's segments hold the place, up to three.
@@ -52,11 +70,7 @@ pub(crate) fn count_on(shape: &Shape, place: GridPoint) -> usize
     if shape.frames().is_empty() {
         return up_to_three(count_in(shape.segs(), place));
     }
-    let mut count = 0;
-    for k in 0..block_count(shape) {
-        count = up_to_three(count + count_held(shape, k, place));
-    }
-    count
+    count_by_block(&Blocks::of(shape), place)
 }
 
 // Whether a segment in the frame may run below the place.
@@ -67,20 +81,20 @@ fn reaches_below(frame: &Rect, place: GridPoint) -> bool
 }
 
 // Whether an odd number of the block's segments run below the place.
-fn are_odd(shape: &Shape, k: usize, place: GridPoint) -> bool
-    requires { k < block_count (segments_of shape.now) }
-    ensures { result ≡ is_odd (how_many (λ s. counts s (point_at place)) (block_of k (segments_of shape.now))) }
+fn are_odd(blocks: &Blocks<'_>, k: usize, place: GridPoint) -> bool
+    requires { k < block_count blocks.now }
+    ensures { result ≡ is_odd (how_many (λ s. counts s (point_at place)) (block_of k blocks.now)) }
 {
-    reaches_below(&block_frame(shape, k), place) && are_odd_in(block(shape, k), place)
+    reaches_below(&blocks.frame(k), place) && are_odd_in(blocks.block(k), place)
 }
 
-// Whether an odd number of the shape's segments run below the place.
-fn are_odd_below(shape: &Shape, place: GridPoint) -> bool
-    ensures { result ≡ is_odd (how_many (λ s. counts s (point_at place)) (segments_of shape.now)) }
+// Whether an odd number of the segments run below the place.
+fn are_odd_below(blocks: &Blocks<'_>, place: GridPoint) -> bool
+    ensures { result ≡ is_odd (how_many (λ s. counts s (point_at place)) blocks.now) }
 {
     let mut odd = false;
-    for k in 0..block_count(shape) {
-        if are_odd(shape, k, place) {
+    for k in 0..blocks.count() {
+        if are_odd(blocks, k, place) {
             odd = !odd;
         }
     }
@@ -91,5 +105,6 @@ fn are_odd_below(shape: &Shape, place: GridPoint) -> bool
 pub(crate) fn is_inside_at(polygon: &Shape, place: GridPoint) -> bool
     ensures { result ≡ terms.is_inside_at (segments_of polygon.now) place }
 {
-    !holds_at(polygon, place) && are_odd_below(polygon, place)
+    let blocks = Blocks::of(polygon);
+    !is_on_one(&blocks, place) && are_odd_below(&blocks, place)
 }

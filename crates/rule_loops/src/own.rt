@@ -6,6 +6,7 @@ ghost use Rattle.topology_terms.specs.Cells as terms;
 ghost use Rattle.topology_terms.specs.Plans as plans;
 
 use crate::ahead::FEWEST;
+use crate::blocks::Blocks;
 use crate::crossings::later_crossings;
 use crate::off_ends::{OffEnds, Spared};
 use crate::own_line::crossings_by_block;
@@ -31,7 +32,7 @@ fn line_crossings(alloc: Global, off: &OffEnds<'_>, line: &Shape) -> Result<Cell
     if line.seg_count() < FEWEST {
         return later_crossings(alloc, off, line.lines(), line.segs());
     }
-    crossings_by_block(alloc, off, line.lines(), line)
+    crossings_by_block(alloc, off, line.lines(), &Blocks::of(line))
 }
 
 fn push_rings(

@@ -7,7 +7,7 @@ ghost use Rattle.rule_loops.specs.Ahead.{AreAhead, IsOff};
 ghost use Rattle.rule_loops.specs.Blocks.{left_from};
 
 use crate::ahead::{ahead_of, near_end};
-use crate::blocks::{block, block_count, block_frame, blocks_before, first_of, rest_of_block};
+use crate::blocks::{Blocks, first_of};
 use crate::shared::segment_law;
 use convex_cell::Cells;
 use grid_plane::{NoMemory, Rect, Seg};
@@ -50,76 +50,76 @@ pub(crate) fn push_row<C: Crossing>(
     Ok(())
 }
 
-// Puts last what a segment gives with the shape's from this block on, of which none from the number `end` on comes near.
+// Puts last what a segment gives with those from this block on, of which none from the number `end` on comes near.
 // Blocks that do not come near are passed over.
 fn push_blocks<C: Crossing>(
     alloc: Global,
     crossing: &C,
     cells: &mut Cells,
     segment: &Seg,
-    shape: &Shape,
+    blocks: &Blocks<'_>,
     first: usize,
     end: usize,
 ) -> Result<(), NoMemory>
-    requires { IsOff segment.now (drop end (segments_of shape.now)) }
-    ensures { OnOk result (cells.new ≡ cells.old ++ flat_map (C.crossing crossing.now segment.now) (left_from first (segments_of shape.now))) }
+    requires { IsOff segment.now (drop end blocks.now) }
+    ensures { OnOk result (cells.new ≡ cells.old ++ flat_map (C.crossing crossing.now segment.now) (left_from first blocks.now)) }
 {
     let own = segment.env();
-    for k in first..blocks_before(shape, end) {
-        if own.meets(&block_frame(shape, k)) {
-            push_row(alloc, crossing, cells, segment, block(shape, k))?;
+    for k in first..blocks.count_before(end) {
+        if own.meets(&blocks.frame(k)) {
+            push_row(alloc, crossing, cells, segment, blocks.block(k))?;
         }
     }
     Ok(())
 }
 
-// Puts last what a segment gives with each of the shape's.
-fn push_with_shape<C: Crossing>(
+// Puts last what a segment gives with each of these.
+fn push_with_all<C: Crossing>(
     alloc: Global,
     crossing: &C,
     cells: &mut Cells,
     segment: &Seg,
-    shape: &Shape,
+    blocks: &Blocks<'_>,
 ) -> Result<(), NoMemory>
-    ensures { OnOk result (cells.new ≡ cells.old ++ flat_map (C.crossing crossing.now segment.now) (segments_of shape.now)) }
+    ensures { OnOk result (cells.new ≡ cells.old ++ flat_map (C.crossing crossing.now segment.now) blocks.now) }
 {
-    push_blocks(alloc, crossing, cells, segment, shape, 0, shape.seg_count())
+    push_blocks(alloc, crossing, cells, segment, blocks, 0, blocks.len())
 }
 
-// Puts last what a segment gives with the shape's from this number on: those of the block begun, and block by block.
+// Puts last what a segment gives with those from this number on: those of the block begun, and block by block.
 // Looks no further than what is ahead comes near.
 pub(crate) fn push_later<C: Crossing>(
     alloc: Global,
     crossing: &C,
     cells: &mut Cells,
     segment: &Seg,
-    shape: &Shape,
+    blocks: &Blocks<'_>,
     ahead: &[Rect],
     from: usize,
 ) -> Result<(), NoMemory>
-    requires round { AreAhead ahead.now (segments_of shape.now) }
-    requires within { from ≤ length (segments_of shape.now) }
-    ensures { OnOk result (cells.new ≡ cells.old ++ flat_map (C.crossing crossing.now segment.now) (drop from (segments_of shape.now))) }
+    requires round { AreAhead ahead.now blocks.now }
+    requires within { from ≤ length blocks.now }
+    ensures { OnOk result (cells.new ≡ cells.old ++ flat_map (C.crossing crossing.now segment.now) (drop from blocks.now)) }
 {
     segment_law(segment);
-    let end = near_end(segment, shape.segs(), ahead, from);
-    let (rest, next) = rest_of_block(shape, from);
+    let end = near_end(segment, blocks.segments(), ahead, from);
+    let (rest, next) = blocks.rest_from(from);
     push_row(alloc, crossing, cells, segment, first_of(rest, end - from))?;
-    push_blocks(alloc, crossing, cells, segment, shape, next, end)
+    push_blocks(alloc, crossing, cells, segment, blocks, next, end)
 }
 
-// Puts last what each of these segments gives with each of the shape's.
+// Puts last what each of these segments gives with each of the others.
 fn push_rows<C: Crossing>(
     alloc: Global,
     crossing: &C,
     cells: &mut Cells,
     segments: &[Seg],
-    shape: &Shape,
+    others: &Blocks<'_>,
 ) -> Result<(), NoMemory>
-    ensures { OnOk result (cells.new ≡ cells.old ++ terms.each_pair (C.crossing crossing.now) segments.now (segments_of shape.now)) }
+    ensures { OnOk result (cells.new ≡ cells.old ++ terms.each_pair (C.crossing crossing.now) segments.now others.now) }
 {
     for segment in segments {
-        push_with_shape(alloc, crossing, cells, segment, shape)?;
+        push_with_all(alloc, crossing, cells, segment, others)?;
     }
     Ok(())
 }
@@ -134,11 +134,12 @@ pub fn each_pair<C: Crossing>(
     ensures { IfOk result (λ cells. cells ≡ terms.each_pair (C.crossing crossing.now) (segments_of shape.now) (segments_of other.now)) }
 {
     let mut cells = Cells::new(alloc);
-    let env = other.env();
-    other.simple_law();
-    for k in 0..block_count(shape) {
-        if block_frame(shape, k).meets(&env) {
-            push_rows(alloc, crossing, &mut cells, block(shape, k), other)?;
+    let blocks = Blocks::of(shape);
+    let others = Blocks::of(other);
+    let whole = others.whole();
+    for k in 0..blocks.count() {
+        if blocks.frame(k).meets(&whole) {
+            push_rows(alloc, crossing, &mut cells, blocks.block(k), &others)?;
         }
     }
     Ok(cells)
@@ -153,15 +154,16 @@ pub fn each_later<C: Crossing>(
     ensures { IfOk result (λ cells. cells ≡ terms.each_later (C.crossing crossing.now) (segments_of shape.now)) }
 {
     let mut cells = Cells::new(alloc);
-    let ahead = ahead_of(alloc, shape)?;
-    let segments = shape.segs();
+    let blocks = Blocks::of(shape);
+    let segments = blocks.segments();
+    let ahead = ahead_of(alloc, segments)?;
     for i in 0..segments.len() {
         push_later(
             alloc,
             crossing,
             &mut cells,
             &segments[i],
-            shape,
+            &blocks,
             &ahead,
             i + 1,
         )?;

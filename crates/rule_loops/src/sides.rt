@@ -1,15 +1,14 @@
 ghost use Rattle.std.specs.Prelude.{◌≡◌, IfOk};
-ghost use Rattle.plane_terms.specs.Shape.{segments_of};
 ghost use Rattle.topology_terms.specs.Cells.{uncovered, out_of_segments};
 ghost use Rattle.topology_terms.specs.Plans as plans;
 ghost use Rattle.rule_loops.specs.Views.{of_class, left_of_segment};
 
 use crate::alongside::{is_beside, is_covered_at_once};
-use crate::blocks::{block, block_count, block_frame};
+use crate::blocks::Blocks;
 use convex_cell::{Cell, Cells};
 use grid_plane::{NoMemory, Seg};
 use rule_core::View;
-use shape::{Feature, Shape};
+use shape::Feature;
 use std::alloc::Global;
 
 // What these segments leave of the cells of a segment. Stops where nothing is left.
@@ -34,14 +33,19 @@ fn off_segments(
 }
 
 // What a shape leaves of the cells of a segment. Blocks that do not come near are passed over.
-fn off_shape(alloc: Global, cells: Cells, segment: &Seg, shape: &Shape) -> Result<Cells, NoMemory>
-    ensures { IfOk result (λ left. left ≡ uncovered cells (out_of_segments segment.now (segments_of shape.now))) }
+fn off_shape(
+    alloc: Global,
+    cells: Cells,
+    segment: &Seg,
+    blocks: &Blocks<'_>,
+) -> Result<Cells, NoMemory>
+    ensures { IfOk result (λ left. left ≡ uncovered cells (out_of_segments segment.now blocks.now)) }
 {
     let mut left = cells;
     let own = segment.env();
-    for k in 0..block_count(shape) {
-        if own.meets(&block_frame(shape, k)) {
-            left = off_segments(alloc, left, segment, block(shape, k))?;
+    for k in 0..blocks.count() {
+        if own.meets(&blocks.frame(k)) {
+            left = off_segments(alloc, left, segment, blocks.block(k))?;
         }
     }
     Ok(left)
@@ -64,7 +68,7 @@ fn carved_segment(
         }
         let other = view.feature(i);
         if is_beside(class, segment, other) {
-            left = off_shape(alloc, left, segment, other.shape())?;
+            left = off_shape(alloc, left, segment, &Blocks::of(other.shape()))?;
         }
     }
     Ok(left)

@@ -6,7 +6,7 @@ ghost use Rattle.plane_terms.specs.Shape.{segments_of};
 ghost use Rattle.rule_loops.specs.Stacked.{highest, lowest, ends_below, ends_west, lies_left, lies_right, rises, lies_west, lies_east, no_column, no_row, is_under, is_before, frame_stands, are_ordered, AreStacked};
 ghost use Rattle.rule_loops.specs.Blocks.{block_count, block_of};
 
-use crate::blocks::{block, block_count, block_frame};
+use crate::blocks::Blocks;
 use grid_plane::{GridPoint, Rect, Seg};
 use shape::Shape;
 
@@ -186,32 +186,38 @@ fn frame_stands(order: Order, r: &Rect, q: &Rect) -> bool
 // compared, as long as some of so many looks are left.
 fn is_block_ordered(
     order: Order,
-    one: &Shape,
+    one: &Blocks<'_>,
     i: usize,
-    other: &Shape,
+    other: &Blocks<'_>,
     j: usize,
     looks: &mut usize,
 ) -> bool
-    requires own { i < block_count (segments_of one.now) }
-    requires others { j < block_count (segments_of other.now) }
-    ensures { OnTrue result (are_ordered order (block_of i (segments_of one.now)) (block_of j (segments_of other.now)) ≡ true) }
+    requires own { i < block_count one.now }
+    requires others { j < block_count other.now }
+    ensures { OnTrue result (are_ordered order (block_of i one.now) (block_of j other.now) ≡ true) }
 {
-    if frame_stands(order, &block_frame(one, i), &block_frame(other, j)) {
+    if frame_stands(order, &one.frame(i), &other.frame(j)) {
         return true;
     }
     if *looks == 0 {
         return false;
     }
     *looks -= 1;
-    are_ordered(order, block(one, i), block(other, j))
+    are_ordered(order, one.block(i), other.block(j))
 }
 
 // Whether each segment of the block is found to stand so to each of the other polygon.
-fn is_ordered_to_all(order: Order, one: &Shape, i: usize, other: &Shape, looks: &mut usize) -> bool
-    requires { i < block_count (segments_of one.now) }
-    ensures { OnTrue result (are_ordered order (block_of i (segments_of one.now)) (segments_of other.now) ≡ true) }
+fn is_ordered_to_all(
+    order: Order,
+    one: &Blocks<'_>,
+    i: usize,
+    other: &Blocks<'_>,
+    looks: &mut usize,
+) -> bool
+    requires { i < block_count one.now }
+    ensures { OnTrue result (are_ordered order (block_of i one.now) other.now ≡ true) }
 {
-    for j in 0..block_count(other) {
+    for j in 0..other.count() {
         if !is_block_ordered(order, one, i, other, j, looks) {
             return false;
         }
@@ -220,17 +226,17 @@ fn is_ordered_to_all(order: Order, one: &Shape, i: usize, other: &Shape, looks: 
 }
 
 // So many pairs of blocks may be compared segment by segment.
-fn looks_for(one: &Shape, other: &Shape) -> usize {
-    let blocks = block_count(one).saturating_add(block_count(other));
+fn looks_for(one: &Blocks<'_>, other: &Blocks<'_>) -> usize {
+    let blocks = one.count().saturating_add(other.count());
     LOOKS.saturating_mul(blocks)
 }
 
 // Whether each segment of the one polygon is found to stand so to each of the other.
-fn are_all_ordered(order: Order, one: &Shape, other: &Shape) -> bool
-    ensures { OnTrue result (are_ordered order (segments_of one.now) (segments_of other.now) ≡ true) }
+fn are_all_ordered(order: Order, one: &Blocks<'_>, other: &Blocks<'_>) -> bool
+    ensures { OnTrue result (are_ordered order one.now other.now ≡ true) }
 {
     let mut looks = looks_for(one, other);
-    for i in 0..block_count(one) {
+    for i in 0..one.count() {
         if !is_ordered_to_all(order, one, i, other, &mut looks) {
             return false;
         }
@@ -238,8 +244,8 @@ fn are_all_ordered(order: Order, one: &Shape, other: &Shape) -> bool
     true
 }
 
-fn are_ordered_either_way(order: Order, one: &Shape, other: &Shape) -> bool
-    ensures { OnTrue result (AreStacked (segments_of one.now) (segments_of other.now)) }
+fn are_ordered_either_way(order: Order, one: &Blocks<'_>, other: &Blocks<'_>) -> bool
+    ensures { OnTrue result (AreStacked one.now other.now) }
 {
     are_all_ordered(order, one, other) || are_all_ordered(order, other, one)
 }
@@ -249,6 +255,8 @@ fn are_ordered_either_way(order: Order, one: &Shape, other: &Shape) -> bool
 pub(crate) fn are_stacked(one: &Shape, other: &Shape) -> bool
     ensures { OnTrue result (AreStacked (segments_of one.now) (segments_of other.now)) }
 {
-    are_ordered_either_way(Order::Under, one, other)
-        || are_ordered_either_way(Order::Before, one, other)
+    let own = Blocks::of(one);
+    let others = Blocks::of(other);
+    are_ordered_either_way(Order::Under, &own, &others)
+        || are_ordered_either_way(Order::Before, &own, &others)
 }

@@ -1,5 +1,4 @@
 use Rattle.std.proofs.Common.{sym, ◌∙◌, ap}
-use Rattle.plane_terms.specs.Shape.{segments_of}
 use Rattle.rule_loops.specs.Blocks.{block_of}
 use Rattle.rule_loops.specs.Views.{up_to_three}
 use Rattle.rule_loops.proofs.Below.{none_counted}
@@ -7,5 +6,5 @@ use Rattle.rule_loops.proofs.blocks_at.count_held.Goals as goal
 
 pub returns-else-holds_point : goal.returns-else-holds_point
 returns-else-holds_point c =
-    sym (ap up_to_three (none_counted c.block_frame.result c.args.place (block_of c.args.k (segments_of c.args.shape.now)) c.block_frame.ensures
+    sym (ap up_to_three (none_counted c.frame.result c.args.place (block_of c.args.k c.args.blocks.now) c.frame.ensures
     (sym c.holds_point.ensures.value ∙ c.if-holds_point.false)))

@@ -1,6 +1,5 @@
-use Rattle.std.proofs.Common.{refl, sym}
+use Rattle.std.proofs.Common.{sym}
 use Rattle.plane_terms.specs.declared.kind.Kind.TheVariants as kind
-use Rattle.plane_terms.specs.Shape.{segments_of}
 use Rattle.shape.specs.Given.{rings_in}
 use Rattle.rule_loops.proofs.Parts.{line_rings_of, rings_segments}
 use Rattle.rule_loops.proofs.own.line_crossings.Goals as goal
@@ -19,7 +18,7 @@ pub crossings_by_block-requires : goal.crossings_by_block-requires
 crossings_by_block-requires c =
     let s = c.args.line.now in
     let parts = c.lines-2.result.now in
-    rings_segments s kind.Line (rings_in parts) (segments_of s) c.requires (line_rings_of s parts (c.lines-2.ensures.parts c.requires)) refl
+    rings_segments s kind.Line (rings_in parts) c.of.result c.requires (line_rings_of s parts (c.lines-2.ensures.parts c.requires)) c.of.ensures
 
 pub returns : goal.returns
 returns c = rw (sym (line_rings_of c.args.line.now c.lines-2.result.now (c.lines-2.ensures.parts c.requires))) at c.crossings_by_block.ensures

@@ -1,5 +1,5 @@
 use Rattle.std.proofs.Common.{sym, ◌∙◌, ap}
-use Rattle.plane_terms.specs.Shape.{Shape, segments_of}
+use Rattle.plane_terms.specs.Shape.{segments_of}
 use Rattle.topology_terms.specs.Cells.{uncovered, out_of_segments}
 use Rattle.rule_loops.proofs.More.{segment_more, segment_same, segment_none}
 use Rattle.rule_loops.proofs.sides.carved_segment.Goals.{then-is_beside+in_ok-left, else-is_beside}
@@ -19,7 +19,7 @@ loop-i-preserved c =
     elim c.if-is_beside.branch [
       | then-is_beside+in_ok-left w ↦
           w.left-is ∙ (w.in_ok-left.ensures
-          ∙ (ap (λ (h : Shape). uncovered c.loop-i.left (out_of_segments s (segments_of h))) w.shape.ensures
+          ∙ (ap (λ us. uncovered c.loop-i.left (out_of_segments s us)) (w.of.ensures ∙ ap segments_of w.shape.ensures)
           ∙ segment_more s n V i g c.loop-i.left c.feature-other.ensures
           (sym c.is_beside.ensures ∙ w.if-is_beside.true) c.loop-i.invariant))
       | else-is_beside w ↦ w.left-is ∙ segment_same s n V i g c.loop-i.left c.feature-other.ensures
