@@ -1,7 +1,6 @@
 -- The segments of a shape in blocks: how many there are, what is left from one on, and a block that does not come near.
 use Rattle.std.proofs.Common.{◌≡◌, ◌⊎◌, inl, inr, ℕ, max, min, ◌+◌, ◌*◌, ◌/◌, ◌<◌, ◌≤◌, Bool, true, false, List, [], ◌∷◌, ◌++◌, refl, sym, ◌∙◌, ap, cond, take, drop, length, arith, add-one, append-nil, append_assoc, subst}
 use Rattle.std.specs.Prelude.{flat_map, nat_lt, ◌==◌}
-use Rattle.std.specs.Int.{div_ceil}
 use Rattle.std.proofs.Math.Nat.{mul-suc, mul-zero}
 use Rattle.std.proofs.lemmas.Bool.{false≢true}
 use Rattle.std.proofs.lemmas.Grind.{flat_map-append}

@@ -1,7 +1,7 @@
 -- The segments of a shape from one on: those that are left of its block, and of its part.
 use Rattle.std.proofs.Common.{◌≡◌, ℕ, suc, ◌+◌, ◌-◌, ◌*◌, ◌/◌, ◌%◌, ◌<◌, ◌≤◌, List, [], ◌∷◌, ◌++◌, sym, ◌∙◌, ap, cond, take, drop, length, get_or, append-nil, append_assoc, subst, arith}
 use Rattle.std.specs.Prelude.{flat_map, Result, Ok, Err, OnOk}
-use Rattle.std.proofs.lemmas.List.{take-append-drop, drop-drop, drop_all, length-drop}
+use Rattle.std.proofs.lemmas.List.{take-append-drop, drop-drop, length-drop}
 use Rattle.std.proofs.lemmas.Grind.{flat_map-append}
 use Rattle.plane_terms.specs.Point.{Place}
 use Rattle.plane_terms.specs.Segment.{Segment, overlap}
