@@ -1,17 +1,18 @@
 -- A view of what is at the ends of a line.
-use Rattle.std.proofs.Common.{◌≡◌, ◌≢◌, ◌∙◌, inl, inr, ℕ, ◌<◌, Bool, true, false, arith, refl, sym, ap, List, [], ◌∷◌, ◌++◌, length, Option, Some, None, Contains}
+use Rattle.std.proofs.Common.{◌≡◌, ◌≢◌, ◌↔◌, ◌∙◌, inl, inr, ℕ, ◌<◌, Bool, true, false, arith, refl, sym, ap, List, [], ◌∷◌, ◌++◌, length, Option, Some, None, Contains}
 use Rattle.std.specs.Prelude.{◌||◌, slice_get, is_some, IfSome, if◌then◌else◌}
 use Rattle.std.specs.Option.{option_map_or}
 use Rattle.std.specs.List.{filter, list_any}
 use Rattle.std.specs.List.Sorted.{IsStrictlyIncreasing}
 use Rattle.std.proofs.lemmas.Option.{get_or_from_slice_get}
+use Rattle.std.proofs.lemmas.List.Elements.{Contains-append_left, Contains-append_right}
 use Rattle.plane_terms.specs.Lists.{Every, SomeOf}
 use Rattle.plane_terms.specs.Point.{Place, point_at}
 use Rattle.plane_terms.specs.Rectangle.{RectHolds, rect_at, is_within, rects_meet}
 use Rattle.plane_terms.proofs.ListLemmas.{every_map, contains_among, IsAmong}
 use Rattle.topology_terms.specs.Feature.{Feature, feature_at, env, IsAscending}
 use Rattle.topology_terms.specs.Together.{ends}
-use Rattle.sound_laws.proofs.FeatureLists.{of_filter, ascending_filter, kept_at, handle_of as number_of}
+use Rattle.sound_laws.proofs.FeatureLists.{of_filter, ascending_filter, kept_at, none_below, handle_of as number_of}
 use Rattle.sound_laws.proofs.Meetings.{envelope_proper, meets_from_test}
 use Rattle.grid_index.specs.Near.{IsMet, handle_of}
 use Rattle.grid_index.specs.declared.placed.Placed.{Placed}
@@ -60,6 +61,12 @@ open_two test (p ∷ (q ∷ [])) (Some s) (Some t) l h k =
     both : (a b : Bool) → (a || b) ≡ (a || (b || false))
     both a b = grind arith
 
+pub or_some : (a b : Bool) → a ≡ true → a ≡ (a || b)
+or_some a b e = rw e refl
+
+pub or_none : (a b : Bool) → a ≡ false → b ≡ (a || b)
+or_none a b e = rw e refl
+
 -- what is at hand says which are open
 pub open_same : (qs : List Place) (x y a b : Bool) → (length qs ≡ 2 → 0 < 2 → x ≡ a) → (length qs ≡ 2 → 1 < 2 → y ≡ b)
     → open_of qs x y ≡ open_of qs a b
@@ -82,6 +89,15 @@ live_at F ns h g v e = elim (among_or_not h ns) [
 live_here : (F : List Feature) (ns : List ℕ) (h : ℕ) (g : Feature) → IsStrictlyIncreasing ns → feature_at F h ≡ Some g → Contains ns h
     → feature_at (live_of F ns) h ≡ Some g
 live_here F ns h g v e c = live_has F ns h (rising ns v) (among h ns c) ∙ e
+
+-- the handles that were found, the subject's, and the known ones
+pub put_together : (found ns known : List ℕ) (m : ℕ) → ((h : ℕ) → Contains ns h ↔ Contains ((found ++ m ∷ []) ++ known) h)
+    → ((h : ℕ) → Contains found h → Contains ns h) × Contains ns m × ((h : ℕ) → Contains known h → Contains ns h)
+put_together found ns known m same = (
+  λ h c. (same h).1 (Contains-append_left (found ++ m ∷ []) known h (Contains-append_left found (m ∷ []) h c)),
+  (same m).1 (Contains-append_left (found ++ m ∷ []) known m (Contains-append_right found (m ∷ []) m (0, omega arith, refl))),
+  λ h c. (same h).1 (Contains-append_right (found ++ m ∷ []) known h c),
+)
 
 -- each of the places is one of them
 pub each_some : {A B : Type 0} (H : A → B → Type 0) (qs : List A) → Every (λ q. (g : B) → H q g → SomeOf (λ r. H r g) qs) qs
@@ -113,11 +129,11 @@ module _ (F V : List Feature) (f : Feature) (u : IsAscending F) (live : feature_
     forth = λ h g k.
         let y = of_filter (at_end f) F h g u (rw e at k) in
         (y.0, meets_from_test (env f) (env g) (envelope_proper f.shape) (envelope_proper g.shape) (meets g y.1));
-    open =
+    at_open =
         every_map (λ q. (g : Feature) → RectHolds (env g) (point_at q) → HoldsEnd f g) (AreShown f F V)
         (λ q k h g i m. rw e (kept_at (at_end f) F h g i ((any_held_test (ends f) g).1 (k g m)))) (ends f)
         (each_some (λ (q : Place) (g : Feature). RectHolds (env g) (point_at q)) (ends f));
-    known = λ h g k m. absurd cc;
+    known = λ h g k m. let x : None ≡ Some g = sym (none_below h [] tt) ∙ k in cc;
     subject = rw e (kept_at (at_end f) F f.handle f live own);
     ascending = rw e (ascending_filter (at_end f) F u);
   }
@@ -131,7 +147,7 @@ module _ (F V : List Feature) (f : Feature) (u : IsAscending F) (live : feature_
     forth = λ h g k.
         let y = of_filter (at_end f) (live_of F ns) h g (live_ascends F ns (rising ns v)) (rw e at k) in
         ((live_at F ns h g v y.0).0, meets_from_test (env f) (env g) (envelope_proper f.shape) (envelope_proper g.shape) (meets g y.1));
-    open =
+    at_open =
         every_map (λ q. (g : Feature) → RectHolds (env g) (point_at q) → SomeOf (λ r. RectHolds (env g) (point_at r)) (open_of (ends f) a b))
         (AreShown f F V)
         (λ q k h g i m.

@@ -55,8 +55,8 @@ module _ (rules : List InForce) (F V K : List Feature) (f : Feature) (u : IsAsce
       le_more (enough_of row.kind) (how_many test K) (how_many test V)
       (fewer_pass test K V u v (λ h g e w. known h g e (m g (counts_held row g q w)))) t
 
-  shown_at : (q : Place) → ((g : Feature) → RectHolds (env g) (point_at q) → HoldsEnd f g) → (open : Bool)
-      → open ≡ list_any (lacks_at f K q) rules → (open ≡ true → AreShown f F V q)
+  shown_at : (q : Place) → ((g : Feature) → RectHolds (env g) (point_at q) → HoldsEnd f g) → (left : Bool)
+      → left ≡ list_any (lacks_at f K q) rules → (left ≡ true → AreShown f F V q)
       → Every (λ (r : InForce). judged r.row f ≡ true → IsShownAt r.row F V q) rules
   shown_at q m true e all = every_of_all (λ (r : InForce). judged r.row f ≡ true → IsShownAt r.row F V q) (λ r j. inr (all refl)) rules
   shown_at q m false e all = closed rules (sym e)
@@ -87,14 +87,15 @@ pub beside_shown : (rules : List InForce) (F V K : List Feature) (f : Feature) (
     → a ≡ list_any (lacks_at f K p) rules → b ≡ list_any (lacks_at f K q) rules → AreAtEnds F f K (open_of (ends f) a b) V
     → AreShownAtEnds rules F f V
 beside_shown rules F V K f a b p q two u x y v =
-    let open : Every (AreShown f F V) (open_of (p ∷ q ∷ []) a b) = rw two at v.open in
-    let held : Every (λ s. (g : Feature) → RectHolds (env g) (point_at s) → HoldsEnd f g) (p ∷ q ∷ []) =
-    rw two at (each_some (λ (s : Place) (g : Feature). RectHolds (env g) (point_at s)) (ends f)) in
+    let all = subst (λ qs. Every (AreShown f F V) (open_of qs a b)) two v.at_open in
+    let held = subst (Every (λ s. (g : Feature) → RectHolds (env g) (point_at s) → HoldsEnd f g)) two
+    (each_some (λ (s : Place) (g : Feature). RectHolds (env g) (point_at s)) (ends f)) in
     record {
       forth = v.forth;
-      at_ends = rw two (both_ends (λ r. IsShownAt r.row F V p) (λ r. IsShownAt r.row F V q) (λ r. judged r.row f ≡ true) rules
-          (shown_at rules F V K f u v.ascending v.known p held.0 a x (first_open (AreShown f F V) p q a b open))
-          (shown_at rules F V K f u v.ascending v.known q held.1.0 b y (last_open (AreShown f F V) p q a b open)));
+      at_ends = subst (λ qs. Every (λ (r : InForce). judged r.row f ≡ true → Every (IsShownAt r.row F V) qs) rules) (sym two)
+          (both_ends (λ r. IsShownAt r.row F V p) (λ r. IsShownAt r.row F V q) (λ r. judged r.row f ≡ true) rules
+          (shown_at rules F V K f u v.ascending v.known p held.0 a x (first_open (AreShown f F V) p q a b all))
+          (shown_at rules F V K f u v.ascending v.known q held.1.0 b y (last_open (AreShown f F V) p q a b all)));
       subject = v.subject;
       ascending = v.ascending;
     }
@@ -114,7 +115,7 @@ pub open_shown : (rules : List InForce) (F V : List Feature) (f : Feature) → A
 open_shown rules F V f v = record {
   forth = v.forth;
   at_ends = every_of_all (λ (r : InForce). judged r.row f ≡ true → Every (IsShownAt r.row F V) (ends f))
-      (λ r j. every_map (AreShown f F V) (IsShownAt r.row F V) (λ q k. inr k) (ends f) v.open) rules;
+      (λ r j. every_map (AreShown f F V) (IsShownAt r.row F V) (λ q k. inr k) (ends f) v.at_open) rules;
   subject = v.subject;
   ascending = v.ascending;
 }

@@ -1,5 +1,6 @@
 -- The features whose handles an index gives for rectangles, and which of them meet one.
 use Rattle.std.proofs.Common.{◌≡◌, ◌↔◌, inl, inr, ℕ, ◌<◌, ◌+◌, Bool, true, false, List, [], ◌∷◌, ◌++◌, Option, Some, None, cond, refl, sym, ◌∙◌, ap, subst, arith, take, length, get_or, Contains}
+use Rattle.std.specs.Prelude.{IsSomeAnd, IfSome}
 use Rattle.std.specs.Option.{option_to_list}
 use Rattle.std.specs.List.{filter}
 use Rattle.std.specs.List.Sorted.{IsPermutation, IsStrictlyIncreasing}
@@ -9,8 +10,8 @@ use Rattle.std.proofs.lemmas.List.{take_more, append-nil}
 use Rattle.std.proofs.lemmas.List.Elements.{recursion_from_All, filter-append, Contains-append_left, Contains-append_right}
 use Rattle.std.proofs.lemmas.List.Sorted.{Contains-permutation}
 use Rattle.std.proofs.lemmas.Grind.{flat_map-append}
-use Rattle.plane_terms.specs.Lists.{Every, SomeOf, IsThose}
-use Rattle.plane_terms.proofs.ListLemmas.{SomeOf-either, every_append, every_map, every_filter}
+use Rattle.plane_terms.specs.Lists.{Every, SomeOf, IsThose, how_many}
+use Rattle.plane_terms.proofs.ListLemmas.{SomeOf-either, every_append, every_map, every_filter, how_many_joined}
 use Rattle.plane_terms.specs.Rectangle.{Rectangle, IsWithin, rects_meet}
 use Rattle.topology_terms.specs.Feature.{Feature, feature_at, env, IsAscending}
 use Rattle.sound_laws.proofs.FeatureLists.{each_live, handle_of}
@@ -125,6 +126,22 @@ live_more F ns i a o l e k =
     let one : ℕ → List Feature = λ n. option_to_list (feature_at F n) in
     let more : take (i + 1) ns ≡ take i ns ++ a ∷ [] = take_more ns i a l ∙ ap (λ y. take i ns ++ y ∷ []) (sym e) in
     rw (more, flat_map-append one (take i ns) (a ∷ []), k) (ap (λ l. live_of F (take i ns) ++ l) (append-nil (option_to_list o)))
+
+-- how many pass, one handle more
+pub one_counts : (test : Feature → Bool) (o : Option Feature) → IsSomeAnd o (λ g. test g ≡ true) → 1 ≡ how_many test (option_to_list o)
+one_counts test None h = absurd h
+one_counts test (Some f) h = rw h refl
+
+pub none_counts : (test : Feature → Bool) (o : Option Feature) → IfSome o (λ g. test g ≡ false) → 0 ≡ how_many test (option_to_list o)
+none_counts test None h = refl
+none_counts test (Some f) h = rw h refl
+
+pub counted_more : (test : Feature → Bool) (F : List Feature) (ns : List ℕ) (i a n k new : ℕ) → i < length ns → a ≡ get_or ns i a
+    → n ≡ how_many test (live_of F (take i ns)) → k ≡ how_many test (option_to_list (feature_at F a)) → new ≡ n + k
+    → new ≡ how_many test (live_of F (take (i + 1) ns))
+counted_more test F ns i a n k new l e before one grown =
+    let sum = how_many_joined test (live_of F (take i ns)) (option_to_list (feature_at F a)) in
+    rw (live_more F ns i a (feature_at F a) l e refl) (omega (arith, sum, before, one, grown))
 
 -- those that pass, one handle more
 pub seen_more : (test : Feature → Bool) (F V new : List Feature) (ns : List ℕ) (i a : ℕ) (more : List Feature) → i < length ns

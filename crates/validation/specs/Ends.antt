@@ -3,7 +3,7 @@
 -- looks_beyond f q      the test whether the rule judges the feature, and by more than what is at its ends
 -- shows_at_ends rules f the test whether the feature has ends, and none of the rules looks beyond them
 -- lacks_at f hs q r     the test whether the rule judges the feature, and has not enough of the features hs at the place
--- AreAtEnds F f K o V   V has, ascending by handle, f, of the features F all whose envelope holds one of the places o, and of the known
+-- AreAtEnds F f K os V  V has, ascending by handle, f, of the features F all whose envelope holds one of the places os, and of the known
 --                       ones K those whose envelope holds an end of f; and no feature of F besides but such whose envelope meets that of f
 -- AreShownAtEnds rules F f V    V has, ascending by handle, what is to be shown at each end of f to each of the rules that judge it, and f
 --                       itself, and no feature of F besides but such whose envelope meets that of f
@@ -28,9 +28,9 @@ shows_at_ends rules f = nat_lt 0 (length (ends f)) && not (list_any (looks_beyon
 abbrev pub lacks_at : Feature → List Feature → Place → InForce → Bool
 lacks_at f hs q r = judged r.row f && not (has_enough r.row hs q)
 
-pub record AreAtEnds (F : List Feature) (f : Feature) (K : List Feature) (open : List Place) (V : List Feature) : Type 0 where
+pub record AreAtEnds (F : List Feature) (f : Feature) (K : List Feature) (os : List Place) (V : List Feature) : Type 0 where
   pub forth : (h : ℕ) (g : Feature) → feature_at V h ≡ Some g → (feature_at F h ≡ Some g) × RectsMeet (env f) (env g)
-  pub open : Every (λ (q : Place). (h : ℕ) (g : Feature) → feature_at F h ≡ Some g → RectHolds (env g) (point_at q) → feature_at V h ≡ Some g) open
+  pub at_open : Every (λ (q : Place). (h : ℕ) (g : Feature) → feature_at F h ≡ Some g → RectHolds (env g) (point_at q) → feature_at V h ≡ Some g) os
   pub known : (h : ℕ) (g : Feature) → feature_at K h ≡ Some g → HoldsEnd f g → feature_at V h ≡ Some g
   pub subject : feature_at V f.handle ≡ Some f
   pub ascending : IsAscending V

@@ -55,11 +55,11 @@ fn is_in(end: Option<GridPoint>, r: &Rect) -> bool
 }
 
 // The end of this number, if it is open and the line has two.
-fn end_if(line: &Shape, i: usize, open: bool) -> Option<GridPoint>
-    ensures open { length (ends_of line.now) ≡ 2 → i < 2 → is_some result ≡ open }
+fn end_if(line: &Shape, i: usize, is_open: bool) -> Option<GridPoint>
+    ensures there { length (ends_of line.now) ≡ 2 → i < 2 → is_some result ≡ is_open }
     ensures end { IfSome result (λ q. slice_get (ends_of line.now) i ≡ Some q) }
 {
-    if open && i < line.end_count() {
+    if is_open && i < line.end_count() {
         return Some(line.end(i));
     }
     None
@@ -68,15 +68,15 @@ fn end_if(line: &Shape, i: usize, open: bool) -> Option<GridPoint>
 impl<'a> LineEnds<'a> {
     /// The ends of this line.
     pub(crate) fn of(line: &'a Shape) -> LineEnds<'a>
-        ensures open { open_ends result ≡ ends_of line.now }
+        ensures ends { open_ends result ≡ ends_of line.now }
         ensures line { result.line ≡ line.now }
     {
-        LineEnds::open(line, true, true)
+        LineEnds::with_open(line, true, true)
     }
 
     /// The ends of this line; where it has two, the first and the last if these say so.
-    pub(crate) fn open(line: &'a Shape, first: bool, last: bool) -> LineEnds<'a>
-        ensures open { open_ends result ≡ open_ends (record { line = line.now; first = first; last = last }) }
+    pub(crate) fn with_open(line: &'a Shape, first: bool, last: bool) -> LineEnds<'a>
+        ensures ends { open_ends result ≡ open_ends (record { line = line.now; first = first; last = last }) }
         ensures line { result.line ≡ line.now }
     {
         LineEnds {

@@ -205,8 +205,8 @@ impl<'a> FeatureIndex<'a> {
         ensures rises { M.taken meter.old ≤ M.taken meter.new }
         ensures steps { (s : ℕ) → M.taken meter.new ≤ M.taken meter.old + most_steps s (env f.now) self.now.placed }
     {
-        let open = LineEnds::open(f.shape(), first, last);
-        let mut handles = self.index.query_about(alloc, &open, meter)?;
+        let aim = LineEnds::with_open(f.shape(), first, last);
+        let mut handles = self.index.query_about(alloc, &aim, meter)?;
         handles.push(f.handle())?;
         handles.extend_from_slice(known)?;
         once_each(alloc, &mut handles)?;

@@ -1,25 +1,34 @@
-use Rattle.std.proofs.Common.{sym, ◌∙◌, arith, length}
-use Rattle.std.specs.Prelude.{◌-◌}
+use Rattle.std.proofs.Common.{◌≡◌, ◌≢◌, ◌∙◌, sym, ap, false, arith, length}
+use Rattle.std.specs.Prelude.{is_some}
+use Rattle.std.specs.Option.{option_map_or}
 use Rattle.plane_terms.specs.Point.{Place}
 use Rattle.plane_terms.specs.Rectangle.{rect_at, is_within}
 use Rattle.plane_terms.specs.Shape.{ends_of}
-use Rattle.rule_laws.proofs.Tests.{any_there}
-use Rattle.validation.proofs.AtEnds.{first_of_two, not_over}
+use Rattle.validation_laws.specs.Views.{holds_any}
+use Rattle.validation.proofs.AtEnds.{open_all, open_two, or_some, or_none}
 use Rattle.validation.proofs.ends.LineEndsAim.touches.Goals as goal
 
-pub returns-then-holds_point : goal.returns-then-holds_point
-returns-then-holds_point c = sym (any_there (λ (q : Place). is_within (rect_at q) c.args.r.now) (ends_of c.args.self.now) 0 c.self.inside.first
-    (rw c.self.view_is at c.self.invariant.0) (sym c.holds_point.ensures.value ∙ c.if-holds_point.true))
+pub returns-then-end_count-ne2 : goal.returns-then-end_count-ne2
+returns-then-end_count-ne2 c =
+    let qs = ends_of c.self.inside.line.now in
+    let n : length qs ≢ 2 = λ e. omega (arith, e, c.end_count.ensures, c.if-end_count-ne2.true) in
+    rw (← c.self.view_is) (c.has_end_in.ensures
+    ∙ ap (λ q. holds_any q c.args.r.now) (sym (open_all qs (is_some c.self.inside.first) (is_some c.self.inside.last) n)))
 
-pub returns-then-holds_point-2 : goal.returns-then-holds_point-2
-returns-then-holds_point-2 c = sym (any_there (λ (q : Place). is_within (rect_at q) c.args.r.now) (ends_of c.args.self.now)
-    (length (ends_of c.args.self.now) - 1) c.self.inside.last (rw c.self.view_is at c.self.invariant.1)
-    (sym c.holds_point-2.ensures.value ∙ c.if-holds_point-2.true))
+pub returns-then-is_in : goal.returns-then-is_in
+returns-then-is_in c =
+    let test = λ (q : Place). is_within (rect_at q) c.args.r.now in
+    let a = option_map_or test c.self.inside.first false in
+    let b = option_map_or test c.self.inside.last false in
+    let two : length (ends_of c.self.inside.line.now) ≡ 2 = omega (arith, c.end_count.ensures, c.if-end_count-ne2.false) in
+    rw (← c.self.view_is) (c.is_in.ensures ∙ (or_some a b (sym c.is_in.ensures ∙ c.if-is_in.true)
+    ∙ open_two test (ends_of c.self.inside.line.now) c.self.inside.first c.self.inside.last two c.self.invariant.0 c.self.invariant.1))
 
-pub returns-else-end_count-gt2 : goal.returns-else-end_count-gt2
-returns-else-end_count-gt2 c =
-    let few = rw c.self.view_is at c.end_count.ensures in
-    not_over c.end_count.result c.if-end_count-gt2.false
-    ∙ sym (first_of_two (λ (q : Place). is_within (rect_at q) c.args.r.now) (ends_of c.args.self.now) c.self.inside.first c.self.inside.last
-    (rw c.self.view_is at c.self.invariant.0) (rw c.self.view_is at c.self.invariant.1) (omega (arith, few, c.if-end_count-gt2.false))
-    (sym c.holds_point.ensures.value ∙ c.if-holds_point.false) (sym c.holds_point-2.ensures.value ∙ c.if-holds_point-2.false))
+pub returns-else-is_in : goal.returns-else-is_in
+returns-else-is_in c =
+    let test = λ (q : Place). is_within (rect_at q) c.args.r.now in
+    let a = option_map_or test c.self.inside.first false in
+    let b = option_map_or test c.self.inside.last false in
+    let two : length (ends_of c.self.inside.line.now) ≡ 2 = omega (arith, c.end_count.ensures, c.if-end_count-ne2.false) in
+    rw (← c.self.view_is) (c.is_in-else-is_in.ensures ∙ (or_none a b (sym c.is_in.ensures ∙ c.if-is_in.false)
+    ∙ open_two test (ends_of c.self.inside.line.now) c.self.inside.first c.self.inside.last two c.self.invariant.0 c.self.invariant.1))
