@@ -5,9 +5,8 @@ ghost use Rattle.topology_terms.specs.Plans as plans;
 ghost use Rattle.rule_loops.specs.Views.{of_class};
 
 use crate::blocks_at::{holds_at, is_inside_at};
-use crate::places::has_end_at;
 use grid_plane::GridPoint;
-use rule_core::View;
+use rule_core::{View, has_end_at};
 use shape::Feature;
 
 /// A test of a feature at a place of the grid.

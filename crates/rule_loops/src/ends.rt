@@ -4,9 +4,9 @@ ghost use Rattle.plane_terms.specs.Shape.{ends_of};
 ghost use Rattle.topology_terms.specs.Cells.{on_both};
 ghost use Rattle.topology_terms.specs.Tests as tests;
 
-use crate::places::has_end_at;
 use crate::shared::is_on_both;
 use grid_plane::{GridPoint, NoMemory, Seg};
+use rule_core::has_end_at;
 use shape::Shape;
 use std::alloc::Global;
 

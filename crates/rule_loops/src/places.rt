@@ -80,18 +80,6 @@ pub(crate) fn is_among(places: &[GridPoint], place: GridPoint) -> bool
     places.iter().any(|other| is_same(place, *other))
 }
 
-/// Whether the place is an end of the line.
-pub(crate) fn has_end_at(line: &Shape, place: GridPoint) -> bool
-    ensures { result ≡ terms.has_end_at (planes.ends_of line.now) place }
-{
-    for i in 0..line.end_count() {
-        if is_same(place, line.end(i)) {
-            return true;
-        }
-    }
-    false
-}
-
 /// How many of the line's ends are at the place; one that is there twice counts twice.
 pub(crate) fn count_ends(line: &Shape, place: GridPoint) -> usize
     ensures { result ≡ how_many (same_place place) (planes.ends_of line.now) }
