@@ -1,6 +1,6 @@
 -- A view of what is at the ends of a line.
-use Rattle.std.proofs.Common.{◌≡◌, ◌≢◌, ◌↔◌, ◌∙◌, inl, inr, ℕ, ◌<◌, Bool, true, false, arith, refl, sym, ap, List, [], ◌∷◌, ◌++◌, length, Option, Some, None, Contains}
-use Rattle.std.specs.Prelude.{◌||◌, slice_get, is_some, IfSome, if◌then◌else◌}
+use Rattle.std.proofs.Common.{◌≡◌, ◌≢◌, ◌↔◌, ◌∙◌, inl, inr, ℕ, ◌<◌, Bool, true, false, arith, refl, sym, List, [], ◌∷◌, ◌++◌, length, Option, Some, None, Contains}
+use Rattle.std.specs.Prelude.{◌||◌, slice_get, is_some, IfSome}
 use Rattle.std.specs.Option.{option_map_or}
 use Rattle.std.specs.List.{filter, list_any}
 use Rattle.std.specs.List.Sorted.{IsStrictlyIncreasing}
@@ -9,7 +9,7 @@ use Rattle.std.proofs.lemmas.List.Elements.{Contains-append_left, Contains-appen
 use Rattle.plane_terms.specs.Lists.{Every, SomeOf}
 use Rattle.plane_terms.specs.Point.{Place, point_at}
 use Rattle.plane_terms.specs.Rectangle.{RectHolds, rect_at, is_within, rects_meet}
-use Rattle.plane_terms.proofs.ListLemmas.{every_map, contains_among, IsAmong}
+use Rattle.plane_terms.proofs.ListLemmas.{every_map, contains_among}
 use Rattle.topology_terms.specs.Feature.{Feature, feature_at, env, IsAscending}
 use Rattle.topology_terms.specs.Together.{ends}
 use Rattle.sound_laws.proofs.FeatureLists.{of_filter, ascending_filter, kept_at, none_below, handle_of as number_of}
@@ -151,9 +151,9 @@ module _ (F V : List Feature) (f : Feature) (u : IsAscending F) (live : feature_
         every_map (λ q. (g : Feature) → RectHolds (env g) (point_at q) → SomeOf (λ r. RectHolds (env g) (point_at r)) (open_of (ends f) a b))
         (AreShown f F V)
         (λ q k h g i m.
-            let t = (any_held_test (open_of (ends f) a b) g).1 (k g m) in
-            let c = met h (placed_of g, placed h g i, number_of F h g i, t) in
-            shown h g i c (open_any (λ (r : Place). is_within (rect_at r) (env g)) (ends f) a b t))
+        let t = (any_held_test (open_of (ends f) a b) g).1 (k g m) in
+        let c = met h (placed_of g, placed h g i, number_of F h g i, t) in
+        shown h g i c (open_any (λ (r : Place). is_within (rect_at r) (env g)) (ends f) a b t))
         (open_of (ends f) a b) (each_some (λ (q : Place) (g : Feature). RectHolds (env g) (point_at q)) (open_of (ends f) a b));
     known = λ h g k m. let y = live_at F known h g w k in shown h g y.0 (more h y.1) ((any_held_test (ends f) g).1 m);
     subject = shown f.handle f live mine own;

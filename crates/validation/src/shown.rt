@@ -61,9 +61,7 @@ fn is_open(
     requires { IsAscending features.now.features }
     ensures { result ≡ list_any (λ (p : terms.RulePart). lacks_at f.now (live_of features.now.features handles.now) place p.rule) parts.now }
 {
-    parts
-        .iter()
-        .any(|p| p.judges(f) && !features.are_enough(p.row(), handles, place))
+    parts.iter().any(|p| p.judges(f) && !features.are_enough(p.row(), handles, place))
 }
 
 // What is at the ends of the line, where these handles are known there: of an end at which they are enough for each rule no more.

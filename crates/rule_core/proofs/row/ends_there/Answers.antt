@@ -1,7 +1,7 @@
 use Rattle.std.proofs.Common.{◌≡◌, refl, sym, ◌∙◌, Bool, false, List}
 use Rattle.std.specs.Prelude.{◌&&◌}
 use Rattle.plane_terms.specs.Point.{Place}
-use Rattle.plane_terms.specs.Shape.{Shape, ends_of, ends_by, rings_of, segments_of}
+use Rattle.plane_terms.specs.Shape.{ends_by, rings_of, segments_of}
 use Rattle.plane_terms.specs.declared.kind.Kind.{Kind}
 use Rattle.plane_terms.specs.declared.kind.Kind.TheVariants as shapes
 use Rattle.topology_terms.specs.Tests.{has_end_at, holds_at}

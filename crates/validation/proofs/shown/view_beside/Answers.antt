@@ -19,7 +19,10 @@ returns-clause-view g c =
     let p = c.end.result in
     let q = c.end-2.result in
     let two = two_of (ends f) p q c.requires.two (rw c.shape.ensures at c.end.ensures) (rw c.shape-2.ensures at c.end-2.ensures) in
-    IfOk-weaker c.view_at_open_ends.result _ (λ v. IsShownFor (rules_of ps) F f v) (λ v h. inr (c.requires.at_ends, beside_shown (rules_of ps) F v
-    K f c.is_open-first.result c.is_open-last.result p q two (live_ascends F known (rising known c.requires.known))
-    (c.is_open-first.ensures ∙ sym (any_rule (lacks_at f K p) ps)) (c.is_open-last.ensures ∙ sym (any_rule (lacks_at f K q) ps)) h))
+    IfOk-weaker c.view_at_open_ends.result _ (λ v. IsShownFor (rules_of ps) F f v) (λ v h. inr (
+      c.requires.at_ends,
+      beside_shown (rules_of ps) F v
+          K f c.is_open-first.result c.is_open-last.result p q two (live_ascends F known (rising known c.requires.known))
+          (c.is_open-first.ensures ∙ sym (any_rule (lacks_at f K p) ps)) (c.is_open-last.ensures ∙ sym (any_rule (lacks_at f K q) ps)) h,
+    ))
     c.view_at_open_ends.ensures.view
