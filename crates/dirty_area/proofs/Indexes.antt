@@ -4,6 +4,7 @@ use Rattle.std.specs.Prelude.{◌↔◌, IfSome, IfOk}
 use Rattle.std.specs.Result.{result_ok}
 use Rattle.std.specs.List.{list_any, filter}
 use Rattle.std.proofs.lemmas.Bool.{and_parts, and_from, or_cases, not-true, not_from_false, false≢true}
+use Rattle.std.proofs.lemmas.Bool.Decides.{Decides-and, Decides-int_eq}
 use Rattle.std.proofs.lemmas.Int.{ints}
 use Rattle.std.proofs.lemmas.List.{take_more, get_or-set_same, get_or-set_other}
 use Rattle.std.proofs.lemmas.List.Elements.{Contains-append_left, Contains-append_right, Contains-append_cases, Contains-push, Contains-push_cases}
@@ -312,18 +313,17 @@ some_dropped xss k xs f ps qs l is loses indexed = block_set xss k (filter (λ s
 -- ---- whether a list has a rectangle
 is_one : (s t : Rectangle) → is_same s t ≡ true → s ≡ t
 is_one s t e =
-    let a = and_parts (is_within s t) (is_within t s) e in
-    let i = within_from_test s t a.0 in
-    let j = within_from_test t s a.1 in
-    let x0 : s.x0 ≡ t.x0 = omega (arith, ints) in
-    let y0 : s.y0 ≡ t.y0 = omega (arith, ints) in
-    let x1 : s.x1 ≡ t.x1 = omega (arith, ints) in
-    let y1 : s.y1 ≡ t.y1 = omega (arith, ints) in
-    let same : s ≡ t = λ n. record { x0 = x0 n; y0 = y0 n; x1 = x1 n; y1 = y1 n } in
+    let k = (Decides-and _ _ (Decides-int_eq s.x0 t.x0)
+    (Decides-and _ _ (Decides-int_eq s.y0 t.y0)
+    (Decides-and _ _ (Decides-int_eq s.x1 t.x1) (Decides-int_eq s.y1 t.y1)))).0 e in
+    let same : s ≡ t = λ i. record { x0 = k.0 i; y0 = k.1.0 i; x1 = k.1.1.0 i; y1 = k.1.1.1 i } in
     same
 
 one_is : (s : Rectangle) → is_same s s ≡ true
-one_is s = grind (arith, ints)
+one_is s =
+    (Decides-and _ _ (Decides-int_eq s.x0 s.x0)
+    (Decides-and _ _ (Decides-int_eq s.y0 s.y0)
+    (Decides-and _ _ (Decides-int_eq s.x1 s.x1) (Decides-int_eq s.y1 s.y1)))).1 (refl, (refl, (refl, refl)))
 
 abbrev pub has_one : List Rectangle → Rectangle → Bool
 has_one xs s = list_any (λ t. is_same t s) xs

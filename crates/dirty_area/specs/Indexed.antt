@@ -8,7 +8,8 @@
 -- MeetsAt xss r k         some rectangle of the list at the place k meets r
 -- is_same s t             the test whether s and t are one rectangle
 use Rattle.std.specs.Prelude.{◌≡◌, ◌↔◌, ◌⊎◌, ℕ, Bool, true, ◌&&◌, List, [], Contains, get_or}
-use Rattle.plane_terms.specs.Rectangle.{Rectangle, is_within, rects_meet}
+use Rattle.std.specs.Ordering.{int_eq}
+use Rattle.plane_terms.specs.Rectangle.{Rectangle, rects_meet}
 use Rattle.grid_index.specs.declared.placed.Placed.{Placed}
 
 abbrev pub placed_at : ℕ → Rectangle → Placed
@@ -30,4 +31,4 @@ abbrev pub MeetsAt : List (List Rectangle) → Rectangle → ℕ → Type 0
 MeetsAt xss r k = (s : Rectangle) × Contains (get_or xss k []) s × (rects_meet s r ≡ true)
 
 abbrev pub is_same : Rectangle → Rectangle → Bool
-is_same s t = is_within s t && is_within t s
+is_same s t = int_eq s.x0 t.x0 && (int_eq s.y0 t.y0 && (int_eq s.x1 t.x1 && int_eq s.y1 t.y1))

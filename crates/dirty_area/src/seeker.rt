@@ -26,7 +26,16 @@ impl<'a> Model for Seeker<'a> {
 fn is_same(s: &Rect, t: &Rect) -> bool
     ensures { result ≡ is_same s.now t.now }
 {
-    s.holds_rect(t) && t.holds_rect(s)
+    if s.x0() != t.x0() {
+        return false;
+    }
+    if s.y0() != t.y0() {
+        return false;
+    }
+    if s.x1() != t.x1() {
+        return false;
+    }
+    s.y1() == t.y1()
 }
 
 // The first place of the rectangle in a list.
