@@ -9,7 +9,7 @@ use Rattle.std.proofs.lemmas.List.Kept.{AllPairs-from_increasing}
 use Rattle.plane_terms.specs.Lists.{Every}
 use Rattle.plane_terms.specs.Rectangle.{Rectangle, IsProper, rects_meet}
 use Rattle.plane_terms.specs.Dirt.{AreLoose, IsLoose, add_all, cut_dirt, pieces}
-use Rattle.plane_terms.proofs.ListLemmas.{IsAmong, contains_among, every_among}
+use Rattle.plane_terms.proofs.ListLemmas.{IsAmong, contains_among, every_among, every_by_index}
 use Rattle.sound_laws.proofs.Edits.{same_or_not}
 use Rattle.grid_index.proofs.Adding.{contains_none}
 use Rattle.grid_index.proofs.Members.{among}
@@ -17,7 +17,7 @@ use Rattle.dirty_area.specs.Blocks.{joined}
 use Rattle.dirty_area.specs.Cuts.{between}
 use Rattle.dirty_area.specs.Indexed.{MeetsAt}
 use Rattle.dirty_area.specs.Parts.{IsDirt, IsPartway}
-use Rattle.dirty_area.proofs.Indexes.{joined_at}
+use Rattle.dirty_area.proofs.Indexes.{joined_at, within_length}
 use Rattle.dirty_area.proofs.Joins.{joined-append, joined_rest}
 use Rattle.dirty_area.proofs.Kept.{every_from}
 use Rattle.dirty_area.proofs.Runs.{one_beside, run_beside, one_met, ended}
@@ -109,6 +109,13 @@ all_to_come xss w places meet = record {
 pub place_meets : (xss : List (List Rectangle)) (w : Rectangle) (places : List ℕ) (i d : ℕ) → i < length places
     → ((k : ℕ) → Contains places k ↔ MeetsAt xss w k) → MeetsAt xss w (get_or places i d)
 place_meets xss w places i d l meet = (meet (get_or places i d)).0 (i, l, get_or_default places i (get_or places i d) d l)
+
+pub places_within : (xss : List (List Rectangle)) (n : ℕ) (w : Rectangle) (places : List ℕ) → n ≡ length xss
+    → ((k : ℕ) → Contains places k ↔ MeetsAt xss w k) → Every (λ k. k < n) places
+places_within xss n w places e meet = every_by_index (λ k. k < n) places (λ i d l.
+    let m = place_meets xss w places i d l meet in
+    let k = within_length xss (get_or places i d) m.0 m.1 in
+    omega (arith, e, k))
 
 not_before : (places : List ℕ) (i j k place : ℕ) → IsStrictlyIncreasing places → i ≤ j → j < length places → place ≡ get_or places i place
     → get_or places j k ≡ k → place ≤ k

@@ -1,4 +1,4 @@
-ghost use Rattle.std.specs.Prelude.{◌≡◌, ◌↔◌, ◌<◌, ◌≤◌, ◌+◌, ℕ, true, false, [], ◌∷◌, ◌++◌, length, get_or, set, drop, filter, Contains, IfSome, IfOk, OnOk};
+ghost use Rattle.std.specs.Prelude.{◌≡◌, ◌↔◌, ◌<◌, ◌≤◌, ◌+◌, ◌-◌, ◌^◌, ℕ, true, false, [], ◌∷◌, ◌++◌, length, get_or, set, map, min, sum, drop, filter, Contains, IfSome, IfOk, OnOk};
 ghost use Rattle.std.specs.List.Sorted.{IsStrictlyIncreasing};
 ghost use Rattle.std.specs.Option.{option_to_list};
 ghost use Rattle.plane_terms.specs.Lists.{Every};
@@ -167,14 +167,14 @@ fn add_one(dirt: &mut Left<'_>, round: &mut Dirt, r: Rect) -> Result<(), NoMemor
     r.corner_law();
     if !round.look(&r, Relation::IsNested) {
         round.add_loose(r)?;
-        return dirt.push(r);
+        return dirt.push(r, 1);
     }
     if round.look(&r, Relation::Holds) {
         return Ok(());
     }
     round.add(r)?;
     dirt.drop_held(&r);
-    dirt.push(r)
+    dirt.push(r, 1)
 }
 
 // Adds a piece, where it is there.
@@ -239,13 +239,15 @@ fn add_pieces(dirt: &mut Left<'_>, round: &mut Dirt, r: &Rect, w: &Rect) -> Resu
     }
 }
 
-// Adds what the window leaves of a rectangle: all of it where it lies beside the window, and else the pieces round the window.
+// Adds what the window leaves of a rectangle, the first of so many that are to come of its block: all of it where it lies beside the
+// window, and else the pieces round the window.
 fn cut_rect(
     dirt: &mut Left<'_>,
     round: &mut Dirt,
     met: &mut Vec<Rect>,
     r: &Rect,
     w: &Rect,
+    coming: usize,
 ) -> Result<(), NoMemory>
     requires split { rects_meet r.now w.now ≡ true → IsSplit dirt.old.left round.old (IsApart r.now w.now) }
     requires kept { IsDirt dirt.old.left }
@@ -256,7 +258,7 @@ fn cut_rect(
     ensures next { dirt.new.next ≡ dirt.old.next }
 {
     if !r.meets(w) {
-        return dirt.push(*r);
+        return dirt.push(*r, coming);
     }
     add_pieces(dirt, round, r, w)?;
     met.push(*r)?;
@@ -282,10 +284,22 @@ fn cut_block(
     ensures next { OnOk result (dirt.new.next ≡ dirt.old.next + 1) }
     ensures begun { OnOk result (dirt.new.begun ≡ []) }
 {
-    for r in rects {
-        cut_rect(dirt, round, met, r, w)?;
+    for i in 0..rects.len() {
+        cut_rect(dirt, round, met, &rects[i], w, rects.len() - i)?;
     }
     dirt.close()
+}
+
+// How many rectangles the blocks at these places have; the greatest number where that is too large for one.
+fn count_at(blocks: &[Block], places: &[u32]) -> usize
+    requires { Every (λ k. k < length blocks.now) places.now }
+    ensures { result ≡ min (sum (map (λ k. length (get_or (runs blocks.now) k [])) places.now)) (2 ^ 64 - 1) }
+{
+    let mut count: usize = 0;
+    for place in places {
+        count = count.saturating_add(blocks[*place as usize].len());
+    }
+    count
 }
 
 /// What the window takes of these blocks. Only those at these places meet it.
@@ -305,8 +319,9 @@ pub(crate) fn taken_of(
     ensures kept { IfOk result (λ t. IsDirt (joined (patched (runs blocks.now) t.changes.items))) }
 {
     let mut dirt = Left::new(alloc, blocks);
+    dirt.make_room(places.len())?;
     let mut round = Dirt::new(alloc);
-    let mut met = Vec::new(alloc);
+    let mut met = Vec::with_capacity(alloc, count_at(blocks, places))?;
     for place in places {
         let place = *place as usize;
         dirt.go_to(place);

@@ -12,6 +12,9 @@ use std::alloc::Global;
 use std::marker::Model;
 use std::mem;
 
+/// A list of so few rectangles grows as it comes.
+const FEW: usize = 4;
+
 /// What comes in place of a block.
 #[derive(Drop)]
 pub(crate) struct Change {
@@ -50,13 +53,17 @@ impl<'a> Model for Left<'a> {
     ghost invariant = { λ l. IsDirt (all_rects l.blocks.now) × (l.next ≤ length l.blocks.now) × Every (λ (c : Change). c.place < l.next) l.changes.items };
 }
 
-// Puts the rectangle last.
-fn push_one(rects: &mut Vec<Rect>, r: Rect) -> Result<(), NoMemory>
+// Puts the rectangle last, the first of so many that may come. A full list gets room for all of those at once, unless to double
+// its room gives more.
+fn push_one(rects: &mut Vec<Rect>, r: Rect, coming: usize) -> Result<(), NoMemory>
     ensures { OnOk result (rects.new.items ≡ rects.old.items ++ r ∷ []) }
 {
     if rects.len() < rects.capacity() {
         rects.push_reserved(r);
         return Ok(());
+    }
+    if coming > FEW && coming > rects.len() {
+        rects.reserve_exact(coming)?;
     }
     rects.push(r)?;
     Ok(())
@@ -89,6 +96,14 @@ impl<'a> Left<'a> {
         }
     }
 
+    /// Makes room for changes of so many blocks.
+    pub(crate) fn make_room(&mut self, changes: usize) -> Result<(), NoMemory>
+        ensures { self.new ≡ self.old }
+    {
+        self.changes.reserve_exact(changes)?;
+        Ok(())
+    }
+
     /// The blocks before this place stay as they are.
     pub(crate) fn go_to(&mut self, place: usize)
         requires begun { self.old.begun ≡ [] }
@@ -102,13 +117,13 @@ impl<'a> Left<'a> {
         self.next = place;
     }
 
-    /// Puts the rectangle last.
-    pub(crate) fn push(&mut self, r: Rect) -> Result<(), NoMemory>
+    /// Puts the rectangle last, the first of so many that may come to the block.
+    pub(crate) fn push(&mut self, r: Rect, coming: usize) -> Result<(), NoMemory>
         ensures runs { self.new.runs ≡ self.old.runs }
         ensures next { self.new.next ≡ self.old.next }
         ensures left { OnOk result (self.new.left ≡ self.old.left ++ r ∷ []) }
     {
-        push_one(&mut self.begun, r)
+        push_one(&mut self.begun, r, coming)
     }
 
     /// Takes out the rectangles that this one holds.

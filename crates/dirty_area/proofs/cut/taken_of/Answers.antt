@@ -3,25 +3,31 @@ use Rattle.std.proofs.lemmas.List.{get_or_default}
 use Rattle.plane_terms.specs.Lists.{Every}
 use Rattle.dirty_area.specs.declared.left.Change.{Change}
 use Rattle.dirty_area.specs.Blocks.{runs, joined, all_rects}
-use Rattle.dirty_area.specs.Cuts.{between, patched}
+use Rattle.dirty_area.specs.Cuts.{Left, between, patched}
 use Rattle.dirty_area.specs.Parts.{IsDirt, IsPartway}
 use Rattle.dirty_area.proofs.Indexes.{within_length}
 use Rattle.dirty_area.proofs.Joins.{run_at, length_runs}
 use Rattle.dirty_area.proofs.Runs.{begun}
-use Rattle.dirty_area.proofs.Sweeps.{AreToCome, all_to_come, next_to_come, none_between, none_to_come, gone_beside, swept, place_meets}
+use Rattle.dirty_area.proofs.Sweeps.{AreToCome, all_to_come, next_to_come, none_between, none_to_come, gone_beside, swept, place_meets, places_within}
 use Rattle.dirty_area.proofs.cut.taken_of.Goals as goal
 
 pub loop-place-init : goal.loop-place-init
 loop-place-init c =
     let bs = c.args.blocks.now in
-    let few : c.new-dirt.result.next ≤ length bs = omega (arith, c.new-dirt.ensures.next) in (
-      c.new-dirt.ensures.runs,
-      c.new-dirt.ensures.begun,
+    let same = c.make_room.ensures in
+    let few : c.make_room.new.self.next ≤ length bs = omega (arith, ap (λ (l : Left). l.next) same, c.new-dirt.ensures.next) in (
+      ap (λ (l : Left). l.runs) same ∙ c.new-dirt.ensures.runs,
+      ap (λ (l : Left). l.begun) same ∙ c.new-dirt.ensures.begun,
       few,
-      rw c.new-dirt.ensures.next (all_to_come (runs bs) c.args.w.now c.args.places.now c.requires.meet),
-      rw (c.new-dirt.ensures.next, c.new-dirt.ensures.left, c.new-met.ensures.items, c.new-round.ensures)
+      rw (same, c.new-dirt.ensures.next) (all_to_come (runs bs) c.args.w.now c.args.places.now c.requires.meet),
+      rw (same, c.new-dirt.ensures.next, c.new-dirt.ensures.left, c.in_ok-met.ensures.items, c.new-round.ensures)
           (begun (all_rects bs) c.args.w.now c.requires.dirt),
     )
+
+pub count_at-requires : goal.count_at-requires
+count_at-requires c =
+    let bs = c.args.blocks.now in
+    places_within (runs bs) (length bs) c.args.w.now c.args.places.now (sym (length_runs bs)) c.requires.meet
 
 pub go_to-requires-clause-place : goal.go_to-requires-clause-place
 go_to-requires-clause-place c =
