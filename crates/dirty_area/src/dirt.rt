@@ -100,7 +100,7 @@ impl Dirt {
     pub fn list(&self, alloc: Global) -> Result<Vec<Rect>, NoMemory>
         ensures { IfOk result (λ v. v.items ≡ self.now) }
     {
-        list_of(alloc, &self.blocks)
+        list_of(alloc, &self.blocks, self.len())
     }
 
     /// The law that the rectangles are of the grid, and that none lies in another.

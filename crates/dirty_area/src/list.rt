@@ -226,11 +226,11 @@ pub(crate) fn count(blocks: &[Block]) -> usize
     n
 }
 
-/// The rectangles of the blocks, one after another.
-pub(crate) fn list_of(alloc: Global, blocks: &[Block]) -> Result<Vec<Rect>, NoMemory>
+/// The rectangles of the blocks, one after another, in a list that begins with room for so many.
+pub(crate) fn list_of(alloc: Global, blocks: &[Block], room: usize) -> Result<Vec<Rect>, NoMemory>
     ensures { IfOk result (λ v. v.items ≡ all_rects blocks.now) }
 {
-    let mut rects = Vec::new(alloc);
+    let mut rects = Vec::with_capacity(alloc, room)?;
     for block in blocks {
         rects.extend_from_slice(block.rects())?;
     }
