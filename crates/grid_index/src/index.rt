@@ -2,7 +2,7 @@ ghost use Rattle.std.specs.Prelude.{◌≡◌, ◌↔◌, ◌<◌, ◌≤◌, �
 ghost use Rattle.std.specs.List.{list_any};
 ghost use Rattle.std.specs.List.Sorted.{IsStrictlyIncreasing};
 ghost use Rattle.plane_terms.specs.Rectangle.{Rectangle};
-ghost use Rattle.grid_index.specs.Near.{HoldsSame, Gains, Loses, IsMet, IsNear, IsNearRect, AddsRects, handle_of};
+ghost use Rattle.grid_index.specs.Near.{HoldsSame, Gains, Loses, IsMet, IsNear, IsNearRect, AddsHandles, AddsRects, handle_of};
 ghost use Rattle.grid_index.specs.Nodes.{IsReach};
 ghost use Rattle.grid_index.specs.Relations.{is_found};
 ghost use Rattle.grid_index.specs.Steps.{most_steps};
@@ -119,9 +119,24 @@ impl Index {
         ensures steps { (s : ℕ) → M.taken meter.new ≤ M.taken meter.old + most_steps s (A.window aim.now) self.now }
     {
         let mut found = Vec::with_capacity(alloc, FEW)?;
-        add_from_each(&self.nodes, aim, &mut found, meter)?;
+        self.add_about(aim, &mut found, meter)?;
         once_each(alloc, &mut found)?;
         Ok(found)
+    }
+
+    /// Puts the handles of the rectangles that the aim touches last, in any order; one may come more than once. Its steps are no more
+    /// than those of `query_about`.
+    pub fn add_about<A: Aim, M: Meter>(
+        &self,
+        aim: &A,
+        found: &mut Vec<u32>,
+        meter: &mut M,
+    ) -> Result<(), NoMemory>
+        ensures met { OnOk result (AddsHandles (A.touching aim.now) (Contains self.now) found.old.items found.new.items) }
+        ensures rises { M.taken meter.old ≤ M.taken meter.new }
+        ensures steps { (s : ℕ) → M.taken meter.new ≤ M.taken meter.old + most_steps s (A.window aim.now) self.now }
+    {
+        add_from_each(&self.nodes, aim, found, meter)
     }
 
     /// The rectangles that meet this one, in any order; touching is meeting. It looks only into nodes whose reach meets this

@@ -43,6 +43,9 @@ pub fn once_each(alloc: Global, found: &mut Vec<u32>) -> Result<(), NoMemory>
     ensures ascending { OnOk result (IsStrictlyIncreasing found.new.items) }
     ensures same { OnOk result ((a : ℕ) → Contains found.new.items a ↔ Contains found.old.items a) }
 {
+    if found.len() < 2 {
+        return Ok(());
+    }
     if found.len() < MANY {
         sort_once(found);
         return Ok(());
