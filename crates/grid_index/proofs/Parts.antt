@@ -1,18 +1,19 @@
 -- Lists of nodes that stay parts of squares, no two in one: one changes, one comes, some go.
-use Rattle.std.proofs.Common.{◌≡◌, ◌≢◌, inl, inr, refl, sym, ap, ◌∙◌, subst, ℕ, zero, suc, ◌+◌, ◌<◌, ◌≤◌, Bool, true, false, List, [], ◌∷◌, ◌++◌, Contains, length, take, set, get_or, Option, None, Some, Result, Ok, Err, arith}
-use Rattle.std.specs.Prelude.{slice_get, IsSomeAnd, OnOk, OnErr}
+use Rattle.std.proofs.Common.{◌≡◌, ◌≢◌, inl, inr, refl, sym, ap, ◌∙◌, subst, ℕ, zero, suc, ◌+◌, ◌<◌, ◌≤◌, Bool, true, false, ◌||◌, List, [], ◌∷◌, ◌++◌, Contains, length, take, set, get_or, Option, None, Some, Result, Ok, Err, arith}
+use Rattle.std.specs.Prelude.{slice_get, IsSomeAnd, IsTrue, ◌↔◌, OnOk, OnErr}
 use Rattle.std.specs.List.{items_where_true, IsDistinct}
 use Rattle.std.specs.List.Retain.{IsFiltered, ReturnsInTurn}
+use Rattle.std.proofs.lemmas.Bool.{false≢true}
 use Rattle.std.proofs.lemmas.List.{length-append, take_more_set}
 use Rattle.std.proofs.lemmas.List.Elements.{Contains-append_right, Contains-append_cases}
 use Rattle.std.proofs.lemmas.Option.{slice_get_within, slice_get-get_or, get_or_from_slice_get}
-use Rattle.plane_terms.specs.Lists.{Every}
-use Rattle.plane_terms.proofs.ListLemmas.{every_append, every_map, every_at}
+use Rattle.plane_terms.specs.Lists.{Every, SomeOf}
+use Rattle.plane_terms.proofs.ListLemmas.{SomeOf-append_left, SomeOf-append_right, every_append, every_map, every_at}
 use Rattle.grid_index.specs.declared.placed.Placed.{Placed}
 use Rattle.grid_index.specs.declared.middle.Middle.{Middle}
 use Rattle.grid_index.specs.Middles.{middle_of}
 use Rattle.grid_index.specs.Nodes.{NodeView}
-use Rattle.grid_index.specs.Squares.{same_square, IsOnGrid, IsPart, AreInSquare, AreParts, AreAround, AreOutside, IsDivided, IsLeft, IsSingle, IsAdded, IsPushedAt, IsPutAt, StaysPart, StayAround, MayTake, IsGathered, AreGathered, middles_of}
+use Rattle.grid_index.specs.Squares.{same_square, IsOnGrid, IsPart, AreInSquare, AreParts, AreAround, AreOutside, IsDivided, IsLeft, IsLeftAs, AreLeftAs, IsSingle, IsAdded, IsPushedAt, IsPutAt, StaysPart, StayAround, MayTake, IsGathered, AreGathered, middles_of}
 use Rattle.grid_index.proofs.Members.{among}
 use Rattle.grid_index.proofs.Squares.{square_of_same, square_back, square_on, square_other, apart_back, square_wider}
 
@@ -48,6 +49,13 @@ every_set P (x ∷ xs) (suc i) y h p = (h.0, every_set P xs i y h.1 p)
 pub every_more_set : {A : Type 0} (P : A → Type 0) (xs : List A) (i : ℕ) (y : A) → i < length xs → Every P (take i xs) → P y
     → Every P (take (i + 1) (set xs i y))
 every_more_set P xs i y l h p = subst (Every P) (sym (take_more_set xs i y l)) (every_append P (take i xs) (y ∷ []) h (p, tt))
+
+-- one of the elements before i has it, or now the one at i
+some_more_set : {A : Type 0} (P : A → Type 0) (xs : List A) (i : ℕ) (y : A) → i < length xs → SomeOf P (take i xs) → SomeOf P (take (i + 1) (set xs i y))
+some_more_set P xs i y l h = subst (SomeOf P) (sym (take_more_set xs i y l)) (SomeOf-append_left P (take i xs) (y ∷ []) h)
+
+some_here_set : {A : Type 0} (P : A → Type 0) (xs : List A) (i : ℕ) (y : A) → i < length xs → P y → SomeOf P (take (i + 1) (set xs i y))
+some_here_set P xs i y l p = subst (SomeOf P) (sym (take_more_set xs i y l)) (SomeOf-append_right P (take i xs) (y ∷ []) (inl p))
 
 -- ---- no two in one square
 outside_set : (k : ℕ) (m : Middle) (ns : List NodeView) (i : ℕ) (d o : NodeView) → i < length ns
@@ -299,6 +307,22 @@ around_kept k m (false ∷ bs) (n ∷ ns) h = around_kept k m bs ns h.1
 part_left : (k : ℕ) (n : NodeView) → n.items ≢ [] → IsLeft k n → IsPart k n
 part_left k n some (inl none) = absurd (some none)
 part_left k n some (inr part) = part
+
+-- a node that is left, where a test tells whether it holds nothing
+pub left_as : (b : Bool) (k : ℕ) (n : NodeView) → (IsTrue b ↔ (n.items ≡ [])) → IsLeft k n → IsLeftAs b k n
+left_as true k n told left = told.0 refl
+left_as false k n told left = part_left k n (λ none. absurd (false≢true (told.1 none))) left
+
+-- one node more, which holds nothing or is a part as a test tells
+pub left_more : (k : ℕ) (b c : Bool) (ns : List NodeView) (i : ℕ) (o : NodeView) → i < length ns → AreLeftAs b k (take i ns) → IsLeftAs c k o
+    → AreLeftAs (c || b) k (take (i + 1) (set ns i o))
+left_more k true true ns i o l h p = (every_more_set (IsLeft k) ns i o l h.0 (inl p), some_more_set (λ n. n.items ≡ []) ns i o l h.1)
+left_more k true false ns i o l h p = (every_more_set (IsLeft k) ns i o l h.0 (inr p), some_more_set (λ n. n.items ≡ []) ns i o l h.1)
+left_more k false true ns i o l h p = (
+  every_more_set (IsLeft k) ns i o l (every_map (IsPart k) (IsLeft k) (λ n q. inr q) (take i ns) h) (inl p),
+  some_here_set (λ n. n.items ≡ []) ns i o l p,
+)
+left_more k false false ns i o l h p = every_more_set (IsPart k) ns i o l h p
 
 parts_kept : {F : Type 0} (R : F → NodeView → Bool → F → Type 0) → ((f : F) (n : NodeView) (b : Bool) (g : F) → R f n b g → b ≡ true → n.items ≢ [])
     → (k : ℕ) (bs : List Bool) (f : F) (ns : List NodeView) (g : F) → ReturnsInTurn R f bs ns g → Every (IsLeft k) ns

@@ -49,12 +49,6 @@ adds_beyond f t s ps xs wider all apart = adds_same f t (λ p. ⊥) (Contains ps
     (λ p h. absurd h)
     (λ p h e. absurd (false≢true (sym apart ∙ wider p.rect s (all p h) e)))
 
-pub lost_beyond : (s : Rectangle) (ps : List Placed) (p : Placed) → AreWithin s ps → is_within p.rect s ≡ false → Loses ps ps p
-lost_beyond s ps p all out q = (
-  (λ h. (h, λ e. false≢true (sym out ∙ held_test p.rect s (subst (λ (o : Placed). IsWithin o.rect s) e (all q h))))),
-  (λ h. h.0),
-)
-
 -- ---- the reach of several
 pub reach_more : (o : Option Rectangle) (r : Rectangle) (ps qs : List Placed) → IsReach o ps → AreWithin r qs → IsSnug r qs
     → IsReach (reach_with o r) (ps ++ qs)

@@ -17,6 +17,8 @@
 -- MayTake n m           n is a part that a rectangle with the middle m may be put into: m lies in its square
 -- StaysPart n o m       o stays the part that n is, in the same square, whichever square that m lies in it is
 -- IsLeft k n            n holds nothing, or is a part
+-- IsLeftAs b k n        where b is true, n holds nothing, and where not, n is a part
+-- AreLeftAs b k ns      the nodes hold nothing or are parts; where b is true, one holds nothing, and where not, none
 -- IsTaken ps a b        a leaf with ps, whose square a tells, takes one more with the middle b: ps are few, or it is where they all are
 -- IsBetween d m ps      ps and m lie in one square of side 2 to the power d + 1, and in no smaller one
 -- IsSingle p n          n is a leaf that holds p alone
@@ -27,7 +29,7 @@
 -- AreGathered k c ns    leaves in squares of side 2 to the power k, no two in one, with no more than c rectangles each
 use Rattle.std.specs.Prelude.{◌≡◌, ◌≢◌, ◌⊎◌, ℕ, ◌+◌, ◌/◌, ◌^◌, ◌<◌, ◌≤◌, Bool, true, false, ◌&&◌, List, [], ◌∷◌, ◌++◌, map, set, Contains, length, slice_get, IsSomeAnd, nat_eq}
 use Rattle.std.specs.List.{IsDistinct}
-use Rattle.plane_terms.specs.Lists.{Every}
+use Rattle.plane_terms.specs.Lists.{Every, SomeOf}
 use Rattle.grid_index.specs.declared.placed.Placed.{Placed}
 use Rattle.grid_index.specs.declared.middle.Middle.{Middle}
 use Rattle.grid_index.specs.Middles.{middle_of}
@@ -79,6 +81,14 @@ StaysPart n o m = (k : ℕ) → IsPart k n → same_square k n.middle m ≡ true
 
 abbrev pub IsLeft : ℕ → NodeView → Type 0
 IsLeft k n = (n.items ≡ []) ⊎ IsPart k n
+
+abbrev pub IsLeftAs : Bool → ℕ → NodeView → Type 0
+IsLeftAs true k n = n.items ≡ []
+IsLeftAs false k n = IsPart k n
+
+abbrev pub AreLeftAs : Bool → ℕ → List NodeView → Type 0
+AreLeftAs true k ns = Every (IsLeft k) ns × SomeOf (λ (n : NodeView). n.items ≡ []) ns
+AreLeftAs false k ns = Every (IsPart k) ns
 
 abbrev pub IsTaken : List Placed → Middle → Middle → Type 0
 IsTaken ps a b = (length ps < 32) ⊎ (((64 < length ps) × (a ≡ b)) ⊎ AreAt b ps)

@@ -4,7 +4,7 @@ ghost use Rattle.grid_index.specs.Near.{HoldsSame, Gains, Loses, AddsHandles, Ad
 ghost use Rattle.grid_index.specs.Middles.{middle_of};
 ghost use Rattle.grid_index.specs.Nodes.{AreFilled, AreWithin, IsSnug, all_items};
 ghost use Rattle.grid_index.specs.Relations.{is_found};
-ghost use Rattle.grid_index.specs.Squares.{same_square, IsOnGrid, MayTake, StaysPart, IsPart, IsLeft, IsSingle, IsTaken, IsBetween};
+ghost use Rattle.grid_index.specs.Squares.{same_square, IsOnGrid, MayTake, StaysPart, IsPart, IsLeftAs, IsSingle, IsTaken, IsBetween};
 ghost use Rattle.grid_index.specs.Steps.{part_steps};
 
 use crate::aim::Aim;
@@ -269,18 +269,20 @@ impl Node {
         Ok(())
     }
 
-    /// Takes a rectangle out, where it is here.
+    /// Takes a rectangle out, where it is here. Tells whether the node then holds nothing.
     #[cycle(take)]
-    pub(crate) fn take(&mut self, placed: &Placed)
+    pub(crate) fn take(&mut self, placed: &Placed) -> bool
         ensures lost { Loses self.old.items self.new.items placed.now }
         ensures middle { self.new.middle ≡ self.old.middle }
-        ensures part { (k : ℕ) → IsPart k self.old → IsLeft k self.new }
+        ensures part { (k : ℕ) → IsPart k self.old → IsLeftAs result k self.new }
     {
-        if self.reach.holds_rect(&placed.rect) {
-            drop_placed(&mut self.placed, placed);
-            take_from(&mut self.quarters, placed);
-            self.reach = reach_left(&self.reach, placed, &self.placed, &self.quarters);
+        if !self.reach.holds_rect(&placed.rect) {
+            return false;
         }
+        drop_placed(&mut self.placed, placed);
+        take_from(&mut self.quarters, placed);
+        self.reach = reach_left(&self.reach, placed, &self.placed, &self.quarters);
+        self.is_empty()
     }
 
     /// Adds the handles of the rectangles that the aim touches: a step for the node itself, and then for what it looks at.

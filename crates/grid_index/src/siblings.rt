@@ -6,7 +6,7 @@ ghost use Rattle.grid_index.specs.Near.{HoldsSame, Gains, Loses, AddsHandles, Ad
 ghost use Rattle.grid_index.specs.Middles.{middle_of};
 ghost use Rattle.grid_index.specs.Nodes.{all_items, AreFilled, IsReach};
 ghost use Rattle.grid_index.specs.Relations.{is_found};
-ghost use Rattle.grid_index.specs.Squares.{same_square, IsOnGrid, IsPart, AreParts, AreAround, AreOutside, AreGathered, MayTake, IsLeft, IsAdded, IsPushedAt, IsPutAt, StayAround, middles_of};
+ghost use Rattle.grid_index.specs.Squares.{same_square, IsOnGrid, IsPart, AreParts, AreAround, AreOutside, AreGathered, MayTake, IsLeft, AreLeftAs, IsAdded, IsPushedAt, IsPutAt, StayAround, middles_of};
 ghost use Rattle.grid_index.specs.Steps.{parts_steps};
 
 use crate::aim::Aim;
@@ -133,15 +133,20 @@ pub(crate) fn put_in(
     }
 }
 
+// Takes a rectangle out of each node. Tells whether one of them then holds nothing.
 #[cycle(take)]
-fn take_from_each(nodes: &mut [Node], placed: &Placed)
+fn take_from_each(nodes: &mut [Node], placed: &Placed) -> bool
     ensures lost { Loses (all_items nodes.old) (all_items nodes.new) placed.now }
     ensures middles { middles_of nodes.new ≡ middles_of nodes.old }
-    ensures left { (k : ℕ) → Every (IsPart k) nodes.old → Every (IsLeft k) nodes.new }
+    ensures left { (k : ℕ) → Every (IsPart k) nodes.old → AreLeftAs result k nodes.new }
 {
+    let mut emptied = false;
     for node in nodes {
-        node.take(placed);
+        if node.take(placed) {
+            emptied = true;
+        }
     }
+    emptied
 }
 
 // Lets the nodes go that hold nothing.
@@ -160,8 +165,9 @@ pub(crate) fn take_from(nodes: &mut Vec<Node>, placed: &Placed)
     ensures parts { (k : ℕ) → AreParts k nodes.old.items → AreParts k nodes.new.items }
     ensures around { (k : ℕ) → (m : Middle) → AreAround k m nodes.old.items → AreAround k m nodes.new.items }
 {
-    take_from_each(nodes, placed);
-    drop_empty(nodes);
+    if take_from_each(nodes, placed) {
+        drop_empty(nodes);
+    }
 }
 
 /// The least rectangle that holds what the nodes hold; none where there is no node.
