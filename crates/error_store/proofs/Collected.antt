@@ -1,5 +1,5 @@
 -- The runs of some subjects, gathered one after another: together they are the errors of these subjects.
-use Rattle.std.proofs.Common.{◌≡◌, ◌⊎◌, inl, inr, ℕ, ◌<◌, List, [], ◌∷◌, ◌++◌, Contains, arith, refl, ap, subst, sym, ◌∙◌, Option, Some, None}
+use Rattle.std.proofs.Common.{◌≡◌, ◌⊎◌, inl, inr, ℕ, ◌<◌, List, [], ◌∷◌, ◌++◌, length, Contains, arith, refl, ap, subst, sym, ◌∙◌, Option, Some, None}
 use Rattle.std.specs.BTreeMap.{BTreeMap, IsOrdered, get}
 use Rattle.std.specs.Global.{Vec}
 use Rattle.std.specs.List.{filter, flat_map}
@@ -7,7 +7,7 @@ use Rattle.std.specs.declared.ops.Bound.{Bound}
 use Rattle.std.specs.declared.ops.Bound.TheVariants.{Excluded}
 use denote.Ref.{Bor}
 use Rattle.std.proofs.lemmas.Bool.{cases_Bool}
-use Rattle.std.proofs.lemmas.List.{flat_map_more}
+use Rattle.std.proofs.lemmas.List.{flat_map_more, nil_from_length}
 use Rattle.plane_terms.specs.Lists.{Every}
 use Rattle.plane_terms.proofs.ListLemmas.{every_append, every_map}
 use Rattle.topology_terms.specs.Entry.{Entry, by_key, key_of, has_key, entry_at, IsBefore, IsAscending}
@@ -133,6 +133,17 @@ gathered_all handles m lo es s h g none = same_entries es (chosen_of handles m) 
       | inl e ↦ e
       | inr f ↦ none_earlier es r a b (g.before (pair r a) f) ∙ sym (none_chosen handles m s h r a b (λ c. none (pair r a) f c))
     ])
+
+-- there is nothing to gather of no subjects, nor of no runs
+pub none_of_none : (handles : List ℕ) (es : List Entry) → length handles ≡ 0 → [] ≡ filter (is_of handles) es
+none_of_none handles es e = rw (nil_from_length handles e) (by es)
+  where
+    by : (es : List Entry) → [] ≡ filter (is_of []) es
+    by [] = refl
+    by (x ∷ es) = by es
+
+pub none_of_no_run : (handles : List ℕ) (m : BTreeMap Pair (Vec Entry)) → length m.entries ≡ 0 → [] ≡ chosen_of handles m
+none_of_no_run handles m e = rw (nil_from_length m.entries e) refl
 
 -- what is pushed behind slices is behind what they hold
 pub spread_more : (xs : List (Bor (List Entry))) (x : Bor (List Entry)) (es : List Entry) → x.now ≡ es

@@ -79,7 +79,7 @@ pub fn next_of<'a>(
 }
 
 /// The runs of these subjects, in the order of their pairs. Takes steps by the logarithm of the number of pairs for each rule that
-/// has some, and for each of the subjects.
+/// has some, and for each of the subjects. Takes none where there are no subjects or no runs.
 pub fn runs_of<'a>(
     alloc: Global,
     runs: &'a BTreeMap<Pair, Vec<Entry>>,
@@ -90,6 +90,9 @@ pub fn runs_of<'a>(
     ensures { IfOk result (λ v. flat_map (λ r. r.now) v.items ≡ filter (is_of subjects.now) (all_entries runs.now)) }
 {
     let mut found = Vec::new(alloc);
+    if runs.is_empty() || subjects.is_empty() {
+        return Ok(found);
+    }
     let mut from = Bound::Unbounded;
     while let Some((pair, run)) = next_of(runs, from, subjects) {
         found.push(run.as_slice())?;
