@@ -15,9 +15,8 @@ ghost use Rattle.error_store.specs.Runs.{is_of};
 use crate::cut::cut;
 use crate::entry::Entry;
 use crate::fault::MarkFault;
-use crate::frame_set::FrameSet;
 use crate::frames::{
-    drop_frames, drop_unused, frames_in, frames_of, frames_under, index_of, put_frames,
+    drop_frames, drop_unused, frames_of, frames_under, index_of, put_frames, staying_of,
 };
 use crate::key::Key;
 use crate::list::mark_in;
@@ -113,9 +112,8 @@ fn replace_framed(
     let subjects = selected.items();
     order_law(runs);
     let gone = frames_of(alloc, runs, subjects)?;
-    let standing = FrameSet::of(alloc, &gone)?;
-    let staying = FrameSet::of(alloc, &frames_in(alloc, &fresh)?)?;
-    put_frames(frames, &standing, &fresh)?;
+    let staying = staying_of(alloc, &gone, &fresh)?;
+    put_frames(frames, alloc, &gone, &fresh)?;
     let replaced = replace_runs(runs, number, alloc, subjects, fresh);
     order_law(runs);
     let number = replaced?;

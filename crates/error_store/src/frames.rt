@@ -1,4 +1,4 @@
-ghost use Rattle.std.specs.Prelude.{◌≡◌, ◌==◌, ◌⊎◌, ◌++◌, map, Contains, IfOk, OnOk};
+ghost use Rattle.std.specs.Prelude.{◌≡◌, ◌↔◌, ◌==◌, ◌⊎◌, ◌++◌, map, Contains, IfOk, OnOk};
 ghost use Rattle.std.specs.List.Sorted.{IsStrictlyIncreasing};
 ghost use Rattle.topology_terms.specs.Entry as terms;
 ghost use Rattle.grid_index.specs.declared.placed.Placed as placed;
@@ -62,8 +62,8 @@ fn put_frame(index: &mut Index, standing: &FrameSet, fresh: &Entry) -> Result<()
     index.put(place)
 }
 
-/// Puts the frames of the fresh errors in, but for those that stand there. After an `Err`, out of memory, some may be in.
-pub(crate) fn put_frames(
+// Puts the frames of the fresh errors in, but for those that stand there. After an `Err`, out of memory, some may be in.
+fn put_missing(
     index: &mut Index,
     standing: &FrameSet,
     fresh: &[Entry],
@@ -79,6 +79,26 @@ pub(crate) fn put_frames(
     Ok(())
 }
 
+/// Puts the frames of the fresh errors in, but for those of the gone ones, which stand there. Where there is no fresh error there is
+/// nothing to look for. After an `Err`, out of memory, some may be in.
+pub(crate) fn put_frames(
+    index: &mut Index,
+    alloc: Global,
+    gone: &[Placed],
+    fresh: &[Entry],
+) -> Result<(), NoMemory>
+    requires { (q : placed.Placed) → Contains gone.now q → Contains index.old q }
+    ensures there { OnOk result (AreFramed index.new fresh.now) }
+    ensures kept { (q : placed.Placed) → Contains index.old q → Contains index.new q }
+    ensures only { (q : placed.Placed) → Contains index.new q → Contains index.old q ⊎ IsFrame fresh.now q }
+{
+    if fresh.is_empty() {
+        return Ok(());
+    }
+    let standing = FrameSet::of(alloc, gone)?;
+    put_missing(index, &standing, fresh)
+}
+
 // Notes the frames of these errors behind the others.
 fn note(frames: &mut Vec<Placed>, entries: &[Entry]) -> Result<(), NoMemory>
     ensures { OnOk result (frames.new.items ≡ frames.old.items ++ map framed_of entries.now) }
@@ -89,8 +109,8 @@ fn note(frames: &mut Vec<Placed>, entries: &[Entry]) -> Result<(), NoMemory>
     Ok(())
 }
 
-/// The frames of these errors.
-pub fn frames_in(alloc: Global, entries: &[Entry]) -> Result<Vec<Placed>, NoMemory>
+// The frames of these errors.
+fn frames_in(alloc: Global, entries: &[Entry]) -> Result<Vec<Placed>, NoMemory>
     ensures { IfOk result (λ frames. frames.items ≡ map framed_of entries.now) }
 {
     let mut frames = Vec::new(alloc);
@@ -164,6 +184,20 @@ pub(crate) fn drop_frames(index: &mut Index, staying: &FrameSet, frames: &[Place
     for frame in frames {
         drop_frame(index, staying, frame);
     }
+}
+
+/// Those of the gone frames that the fresh errors have. Where nothing goes there is nothing to note.
+pub(crate) fn staying_of(
+    alloc: Global,
+    gone: &[Placed],
+    fresh: &[Entry],
+) -> Result<FrameSet, NoMemory>
+    ensures { IfOk result (λ set. (q : placed.Placed) → Contains gone.now q → HasPlace set q ↔ IsFrame fresh.now q) }
+{
+    if gone.is_empty() {
+        return FrameSet::of(alloc, &[]);
+    }
+    FrameSet::of(alloc, &frames_in(alloc, fresh)?)
 }
 
 /// Takes out these frames, but for those that an error has. After an `Err`, out of memory, all are there.

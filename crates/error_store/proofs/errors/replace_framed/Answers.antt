@@ -2,13 +2,13 @@ use Rattle.std.proofs.Common.{Contains}
 use Rattle.error_store.specs.FrameSets.{HasPlace}
 use Rattle.error_store.specs.Pairs.{all_entries}
 use Rattle.error_store.specs.Runs.{is_of}
-use Rattle.error_store.proofs.Framing.{framed_more, framed_kept, framed_replaced, frames_stand, frame_of_these, these_frames}
+use Rattle.error_store.proofs.Framing.{framed_more, framed_kept, framed_replaced, frames_stand}
 use Rattle.error_store.proofs.Staying.{frames_replaced, frames_stay}
 use Rattle.error_store.proofs.errors.replace_framed.Goals as goal
 
 pub put_frames-requires : goal.put_frames-requires
 put_frames-requires c = λ q s. frames_stand c.args.frames.now (is_of c.args.selected.now) (all_entries c.args.runs.now) c.requires.framed q
-    (rw c.items-subjects.ensures.value at (rw (c.deref.ensures.value, c.in_ok-gone.ensures) at ((c.in_ok-standing.ensures q).0 s)))
+    (rw c.items-subjects.ensures.value at (rw (c.deref-3.ensures.value, c.in_ok-gone.ensures) at s))
 
 pub returns-in_err-put_frames-clause-framed : goal.returns-in_err-put_frames-clause-framed
 returns-in_err-put_frames-clause-framed c = framed_more c.args.frames.now c.put_frames.new.index (all_entries c.args.runs.now)
@@ -26,9 +26,9 @@ returns-clause-framed c =
     let gone = c.in_ok-gone.gone.items in
     let replaced = rw c.items-subjects.ensures.value at c.in_ok-number.ensures.replaced in
     framed_kept c.put_frames.new.index c.drop_frames.new.index new (λ q. Contains gone q → HasPlace c.in_ok-staying.staying q)
-    (λ q s g. (c.in_ok-staying.ensures q).1 (rw (c.deref-3.ensures.value, c.in_ok-frames_in.ensures, c.deref-2.ensures.value) (these_frames fresh q
+    (λ q s g. ((rw (c.deref.ensures.value, c.deref-2.ensures.value) at c.in_ok-staying.ensures) q g).1
     (frames_stay c.args.selected.now old fresh new gone c.order_law-2.ensures.ascending replaced
-    (rw c.items-subjects.ensures.value at c.in_ok-gone.ensures) q s g))))
+    (rw c.items-subjects.ensures.value at c.in_ok-gone.ensures) q s g))
     (rw c.deref-5.ensures.value at c.drop_frames.ensures.kept)
     (framed_replaced c.put_frames.new.index c.args.selected.now old fresh new c.order_law-2.ensures.ascending replaced
     (framed_more c.args.frames.now c.put_frames.new.index old c.put_frames.ensures.kept c.requires.framed)
@@ -45,6 +45,5 @@ returns-clause-only c =
     (λ q k.
     let l = (rw c.deref-5.ensures.value at c.drop_frames.ensures.left) q k in (
       l.0,
-      λ g. frame_of_these fresh q (rw (c.deref-3.ensures.value, c.in_ok-frames_in.ensures, c.deref-2.ensures.value) at
-          ((c.in_ok-staying.ensures q).0 (l.1 g))),
+      λ g. ((rw (c.deref.ensures.value, c.deref-2.ensures.value) at c.in_ok-staying.ensures) q g).0 (l.1 g),
     ))

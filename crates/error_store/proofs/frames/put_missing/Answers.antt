@@ -1,6 +1,6 @@
 use Rattle.std.proofs.Common.{inl}
 use Rattle.error_store.proofs.Framing.{framed_next, only_some, only_next, only_front}
-use Rattle.error_store.proofs.frames.put_frames.Goals as goal
+use Rattle.error_store.proofs.frames.put_missing.Goals as goal
 
 pub loop-e-init : goal.loop-e-init
 loop-e-init c = record { kept = λ q k. k; there = tt; only = λ q k. inl k }

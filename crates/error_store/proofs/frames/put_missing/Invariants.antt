@@ -2,7 +2,7 @@ use Rattle.std.proofs.Common.{◌⊎◌, take, Contains}
 use Rattle.grid_index.specs.declared.placed.Placed.{Placed}
 use Rattle.error_store.specs.Frames.{AreFramed, IsFrame}
 use Rattle.error_store.proofs.Framing.{Holds}
-use Rattle.error_store.proofs.frames.put_frames.Given as goal
+use Rattle.error_store.proofs.frames.put_missing.Given as goal
 
 abbrev pub invariant-loop-e : goal.invariant-loop-e
 invariant-loop-e l = record {
