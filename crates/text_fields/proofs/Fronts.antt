@@ -2,6 +2,7 @@
 use Rattle.std.proofs.Common.{ℕ, suc, ◌≡◌, ◌<◌, ◌≤◌, ◌+◌, ◌-◌, ◌*◌, Bool, true, false, List, [], ◌∷◌, ◌++◌, length, get_or, take, drop, refl, ap, ◌&&◌, append_assoc, add-one, arith, rules, IsTrue, cond}
 use Rattle.std.specs.List.{list_all}
 use Rattle.std.proofs.Math.Seq.{drop-cons, take-suc}
+use Rattle.text_terms.specs.Fields.{is_blank, front_field, behind_field}
 use Rattle.text_terms.specs.Numbers.{value_from}
 use Rattle.wkt_terms.specs.Runs.{front_of, behind}
 
@@ -69,3 +70,12 @@ front_whole p (x ∷ xs) rest h s = at (p x) refl h (λ k. front_whole p xs rest
         → (front_of p ((x ∷ xs) ++ rest) ≡ x ∷ xs) × (behind p ((x ∷ xs) ++ rest) ≡ rest)
     at true e k more = let m = more k in (rw e (ap (λ t. x ∷ t) m.0), rw e m.1)
     at false e k more = absurd cc
+
+-- a text that has nothing before its first blank
+pub behind_end : (text : List ℕ) → front_field text ≡ [] → behind_field text ≡ text
+behind_end [] e = refl
+behind_end (b ∷ bs) e = at (is_blank b) e
+  where
+    at : (x : Bool) → cond x [] (b ∷ front_field bs) ≡ [] → cond x (b ∷ bs) (behind_field bs) ≡ b ∷ bs
+    at true k = refl
+    at false k = absurd cc

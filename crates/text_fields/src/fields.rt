@@ -58,13 +58,42 @@ pub fn next_field(text: &[u8]) -> (&[u8], &[u8])
     split_field(skip_blanks(text))
 }
 
+// Whether a text is nothing, or begins with a blank.
+fn is_end(text: &[u8]) -> bool
+    ensures { IsTrue result ↔ (front_field text.now ≡ []) }
+{
+    match text {
+        [] => true,
+        [first, ..] => is_blank(*first),
+    }
+}
+
+// What follows this word, where the text has it before the first blank. It looks no further than to the first byte that differs.
+fn behind_front<'a>(text: &'a [u8], word: &[u8]) -> Option<&'a [u8]>
+    ensures { MatchOption result (front_field text.now ≡ word.now → ⊥)
+        (λ rest. (front_field text.now ≡ word.now) × (rest.now ≡ behind_field text.now)) }
+{
+    let mut rest = text;
+    let mut letters = word;
+    while let [c, others @ ..] = letters {
+        let [b, more @ ..] = rest else {
+            return None;
+        };
+        if *b != *c || is_blank(*b) {
+            return None;
+        }
+        rest = more;
+        letters = others;
+    }
+    if is_end(rest) { Some(rest) } else { None }
+}
+
 /// What follows this word, where it is the first field of the text.
 pub fn behind_word<'a>(text: &'a [u8], word: &[u8]) -> Option<&'a [u8]>
     ensures { MatchOption result (front_field (skip_blanks text.now) ≡ word.now → ⊥)
         (λ rest. (front_field (skip_blanks text.now) ≡ word.now) × (rest.now ≡ behind_field (skip_blanks text.now))) }
 {
-    let (field, rest) = next_field(text);
-    if field == word { Some(rest) } else { None }
+    behind_front(skip_blanks(text), word)
 }
 
 /// Whether no field is left.
