@@ -14,6 +14,7 @@ use Rattle.plane_terms.specs.declared.kind.Kind.TheVariants as shapes
 use Rattle.topology_terms.specs.Tests.{holds_at, has_end_at}
 use Rattle.cell_laws.proofs.OnLine.{on_lo, on_hi}
 use Rattle.cell_laws.proofs.AtPlaces.{turn_on, same_is}
+use Rattle.column_laws.proofs.Parity.{in_order, out_of_order}
 use Rattle.rule_laws.proofs.Tests.{holds_by}
 
 -- ---- a segment holds what it was drawn from and to
@@ -22,12 +23,6 @@ holds_lo s l = holds_by s s.lo (turn_on s s.lo (on_lo s)) (omega (arith, ints, c
 
 holds_hi : (s : Segment) → s.lo.x ≤ℤ s.hi.x → holds_place s s.hi ≡ true
 holds_hi s l = holds_by s s.hi (turn_on s s.hi (on_hi s)) (omega (arith, ints, clamps))
-
-before_across : (a b : Place) → comes_before a b ≡ true → a.x ≤ℤ b.x
-before_across a b t = grind (arith, ints)
-
-after_across : (a b : Place) → comes_before a b ≡ false → b.x ≤ℤ a.x
-after_across a b t = grind (arith, ints)
 
 record HoldsBoth (s : Segment) (a b : Place) : Type 0 where
   from : holds_place s a ≡ true
@@ -40,11 +35,11 @@ holds_both a b = by_order (comes_before a b) refl
         → HoldsBoth (if t then record { lo = a; hi = b; turned = false } else record { lo = b; hi = a; turned = true }) a b
     by_order true e =
         let s : Segment = record { lo = a; hi = b; turned = false } in
-        let l = before_across a b e in
+        let l = in_order a b e in
         record { from = holds_lo s l; to = holds_hi s l }
     by_order false e =
         let s : Segment = record { lo = b; hi = a; turned = true } in
-        let l = after_across a b e in
+        let l = out_of_order a b e in
         record { from = holds_hi s l; to = holds_lo s l }
 
 -- ---- the first and the last vertex of a part
