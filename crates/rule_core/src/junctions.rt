@@ -1,3 +1,6 @@
+ghost use Rattle.std.specs.Prelude.{◌≡◌, [], ◌++◌, List, ℕ, nat_eq, IfOk, OnOk};
+ghost use Rattle.lru.specs.LruCache.{put_entries};
+
 use grid_plane::{GridPoint, NoMemory};
 use lru::LruCache;
 use std::alloc::Global;
@@ -21,7 +24,9 @@ fn key_of(place: GridPoint) -> u64 {
 
 impl Junctions {
     /// Nothing is kept yet.
-    pub(crate) fn new(alloc: Global) -> Result<Junctions, NoMemory> {
+    pub(crate) fn new(alloc: Global) -> Result<Junctions, NoMemory>
+        ensures { IfOk result (λ j. j.cache.entries ≡ []) }
+    {
         let most = NonZeroUsize::new(MOST_PLACES).unwrap();
         Ok(Junctions {
             cache: LruCache::sparse(alloc, most)?,
@@ -33,18 +38,21 @@ impl Junctions {
         &mut self,
         place: GridPoint,
         handles: &mut Vec<u32>,
-    ) -> Result<(), NoMemory> {
-        let Some(kept) = self.cache.get(&key_of(place)) else {
-            return Ok(());
-        };
-        for handle in kept {
-            handles.push(*handle)?;
+    ) -> Result<(), NoMemory>
+        ensures last { OnOk result ((hs : List ℕ) × (handles.new.items ≡ handles.old.items ++ hs)) }
+        ensures room { self.new.cache.cap ≡ self.old.cache.cap }
+    {
+        if let Some(kept) = self.cache.get(&key_of(place)) {
+            handles.extend_from_slice(kept)?;
         }
         Ok(())
     }
 
     /// Keeps these handles for the place, in place of others.
-    pub(crate) fn keep(&mut self, place: GridPoint, handles: Vec<u32>) -> Result<(), NoMemory> {
+    pub(crate) fn keep(&mut self, place: GridPoint, handles: Vec<u32>) -> Result<(), NoMemory>
+        ensures kept { OnOk result ((k : ℕ) × (self.new.cache.entries ≡ put_entries nat_eq self.old.cache k handles)) }
+        ensures room { self.new.cache.cap ≡ self.old.cache.cap }
+    {
         self.cache.put(key_of(place), handles)?;
         Ok(())
     }

@@ -1,4 +1,4 @@
-ghost use Rattle.std.specs.Prelude.{◌≡◌, IfOk, IfSome};
+ghost use Rattle.std.specs.Prelude.{◌≡◌, ◌++◌, List, ℕ, IfOk, IfSome, OnOk};
 ghost use Rattle.topology_terms.specs.Counts.{raised};
 ghost use Rattle.rule_core.specs.Kept.{cells_of};
 
@@ -137,6 +137,7 @@ impl Work {
         place: GridPoint,
         handles: &mut Vec<u32>,
     ) -> Result<(), NoMemory>
+        ensures last { OnOk result ((hs : List ℕ) × (handles.new.items ≡ handles.old.items ++ hs)) }
         ensures uncounted { self.new ≡ self.old }
     {
         match &mut self.junctions {
