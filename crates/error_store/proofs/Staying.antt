@@ -1,11 +1,11 @@
 -- Where each frame in the index is an error's, this stays so when errors go and others come.
-use Rattle.std.proofs.Common.{◌≡◌, ◌⊎◌, inl, inr, ℕ, Bool, true, false, not, cond, ◌==◌, List, [], ◌∷◌, Option, Some, None, refl, sym, ◌∙◌, ap, subst, Contains}
+use Rattle.std.proofs.Common.{◌≡◌, ◌⊎◌, inl, inr, ℕ, Bool, true, false, not, cond, ◌==◌, List, [], ◌∷◌, Option, Some, None, arith, refl, sym, ◌∙◌, ap, subst, Contains}
 use Rattle.std.specs.List.{filter}
 use Rattle.std.proofs.lemmas.Bool.{cases_Bool}
 use Rattle.plane_terms.specs.Lists.{SomeOf}
 use Rattle.topology_terms.specs.Entry.{Entry, by_key, entry_at, IsAscending}
 use Rattle.sound_laws.proofs.Keyed.{some_found, found_some}
-use Rattle.sound_laws.proofs.Lists.{keys, every_found}
+use Rattle.sound_laws.proofs.Lists.{keys, every_found, entry_key}
 use Rattle.validation_laws.specs.Replaced.{AreRemarked, IsReplaced, IsNewOf, AreFresh}
 use Rattle.grid_index.specs.declared.placed.Placed.{Placed}
 use Rattle.error_store.specs.Runs.{is_of}
@@ -80,6 +80,25 @@ frames_replaced selected old fresh new gone ps qs rs u v w h same only left befo
       | inl k ↦ kept selected old fresh new gone q u h same (λ g. came selected old fresh new q v w h (l.1 g)) (before q k)
       | inr s ↦ came selected old fresh new q v w h s
     ]
+
+-- where no error goes and none comes all stay as they are
+pub nothing_replaced : (selected : List ℕ) (old fresh : List Entry) → frames_if (is_of selected) old ≡ [] → fresh ≡ []
+    → IsReplaced selected old fresh old
+unfolding entry_at
+nothing_replaced selected old fresh none empty = rw empty (record {
+  kept = λ r a b out. refl;
+  came = λ r a b c. by r a b c (entry_at old r a b) refl;
+})
+  where
+    by : (r a b : ℕ) → Contains selected a → (o : Option Entry) → entry_at old r a b ≡ o → AreRemarked o (entry_at [] r a b) o
+    by r a b c None e = tt
+    by r a b c (Some e) k =
+        let own = subst (Contains selected) (sym (entry_key old r a b e k).1) c in
+        let q = framed_of e in
+        let there = noted (is_of selected) old q (found_some by_key keys (λ (x : Entry). IsAt q x × (is_of selected x ≡ true)) old (r, a, b) e k
+        (refl, among selected e.subject own)) in
+        let l = (subst (λ ps. Contains ps q) none there).1 in
+        absurd (omega (arith, l))
 
 -- what is gone and not of a fresh error is the frame of no error
 subject_of : (selected : List ℕ) (es : List Entry) (q : Placed) → IsFrame (filter (is_of selected) es) q → Contains selected q.handle

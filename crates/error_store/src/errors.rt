@@ -112,6 +112,10 @@ fn replace_framed(
     let subjects = selected.items();
     order_law(runs);
     let gone = frames_of(alloc, runs, subjects)?;
+    // Nothing goes and nothing comes.
+    if gone.is_empty() && fresh.is_empty() {
+        return Ok(number);
+    }
     let staying = staying_of(alloc, &gone, &fresh)?;
     put_frames(frames, alloc, &gone, &fresh)?;
     let replaced = replace_runs(runs, number, alloc, subjects, fresh);

@@ -63,11 +63,7 @@ fn put_frame(index: &mut Index, standing: &FrameSet, fresh: &Entry) -> Result<()
 }
 
 // Puts the frames of the fresh errors in, but for those that stand there. After an `Err`, out of memory, some may be in.
-fn put_missing(
-    index: &mut Index,
-    standing: &FrameSet,
-    fresh: &[Entry],
-) -> Result<(), NoMemory>
+fn put_missing(index: &mut Index, standing: &FrameSet, fresh: &[Entry]) -> Result<(), NoMemory>
     requires { (q : placed.Placed) → HasPlace standing.now q → Contains index.old q }
     ensures there { OnOk result (AreFramed index.new fresh.now) }
     ensures kept { (q : placed.Placed) → Contains index.old q → Contains index.new q }

@@ -1,10 +1,22 @@
-use Rattle.std.proofs.Common.{Contains}
+use Rattle.std.proofs.Common.{◌∙◌, sym, Contains}
+use Rattle.std.specs.Prelude.{vec_len}
+use Rattle.std.proofs.lemmas.Bool.{eqb-true}
+use Rattle.std.proofs.lemmas.List.{nil_from_length}
 use Rattle.error_store.specs.FrameSets.{HasPlace}
 use Rattle.error_store.specs.Pairs.{all_entries}
 use Rattle.error_store.specs.Runs.{is_of}
 use Rattle.error_store.proofs.Framing.{framed_more, framed_kept, framed_replaced, frames_stand}
-use Rattle.error_store.proofs.Staying.{frames_replaced, frames_stay}
+use Rattle.error_store.proofs.Staying.{frames_replaced, frames_stay, nothing_replaced}
 use Rattle.error_store.proofs.errors.replace_framed.Goals as goal
+
+pub returns-then-is_empty-2-clause-replaced : goal.returns-then-is_empty-2-clause-replaced
+returns-then-is_empty-2-clause-replaced c =
+    let gone = c.in_ok-gone.gone in
+    let fresh = c.args.fresh in
+    nothing_replaced c.args.selected.now (all_entries c.args.runs.now) fresh.items
+    (sym (rw c.items-subjects.ensures.value at c.in_ok-gone.ensures)
+    ∙ nil_from_length gone.items (sym gone.ok.0 ∙ eqb-true (vec_len gone) 0 (sym c.is_empty.ensures ∙ c.if-is_empty.true)))
+    (nil_from_length fresh.items (sym fresh.ok.0 ∙ eqb-true (vec_len fresh) 0 (sym c.is_empty-then-is_empty.ensures ∙ c.if-is_empty-2.true)))
 
 pub put_frames-requires : goal.put_frames-requires
 put_frames-requires c = λ q s. frames_stand c.args.frames.now (is_of c.args.selected.now) (all_entries c.args.runs.now) c.requires.framed q
