@@ -5,10 +5,12 @@ use Rattle.std.specs.Global.{Vec}
 use Rattle.std.specs.Map.{keys_of, values_of, remove_entry, lookup}
 use Rattle.std.specs.Map.Iter.{deref}
 use Rattle.std.specs.Option.{option_map, unwrap_or, is_some}
-use Rattle.std.specs.declared.ops.Bound.{Bound}
-use Rattle.std.specs.declared.ops.Bound.TheVariants.{Excluded}
+use Rattle.std.specs.Cmp.{eq_by_cmp_equiv}
+use Rattle.std.proofs.lemmas.List.{map-append}
 use Rattle.std.proofs.lemmas.List.Concat.{length-flat_map}
+use Rattle.std.proofs.lemmas.List.Elements.{Contains-append_left, Contains-append_right, Contains-push, Contains-push_cases}
 use Rattle.std.proofs.lemmas.Map.Entries.{sum_by-remove_entry, sum_by-insert_entry}
+use Rattle.std.proofs.lemmas.Map.Views.{IsSome-lookup_from_Contains}
 use Rattle.plane_terms.specs.Lists.{Every}
 use Rattle.plane_terms.proofs.ListLemmas.{every_left, every_right}
 use Rattle.topology_terms.specs.Entry.{Entry, entry_at}
@@ -16,12 +18,11 @@ use Rattle.sound_laws.proofs.Lists.{same_entries}
 use Rattle.validation_laws.specs.Replaced.{AreFresh, IsReplaced}
 use Rattle.error_store.specs.Pairs.{pair, pair_cmp, entries_in, all_entries, IsOf, IsRunOf, AreRuns}
 use Rattle.error_store.specs.Cutting.{AreOrderedRuns, AreFilled}
-use Rattle.error_store.specs.Exchange.{HasRoom, over, IsSetAt, AreDropped, ArePutIn}
-use Rattle.error_store.specs.Runs.{IsNextRun}
+use Rattle.error_store.specs.Exchange.{HasRoom, over, IsSetAt, KeepsBeside, AreDropped, ArePutIn}
+use Rattle.error_store.specs.Runs.{ArePairsOf}
 use Rattle.error_store.specs.declared.pair.Pair.{Pair}
-use Rattle.error_store.proofs.Pairs.{Run, pairs_total, of_pairs, this_pair, runs_ascend, at_pair, found_in, run_at, runs_from_get}
+use Rattle.error_store.proofs.Pairs.{Run, pairs_total, this_pair, runs_ascend, at_pair, found_in, run_at, runs_from_get}
 use Rattle.error_store.proofs.Remarking.{AreMarked, remarked_as, marked_at, marked_chosen}
-use Rattle.error_store.proofs.Walking.{IsFrom}
 
 abbrev Runs : Type 0
 Runs = BTreeMap Pair (Vec Entry)
@@ -128,10 +129,10 @@ empty_same p v m n u w e none h = same_entries (all_entries n) (all_entries m) (
     (runs_ascend m u.ordered u.runs) (λ r a b. at_pair n w.ordered w.runs r a b ∙ (empty_found p v m n e none h (pair r a) r a b
     ∙ sym (at_pair m u.ordered u.runs r a b)))
 
-some_of : (o : Option (Vec Entry)) (v : Vec Entry) → o ≡ Some v → IsSome o
+pub some_of : (o : Option (Vec Entry)) (v : Vec Entry) → o ≡ Some v → IsSome o
 some_of o v e = rw e refl
 
-none_some : (o : Option (Vec Entry)) → o ≡ None → IsSome o → ⊥
+pub none_some : (o : Option (Vec Entry)) → o ≡ None → IsSome o → ⊥
 none_some o e s = let f : false ≡ true = rw e at s in absurd cc
 
 -- a pair more has room
@@ -158,65 +159,49 @@ room_in m (q ∷ rs) u p s = elim (this_pair p q.0) [
 pub room_all : (fresh m : Runs) (ps : List Pair) → ps ≡ keys fresh → Every (λ (p : Pair). IsSome (get pair_cmp m p)) ps → HasRoom fresh m
 room_all fresh m ps e u p s = room_in m fresh.entries (subst (Every (λ (p : Pair). IsSome (get pair_cmp m p))) e u) p s
 
+-- ---- beside some pairs
+pub beside_none : (ps : List Pair) (m : Runs) → KeepsBeside ps m m
+beside_none ps m q n = refl
+
+pub beside_set : (p : Pair) (o : Option (Vec Entry)) (m n : Runs) → IsSetAt p o m n → KeepsBeside (p ∷ []) m n
+beside_set p o m n h q out = set_other p o m n h q (λ e. out (0, omega arith, e))
+
+pub beside_on : (m n o : Runs) (xs : List (Bor Pair)) (x : Bor Pair) → KeepsBeside (map deref xs) m n → KeepsBeside (x.now ∷ []) n o
+    → KeepsBeside (map deref (xs ++ x ∷ [])) m o
+beside_on m n o xs x h k q out =
+    let ps = map deref xs in
+    let apart : ¬ (Contains (ps ++ x.now ∷ []) q) = rw (map-append deref xs (x ∷ [])) at out in
+    k q (λ c. apart (Contains-append_right ps (x.now ∷ []) q c)) ∙ h q (λ c. apart (Contains-append_left ps (x.now ∷ []) q c))
+
 -- ---- what goes
-pub record IsDropping (handles : List ℕ) (fresh old cur : Runs) (lo : Bound Pair) : Type 0 where
-  pub kept : (p : Pair) → ¬ (Contains handles p.subject) → get pair_cmp cur p ≡ get pair_cmp old p
-  pub left : (p : Pair) → IsSome (get pair_cmp fresh p) → get pair_cmp cur p ≡ get pair_cmp old p
-  pub gone : (p : Pair) → Contains handles p.subject → get pair_cmp fresh p ≡ None → IsFrom lo p ⊎ (get pair_cmp cur p ≡ None)
-  pub fewer : (p : Pair) (v : Vec Entry) → get pair_cmp cur p ≡ Some v → get pair_cmp old p ≡ Some v
-  pub runs : AreOrderedRuns cur
+pub dropped_none : (fresh m : Runs) → AreDropped [] fresh m m
+dropped_none fresh m = record { kept = λ q n. refl; left = λ q s. refl; gone = λ q c none. absurd (omega (arith, c.1)) }
 
--- past the next run a pair is further on, or has no run, or is that of the run
-past_next : (handles : List ℕ) (fresh old cur : Runs) (lo : Bound Pair) (p : Pair) (v : Vec Entry) → IsDropping handles fresh old cur lo
-    → IsNextRun handles cur lo p v → (q : Pair) → Contains handles q.subject → get pair_cmp fresh q ≡ None
-    → IsFrom (Excluded p) q ⊎ ((get pair_cmp cur q ≡ None) ⊎ (p ≡ q))
-past_next handles fresh old cur lo p v d next q c none = elim (of_pairs p q) [
-  | inl a ↦ inl a.0
-  | inr s ↦ elim s [
-    | inl a ↦ inr (inr a.1)
-    | inr a ↦ elim (d.gone q c none) [ inl f ↦ inr (inl (next.none q f a.1 c)) | inr n ↦ inr (inl n) ]
-  ]
-]
-
-pub dropping_past : (handles : List ℕ) (fresh old cur : Runs) (lo : Bound Pair) (p : Pair) (v : Vec Entry)
-    → IsDropping handles fresh old cur lo → IsNextRun handles cur lo p v → IsSome (get pair_cmp fresh p)
-    → IsDropping handles fresh old cur (Excluded p)
-dropping_past handles fresh old cur lo p v d next some = record {
-  kept = d.kept;
+pub dropped_past : (ps : List Pair) (fresh old cur : Runs) (p : Pair) → AreDropped ps fresh old cur → IsSome (get pair_cmp fresh p)
+    → AreDropped (ps ++ p ∷ []) fresh old cur
+dropped_past ps fresh old cur p d some = record {
+  kept = λ q n. d.kept q (λ c. n (Contains-append_left ps (p ∷ []) q c));
   left = d.left;
-  gone = λ q c none. elim (past_next handles fresh old cur lo p v d next q c none) [
-    | inl f ↦ inl f
-    | inr s ↦ elim s [
-      | inl n ↦ inr n
-      | inr k ↦ absurd (none_some (get pair_cmp fresh p) (at_same fresh q p None (sym k) none) some)
-    ]
+  gone = λ q c none. elim (Contains-push_cases ps p q c) [
+    | inl k ↦ d.gone q k none
+    | inr e ↦ absurd (none_some (get pair_cmp fresh p) (at_same fresh q p None (sym e) none) some)
   ];
-  fewer = d.fewer;
-  runs = d.runs;
 }
 
-pub dropping_out : (handles : List ℕ) (fresh old cur new : Runs) (lo : Bound Pair) (p : Pair) (v : Vec Entry)
-    → IsDropping handles fresh old cur lo → IsNextRun handles cur lo p v → get pair_cmp fresh p ≡ None → IsSetAt p None cur new
-    → AreOrderedRuns new → IsDropping handles fresh old new (Excluded p)
-dropping_out handles fresh old cur new lo p v d next absent h u = record {
-  kept = λ q n. set_other p None cur new h q (λ k. n (subst (λ (x : Pair). Contains handles x.subject) k next.chosen)) ∙ d.kept q n;
+pub dropped_out : (ps : List Pair) (fresh old cur new : Runs) (p : Pair) → AreDropped ps fresh old cur → get pair_cmp fresh p ≡ None
+    → IsSetAt p None cur new → AreDropped (ps ++ p ∷ []) fresh old new
+dropped_out ps fresh old cur new p d absent h = record {
+  kept = λ q n. set_other p None cur new h q (λ k. n (subst (Contains (ps ++ p ∷ [])) k (Contains-push ps p)))
+      ∙ d.kept q (λ c. n (Contains-append_left ps (p ∷ []) q c));
   left = λ q s. set_other p None cur new h q (λ k. none_some (get pair_cmp fresh q) (at_same fresh p q None k absent) s) ∙ d.left q s;
-  gone = λ q c none. elim (past_next handles fresh old cur lo p v d next q c none) [
-    | inl f ↦ inl f
-    | inr s ↦ elim s [ inl n ↦ inr (stays_none q n) | inr k ↦ inr (at_same new p q None k (set_here p None cur new h)) ]
-  ];
-  fewer = λ q w e. elim (same_or_other p q) [
-    | inl k ↦ let f : None ≡ Some w = sym (at_same new p q None k (set_here p None cur new h)) ∙ e in absurd cc
-    | inr k ↦ d.fewer q w (sym (set_other p None cur new h q k) ∙ e)
-  ];
-  runs = u;
-}
-  where
-    stays_none : (q : Pair) → get pair_cmp cur q ≡ None → get pair_cmp new q ≡ None
-    stays_none q n = elim (same_or_other p q) [
-      | inl k ↦ at_same new p q None k (set_here p None cur new h)
-      | inr k ↦ set_other p None cur new h q k ∙ n
+  gone = λ q c none. elim (same_or_other p q) [
+    | inl k ↦ at_same new p q None k (set_here p None cur new h)
+    | inr k ↦ elim (Contains-push_cases ps p q c) [
+      | inl f ↦ set_other p None cur new h q k ∙ d.gone q f none
+      | inr e ↦ absurd (k e)
     ]
+  ];
+}
 
 -- ---- what comes
 pub record IsPutting (all old fresh cur : Runs) : Type 0 where
@@ -244,46 +229,56 @@ runs_chosen selected (q ∷ rs) h f c p v e = elim (this_pair p q.0) [
     of_run p (e ∷ es) o n c = subst (Contains selected) o.0.subject c.0
 
 -- what is said of the maps that the steps leave
-pub record AreExchanged (selected : List ℕ) (old fresh mid left new : Runs) : Type 0 where
+pub record AreExchanged (selected : List ℕ) (pairs : List Pair) (old fresh mid left new : Runs) : Type 0 where
+  pub pairs_of : ArePairsOf selected old pairs
+  pub beside : KeepsBeside (keys fresh) old mid
   pub same : all_entries mid ≡ all_entries old
   pub mid_runs : AreOrderedRuns mid
   pub fresh_runs : AreOrderedRuns fresh
   pub new_runs : AreOrderedRuns new
   pub filled : AreFilled fresh
-  pub dropped : AreDropped selected fresh mid left
+  pub dropped : AreDropped pairs fresh mid left
   pub put : ArePutIn fresh left new
 
-new_kept : (selected : List ℕ) (old fresh mid left new : Runs) → AreExchanged selected old fresh mid left new
+new_kept : (selected : List ℕ) (pairs : List Pair) (old fresh mid left new : Runs) → AreExchanged selected pairs old fresh mid left new
     → ((p : Pair) (v : Vec Entry) → get pair_cmp fresh p ≡ Some v → Contains selected p.subject)
     → (p : Pair) → ¬ (Contains selected p.subject) → get pair_cmp new p ≡ get pair_cmp mid p
-new_kept selected old fresh mid left new h chosen p out = h.put p ∙ by (get pair_cmp fresh p) refl
+new_kept selected pairs old fresh mid left new h chosen p out = h.put p ∙ by (get pair_cmp fresh p) refl
   where
     by : (o : Option (Vec Entry)) → get pair_cmp fresh p ≡ o → over o (get pair_cmp left p) ≡ get pair_cmp mid p
-    by None e = h.dropped.kept p out
+    by None e = h.dropped.kept p (λ c. out ((h.pairs_of p).0 c).0)
     by (Some v) e = absurd (out (chosen p v e))
 
-new_came : (selected : List ℕ) (old fresh mid left new : Runs) → AreExchanged selected old fresh mid left new
+-- the room that was made is at pairs of fresh runs, so that what else goes is at the pairs that were noted
+new_came : (selected : List ℕ) (pairs : List Pair) (old fresh mid left new : Runs) → AreExchanged selected pairs old fresh mid left new
     → (p : Pair) → Contains selected p.subject → get pair_cmp new p ≡ get pair_cmp fresh p
-new_came selected old fresh mid left new h p c = h.put p ∙ by (get pair_cmp fresh p) refl
+new_came selected pairs old fresh mid left new h p c = h.put p ∙ by (get pair_cmp fresh p) refl
   where
+    gone : get pair_cmp fresh p ≡ None → (o : Option (Vec Entry)) → get pair_cmp old p ≡ o → get pair_cmp left p ≡ None
+    gone e None k =
+        h.dropped.kept p (λ n. none_some (get pair_cmp old p) k ((h.pairs_of p).0 n).1)
+        ∙ (h.beside p (λ n. none_some (get pair_cmp fresh p) e
+        (IsSome-lookup_from_Contains (eq_by_cmp_equiv pairs_total) p fresh.entries n)) ∙ k)
+    gone e (Some v) k = h.dropped.gone p ((h.pairs_of p).1 (c, some_of (get pair_cmp old p) v k)) e
+
     by : (o : Option (Vec Entry)) → get pair_cmp fresh p ≡ o → over o (get pair_cmp left p) ≡ o
-    by None e = h.dropped.gone p c e
+    by None e = gone e (get pair_cmp old p) refl
     by (Some v) e = refl
 
-pub exchanged : (selected : List ℕ) (old fresh mid left new : Runs) (es marked : List Entry)
-    → AreExchanged selected old fresh mid left new → all_entries fresh ≡ marked → AreMarked (all_entries old) es marked → AreFresh selected es
+pub exchanged : (selected : List ℕ) (pairs : List Pair) (old fresh mid left new : Runs) (es marked : List Entry)
+    → AreExchanged selected pairs old fresh mid left new → all_entries fresh ≡ marked → AreMarked (all_entries old) es marked → AreFresh selected es
     → IsReplaced selected (all_entries old) es (all_entries new)
-exchanged selected old fresh mid left new es marked h list marks u =
+exchanged selected pairs old fresh mid left new es marked h list marks u =
     let chosen = runs_chosen selected fresh.entries h.fresh_runs.runs h.filled
     (subst (Every (λ (e : Entry). Contains selected e.subject)) (sym list) (marked_chosen selected (all_entries old) es marked marks u)) in
     record {
       kept = λ r a b out. at_pair new h.new_runs.ordered h.new_runs.runs r a b
-          ∙ (ap (λ (o : Option (Vec Entry)). found_in o r a b) (new_kept selected old fresh mid left new h chosen (pair r a) out)
+          ∙ (ap (λ (o : Option (Vec Entry)). found_in o r a b) (new_kept selected pairs old fresh mid left new h chosen (pair r a) out)
           ∙ (sym (at_pair mid h.mid_runs.ordered h.mid_runs.runs r a b) ∙ ap (λ xs. entry_at xs r a b) h.same));
       came = λ r a b c. remarked_as (entry_at (all_entries old) r a b) (entry_at es r a b) (entry_at marked r a b)
           (entry_at es r a b) (entry_at (all_entries new) r a b) refl
           (at_pair new h.new_runs.ordered h.new_runs.runs r a b
-          ∙ (ap (λ (o : Option (Vec Entry)). found_in o r a b) (new_came selected old fresh mid left new h (pair r a) c)
+          ∙ (ap (λ (o : Option (Vec Entry)). found_in o r a b) (new_came selected pairs old fresh mid left new h (pair r a) c)
           ∙ (sym (at_pair fresh h.fresh_runs.ordered h.fresh_runs.runs r a b) ∙ ap (λ xs. entry_at xs r a b) list)))
           (marked_at (all_entries old) es marked marks r a b);
     }

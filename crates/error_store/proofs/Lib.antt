@@ -5,6 +5,7 @@ mod Exchange
 mod Finding
 mod FrameSets
 mod Framing
+mod GonePairs
 mod Joined
 mod Leaving
 mod MarkedRuns

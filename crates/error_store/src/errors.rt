@@ -15,9 +15,8 @@ ghost use Rattle.error_store.specs.Runs.{is_of};
 use crate::cut::cut;
 use crate::entry::Entry;
 use crate::fault::MarkFault;
-use crate::frames::{
-    drop_frames, drop_unused, frames_of, frames_under, index_of, put_frames, staying_of,
-};
+use crate::frames::{drop_frames, drop_unused, frames_under, index_of, put_frames, staying_of};
+use crate::gone::gone_of;
 use crate::key::Key;
 use crate::list::mark_in;
 use crate::marks::find;
@@ -111,17 +110,17 @@ fn replace_framed(
 {
     let subjects = selected.items();
     order_law(runs);
-    let gone = frames_of(alloc, runs, subjects)?;
+    let gone = gone_of(alloc, runs, subjects)?;
     // Nothing goes and nothing comes.
-    if gone.is_empty() && fresh.is_empty() {
+    if gone.frames.is_empty() && fresh.is_empty() {
         return Ok(number);
     }
-    let staying = staying_of(alloc, &gone, &fresh)?;
-    put_frames(frames, alloc, &gone, &fresh)?;
-    let replaced = replace_runs(runs, number, alloc, subjects, fresh);
+    let staying = staying_of(alloc, &gone.frames, &fresh)?;
+    put_frames(frames, alloc, &gone.frames, &fresh)?;
+    let replaced = replace_runs(runs, number, alloc, &gone.pairs, fresh);
     order_law(runs);
     let number = replaced?;
-    drop_frames(frames, &staying, &gone);
+    drop_frames(frames, &staying, &gone.frames);
     Ok(number)
 }
 

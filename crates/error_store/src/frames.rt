@@ -1,16 +1,13 @@
 ghost use Rattle.std.specs.Prelude.{◌≡◌, ◌↔◌, ◌==◌, ◌⊎◌, ◌++◌, map, Contains, IfOk, OnOk};
-ghost use Rattle.std.specs.List.Sorted.{IsStrictlyIncreasing};
 ghost use Rattle.topology_terms.specs.Entry as terms;
 ghost use Rattle.grid_index.specs.declared.placed.Placed as placed;
 ghost use Rattle.error_store.specs.FrameSets.{HasPlace};
 ghost use Rattle.error_store.specs.Frames.{framed_of, frames_if, IsFrame, AreFramed};
 ghost use Rattle.error_store.specs.Pairs.{all_entries, AreRuns};
-ghost use Rattle.error_store.specs.Runs.{is_of};
 
 use crate::entry::Entry;
 use crate::frame_set::FrameSet;
 use crate::pair::Pair;
-use crate::walk::runs_of;
 use grid_index::{Index, Placed};
 use grid_plane::NoMemory;
 use std::alloc::Global;
@@ -95,8 +92,8 @@ pub(crate) fn put_frames(
     put_missing(index, &standing, fresh)
 }
 
-// Notes the frames of these errors behind the others.
-fn note(frames: &mut Vec<Placed>, entries: &[Entry]) -> Result<(), NoMemory>
+/// Notes the frames of these errors behind the others.
+pub(crate) fn note(frames: &mut Vec<Placed>, entries: &[Entry]) -> Result<(), NoMemory>
     ensures { OnOk result (frames.new.items ≡ frames.old.items ++ map framed_of entries.now) }
 {
     for e in entries {
@@ -120,24 +117,6 @@ fn frames_of_all(alloc: Global, runs: &BTreeMap<Pair, Vec<Entry>>) -> Result<Vec
 {
     let mut frames = Vec::new(alloc);
     for run in runs.values() {
-        note(&mut frames, run)?;
-    }
-    Ok(frames)
-}
-
-/// The frames of the errors of these subjects.
-pub fn frames_of(
-    alloc: Global,
-    runs: &BTreeMap<Pair, Vec<Entry>>,
-    subjects: &[u32],
-) -> Result<Vec<Placed>, NoMemory>
-    requires rising { IsStrictlyIncreasing subjects.now }
-    requires runs { AreRuns runs.now }
-    ensures { IfOk result (λ frames. frames.items ≡ frames_if (is_of subjects.now) (all_entries runs.now)) }
-{
-    let found = runs_of(alloc, runs, subjects)?;
-    let mut frames = Vec::new(alloc);
-    for run in &found {
         note(&mut frames, run)?;
     }
     Ok(frames)

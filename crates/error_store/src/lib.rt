@@ -8,6 +8,7 @@ mod errors;
 mod fault;
 mod frame_set;
 mod frames;
+mod gone;
 mod key;
 mod list;
 mod marks;

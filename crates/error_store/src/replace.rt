@@ -1,21 +1,19 @@
-ghost use Rattle.std.specs.Prelude.{◌≡◌, ◌≤◌, ◌<◌, ◌+◌, ◌^◌, None, Some, length, IsSome, IfOk, OnOk, OnErr, vec_len};
-ghost use Rattle.std.specs.List.Sorted.{IsStrictlyIncreasing};
-ghost use Rattle.std.specs.BTreeMap.{get};
+ghost use Rattle.std.specs.Prelude.{◌≡◌, ◌≤◌, ◌<◌, ◌+◌, ◌^◌, ℕ, List, [], ◌∷◌, None, Some, length, IsSome, IfOk, OnOk, OnErr, vec_len};
+ghost use Rattle.std.specs.BTreeMap.{get, keys};
 ghost use Rattle.topology_terms.specs.Entry.{IsAscending};
 ghost use Rattle.validation_laws.specs.Replaced.{IsReplaced, AreFresh};
 ghost use Rattle.error_store.specs.Pairs.{pair_cmp, all_entries, IsRunOf, AreRuns};
 ghost use Rattle.error_store.specs.Cutting.{AreOrderedRuns};
-ghost use Rattle.error_store.specs.Exchange.{HasRoom, IsSetAt, AreDropped, ArePutIn};
+ghost use Rattle.error_store.specs.Exchange.{HasRoom, KeepsBeside, IsSetAt, AreDropped, ArePutIn};
+ghost use Rattle.error_store.specs.Runs.{ArePairsOf};
 
 use crate::cut::cut;
 use crate::entry::Entry;
 use crate::marks::keep_marks;
 use crate::pair::Pair;
-use crate::walk::next_of;
 use grid_plane::NoMemory;
 use std::alloc::Global;
 use std::collections::BTreeMap;
-use std::ops::Bound;
 
 // Puts an empty run at the pair, where there is none. An empty run has no error, so that nothing changes.
 fn make_room_at(
@@ -28,6 +26,7 @@ fn make_room_at(
     ensures same { all_entries runs.new ≡ all_entries runs.old }
     ensures room { OnOk result (IsSome (get pair_cmp runs.new pair)) }
     ensures kept { HasRoom runs.old runs.new }
+    ensures beside { KeepsBeside (pair ∷ []) runs.old runs.new }
 {
     if runs.contains_key(&pair) {
         return Ok(());
@@ -47,6 +46,7 @@ fn make_room(
     ensures runs { AreOrderedRuns runs.new }
     ensures same { all_entries runs.new ≡ all_entries runs.old }
     ensures room { OnOk result (HasRoom fresh.now runs.new) }
+    ensures beside { OnOk result (KeepsBeside (keys fresh.now) runs.old runs.new) }
 {
     for pair in fresh.keys() {
         make_room_at(runs, alloc, *pair)?;
@@ -69,28 +69,25 @@ fn take_out(runs: &mut BTreeMap<Pair, Vec<Entry>>, number: usize, pair: Pair) ->
     }
 }
 
-// Takes out the runs of the subjects, but for those at whose pair there is a fresh one. Gives how many errors there are then.
+// Takes out the runs of these pairs, but for those at whose pair there is a fresh one. Gives how many errors there are then.
 fn drop_gone(
     runs: &mut BTreeMap<Pair, Vec<Entry>>,
     number: usize,
-    subjects: &[u32],
+    pairs: &[Pair],
     fresh: &BTreeMap<Pair, Vec<Entry>>,
 ) -> usize
-    requires rising { IsStrictlyIncreasing subjects.now }
     requires runs { AreOrderedRuns runs.old }
     requires number { number ≡ length (all_entries runs.old) }
     ensures runs { AreOrderedRuns runs.new }
     ensures number { result ≡ length (all_entries runs.new) }
-    ensures dropped { AreDropped subjects.now fresh.now runs.old runs.new }
+    ensures dropped { AreDropped pairs.now fresh.now runs.old runs.new }
     ensures fewer { result ≤ number }
 {
     let mut left = number;
-    let mut from = Bound::Unbounded;
-    while let Some((pair, _)) = next_of(runs, from, subjects) {
-        if !fresh.contains_key(&pair) {
-            left = take_out(runs, left, pair);
+    for pair in pairs {
+        if !fresh.contains_key(pair) {
+            left = take_out(runs, left, *pair);
         }
-        from = Bound::Excluded(pair);
     }
     left
 }
@@ -143,23 +140,21 @@ fn put_each(
     count
 }
 
-/// The errors of the subjects give way to the fresh ones, and all others stay. A fresh error is marked exactly where the old one of
-/// its key was, and had the same extent, frame and cells. Gives how many errors there are then. After an `Err`, out of memory,
-/// the errors are the same, but some empty runs may have come. Takes steps by the logarithm of the number of pairs for each rule that
-/// has errors, for each of the subjects and for each fresh error.
+/// The errors of the subjects give way to the fresh ones, and all others stay: those subjects that have these pairs. A fresh error
+/// is marked exactly where the old one of its key was, and had the same extent, frame and cells. Gives how many errors there are then.
+/// After an `Err`, out of memory, the errors are the same, but some empty runs may have come. Takes steps by the logarithm of the
+/// number of pairs for each of these pairs and for each fresh error.
 pub(crate) fn replace_runs(
     runs: &mut BTreeMap<Pair, Vec<Entry>>,
     number: usize,
     alloc: Global,
-    subjects: &[u32],
+    pairs: &[Pair],
     fresh: Vec<Entry>,
 ) -> Result<usize, NoMemory>
-    requires rising { IsStrictlyIncreasing subjects.now }
     requires runs { AreRuns runs.old }
     requires number { number ≡ length (all_entries runs.old) }
     requires ascending { IsAscending fresh.items }
-    requires new { AreFresh subjects.now fresh.items }
-    ensures replaced { OnOk result (IsReplaced subjects.now (all_entries runs.old) fresh.items (all_entries runs.new)) }
+    ensures replaced { OnOk result ((subjects : List ℕ) → ArePairsOf subjects runs.old pairs.now → AreFresh subjects fresh.items → IsReplaced subjects (all_entries runs.old) fresh.items (all_entries runs.new)) }
     ensures number { IfOk result (λ n. n ≡ length (all_entries runs.new)) }
     ensures runs { AreRuns runs.new }
     ensures err { OnErr result (all_entries runs.new ≡ all_entries runs.old) }
@@ -174,6 +169,6 @@ pub(crate) fn replace_runs(
     keep_marks(runs, &mut fresh);
     let fresh = cut(alloc, fresh)?;
     make_room(runs, alloc, &fresh)?;
-    let left = drop_gone(runs, number, subjects, &fresh);
+    let left = drop_gone(runs, number, pairs, &fresh);
     Ok(put_each(runs, left, fresh))
 }

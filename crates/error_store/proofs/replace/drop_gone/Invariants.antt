@@ -1,11 +1,13 @@
-use Rattle.std.proofs.Common.{◌≡◌, ◌≤◌, length}
+use Rattle.std.proofs.Common.{◌≡◌, ◌≤◌, length, take}
+use Rattle.error_store.specs.Cutting.{AreOrderedRuns}
+use Rattle.error_store.specs.Exchange.{AreDropped}
 use Rattle.error_store.specs.Pairs.{all_entries}
-use Rattle.error_store.proofs.Exchange.{IsDropping}
-use Rattle.error_store.proofs.Walking.{left_from}
 use Rattle.error_store.proofs.replace.drop_gone.Given as goal
 
 abbrev pub invariant-loop-pair : goal.invariant-loop-pair
-invariant-loop-pair l = IsDropping l.subjects l.fresh l.fn.runs l.runs l.from × (l.left ≡ length (all_entries l.runs)) × (l.left ≤ l.number)
-
-abbrev pub decreases-loop-pair : goal.decreases-loop-pair
-decreases-loop-pair l = left_from l.from l.fn.runs.entries
+invariant-loop-pair l = record {
+  dropped : AreDropped (take l.pair-index l.pairs) l.fresh l.fn.runs l.runs;
+  runs : AreOrderedRuns l.runs;
+  number : l.left ≡ length (all_entries l.runs);
+  fewer : l.left ≤ l.number;
+}

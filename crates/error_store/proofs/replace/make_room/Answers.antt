@@ -1,8 +1,9 @@
-use Rattle.std.proofs.Common.{◌∙◌, map}
+use Rattle.std.proofs.Common.{◌∙◌, map, subst}
 use Rattle.std.specs.BTreeMap.{keys}
 use Rattle.std.specs.Map.Iter.{deref}
 use Rattle.std.proofs.lemmas.Map.Iter.{iter_end}
-use Rattle.error_store.proofs.Exchange.{room_on, room_all}
+use Rattle.error_store.specs.Exchange.{KeepsBeside}
+use Rattle.error_store.proofs.Exchange.{room_on, room_all, beside_on}
 use Rattle.error_store.proofs.replace.make_room.Goals as goal
 
 pub loop-pair-preserved : goal.loop-pair-preserved
@@ -12,6 +13,7 @@ loop-pair-preserved c =
       room.runs,
       room.same ∙ inv.1,
       room_on c.loop-pair.runs c.make_room_at.new.runs room.kept c.loop-pair.yielded c.in-Some.pair inv.2 room.room,
+      beside_on c.args.runs.now c.loop-pair.runs c.make_room_at.new.runs c.loop-pair.yielded c.in-Some.pair inv.3 room.beside,
     )
 
 pub returns-clause-room : goal.returns-clause-room
@@ -19,3 +21,9 @@ returns-clause-room c = room_all c.args.fresh.now c.loop-pair.runs (map deref c.
     (iter_end deref (keys c.args.fresh.now) c.loop-pair.yielded c.into_iter-pair-iterator.result c.loop-pair.pair-iterator
     c.next.new.self c.next.result (c.into_iter-pair-iterator.ensures.into_iter_gives ∙ c.keys-pair-items.ensures.rest)
     c.loop-pair.yielded_by c.in-None.is c.next.ensures.steps).0 c.loop-pair.invariant.2
+
+pub returns-clause-beside : goal.returns-clause-beside
+returns-clause-beside c = subst (λ ps. KeepsBeside ps c.args.runs.now c.loop-pair.runs)
+    (iter_end deref (keys c.args.fresh.now) c.loop-pair.yielded c.into_iter-pair-iterator.result c.loop-pair.pair-iterator
+    c.next.new.self c.next.result (c.into_iter-pair-iterator.ensures.into_iter_gives ∙ c.keys-pair-items.ensures.rest)
+    c.loop-pair.yielded_by c.in-None.is c.next.ensures.steps).0 c.loop-pair.invariant.3

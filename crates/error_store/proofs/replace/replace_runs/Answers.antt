@@ -15,14 +15,16 @@ cut-requires c =
     (marked_ascend old es marked marks c.requires.ascending)
 
 pub returns-clause-replaced : goal.returns-clause-replaced
-returns-clause-replaced c =
+returns-clause-replaced c = λ subjects pairs new.
     let old = all_entries c.args.runs.now in
     let es = c.args.fresh.items in
     let marked = c.keep_marks.new.fresh in
     let marks = subst (λ xs. AreMarked old xs marked) c.deref_mut.ensures.value c.keep_marks.ensures in
     let cut = c.in_ok-fresh.ensures in
-    exchanged c.args.subjects.now c.args.runs.now c.in_ok-fresh.fresh c.make_room.new.runs c.drop_gone-left.new.runs c.put_each.new.runs es
-    marked (record {
+    exchanged subjects c.args.pairs.now c.args.runs.now c.in_ok-fresh.fresh c.make_room.new.runs c.drop_gone-left.new.runs
+    c.put_each.new.runs es marked (record {
+      pairs_of = pairs;
+      beside = c.in_ok-make_room.ensures.beside;
       same = c.in_ok-make_room.ensures.same;
       mid_runs = c.in_ok-make_room.ensures.runs;
       fresh_runs = record { ordered = cut.ordered; runs = cut.runs };
@@ -30,4 +32,4 @@ returns-clause-replaced c =
       filled = cut.filled;
       dropped = c.drop_gone-left.ensures.dropped;
       put = c.put_each.ensures.put;
-    }) (cut.list ∙ written_back c.args.fresh.len es marked c.args.fresh.ok.0 (marked_length old es marked marks)) marks c.requires.new
+    }) (cut.list ∙ written_back c.args.fresh.len es marked c.args.fresh.ok.0 (marked_length old es marked marks)) marks new
