@@ -1,11 +1,11 @@
 -- Runs that are taken out and put in, pair by pair.
 use Rattle.std.proofs.Common.{◌≡◌, ◌⊎◌, inl, inr, ℕ, ◌+◌, ◌≤◌, Bool, true, false, arith, refl, sym, ◌∙◌, ap, subst, map, List, [], ◌∷◌, ◌++◌, length, Option, Some, None, IsSome, Contains, Bor}
 use Rattle.std.specs.BTreeMap.{BTreeMap, IsOrdered, get, keys, is_at, insert_entry}
+use Rattle.std.specs.Cmp.{eq_by_cmp_equiv}
 use Rattle.std.specs.Global.{Vec}
 use Rattle.std.specs.Map.{keys_of, values_of, remove_entry, lookup}
 use Rattle.std.specs.Map.Iter.{deref}
 use Rattle.std.specs.Option.{option_map, unwrap_or, is_some}
-use Rattle.std.specs.Cmp.{eq_by_cmp_equiv}
 use Rattle.std.proofs.lemmas.List.{map-append}
 use Rattle.std.proofs.lemmas.List.Concat.{length-flat_map}
 use Rattle.std.proofs.lemmas.List.Elements.{Contains-append_left, Contains-append_right, Contains-push, Contains-push_cases}
@@ -24,7 +24,7 @@ use Rattle.error_store.specs.declared.pair.Pair.{Pair}
 use Rattle.error_store.proofs.Pairs.{Run, pairs_total, this_pair, runs_ascend, at_pair, found_in, run_at, runs_from_get}
 use Rattle.error_store.proofs.Remarking.{AreMarked, remarked_as, marked_at, marked_chosen}
 
-abbrev Runs : Type 0
+abbrev pub Runs : Type 0
 Runs = BTreeMap Pair (Vec Entry)
 
 -- ---- the error of a key
@@ -160,9 +160,6 @@ pub room_all : (fresh m : Runs) (ps : List Pair) → ps ≡ keys fresh → Every
 room_all fresh m ps e u p s = room_in m fresh.entries (subst (Every (λ (p : Pair). IsSome (get pair_cmp m p))) e u) p s
 
 -- ---- beside some pairs
-pub beside_none : (ps : List Pair) (m : Runs) → KeepsBeside ps m m
-beside_none ps m q n = refl
-
 pub beside_set : (p : Pair) (o : Option (Vec Entry)) (m n : Runs) → IsSetAt p o m n → KeepsBeside (p ∷ []) m n
 beside_set p o m n h q out = set_other p o m n h q (λ e. out (0, omega arith, e))
 

@@ -1,29 +1,23 @@
 -- The pairs of the runs of some subjects, noted one after another.
 use Rattle.std.proofs.Common.{◌≡◌, ◌⊎◌, inl, inr, ℕ, List, [], ◌∷◌, ◌++◌, length, Contains, arith, refl, subst, IsSome}
-use Rattle.std.specs.BTreeMap.{BTreeMap, get}
+use Rattle.std.specs.BTreeMap.{get}
 use Rattle.std.specs.Global.{Vec}
 use Rattle.std.specs.declared.ops.Bound.{Bound}
-use Rattle.std.specs.declared.ops.Bound.TheVariants.{Excluded, Unbounded}
+use Rattle.std.specs.declared.ops.Bound.TheVariants.{Excluded}
 use Rattle.std.proofs.lemmas.List.{nil_from_length}
 use Rattle.std.proofs.lemmas.List.Elements.{Contains-append_left, Contains-push, Contains-push_cases}
 use Rattle.topology_terms.specs.Entry.{Entry}
 use Rattle.error_store.specs.Pairs.{pair_cmp}
 use Rattle.error_store.specs.Runs.{HasNoneFrom, IsNextRun, ArePairsOf}
 use Rattle.error_store.specs.declared.pair.Pair.{Pair}
-use Rattle.error_store.proofs.Exchange.{none_some, some_of}
+use Rattle.error_store.proofs.Exchange.{Runs, none_some, some_of}
 use Rattle.error_store.proofs.Pairs.{of_pairs}
 use Rattle.error_store.proofs.Walking.{IsFrom}
-
-abbrev Runs : Type 0
-Runs = BTreeMap Pair (Vec Entry)
 
 -- ps are the pairs of these subjects that have a run and stand before lo
 pub record ArePairsBefore (handles : List ℕ) (m : Runs) (lo : Bound Pair) (ps : List Pair) : Type 0 where
   pub there : (p : Pair) → Contains ps p → Contains handles p.subject × IsSome (get pair_cmp m p)
   pub all : (p : Pair) → Contains handles p.subject → IsSome (get pair_cmp m p) → Contains ps p ⊎ IsFrom lo p
-
-pub no_pairs : (handles : List ℕ) (m : Runs) → ArePairsBefore handles m Unbounded []
-no_pairs handles m = record { there = λ p c. absurd (omega (arith, c.1)); all = λ p c s. inr tt }
 
 pub pairs_more : (handles : List ℕ) (m : Runs) (lo : Bound Pair) (ps : List Pair) (p : Pair) (v : Vec Entry) → ArePairsBefore handles m lo ps
     → IsNextRun handles m lo p v → ArePairsBefore handles m (Excluded p) (ps ++ p ∷ [])
