@@ -140,10 +140,10 @@ fn put_each(
     count
 }
 
-/// The errors of the subjects give way to the fresh ones, and all others stay: those subjects that have these pairs. A fresh error
-/// is marked exactly where the old one of its key was, and had the same extent, frame and cells. Gives how many errors there are then.
-/// After an `Err`, out of memory, the errors are the same, but some empty runs may have come. Takes steps by the logarithm of the
-/// number of pairs for each of these pairs and for each fresh error.
+/// The errors of the subjects whose pairs these are give way to the fresh ones, and all others stay. A fresh error is marked exactly
+/// where the old one of its key was, and had the same extent, frame and cells. Gives how many errors there are then. After an `Err`,
+/// out of memory, the errors are the same, but some empty runs may have come. Takes steps by the logarithm of the number of pairs for
+/// each of these pairs and for each fresh error.
 pub(crate) fn replace_runs(
     runs: &mut BTreeMap<Pair, Vec<Entry>>,
     number: usize,
