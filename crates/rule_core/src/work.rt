@@ -1,4 +1,4 @@
-ghost use Rattle.std.specs.Prelude.{◌≡◌, ◌++◌, List, ℕ, IfOk, IfSome, OnOk};
+ghost use Rattle.std.specs.Prelude.{◌≡◌, [], ◌++◌, List, ℕ, IfOk, IfSome, OnOk};
 ghost use Rattle.topology_terms.specs.Counts.{raised};
 ghost use Rattle.rule_core.specs.Kept.{cells_of};
 
@@ -13,14 +13,15 @@ use std::marker::Model;
 use std::rc::Rc;
 
 /// How often a rule was tried on a subject: a count that stops at its greatest number. It also keeps cells of polygons, and
-/// handles of features at places where many meet, for the next judgements. No clause but their own says anything of them: what is
-/// kept changes no answer.
+/// handles of features at places where many meet, for the next judgements, and a list for the handles near the next subject. No
+/// clause but their own says anything of them: what is kept changes no answer.
 #[derive(Drop)]
 pub struct Work {
     judged: u64,
     insides: Option<Keeping>,
     outsides: Option<Keeping>,
     junctions: Option<Junctions>,
+    handles: Option<Vec<u32>>,
 }
 
 impl Model for Work {
@@ -81,6 +82,7 @@ impl Work {
             insides: None,
             outsides: None,
             junctions: None,
+            handles: None,
         }
     }
 
@@ -130,6 +132,28 @@ impl Work {
             Region::Outside => keep_in(&mut self.outsides, alloc, region, f, cells),
         }
     }
+
+    /// A list with no handle: that which was given back, with its room, or else a new one.
+    pub fn take_handles(&mut self, alloc: Global) -> Vec<u32>
+        ensures none { result.items ≡ [] }
+        ensures uncounted { self.new ≡ self.old }
+    {
+        match self.handles.take() {
+            Some(mut handles) => {
+                handles.clear();
+                handles
+            }
+            None => Vec::new(alloc),
+        }
+    }
+
+    /// Gives a list back, so that the next subject needs no new one.
+    pub fn give_handles(&mut self, handles: Vec<u32>)
+        ensures uncounted { self.new ≡ self.old }
+    {
+        self.handles = Some(handles);
+    }
+
     /// Puts the handles last that are kept for the place, if any are. Which features they are no clause says: whoever uses them
     /// looks whether they are at the place.
     pub fn push_junction(
