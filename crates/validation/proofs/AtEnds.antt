@@ -5,16 +5,16 @@ use Rattle.std.specs.Option.{option_map_or}
 use Rattle.std.specs.List.{filter, list_any}
 use Rattle.std.specs.List.Sorted.{IsStrictlyIncreasing}
 use Rattle.std.proofs.lemmas.Option.{get_or_from_slice_get}
-use Rattle.std.proofs.lemmas.List.Elements.{Contains-append_left, Contains-append_right}
+use Rattle.std.proofs.lemmas.List.Elements.{Contains-append_left, Contains-push}
 use Rattle.plane_terms.specs.Lists.{Every, SomeOf}
 use Rattle.plane_terms.specs.Point.{Place, point_at}
-use Rattle.plane_terms.specs.Rectangle.{RectHolds, rect_at, is_within, rects_meet}
+use Rattle.plane_terms.specs.Rectangle.{Rectangle, RectHolds, rect_at, is_within, rects_meet}
 use Rattle.plane_terms.proofs.ListLemmas.{every_map, contains_among}
 use Rattle.topology_terms.specs.Feature.{Feature, feature_at, env, IsAscending}
 use Rattle.topology_terms.specs.Together.{ends}
 use Rattle.sound_laws.proofs.FeatureLists.{of_filter, ascending_filter, kept_at, none_below, handle_of as number_of}
 use Rattle.sound_laws.proofs.Meetings.{envelope_proper, meets_from_test}
-use Rattle.grid_index.specs.Near.{IsMet, handle_of}
+use Rattle.grid_index.specs.Near.{IsMet, AddsHandles, handle_of}
 use Rattle.grid_index.specs.declared.placed.Placed.{Placed}
 use Rattle.validation_laws.specs.Parts.{live_of}
 use Rattle.validation_laws.specs.Views.{holds_any, HoldsEnd, open_of}
@@ -90,13 +90,14 @@ live_here : (F : List Feature) (ns : List ℕ) (h : ℕ) (g : Feature) → IsStr
     → feature_at (live_of F ns) h ≡ Some g
 live_here F ns h g v e c = live_has F ns h (rising ns v) (among h ns c) ∙ e
 
--- the handles that were found, the subject's, and the known ones
-pub put_together : (found ns known : List ℕ) (m : ℕ) → ((h : ℕ) → Contains ns h ↔ Contains ((found ++ m ∷ []) ++ known) h)
-    → ((h : ℕ) → Contains found h → Contains ns h) × Contains ns m × ((h : ℕ) → Contains known h → Contains ns h)
-put_together found ns known m same = (
-  λ h c. (same h).1 (Contains-append_left (found ++ m ∷ []) known h (Contains-append_left found (m ∷ []) h c)),
-  (same m).1 (Contains-append_left (found ++ m ∷ []) known m (Contains-append_right found (m ∷ []) m (0, omega arith, refl))),
-  λ h c. (same h).1 (Contains-append_right (found ++ m ∷ []) known h c),
+-- the known handles, with those of what an index gives, and the subject's
+pub put_together : (t : Rectangle → Bool) (ps : List Placed) (known found ns : List ℕ) (m : ℕ) → AddsHandles t (Contains ps) known found
+    → ((h : ℕ) → Contains ns h ↔ Contains (found ++ m ∷ []) h)
+    → ((h : ℕ) → IsMet handle_of t (Contains ps) h → Contains ns h) × Contains ns m × ((h : ℕ) → Contains known h → Contains ns h)
+put_together t ps known found ns m adds same = (
+  λ h k. (same h).1 (Contains-append_left found (m ∷ []) h ((adds h).1 (inr k))),
+  (same m).1 (Contains-push found m),
+  λ h c. (same h).1 (Contains-append_left found (m ∷ []) h ((adds h).1 (inl c))),
 )
 
 -- each of the places is one of them

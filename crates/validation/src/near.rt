@@ -115,11 +115,13 @@ impl<'a> FeatureIndex<'a> {
         }
     }
 
-    // The features whose envelope the aim touches. The meter counts the steps in the index.
+    // The features whose envelope the aim touches. Their handles are put in place of those of the list, which saves its room. The meter
+    // counts the steps in the index.
     fn view_about<A: Aim, M: Meter>(
         &self,
         alloc: Global,
         aim: &A,
+        found: &mut Vec<u32>,
         meter: &mut M,
     ) -> Result<View<'a>, NoMemory>
         requires { IsAscending self.now.features }
@@ -127,16 +129,19 @@ impl<'a> FeatureIndex<'a> {
         ensures rises { M.taken meter.old ≤ M.taken meter.new }
         ensures steps { (s : ℕ) → M.taken meter.new ≤ M.taken meter.old + most_steps s (A.window aim.now) self.now.placed }
     {
-        let handles = self.index.query_about(alloc, aim, meter)?;
-        view_among(alloc, self.features, &handles, aim)
+        found.clear();
+        self.index.add_about(aim, found, meter)?;
+        once_each(alloc, found)?;
+        view_among(alloc, self.features, found, aim)
     }
 
-    /// The features whose envelope meets the subject's. Looks only at those that the index gives for it. The meter counts the
-    /// steps in the index.
+    /// The features whose envelope meets the subject's. Looks only at those that the index gives for it, and puts their handles in
+    /// place of those of the list. The meter counts the steps in the index.
     pub fn view_of<M: Meter>(
         &self,
         alloc: Global,
         f: &Feature,
+        found: &mut Vec<u32>,
         meter: &mut M,
     ) -> Result<View<'a>, NoMemory>
         requires { IsAscending self.now.features }
@@ -144,7 +149,7 @@ impl<'a> FeatureIndex<'a> {
         ensures rises { M.taken meter.old ≤ M.taken meter.new }
         ensures steps { (s : ℕ) → M.taken meter.new ≤ M.taken meter.old + most_steps s (env f.now) self.now.placed }
     {
-        self.view_about(alloc, &f.shape().env(), meter)
+        self.view_about(alloc, &f.shape().env(), found, meter)
     }
 
     // The features whose envelope holds an end of the line, which has some. The bound of its steps in the index is that for its envelope.
@@ -152,6 +157,7 @@ impl<'a> FeatureIndex<'a> {
         &self,
         alloc: Global,
         f: &Feature,
+        found: &mut Vec<u32>,
         meter: &mut M,
     ) -> Result<View<'a>, NoMemory>
         requires ascending { IsAscending self.now.features }
@@ -161,7 +167,7 @@ impl<'a> FeatureIndex<'a> {
         ensures rises { M.taken meter.old ≤ M.taken meter.new }
         ensures steps { (s : ℕ) → M.taken meter.new ≤ M.taken meter.old + most_steps s (env f.now) self.now.placed }
     {
-        self.view_about(alloc, &LineEnds::of(f.shape()), meter)
+        self.view_about(alloc, &LineEnds::of(f.shape()), found, meter)
     }
 
     /// What lies near the line, or, where much may lie near it, only what is at its ends, of which it has some. Looks only at what the
@@ -170,6 +176,7 @@ impl<'a> FeatureIndex<'a> {
         &self,
         alloc: Global,
         f: &Feature,
+        found: &mut Vec<u32>,
         meter: &mut M,
     ) -> Result<View<'a>, NoMemory>
         requires ascending { IsAscending self.now.features }
@@ -180,19 +187,20 @@ impl<'a> FeatureIndex<'a> {
         ensures steps { (s : ℕ) → M.taken meter.new ≤ M.taken meter.old + most_steps s (env f.now) self.now.placed }
     {
         if self.is_amid_many(f) {
-            self.view_at_ends(alloc, f, meter)
+            self.view_at_ends(alloc, f, found, meter)
         } else {
-            self.view_of(alloc, f, meter)
+            self.view_of(alloc, f, found, meter)
         }
     }
 
     /// The line, and of the features whose envelope holds an end of it those of the known handles and all that are at an open end: the
-    /// first and the last of two, as these say. The bound of its steps in the index is that for its envelope.
+    /// first and the last of two, as these say. The handles that are looked at are put with the known ones. The bound of its steps in the
+    /// index is that for its envelope.
     pub(crate) fn view_at_open_ends<M: Meter>(
         &self,
         alloc: Global,
         f: &Feature,
-        known: &[u32],
+        known: &mut Vec<u32>,
         first: bool,
         last: bool,
         meter: &mut M,
@@ -200,17 +208,16 @@ impl<'a> FeatureIndex<'a> {
         requires ascending { IsAscending self.now.features }
         requires live { feature_at self.now.features f.now.handle ≡ Some f.now }
         requires ends { 0 < length (ends f.now) }
-        requires known { IsStrictlyIncreasing known.now }
-        ensures view { IfOk result (λ v. AreAtEnds self.now.features f.now (live_of self.now.features known.now) (open_of (ends f.now) first last) v) }
+        requires known { IsStrictlyIncreasing known.old.items }
+        ensures view { IfOk result (λ v. AreAtEnds self.now.features f.now (live_of self.now.features known.old.items) (open_of (ends f.now) first last) v) }
         ensures rises { M.taken meter.old ≤ M.taken meter.new }
         ensures steps { (s : ℕ) → M.taken meter.new ≤ M.taken meter.old + most_steps s (env f.now) self.now.placed }
     {
         let aim = LineEnds::with_open(f.shape(), first, last);
-        let mut handles = self.index.query_about(alloc, &aim, meter)?;
-        handles.push(f.handle())?;
-        handles.extend_from_slice(known)?;
-        once_each(alloc, &mut handles)?;
-        view_among(alloc, self.features, &handles, &LineEnds::of(f.shape()))
+        self.index.add_about(&aim, known, meter)?;
+        known.push(f.handle())?;
+        once_each(alloc, known)?;
+        view_among(alloc, self.features, known, &LineEnds::of(f.shape()))
     }
 
     // Whether the feature of this handle is there and counts for the rule at the place.

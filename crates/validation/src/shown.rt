@@ -40,7 +40,7 @@ fn known_at_ends(alloc: Global, f: &Feature, work: &mut Work) -> Result<Vec<u32>
     ensures two { IfOk result (λ v. 0 < length v.items → length (ends f.now) ≡ 2) }
     ensures uncounted { work.new ≡ work.old }
 {
-    let mut handles = Vec::new(alloc);
+    let mut handles = work.take_handles(alloc);
     let line = f.shape();
     if line.end_count() == 2 {
         work.push_junction(line.end(0), &mut handles)?;
@@ -70,12 +70,12 @@ fn view_beside<'a, M: Meter>(
     parts: &[RulePart],
     features: &FeatureIndex<'a>,
     f: &Feature,
-    known: &[u32],
+    known: &mut Vec<u32>,
     meter: &mut M,
 ) -> Result<View<'a>, NoMemory>
     requires ascending { IsAscending features.now.features }
     requires live { feature_at features.now.features f.now.handle ≡ Some f.now }
-    requires known { IsStrictlyIncreasing known.now }
+    requires known { IsStrictlyIncreasing known.old.items }
     requires two { length (ends f.now) ≡ 2 }
     requires at_ends { shows_at_ends (rules_of parts.now) f.now ≡ true }
     ensures view { IfOk result (λ v. IsShownFor (rules_of parts.now) features.now.features f.now v) }
@@ -163,14 +163,18 @@ pub(crate) fn view_for<'a, M: Meter>(
     ensures steps { (s : ℕ) → M.taken meter.new ≤ M.taken meter.old + most_steps s (env f.now) features.now.placed }
 {
     if !is_shown_at_ends(parts, f) {
-        return features.view_of(alloc, f, meter);
+        let mut found = work.take_handles(alloc);
+        let near = features.view_of(alloc, f, &mut found, meter)?;
+        work.give_handles(found);
+        return Ok(near);
     }
-    let known = known_at_ends(alloc, f, work)?;
-    let view = if known.is_empty() {
-        features.view_near_or_at_ends(alloc, f, meter)?
+    let mut found = known_at_ends(alloc, f, work)?;
+    let view = if found.is_empty() {
+        features.view_near_or_at_ends(alloc, f, &mut found, meter)?
     } else {
-        view_beside(alloc, parts, features, f, &known, meter)?
+        view_beside(alloc, parts, features, f, &mut found, meter)?
     };
+    work.give_handles(found);
     keep_junctions(alloc, parts, &view, f, work)?;
     Ok(view)
 }

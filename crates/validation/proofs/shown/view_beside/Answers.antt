@@ -14,7 +14,7 @@ returns-clause-view g c =
     let F = c.args.features.now.features in
     let f = c.args.f.now in
     let ps = c.args.parts.now in
-    let known = c.args.known.now in
+    let known = c.args.known.now.items in
     let K = live_of F known in
     let p = c.end.result in
     let q = c.end-2.result in
@@ -23,6 +23,7 @@ returns-clause-view g c =
       c.requires.at_ends,
       beside_shown (rules_of ps) F v
           K f c.is_open-first.result c.is_open-last.result p q two (live_ascends F known (rising known c.requires.known))
-          (c.is_open-first.ensures ∙ sym (any_rule (lacks_at f K p) ps)) (c.is_open-last.ensures ∙ sym (any_rule (lacks_at f K q) ps)) h,
+          ((rw c.deref.ensures.value at c.is_open-first.ensures) ∙ sym (any_rule (lacks_at f K p) ps))
+          ((rw c.deref-2.ensures.value at c.is_open-last.ensures) ∙ sym (any_rule (lacks_at f K q) ps)) h,
     ))
     c.view_at_open_ends.ensures.view
