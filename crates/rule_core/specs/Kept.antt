@@ -48,7 +48,7 @@ abbrev pub size_of : KeptCells → ℕ
 size_of k = halves_in (cells_of k.region k.shape)
 
 abbrev pub most_features : Region → ℕ
-most_features Inside = 1024
+most_features Inside = 4096
 most_features Outside = 8192
 
 abbrev pub most_halves : Region → ℕ

@@ -6,7 +6,7 @@ use crate::region::Region;
 use std::num::NonZeroUsize;
 
 /// Cells of the insides of so many features are kept, at most.
-const MOST_INSIDES: usize = 1_024;
+const MOST_INSIDES: usize = 4_096;
 
 /// So many half-planes of insides are kept in all, at most: 16 bytes each.
 const MOST_INSIDE_HALVES: usize = 131_072;
