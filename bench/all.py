@@ -46,7 +46,8 @@ def is_built(command):
 def words_for(command, given):
     """What is handed on to a command; those with a timing program of their own take a baseline at most."""
     names = [] if command in WITHOUT_BASELINE else ['baseline'] if command in TIMING else ['baseline', 'turns', 'seconds', 'program']
-    return [word for name in names if getattr(given, name) for word in ('--' + name, str(getattr(given, name)))]
+    words = [word for name in names if getattr(given, name) for word in ('--' + name, str(getattr(given, name)))]
+    return words + ['--instructions'] * (given.instructions and command not in TIMING)
 
 
 def run(command, given):

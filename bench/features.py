@@ -3,13 +3,12 @@
 
 usage: bench/features.py [--baseline WORDS] [--count N] [--kinds KIND,..] [--turns N] [--seconds N] [--program WORDS]
 
-  --count N          how many features (100,000); a tenth of them is changed or deleted
+  --count N          how many features (100,000); each of them is changed, or deleted
   --kinds KIND,..    points, each at a place of its own; polygons, octagons beside one another. Both where it is left out
   the others         as in bench/run.py
 
 A rule is in force first, so the whole grid is dirty all along, and nothing is validated. Three scripts begin with the same
-lines: one ends there, one changes a tenth of the features, one deletes as many; their handles are spread over all that were
-given, in no plain order. The time of a change and of a deletion is what these take beyond the first. A fourth script has the
+lines: one ends there, one changes each of the features, one deletes each, in no plain order of their handles. The time of a change and of a deletion is what these take beyond the first. A fourth script has the
 same lines as the first as remarks, so that no feature is made; the memory of a feature is what the first takes beyond that.
 """
 import sys
@@ -38,11 +37,11 @@ def added(kind, count):
 
 def changed(kind, count):
     places = spread(count, count)
-    return ['by ann change %d %s' % (i + 1, shape_of(kind, places[i], 1)) for i in spread(count, count // 10)]
+    return ['by ann change %d %s' % (i + 1, shape_of(kind, places[i], 1)) for i in spread(count, count)]
 
 
 def deleted(count):
-    return ['by ann delete %d' % (i + 1) for i in spread(count, count // 10)]
+    return ['by ann delete %d' % (i + 1) for i in spread(count, count)]
 
 
 def print_kind(table, folder, kind, programs, given):
@@ -51,12 +50,12 @@ def print_kind(table, folder, kind, programs, given):
     head, adds = HEADS[kind], added(kind, count)
     take = lambda lines: measure_lines(folder, head + lines, programs, given)
     none, all_added = take(['# ' + line for line in adds]), take(adds)
-    some_changed, some_deleted = take(adds + changed(kind, count)), take(adds + deleted(count))
+    all_changed, all_deleted = take(adds + changed(kind, count)), take(adds + deleted(count))
     name = '%s %s' % (format(count, ','), kind)
-    each = lambda after: beyond(after, all_added, 1e6 / (count // 10))
+    each = lambda after: beyond(after, all_added, 1e6 / count)
     table.row(name + ', added: time of each', 'µs', [all_added], lambda i: all_added[i].seconds * 1e6 / count)
-    table.row(name + ', a tenth changed: time of each change', 'µs', [all_added, some_changed], each(some_changed))
-    table.row(name + ', a tenth deleted: time of each deletion', 'µs', [all_added, some_deleted], each(some_deleted))
+    table.row(name + ', each changed: time of each change', 'µs', [all_added, all_changed], each(all_changed))
+    table.row(name + ', each deleted: time of each deletion', 'µs', [all_added, all_deleted], each(all_deleted))
     bytes_of = lambda i: (all_added[i].kilobytes - none[i].kilobytes) * 1024 / count
     table.row(name + ': memory of each', 'bytes', [none, all_added], bytes_of)
 

@@ -10,7 +10,6 @@ A series is a map of several sizes. Each figure is what a script takes beyond on
 steps: edits with their windows, errors that come and go, windows in much dirt, undos, vertices of a border. The last column says how
 many times the figure of the size before it is, and how many times that size. Needs valgrind, which counts the instructions.
 """
-import re
 import shutil
 import subprocess
 import sys
@@ -24,7 +23,7 @@ from late import HEADS as LATE_HEADS
 from late import early_and_late, windows
 from moved import moved
 from roads import RULES, long_line
-from programs import added, edits, parser_of, polygon, programs_of
+from programs import added, edits, instructions, parser_of, polygon, programs_of
 from together import steps_of
 from town import HEAD, Town, founding
 
@@ -33,14 +32,15 @@ EDITS, UNDOS, WINDOWS, FIRST = 500, 1000, 100, 10
 DOUBLED = [248, 496, 992, 1984]
 
 
-def instructions(words, lines):
+def instructions_of(words, lines):
     """How many instructions the program takes for a script of these lines."""
     with tempfile.TemporaryFile('w+') as script:
         script.writelines(line + '\n' for line in lines)
         script.seek(0)
-        counting = ['valgrind', '--tool=callgrind', '--callgrind-out-file=/dev/null'] + words + ['replay']
-        run = subprocess.run(counting, stdin=script, stdout=subprocess.DEVNULL, stderr=subprocess.PIPE, text=True, check=True)
-    return int(re.search(r'Collected *: *(\d+)', run.stderr)[1])
+        ended, count = instructions(words + ['replay'], script, subprocess.DEVNULL)
+    if ended != 0:
+        sys.exit('%s ended with %d' % (words[0], ended))
+    return count
 
 
 def town(rows):
@@ -146,7 +146,7 @@ def all_series():
 def step_of(words, made):
     """The instructions that a step of the second part takes."""
     before, more, steps = made
-    return (instructions(words, before + more) - instructions(words, before)) / steps
+    return (instructions_of(words, before + more) - instructions_of(words, before)) / steps
 
 
 def print_series(name, sizes, make, programs):

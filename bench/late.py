@@ -8,8 +8,8 @@ usage: bench/late.py [--baseline WORDS] [--sizes N,N,..] [--kinds KIND,..] [--tu
   the others        as in bench/run.py
 
 So many features are added and validated; as many more are added beside them: points at other places of the same lattice,
-parcels in rows above. Then the whole grid is validated, or in its place a hundred small windows, each of which finds a few of
-the late features; and the dirty rectangles are listed. Each figure is what a script takes beyond one that ends earlier.
+parcels in rows above. Then the whole grid is validated, or in its place small windows, one for every thirty late features, each of which finds a few of
+them; and the dirty rectangles are listed. Each figure is what a script takes beyond one that ends earlier.
 """
 import sys
 
@@ -17,6 +17,8 @@ from programs import add_kinds, added, beyond, measure_lines, point, polygon, pr
 
 SIDE, WIDTH = 200, 7
 LISTINGS = 20
+# One small window for so many late features.
+SHARE = 30
 HEADS = {
     'points': ['class wells point', 'rule point_must_be_disjoint wells', 'begin ann'],
     'parcels': ['class lots polygon', 'rule polygon_must_not_overlap lots', 'begin ann'],
@@ -58,11 +60,11 @@ def print_kind(table, take, kind, count):
     early = HEADS[kind] + early + ['validate all']
     late = early + late
     before, after = take(early), take(late)
-    whole, small, listed = take(late + ['validate all']), take(late + windows(numbers[:100])), take(late + ['dirty'] * LISTINGS)
+    whole, small, listed = take(late + ['validate all']), take(late + windows(numbers[:count // SHARE])), take(late + ['dirty'] * LISTINGS)
     name = '%s %s late' % (format(count, ','), kind)
     table.row(name + ': time of each', 'µs', [before, after], beyond(after, before, 1e6 / count))
     table.row(name + ', validated whole: time', 'ms', [after, whole], beyond(whole, after, 1e3))
-    table.row(name + ', a hundred windows: time of each', 'ms', [after, small], beyond(small, after, 10))
+    table.row(name + ', small windows: time of each', 'µs', [after, small], beyond(small, after, 1e6 / (count // SHARE)))
     table.row(name + ', dirty rectangles listed: time', 'ms', [after, listed], beyond(listed, after, 1e3 / LISTINGS))
 
 

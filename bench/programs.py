@@ -5,6 +5,7 @@ import hashlib
 import math
 import os
 import random
+import re
 import shlex
 import shutil
 import subprocess
@@ -21,7 +22,12 @@ NOISE = 0.03
 
 
 class Measure:
-    """The least time and memory of a program's runs on one script, and how it ended and what it wrote."""
+    """The least time and memory of a program's runs on one script, and how it ended and what it wrote.
+
+    Where instructions are counted, a thousand of them stand for a microsecond, one run tells, nothing is noise, and the memory is not known.
+    """
+
+    counts = False
 
     def __init__(self, words):
         self.words = words
@@ -33,16 +39,26 @@ class Measure:
         """One run over the script in the folder; none where an earlier one was long, or was stopped at the limit, in s."""
         if self.status is not None and (self.status < 0 or self.seconds > LONG):
             return
-        report, written = os.path.join(folder, 'report'), os.path.join(folder, 'written')
-        words = [os.path.join(folder, 'measured'), report, str(limit)] + self.words
+        written = os.path.join(folder, 'written')
         with self.source(folder) as source, open(written, 'wb') as out:
-            subprocess.run(words, stdin=source, stdout=out, check=True)
-        with open(report) as told:
-            self.status, microseconds, kilobytes = map(int, told.read().split())
+            run = self.counted if self.counts else self.measured
+            self.status, microseconds, kilobytes = run(folder, limit, source, out)
         self.spent += microseconds / 1e6
         self.seconds = min(self.seconds, microseconds / 1e6)
         self.kilobytes = min(self.kilobytes, kilobytes)
         self.digest = self.digest_of(written)
+
+    def measured(self, folder, limit, source, out):
+        """One run: how it ended, its time in microseconds, and its memory in kilobytes."""
+        report = os.path.join(folder, 'report')
+        subprocess.run([os.path.join(folder, 'measured'), report, str(limit)] + self.words, stdin=source, stdout=out, check=True)
+        with open(report) as told:
+            return map(int, told.read().split())
+
+    def counted(self, folder, limit, source, out):
+        """The same of a run whose instructions are counted."""
+        ended, count = instructions(self.words, source, out)
+        return ended, count / 1e3, math.nan
 
     def source(self, folder):
         """What a run reads: the script in the folder."""
@@ -78,6 +94,13 @@ class PipedMeasure(Measure):
             yield maker.stdout
 
 
+def instructions(words, source, out):
+    """How a program ends that reads the source, and how many instructions it takes, as valgrind counts them."""
+    counting = ['valgrind', '--tool=callgrind', '--callgrind-out-file=/dev/null'] + words
+    run = subprocess.run(counting, stdin=source, stdout=out, stderr=subprocess.PIPE, text=True)
+    return run.returncode, int(re.search(r'Collected *: *(\d+)', run.stderr)[1])
+
+
 def digest_of_file(path):
     with open(path, 'rb') as file:
         return hashlib.sha256(file.read()).digest()
@@ -91,6 +114,9 @@ def program_of(text):
 
 def programs_of(given):
     """The words of the measured program, and of the baseline where one is given."""
+    Measure.counts = given.instructions
+    if given.instructions and not shutil.which('valgrind'):
+        sys.exit('valgrind is not found: it counts the instructions')
     if given.program:
         own = program_of(given.program)
     else:
@@ -106,6 +132,7 @@ def parser_of(usage):
     parser.add_argument('--program')
     parser.add_argument('--turns', type=int, default=3)
     parser.add_argument('--seconds', type=int, default=600)
+    parser.add_argument('--instructions', action='store_true')
     return parser
 
 
@@ -141,6 +168,10 @@ def make_measured(folder):
 
 def take_turns(measures, folder, given):
     """Lets these take turns on the script in the folder, more than were asked for where runs are short, and answers them."""
+    if given.instructions:
+        for measure in measures:
+            measure.take(folder, given.seconds)
+        return measures
     turns = 0
     while turns < given.turns or turns < MOST and sum(measure.spent for measure in measures) < ENOUGH:
         for measure in measures:
@@ -241,7 +272,7 @@ def beyond(after, before, factor):
 
     def figure_of(i):
         more = after[i].seconds - before[i].seconds
-        return more * factor if more > NOISE * after[i].seconds else 0
+        return more * factor if Measure.counts or more > NOISE * after[i].seconds else 0
 
     return figure_of
 

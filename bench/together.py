@@ -4,11 +4,11 @@
 usage: bench/together.py [--baseline WORDS] [--steps N,N,..] [--undone N] [--turns N] [--seconds N] [--program WORDS]
 
   --steps N,..    how many steps the session has: 1000,10000,100000 where it is left out
-  --undone N      how many of the last ones are undone, and then done again (1,000, and no more than there are), twenty times over
+  --undone N      how many of the last ones are undone, and then done again (1,000, and no more than there are), two hundred times over
   the others      as in bench/run.py
 
 There are as many points as the session has steps; each step moves one of them. Three scripts begin with the same lines: in one
-the steps are remarks, one ends after the steps, one undoes the last of them and does them again, twenty times over. The memory of a step is what
+the steps are remarks, one ends after the steps, one undoes the last of them and does them again, two hundred times over. The memory of a step is what
 the second takes beyond the first, the time of an undo or a redo what the third takes beyond the second. Neither should grow
 with the steps.
 """
@@ -18,7 +18,7 @@ from features import HEADS, added
 from programs import beyond, measure_lines, print_sizes
 from run import place_of
 
-ROUNDS = 20
+ROUNDS = 200
 
 
 def steps_of(count):
