@@ -34,7 +34,7 @@ const ROOM: usize = 8;
 const MORE: usize = 4;
 
 /// So many rectangles, or more, are a large list.
-const LARGE: usize = 16;
+const LARGE: usize = 32;
 
 /// A node of the tree: rectangles whose middles lie in one square, and whose reach holds them all and no more than they need. It
 /// holds them itself, or by the quarters of the square. What a question finds rests on the reaches alone; where a rectangle is

@@ -3,10 +3,14 @@ ghost use Rattle.std.specs.Prelude.{◌≡◌, [], ◌∷◌, ◌++◌, OnOk};
 use grid_plane::NoMemory;
 use itoa::{Buffer, Integer};
 
-/// Appends these bytes.
+/// Appends these bytes. One alone, as between two numbers, is put without a copy.
 pub fn push_text(out: &mut Vec<u8>, text: &[u8]) -> Result<(), NoMemory>
     ensures { OnOk result (out.new.items ≡ out.old.items ++ text.now) }
 {
+    if let [byte] = text {
+        out.push(*byte)?;
+        return Ok(());
+    }
     out.extend_from_slice(text)?;
     Ok(())
 }

@@ -6,10 +6,14 @@ ghost use Rattle.wkt_text.specs.Appended.{Appends};
 use grid_plane::{NoMemory, Rect};
 use itoa::{Buffer, Integer};
 
-/// Appends these bytes.
+/// Appends these bytes. One alone, as between two numbers, is put without a copy.
 pub fn push_text(out: &mut Vec<u8>, text: &[u8]) -> Result<(), NoMemory>
     ensures { Appends result out.old.items out.new.items text.now }
 {
+    if let [byte] = text {
+        out.push(*byte)?;
+        return Ok(());
+    }
     out.extend_from_slice(text)?;
     Ok(())
 }
