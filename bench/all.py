@@ -1,7 +1,7 @@
 #!/usr/bin/env python3
 """Takes all figures in one run: a heading that says when, where and of what, and then the table of each measuring command.
 
-usage: bench/all.py [--baseline WORDS] [--commands NAME,..] [--turns N] [--seconds N] [--program WORDS]
+usage: bench/all.py [--baseline WORDS] [--commands NAME,..] [--turns N] [--seconds N] [--instructions] [--program WORDS]
 
   --commands NAME,..   these alone, in this order: all of them where it is left out
   the others           as in bench/run.py; without a baseline the ratios are left out
@@ -53,7 +53,8 @@ def words_for(command, given):
 def run(command, given):
     """Prints the table of a command, and answers whether it went well."""
     words = words_for(command, given)
-    print('\n`%s`\n' % ' '.join(['bench/' + command] + (['--baseline ..'] if '--baseline' in words else [])), flush=True)
+    shown = ['bench/' + command] + (['--baseline ..'] if '--baseline' in words else []) + [word for word in words if word == '--instructions']
+    print('\n`%s`\n' % ' '.join(shown), flush=True)
     if not is_built(command):
         print('not taken: `crates/%s` is not built' % TIMING[command], flush=True)
         return True

@@ -1,7 +1,7 @@
 #!/usr/bin/env python3
 """How long the maps take that have long common borders, or many features side by side: validated whole, in one class or two.
 
-usage: bench/borders.py [--baseline WORDS] [--lines NAME ..] [--turns N] [--seconds N] [--program WORDS]
+usage: bench/borders.py [--baseline WORDS] [--lines NAME ..] [--turns N] [--seconds N] [--instructions] [--program WORDS]
 
   --lines NAME ..   the lines of the table whose names begin with one of these; all where it is left out
   the others        as in bench/run.py

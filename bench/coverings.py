@@ -1,7 +1,7 @@
 #!/usr/bin/env python3
 """How long maps take under the rules of covering and of gaps: validated whole, and then after each of many edits.
 
-usage: bench/coverings.py [--baseline WORDS] [--lines NAME ..] [--turns N] [--seconds N] [--program WORDS]
+usage: bench/coverings.py [--baseline WORDS] [--lines NAME ..] [--turns N] [--seconds N] [--instructions] [--program WORDS]
 
   --lines NAME ..   the maps whose names begin with one of these; all where it is left out
   the others        as in bench/run.py

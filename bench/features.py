@@ -1,7 +1,7 @@
 #!/usr/bin/env python3
 """How long a feature takes to be added, changed and deleted, and the memory that it takes.
 
-usage: bench/features.py [--baseline WORDS] [--count N] [--kinds KIND,..] [--turns N] [--seconds N] [--program WORDS]
+usage: bench/features.py [--baseline WORDS] [--count N] [--kinds KIND,..] [--turns N] [--seconds N] [--instructions] [--program WORDS]
 
   --count N          how many features (100,000); each of them is changed, or deleted
   --kinds KIND,..    points, each at a place of its own; polygons, octagons beside one another. Both where it is left out

@@ -1,7 +1,7 @@
 #!/usr/bin/env python3
 """How long features take that come late, after a validation: their envelopes are a long list of dirty rectangles.
 
-usage: bench/late.py [--baseline WORDS] [--sizes N,N,..] [--kinds KIND,..] [--turns N] [--seconds N] [--program WORDS]
+usage: bench/late.py [--baseline WORDS] [--sizes N,N,..] [--kinds KIND,..] [--turns N] [--seconds N] [--instructions] [--program WORDS]
 
   --sizes N,..      how many features come late: 3000,10000,30000 where it is left out
   --kinds KIND,..   points; parcels, squares that lie side by side. Both where it is left out

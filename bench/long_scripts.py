@@ -1,7 +1,7 @@
 #!/usr/bin/env python3
 """How much memory and time a long script takes over a small project; it is written into a pipe while it is replayed.
 
-usage: bench/long_scripts.py [--baseline WORDS] [--sizes N,N,..] [--turns N] [--seconds N] [--program WORDS]
+usage: bench/long_scripts.py [--baseline WORDS] [--sizes N,N,..] [--turns N] [--seconds N] [--instructions] [--program WORDS]
 
   --sizes N,..   how many MiB the script has: 16,256 where it is left out; a script has at most 256
   the others     as in bench/run.py

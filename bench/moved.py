@@ -1,7 +1,7 @@
 #!/usr/bin/env python3
 """How long one small edit takes among many features: a point is moved, and a window round it validated.
 
-usage: bench/moved.py [--baseline WORDS] [--sizes N,N,..] [--edits N] [--turns N] [--seconds N] [--program WORDS]
+usage: bench/moved.py [--baseline WORDS] [--sizes N,N,..] [--edits N] [--turns N] [--seconds N] [--instructions] [--program WORDS]
 
   --sizes N,..    how many points there are: 10000,100000,1000000 where it is left out
   --edits N       how many of them are moved, each by one unit (20,000, and no more than there are)

@@ -17,6 +17,7 @@ ROOT = os.path.dirname(HERE)
 LONG = 5
 # Short runs take more turns, till all of a script have taken so long together, in s, or so many were taken.
 ENOUGH, MOST = 2, 25
+MEMORY_UNITS = {'MiB', 'bytes'}
 # Two runs of one script differ by as much: a difference of two runs that is a smaller part of the longer one says nothing.
 NOISE = 0.03
 
@@ -58,7 +59,7 @@ class Measure:
     def counted(self, folder, limit, source, out):
         """The same of a run whose instructions are counted."""
         ended, count = instructions(self.words, source, out)
-        return ended, count / 1e3, math.nan
+        return ended, count / 1e3, 0
 
     def source(self, folder):
         """What a run reads: the script in the folder."""
@@ -289,7 +290,10 @@ class Table:
         print('| ' + ' | '.join(names) + ' |\n|' + '---|' * len(names), flush=True)
 
     def row(self, name, unit, measures, figure_of):
-        """A row: `figure_of` is asked for the figure of each program, by its place; `measures` hold the runs of all scripts."""
+        """A row: `figure_of` is asked for the figure of each program, by its place; `measures` hold the runs of all scripts.
+        There is none of memory where instructions are counted."""
+        if Measure.counts and unit in MEMORY_UNITS:
+            return
         good = all(are_same(runs) and has_ended(runs) and runs[0].status == 0 for runs in measures)
         self.good = self.good and good
         if not all(has_ended(runs) for runs in measures):

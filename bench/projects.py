@@ -1,7 +1,7 @@
 #!/usr/bin/env python3
 """How long saved projects take: made from a script, opened, saved, checked and reported.
 
-usage: bench/projects.py [--baseline WORDS] [--kinds KIND,..] [--turns N] [--seconds N] [--program WORDS]
+usage: bench/projects.py [--baseline WORDS] [--kinds KIND,..] [--turns N] [--seconds N] [--instructions] [--program WORDS]
 
   --kinds KIND,..   made: the made town of 60 rows; small, large: the towns of bench/town.py with 10,000 and with 40,000 parcels,
                     validated; dirty: 10,000 wells that came after a validation; deleted: 5,000 errors at places that are

@@ -1,7 +1,7 @@
 #!/usr/bin/env python3
 """How long networks of lines take under the rules on lines: validated whole, and then after each of many edits.
 
-usage: bench/roads.py [--baseline WORDS] [--lines NAME ..] [--turns N] [--seconds N] [--program WORDS]
+usage: bench/roads.py [--baseline WORDS] [--lines NAME ..] [--turns N] [--seconds N] [--instructions] [--program WORDS]
 
   --lines NAME ..   the maps whose names begin with one of these; all where it is left out
   the others        as in bench/run.py

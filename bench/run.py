@@ -1,7 +1,7 @@
 #!/usr/bin/env python3
 """Measures the built program over made inputs, beside another program where one is given.
 
-usage: bench/run.py [--baseline WORDS] [--sizes N,N,..] [--kinds KIND,..] [--turns N] [--seconds N] [--program WORDS]
+usage: bench/run.py [--baseline WORDS] [--sizes N,N,..] [--kinds KIND,..] [--turns N] [--seconds N] [--instructions] [--program WORDS]
 
   --baseline WORDS   another program of the same words and texts, with its own first words if it wants some, as one word
   --sizes N,..       how many points: 1000,10000,100000 where it is left out
@@ -12,6 +12,8 @@ usage: bench/run.py [--baseline WORDS] [--sizes N,N,..] [--kinds KIND,..] [--tur
                      seconds together or there were 25, and once where a run takes longer than five seconds; the least time
                      counts, and with it the least peak of memory
   --seconds N        a run is stopped after so much processor time (600), and its program is not run again on that input
+  --instructions     counts instructions in place of time, a thousand for a microsecond, in one run of each script, and takes no memory:
+                     the same on every run, whatever else the machine does. Needs valgrind, and some fifty times as long
   --program WORDS    what is measured in place of the program that ./topo builds
 
 Both programs take turns on each input. Time is processor time, user and system together; memory is the peak of resident
@@ -73,7 +75,7 @@ def figures(measure):
 def ratios(own, other):
     if min(own.status, other.status) < 0:
         return ['', '']
-    return ['%.2f' % (own.seconds / max(other.seconds, 0.001)), '%.2f' % (own.kilobytes / other.kilobytes)]
+    return ['%.2f' % (own.seconds / max(other.seconds, 0.001)), '%.2f' % (own.kilobytes / max(other.kilobytes, 1))]
 
 
 def row(name, own, other):

@@ -1,7 +1,7 @@
 #!/usr/bin/env python3
 """What a long session takes: the memory of a step, and the time of an undo.
 
-usage: bench/together.py [--baseline WORDS] [--steps N,N,..] [--undone N] [--turns N] [--seconds N] [--program WORDS]
+usage: bench/together.py [--baseline WORDS] [--steps N,N,..] [--undone N] [--turns N] [--seconds N] [--instructions] [--program WORDS]
 
   --steps N,..    how many steps the session has: 1000,10000,100000 where it is left out
   --undone N      how many of the last ones are undone, and then done again (1,000, and no more than there are), two hundred times over

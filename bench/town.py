@@ -1,7 +1,7 @@
 #!/usr/bin/env python3
 """How long the parcels of a made town take, validated whole and then after each of many small edits.
 
-usage: bench/town.py [--baseline WORDS] [--rows N,N,..] [--edits N] [--turns N] [--seconds N] [--program WORDS]
+usage: bench/town.py [--baseline WORDS] [--rows N,N,..] [--edits N] [--turns N] [--seconds N] [--instructions] [--program WORDS]
 
   --rows N,..    how many rows of as many parcels: 30,60,100,300 where it is left out
   --edits N      how many small edits, each with a validation of a small window (5,000)

@@ -1,7 +1,7 @@
 #!/usr/bin/env python3
 """What a made town takes as a whole: by the words `town SEED N`, and beyond 60 rows by a replay of its script.
 
-usage: bench/town_words.py [--baseline WORDS] [--rows N,N,..] [--seed N] [--turns N] [--seconds N] [--program WORDS]
+usage: bench/town_words.py [--baseline WORDS] [--rows N,N,..] [--seed N] [--turns N] [--seconds N] [--instructions] [--program WORDS]
 
   --rows N,..    how many rows the town has: 30,60,100,300 where it is left out
   --seed N       its seed (7)
