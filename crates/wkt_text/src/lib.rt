@@ -2,6 +2,7 @@
 #![tactic(auto)]
 
 mod closing;
+mod direct;
 mod fault;
 mod geometry;
 mod lists;

@@ -14,9 +14,9 @@ use text_fields::{Number, next_number, skip_blanks};
 // For so many positions there is room from the start; what is left of it is given back behind the last.
 const ROOM: usize = 16;
 
-// The position that comes next, and what follows it.
+/// The position that comes next, and what follows it.
 #[inline(always)]
-fn next_position(text: &[u8]) -> Option<(GridPoint, &[u8])>
+pub(crate) fn next_position(text: &[u8]) -> Option<(GridPoint, &[u8])>
     ensures { IfSome result (λ x. StartsWith text.now (position x.0) x.1.now) }
 {
     let (first, behind) = next_number(skip_blanks(text));

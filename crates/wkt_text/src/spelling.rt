@@ -9,6 +9,7 @@ ghost use Rattle.wkt_laws.specs.Steps.{step, Passes};
 ghost use Rattle.wkt_text.specs.States.{geometry_of, state_of};
 ghost use Rattle.wkt_text.specs.Stops.{Refuses, HasStopped};
 
+use crate::direct::read_point;
 use crate::geometry::Geometry;
 use crate::positions::read_positions;
 use crate::state::{State, step};
@@ -72,6 +73,9 @@ fn read_all(alloc: Global, text: &[u8]) -> Result<Geometry, WktFault>
     requires { length text.now ≤ 1048576 }
     ensures { MatchResult result (λ g. IsWkt text.now (geometry_of g)) (λ e. Refuses text.now e) }
 {
+    if let Some(place) = read_point(text) {
+        return Ok(Geometry::Point(place));
+    }
     let mut state = State::Start;
     let mut rest = skip_blanks(text);
     while !rest.is_empty() {
