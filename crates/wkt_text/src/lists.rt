@@ -6,7 +6,7 @@ ghost use Rattle.wkt_laws.specs.Commas.{comma_texts};
 ghost use Rattle.shape.specs.Given.{rings_in as lists_of};
 ghost use Rattle.wkt_text.specs.Appended.{Appends};
 
-use crate::place::{push_place, push_text};
+use crate::place::{push_byte, push_comma, push_place, push_text};
 use grid_plane::GridPoint;
 use std::alloc::AllocError;
 
@@ -15,7 +15,7 @@ pub fn push_more_places(out: &mut Vec<u8>, places: &[GridPoint]) -> Result<(), A
     ensures { Appends result out.old.items out.new.items (comma_texts place_text places.now) }
 {
     for place in places {
-        push_text(out, b", ")?;
+        push_comma(out)?;
         push_place(out, place)?;
     }
     Ok(())
@@ -38,9 +38,9 @@ fn push_places(out: &mut Vec<u8>, places: &[GridPoint]) -> Result<(), AllocError
 fn push_list(out: &mut Vec<u8>, places: &[GridPoint]) -> Result<(), AllocError>
     ensures { Appends result out.old.items out.new.items (list_text places.now) }
 {
-    push_text(out, b"(")?;
+    push_byte(out, b'(')?;
     push_places(out, places)?;
-    push_text(out, b")")?;
+    push_byte(out, b')')?;
     Ok(())
 }
 
@@ -49,7 +49,7 @@ fn push_more_lists(out: &mut Vec<u8>, lists: &[Vec<GridPoint>]) -> Result<(), Al
     ensures { Appends result out.old.items out.new.items (comma_texts list_text (lists_of lists.now)) }
 {
     for list in lists {
-        push_text(out, b", ")?;
+        push_comma(out)?;
         push_list(out, list)?;
     }
     Ok(())
@@ -72,9 +72,9 @@ fn push_list_items(out: &mut Vec<u8>, lists: &[Vec<GridPoint>]) -> Result<(), Al
 fn push_lists(out: &mut Vec<u8>, lists: &[Vec<GridPoint>]) -> Result<(), AllocError>
     ensures { Appends result out.old.items out.new.items (lists_text (lists_of lists.now)) }
 {
-    push_text(out, b"(")?;
+    push_byte(out, b'(')?;
     push_list_items(out, lists)?;
-    push_text(out, b")")?;
+    push_byte(out, b')')?;
     Ok(())
 }
 

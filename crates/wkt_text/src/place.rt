@@ -1,3 +1,4 @@
+ghost use Rattle.std.specs.Prelude.{[], ◌∷◌, codes};
 ghost use Rattle.std.specs.Fmt.{signed_decimal};
 ghost use Rattle.wkt_terms.specs.Grammar.{APoint};
 ghost use Rattle.wkt_terms.specs.Written.{place_text, written};
@@ -14,6 +15,25 @@ pub fn push_text(out: &mut Vec<u8>, text: &[u8]) -> Result<(), AllocError>
     out.extend_from_slice(text)
 }
 
+/// Appends the byte, or nothing where memory runs out.
+#[inline(always)]
+pub fn push_byte(out: &mut Vec<u8>, byte: u8) -> Result<(), AllocError>
+    ensures { Appends result out.old.items out.new.items (byte ∷ []) }
+{
+    out.push(byte)?;
+    Ok(())
+}
+
+/// Appends a comma and a space.
+#[inline(always)]
+pub fn push_comma(out: &mut Vec<u8>) -> Result<(), AllocError>
+    ensures { Appends result out.old.items out.new.items (codes ", ") }
+{
+    push_byte(out, b',')?;
+    push_byte(out, b' ')?;
+    Ok(())
+}
+
 fn push_number(out: &mut Vec<u8>, number: i32) -> Result<(), AllocError>
     ensures { Appends result out.old.items out.new.items (signed_decimal number) }
 {
@@ -27,7 +47,7 @@ pub fn push_place(out: &mut Vec<u8>, place: &GridPoint) -> Result<(), AllocError
     ensures { Appends result out.old.items out.new.items (place_text place.now) }
 {
     push_number(out, place.x())?;
-    push_text(out, b" ")?;
+    push_byte(out, b' ')?;
     push_number(out, place.y())?;
     Ok(())
 }
@@ -38,6 +58,6 @@ pub fn push_point(out: &mut Vec<u8>, place: &GridPoint) -> Result<(), AllocError
 {
     push_text(out, b"POINT (")?;
     push_place(out, place)?;
-    push_text(out, b")")?;
+    push_byte(out, b')')?;
     Ok(())
 }

@@ -8,7 +8,7 @@ ghost use Rattle.wkt_text.specs.Appended.{Appends};
 ghost use Rattle.wkt_text.specs.Closed.{ring_text, rings_text};
 
 use crate::lists::push_more_places;
-use crate::place::{push_place, push_text};
+use crate::place::{push_byte, push_comma, push_place, push_text};
 use grid_plane::GridPoint;
 use std::alloc::AllocError;
 
@@ -16,7 +16,7 @@ use std::alloc::AllocError;
 fn push_closing(out: &mut Vec<u8>, first: &GridPoint) -> Result<(), AllocError>
     ensures { Appends result out.old.items out.new.items (codes ", " ++ place_text first.now) }
 {
-    push_text(out, b", ")?;
+    push_comma(out)?;
     push_place(out, first)?;
     Ok(())
 }
@@ -39,9 +39,9 @@ fn push_ring_places(out: &mut Vec<u8>, ring: &[GridPoint]) -> Result<(), AllocEr
 fn push_ring(out: &mut Vec<u8>, ring: &[GridPoint]) -> Result<(), AllocError>
     ensures { Appends result out.old.items out.new.items (ring_text ring.now) }
 {
-    push_text(out, b"(")?;
+    push_byte(out, b'(')?;
     push_ring_places(out, ring)?;
-    push_text(out, b")")?;
+    push_byte(out, b')')?;
     Ok(())
 }
 
@@ -50,7 +50,7 @@ fn push_more_rings(out: &mut Vec<u8>, rings: &[Vec<GridPoint>]) -> Result<(), Al
     ensures { Appends result out.old.items out.new.items (comma_texts ring_text (lists_of rings.now)) }
 {
     for ring in rings {
-        push_text(out, b", ")?;
+        push_comma(out)?;
         push_ring(out, ring)?;
     }
     Ok(())
@@ -73,9 +73,9 @@ fn push_ring_items(out: &mut Vec<u8>, rings: &[Vec<GridPoint>]) -> Result<(), Al
 fn push_rings(out: &mut Vec<u8>, rings: &[Vec<GridPoint>]) -> Result<(), AllocError>
     ensures { Appends result out.old.items out.new.items (rings_text (lists_of rings.now)) }
 {
-    push_text(out, b"(")?;
+    push_byte(out, b'(')?;
     push_ring_items(out, rings)?;
-    push_text(out, b")")?;
+    push_byte(out, b')')?;
     Ok(())
 }
 
@@ -84,7 +84,7 @@ fn push_more_parts(out: &mut Vec<u8>, parts: &[Vec<Vec<GridPoint>>]) -> Result<(
     ensures { Appends result out.old.items out.new.items (comma_texts rings_text (parts_of parts.now)) }
 {
     for part in parts {
-        push_text(out, b", ")?;
+        push_comma(out)?;
         push_rings(out, part)?;
     }
     Ok(())
@@ -107,9 +107,9 @@ fn push_part_items(out: &mut Vec<u8>, parts: &[Vec<Vec<GridPoint>>]) -> Result<(
 fn push_parts(out: &mut Vec<u8>, parts: &[Vec<Vec<GridPoint>>]) -> Result<(), AllocError>
     ensures { Appends result out.old.items out.new.items (bracketed (listed (map rings_text (parts_of parts.now)))) }
 {
-    push_text(out, b"(")?;
+    push_byte(out, b'(')?;
     push_part_items(out, parts)?;
-    push_text(out, b")")?;
+    push_byte(out, b')')?;
     Ok(())
 }
 

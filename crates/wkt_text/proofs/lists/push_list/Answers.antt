@@ -2,15 +2,15 @@ use Rattle.std.proofs.Common.{refl}
 use Rattle.wkt_text.proofs.Pushing.{cut, then_cut, failed}
 use Rattle.wkt_text.proofs.lists.push_list.Goals as goal
 
-pub returns-in_err-push_text : goal.returns-in_err-push_text
-returns-in_err-push_text c = failed c.from_residual.result _ _ _ _ c.from_residual.ensures.0 refl (cut _ _ _ _ c.in_err-push_text.ensures)
+pub returns-in_err-push_byte : goal.returns-in_err-push_byte
+returns-in_err-push_byte c = failed c.from_residual.result _ _ _ _ c.from_residual.ensures.0 refl (cut _ _ _ _ c.in_err-push_byte.ensures)
 
 pub returns-in_err-push_places : goal.returns-in_err-push_places
 returns-in_err-push_places c =
     failed c.from_residual-in_err-push_places.result _ _ _ _ c.from_residual-in_err-push_places.ensures.0 refl
-    (then_cut _ _ _ _ _ c.in_ok-push_text.ensures (cut _ _ _ _ c.in_err-push_places.ensures))
+    (then_cut _ _ _ _ _ c.in_ok-push_byte.ensures (cut _ _ _ _ c.in_err-push_places.ensures))
 
-pub returns-in_err-push_text-2 : goal.returns-in_err-push_text-2
-returns-in_err-push_text-2 c =
-    failed c.from_residual-in_err-push_text-2.result _ _ _ _ c.from_residual-in_err-push_text-2.ensures.0 refl
-    (then_cut _ _ _ _ _ c.in_ok-push_text.ensures (then_cut _ _ _ _ _ c.in_ok-push_places.ensures (c.in_err-push_text-2.ensures)))
+pub returns-in_err-push_byte-2 : goal.returns-in_err-push_byte-2
+returns-in_err-push_byte-2 c =
+    failed c.from_residual-in_err-push_byte-2.result _ _ _ _ c.from_residual-in_err-push_byte-2.ensures.0 refl
+    (then_cut _ _ _ _ _ c.in_ok-push_byte.ensures (then_cut _ _ _ _ _ c.in_ok-push_places.ensures (c.in_err-push_byte-2.ensures)))

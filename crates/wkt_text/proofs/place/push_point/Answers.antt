@@ -10,7 +10,7 @@ returns-in_err-push_place c =
     failed c.from_residual-in_err-push_place.result _ _ _ _ c.from_residual-in_err-push_place.ensures.0 (point_is c.args.place.now)
     (then_cut _ _ _ _ _ c.in_ok-push_text.ensures (cut _ _ _ _ c.in_err-push_place.ensures))
 
-pub returns-in_err-push_text-2 : goal.returns-in_err-push_text-2
-returns-in_err-push_text-2 c =
-    failed c.from_residual-in_err-push_text-2.result _ _ _ _ c.from_residual-in_err-push_text-2.ensures.0 (point_is c.args.place.now)
-    (then_cut _ _ _ _ _ c.in_ok-push_text.ensures (then_cut _ _ _ _ _ c.in_ok-push_place.ensures (c.in_err-push_text-2.ensures)))
+pub returns-in_err-push_byte : goal.returns-in_err-push_byte
+returns-in_err-push_byte c =
+    failed c.from_residual-in_err-push_byte.result _ _ _ _ c.from_residual-in_err-push_byte.ensures.0 (point_is c.args.place.now)
+    (then_cut _ _ _ _ _ c.in_ok-push_text.ensures (then_cut _ _ _ _ _ c.in_ok-push_place.ensures (c.in_err-push_byte.ensures)))
