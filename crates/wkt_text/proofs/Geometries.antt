@@ -22,8 +22,13 @@ pub record Keeps (text rest : List ℕ) (s : State) : Type 0 where
   pub read : Read text rest s
   pub part : length rest ≤ length text
 
-pub starts : (text rest : List ℕ) → rest ≡ skip_blanks text → Keeps text rest Start
-starts text rest e = subst (λ (r : List ℕ). Keeps text r Start) (sym e) (record { read = begins text; part = skip_blanks-le text })
+-- what is passed at once before the first turn
+pub starts : (text left rest : List ℕ) (s : State) → Passes Start text s left → rest ≡ skip_blanks left → Keeps text rest s
+starts text left rest s p e =
+    subst (λ (r : List ℕ). Keeps text r s) (sym e) (record {
+      read = passes_on text text Start s left (begins text) p;
+      part = omega (arith, skip_blanks-le left, passes_le Start s text left p);
+    })
 
 -- one token, and then all that is passed at once
 pub record Goes (text rest now : List ℕ) (next : State) : Type 0 where

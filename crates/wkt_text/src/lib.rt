@@ -1,4 +1,4 @@
-// Well-known text: shapes, read a token at a time and positions at once, and written.
+// Well-known text: shapes, read a token at a time, points, heads and positions at once, and written.
 #![tactic(auto)]
 
 mod closing;

@@ -9,7 +9,7 @@ ghost use Rattle.wkt_laws.specs.Steps.{step, Passes};
 ghost use Rattle.wkt_text.specs.States.{geometry_of, state_of};
 ghost use Rattle.wkt_text.specs.Stops.{Refuses, HasStopped};
 
-use crate::direct::read_point;
+use crate::direct::{read_head, read_point};
 use crate::geometry::Geometry;
 use crate::positions::read_positions;
 use crate::state::{State, step};
@@ -76,8 +76,9 @@ fn read_all(alloc: Global, text: &[u8]) -> Result<Geometry, WktFault>
     if let Some(place) = read_point(text) {
         return Ok(Geometry::Point(place));
     }
-    let mut state = State::Start;
-    let mut rest = skip_blanks(text);
+    let (head, behind) = read_head(alloc, text);
+    let (mut state, left) = go_on(head, behind)?;
+    let mut rest = skip_blanks(left);
     while !rest.is_empty() {
         let (middle, behind) = advance(alloc, text, rest, state)?;
         let (next, left) = go_on(middle, behind)?;

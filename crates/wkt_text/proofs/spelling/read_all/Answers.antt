@@ -1,15 +1,23 @@
 use Rattle.std.proofs.Common.{arith}
 use Rattle.std.proofs.lemmas.Result.{err_from_is_err_and}
+use Rattle.wkt_laws.specs.Steps.{Start}
+use Rattle.wkt_laws.proofs.Passing.{passes_then}
 use Rattle.wkt_text.specs.States.{state_of}
 use Rattle.wkt_text.proofs.Geometries.{starts, keeps, refuses, found}
 use Rattle.wkt_text.proofs.spelling.read_all.Goals as goal
 
 pub loop-rest-init : goal.loop-rest-init
-loop-rest-init c = starts c.args.text.now c.skip_blanks-rest.result.now c.skip_blanks-rest.ensures
+loop-rest-init c =
+    let head = state_of c.read_head-head.result.0 in
+    let behind = c.read_head-head.result.1.now in
+    let state = state_of c.in_ok-state.state in
+    let left = c.in_ok-state.left.now in
+    starts c.args.text.now left c.skip_blanks-rest.result.now state
+    (passes_then Start head state c.args.text.now behind left c.read_head-head.ensures c.in_ok-state.ensures) c.skip_blanks-rest.ensures
 
 pub returns-in_err-middle : goal.returns-in_err-middle
 returns-in_err-middle c =
-    let p = err_from_is_err_and c.from_residual.result c.from_residual.ensures.1 in
+    let p = err_from_is_err_and c.from_residual-in_err-middle.result c.from_residual-in_err-middle.ensures.1 in
     rw (p.1, p.2)
     (refuses c.args.text.now c.loop-rest.rest.now (state_of c.loop-rest.state) c.in_err-middle.field-0.0
     c.loop-rest.invariant.read c.in_err-middle.ensures)
