@@ -1,12 +1,15 @@
 #!/usr/bin/env python3
 """Lists the lines of a run of bench/all.py that miss their aims, as a table for docs/performance.md.
 
-usage: bench/misses.py < FILE      FILE is what bench/all.py --baseline printed
+usage: bench/misses.py [--counted FILE] < FILE      FILE is what bench/all.py --baseline printed
+
+  --counted FILE   what bench commands printed with --instructions: each line of time has its ratio there beside it
 
 The aims are ratios to the baseline: of time 1.5, and 2.0 for a lake and for covering and gaps; of memory 1.0, and 1.5 for covering and
 gaps. Below the table stands how many lines have a ratio, how many of them miss, and how many have none, since a run was stopped or a figure
 is below the noise. The tables of shapes, columns and cells have no aims.
 """
+import argparse
 import re
 import sys
 
@@ -51,23 +54,37 @@ def ratios_of(command, row, first):
             yield name, is_memory, float(text) if re.fullmatch(r'[0-9.]+', text) else None
 
 
+def all_ratios(lines):
+    """Each ratio of all tables that have aims: the command, the line's name, whether it is one of memory, and the ratio."""
+    for command, row, first in rows_of(lines):
+        if command not in WITHOUT_AIMS:
+            for name, is_memory, ratio in ratios_of(command, row, first):
+                yield command, name, is_memory, ratio
+
+
+def counted_in(path):
+    """The ratios of counted instructions, by command and line."""
+    if not path:
+        return {}
+    with open(path) as lines:
+        return {(command, name): ratio for command, name, is_memory, ratio in all_ratios(lines) if ratio is not None}
+
+
 def main():
-    if len(sys.argv) > 1:
-        print(__doc__)
-        return 2
+    parser = argparse.ArgumentParser(usage=__doc__.split('\n\n')[1][7:])
+    parser.add_argument('--counted')
+    counted = counted_in(parser.parse_args().counted)
     missed, judged, without = {}, 0, 0
-    for command, row, first in rows_of(sys.stdin):
-        if command in WITHOUT_AIMS:
+    for command, name, is_memory, ratio in all_ratios(sys.stdin):
+        aim = aim_of(command, name, is_memory)
+        if ratio is None:
+            without += 1
             continue
-        for name, is_memory, ratio in ratios_of(command, row, first):
-            aim = aim_of(command, name, is_memory)
-            if ratio is None:
-                without += 1
-                continue
-            judged += 1
-            if ratio > aim:
-                missed.setdefault((command, aim, is_memory), []).append('%s: %.2f' % (name, ratio))
-    print('| Of bench/ | Line, and its ratio | Aim |\n|---|---|---|')
+        judged += 1
+        if ratio > aim:
+            beside = ' (%.2f)' % counted[command, name] if not is_memory and (command, name) in counted else ''
+            missed.setdefault((command, aim, is_memory), []).append('%s: %.2f%s' % (name, ratio, beside))
+    print('| Of bench/ | Line, and its ratio%s | Aim |\n|---|---|---|' % (' (of counted instructions)' if counted else ''))
     for (command, aim, is_memory), lines in missed.items():
         print('| `%s` | %s | %s%.1f |' % (command, '; '.join(lines), 'memory ' if is_memory else '', aim))
     print('\n%d lines have a ratio, %d miss; %d have none' % (judged, sum(map(len, missed.values())), without))
