@@ -1,4 +1,5 @@
 pub mod Moves
+mod HandleLists
 mod StepLists
 mod KeptSteps
 mod Swaps
