@@ -1,6 +1,7 @@
 -- The steps of these handles, when one comes, goes, or keeps something else.
-use Rattle.std.proofs.Common.{ℕ, zero, suc, ◌<◌, ◌≤◌, ◌≡◌, ◌≢◌, Bool, true, false, List, [], ◌∷◌, ◌++◌, Option, None, refl, sym, ◌∙◌, ap, arith, length, take, get_or, nat_eq, ◌-◌, length-append}
+use Rattle.std.proofs.Common.{ℕ, zero, suc, ◌||◌, eqb, ◌<◌, ◌≤◌, ◌≡◌, ◌≢◌, Bool, true, false, List, [], ◌∷◌, ◌++◌, Option, None, refl, sym, ◌∙◌, ap, arith, length, take, get_or, nat_eq, ◌-◌, length-append}
 use Rattle.std.specs.Prelude.{slice_set, cond}
+use Rattle.std.specs.List.{list_any}
 use Rattle.std.proofs.lemmas.Bool.Decides.{nat_tests}
 use Rattle.plane_terms.specs.Lists.{Every}
 use Rattle.topology_terms.specs.Feature.{Feature}
@@ -11,6 +12,12 @@ use Rattle.edit_session.proofs.Swaps.{before_seam}
 pub step_count : (at : ℕ → Option Feature) (hs : List ℕ) → length (steps_of at hs) ≡ length hs
 step_count at [] = refl
 step_count at (h ∷ hs) = ap suc (step_count (λ i. at (suc i)) hs)
+
+-- a step is of a handle of the list
+pub steps_any : (at : ℕ → Option Feature) (hs : List ℕ) (h : ℕ)
+    → list_any (λ (t : KeptStep). eqb t.handle h) (steps_of at hs) ≡ list_any (λ (o : ℕ). eqb o h) hs
+steps_any at [] h = refl
+steps_any at (g ∷ hs) h = ap (λ b. eqb g h || b) (steps_any (λ i. at (suc i)) hs h)
 
 -- what stands at the end
 pub steps_end : (at : ℕ → Option Feature) (hs : List ℕ) (h : ℕ)

@@ -4,8 +4,8 @@ ghost use Rattle.session_terms.specs.Kept.{KeptStep};
 ghost use Rattle.edit_session.specs.Moves.{MayEach};
 ghost use Rattle.edit_session.specs.StepLists.{IsSwappedAt};
 
-use crate::firsts::{Firsts, put_step, take_step};
 use crate::ground_of::Ground;
+use crate::handles::HandleList;
 use crate::kept::{self, Kept};
 use crate::step::Step;
 use grid_plane::NoMemory;
@@ -13,27 +13,26 @@ use std::alloc::Global;
 use std::collections::HashMap;
 use std::marker::Model;
 
-/// The steps of a session. It finds a handle in the same time, however many steps there are. What a step keeps stands apart, so that
+/// The steps of a session. It finds a handle in little time, however many steps there are. What a step keeps stands apart, so that
 /// one that keeps nothing, as each that added a feature, takes little room.
 #[derive(Drop)]
 pub(crate) struct Steps {
-    handles: Vec<u32>,
+    handles: HandleList,
     kept: Kept,
-    firsts: Firsts,
-    // for how many more steps there is room in all three: one or none
+    // for how many more steps there is room in both: one or none
     room: usize,
 }
 
 impl Model for Steps {
-    ghost use Rattle.std.specs.Prelude.{◌≡◌, ◌+◌, ◌≤◌, ℕ, None, length, nat_eq, vec_len, vec_capacity};
-    ghost use Rattle.std.specs.HashMap.{get, spare};
-    ghost use Rattle.edit_session.specs.StepLists.{StepList, AreFirsts, steps_of, kept_in};
+    ghost use Rattle.std.specs.Prelude.{◌≡◌, ◌≤◌, ℕ, None, length};
+    ghost use Rattle.std.specs.HashMap.{spare};
+    ghost use Rattle.edit_session.specs.StepLists.{StepList, steps_of, kept_in};
 
     ghost Value = { StepList };
 
     ghost view = { λ s. record { items = steps_of (kept_in s.kept) s.handles.items; room = s.room } };
 
-    ghost invariant = { λ s. AreFirsts s.firsts (steps_of (kept_in s.kept) s.handles.items) × ((i : ℕ) → length s.handles.items ≤ i → kept_in s.kept i ≡ None) × (vec_len s.handles + s.room ≤ vec_capacity s.handles) × (s.room ≤ spare s.kept) × (s.room ≤ spare s.firsts) × (s.room ≤ 1) };
+    ghost invariant = { λ s. ((i : ℕ) → length s.handles.items ≤ i → kept_in s.kept i ≡ None) × (s.room ≤ s.handles.room) × (s.room ≤ spare s.kept) × (s.room ≤ 1) };
 }
 
 impl Steps {
@@ -42,9 +41,8 @@ impl Steps {
         ensures { result.items ≡ [] }
     {
         Steps {
-            handles: Vec::new(alloc),
+            handles: HandleList::new(alloc),
             kept: HashMap::new(alloc),
-            firsts: HashMap::new(alloc),
             room: 0,
         }
     }
@@ -59,7 +57,7 @@ impl Steps {
     pub(crate) fn has(&self, handle: u32) -> bool
         ensures { result ≡ list_any (λ (t : KeptStep). t.handle == handle) self.now.items }
     {
-        self.firsts.contains_key(&handle)
+        self.handles.has(handle)
     }
 
     /// Makes room for a step more.
@@ -69,9 +67,8 @@ impl Steps {
         ensures kept { OnErr result (self.new ≡ self.old) }
     {
         if self.room == 0 {
-            self.handles.reserve(1)?;
+            self.handles.make_room()?;
             kept::make_room(&mut self.kept, 1)?;
-            self.firsts.reserve(1)?;
             self.room = 1;
         }
         Ok(())
@@ -82,11 +79,10 @@ impl Steps {
         ensures items { self.new.items ≡ take (length self.old.items - 1) self.old.items }
         ensures room { self.new.room ≡ self.old.room }
     {
-        let Some(handle) = self.handles.pop() else {
+        let Some(_) = self.handles.pop() else {
             return;
         };
         let index = self.handles.len();
-        take_step(&mut self.firsts, handle, index);
         kept::take(&mut self.kept, index);
     }
 
@@ -108,9 +104,8 @@ impl Steps {
     {
         let Step { handle, kept } = step;
         let index = self.handles.len();
-        put_step(&mut self.firsts, handle, index);
         kept::put(&mut self.kept, index, kept);
-        self.handles.push_reserved(handle);
+        self.handles.push(handle);
         self.room -= 1;
     }
 
@@ -124,8 +119,8 @@ impl Steps {
         ensures kept { OnErr result (self.new ≡ self.old) }
         ensures same { OnErr result (G.same ground.old ground.new) }
     {
+        let handle = self.handles.at(index);
         kept::make_room(&mut self.kept, 2)?;
-        let handle = self.handles[index];
         let mut kept = kept::take(&mut self.kept, index);
         let swapped = ground.swap(handle, &mut kept);
         kept::put(&mut self.kept, index, kept);
