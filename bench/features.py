@@ -8,8 +8,9 @@ usage: bench/features.py [--baseline WORDS] [--count N] [--kinds KIND,..] [--tur
   the others         as in bench/run.py
 
 A rule is in force first, so the whole grid is dirty all along, and nothing is validated. Three scripts begin with the same
-lines: one ends there, one changes each of the features, one deletes each, in no plain order of their handles. The time of a change and of a deletion is what these take beyond the first. A fourth script has the
-same lines as the first as remarks, so that no feature is made; the memory of a feature is what the first takes beyond that.
+lines: one ends there, one changes each of the features, one deletes each, in no plain order of their handles. The time of a
+change and of a deletion is what these take beyond the first. A fourth script has the same lines as the first as remarks, so
+that no feature is made; the memory of a feature is what the first takes beyond that.
 """
 import sys
 

@@ -8,8 +8,9 @@ usage: bench/late.py [--baseline WORDS] [--sizes N,N,..] [--kinds KIND,..] [--tu
   the others        as in bench/run.py
 
 So many features are added and validated; as many more are added beside them: points at other places of the same lattice,
-parcels in rows above. Then the whole grid is validated, or in its place small windows, one for every thirty late features, each of which finds a few of
-them; and the dirty rectangles are listed. Each figure is what a script takes beyond one that ends earlier.
+parcels in rows above. Then the whole grid is validated, or in its place small windows, one for every thirty late features,
+each of which finds a few of them; and the dirty rectangles are listed. Each figure is what a script takes beyond one that ends
+earlier.
 """
 import sys
 
