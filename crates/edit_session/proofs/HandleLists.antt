@@ -138,6 +138,10 @@ no_other n (g ∷ hs) h l = by (nat_lt g n) refl (no_other n hs h) (no_other (su
     by false e i j l = j l
 
 -- ---- what is found
+or_true : (b : Bool) → (b || true) ≡ true
+or_true true = refl
+or_true false = refl
+
 any_kept : (n : ℕ) (hs : List ℕ) (h : ℕ) → list_any (λ (o : ℕ). eqb o h) hs
     ≡ (is_some (counted (count_by (λ (o : ℕ). eqb o h) (others_from n hs))) || list_any (λ (o : ℕ). eqb o h) (rising_from n hs))
 any_kept n [] h = refl
@@ -153,10 +157,6 @@ any_kept n (g ∷ hs) h = by (nat_lt g n) (eqb g h) refl (any_kept n hs h) (any_
     by true true e i j = rw (count_more h g (others_from n hs), e) refl
     by true false e i j = rw (count_more h g (others_from n hs), e) i
     by false true e i j = rw e (sym (or_true (is_some (counted (count_by (λ (o : ℕ). eqb o h) (others_from (suc g) hs))))))
-      where
-        or_true : (b : Bool) → (b || true) ≡ true
-        or_true true = refl
-        or_true false = refl
     by false false e i j = rw e j
 
 -- ---- the counts, when a handle comes or goes
@@ -255,6 +255,10 @@ module _ {S : Type 0} where
   pub kept_any : (rs : List ℕ) (m : HashMap ℕ ℕ S) (hs : List ℕ) (h : ℕ) → AreKept rs m hs
       → list_any (λ (o : ℕ). eqb o h) hs ≡ (is_some (get nat_eq m h) || list_any (λ (o : ℕ). eqb o h) rs)
   kept_any rs m hs h k = rw (k.others h, k.rising) (any_kept 0 hs h)
+
+  pub kept_found : (rs : List ℕ) (m : HashMap ℕ ℕ S) (hs : List ℕ) (h : ℕ) → AreKept rs m hs
+      → list_any (λ (o : ℕ). eqb o h) rs ≡ true → list_any (λ (o : ℕ). eqb o h) hs ≡ true
+  kept_found rs m hs h k found = kept_any rs m hs h k ∙ rw found (or_true (is_some (get nat_eq m h)))
 
   pub kept_rises : (rs : List ℕ) (m : HashMap ℕ ℕ S) (hs : List ℕ) → AreKept rs m hs → IsStrictlyIncreasing rs
   kept_rises rs m hs k = subst IsStrictlyIncreasing (sym k.rising) (rises 0 hs)

@@ -1,4 +1,5 @@
-ghost use Rattle.std.specs.Prelude.{◌≡◌, ◌==◌, ◌≤◌, ◌<◌, ◌+◌, ◌^◌, ℕ, Some, List, ◌∷◌, ◌++◌, [], length, slice_index, is_some, nat_eq, nat_lt, not, cond, MatchOption, IfNone, OnOk, OnErr, vec_len, vec_capacity};
+ghost use Rattle.std.specs.Prelude.{◌≡◌, ◌==◌, ◌≤◌, ◌<◌, ◌+◌, ◌^◌, ℕ, Some, List, ◌∷◌, ◌++◌, [], length, slice_index, is_some, true, nat_eq, nat_lt, not, cond, MatchOption, IfNone, OnOk, OnErr, vec_len, vec_capacity};
+ghost use Rattle.std.specs.Bool.{OnTrue};
 ghost use Rattle.std.specs.List.{list_any};
 ghost use Rattle.std.specs.List.Sorted.{IsStrictlyIncreasing};
 ghost use Rattle.std.specs.HashMap.{get, spare};
@@ -10,6 +11,9 @@ use std::alloc::Global;
 use std::collections::HashMap;
 use std::marker::Model;
 
+/// Room is made for so many handles at once.
+const AHEAD: usize = 16;
+
 /// A list of handles that tells in little time whether one is in it. Handles that rise, as those of added features do, take no more
 /// than their number again.
 #[derive(Drop)]
@@ -19,7 +23,7 @@ pub(crate) struct HandleList {
     rising: Vec<u32>,
     // of each other one how often it was put
     others: HashMap<u32, usize>,
-    // for how many more there is room in all three: one or none
+    // for how many more there is room in all three
     room: usize,
 }
 
@@ -42,6 +46,22 @@ fn is_above(rising: &[u32], handle: u32) -> bool
     match rising.last() {
         Some(last) => *last < handle,
         None => true,
+    }
+}
+
+// Whether a handle stands as far behind the first of these as it is greater, as each does where none is left out.
+fn is_at_its_distance(rising: &[u32], handle: u32) -> bool
+    ensures { OnTrue result (list_any (λ (h : ℕ). h == handle) rising.now ≡ true) }
+{
+    let Some(first) = rising.first() else {
+        return false;
+    };
+    let Some(distance) = handle.checked_sub(*first) else {
+        return false;
+    };
+    match rising.get(distance as usize) {
+        Some(held) => *held == handle,
+        None => false,
     }
 }
 
@@ -144,24 +164,27 @@ impl HandleList {
         self.items[index]
     }
 
-    /// Whether this handle is in the list.
+    /// Whether this handle is in the list. Where it would stand if no handle is left out is looked at first.
     pub(crate) fn has(&self, handle: u32) -> bool
         ensures { result ≡ list_any (λ (h : ℕ). h == handle) self.now.items }
     {
+        if is_at_its_distance(&self.rising, handle) {
+            return true;
+        }
         self.others.contains_key(&handle) || is_found(&self.rising, handle)
     }
 
-    /// Makes room for a handle more.
+    /// Makes room for a handle more, and for some that may follow it.
     pub(crate) fn make_room(&mut self) -> Result<(), NoMemory>
         ensures room { OnOk result (1 ≤ self.new.room) }
         ensures items { self.new.items ≡ self.old.items }
         ensures kept { OnErr result (self.new ≡ self.old) }
     {
         if self.room == 0 {
-            self.items.reserve(1)?;
-            self.rising.reserve(1)?;
-            self.others.reserve(1)?;
-            self.room = 1;
+            self.items.reserve(AHEAD)?;
+            self.rising.reserve(AHEAD)?;
+            self.others.reserve(AHEAD)?;
+            self.room = AHEAD;
         }
         Ok(())
     }
