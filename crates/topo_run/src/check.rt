@@ -14,6 +14,7 @@ use project_check::Unsound;
 use project_text::ProjectData;
 use rule_set::PosterRules;
 use std::alloc::{AllocError, Global};
+use std::mem;
 use topo_core::Topology;
 use topo_outside::{Shelf, Sink};
 
@@ -23,7 +24,9 @@ fn check_data(alloc: Global, saved: ProjectData) -> Result<Option<Unsound>, NoMe
     ensures { IfOk result (λ found. IsChecked poster saved found) }
 {
     let topology = Topology::from_data(alloc, PosterRules, saved)?;
-    topology.check()
+    let found = topology.check();
+    mem::forget(topology);
+    found
 }
 
 // The line that says what a check found.

@@ -88,7 +88,8 @@ fn act<S: Source, K: Sink, H: Shelf>(
 /// with `complete` and `opening` say that with no fault counted, a source and a shelf that tell what they have, and a script within
 /// its limit, nothing but running out of memory stands between what was asked for and its answer. The clauses `town` and
 /// `town_complete` say this of the made town's script and its summary. The shelf holds what it held unless a TARGET is named
-/// (`kept`), and is left as it was unless a project is named (`shelf`).
+/// (`kept`), and is left as it was unless a project is named (`shelf`). What it held when it returns is left to the system: go on
+/// after a replay with `Replayer`.
 pub fn run<S: Source, K: Sink, H: Shelf>(
     alloc: Global,
     words: &Vec<String>,

@@ -14,6 +14,7 @@ use crate::stops::Stop;
 use command_answers::World;
 use outside_terms::Status;
 use std::alloc::Global;
+use std::mem;
 use topo_outside::{Shelf, Sink, Source};
 
 /// Replays the script of a source from the state of this replayer, which is new, and leaves it at the end of what was answered.
@@ -47,7 +48,9 @@ pub fn replay<S: Source, K: Sink>(alloc: Global, source: &mut S, sink: &mut K) -
     ensures counts { (S.faults source.old ≤ S.faults source.new) × (K.faults sink.old ≤ K.faults sink.new) }
 {
     let mut replayer = Replayer::of(alloc, World::new(alloc));
-    replay_from(alloc, &mut replayer, source, sink)
+    let status = replay_from(alloc, &mut replayer, source, sink);
+    mem::forget(replayer);
+    status
 }
 
 /// Replays the script of a source from the project of this name; `-` names the empty one.
@@ -70,7 +73,9 @@ pub fn replay_of<S: Source, K: Sink, H: Shelf>(
     match world_of(alloc, name, shelf) {
         Ok(world) => {
             let mut replayer = Replayer::of(alloc, world);
-            replay_from(alloc, &mut replayer, source, sink)
+            let status = replay_from(alloc, &mut replayer, source, sink);
+            mem::forget(replayer);
+            status
         }
         Err(why) => say_unopened(alloc, why, sink),
     }

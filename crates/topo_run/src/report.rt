@@ -10,6 +10,7 @@ use outside_terms::Status;
 use project_text::ProjectData;
 use report_text::push_report;
 use std::alloc::Global;
+use std::mem;
 use topo_outside::{Shelf, Sink};
 
 fn report_of(alloc: Global, saved: &ProjectData) -> Result<Vec<u8>, NoMemory>
@@ -40,7 +41,11 @@ pub fn report<K: Sink, H: Shelf>(alloc: Global, name: &str, sink: &mut K, shelf:
     ensures counts { (K.faults sink.old ≤ K.faults sink.new) × (H.faults shelf.old ≤ H.faults shelf.new) }
 {
     match open(alloc, name, shelf) {
-        Ok(saved) => say_report(alloc, &saved, sink),
+        Ok(saved) => {
+            let status = say_report(alloc, &saved, sink);
+            mem::forget(saved);
+            status
+        }
         Err(why) => say_unopened(alloc, why, sink),
     }
 }

@@ -10,6 +10,7 @@ use crate::pieces::Replayer;
 use crate::replay::replay_from;
 use outside_terms::Status;
 use std::alloc::Global;
+use std::mem;
 use topo_outside::{Shelf, ShelfFault, Sink, Source};
 
 // Puts the project of a state under this name.
@@ -86,7 +87,9 @@ pub fn replay_to<S: Source, K: Sink, H: Shelf>(
     match world_of(alloc, name, shelf) {
         Ok(world) => {
             let mut replayer = Replayer::of(alloc, world);
-            replay_and_save(alloc, &mut replayer, target, source, sink, shelf)
+            let status = replay_and_save(alloc, &mut replayer, target, source, sink, shelf);
+            mem::forget(replayer);
+            status
         }
         Err(why) => say_unopened(alloc, why, sink),
     }

@@ -18,6 +18,7 @@ use grid_plane::NoMemory;
 use outside_terms::Status;
 use reply_text::push_reply;
 use std::alloc::Global;
+use std::mem;
 use topo_outside::{Sink, SinkFault};
 use town_maker::{TownCounts, TownRequest, byte_sum, push_summary, town_script};
 
@@ -104,6 +105,7 @@ fn run_town(alloc: Global, request: TownRequest) -> Result<Summed, NoMemory>
         dirty: topology.dirt().len() as u64,
         text: sum_of_listings(alloc, &world)?,
     };
+    mem::forget(world);
     Ok(Summed {
         counts,
         refused: told.refused,
