@@ -9,8 +9,8 @@ usage: bench/together.py [--baseline WORDS] [--steps N,N,..] [--undone N] [--tur
 
 There are as many points as the session has steps; each step moves one of them. Three scripts begin with the same lines: in one
 the steps are remarks, one ends after the steps, one undoes the last of them and does them again, two hundred times over. The memory of a step is what
-the second takes beyond the first, the time of an undo or a redo what the third takes beyond the second. Neither should grow
-with the steps.
+the second takes beyond the first, from 10,000 steps on; the time of an undo or a redo what the third takes beyond the second. Neither
+should grow with the steps.
 """
 import sys
 
@@ -19,6 +19,8 @@ from programs import beyond, measure_lines, print_sizes
 from run import place_of
 
 ROUNDS = 200
+# The memory of fewer steps is less than one run differs from the next.
+FEWEST = 10000
 
 
 def steps_of(count):
@@ -34,7 +36,8 @@ def print_row(table, folder, count, programs, given):
     back = (['by bob undo'] * times + ['by bob redo'] * times) * ROUNDS
     none, before, after = take(points + ['# ' + step for step in steps]), take(points + steps), take(points + steps + back)
     bytes_of = lambda i: (before[i].kilobytes - none[i].kilobytes) * 1024 / count
-    table.row('%s steps: memory of each' % format(count, ','), 'bytes', [none, before], bytes_of)
+    if count >= FEWEST:
+        table.row('%s steps: memory of each' % format(count, ','), 'bytes', [none, before], bytes_of)
     table.row('%s steps: time of an undo or a redo' % format(count, ','), 'µs', [before, after], beyond(after, before, 1e6 / len(back)))
 
 
