@@ -60,7 +60,7 @@ class Installed(Case):
         self.assertRegex(os.path.basename(package), r'^topo_[0-9.]+_amd64\.deb$')
         self.assertEqual(self.run_words(['dpkg-deb', '-x', package, 'root']).status, 0)
         self.used(self.path('root'))
-        self.assertIn('Recommends: python3, gdal-bin', self.run_words(['dpkg-deb', '-I', package]).out)
+        self.assertIn('Recommends: python3 (>= 3.10), gdal-bin', self.run_words(['dpkg-deb', '-I', package]).out)
 
     @unittest.skipUnless(shutil.which('man'), 'man is not installed')
     def test_the_manual_page(self):
