@@ -7,6 +7,7 @@ from __future__ import annotations
 
 import contextlib
 import fcntl
+import glob
 import os
 import shutil
 import subprocess
@@ -104,6 +105,16 @@ class Lane:
             os.rename(other.kept_work(name), self.kept_work(name))
 
 
+def clear(lane: str) -> None:
+    """Takes the lists, the sources and the libraries out of a lane. The next build copies and links them again."""
+    for name in LISTS:
+        with contextlib.suppress(OSError):
+            os.remove(os.path.join(lane, name))
+    for crate in glob.glob(os.path.join(lane, 'crates', '*')):
+        for part in (*PARTS, os.path.join('out', 'rlib'), os.path.join('out', 'rlib.new')):
+            shutil.rmtree(os.path.join(crate, part), ignore_errors=True)
+
+
 class Run:
     """A crate that is being proved by so many jobs, behind others or not."""
 
@@ -180,10 +191,8 @@ class Lanes:
         return ended
 
     def close(self) -> None:
-        """Ends what runs. Takes the lists out of the lanes too: `rt ci` wants one of each in a repository."""
+        """Ends what runs. Of each lane only what a check keeps for the next one stays: `rt ci` wants no source beside those of the crates."""
         for run in self.runs:
             run.end()
         for lane in os.listdir(self.folder):
-            for name in LISTS:
-                with contextlib.suppress(OSError):
-                    os.remove(os.path.join(self.folder, lane, name))
+            clear(os.path.join(self.folder, lane))

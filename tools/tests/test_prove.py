@@ -66,8 +66,8 @@ class Proves(Case):
         with self.start(**more) as run:
             self.told = run.communicate()[1].decode()
         self.assertEqual(run.returncode, status, self.told)
-        lists = [self.path('kept/lanes/%s/crates.txt' % it) for it in os.listdir(self.path('kept/lanes'))]
-        self.assertFalse(any(map(os.path.exists, lists)))
+        left = [name for _, _, names in os.walk(self.path('kept/lanes')) for name in names]
+        self.assertFalse([name for name in left if name.endswith(('.rt', '.antt')) or name in ('crates.txt', 'HANDLES')])
         with open(self.path('notes'), encoding='utf-8') as file:
             rows = [line.split() for line in file]
         return {name: (last, float(began), float(ended)) for name, last, began, ended in rows}
