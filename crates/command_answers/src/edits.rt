@@ -19,7 +19,7 @@ const COUNTED: u64 = 1 << 40;
 
 // A work with a high count gives way to a new one, and what it keeps goes.
 fn begin_count(work: &mut Work)
-    ensures { work.new ≤ 1099511627776 }
+    ensures { work.new.judged ≤ 1099511627776 }
 {
     if work.judged() > COUNTED {
         *work = Work::new();

@@ -3,3 +3,4 @@ pub mod Partners
 mod Puts
 pub mod Seconds
 mod Totals
+pub mod Works

@@ -1,5 +1,6 @@
 -- What a cache has once a pair is put into a front of it.
-use Rattle.std.proofs.Common.{◌≡◌, ℕ, List, Some, sym, ◌∙◌, ap, take, length, nat_eq}
+use Rattle.std.proofs.Common.{◌≡◌, ℕ, List, Some, Result, Ok, Err, OnErr, sym, ◌∙◌, ap, take, length, nat_eq}
+use Rattle.std.proofs.Math.Seq.{take-length}
 use Rattle.std.specs.Cmp.{nat_eq_equiv}
 use Rattle.std.specs.Map.{lookup}
 use Rattle.plane_terms.specs.Point.{Place}
@@ -15,6 +16,14 @@ pub polygon_is : (s t : Shape) (ps : List (List (List Place))) → t ≡ s → s
     → record { kind = kind.Polygon; parts = ps } ≡ s
 polygon_is s t ps h e f = ap (λ k. record { kind = k; parts = ps }) (sym e)
     ∙ ap (λ q. record { kind = s.kind; parts = q }) (f ∙ ap (λ (x : Shape). x.parts) h)
+
+-- where memory runs out, the most recently used pairs are left
+pub left_of : {A E X : Type 0} (r : Result A E) (new old : List X) (n : ℕ) → new ≡ take n old → OnErr r ((m : ℕ) × (new ≡ take m old))
+left_of (Ok x) new old n e = tt
+left_of (Err x) new old n e = (n, e)
+
+pub all_left : {A E X : Type 0} (r : Result A E) (new old : List X) → new ≡ old → OnErr r ((m : ℕ) × (new ≡ take m old))
+all_left r new old e = left_of r new old (length old) (e ∙ sym (take-length old))
 
 module _ (c : LruCache ℕ KeptCells) (h k : ℕ) (v w : KeptCells) (new : List (ℕ × KeptCells)) where
   pub is_found : new ≡ put_entries nat_eq c h v → h ≡ k → v ≡ w → lookup (nat_eq k) new ≡ Some w

@@ -12,10 +12,10 @@
 -- total es          how many half-planes all the pairs have
 -- IsWithin r room es n    there is room for so many pairs as features are kept of, at most; the pairs have n half-planes, which are not
 --                       too many
--- kept_at K h       what is kept for the handle h
+-- kept_at es h      what is kept for the handle h
 -- IsPut r old h k new     what is kept of the region r once k is put in for h: k goes first, and of the pairs that were most recently
 --                       used some stay, in their order
--- looked b K h      after a look-up for the handle h: where it found what it sought, the pair went to the front
+-- looked b es h     after a look-up for the handle h: where it found what it sought, the pair went to the front
 use Rattle.std.specs.Prelude.{◌≡◌, ◌≤◌, ℕ, Bool, true, false, List, Option, nat_eq, length, take}
 use Rattle.std.specs.List.{sum_by}
 use Rattle.std.specs.Map.{lookup}
@@ -67,13 +67,13 @@ pub record IsWithin (r : Region) (room : ℕ) (es : List (ℕ × KeptCells)) (n 
   pub counted : total es ≡ n
   pub halves : n ≤ most_halves r
 
-abbrev pub kept_at : Keeping → ℕ → Option KeptCells
-kept_at k h = lookup (nat_eq h) k.entries
+abbrev pub kept_at : List (ℕ × KeptCells) → ℕ → Option KeptCells
+kept_at es h = lookup (nat_eq h) es
 
 pub record IsPut (r : Region) (old : List (ℕ × KeptCells)) (h : ℕ) (k : KeptCells) (new : List (ℕ × KeptCells)) : Type 0 where
   pub left : ℕ
   pub put : new ≡ put_entries nat_eq (lru_cache (take left old) (most_features r)) h k
 
-abbrev pub looked : Bool → Keeping → ℕ → Keeping
-looked true k h = record { region = k.region; entries = promoted (nat_eq h) k.entries }
-looked false k h = k
+abbrev pub looked : Bool → List (ℕ × KeptCells) → ℕ → List (ℕ × KeptCells)
+looked true es h = promoted (nat_eq h) es
+looked false es h = es

@@ -1,3 +1,4 @@
 pub mod Kept
 pub mod Seconds
 pub mod Shown
+pub mod Work

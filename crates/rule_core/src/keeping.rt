@@ -1,4 +1,4 @@
-ghost use Rattle.std.specs.Prelude.{◌≡◌, ◌≢◌, ◌<◌, ◌≤◌, ◌+◌, [], length, take, is_some, nat_eq, Some, IfOk, IfSome, OnOk, OnErr, MatchOption};
+ghost use Rattle.std.specs.Prelude.{◌≡◌, ◌≢◌, ◌<◌, ◌≤◌, ◌+◌, ℕ, [], length, take, is_some, nat_eq, Some, IfOk, IfSome, OnOk, OnErr, MatchOption};
 ghost use Rattle.std.specs.Map.{lookup};
 ghost use Rattle.lru.specs.LruCache.{put_entries};
 ghost use Rattle.plane_terms.specs.declared.kind.Kind.TheVariants as kind;
@@ -117,10 +117,27 @@ impl Keeping {
         })
     }
 
+    /// The number of features whose cells are kept.
+    pub(crate) fn features(&self) -> usize
+        ensures value { result ≡ length self.now.entries }
+        ensures bound { result ≤ most_features self.now.region }
+    {
+        self.cache.len()
+    }
+
+    /// The number of half-planes that the kept cells have in all.
+    pub(crate) fn halves(&self) -> usize
+        ensures value { result ≡ total self.now.entries }
+        ensures bound { result ≤ most_halves self.now.region }
+    {
+        self.halves
+    }
+
     /// The cells of the feature, where they are kept for its handle and were made of an equal polygon.
     pub(crate) fn look(&mut self, f: &Feature) -> Result<Option<Rc<BoundedCells>>, NoMemory>
-        ensures found { IfOk result (λ found. MatchOption found (kept_at self.old f.now.handle ≢ Some (made_of self.old.region f.now.shape)) (λ cells. (kept_at self.old f.now.handle ≡ Some (made_of self.old.region f.now.shape)) × (cells.value ≡ cells_of self.old.region f.now.shape))) }
-        ensures after { IfOk result (λ found. self.new ≡ looked (is_some found) self.old f.now.handle) }
+        ensures found { IfOk result (λ found. MatchOption found (kept_at self.old.entries f.now.handle ≢ Some (made_of self.old.region f.now.shape)) (λ cells. (kept_at self.old.entries f.now.handle ≡ Some (made_of self.old.region f.now.shape)) × (cells.value ≡ cells_of self.old.region f.now.shape))) }
+        ensures after { IfOk result (λ found. self.new.entries ≡ looked (is_some found) self.old.entries f.now.handle) }
+        ensures region { self.new.region ≡ self.old.region }
         ensures err { OnErr result (self.new ≡ self.old) }
     {
         let found = found_in(&self.cache, self.region, f)?;
@@ -139,8 +156,11 @@ impl Keeping {
         cells: &Rc<BoundedCells>,
     ) -> Result<(), NoMemory>
         requires { cells.now.value ≡ cells_of self.old.region f.now.shape }
-        ensures kept { OnOk result (f.now.shape.kind ≡ kind.Polygon → size_of (made_of self.old.region f.now.shape) ≤ most_halves self.old.region → kept_at self.new f.now.handle ≡ Some (made_of self.old.region f.now.shape)) }
+        ensures kept { OnOk result (f.now.shape.kind ≡ kind.Polygon → size_of (made_of self.old.region f.now.shape) ≤ most_halves self.old.region → kept_at self.new.entries f.now.handle ≡ Some (made_of self.old.region f.now.shape)) }
         ensures recent { OnOk result (f.now.shape.kind ≡ kind.Polygon → size_of (made_of self.old.region f.now.shape) ≤ most_halves self.old.region → IsPut self.old.region self.old.entries f.now.handle (made_of self.old.region f.now.shape) self.new.entries) }
+        ensures line { OnOk result (f.now.shape.kind ≢ kind.Polygon → self.new ≡ self.old) }
+        ensures many { OnOk result (most_halves self.old.region < size_of (made_of self.old.region f.now.shape) → self.new ≡ self.old) }
+        ensures fewer { OnErr result ((n : ℕ) × (self.new.entries ≡ take n self.old.entries)) }
         ensures region { self.new.region ≡ self.old.region }
     {
         let Some(halves) = count_halves(cells.cells(), most_halves(self.region)) else {

@@ -36,7 +36,7 @@ pub trait Rule {
         requires shown { IsShown (row_of self.now) view.now subject }
         requires fits { meaning.Fits (row_of self.now) view.now }
         ensures cut { IfOk result (λ xs. meaning.IsCutting (row_of self.now) view.now subject xs) }
-        ensures uncounted { work.new ≡ work.old };
+        ensures uncounted { work.new.judged ≡ work.old.judged };
 
     ghost laws: { Laws meaning };
 
@@ -58,7 +58,7 @@ pub fn judge<R: Rule>(
     requires fits { R.meaning.Fits (R.row_of rule.now) view.now }
     ensures cut { IfOk result (λ xs. R.meaning.IsCutting (R.row_of rule.now) view.now subject xs) }
     ensures right { IfOk result (λ xs. AreRight R.meaning (R.row_of rule.now) view.now subject xs) }
-    ensures judged { work.new ≡ raised work.old 1 }
+    ensures judged { work.new.judged ≡ raised work.old.judged 1 }
 {
     work.raise();
     rule.seek(alloc, view, subject, work)
@@ -80,7 +80,7 @@ pub trait RuleSet {
         requires shown { IsShown row.now view.now subject }
         requires fits { meaning.Fits row.now view.now }
         ensures cut { IfOk result (λ xs. meaning.IsCutting row.now view.now subject xs) }
-        ensures judged { work.new ≡ raised work.old 1 };
+        ensures judged { work.new.judged ≡ raised work.old.judged 1 };
 
     ghost laws: { Laws meaning };
 

@@ -1,6 +1,8 @@
-ghost use Rattle.std.specs.Prelude.{◌≡◌, [], ◌++◌, List, ℕ, IfOk, IfSome, OnOk};
+ghost use Rattle.std.specs.Prelude.{◌≡◌, ◌≢◌, ◌↔◌, ◌<◌, ◌≤◌, [], ◌++◌, List, ℕ, length, take, cond, is_some, Some, IfOk, IfSome, OnOk, OnErr, IsTrue};
+ghost use Rattle.plane_terms.specs.declared.kind.Kind.TheVariants as kind;
 ghost use Rattle.topology_terms.specs.Counts.{raised};
-ghost use Rattle.rule_core.specs.Kept.{cells_of};
+ghost use Rattle.rule_core.specs.Kept.{IsPut, cells_of, kept_at, looked, made_of, most_features, most_halves, size_of, total};
+ghost use Rattle.rule_core.specs.Work.{after_look, entries_of, kept_of, unused};
 
 use crate::junctions::Junctions;
 use crate::keeping::Keeping;
@@ -12,12 +14,13 @@ use std::alloc::Global;
 use std::marker::Model;
 use std::rc::Rc;
 
-/// How often a rule was tried on a subject: a count that stops at its greatest number. It also keeps cells of polygons, and
-/// handles of features at places where many meet, for the next judgements, and a list for the handles near the next subject. No
-/// clause but their own says anything of them: what is kept changes no answer.
+/// How often a rule was tried on a subject: a count that stops at its greatest number. It also keeps cells of polygons, and counts
+/// how often kept ones were found; and handles of features at places where many meet, for the next judgements, and a list for the
+/// handles near the next subject. What is kept changes no answer of a rule.
 #[derive(Drop)]
 pub struct Work {
     judged: u64,
+    hits: u64,
     insides: Option<Keeping>,
     outsides: Option<Keeping>,
     junctions: Option<Junctions>,
@@ -25,31 +28,76 @@ pub struct Work {
 }
 
 impl Model for Work {
-    ghost use Rattle.std.specs.Prelude.{ℕ};
+    ghost use Rattle.rule_core.specs.Work as terms;
 
-    ghost Value = { ℕ };
+    ghost Value = { terms.Work };
 
     ghost use Rattle.std.specs.Prelude.{◌≡◌, IfSome};
     ghost use Rattle.rule_core.specs.declared.region.Region.TheVariants as region;
 
-    ghost view = { λ w. w.judged };
+    ghost view = { λ w. record { judged = w.judged; hits = w.hits; insides = terms.entries_of w.insides; outsides = terms.entries_of w.outsides } };
 
     ghost invariant = { λ w. IfSome w.insides (λ k. k.region ≡ region.Inside) × IfSome w.outsides (λ k. k.region ≡ region.Outside) };
 }
 
 fn look_in(
     keeping: &mut Option<Keeping>,
+    hits: &mut u64,
     region: Region,
     f: &Feature,
 ) -> Result<Option<Rc<BoundedCells>>, NoMemory>
     requires { IfSome keeping.old (λ k. k.region ≡ region) }
     ensures cells { IfOk result (λ found. IfSome found (λ cells. cells.value ≡ cells_of region f.now.shape)) }
+    ensures found { IfOk result (λ found. IsTrue (is_some found) ↔ (kept_at (entries_of keeping.old) f.now.handle ≡ Some (made_of region f.now.shape))) }
+    ensures after { IfOk result (λ found. entries_of keeping.new ≡ looked (is_some found) (entries_of keeping.old) f.now.handle) }
+    ensures hits { IfOk result (λ found. hits.new ≡ cond (is_some found) (raised hits.old 1) hits.old) }
     ensures region { IfSome keeping.new (λ k. k.region ≡ region) }
+    ensures err { OnErr result ((entries_of keeping.new ≡ entries_of keeping.old) × (hits.new ≡ hits.old)) }
+{
+    let Some(keeping) = keeping else {
+        return Ok(None);
+    };
+    let found = keeping.look(f)?;
+    if found.is_some() {
+        *hits = hits.saturating_add(1);
+    }
+    Ok(found)
+}
+
+fn count_in(keeping: &Option<Keeping>, region: Region) -> usize
+    requires { IfSome keeping.now (λ k. k.region ≡ region) }
+    ensures value { result ≡ length (entries_of keeping.now) }
+    ensures bound { result ≤ most_features region }
 {
     match keeping {
-        Some(keeping) => keeping.look(f),
-        None => Ok(None),
+        Some(keeping) => keeping.features(),
+        None => 0,
     }
+}
+
+fn halves_in(keeping: &Option<Keeping>, region: Region) -> usize
+    requires { IfSome keeping.now (λ k. k.region ≡ region) }
+    ensures value { result ≡ total (entries_of keeping.now) }
+    ensures bound { result ≤ most_halves region }
+{
+    match keeping {
+        Some(keeping) => keeping.halves(),
+        None => 0,
+    }
+}
+
+// Where nothing was ever kept of the region, there is a place for it then.
+fn begin(keeping: &mut Option<Keeping>, alloc: Global, region: Region) -> Result<(), NoMemory>
+    requires { IfSome keeping.old (λ k. k.region ≡ region) }
+    ensures begun { OnOk result (IsTrue (is_some keeping.new)) }
+    ensures same { entries_of keeping.new ≡ entries_of keeping.old }
+    ensures region { IfSome keeping.new (λ k. k.region ≡ region) }
+{
+    if keeping.is_some() {
+        return Ok(());
+    }
+    *keeping = Some(Keeping::new(alloc, region)?);
+    Ok(())
 }
 
 fn keep_in(
@@ -61,24 +109,28 @@ fn keep_in(
 ) -> Result<(), NoMemory>
     requires cells { cells.now.value ≡ cells_of region f.now.shape }
     requires region { IfSome keeping.old (λ k. k.region ≡ region) }
-    ensures { IfSome keeping.new (λ k. k.region ≡ region) }
+    ensures kept { OnOk result (f.now.shape.kind ≡ kind.Polygon → size_of (made_of region f.now.shape) ≤ most_halves region → kept_at (entries_of keeping.new) f.now.handle ≡ Some (made_of region f.now.shape)) }
+    ensures recent { OnOk result (f.now.shape.kind ≡ kind.Polygon → size_of (made_of region f.now.shape) ≤ most_halves region → IsPut region (entries_of keeping.old) f.now.handle (made_of region f.now.shape) (entries_of keeping.new)) }
+    ensures line { OnOk result (f.now.shape.kind ≢ kind.Polygon → entries_of keeping.new ≡ entries_of keeping.old) }
+    ensures many { OnOk result (most_halves region < size_of (made_of region f.now.shape) → entries_of keeping.new ≡ entries_of keeping.old) }
+    ensures fewer { OnErr result ((n : ℕ) × (entries_of keeping.new ≡ take n (entries_of keeping.old))) }
+    ensures region { IfSome keeping.new (λ k. k.region ≡ region) }
 {
-    if keeping.is_none() {
-        *keeping = Some(Keeping::new(alloc, region)?);
-    }
-    match keeping {
-        Some(keeping) => keeping.keep(alloc, f, cells),
-        None => Ok(()),
-    }
+    begin(keeping, alloc, region)?;
+    let Some(keeping) = keeping else {
+        return Ok(());
+    };
+    keeping.keep(alloc, f, cells)
 }
 
 impl Work {
     /// Nothing was judged yet, and nothing is kept.
     pub fn new() -> Work
-        ensures { result ≡ 0 }
+        ensures { result ≡ unused }
     {
         Work {
             judged: 0,
+            hits: 0,
             insides: None,
             outsides: None,
             junctions: None,
@@ -86,37 +138,73 @@ impl Work {
         }
     }
 
-    /// The count.
+    /// The count of judgements.
     pub fn judged(&self) -> u64
-        ensures { result ≡ self.now }
+        ensures { result ≡ self.now.judged }
     {
         self.judged
     }
 
+    /// How often a look found cells: a count that stops at its greatest number.
+    pub fn hits(&self) -> u64
+        ensures { result ≡ self.now.hits }
+    {
+        self.hits
+    }
+
     /// One judgement more.
     pub fn raise(&mut self)
-        ensures { self.new ≡ raised self.old 1 }
+        ensures judged { self.new.judged ≡ raised self.old.judged 1 }
+        ensures hits { self.new.hits ≡ self.old.hits }
+        ensures kept { (r : Region) → kept_of r self.new ≡ kept_of r self.old }
     {
         self.judged = self.judged.saturating_add(1);
     }
 
-    /// The cells of this region of the polygon, where they are kept: those of its shape, whatever shape its handle had before.
+    /// The number of polygons whose cells of this region are kept.
+    pub fn kept_count(&self, region: Region) -> usize
+        ensures value { result ≡ length (kept_of region self.now) }
+        ensures bound { result ≤ most_features region }
+    {
+        match region {
+            Region::Inside => count_in(&self.insides, region),
+            Region::Outside => count_in(&self.outsides, region),
+        }
+    }
+
+    /// The number of half-planes that the kept cells of this region have in all.
+    pub fn half_count(&self, region: Region) -> usize
+        ensures value { result ≡ total (kept_of region self.now) }
+        ensures bound { result ≤ most_halves region }
+    {
+        match region {
+            Region::Inside => halves_in(&self.insides, region),
+            Region::Outside => halves_in(&self.outsides, region),
+        }
+    }
+
+    /// The cells of this region of the polygon, where they are kept for its handle and were made of an equal polygon. It is then
+    /// counted, and what was found is the most recently used.
     pub fn look(
         &mut self,
         region: Region,
         f: &Feature,
     ) -> Result<Option<Rc<BoundedCells>>, NoMemory>
         ensures cells { IfOk result (λ found. IfSome found (λ cells. cells.value ≡ cells_of region f.now.shape)) }
-        ensures uncounted { self.new ≡ self.old }
+        ensures found { IfOk result (λ found. IsTrue (is_some found) ↔ (kept_at (kept_of region self.old) f.now.handle ≡ Some (made_of region f.now.shape))) }
+        ensures after { IfOk result (λ found. self.new ≡ after_look region (is_some found) self.old f.now.handle) }
+        ensures uncounted { self.new.judged ≡ self.old.judged }
+        ensures err { OnErr result (self.new ≡ self.old) }
     {
         match region {
-            Region::Inside => look_in(&mut self.insides, region, f),
-            Region::Outside => look_in(&mut self.outsides, region, f),
+            Region::Inside => look_in(&mut self.insides, &mut self.hits, region, f),
+            Region::Outside => look_in(&mut self.outsides, &mut self.hits, region, f),
         }
     }
 
-    /// Keeps the cells of this region of the polygon, for the next `look`. Where memory runs out, or they are too many, it may
-    /// keep none.
+    /// Keeps the cells of this region of the polygon, for the next `look`: they are then the most recently used, and what was used
+    /// least recently goes where there is too much. Those of a point or a line, and cells of too many half-planes, are not kept.
+    /// Where memory runs out, some of what was kept may be gone.
     pub fn keep(
         &mut self,
         alloc: Global,
@@ -125,7 +213,14 @@ impl Work {
         cells: &Rc<BoundedCells>,
     ) -> Result<(), NoMemory>
         requires { cells.now.value ≡ cells_of region f.now.shape }
-        ensures uncounted { self.new ≡ self.old }
+        ensures kept { OnOk result (f.now.shape.kind ≡ kind.Polygon → size_of (made_of region f.now.shape) ≤ most_halves region → kept_at (kept_of region self.new) f.now.handle ≡ Some (made_of region f.now.shape)) }
+        ensures recent { OnOk result (f.now.shape.kind ≡ kind.Polygon → size_of (made_of region f.now.shape) ≤ most_halves region → IsPut region (kept_of region self.old) f.now.handle (made_of region f.now.shape) (kept_of region self.new)) }
+        ensures line { OnOk result (f.now.shape.kind ≢ kind.Polygon → self.new ≡ self.old) }
+        ensures many { OnOk result (most_halves region < size_of (made_of region f.now.shape) → self.new ≡ self.old) }
+        ensures other { (r : Region) → r ≢ region → kept_of r self.new ≡ kept_of r self.old }
+        ensures uncounted { self.new.judged ≡ self.old.judged }
+        ensures hits { self.new.hits ≡ self.old.hits }
+        ensures fewer { OnErr result ((n : ℕ) × (kept_of region self.new ≡ take n (kept_of region self.old))) }
     {
         match region {
             Region::Inside => keep_in(&mut self.insides, alloc, region, f, cells),
@@ -136,7 +231,7 @@ impl Work {
     /// A list with no handle: that which was given back, with its room, or else a new one.
     pub fn take_handles(&mut self, alloc: Global) -> Vec<u32>
         ensures none { result.items ≡ [] }
-        ensures uncounted { self.new ≡ self.old }
+        ensures unchanged { self.new ≡ self.old }
     {
         match self.handles.take() {
             Some(mut handles) => {
@@ -149,7 +244,7 @@ impl Work {
 
     /// Gives a list back, so that the next subject needs no new one.
     pub fn give_handles(&mut self, handles: Vec<u32>)
-        ensures uncounted { self.new ≡ self.old }
+        ensures unchanged { self.new ≡ self.old }
     {
         self.handles = Some(handles);
     }
@@ -162,7 +257,7 @@ impl Work {
         handles: &mut Vec<u32>,
     ) -> Result<(), NoMemory>
         ensures last { OnOk result ((hs : List ℕ) × (handles.new.items ≡ handles.old.items ++ hs)) }
-        ensures uncounted { self.new ≡ self.old }
+        ensures unchanged { self.new ≡ self.old }
     {
         match &mut self.junctions {
             Some(junctions) => junctions.push_kept(place, handles),
@@ -177,7 +272,7 @@ impl Work {
         place: GridPoint,
         handles: Vec<u32>,
     ) -> Result<(), NoMemory>
-        ensures uncounted { self.new ≡ self.old }
+        ensures unchanged { self.new ≡ self.old }
     {
         if self.junctions.is_none() {
             self.junctions = Some(Junctions::new(alloc)?);

@@ -29,5 +29,5 @@ pub trait Kinded {
     ) -> Result<Findings, NoMemory>
         requires { IsAscending view.now }
         ensures cut { IfOk result (λ xs. xs ≡ cut_seen (row_of kind origin dest) view.now subject.now) }
-        ensures uncounted { work.new ≡ work.old };
+        ensures uncounted { work.new.judged ≡ work.old.judged };
 }

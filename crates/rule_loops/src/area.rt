@@ -19,7 +19,7 @@ pub fn area_left(
     work: &mut Work,
 ) -> Result<Cells, NoMemory>
     ensures left { IfOk result (λ cells. cells ≡ plans.area_left subject.now (of_class class view.now)) }
-    ensures uncounted { work.new ≡ work.old }
+    ensures uncounted { work.new.judged ≡ work.old.judged }
 {
     let cells = own_inside(alloc, subject, work)?;
     left_uncovered(alloc, class, None, &cells, view, work)

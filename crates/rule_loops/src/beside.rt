@@ -47,7 +47,7 @@ pub fn common_inside(
     work: &mut Work,
 ) -> Result<Cells, NoMemory>
     ensures cells { IfOk result (λ cells. cells ≡ plans.overlap_cells subject.now partner.now) }
-    ensures uncounted { work.new ≡ work.old }
+    ensures uncounted { work.new.judged ≡ work.old.judged }
 {
     if are_clear(subject, partner) {
         return Ok(Cells::new(alloc));

@@ -18,7 +18,7 @@ pub trait Common {
     /// The cells in common with this partner; the count of judgements stays.
     fn cells(&self, alloc: Global, partner: &Feature, work: &mut Work) -> Result<Cells, NoMemory>
         ensures cells { IfOk result (λ cells. cells ≡ common self.now partner.now) }
-        ensures uncounted { work.new ≡ work.old };
+        ensures uncounted { work.new.judged ≡ work.old.judged };
 }
 
 fn is_later(class: u16, subject: &Feature, other: &Feature) -> bool
@@ -38,7 +38,7 @@ pub fn with_later<C: Common>(
 ) -> Result<Findings, NoMemory>
     requires { IsAscending view.now }
     ensures found { IfOk result (λ xs. xs ≡ plans.pair_findings (C.common common.now) (filter (later_of class subject.now) view.now)) }
-    ensures uncounted { work.new ≡ work.old }
+    ensures uncounted { work.new.judged ≡ work.old.judged }
 {
     let mut findings = Findings::new(alloc);
     for i in 0..view.len() {
@@ -61,7 +61,7 @@ pub fn with_class<C: Common>(
 ) -> Result<Findings, NoMemory>
     requires { IsAscending view.now }
     ensures found { IfOk result (λ xs. xs ≡ plans.pair_findings (C.common common.now) (of_class class view.now)) }
-    ensures uncounted { work.new ≡ work.old }
+    ensures uncounted { work.new.judged ≡ work.old.judged }
 {
     let mut findings = Findings::new(alloc);
     for i in 0..view.len() {

@@ -21,7 +21,7 @@ fn open_ground(
     work: &mut Work,
 ) -> Result<Cells, NoMemory>
     ensures ground { IfOk result (λ cells. cells ≡ plans.open_ground subject.now (of_class class view.now)) }
-    ensures uncounted { work.new ≡ work.old }
+    ensures uncounted { work.new.judged ≡ work.old.judged }
 {
     let except = Some(subject.handle());
     let mut own = Vec::new(alloc);
@@ -41,7 +41,7 @@ pub fn gap_cells(
     work: &mut Work,
 ) -> Result<Cells, NoMemory>
     ensures gaps { IfOk result (λ cells. cells ≡ plans.gap_cells subject.now (of_class class view.now)) }
-    ensures uncounted { work.new ≡ work.old }
+    ensures uncounted { work.new.judged ≡ work.old.judged }
 {
     let mut ground = open_ground(alloc, class, subject, view, work)?;
     if ground.len() == 0 {

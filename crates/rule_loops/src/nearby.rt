@@ -51,7 +51,7 @@ pub(crate) fn polygon_nearby(
     work: &mut Work,
 ) -> Result<Nearby, NoMemory>
     ensures outside { IfOk result (λ n. n ≡ outside polygon.now) }
-    ensures uncounted { work.new ≡ work.old }
+    ensures uncounted { work.new.judged ≡ work.old.judged }
 {
     let outside = outside_of(alloc, polygon, work)?;
     let env = polygon.shape().env();
@@ -75,7 +75,7 @@ pub(crate) fn nearby_of(
     work: &mut Work,
 ) -> Result<NearPolygons, NoMemory>
     ensures all { IfOk result (λ near. near.held.items ++ outsides class except (drop near.rest view.now) ≡ first.items ++ outsides class except view.now) }
-    ensures uncounted { work.new ≡ work.old }
+    ensures uncounted { work.new.judged ≡ work.old.judged }
 {
     let mut held = first;
     let mut room = MOST_CELLS;

@@ -17,7 +17,7 @@ pub trait Test {
     /// Whether the partner passes; the count of judgements stays.
     fn passes(&self, alloc: Global, partner: &Feature, work: &mut Work) -> Result<bool, NoMemory>
         ensures passes { IfOk result (λ passed. passed ≡ test self.now partner.now) }
-        ensures uncounted { work.new ≡ work.old };
+        ensures uncounted { work.new.judged ≡ work.old.judged };
 }
 
 fn passes_in<T: Test>(
@@ -28,7 +28,7 @@ fn passes_in<T: Test>(
     work: &mut Work,
 ) -> Result<bool, NoMemory>
     ensures passes { IfOk result (λ passed. passed ≡ (partner.now.class == class && T.test test.now partner.now)) }
-    ensures uncounted { work.new ≡ work.old }
+    ensures uncounted { work.new.judged ≡ work.old.judged }
 {
     if partner.class() != class {
         return Ok(false);
@@ -45,7 +45,7 @@ pub fn any_passes<T: Test>(
     work: &mut Work,
 ) -> Result<bool, NoMemory>
     ensures any { IfOk result (λ some. some ≡ list_any (T.test test.now) (of_class class view.now)) }
-    ensures uncounted { work.new ≡ work.old }
+    ensures uncounted { work.new.judged ≡ work.old.judged }
 {
     for i in 0..view.len() {
         if passes_in(alloc, test, class, view.feature(i), work)? {
@@ -64,7 +64,7 @@ pub fn whole_without<T: Test>(
     work: &mut Work,
 ) -> Result<Findings, NoMemory>
     ensures found { IfOk result (λ xs. xs ≡ if not (list_any (T.test test.now) (of_class class view.now)) then plans.whole_finding else []) }
-    ensures uncounted { work.new ≡ work.old }
+    ensures uncounted { work.new.judged ≡ work.old.judged }
 {
     let some = any_passes(alloc, test, class, view, work)?;
     whole_finding(alloc, !some)

@@ -37,7 +37,7 @@ fn kept_or_made(
     work: &mut Work,
 ) -> Result<Rc<BoundedCells>, NoMemory>
     ensures cells { IfOk result (λ cells. cells.value ≡ cells_of region polygon.now.shape) }
-    ensures uncounted { work.new ≡ work.old }
+    ensures uncounted { work.new.judged ≡ work.old.judged }
 {
     if let Some(cells) = work.look(region, polygon)? {
         return Ok(cells);
@@ -54,7 +54,7 @@ pub fn inside_of(
     work: &mut Work,
 ) -> Result<Rc<BoundedCells>, NoMemory>
     ensures cells { IfOk result (λ cells. cells.value ≡ terms.inside polygon.now) }
-    ensures uncounted { work.new ≡ work.old }
+    ensures uncounted { work.new.judged ≡ work.old.judged }
 {
     kept_or_made(alloc, Region::Inside, polygon, work)
 }
@@ -66,7 +66,7 @@ pub fn outside_of(
     work: &mut Work,
 ) -> Result<Rc<BoundedCells>, NoMemory>
     ensures cells { IfOk result (λ cells. cells.value ≡ terms.outside polygon.now) }
-    ensures uncounted { work.new ≡ work.old }
+    ensures uncounted { work.new.judged ≡ work.old.judged }
 {
     kept_or_made(alloc, Region::Outside, polygon, work)
 }
@@ -74,7 +74,7 @@ pub fn outside_of(
 /// The cells of a polygon's inside, in a list of its own: a copy of what the work keeps, or made anew.
 pub fn own_inside(alloc: Global, polygon: &Feature, work: &mut Work) -> Result<Cells, NoMemory>
     ensures cells { IfOk result (λ cells. cells ≡ terms.inside polygon.now) }
-    ensures uncounted { work.new ≡ work.old }
+    ensures uncounted { work.new.judged ≡ work.old.judged }
 {
     match work.look(Region::Inside, polygon)? {
         Some(cells) => cells.cells().try_copy(alloc),
@@ -103,7 +103,7 @@ pub fn boundary_of(alloc: Global, polygon: &Feature) -> Result<Cells, NoMemory>
 /// The cells of a polygon's inside, then those of its boundary.
 pub fn closed_cells(alloc: Global, polygon: &Feature, work: &mut Work) -> Result<Cells, NoMemory>
     ensures cells { IfOk result (λ cells. cells ≡ tests.closed_cells polygon.now) }
-    ensures uncounted { work.new ≡ work.old }
+    ensures uncounted { work.new.judged ≡ work.old.judged }
 {
     let mut cells = own_inside(alloc, polygon, work)?;
     cells.append(boundary_of(alloc, polygon)?)?;
@@ -153,7 +153,7 @@ pub fn covers(
 ) -> Result<bool, NoMemory>
     requires { cells.now ≡ tests.closed_cells subject.now }
     ensures covers { IfOk result (λ covered. covered ≡ tests.covers subject.now polygon.now) }
-    ensures uncounted { work.new ≡ work.old }
+    ensures uncounted { work.new.judged ≡ work.old.judged }
 {
     if is_beyond(subject, polygon) {
         return Ok(false);

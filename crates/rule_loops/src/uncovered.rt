@@ -23,7 +23,7 @@ pub(crate) fn left_by_turns(
     work: &mut Work,
 ) -> Result<Cells, NoMemory>
     ensures left { IfOk result (λ left. left ≡ uncovered cells (outsides class except (drop from view.now))) }
-    ensures uncounted { work.new ≡ work.old }
+    ensures uncounted { work.new.judged ≡ work.old.judged }
 {
     if from >= view.len() {
         return Ok(cells);
@@ -53,7 +53,7 @@ pub(crate) fn left_uncovered(
 ) -> Result<Cells, NoMemory>
     requires { HavePoints cells.now }
     ensures left { IfOk result (λ left. left ≡ uncovered cells.now (outsides class except view.now)) }
-    ensures uncounted { work.new ≡ work.old }
+    ensures uncounted { work.new.judged ≡ work.old.judged }
 {
     let near = nearby_of(alloc, Vec::new(alloc), class, except, view, work)?;
     let left = left_of_cells(alloc, cells, &near.held)?;

@@ -39,7 +39,7 @@ impl<'a> Case<'a> {
         requires shown { IsShown self.row.now self.view.now self.subject }
         requires fits { Fits self.row.now self.view.now }
         ensures cut { IfOk result (λ xs. IsCutting self.entry.row.now self.entry.view.now self.entry.subject xs) }
-        ensures judged { work.new ≡ raised work.old 1 }
+        ensures judged { work.new.judged ≡ raised work.old.judged 1 }
     {
         let rule: Of<K> = Of::new(*self.row);
         judge(&rule, self.alloc, self.view, self.subject, work)
@@ -50,7 +50,7 @@ impl<'a> Case<'a> {
         requires shown { IsShown self.row.now self.view.now self.subject }
         requires fits { Fits self.row.now self.view.now }
         ensures cut { IfOk result (λ xs. IsCutting self.entry.row.now self.entry.view.now self.entry.subject xs) }
-        ensures judged { work.new ≡ raised work.old 1 }
+        ensures judged { work.new.judged ≡ raised work.old.judged 1 }
     {
         let row = self.row;
         match row.kind {

@@ -2,7 +2,7 @@
 use crate::definitions::square;
 use feature_store::{Kind, Name, Shape};
 use grid_plane::Rect;
-use rule_core::{RuleRow, Work};
+use rule_core::{Region, RuleRow, Work};
 use rule_set::PosterRules;
 use rule_words::RuleKind;
 use std::alloc::Global;
@@ -26,35 +26,63 @@ fn add_lots(alloc: Global, town: &mut Topology<PosterRules>) -> Result<(), Fail>
     Ok(())
 }
 
-// How many errors there are after a validation, and how many pairs were judged so far.
-fn validated(town: &mut Topology<PosterRules>, work: &mut Work) -> Result<(usize, u64), Fail> {
+// How many errors there are after a validation; how many pairs were judged and how often kept cells were found so far.
+fn validated(
+    town: &mut Topology<PosterRules>,
+    work: &mut Work,
+) -> Result<(usize, u64, u64), Fail> {
     town.validate(Rect::whole(), work)?;
-    Ok((town.errors().len(), work.judged()))
+    Ok((town.errors().len(), work.judged(), work.hits()))
 }
 
-// What is found as they stand, with the second moved away, and moved back. Its caller owns the topology: a function that owns
-// one is proved once more for each of its ends.
+// What is found as they stand, with the second moved away, and put there once more. Its caller owns the topology: a function that
+// owns one is proved once more for each of its ends.
 fn move_a_lot(
     alloc: Global,
     town: &mut Topology<PosterRules>,
     work: &mut Work,
-) -> Result<((usize, u64), (usize, u64), (usize, u64)), Fail> {
+) -> Result<((usize, u64, u64), (usize, u64, u64), (usize, u64, u64)), Fail> {
     add_lots(alloc, town)?;
     let first = validated(town, work)?;
     town.change(2, lot(alloc, 10, 5)?)?;
     let away = validated(town, work)?;
-    town.change(2, lot(alloc, 5, 5)?)?;
-    let back = validated(town, work)?;
-    Ok((first, away, back))
+    town.change(2, lot(alloc, 10, 5)?)?;
+    let again = validated(town, work)?;
+    Ok((first, away, again))
 }
 
 #[test]
 fn a_changed_lot_is_judged_as_it_is(rt: HostRuntime) -> Result<(), Fail> {
     let mut town = Topology::new(rt.alloc(), PosterRules);
     let mut work = Work::new();
-    let (first, away, back) = move_a_lot(rt.alloc(), &mut town, &mut work)?;
-    assert_eq!(rt; first, (1, 2));
-    assert_eq!(rt; away, (0, 4));
-    assert_eq!(rt; back, (1, 6));
+    let (first, away, again) = move_a_lot(rt.alloc(), &mut town, &mut work)?;
+    assert_eq!(rt; (first.0, first.1), (1, 2));
+    assert_eq!(rt; (away.0, away.1), (0, 4));
+    assert_eq!(rt; (again.0, again.1), (0, 6));
+    assert!(rt; again.2 > away.2);
+    Ok(())
+}
+
+// Whether the inside of the second lot is kept after a validation, and then whether it is for another shape of the lot.
+fn look_at_a_lot(
+    alloc: Global,
+    town: &mut Topology<PosterRules>,
+    work: &mut Work,
+) -> Result<(bool, bool), Fail> {
+    add_lots(alloc, town)?;
+    town.validate(Rect::whole(), work)?;
+    let kept = work.look(Region::Inside, town.store().get(2).ok_or("no lot")?)?;
+    town.change(2, lot(alloc, 10, 5)?)?;
+    let changed = work.look(Region::Inside, town.store().get(2).ok_or("no lot")?)?;
+    Ok((kept.is_some(), changed.is_some()))
+}
+
+#[test]
+fn cells_are_kept_for_the_shape_they_are_of(rt: HostRuntime) -> Result<(), Fail> {
+    let mut town = Topology::new(rt.alloc(), PosterRules);
+    let mut work = Work::new();
+    let (kept, changed) = look_at_a_lot(rt.alloc(), &mut town, &mut work)?;
+    assert!(rt; kept);
+    assert!(rt; !changed);
     Ok(())
 }

@@ -279,9 +279,9 @@ impl<R: KindRules> Topology<R> {
     /// the errors of the selected subjects give way to what is found, and the window is cut out of the dirt.
     pub fn validate(&mut self, window: Rect, work: &mut Work) -> Result<Summary, NoMemory>
         ensures ok { OnOk result (IsValidatedBy R.meaning window self.old self.new) }
-        ensures judged { OnOk result (IsCounted window self.old work.old work.new) }
-        ensures stopped { OnErr result (IsCountWithin window self.old work.old work.new) }
-        ensures summary { IfOk result (λ s. (s.judged ≡ work.new - work.old) × (s.errors ≡ length self.new.entries) × (s.dirty ≡ length self.new.dirt)) }
+        ensures judged { OnOk result (IsCounted window self.old work.old.judged work.new.judged) }
+        ensures stopped { OnErr result (IsCountWithin window self.old work.old.judged work.new.judged) }
+        ensures summary { IfOk result (λ s. (s.judged ≡ work.new.judged - work.old.judged) × (s.errors ≡ length self.new.entries) × (s.dirty ≡ length self.new.dirt)) }
         ensures sound { IsSoundUnder R.meaning self.old → IsSoundUnder R.meaning self.new }
         ensures settled { IsSettledUnder R.meaning self.old → IsSettledUnder R.meaning self.new }
         ensures ordered { IsOrdered self.new }
@@ -300,9 +300,9 @@ impl<R: KindRules> Topology<R> {
         error_meter: &mut N,
     ) -> Result<Summary, NoMemory>
         ensures ok { OnOk result (IsValidatedBy R.meaning window self.old self.new) }
-        ensures judged { OnOk result (IsCounted window self.old work.old work.new) }
-        ensures stopped { OnErr result (IsCountWithin window self.old work.old work.new) }
-        ensures summary { IfOk result (λ s. (s.judged ≡ work.new - work.old) × (s.errors ≡ length self.new.entries) × (s.dirty ≡ length self.new.dirt)) }
+        ensures judged { OnOk result (IsCounted window self.old work.old.judged work.new.judged) }
+        ensures stopped { OnErr result (IsCountWithin window self.old work.old.judged work.new.judged) }
+        ensures summary { IfOk result (λ s. (s.judged ≡ work.new.judged - work.old.judged) × (s.errors ≡ length self.new.entries) × (s.dirty ≡ length self.new.dirt)) }
         ensures sound { IsSoundUnder R.meaning self.old → IsSoundUnder R.meaning self.new }
         ensures settled { IsSettledUnder R.meaning self.old → IsSettledUnder R.meaning self.new }
         ensures ordered { IsOrdered self.new }

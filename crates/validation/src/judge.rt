@@ -74,8 +74,8 @@ pub(crate) fn judge_shown<R: RuleSet>(
     requires near { IsView view.now f.now view.now }
     requires fits { R.meaning.Fits rule.now.row view.now }
     ensures part { OnOk result ((es : List terms.Entry) × (out.new.items ≡ out.old.items ++ es) × IsSubjectPart R.meaning view.now rule.now.number rule.now.row f.now.handle es) }
-    ensures judged { OnOk result (work.new ≡ raised work.old (how_many (judged rule.now.row) (f.now ∷ []))) }
-    ensures stopped { OnErr result (work.new ≤ raised work.old (how_many (judged rule.now.row) (f.now ∷ []))) }
+    ensures judged { OnOk result (work.new.judged ≡ raised work.old.judged (how_many (judged rule.now.row) (f.now ∷ []))) }
+    ensures stopped { OnErr result (work.new.judged ≤ raised work.old.judged (how_many (judged rule.now.row) (f.now ∷ []))) }
 {
     f.shape().env().corner_law();
     if !rule.row.judges(f.class()) {

@@ -100,8 +100,8 @@ impl RulePart {
         requires near { IsView view.now f.now view.now }
         requires fits { R.meaning.Fits self.old.rule.row view.now }
         ensures grown { OnOk result (IsGrown R.meaning view.now f.now.handle self.old self.new) }
-        ensures judged { OnOk result (work.new ≡ raised work.old (how_many (judged self.old.rule.row) (f.now ∷ []))) }
-        ensures stopped { OnErr result (work.new ≤ raised work.old (how_many (judged self.old.rule.row) (f.now ∷ []))) }
+        ensures judged { OnOk result (work.new.judged ≡ raised work.old.judged (how_many (judged self.old.rule.row) (f.now ∷ []))) }
+        ensures stopped { OnErr result (work.new.judged ≤ raised work.old.judged (how_many (judged self.old.rule.row) (f.now ∷ []))) }
     {
         judge_shown(rules, alloc, &self.rule, view, f, &mut self.entries, work)
     }
@@ -138,8 +138,8 @@ fn judge_shown_by_each<R: RuleSet>(
     requires near { IsView view.now f.now view.now }
     requires fits { Every (λ (q : projects.InForce). R.meaning.Fits q.row view.now) (rules_of parts.old) }
     ensures grown { OnOk result (AreGrown R.meaning view.now f.now.handle parts.old parts.new) }
-    ensures judged { OnOk result (work.new ≡ raised work.old (judged_of (rules_of parts.old) (f.now ∷ []))) }
-    ensures stopped { OnErr result (work.new ≤ raised work.old (judged_of (rules_of parts.old) (f.now ∷ []))) }
+    ensures judged { OnOk result (work.new.judged ≡ raised work.old.judged (judged_of (rules_of parts.old) (f.now ∷ []))) }
+    ensures stopped { OnErr result (work.new.judged ≤ raised work.old.judged (judged_of (rules_of parts.old) (f.now ∷ []))) }
 {
     for part in parts.iter_mut() {
         part.judge(rules, alloc, view, f, work)?;
@@ -162,8 +162,8 @@ fn judge_live_by_each<R: RuleSet, M: Meter>(
     requires live { feature_at features.now.features f.now.handle ≡ Some f.now }
     requires fits { Every (λ (q : projects.InForce). R.meaning.Fits q.row features.now.features) (rules_of parts.old) }
     ensures grown { OnOk result (AreGrown R.meaning features.now.features f.now.handle parts.old parts.new) }
-    ensures judged { OnOk result (work.new ≡ raised work.old (judged_of (rules_of parts.old) (f.now ∷ []))) }
-    ensures stopped { OnErr result (work.new ≤ raised work.old (judged_of (rules_of parts.old) (f.now ∷ []))) }
+    ensures judged { OnOk result (work.new.judged ≡ raised work.old.judged (judged_of (rules_of parts.old) (f.now ∷ []))) }
+    ensures stopped { OnErr result (work.new.judged ≤ raised work.old.judged (judged_of (rules_of parts.old) (f.now ∷ []))) }
     ensures rises { M.taken meter.old ≤ M.taken meter.new }
     ensures steps { (s : ℕ) → M.taken meter.new ≤ M.taken meter.old + asked_steps s (judged_envelopes (rules_of parts.old) (f.now ∷ [])) features.now.placed }
 {
@@ -187,8 +187,8 @@ fn judge_by_each<R: RuleSet, M: Meter>(
     requires ascending { IsAscending features.now.features }
     requires fits { Every (λ (q : projects.InForce). R.meaning.Fits q.row features.now.features) (rules_of parts.old) }
     ensures grown { OnOk result (AreGrown R.meaning features.now.features subject parts.old parts.new) }
-    ensures judged { OnOk result (work.new ≡ raised work.old (judged_of (rules_of parts.old) (option_to_list (feature_at features.now.features subject)))) }
-    ensures stopped { OnErr result (work.new ≤ raised work.old (judged_of (rules_of parts.old) (option_to_list (feature_at features.now.features subject)))) }
+    ensures judged { OnOk result (work.new.judged ≡ raised work.old.judged (judged_of (rules_of parts.old) (option_to_list (feature_at features.now.features subject)))) }
+    ensures stopped { OnErr result (work.new.judged ≤ raised work.old.judged (judged_of (rules_of parts.old) (option_to_list (feature_at features.now.features subject)))) }
     ensures rises { M.taken meter.old ≤ M.taken meter.new }
     ensures steps { (s : ℕ) → M.taken meter.new ≤ M.taken meter.old + asked_steps s (judged_envelopes (rules_of parts.old) (option_to_list (feature_at features.now.features subject))) features.now.placed }
 {
@@ -212,8 +212,8 @@ pub fn judge_subject<R: RuleSet>(
     requires ascending { IsAscending features.now.features }
     requires fits { Every (λ (q : projects.InForce). R.meaning.Fits q.row features.now.features) in_force.now }
     ensures parts { IfOk result (λ v. Paired (IsPartOf R.meaning features.now.features subject) in_force.now v.items) }
-    ensures judged { IfOk result (λ _. work.new ≡ raised work.old (judged_of in_force.now (option_to_list (feature_at features.now.features subject)))) }
-    ensures stopped { OnErr result (work.new ≤ raised work.old (judged_of in_force.now (option_to_list (feature_at features.now.features subject)))) }
+    ensures judged { IfOk result (λ _. work.new.judged ≡ raised work.old.judged (judged_of in_force.now (option_to_list (feature_at features.now.features subject)))) }
+    ensures stopped { OnErr result (work.new.judged ≤ raised work.old.judged (judged_of in_force.now (option_to_list (feature_at features.now.features subject)))) }
 {
     let mut parts = empty_parts(alloc, in_force)?;
     let meter = &mut NoCount;
@@ -236,8 +236,8 @@ fn judge_selected<R: RuleSet, M: Meter>(
     requires new { Every (IsDone R.meaning features.now.features []) parts.old }
     ensures done { OnOk result (Every (IsDone R.meaning features.now.features selected.now) parts.new) }
     ensures rules { OnOk result (rules_of parts.new ≡ rules_of parts.old) }
-    ensures judged { OnOk result (work.new ≡ raised work.old (judged_of (rules_of parts.old) (live_of features.now.features selected.now))) }
-    ensures stopped { OnErr result (work.new ≤ raised work.old (judged_of (rules_of parts.old) (live_of features.now.features selected.now))) }
+    ensures judged { OnOk result (work.new.judged ≡ raised work.old.judged (judged_of (rules_of parts.old) (live_of features.now.features selected.now))) }
+    ensures stopped { OnErr result (work.new.judged ≤ raised work.old.judged (judged_of (rules_of parts.old) (live_of features.now.features selected.now))) }
     ensures rises { M.taken meter.old ≤ M.taken meter.new }
     ensures steps { (s : ℕ) → M.taken meter.new ≤ M.taken meter.old + asked_steps s (judged_envelopes (rules_of parts.old) (live_of features.now.features selected.now)) features.now.placed }
 {
@@ -273,8 +273,8 @@ pub fn judge_all<R: RuleSet, M: Meter>(
     requires ascending { IsAscending features.now.features }
     requires fits { Every (λ (q : projects.InForce). R.meaning.Fits q.row features.now.features) in_force.now }
     ensures judging { IfOk result (λ es. IsJudging R.meaning features.now.features in_force.now selected.now es.items) }
-    ensures judged { IfOk result (λ _. work.new ≡ raised work.old (judged_of in_force.now (live_of features.now.features selected.now))) }
-    ensures stopped { OnErr result (work.new ≤ raised work.old (judged_of in_force.now (live_of features.now.features selected.now))) }
+    ensures judged { IfOk result (λ _. work.new.judged ≡ raised work.old.judged (judged_of in_force.now (live_of features.now.features selected.now))) }
+    ensures stopped { OnErr result (work.new.judged ≤ raised work.old.judged (judged_of in_force.now (live_of features.now.features selected.now))) }
     ensures rises { M.taken meter.old ≤ M.taken meter.new }
     ensures steps { (s : ℕ) → M.taken meter.new ≤ M.taken meter.old + asked_steps s (judged_envelopes in_force.now (live_of features.now.features selected.now)) features.now.placed }
 {

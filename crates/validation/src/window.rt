@@ -35,8 +35,8 @@ fn rejudge<R: RuleSet, M: Meter>(
     requires selected { IsRising selected.now }
     ensures judging { IfOk result (λ es. IsJudging R.meaning ruled.now.features ruled.now.in_force selected.now es.items) }
     ensures ascending { IfOk result (λ es. entries_of.IsAscending es.items) }
-    ensures judged { IfOk result (λ _. work.new ≡ raised work.old (judged_of ruled.now.in_force (live_of ruled.now.features selected.now))) }
-    ensures stopped { OnErr result (work.new ≤ raised work.old (judged_of ruled.now.in_force (live_of ruled.now.features selected.now))) }
+    ensures judged { IfOk result (λ _. work.new.judged ≡ raised work.old.judged (judged_of ruled.now.in_force (live_of ruled.now.features selected.now))) }
+    ensures stopped { OnErr result (work.new.judged ≤ raised work.old.judged (judged_of ruled.now.in_force (live_of ruled.now.features selected.now))) }
     ensures rises { M.taken meter.old ≤ M.taken meter.new }
     ensures steps { (s : ℕ) → M.taken meter.new ≤ M.taken meter.old + asked_steps s (judged_envelopes ruled.now.in_force (live_of ruled.now.features selected.now)) ruled.now.placed }
 {
@@ -60,8 +60,8 @@ fn renew<R: RuleSet, M: Meter, N: Meter>(
 ) -> Result<(), NoMemory>
     requires { (n : ℕ) (row : Row) → rule_at ruled.now.in_force n ≡ Some row → R.meaning.Fits row ruled.now.features }
     ensures step { OnOk result ((p : Project) (d new : List Rectangle) → HasParts p ruled.now d errors.old → met.now ≡ filter (λ r. rects_meet r window.now) d → new ≡ cut_dirt d window.now → IsValidatedBy R.meaning window.now p (with_parts p new errors.new)) }
-    ensures judged { OnOk result ((p : Project) (d : List Rectangle) → HasParts p ruled.now d errors.old → met.now ≡ filter (λ r. rects_meet r window.now) d → (fs : List features_of.Feature) × IsThose (λ (f : features_of.Feature). IsSelected p window.now f.handle) ruled.now.features fs × (work.new ≡ raised work.old (judged_of ruled.now.in_force fs))) }
-    ensures stopped { OnErr result ((p : Project) (d : List Rectangle) → HasParts p ruled.now d errors.old → met.now ≡ filter (λ r. rects_meet r window.now) d → (fs : List features_of.Feature) → IsThose (λ (f : features_of.Feature). IsSelected p window.now f.handle) ruled.now.features fs → work.new ≤ raised work.old (judged_of ruled.now.in_force fs)) }
+    ensures judged { OnOk result ((p : Project) (d : List Rectangle) → HasParts p ruled.now d errors.old → met.now ≡ filter (λ r. rects_meet r window.now) d → (fs : List features_of.Feature) × IsThose (λ (f : features_of.Feature). IsSelected p window.now f.handle) ruled.now.features fs × (work.new.judged ≡ raised work.old.judged (judged_of ruled.now.in_force fs))) }
+    ensures stopped { OnErr result ((p : Project) (d : List Rectangle) → HasParts p ruled.now d errors.old → met.now ≡ filter (λ r. rects_meet r window.now) d → (fs : List features_of.Feature) → IsThose (λ (f : features_of.Feature). IsSelected p window.now f.handle) ruled.now.features fs → work.new.judged ≤ raised work.old.judged (judged_of ruled.now.in_force fs)) }
     ensures ordered { OnOk result (entries_of.IsAscending errors.new) }
     ensures errors_kept { OnErr result (errors.new ≡ errors.old) }
     ensures asked { (p : Project) (d : List Rectangle) → HasParts p ruled.now d errors.old → met.now ≡ filter (λ r. rects_meet r window.now) d → (fs : List features_of.Feature) → IsThose (λ (f : features_of.Feature). IsSelected p window.now f.handle) ruled.now.features fs → IsAskedFor ruled.now (dirty_parts d window.now) fs (M.taken feature_meter.old) (M.taken feature_meter.new) }
@@ -92,8 +92,8 @@ pub fn validate<R: RuleSet>(
     ensures valid { OnOk result ((p : Project) → HasParts p ruled.now dirt.old errors.old → IsProject R.meaning p → IsProject R.meaning (with_parts p dirt.new errors.new)) }
     ensures sound { OnOk result ((p : Project) → HasParts p ruled.now dirt.old errors.old → IsProject R.meaning p → IsSoundUnder R.meaning p → IsSoundUnder R.meaning (with_parts p dirt.new errors.new)) }
     ensures settled { OnOk result ((p : Project) → HasParts p ruled.now dirt.old errors.old → IsProject R.meaning p → IsSettledUnder R.meaning p → IsSettledUnder R.meaning (with_parts p dirt.new errors.new)) }
-    ensures judged { OnOk result ((p : Project) → HasParts p ruled.now dirt.old errors.old → (fs : List features_of.Feature) × IsThose (λ (f : features_of.Feature). IsSelected p window.now f.handle) ruled.now.features fs × (work.new ≡ raised work.old (judged_of ruled.now.in_force fs))) }
-    ensures stopped { OnErr result ((p : Project) → HasParts p ruled.now dirt.old errors.old → (fs : List features_of.Feature) → IsThose (λ (f : features_of.Feature). IsSelected p window.now f.handle) ruled.now.features fs → work.new ≤ raised work.old (judged_of ruled.now.in_force fs)) }
+    ensures judged { OnOk result ((p : Project) → HasParts p ruled.now dirt.old errors.old → (fs : List features_of.Feature) × IsThose (λ (f : features_of.Feature). IsSelected p window.now f.handle) ruled.now.features fs × (work.new.judged ≡ raised work.old.judged (judged_of ruled.now.in_force fs))) }
+    ensures stopped { OnErr result ((p : Project) → HasParts p ruled.now dirt.old errors.old → (fs : List features_of.Feature) → IsThose (λ (f : features_of.Feature). IsSelected p window.now f.handle) ruled.now.features fs → work.new.judged ≤ raised work.old.judged (judged_of ruled.now.in_force fs)) }
     ensures ordered { OnOk result (entries_of.IsAscending errors.new) }
     ensures errors_kept { OnErr result (errors.new ≡ errors.old) }
     ensures dirt_kept { OnErr result (dirt.new ≡ dirt.old) }
@@ -129,8 +129,8 @@ pub fn validate_counted<R: RuleSet, M: Meter, N: Meter>(
     ensures valid { OnOk result ((p : Project) → HasParts p ruled.now dirt.old errors.old → IsProject R.meaning p → IsProject R.meaning (with_parts p dirt.new errors.new)) }
     ensures sound { OnOk result ((p : Project) → HasParts p ruled.now dirt.old errors.old → IsProject R.meaning p → IsSoundUnder R.meaning p → IsSoundUnder R.meaning (with_parts p dirt.new errors.new)) }
     ensures settled { OnOk result ((p : Project) → HasParts p ruled.now dirt.old errors.old → IsProject R.meaning p → IsSettledUnder R.meaning p → IsSettledUnder R.meaning (with_parts p dirt.new errors.new)) }
-    ensures judged { OnOk result ((p : Project) → HasParts p ruled.now dirt.old errors.old → (fs : List features_of.Feature) × IsThose (λ (f : features_of.Feature). IsSelected p window.now f.handle) ruled.now.features fs × (work.new ≡ raised work.old (judged_of ruled.now.in_force fs))) }
-    ensures stopped { OnErr result ((p : Project) → HasParts p ruled.now dirt.old errors.old → (fs : List features_of.Feature) → IsThose (λ (f : features_of.Feature). IsSelected p window.now f.handle) ruled.now.features fs → work.new ≤ raised work.old (judged_of ruled.now.in_force fs)) }
+    ensures judged { OnOk result ((p : Project) → HasParts p ruled.now dirt.old errors.old → (fs : List features_of.Feature) × IsThose (λ (f : features_of.Feature). IsSelected p window.now f.handle) ruled.now.features fs × (work.new.judged ≡ raised work.old.judged (judged_of ruled.now.in_force fs))) }
+    ensures stopped { OnErr result ((p : Project) → HasParts p ruled.now dirt.old errors.old → (fs : List features_of.Feature) → IsThose (λ (f : features_of.Feature). IsSelected p window.now f.handle) ruled.now.features fs → work.new.judged ≤ raised work.old.judged (judged_of ruled.now.in_force fs)) }
     ensures ordered { OnOk result (entries_of.IsAscending errors.new) }
     ensures errors_kept { OnErr result (errors.new ≡ errors.old) }
     ensures dirt_kept { OnErr result (dirt.new ≡ dirt.old) }

@@ -6,6 +6,7 @@ use Rattle.topology_terms.specs.Plans.{finding_of}
 use Rattle.rule_core.proofs.Partners.{found_below, found_more, found_same}
 use Rattle.rule_loops.proofs.More.{class_is, class_is_not}
 use Rattle.rule_loops.proofs.common.with_class.Goals.{then-class+in_ok-cells+in_ok-push_cells, else-class}
+use Rattle.rule_core.proofs.Works.{judged_is}
 use Rattle.rule_loops.proofs.common.with_class.Goals as goal
 
 pub push_cells-requires : goal.push_cells-requires
@@ -31,11 +32,11 @@ loop-i-preserved g c =
                 (finding_of w.handle.result w.in_ok-cells.cells) c.if-class.findings c.feature-other.ensures
                 (class_is h.class c.class.result n c.class.ensures w.if-class.true) c.loop-i.invariant.found part
                 (w.findings-is ∙ w.in_ok-push_cells.ensures);
-            uncounted = w.work-is ∙ (w.cells.ensures.uncounted ∙ c.loop-i.invariant.uncounted);
+            uncounted = judged_is w.work-is ∙ (w.cells.ensures.uncounted ∙ c.loop-i.invariant.uncounted);
           }
       | else-class w ↦ record {
         found = w.findings-is ∙ found_same cells test V i h c.loop-i.findings c.feature-other.ensures
             (class_is_not h.class c.class.result n c.class.ensures w.if-class.false) c.loop-i.invariant.found;
-        uncounted = w.work-is ∙ c.loop-i.invariant.uncounted;
+        uncounted = judged_is w.work-is ∙ c.loop-i.invariant.uncounted;
       }
     ]

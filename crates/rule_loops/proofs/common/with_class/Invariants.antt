@@ -6,5 +6,5 @@ use Rattle.rule_loops.proofs.common.with_class.Given as goal
 abbrev pub invariant-loop-i : goal.invariant-loop-i
 invariant-loop-i g l = record {
   found : l.findings ≡ plans.pair_findings (g.C.Common.common l.common) (of_class l.class (take l.i l.view));
-  uncounted : l.work ≡ l.fn.work;
+  uncounted : l.work.judged ≡ l.fn.work.judged;
 }

@@ -5,6 +5,7 @@ use Rattle.topology_terms.specs.Plans.{finding_of}
 use Rattle.rule_core.proofs.Partners.{found_below, found_more, found_same}
 use Rattle.rule_loops.specs.Views.{later_of}
 use Rattle.rule_loops.proofs.common.with_later.Goals.{then-is_later+in_ok-cells+in_ok-push_cells, else-is_later}
+use Rattle.rule_core.proofs.Works.{judged_is}
 use Rattle.rule_loops.proofs.common.with_later.Goals as goal
 
 pub push_cells-requires : goal.push_cells-requires
@@ -29,11 +30,11 @@ loop-i-preserved g c =
                 (finding_of w.handle.result w.in_ok-cells.cells) c.if-is_later.findings c.feature-other.ensures
                 (sym c.is_later.ensures ∙ w.if-is_later.true) c.loop-i.invariant.found part
                 (w.findings-is ∙ w.in_ok-push_cells.ensures);
-            uncounted = w.work-is ∙ (w.cells.ensures.uncounted ∙ c.loop-i.invariant.uncounted);
+            uncounted = judged_is w.work-is ∙ (w.cells.ensures.uncounted ∙ c.loop-i.invariant.uncounted);
           }
       | else-is_later w ↦ record {
         found = w.findings-is ∙ found_same cells test V i h c.loop-i.findings c.feature-other.ensures
             (sym c.is_later.ensures ∙ w.if-is_later.false) c.loop-i.invariant.found;
-        uncounted = w.work-is ∙ c.loop-i.invariant.uncounted;
+        uncounted = judged_is w.work-is ∙ c.loop-i.invariant.uncounted;
       }
     ]

@@ -7,5 +7,5 @@ use Rattle.rule_loops.proofs.partners.any_passes.Given as goal
 abbrev pub invariant-loop-i : goal.invariant-loop-i
 invariant-loop-i g l = record {
   none : list_any (λ (h : Feature). h.class == l.class && g.T.Test.test l.test h) (take l.i l.view) ≡ false;
-  uncounted : l.work ≡ l.fn.work;
+  uncounted : l.work.judged ≡ l.fn.work.judged;
 }

@@ -4,6 +4,7 @@ use Rattle.plane_terms.specs.Carve.{carve_of}
 use Rattle.rule_loops.specs.Open.{chosen, outsides}
 use Rattle.rule_loops.proofs.Chosen.{turn_more, turn_same, turn_none}
 use Rattle.rule_loops.proofs.uncovered.left_by_turns.Goals.{then-is_chosen+in_ok-outside+in_ok-left-2, else-is_chosen}
+use Rattle.rule_core.proofs.Works.{judged_is}
 use Rattle.rule_loops.proofs.uncovered.left_by_turns.Goals as goal
 
 pub returns-then-len-eq0-clause-left : goal.returns-then-len-eq0-clause-left
@@ -30,11 +31,11 @@ loop-i-preserved c =
           let one : chosen n o g ≡ true = sym c.is_chosen.ensures ∙ w.if-is_chosen.true in
           record {
             left = rw (w.left-is) (turn_more n o V i g old made all c.feature-other.ensures one is inv.left);
-            uncounted = w.work-is ∙ (w.outside_of.ensures.uncounted ∙ inv.uncounted);
+            uncounted = judged_is w.work-is ∙ (w.outside_of.ensures.uncounted ∙ inv.uncounted);
           }
       | else-is_chosen w ↦ record {
         left = turn_same n o V i g old c.if-is_chosen.left all c.feature-other.ensures (sym c.is_chosen.ensures ∙ w.if-is_chosen.false)
             w.left-is inv.left;
-        uncounted = w.work-is ∙ inv.uncounted;
+        uncounted = judged_is w.work-is ∙ inv.uncounted;
       }
     ]

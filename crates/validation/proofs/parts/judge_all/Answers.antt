@@ -27,7 +27,7 @@ returns-then-len-eq0-clause-judging g c =
 pub returns-then-len-eq0-clause-judged : goal.returns-then-len-eq0-clause-judged
 returns-then-len-eq0-clause-judged g c =
     let e = none c.args.selected.now (omega (arith, c.len.ensures.value, c.if-len-eq0.true)) in
-    rw (e, judged_nothing c.args.in_force.now) (sym (raised_none c.args.work.now))
+    rw (e, judged_nothing c.args.in_force.now) (sym (raised_none c.args.work.now.judged))
 
 pub returns-clause-judging : goal.returns-clause-judging
 returns-clause-judging g c =

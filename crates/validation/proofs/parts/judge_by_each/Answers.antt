@@ -26,4 +26,4 @@ returns-in-None-clause-grown g c = grown_dead g.R.RuleSet.meaning c.args.feature
 
 pub returns-in-None-clause-judged : goal.returns-in-None-clause-judged
 returns-in-None-clause-judged g c =
-    rw (c.in-None.ensures, judged_nothing (rules_of c.args.parts.now)) (sym (raised_none c.args.work.now))
+    rw (c.in-None.ensures, judged_nothing (rules_of c.args.parts.now)) (sym (raised_none c.args.work.now.judged))

@@ -13,7 +13,7 @@ returns-then-not-judges_any-clause-grown g c = grown_idle g.R.RuleSet.meaning g.
 
 pub returns-then-not-judges_any-clause-judged : goal.returns-then-not-judges_any-clause-judged
 returns-then-not-judges_any-clause-judged g c =
-    rw (judged_idle c.args.f.now c.args.parts.now (sym c.judges_any.ensures ∙ c.if-not-judges_any.true)) (sym (raised_none c.args.work.now))
+    rw (judged_idle c.args.f.now c.args.parts.now (sym c.judges_any.ensures ∙ c.if-not-judges_any.true)) (sym (raised_none c.args.work.now.judged))
 
 pub judge_shown_by_each-requires-clause-live : goal.judge_shown_by_each-requires-clause-live
 judge_shown_by_each-requires-clause-live g c = shown_subject (rules_of c.args.parts.now) c.args.features.now.features c.in_ok-view.view c.args.f.now

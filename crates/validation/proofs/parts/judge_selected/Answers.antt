@@ -11,7 +11,7 @@ pub loop-i-init : goal.loop-i-init
 loop-i-init g c = (
   c.requires.new,
   refl,
-  rw (judged_nothing (rules_of c.args.parts.now)) (sym (raised_none c.args.work.now)),
+  rw (judged_nothing (rules_of c.args.parts.now)) (sym (raised_none c.args.work.now.judged)),
   omega arith,
   λ s. omega arith,
 )
@@ -26,8 +26,8 @@ returns-in_err-judge_by_each-clause-stopped g c =
     let a = c.at-subject.result in
     let l : i < length s = omega (arith, c.len-i-end.ensures.value, c.loop-i-test.true) in
     let e : a ≡ get_or s i a = c.at-subject.ensures ∙ get_or_default s i 0 a l in
-    on_err c.from_residual.result _ (judged_subject_within (rules_of c.args.parts.now) c.args.features.now.features s i a c.args.work.now
-    c.loop-i.work c.judge_by_each.new.work l e c.loop-i.invariant.2 (rw c.loop-i.invariant.1 at c.in_err-judge_by_each.ensures.stopped))
+    on_err c.from_residual.result _ (judged_subject_within (rules_of c.args.parts.now) c.args.features.now.features s i a c.args.work.now.judged
+    c.loop-i.work.judged c.judge_by_each.new.work.judged l e c.loop-i.invariant.2 (rw c.loop-i.invariant.1 at c.in_err-judge_by_each.ensures.stopped))
 
 pub loop-i-preserved : goal.loop-i-preserved
 loop-i-preserved g c =
@@ -41,7 +41,7 @@ loop-i-preserved g c =
     let grown = c.in_ok-judge_by_each.ensures.grown in (
       done_more M F s i a c.loop-i.parts c.judge_by_each.new.parts l e c.loop-i.invariant.0 grown,
       rules_kept M F a c.loop-i.parts c.judge_by_each.new.parts grown ∙ c.loop-i.invariant.1,
-      judged_subject_more (rules_of c.args.parts.now) F s i a c.args.work.now c.loop-i.work c.judge_by_each.new.work l e
+      judged_subject_more (rules_of c.args.parts.now) F s i a c.args.work.now.judged c.loop-i.work.judged c.judge_by_each.new.work.judged l e
           c.loop-i.invariant.2 (rw c.loop-i.invariant.1 at c.in_ok-judge_by_each.ensures.judged),
       omega (arith, c.loop-i.invariant.3, c.judge_by_each.ensures.rises),
       λ k. subject_steps k (rules_of c.args.parts.now) F s c.args.features.now.placed i a (g.M.Meter.taken c.args.meter.now)

@@ -27,8 +27,8 @@ returns-in_err-judge-clause-stopped g c =
     let there = rule_there g.R.RuleSet.meaning c.args.view.now c.args.f.now.handle i old c.loop-part.parts p c.loop-part-test.true
     c.part-item.is c.loop-part.invariant.0 in
     let short : i < length (rules_of old) = omega (arith, length_rules old, c.loop-part-test.true) in
-    on_err c.from_residual.result _ (judged_rule_within (c.args.f.now ∷ []) (rules_of old) i p.rule c.args.work.now c.loop-part.work
-    c.judge.new.work short there c.loop-part.invariant.1 (rw (← c.part-item.is) at c.in_err-judge.ensures.stopped))
+    on_err c.from_residual.result _ (judged_rule_within (c.args.f.now ∷ []) (rules_of old) i p.rule c.args.work.now.judged c.loop-part.work.judged
+    c.judge.new.work.judged short there c.loop-part.invariant.1 (rw (← c.part-item.is) at c.in_err-judge.ensures.stopped))
 
 pub loop-part-preserved : goal.loop-part-preserved
 loop-part-preserved g c =
@@ -43,6 +43,6 @@ loop-part-preserved g c =
       grown_more M V a i old c.loop-part.parts p c.judge.new.self c.loop-part-test.true
           (omega (arith, c.loop-part-test.true, c.loop-part.auto.parts)) c.part-item.is
           (rw (← c.part-item.is) at c.in_ok-judge.ensures.grown) c.loop-part.invariant.0,
-      judged_rule_more (c.args.f.now ∷ []) (rules_of old) i p.rule c.args.work.now c.loop-part.work c.judge.new.work short there
+      judged_rule_more (c.args.f.now ∷ []) (rules_of old) i p.rule c.args.work.now.judged c.loop-part.work.judged c.judge.new.work.judged short there
           c.loop-part.invariant.1 (rw (← c.part-item.is) at c.in_ok-judge.ensures.judged),
     )

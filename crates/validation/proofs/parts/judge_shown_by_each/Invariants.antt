@@ -6,4 +6,4 @@ use Rattle.validation.proofs.parts.judge_shown_by_each.Given as goal
 
 abbrev pub invariant-loop-part : goal.invariant-loop-part
 invariant-loop-part g l = AreGrownUpto g.R.RuleSet.meaning l.view l.f.handle l.part-index l.initial.parts l.parts
-    × (l.work ≡ raised l.initial.work (judged_of (take l.part-index (rules_of l.initial.parts)) (l.f ∷ [])))
+    × (l.work.judged ≡ raised l.initial.work.judged (judged_of (take l.part-index (rules_of l.initial.parts)) (l.f ∷ [])))

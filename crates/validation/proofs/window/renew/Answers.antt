@@ -32,18 +32,18 @@ returns-clause-judged g c = on_ok_weaker c.replace.result (λ r p d h e. (
 
 pub returns-clause-stopped : goal.returns-clause-stopped
 returns-clause-stopped g c = on_err c.replace.result _ (λ p d h e fs those.
-    judged_upto c.args.window.now p c.args.ruled.now.in_force c.args.ruled.now.features c.in_ok-selected.selected c.args.work.now _
+    judged_upto c.args.window.now p c.args.ruled.now.in_force c.args.ruled.now.features c.in_ok-selected.selected c.args.work.now.judged _
     c.order_law.ensures.features c.in_ok-selected.ensures.rising
     (λ a. c.in_ok-selected.ensures.chosen p h.features (met_of p d c.args.met.now c.args.window.now h.dirt e) h.entries a)
     (le_of_eq _ _ c.in_ok-fresh.ensures.judged) fs those)
 
 pub returns-in_err-selected-clause-stopped : goal.returns-in_err-selected-clause-stopped
-returns-in_err-selected-clause-stopped g c = on_err c.from_residual.result _ (λ p d h e fs those. not_raised c.args.work.now
+returns-in_err-selected-clause-stopped g c = on_err c.from_residual.result _ (λ p d h e fs those. not_raised c.args.work.now.judged
     (judged_of c.args.ruled.now.in_force fs))
 
 pub returns-in_err-fresh-clause-stopped : goal.returns-in_err-fresh-clause-stopped
 returns-in_err-fresh-clause-stopped g c = on_err c.from_residual-in_err-fresh.result _ (λ p d h e fs those.
-    judged_upto c.args.window.now p c.args.ruled.now.in_force c.args.ruled.now.features c.in_ok-selected.selected c.args.work.now _
+    judged_upto c.args.window.now p c.args.ruled.now.in_force c.args.ruled.now.features c.in_ok-selected.selected c.args.work.now.judged _
     c.order_law.ensures.features c.in_ok-selected.ensures.rising
     (λ a. c.in_ok-selected.ensures.chosen p h.features (met_of p d c.args.met.now c.args.window.now h.dirt e) h.entries a)
     c.in_err-fresh.ensures.stopped fs those)

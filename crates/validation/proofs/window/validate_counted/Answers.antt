@@ -32,7 +32,7 @@ pub returns-in-Err-clause-stopped : goal.returns-in-Err-clause-stopped
 returns-in-Err-clause-stopped g c = λ p h. c.in-Err.ensures.stopped p c.args.dirt.now h (c.met.ensures ∙ c.in_ok-cut.ensures.parts.met)
 
 pub returns-in_err-cut-clause-stopped : goal.returns-in_err-cut-clause-stopped
-returns-in_err-cut-clause-stopped g c = on_err c.from_residual.result _ (λ p h fs those. not_raised c.args.work.now
+returns-in_err-cut-clause-stopped g c = on_err c.from_residual.result _ (λ p h fs those. not_raised c.args.work.now.judged
     (judged_of c.args.ruled.now.in_force fs))
 
 pub returns-in-Ok-clause-asked : goal.returns-in-Ok-clause-asked

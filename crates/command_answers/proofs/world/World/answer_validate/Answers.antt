@@ -7,7 +7,7 @@ use Rattle.command_answers.proofs.world.World.answer_validate.Goals as goal
 
 pub returns-clause-answers : goal.returns-clause-answers
 returns-clause-answers c =
-    rw (← c.self.view_is) (validated (state_of c.self.inside.topology c.self.inside.sessions) _ c.args.window _ _ _ _ c.validate.new.work
+    rw (← c.self.view_is) (validated (state_of c.self.inside.topology c.self.inside.sessions) _ c.args.window _ _ _ _ c.validate.new.work.judged
     c.topology_law.ensures (omega arith) c.begin_count.ensures c.in_ok-validate.ensures.ok c.in_ok-validate.ensures.judged
     c.in_ok-validate.ensures.summary.0 c.in_ok-validate.ensures.summary.1 c.in_ok-validate.ensures.summary.2
     (seen_same c.self.inside.topology c.validate.new.self c.self.inside.sessions c.in_ok-validate.ensures.ok.features))

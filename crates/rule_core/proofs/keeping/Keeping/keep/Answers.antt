@@ -1,9 +1,9 @@
-use Rattle.std.proofs.Common.{◌≡◌, ◌∙◌, ap}
+use Rattle.std.proofs.Common.{◌≡◌, ◌∙◌, ap, length, refl}
 use Rattle.plane_terms.specs.Shape.{Shape}
 use Rattle.plane_terms.specs.declared.kind.Kind.TheVariants as kind
 use Rattle.shape.specs.Given.{polygons_in}
 use Rattle.rule_core.specs.Kept.{made_of}
-use Rattle.rule_core.proofs.Puts.{polygon_is, is_found, is_put}
+use Rattle.rule_core.proofs.Puts.{polygon_is, is_found, is_put, left_of, all_left}
 use Rattle.rule_core.proofs.keeping.Keeping.keep.Goals as goal
 
 pub returns-clause-kept : goal.returns-clause-kept
@@ -30,3 +30,14 @@ returns-clause-recent c = λ e s.
     rw (← c.self.view_is) (is_put c.make_room-self-inside.new.cache c.handle.result f.handle c.of-kept.result (made_of r f.shape)
     c.put.new.cache.entries c.self.inside.region c.self.inside.cache.entries c.make_room-self-inside.ensures.recent
     (c.make_room-self-inside.ensures.cap ∙ c.self.invariant.features) c.in_ok-self-inside.ensures.entries c.handle.ensures k)
+
+pub returns-in_err-parts-clause-fewer : goal.returns-in_err-parts-clause-fewer
+returns-in_err-parts-clause-fewer c = all_left c.from_residual.result _ _ refl
+
+pub returns-in_err-clone-clause-fewer : goal.returns-in_err-clone-clause-fewer
+returns-in_err-clone-clause-fewer c = all_left c.from_residual-in_err-clone.result _ _ refl
+
+pub returns-in_err-self-inside-clause-fewer : goal.returns-in_err-self-inside-clause-fewer
+returns-in_err-self-inside-clause-fewer c =
+    rw (c.in_err-self-inside.ensures.err, ← c.self.view_is) (left_of c.from_residual-in_err-self-inside.result _ _
+    (length c.make_room-self-inside.new.cache.entries) c.make_room-self-inside.ensures.recent)

@@ -44,7 +44,7 @@ returns-clause-judged g c =
     rw (← c.self.view_is) (record {
       subjects = j.0;
       those = subst (λ F. IsThose (λ (f : Feature). IsSelected p c.args.window f.handle) F j.0) (sym parts.features) j.1;
-      count = subst (λ rules. c.validate_counted.new.work ≡ raised c.args.work.now (judged_of rules j.0)) (sym parts.rules) j.2;
+      count = subst (λ rules. c.validate_counted.new.work.judged ≡ raised c.args.work.now.judged (judged_of rules j.0)) (sym parts.rules) j.2;
     })
 
 pub returns-clause-sound : goal.returns-clause-sound
@@ -73,7 +73,7 @@ pub returns-in_err-validate_counted-clause-stopped : goal.returns-in_err-validat
 returns-in_err-validate_counted-clause-stopped g c =
     let p = project_of c.self.inside.store c.self.inside.rules.items c.self.inside.dirt c.self.inside.entries in
     let parts = parts_of p _ _ _ _ c.of-ruled.ensures c.deref.ensures.value c.features-features.ensures.value in
-    on_err c.from_residual.result _ (rw (← c.self.view_is) (λ fs those. subst (λ rules. c.validate_counted.new.work ≤ raised c.args.work.now
+    on_err c.from_residual.result _ (rw (← c.self.view_is) (λ fs those. subst (λ rules. c.validate_counted.new.work.judged ≤ raised c.args.work.now.judged
     (judged_of rules fs)) (sym parts.rules)
     (c.in_err-validate_counted.ensures.stopped p parts fs
     (subst (λ F. IsThose (λ (f : Feature). IsSelected p c.args.window f.handle) F fs) parts.features those))))

@@ -1,0 +1,41 @@
+-- What a work is seen as, and what a look makes of it.
+--
+-- Work             how many judgements were counted, how often a look found cells, and of each region what is kept: the pairs of a handle
+--                  and what was made of its polygon, the most recently used first
+-- unused           nothing was judged or found, and nothing is kept
+-- kept_of r w      the pairs of the region r
+-- entries_of o     those of one region, none where nothing was ever kept of it
+-- found_again r w h    after a look for the region r that found cells for the handle h: it is counted, up to the greatest number of 64
+--                  bits, and the pair went to the front
+-- after_look r b w h   after any look: where it found nothing, nothing changed
+use Rattle.std.specs.Prelude.{ℕ, Bool, true, false, List, [], Option, nat_eq}
+use Rattle.std.specs.Option.{option_map_or}
+use Rattle.lru.specs.LruCache.{promoted}
+use Rattle.topology_terms.specs.Counts.{raised}
+use Rattle.rule_core.specs.Kept.{Keeping, KeptCells}
+use Rattle.rule_core.specs.declared.region.Region.{Region}
+use Rattle.rule_core.specs.declared.region.Region.TheVariants.{Inside, Outside}
+
+pub record Work : Type 0 where
+  pub judged : ℕ
+  pub hits : ℕ
+  pub insides : List (ℕ × KeptCells)
+  pub outsides : List (ℕ × KeptCells)
+
+abbrev pub unused : Work
+unused = record { judged = 0; hits = 0; insides = []; outsides = [] }
+
+abbrev pub kept_of : Region → Work → List (ℕ × KeptCells)
+kept_of Inside w = w.insides
+kept_of Outside w = w.outsides
+
+abbrev pub entries_of : Option Keeping → List (ℕ × KeptCells)
+entries_of o = option_map_or (λ (k : Keeping). k.entries) o []
+
+abbrev pub found_again : Region → Work → ℕ → Work
+found_again Inside w h = record { judged = w.judged; hits = raised w.hits 1; insides = promoted (nat_eq h) w.insides; outsides = w.outsides }
+found_again Outside w h = record { judged = w.judged; hits = raised w.hits 1; insides = w.insides; outsides = promoted (nat_eq h) w.outsides }
+
+abbrev pub after_look : Region → Bool → Work → ℕ → Work
+after_look r true w h = found_again r w h
+after_look r false w h = w
