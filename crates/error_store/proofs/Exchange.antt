@@ -262,6 +262,29 @@ new_came selected pairs old fresh mid left new h p c = h.put p ∙ by (get pair_
     by None e = gone e (get pair_cmp old p) refl
     by (Some v) e = refl
 
+-- where there was no run, the fresh ones are all that there are
+none_at : (es : List (Pair × Vec Entry)) (p : Pair) → length es ≡ 0 → lookup (is_at (pair_cmp p)) es ≡ None
+none_at [] p e = refl
+none_at (r ∷ es) p e = absurd (omega (arith, e))
+
+over_none : (o w : Option (Vec Entry)) → w ≡ None → o ≡ over o w
+over_none None w e = sym e
+over_none (Some v) w e = refl
+
+pub all_come : (selected : List ℕ) (pairs : List Pair) (old fresh : Runs) → ArePairsOf selected old pairs → length old.entries ≡ 0
+    → AreOrderedRuns old → AreOrderedRuns fresh → AreFilled fresh → AreExchanged selected pairs old fresh old old fresh
+all_come selected pairs old fresh of none ordered runs filled = record {
+  pairs_of = of;
+  beside = λ p out. refl;
+  same = refl;
+  mid_runs = ordered;
+  fresh_runs = runs;
+  new_runs = runs;
+  filled = filled;
+  dropped = record { kept = λ p out. refl; left = λ p room. refl; gone = λ p there off. none_at old.entries p none };
+  put = λ p. over_none (get pair_cmp fresh p) (get pair_cmp old p) (none_at old.entries p none);
+}
+
 pub exchanged : (selected : List ℕ) (pairs : List Pair) (old fresh mid left new : Runs) (es marked : List Entry)
     → AreExchanged selected pairs old fresh mid left new → all_entries fresh ≡ marked → AreMarked (all_entries old) es marked → AreFresh selected es
     → IsReplaced selected (all_entries old) es (all_entries new)

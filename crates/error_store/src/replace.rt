@@ -163,11 +163,17 @@ pub(crate) fn replace_runs(
     if number.checked_add(fresh.len()).is_none() {
         return Err(NoMemory);
     }
-    // It tells that the pairs ascend.
-    let _pairs = runs.len();
+    // It tells that the pairs ascend, too.
+    let before = runs.len();
     let mut fresh = fresh;
     keep_marks(runs, &mut fresh);
+    let count = fresh.len();
     let fresh = cut(alloc, fresh)?;
+    // Where no error was, the fresh ones are all that there are.
+    if before == 0 {
+        *runs = fresh;
+        return Ok(count);
+    }
     make_room(runs, alloc, &fresh)?;
     let left = drop_gone(runs, number, pairs, &fresh);
     Ok(put_each(runs, left, fresh))
