@@ -1,6 +1,6 @@
 -- Of a view, those around its subject are those of the class, and what is found among them is the rule's cutting.
-use Rattle.std.proofs.Common.{◌≡◌, ℕ, Bool, true, false, List, [], Some, refl, sym, ◌∙◌, ap}
-use Rattle.std.specs.Prelude.{◌&&◌, if◌then◌else◌}
+use Rattle.std.proofs.Common.{◌≡◌, ℕ, Bool, true, false, List, Some, refl, sym, ◌∙◌, ap}
+use Rattle.std.specs.Prelude.{if◌then◌else◌}
 use Rattle.topology_terms.specs.Feature.{Feature, Side, feature_at, is_on_side}
 use Rattle.topology_terms.specs.Broken.{Row, judged}
 use Rattle.topology_terms.specs.Meaning.{Finding}
