@@ -10,7 +10,7 @@ use shape::{Feature, Shape, ShapeFault};
 use std::alloc::Global;
 use std::test::Fail;
 
-fn place(x: i64, y: i64) -> Result<GridPoint, Fail> {
+pub(crate) fn place(x: i64, y: i64) -> Result<GridPoint, Fail> {
     Ok(GridPoint::at(x, y).ok_or("beyond the reach")?)
 }
 
@@ -58,8 +58,8 @@ fn one_ring(alloc: Global, ring: Vec<GridPoint>) -> Result<Vec<Vec<Vec<GridPoint
     Ok(parts)
 }
 
-fn polygon(alloc: Global, ring: Vec<GridPoint>) -> Result<Shape, ShapeFault> {
-    if ring.len() > 4 {
+pub(crate) fn polygon(alloc: Global, ring: Vec<GridPoint>) -> Result<Shape, ShapeFault> {
+    if ring.len() > 12 {
         return Err(ShapeFault::NoMemory);
     }
     let parts = one_ring(alloc, ring)?;

@@ -1,5 +1,5 @@
 // The cells that a work keeps serve the next judgement, and never for another shape of their handle.
-use crate::definitions::square;
+use crate::definitions::{place, polygon, square};
 use feature_store::{Kind, Name, Shape};
 use grid_plane::Rect;
 use rule_core::{Region, RuleRow, Work};
@@ -26,40 +26,86 @@ fn add_lots(alloc: Global, town: &mut Topology<PosterRules>) -> Result<(), Fail>
     Ok(())
 }
 
-// How many errors there are after a validation; how many pairs were judged and how often kept cells were found so far.
-fn validated(
-    town: &mut Topology<PosterRules>,
-    work: &mut Work,
-) -> Result<(usize, u64, u64), Fail> {
-    town.validate(Rect::whole(), work)?;
-    Ok((town.errors().len(), work.judged(), work.hits()))
+// How many errors there are; how many pairs were judged, and how often kept cells were found, so far.
+#[derive(Drop)]
+struct Counts {
+    errors: usize,
+    judged: u64,
+    hits: u64,
 }
 
-// What is found as they stand, with the second moved away, and put there once more. Its caller owns the topology: a function that
-// owns one is proved once more for each of its ends.
+// The counts after a validation of the whole grid.
+fn validated(town: &mut Topology<PosterRules>, work: &mut Work) -> Result<Counts, Fail> {
+    town.validate(Rect::whole(), work)?;
+    Ok(Counts {
+        errors: town.errors().len(),
+        judged: work.judged(),
+        hits: work.hits(),
+    })
+}
+
+// What is found as they stand, with the second moved away, and moved back. Its caller owns the topology: a function that owns
+// one is proved once more for each of its ends.
 fn move_a_lot(
     alloc: Global,
     town: &mut Topology<PosterRules>,
     work: &mut Work,
-) -> Result<((usize, u64, u64), (usize, u64, u64), (usize, u64, u64)), Fail> {
+) -> Result<(Counts, Counts, Counts), Fail> {
     add_lots(alloc, town)?;
     let first = validated(town, work)?;
     town.change(2, lot(alloc, 10, 5)?)?;
     let away = validated(town, work)?;
-    town.change(2, lot(alloc, 10, 5)?)?;
-    let again = validated(town, work)?;
-    Ok((first, away, again))
+    town.change(2, lot(alloc, 5, 5)?)?;
+    let back = validated(town, work)?;
+    Ok((first, away, back))
 }
 
 #[test]
 fn a_changed_lot_is_judged_as_it_is(rt: HostRuntime) -> Result<(), Fail> {
     let mut town = Topology::new(rt.alloc(), PosterRules);
     let mut work = Work::new();
-    let (first, away, again) = move_a_lot(rt.alloc(), &mut town, &mut work)?;
-    assert_eq!(rt; (first.0, first.1), (1, 2));
-    assert_eq!(rt; (away.0, away.1), (0, 4));
-    assert_eq!(rt; (again.0, again.1), (0, 6));
-    assert!(rt; again.2 > away.2);
+    let (first, away, back) = move_a_lot(rt.alloc(), &mut town, &mut work)?;
+    assert_eq!(rt; (first.errors, first.judged), (1, 2));
+    assert_eq!(rt; (away.errors, away.judged), (0, 4));
+    assert_eq!(rt; (back.errors, back.judged), (1, 6));
+    Ok(())
+}
+
+// A lot that goes round the first one, open to the west.
+fn lot_round_a_lot(alloc: Global) -> Result<Shape, Fail> {
+    let mut ring = Vec::new(alloc);
+    for (x, y) in [(-5, -5), (15, -5), (15, 15), (-5, 15), (-5, 6), (-1, 6)] {
+        ring.push(place(x, y)?)?;
+    }
+    for (x, y) in [(-1, 11), (11, 11), (11, -1), (-1, -1), (-1, 4), (-5, 4)] {
+        ring.push(place(x, y)?)?;
+    }
+    Ok(polygon(alloc, ring)?)
+}
+
+// What is found with the second changed to go round the first, and once more.
+fn go_round_a_lot(
+    alloc: Global,
+    town: &mut Topology<PosterRules>,
+    work: &mut Work,
+) -> Result<(Counts, Counts), Fail> {
+    add_lots(alloc, town)?;
+    town.validate(Rect::whole(), work)?;
+    town.change(2, lot_round_a_lot(alloc)?)?;
+    let round = validated(town, work)?;
+    town.change(2, lot_round_a_lot(alloc)?)?;
+    let again = validated(town, work)?;
+    Ok((round, again))
+}
+
+#[test]
+fn cells_of_a_lot_are_found_again(rt: HostRuntime) -> Result<(), Fail> {
+    let mut town = Topology::new(rt.alloc(), PosterRules);
+    let mut work = Work::new();
+    let (round, again) = go_round_a_lot(rt.alloc(), &mut town, &mut work)?;
+    assert_eq!(rt; (round.errors, round.judged), (0, 4));
+    assert_eq!(rt; (again.errors, again.judged), (0, 6));
+    assert!(rt; again.hits > round.hits);
     Ok(())
 }
 
