@@ -10,7 +10,7 @@ use shape::{Feature, Shape, ShapeFault};
 use std::alloc::Global;
 use std::test::Fail;
 
-pub(crate) fn place(x: i64, y: i64) -> Result<GridPoint, Fail> {
+fn place(x: i64, y: i64) -> Result<GridPoint, Fail> {
     Ok(GridPoint::at(x, y).ok_or("beyond the reach")?)
 }
 
@@ -58,7 +58,7 @@ fn one_ring(alloc: Global, ring: Vec<GridPoint>) -> Result<Vec<Vec<Vec<GridPoint
     Ok(parts)
 }
 
-pub(crate) fn polygon(alloc: Global, ring: Vec<GridPoint>) -> Result<Shape, ShapeFault> {
+fn polygon(alloc: Global, ring: Vec<GridPoint>) -> Result<Shape, ShapeFault> {
     if ring.len() > 12 {
         return Err(ShapeFault::NoMemory);
     }
@@ -82,6 +82,20 @@ pub(crate) fn square(
     ring.push(place(left + 10, low)?)?;
     ring.push(place(left + 10, low + 10)?)?;
     ring.push(place(left, low + 10)?)?;
+    Ok(Feature::new(handle, class, polygon(alloc, ring)?))
+}
+
+// A polygon that goes round the square at the origin, open to the west.
+pub(crate) fn round_a_square(alloc: Global, handle: u32, class: u16) -> Result<Feature, Fail>
+    ensures { IfOk result (λ f. (f.handle ≡ handle) × (f.class ≡ class)) }
+{
+    let mut ring = Vec::new(alloc);
+    for (x, y) in [(-5, -5), (15, -5), (15, 15), (-5, 15), (-5, 6), (-1, 6)] {
+        ring.push(place(x, y)?)?;
+    }
+    for (x, y) in [(-1, 11), (11, 11), (11, -1), (-1, -1), (-1, 4), (-5, 4)] {
+        ring.push(place(x, y)?)?;
+    }
     Ok(Feature::new(handle, class, polygon(alloc, ring)?))
 }
 

@@ -1,5 +1,5 @@
 // The cells that a work keeps serve the next judgement, and never for another shape of their handle.
-use crate::definitions::{place, polygon, square};
+use crate::definitions::{round_a_square, square};
 use feature_store::{Kind, Name, Shape};
 use grid_plane::Rect;
 use rule_core::{Region, RuleRow, Work};
@@ -71,16 +71,9 @@ fn a_changed_lot_is_judged_as_it_is(rt: HostRuntime) -> Result<(), Fail> {
     Ok(())
 }
 
-// A lot that goes round the first one, open to the west.
+// A lot that goes round the first one.
 fn lot_round_a_lot(alloc: Global) -> Result<Shape, Fail> {
-    let mut ring = Vec::new(alloc);
-    for (x, y) in [(-5, -5), (15, -5), (15, 15), (-5, 15), (-5, 6), (-1, 6)] {
-        ring.push(place(x, y)?)?;
-    }
-    for (x, y) in [(-1, 11), (11, 11), (11, -1), (-1, -1), (-1, 4), (-5, 4)] {
-        ring.push(place(x, y)?)?;
-    }
-    Ok(polygon(alloc, ring)?)
+    Ok(round_a_square(alloc, 1, 1)?.shape().try_copy(alloc)?)
 }
 
 // What is found with the second changed to go round the first, and once more.
