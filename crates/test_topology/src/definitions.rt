@@ -59,7 +59,7 @@ fn one_ring(alloc: Global, ring: Vec<GridPoint>) -> Result<Vec<Vec<Vec<GridPoint
 }
 
 fn polygon(alloc: Global, ring: Vec<GridPoint>) -> Result<Shape, ShapeFault> {
-    if ring.len() > 12 {
+    if ring.len() > 4 {
         return Err(ShapeFault::NoMemory);
     }
     let parts = one_ring(alloc, ring)?;
@@ -82,20 +82,6 @@ pub(crate) fn square(
     ring.push(place(left + 10, low)?)?;
     ring.push(place(left + 10, low + 10)?)?;
     ring.push(place(left, low + 10)?)?;
-    Ok(Feature::new(handle, class, polygon(alloc, ring)?))
-}
-
-// A polygon that goes round the square at the origin, open to the west.
-pub(crate) fn round_a_square(alloc: Global, handle: u32, class: u16) -> Result<Feature, Fail>
-    ensures { IfOk result (λ f. (f.handle ≡ handle) × (f.class ≡ class)) }
-{
-    let mut ring = Vec::new(alloc);
-    for (x, y) in [(-5, -5), (15, -5), (15, 15), (-5, 15), (-5, 6), (-1, 6)] {
-        ring.push(place(x, y)?)?;
-    }
-    for (x, y) in [(-1, 11), (11, 11), (11, -1), (-1, -1), (-1, 4), (-5, 4)] {
-        ring.push(place(x, y)?)?;
-    }
     Ok(Feature::new(handle, class, polygon(alloc, ring)?))
 }
 
