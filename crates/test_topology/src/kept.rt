@@ -26,48 +26,34 @@ fn add_lots(alloc: Global, town: &mut Topology<PosterRules>) -> Result<(), Fail>
     Ok(())
 }
 
-// How many errors there are; how many pairs were judged, and how often kept cells were found, so far.
-#[derive(Drop)]
-struct Counts {
-    errors: usize,
-    judged: u64,
-    hits: u64,
-}
-
-// The counts after a validation of the whole grid.
-fn validated(town: &mut Topology<PosterRules>, work: &mut Work) -> Result<Counts, Fail> {
+// How many errors there are after a validation, and how many pairs were judged so far.
+fn validated(town: &mut Topology<PosterRules>, work: &mut Work) -> Result<(usize, u64), Fail> {
     town.validate(Rect::whole(), work)?;
-    Ok(Counts {
-        errors: town.errors().len(),
-        judged: work.judged(),
-        hits: work.hits(),
-    })
+    Ok((town.errors().len(), work.judged()))
 }
 
-// What is found as they stand, with the second moved away, and moved back. Its caller owns the topology: a function that owns
-// one is proved once more for each of its ends.
+// What is found as they stand, with the second moved away, and moved back; and whether the last validation found kept cells. Its
+// caller owns the topology: a function that owns one is proved once more for each of its ends.
 fn move_a_lot(
     alloc: Global,
     town: &mut Topology<PosterRules>,
     work: &mut Work,
-) -> Result<(Counts, Counts, Counts), Fail> {
+) -> Result<((usize, u64), (usize, u64), (usize, u64), bool), Fail> {
     add_lots(alloc, town)?;
     let first = validated(town, work)?;
     town.change(2, lot(alloc, 10, 5)?)?;
     let away = validated(town, work)?;
     town.change(2, lot(alloc, 5, 5)?)?;
+    let hits = work.hits();
     let back = validated(town, work)?;
-    Ok((first, away, back))
+    Ok((first, away, back, work.hits() > hits))
 }
 
 #[test]
 fn a_changed_lot_is_judged_as_it_is(rt: HostRuntime) -> Result<(), Fail> {
     let mut town = Topology::new(rt.alloc(), PosterRules);
     let mut work = Work::new();
-    let (first, away, back) = move_a_lot(rt.alloc(), &mut town, &mut work)?;
-    assert_eq!(rt; (first.errors, first.judged), (1, 2));
-    assert_eq!(rt; (away.errors, away.judged), (0, 4));
-    assert_eq!(rt; (back.errors, back.judged), (1, 6));
-    assert!(rt; back.hits > away.hits);
+    let found = move_a_lot(rt.alloc(), &mut town, &mut work)?;
+    assert_eq!(rt; found, ((1, 2), (0, 4), (1, 6), true));
     Ok(())
 }
