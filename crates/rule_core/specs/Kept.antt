@@ -13,10 +13,13 @@
 -- IsWithin r room es n    there is room for so many pairs as features are kept of, at most; the pairs have n half-planes, which are not
 --                       too many
 -- kept_at es h      what is kept for the handle h
--- IsPut r old h k new     what is kept of the region r once k is put in for h: k goes first, and of the pairs that were most recently
---                       used some stay, in their order
+-- LeavesRoom r more es    beside these pairs one more can be kept of the region r, of so many half-planes
+-- KeepsMost r more old new   what is left of the old pairs where room is made for one of so many half-planes: so many of the most recently
+--                       used, in their order, as could be left
+-- IsPut r old h k new     what is kept of the region r once k is put in for h: as many of the old pairs are left as leave room for one more,
+--                       and k goes first, in the place of what was kept for h
 -- looked b es h     after a look-up for the handle h: where it found what it sought, the pair went to the front
-use Rattle.std.specs.Prelude.{◌≡◌, ◌≤◌, ℕ, Bool, true, false, List, Option, nat_eq, length, take}
+use Rattle.std.specs.Prelude.{◌≡◌, ◌+◌, ◌<◌, ◌≤◌, ℕ, Bool, true, false, List, Option, nat_eq, length, take}
 use Rattle.std.specs.List.{sum_by}
 use Rattle.std.specs.Map.{lookup}
 use Rattle.lru.specs.LruCache.{lru_cache, promoted, put_entries}
@@ -70,9 +73,19 @@ pub record IsWithin (r : Region) (room : ℕ) (es : List (ℕ × KeptCells)) (n 
 abbrev pub kept_at : List (ℕ × KeptCells) → ℕ → Option KeptCells
 kept_at es h = lookup (nat_eq h) es
 
+pub record LeavesRoom (r : Region) (more : ℕ) (es : List (ℕ × KeptCells)) : Type 0 where
+  pub features : length es < most_features r
+  pub halves : total es + more ≤ most_halves r
+
+pub record KeepsMost (r : Region) (more : ℕ) (old new : List (ℕ × KeptCells)) : Type 0 where
+  pub recent : new ≡ take (length new) old
+  pub most : (n : ℕ) → LeavesRoom r more (take n old) → length (take n old) ≤ length new
+
 pub record IsPut (r : Region) (old : List (ℕ × KeptCells)) (h : ℕ) (k : KeptCells) (new : List (ℕ × KeptCells)) : Type 0 where
-  pub left : ℕ
-  pub put : new ≡ put_entries nat_eq (lru_cache (take left old) (most_features r)) h k
+  pub left : List (ℕ × KeptCells)
+  pub room : LeavesRoom r (size_of k) left
+  pub most : KeepsMost r (size_of k) old left
+  pub put : new ≡ put_entries nat_eq (lru_cache left (most_features r)) h k
 
 abbrev pub looked : Bool → List (ℕ × KeptCells) → ℕ → List (ℕ × KeptCells)
 looked true es h = promoted (nat_eq h) es

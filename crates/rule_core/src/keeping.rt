@@ -2,7 +2,7 @@ ghost use Rattle.std.specs.Prelude.{◌≡◌, ◌≢◌, ◌<◌, ◌≤◌, �
 ghost use Rattle.std.specs.Map.{lookup};
 ghost use Rattle.lru.specs.LruCache.{put_entries};
 ghost use Rattle.plane_terms.specs.declared.kind.Kind.TheVariants as kind;
-ghost use Rattle.rule_core.specs.Kept.{cells_of, halves_in, made_of, size_of, kept_at, looked, total, most_features, most_halves, IsPut};
+ghost use Rattle.rule_core.specs.Kept.{cells_of, halves_in, made_of, size_of, kept_at, looked, total, most_features, most_halves, IsPut, KeepsMost, LeavesRoom};
 
 use crate::kept::Kept;
 use crate::limits::{most_features, most_halves};
@@ -52,9 +52,8 @@ fn make_room(cache: &mut LruCache<u32, Kept>, region: Region, halves: usize, mor
     requires total { total cache.old.entries ≡ halves }
     requires more { more ≤ most_halves region }
     ensures total { total cache.new.entries ≡ result }
-    ensures room { result + more ≤ most_halves region }
-    ensures fewer { length cache.new.entries < most_features region }
-    ensures recent { cache.new.entries ≡ take (length cache.new.entries) cache.old.entries }
+    ensures room { LeavesRoom region more cache.new.entries }
+    ensures most { KeepsMost region more cache.old.entries cache.new.entries }
     ensures cap { cache.new.cap ≡ cache.old.cap }
 {
     let features = most_features(region).get();
@@ -160,7 +159,7 @@ impl Keeping {
         ensures recent { OnOk result (f.now.shape.kind ≡ kind.Polygon → size_of (made_of self.old.region f.now.shape) ≤ most_halves self.old.region → IsPut self.old.region self.old.entries f.now.handle (made_of self.old.region f.now.shape) self.new.entries) }
         ensures line { OnOk result (f.now.shape.kind ≢ kind.Polygon → self.new ≡ self.old) }
         ensures many { OnOk result (most_halves self.old.region < size_of (made_of self.old.region f.now.shape) → self.new ≡ self.old) }
-        ensures fewer { OnErr result ((n : ℕ) × (self.new.entries ≡ take n self.old.entries)) }
+        ensures fewer { OnErr result (KeepsMost self.old.region (size_of (made_of self.old.region f.now.shape)) self.old.entries self.new.entries) }
         ensures region { self.new.region ≡ self.old.region }
     {
         let Some(halves) = count_halves(cells.cells(), most_halves(self.region)) else {

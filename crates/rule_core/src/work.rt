@@ -1,7 +1,7 @@
 ghost use Rattle.std.specs.Prelude.{◌≡◌, ◌≢◌, ◌↔◌, ◌<◌, ◌≤◌, [], ◌++◌, List, ℕ, length, take, cond, is_some, Some, IfOk, IfSome, OnOk, OnErr, IsTrue};
 ghost use Rattle.plane_terms.specs.declared.kind.Kind.TheVariants as kind;
 ghost use Rattle.topology_terms.specs.Counts.{raised};
-ghost use Rattle.rule_core.specs.Kept.{IsPut, cells_of, kept_at, looked, made_of, most_features, most_halves, size_of, total};
+ghost use Rattle.rule_core.specs.Kept.{IsPut, KeepsMost, cells_of, kept_at, looked, made_of, most_features, most_halves, size_of, total};
 ghost use Rattle.rule_core.specs.Work.{after_look, entries_of, kept_of, unused};
 
 use crate::junctions::Junctions;
@@ -113,7 +113,7 @@ fn keep_in(
     ensures recent { OnOk result (f.now.shape.kind ≡ kind.Polygon → size_of (made_of region f.now.shape) ≤ most_halves region → IsPut region (entries_of keeping.old) f.now.handle (made_of region f.now.shape) (entries_of keeping.new)) }
     ensures line { OnOk result (f.now.shape.kind ≢ kind.Polygon → entries_of keeping.new ≡ entries_of keeping.old) }
     ensures many { OnOk result (most_halves region < size_of (made_of region f.now.shape) → entries_of keeping.new ≡ entries_of keeping.old) }
-    ensures fewer { OnErr result ((n : ℕ) × (entries_of keeping.new ≡ take n (entries_of keeping.old))) }
+    ensures fewer { OnErr result (KeepsMost region (size_of (made_of region f.now.shape)) (entries_of keeping.old) (entries_of keeping.new)) }
     ensures region { IfSome keeping.new (λ k. k.region ≡ region) }
 {
     begin(keeping, alloc, region)?;
@@ -220,7 +220,7 @@ impl Work {
         ensures other { (r : Region) → r ≢ region → kept_of r self.new ≡ kept_of r self.old }
         ensures uncounted { self.new.judged ≡ self.old.judged }
         ensures hits { self.new.hits ≡ self.old.hits }
-        ensures fewer { OnErr result ((n : ℕ) × (kept_of region self.new ≡ take n (kept_of region self.old))) }
+        ensures fewer { OnErr result (KeepsMost region (size_of (made_of region f.now.shape)) (kept_of region self.old) (kept_of region self.new)) }
     {
         match region {
             Region::Inside => keep_in(&mut self.insides, alloc, region, f, cells),

@@ -1,11 +1,11 @@
-use Rattle.std.proofs.Common.{◌≡◌, length, take}
-use Rattle.rule_core.specs.Kept.{total}
+use Rattle.std.proofs.Common.{◌≡◌, length}
+use Rattle.rule_core.specs.Kept.{total, KeepsMost}
 use Rattle.rule_core.proofs.keeping.make_room.Given as goal
 
 abbrev pub invariant-loop-cache : goal.invariant-loop-cache
 invariant-loop-cache l = record {
   counted : total l.cache.entries ≡ l.halves;
-  recent : l.cache.entries ≡ take (length l.cache.entries) l.fn.cache.entries;
+  most : KeepsMost l.fn.region l.fn.more l.fn.cache.entries l.cache.entries;
   cap : l.cache.cap ≡ l.fn.cache.cap;
 }
 

@@ -1,10 +1,10 @@
 use Rattle.std.proofs.Common.{◌≡◌}
 use Rattle.rule_core.specs.Work.{entries_of}
-use Rattle.rule_core.proofs.Puts.{all_left}
+use Rattle.rule_core.proofs.Rooms.{all_left, left_of}
 use Rattle.rule_core.proofs.work.keep_in.Goals as goal
 
 pub returns-in_err-begin-clause-fewer : goal.returns-in_err-begin-clause-fewer
-returns-in_err-begin-clause-fewer c = all_left c.from_residual.result _ _ c.begin.ensures.same
+returns-in_err-begin-clause-fewer c = left_of _ _ _ c.from_residual.result (all_left _ _ _ c.begin.ensures.same)
 
 pub returns-clause-kept : goal.returns-clause-kept
 returns-clause-kept c =
