@@ -1,3 +1,4 @@
+pub mod Junctions
 pub mod Kept
 pub mod Seconds
 pub mod Shown

@@ -1,5 +1,6 @@
 ghost use Rattle.std.specs.Prelude.{◌≡◌};
 ghost use Rattle.std.specs.NonZero.{non_zero_usize_get};
+ghost use Rattle.rule_core.specs.Junctions.{most_places};
 ghost use Rattle.rule_core.specs.Kept.{most_features, most_halves};
 
 use crate::region::Region;
@@ -15,6 +16,9 @@ const MOST_INSIDE_HALVES: usize = 131_072;
 const MOST_OUTSIDES: usize = 8_192;
 
 const MOST_OUTSIDE_HALVES: usize = 655_360;
+
+/// Handles are kept for so many places where many features meet, at most.
+const MOST_PLACES: usize = 1_024;
 
 /// Cells of this region are kept of so many features, at most.
 pub(crate) fn most_features(region: Region) -> NonZeroUsize
@@ -34,4 +38,11 @@ pub(crate) fn most_halves(region: Region) -> usize
         Region::Inside => MOST_INSIDE_HALVES,
         Region::Outside => MOST_OUTSIDE_HALVES,
     }
+}
+
+/// Handles are kept for so many places, at most.
+pub(crate) fn most_places() -> NonZeroUsize
+    ensures { non_zero_usize_get result ≡ most_places }
+{
+    NonZeroUsize::new(MOST_PLACES).unwrap()
 }

@@ -1,8 +1,9 @@
 ghost use Rattle.std.specs.Prelude.{◌≡◌, ◌≢◌, ◌↔◌, ◌<◌, ◌≤◌, [], ◌++◌, List, ℕ, length, take, cond, is_some, Some, IfOk, IfSome, OnOk, OnErr, IsTrue};
 ghost use Rattle.plane_terms.specs.declared.kind.Kind.TheVariants as kind;
 ghost use Rattle.topology_terms.specs.Counts.{raised};
+ghost use Rattle.rule_core.specs.Junctions.{after_put, handles_at};
 ghost use Rattle.rule_core.specs.Kept.{IsPut, KeepsMost, cells_of, kept_at, looked, made_of, most_features, most_halves, size_of, total};
-ghost use Rattle.rule_core.specs.Work.{after_look, entries_of, kept_of, unused};
+ghost use Rattle.rule_core.specs.Work.{after_look, asked_at, entries_of, kept_for, kept_of, places_of, unused};
 
 use crate::junctions::Junctions;
 use crate::keeping::Keeping;
@@ -35,7 +36,7 @@ impl Model for Work {
     ghost use Rattle.std.specs.Prelude.{◌≡◌, IfSome};
     ghost use Rattle.rule_core.specs.declared.region.Region.TheVariants as region;
 
-    ghost view = { λ w. record { judged = w.judged; hits = w.hits; insides = terms.entries_of w.insides; outsides = terms.entries_of w.outsides } };
+    ghost view = { λ w. record { judged = w.judged; hits = w.hits; insides = terms.entries_of w.insides; outsides = terms.entries_of w.outsides; junctions = terms.places_of w.junctions } };
 
     ghost invariant = { λ w. IfSome w.insides (λ k. k.region ≡ region.Inside) × IfSome w.outsides (λ k. k.region ≡ region.Outside) };
 }
@@ -123,6 +124,24 @@ fn keep_in(
     keeping.keep(alloc, f, cells)
 }
 
+fn keep_at(
+    junctions: &mut Option<Junctions>,
+    alloc: Global,
+    place: GridPoint,
+    handles: Vec<u32>,
+) -> Result<(), NoMemory>
+    ensures kept { OnOk result (places_of junctions.new ≡ after_put (places_of junctions.old) place handles) }
+    ensures err { OnErr result (places_of junctions.new ≡ places_of junctions.old) }
+{
+    if let Some(junctions) = junctions {
+        return junctions.keep(place, handles);
+    }
+    let mut first = Junctions::new(alloc)?;
+    first.keep(place, handles)?;
+    *junctions = Some(first);
+    Ok(())
+}
+
 impl Work {
     /// Nothing was judged yet, and nothing is kept.
     pub fn new() -> Work
@@ -157,6 +176,7 @@ impl Work {
         ensures judged { self.new.judged ≡ raised self.old.judged 1 }
         ensures hits { self.new.hits ≡ self.old.hits }
         ensures kept { (r : Region) → kept_of r self.new ≡ kept_of r self.old }
+        ensures junctions { self.new.junctions ≡ self.old.junctions }
     {
         self.judged = self.judged.saturating_add(1);
     }
@@ -220,6 +240,7 @@ impl Work {
         ensures other { (r : Region) → r ≢ region → kept_of r self.new ≡ kept_of r self.old }
         ensures uncounted { self.new.judged ≡ self.old.judged }
         ensures hits { self.new.hits ≡ self.old.hits }
+        ensures junctions { self.new.junctions ≡ self.old.junctions }
         ensures fewer { OnErr result (KeepsMost region (size_of (made_of region f.now.shape)) (kept_of region self.old) (kept_of region self.new)) }
     {
         match region {
@@ -249,15 +270,17 @@ impl Work {
         self.handles = Some(handles);
     }
 
-    /// Puts the handles last that are kept for the place, if any are. Which features they are no clause says: whoever uses them
-    /// looks whether they are at the place.
+    /// Puts the handles last that are kept for the place, if any are. Whether the features still are there no clause says: whoever uses
+    /// them looks whether they are at the place.
     pub fn push_junction(
         &mut self,
         place: GridPoint,
         handles: &mut Vec<u32>,
     ) -> Result<(), NoMemory>
-        ensures last { OnOk result ((hs : List ℕ) × (handles.new.items ≡ handles.old.items ++ hs)) }
-        ensures unchanged { self.new ≡ self.old }
+        ensures last { OnOk result (handles.new.items ≡ handles.old.items ++ handles_at self.old.junctions place) }
+        ensures after { OnOk result (self.new ≡ asked_at place self.old) }
+        ensures uncounted { self.new.judged ≡ self.old.judged }
+        ensures err { OnErr result ((self.new ≡ self.old) × (handles.new.items ≡ handles.old.items)) }
     {
         match &mut self.junctions {
             Some(junctions) => junctions.push_kept(place, handles),
@@ -265,21 +288,18 @@ impl Work {
         }
     }
 
-    /// Keeps handles of features at the place, for the next `push_junction`.
+    /// Keeps handles of features at the place, for the next `push_junction`: they are then the most recently used, and what was used
+    /// least recently goes where there is too much.
     pub fn keep_junction(
         &mut self,
         alloc: Global,
         place: GridPoint,
         handles: Vec<u32>,
     ) -> Result<(), NoMemory>
-        ensures unchanged { self.new ≡ self.old }
+        ensures kept { OnOk result (self.new ≡ kept_for place handles self.old) }
+        ensures uncounted { self.new.judged ≡ self.old.judged }
+        ensures err { OnErr result (self.new ≡ self.old) }
     {
-        if self.junctions.is_none() {
-            self.junctions = Some(Junctions::new(alloc)?);
-        }
-        match &mut self.junctions {
-            Some(junctions) => junctions.keep(place, handles),
-            None => Ok(()),
-        }
+        keep_at(&mut self.junctions, alloc, place, handles)
     }
 }

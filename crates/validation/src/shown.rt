@@ -38,7 +38,7 @@ fn is_shown_at_ends(parts: &[RulePart], f: &Feature) -> bool
 fn known_at_ends(alloc: Global, f: &Feature, work: &mut Work) -> Result<Vec<u32>, NoMemory>
     ensures ascending { IfOk result (λ v. IsStrictlyIncreasing v.items) }
     ensures two { IfOk result (λ v. 0 < length v.items → length (ends f.now) ≡ 2) }
-    ensures uncounted { work.new ≡ work.old }
+    ensures uncounted { work.new.judged ≡ work.old.judged }
 {
     let mut handles = work.take_handles(alloc);
     let line = f.shape();
@@ -116,7 +116,7 @@ fn keep_enough(
     place: GridPoint,
     work: &mut Work,
 ) -> Result<(), NoMemory>
-    ensures { work.new ≡ work.old }
+    ensures uncounted { work.new.judged ≡ work.old.judged }
 {
     let mut handles = Vec::new(alloc);
     for part in parts {
@@ -135,7 +135,7 @@ fn keep_junctions(
     f: &Feature,
     work: &mut Work,
 ) -> Result<(), NoMemory>
-    ensures { work.new ≡ work.old }
+    ensures uncounted { work.new.judged ≡ work.old.judged }
 {
     let line = f.shape();
     if view.len() < MANY || line.end_count() != 2 {
@@ -158,7 +158,7 @@ pub(crate) fn view_for<'a, M: Meter>(
     requires ascending { IsAscending features.now.features }
     requires live { feature_at features.now.features f.now.handle ≡ Some f.now }
     ensures view { IfOk result (λ v. IsShownFor (rules_of parts.now) features.now.features f.now v) }
-    ensures uncounted { work.new ≡ work.old }
+    ensures uncounted { work.new.judged ≡ work.old.judged }
     ensures rises { M.taken meter.old ≤ M.taken meter.new }
     ensures steps { (s : ℕ) → M.taken meter.new ≤ M.taken meter.old + most_steps s (env f.now) features.now.placed }
 {
