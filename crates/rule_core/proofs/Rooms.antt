@@ -24,8 +24,8 @@ module _ (r : Region) (more : ℕ) (old : List (ℕ × KeptCells)) where
   last_goes es k none = record {
     recent = front_less es old k.recent;
     most = λ n room.
-      let shorter : length (take n old) ≡ length es → ⊥ = λ l. none (rw (same_front n es k.recent l) at room) in
-      rw (length-take-le (length es - 1) es (omega arith)) (omega (arith, k.most n room, shorter));
+        let shorter : length (take n old) ≡ length es → ⊥ = λ l. none (rw (same_front n es k.recent l) at room) in
+        rw (length-take-le (length es - 1) es (omega arith)) (omega (arith, k.most n room, shorter));
   }
 
   -- where memory runs out, as many are left
