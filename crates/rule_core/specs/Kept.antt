@@ -55,7 +55,7 @@ most_features Inside = 4096
 most_features Outside = 8192
 
 abbrev pub most_halves : Region → ℕ
-most_halves Inside = 131072
+most_halves Inside = 1048576
 most_halves Outside = 655360
 
 pub record Keeping : Type 0 where

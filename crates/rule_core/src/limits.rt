@@ -9,10 +9,10 @@ use std::num::NonZeroUsize;
 /// Cells of the insides of so many features are kept, at most.
 const MOST_INSIDES: usize = 4_096;
 
-/// So many half-planes of insides are kept in all, at most: 16 bytes each.
-const MOST_INSIDE_HALVES: usize = 131_072;
+/// So many half-planes of insides are kept in all, at most, 16 bytes each: those of a lake of 2,000 vertices, whichever way it lies.
+const MOST_INSIDE_HALVES: usize = 1_048_576;
 
-/// The same of outsides: more, since a change near a feature asks for those of all that lie round it.
+/// The same of outsides: of more features, since a change near one asks for those of all that lie round it.
 const MOST_OUTSIDES: usize = 8_192;
 
 const MOST_OUTSIDE_HALVES: usize = 655_360;

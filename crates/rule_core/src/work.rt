@@ -181,7 +181,7 @@ impl Work {
         self.judged = self.judged.saturating_add(1);
     }
 
-    /// The number of polygons whose cells of this region are kept.
+    /// The number of polygons whose cells of this region are kept: at most 4,096 of those inside, 8,192 of those outside.
     pub fn kept_count(&self, region: Region) -> usize
         ensures value { result ≡ length (kept_of region self.now) }
         ensures bound { result ≤ most_features region }
@@ -192,7 +192,7 @@ impl Work {
         }
     }
 
-    /// The number of half-planes that the kept cells of this region have in all.
+    /// The number of half-planes that the kept cells of this region have in all: at most 1,048,576 inside, 655,360 outside.
     pub fn half_count(&self, region: Region) -> usize
         ensures value { result ≡ total (kept_of region self.now) }
         ensures bound { result ≤ most_halves region }
@@ -204,7 +204,7 @@ impl Work {
     }
 
     /// The cells of this region of the polygon, where they are kept for its handle and were made of an equal polygon. It is then
-    /// counted, and what was found is the most recently used.
+    /// counted, and what was found is the most recently used. After an `Err`, out of memory, nothing has changed.
     pub fn look(
         &mut self,
         region: Region,
@@ -223,8 +223,8 @@ impl Work {
     }
 
     /// Keeps the cells of this region of the polygon, for the next `look`: they are then the most recently used, and what was used
-    /// least recently goes where there is too much. Those of a point or a line, and cells of too many half-planes, are not kept.
-    /// Where memory runs out, some of what was kept may be gone.
+    /// least recently goes, as much as must go for one polygon more. Those of a point or a line, and cells of too many half-planes, are
+    /// not kept. After an `Err`, out of memory, they are not kept, and what was used least recently may be gone.
     pub fn keep(
         &mut self,
         alloc: Global,
@@ -270,8 +270,8 @@ impl Work {
         self.handles = Some(handles);
     }
 
-    /// Puts the handles last that are kept for the place, if any are. Whether the features still are there no clause says: whoever uses
-    /// them looks whether they are at the place.
+    /// Puts the handles last that are kept for the place, if any are; it is then the place used most recently. Whether the features still
+    /// are there no clause says: whoever uses them looks. After an `Err`, out of memory, nothing has changed.
     pub fn push_junction(
         &mut self,
         place: GridPoint,
@@ -288,8 +288,8 @@ impl Work {
         }
     }
 
-    /// Keeps handles of features at the place, for the next `push_junction`: they are then the most recently used, and what was used
-    /// least recently goes where there is too much.
+    /// Keeps handles of features at the place, for the next `push_junction`: it is then the place used most recently. Where 1,024 other
+    /// places have handles, those of the one used least recently go. After an `Err`, out of memory, nothing has changed.
     pub fn keep_junction(
         &mut self,
         alloc: Global,
