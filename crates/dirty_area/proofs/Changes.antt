@@ -55,15 +55,15 @@ closed xss cs ds n c begun after l more at is none =
     ∙ (ap joined (take_more_set (patched xss cs) n begun short) ∙ joined_pushed (take n (patched xss cs)) begun))
 
 -- ---- those that a rectangle holds go
-abbrev without : Rectangle → List Rectangle → List Rectangle
+abbrev pub without : Rectangle → List Rectangle → List Rectangle
 without r xs = filter (λ s. not (is_within s r)) xs
 
-joined_without : (r : Rectangle) (xss : List (List Rectangle)) → joined (map (without r) xss) ≡ without r (joined xss)
+pub joined_without : (r : Rectangle) (xss : List (List Rectangle)) → joined (map (without r) xss) ≡ without r (joined xss)
 joined_without r [] = refl
 joined_without r (xs ∷ xss) = ap (λ t. without r xs ++ t) (joined_without r xss)
     ∙ sym (filter-append (λ s. not (is_within s r)) xs (joined xss))
 
-none_gone : (r : Rectangle) (xs : List Rectangle) → Every (λ s. is_within s r ≡ false) xs → without r xs ≡ xs
+pub none_gone : (r : Rectangle) (xs : List Rectangle) → Every (λ s. is_within s r ≡ false) xs → without r xs ≡ xs
 none_gone r [] h = refl
 none_gone r (x ∷ xs) h = let e = none_gone r xs h.1 in rw (h.0, e) refl
 

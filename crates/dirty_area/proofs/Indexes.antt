@@ -62,13 +62,13 @@ within_length (xs ∷ xss) zero s h = omega arith
 within_length (xs ∷ xss) (suc k) s h = let l = within_length xss k s h in omega (arith, l)
 
 -- ---- what it finds
-inner_meets : (s r : Rectangle) → IsProper s → is_within s r ≡ true → rects_meet r s ≡ true
+pub inner_meets : (s r : Rectangle) → IsProper s → is_within s r ≡ true → rects_meet r s ≡ true
 inner_meets s r g e = let i = within_from_test s r e in grind (arith, ints)
 
 outer_meets : (s r : Rectangle) → IsProper r → is_within r s ≡ true → rects_meet r s ≡ true
 outer_meets s r g e = let i = within_from_test r s e in grind (arith, ints)
 
-meets_back : (s r : Rectangle) → rects_meet s r ≡ true → rects_meet r s ≡ true
+pub meets_back : (s r : Rectangle) → rects_meet s r ≡ true → rects_meet r s ≡ true
 meets_back s r e = grind (arith, ints)
 
 standing_meets : (k : Relation) (s r : Rectangle) → IsProper s → IsProper r → stands k s r ≡ true → rects_meet r s ≡ true

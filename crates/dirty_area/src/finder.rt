@@ -253,11 +253,19 @@ fn places_of(alloc: Global, blocks: &[Block], r: &Rect) -> Result<Vec<u32>, NoMe
     Ok(places)
 }
 
-// Whether the rectangle holds more than half of the blocks: to make a new index is quicker then than to take so many out.
-fn holds_most(blocks: &[Block], r: &Rect) -> bool {
-    blocks
-        .iter()
-        .filter(|b| b.rects().iter().all(|s| r.holds_rect(s)))
+// Whether the rectangle holds the whole block at this place.
+fn holds_block(blocks: &[Block], place: u32, r: &Rect) -> bool {
+    match blocks.get(place as usize) {
+        Some(block) => block.rects().iter().all(|s| r.holds_rect(s)),
+        None => false,
+    }
+}
+
+// Whether the rectangle holds more than half of the blocks, of which these are near it: to make a new index is quicker then than to take
+// so many out.
+fn holds_most(blocks: &[Block], near: &[u32], r: &Rect) -> bool {
+    near.iter()
+        .filter(|place| holds_block(blocks, **place, r))
         .count()
         > blocks.len() / 2
 }
@@ -332,6 +340,15 @@ impl Finder {
         }
     }
 
+    /// The same places; none where memory runs out.
+    pub(crate) fn known_places(&self, blocks: &[Block], r: &Rect) -> Option<Vec<u32>>
+        requires indexed { IfSome self.now (λ ps. IsIndexed (runs blocks.now) ps) }
+        requires few { length blocks.now ≤ 4294967295 }
+        ensures { IfSome result (λ v. (k : ℕ) → Contains v.items k ↔ MeetsAt (runs blocks.now) r.now k) }
+    {
+        self.places(self.alloc, blocks, r).ok()
+    }
+
     /// Counts one more look through the list, and makes the index once that pays.
     pub(crate) fn count_look(&mut self, blocks: &[Block])
         requires indexed { IfSome self.old (λ ps. IsIndexed (runs blocks.now) ps) }
@@ -386,11 +403,11 @@ impl Finder {
         self.index = None;
     }
 
-    /// Lets the index go where the rectangle holds most of the blocks.
-    pub(crate) fn let_go(&mut self, blocks: &[Block], r: &Rect)
+    /// Lets the index go where the rectangle holds most of the blocks, of which those at these places are near it.
+    pub(crate) fn let_go(&mut self, blocks: &[Block], near: &[u32], r: &Rect)
         ensures { (xss : List (List Rectangle)) → IfSome self.old (λ ps. IsIndexed xss ps) → IfSome self.new (λ ps. IsIndexed xss ps) }
     {
-        if self.index.is_some() && holds_most(blocks, r) {
+        if self.index.is_some() && holds_most(blocks, near, r) {
             self.index = None;
         }
     }

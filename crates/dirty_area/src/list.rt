@@ -1,11 +1,11 @@
-ghost use Rattle.std.specs.Prelude.{◌≡◌, ◌<◌, ◌≤◌, ◌+◌, ◌-◌, ◌^◌, ℕ, is_some, true, false, [], ◌∷◌, ◌++◌, List, length, get_or, set, not, filter, IfSome, IfOk, OnOk, OnErr};
+ghost use Rattle.std.specs.Prelude.{◌≡◌, ◌<◌, ◌≤◌, ◌+◌, ◌-◌, ◌^◌, ◌↔◌, ℕ, is_some, true, false, [], ◌∷◌, ◌++◌, List, Contains, length, get_or, set, not, filter, IfSome, IfOk, OnOk, OnErr};
 ghost use Rattle.std.specs.Option.{option_to_list};
 ghost use Rattle.plane_terms.specs.Lists.{Every};
 ghost use Rattle.plane_terms.specs.Rectangle.{IsRectangle, is_within};
 ghost use Rattle.plane_terms.specs.Dirt.{add_dirt, add_all};
 ghost use Rattle.grid_index.specs.declared.placed.Placed.{Placed};
 ghost use Rattle.dirty_area.specs.Blocks.{IsNumber, LastHasRoom, runs, all_rects};
-ghost use Rattle.dirty_area.specs.Indexed.{IsIndexed};
+ghost use Rattle.dirty_area.specs.Indexed.{IsIndexed, MeetsAt};
 
 use crate::block::Block;
 use crate::finder::Finder;
@@ -93,48 +93,105 @@ pub(crate) fn put_last(
 }
 
 // Takes the rectangles that this one holds out of a block.
-fn trim(blocks: &mut Vec<Block>, finder: &mut Finder, place: usize, r: &Rect)
+fn trim(
+    blocks: &mut Vec<Block>,
+    finder: &mut Finder,
+    number: &mut Option<usize>,
+    place: usize,
+    r: &Rect,
+)
     requires place { place < length blocks.old.items }
     requires few { length blocks.old.items ≤ 4294967295 }
     requires indexed { IfSome finder.old (λ ps. IsIndexed (runs blocks.old.items) ps) }
+    requires number { IsNumber blocks.old.items number.old }
     ensures trimmed { runs blocks.new.items ≡ set (runs blocks.old.items) place (filter (λ s. not (is_within s r.now)) (get_or (runs blocks.old.items) place [])) }
     ensures room { (n : ℕ) → LastHasRoom blocks.old.items n → LastHasRoom blocks.new.items n }
     ensures len { length blocks.new.items ≡ length blocks.old.items }
     ensures indexed { IfSome finder.new (λ ps. IsIndexed (runs blocks.new.items) ps) }
+    ensures number { IsNumber blocks.new.items number.new }
 {
+    let before = blocks[place].len();
     finder.drop_held(place, blocks[place].rects(), r);
     blocks[place].drop_held(r);
+    *number = changed(*number, before, blocks[place].len());
 }
 
-// Takes out the rectangles that this one holds.
-fn drop_held(blocks: &mut Vec<Block>, finder: &mut Finder, r: &Rect)
+// Takes the rectangles that this one holds out of every block.
+fn trim_each(blocks: &mut Vec<Block>, finder: &mut Finder, number: &mut Option<usize>, r: &Rect)
     requires few { length blocks.old.items ≤ 4294967295 }
     requires indexed { IfSome finder.old (λ ps. IsIndexed (runs blocks.old.items) ps) }
+    requires number { IsNumber blocks.old.items number.old }
     ensures held { all_rects blocks.new.items ≡ filter (λ s. not (is_within s r.now)) (all_rects blocks.old.items) }
     ensures room { (n : ℕ) → LastHasRoom blocks.old.items n → LastHasRoom blocks.new.items n }
     ensures len { length blocks.new.items ≡ length blocks.old.items }
     ensures indexed { IfSome finder.new (λ ps. IsIndexed (runs blocks.new.items) ps) }
+    ensures number { IsNumber blocks.new.items number.new }
 {
-    finder.let_go(blocks, r);
     for place in 0..blocks.len() {
-        trim(blocks, finder, place, r);
+        trim(blocks, finder, number, place, r);
+    }
+}
+
+// Takes the rectangles that this one holds out of the blocks at these places: of each that has one which meets it.
+fn trim_near(
+    blocks: &mut Vec<Block>,
+    finder: &mut Finder,
+    number: &mut Option<usize>,
+    places: &[u32],
+    r: &Rect,
+)
+    requires places { (k : ℕ) → Contains places.now k ↔ MeetsAt (runs blocks.old.items) r.now k }
+    requires rects { Every IsRectangle (all_rects blocks.old.items) }
+    requires few { length blocks.old.items ≤ 4294967295 }
+    requires indexed { IfSome finder.old (λ ps. IsIndexed (runs blocks.old.items) ps) }
+    requires number { IsNumber blocks.old.items number.old }
+    ensures held { all_rects blocks.new.items ≡ filter (λ s. not (is_within s r.now)) (all_rects blocks.old.items) }
+    ensures room { (n : ℕ) → LastHasRoom blocks.old.items n → LastHasRoom blocks.new.items n }
+    ensures len { length blocks.new.items ≡ length blocks.old.items }
+    ensures indexed { IfSome finder.new (λ ps. IsIndexed (runs blocks.new.items) ps) }
+    ensures number { IsNumber blocks.new.items number.new }
+{
+    for place in places {
+        trim(blocks, finder, number, *place as usize, r);
+    }
+}
+
+// Takes out the rectangles that this one holds. Where there is memory for the places of the blocks near it, it looks at no others.
+fn drop_held(blocks: &mut Vec<Block>, finder: &mut Finder, number: &mut Option<usize>, r: &Rect)
+    requires rects { Every IsRectangle (all_rects blocks.old.items) }
+    requires few { length blocks.old.items ≤ 4294967295 }
+    requires indexed { IfSome finder.old (λ ps. IsIndexed (runs blocks.old.items) ps) }
+    requires number { IsNumber blocks.old.items number.old }
+    ensures held { all_rects blocks.new.items ≡ filter (λ s. not (is_within s r.now)) (all_rects blocks.old.items) }
+    ensures room { (n : ℕ) → LastHasRoom blocks.old.items n → LastHasRoom blocks.new.items n }
+    ensures len { length blocks.new.items ≡ length blocks.old.items }
+    ensures indexed { IfSome finder.new (λ ps. IsIndexed (runs blocks.new.items) ps) }
+    ensures number { IsNumber blocks.new.items number.new }
+{
+    match finder.known_places(blocks, r) {
+        Some(places) => {
+            finder.let_go(blocks, &places, r);
+            trim_near(blocks, finder, number, &places, r);
+        }
+        None => trim_each(blocks, finder, number, r),
     }
 }
 
 // Puts the rectangle last, in place of those that it holds. There is room. A long list has an index then, where there is memory.
 fn put_round(blocks: &mut Vec<Block>, finder: &mut Finder, number: &mut Option<usize>, r: Rect)
     requires room { LastHasRoom blocks.old.items 1 }
+    requires rects { Every IsRectangle (all_rects blocks.old.items) }
     requires few { length blocks.old.items ≤ 4294967295 }
     requires indexed { IfSome finder.old (λ ps. IsIndexed (runs blocks.old.items) ps) }
+    requires number { IsNumber blocks.old.items number.old }
     ensures put { all_rects blocks.new.items ≡ filter (λ s. not (is_within s r)) (all_rects blocks.old.items) ++ r ∷ [] }
     ensures number { IsNumber blocks.new.items number.new }
     ensures room { (n : ℕ) → LastHasRoom blocks.old.items (n + 1) → LastHasRoom blocks.new.items n }
     ensures len { length blocks.new.items ≡ length blocks.old.items }
     ensures indexed { IfSome finder.new (λ ps. IsIndexed (runs blocks.new.items) ps) }
 {
-    drop_held(blocks, finder, &r);
+    drop_held(blocks, finder, number, &r);
     finder.prepare(blocks);
-    *number = Some(count(blocks));
     put_last(blocks, finder, number, r);
 }
 

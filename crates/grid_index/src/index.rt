@@ -124,8 +124,8 @@ impl Index {
         Ok(found)
     }
 
-    /// Puts the handles of the rectangles that the aim touches last, in any order; one may come more than once. Its steps are no more
-    /// than those of `query_about`.
+    /// The list holds the handles of the rectangles that the aim touches then, beside those that it held, in any order; one may come more
+    /// than once. Its steps are no more than those of `query_about`.
     pub fn add_about<A: Aim, M: Meter>(
         &self,
         aim: &A,

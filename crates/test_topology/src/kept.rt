@@ -1,4 +1,4 @@
-// The cells that a work keeps serve the next judgement, and never for another shape of their handle.
+// A changed lot is judged as it is, and the cells that a work keeps are found again once it has the shape that they were made of.
 use crate::definitions::square;
 use feature_store::{Kind, Name, Shape};
 use grid_plane::Rect;
