@@ -8,9 +8,10 @@ usage: bench/borders.py [--baseline WORDS] [--lines NAME ..] [--turns N] [--seco
 
 A jagged border goes from side to side between two lines, a winding one wanders; `north` and `turned` are the same map with
 x and y exchanged. Municipalities lie in a square, with winding common borders of 50 segments a side. The lake has 2,000
-vertices and covers parcels in rows, or has lots along its shore. A strip is one row of parcels. Each map has two rows: the
-time of a validation of everything, less the time of the same script without it, and the peak of memory of the script with it.
-Of the shorter borders there are as many pairs of neighbours, apart, as make some 6,000 vertices, and the time is that of one pair.
+vertices and covers parcels in rows, or has lots along its shore; turned, its shore goes up and down across the columns of cells.
+A strip is one row of parcels. Each map has two rows: the time of a validation of everything, less the time of the same script
+without it, and the peak of memory of the script with it. Of the shorter borders there are as many pairs of neighbours, apart, as make some 6,000 vertices,
+and the time is that of one pair.
 """
 import random
 import sys
@@ -119,10 +120,11 @@ def single_maps():
         yield 'municipalities, %d of 200 vertices' % size ** 2, lambda size=size: ONE + added('areas', Country(size).rings())
     for name, make in (('combs', comb), ('zigzags', zigzag)):
         yield 'crossing %s of 2,000 vertices' % name, lambda make=make: ONE + added('areas', [make(2000)] + turned([make(2000)]))
-    lake = shore(2000)
-    water = TWO + added('waters', [lake])
-    yield 'lake of 2,000 vertices over 1,024 parcels', lambda: water + added('areas', parcels(32, 32, 1800, 1200, 600, 800))
-    yield 'lake of 2,000 vertices, 999 lots on its shore', lambda: water + added('areas', lots(lake))
+    for way, turn in (('', list), (', turned', turned)):
+        lake = shore(2000)
+        water = TWO + added('waters', turn([lake]))
+        for name, shapes in ((' over 1,024 parcels', parcels(32, 32, 1800, 1200, 600, 800)), (', 999 lots on its shore', lots(lake))):
+            yield 'lake of 2,000 vertices%s%s' % (name, way), lambda water=water, shapes=turn(shapes): water + added('areas', shapes)
     for name, turn in (('east', list), ('north', turned)):
         yield 'strip of 40,000 parcels, %s' % name, lambda turn=turn: ONE + added('areas', turn(parcels(40000, 1, 100, 100, -2000000)))
 

@@ -105,6 +105,13 @@ def late(kind, count):
     return LATE_HEADS[kind] + early + ['validate all'] + more + small[:FIRST], small[FIRST:], WINDOWS
 
 
+def enlarged(count):
+    """Lots that are all dirty, and some of them made wider without a validation: what becomes dirty comes round what was."""
+    places = [(100 * (i % 200), 100 * (i // 200)) for i in range(count)]
+    wider = ['by ann change %d %s' % (i + 1, square(x - 1, y - 1, 22)) for i, (x, y) in enumerate(places[:EDITS])]
+    return HEADS['polygons'] + ['by ann add lots ' + square(x, y, 20) for x, y in places], wider, EDITS
+
+
 def session(count):
     """The session of bench/together.py, and the last steps undone and done again."""
     back = ['by bob undo'] * UNDOS + ['by bob redo'] * UNDOS
@@ -130,6 +137,7 @@ def all_series():
     yield 'an edit in a zone that N lots overlap', [500, 1000, 2000], zone
     for kind in LATE_HEADS:
         yield 'a window in N dirty %s' % kind, [3000, 10000, 30000], lambda size, kind=kind: late(kind, size)
+    yield 'a lot made wider, of N dirty ones', [1000, 10000, 30000], enlarged
     yield 'an undo or a redo, of N steps', [1000, 10000, 100000], session
     yield 'a vertex of a zigzag of N, compared with itself', [500, 1000, 2000], zigzag
     yield 'a line of N that meet in one place', [100, 200, 400], node
