@@ -10,8 +10,8 @@ A jagged border goes from side to side between two lines, a winding one wanders;
 x and y exchanged. Municipalities lie in a square, with winding common borders of 50 segments a side. The lake has 2,000
 vertices and covers parcels in rows, or has lots along its shore; turned, its shore goes up and down across the columns of cells.
 A strip is one row of parcels. Each map has two rows: the time of a validation of everything, less the time of the same script
-without it, and the peak of memory of the script with it. Of the shorter borders there are as many pairs of neighbours, apart, as make some 6,000 vertices,
-and the time is that of one pair.
+without it, and the peak of memory of the script with it. Of the shorter borders there are as many pairs of neighbours, apart,
+as make some 6,000 vertices, and the time is that of one pair.
 """
 import random
 import sys
