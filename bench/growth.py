@@ -55,6 +55,13 @@ def points(count):
     return HEADS['points'] + added_features('points', count) + ['validate all'], moved(count, EDITS), EDITS
 
 
+def deleted(count):
+    """Points, validated, and some of them deleted, each brought back by an undo at once."""
+    numbers = range(1, count + 1, count // EDITS)[:EDITS]
+    back = [line for number in numbers for line in ('by ann delete %d' % number, 'by ann undo')]
+    return HEADS['points'] + added_features('points', count) + ['validate all'], back, len(back)
+
+
 def errors(count):
     """Wells off the one road, each of them an error, and the first of them moved on to the road and off it again."""
     head = ['class wells point', 'class roads line', 'rule point_must_be_covered_by_line wells roads', 'begin ann']
@@ -133,6 +140,7 @@ def all_series():
     """The name of each series, its unit, its sizes, and what makes the two parts of the script and says how many steps the second has."""
     yield 'an edit in a town of N parcels', [900, 3600, 10000, 90000], lambda size: town(round(size ** 0.5))
     yield 'a point moved, of N', [10000, 100000, 1000000], points
+    yield 'a deletion or its undo, of N points', [1000, 10000, 100000], deleted
     yield 'an error that comes or goes, of N', [1000, 10000, 100000], errors
     yield 'an edit in a zone that N lots overlap', [500, 1000, 2000], zone
     for kind in LATE_HEADS:
