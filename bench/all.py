@@ -6,7 +6,7 @@ usage: bench/all.py [--baseline WORDS] [--commands NAME,..] [--turns N] [--secon
   --commands NAME,..   these alone, in this order: all of them where it is left out
   the others           as in bench/run.py; without a baseline the ratios are left out
 
-Run it on an idle machine, in a clean clone. The output is Markdown, as it stands in docs/testing.md. The status is 1 where a
+Run it on an idle machine, in a clean clone. The output is Markdown, as it stands in docs/measured.md. The status is 1 where a
 command failed; those whose timing program is not built are named and left out.
 """
 import datetime

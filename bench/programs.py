@@ -121,7 +121,7 @@ def programs_of(given):
     if given.program:
         own = program_of(given.program)
     else:
-        subprocess.run([os.path.join(ROOT, 'topo'), 'replay'], stdin=subprocess.DEVNULL, check=True)
+        subprocess.run([os.path.join(ROOT, 'topo'), '--prove'], stdin=subprocess.DEVNULL, check=True)
         own = [os.path.join(ROOT, '.build', 'topo')]
     return [own] + ([program_of(given.baseline)] if given.baseline else [])
 

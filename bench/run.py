@@ -14,7 +14,7 @@ usage: bench/run.py [--baseline WORDS] [--sizes N,N,..] [--kinds KIND,..] [--tur
   --seconds N        a run is stopped after so much processor time (600), and its program is not run again on that input
   --instructions     counts instructions in place of time, a thousand for a microsecond, in one run of each script, and takes no memory:
                      the same on every run, whatever else the machine does. Needs valgrind, and some fifty times as long
-  --program WORDS    what is measured in place of the program that ./topo builds
+  --program WORDS    what is measured in place of the program that ./topo --prove builds
 
 Both programs take turns on each input. Time is processor time, user and system together; memory is the peak of resident
 memory; the system tells both when the process has ended (measured.c). The outputs and the statuses of the two must be

@@ -2,7 +2,7 @@
 """The public clauses of the repository, and the wrong bodies that are aimed at them, read from the sources.
 
 usage: tools/contracts.py [CRATE..]        of these crates; of all where none is named
-       tools/contracts.py --without        the clauses that none is aimed at, by why, as docs/testing.md has them
+       tools/contracts.py --without        the clauses that none is aimed at, by why, as docs/wrong-bodies.md has them
 
 It prints a line for each clause of a public function: how many wrong bodies of crates/*/must-fail are aimed at it, the
 function, the clause. A clause without a name of its own is called `ensures`. A wrong body says in its first line what it is
@@ -37,6 +37,8 @@ WHYS = [
     ('a law: its body is empty or only calls others, so that no other body means anything', lambda f, clause: f.name.endswith('_law')),
     ('of a trait: its bodies are those of the types that have it', lambda f, clause: f.is_declared),
     ('of the streams in memory, which only the tests use', lambda f, clause: re.match('Mem|Repeat|Sure', f.owner or '')),
+    ('of `run`: its caller is `main`, which has no contract, so nothing above would notice; wrong bodies for the other clauses of `run` stand for it',
+     lambda f, clause: (f.crate, f.name) == ('topo_run', 'run')),
     ('a copy is equal: `error_store/a_copy_loses_its_mark` stands for all', lambda f, clause: f.name in ('try_copy', 'to_data')),
     ('after a refusal nothing has changed: `topo_core/a_refused_change_dirties` stands for all',
      lambda f, clause: clause in ('err', 'kept', 'same', 'uncounted', 'no_memory', 'errors_kept', 'dirt_kept')),
@@ -203,12 +205,23 @@ def without():
     return rows
 
 
-def print_without():
-    print('| Why | Clauses | Which |\n|---|---|---|')
+def print_without() -> None:
+    """For each reason a heading with the number of its clauses, and a table with a line for each crate."""
+    print('<!-- tools/contracts.py --without -->')
     for why, functions in without().items():
-        texts = ['%s (%s)' % (name, ', '.join(clauses)) for name, clauses in functions.items()]
-        if texts:
-            print('| %s | %d | %s |' % (why, sum(map(len, functions.values())), '; '.join(texts)))
+        if functions:
+            print('\n### %s%s: %d\n\n| Crate | Functions, with their clauses |\n|---|---|' % (
+                why[0].upper(), why[1:], sum(map(len, functions.values()))))
+            print('\n'.join(lines_by_crate(functions)))
+
+
+def lines_by_crate(functions: dict[str, list[str]]) -> list[str]:
+    """A line of a table for each crate: its functions with these clauses."""
+    crates = collections.defaultdict(list)
+    for name, clauses in functions.items():
+        crate, _, rest = name.partition('::')
+        crates[crate].append('%s (%s)' % (rest, ', '.join(clauses)))
+    return ['| %s | %s |' % (crate, '; '.join(texts)) for crate, texts in crates.items()]
 
 
 def main():

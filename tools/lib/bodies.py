@@ -41,7 +41,7 @@ class Body:
     """A feature: its sides are the segments of a line or of a polygon's rings; an end or a place is a vertex."""
 
     def __init__(self, drawn: Drawn) -> None:
-        self.handle, self.of_class, self.kind = drawn.handle, drawn.of_class, drawn.kind
+        self.handle, self.of_class, self.kind, self.subtype = drawn.handle, drawn.of_class, drawn.kind, drawn.subtype
         lists = [] if self.kind == 'point' else drawn.lists
         self.parts = lists
         self.sides: list[Side] = [side for part in lists for side in pairwise(part)]

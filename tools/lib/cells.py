@@ -2,13 +2,13 @@
 from __future__ import annotations
 
 from fractions import Fraction
-from math import gcd
+from math import gcd, hypot
 from typing import NamedTuple
 
-from .outlines import Outline, Point, line_key, outlines_of, turn
+from .outlines import Outline, Point, doubled_area, line_key, outlines_of, turn
 from .replies import Error, Frame, Half
+from .spans import Segment, beside, bounds_of, ends_of, equation_of, parts_on_lines
 
-Segment = tuple[Point, Point]
 Triple = tuple[int, int, int]
 Span = tuple[Fraction, Fraction]
 
@@ -19,6 +19,16 @@ class Cover(NamedTuple):
     polygons: list[Outline]
     lines: list[Segment]
     points: list[Point]
+
+    @property
+    def area(self) -> Fraction:
+        """In square units, exactly."""
+        return sum((doubled_area(ring) for outline in self.polygons for ring in [outline.shell] + outline.holes), Fraction(0)) / 2
+
+    @property
+    def length(self) -> float:
+        """That of the lines, in units."""
+        return sum(hypot(float(q[0] - p[0]), float(q[1] - p[1])) for p, q in self.lines)
 
 
 def clipped(polygon: list[Triple], a: int, b: int, c: int) -> list[Triple]:
@@ -45,9 +55,12 @@ def is_straight(p: Triple, q: Triple, r: Triple) -> bool:
 
 def corners_of(frame: Frame, cell: list[Half]) -> list[Point]:
     """The corners of a cell's closure: of a polygon counter-clockwise, of a segment its two ends, or one point; of none nothing."""
+    equation = equation_of(cell)
+    if equation:
+        return ends_of(frame, cell, equation)
     x0, y0, x1, y1 = frame
     triples = [(x0 - 1, y0 - 1, 1), (x1 + 1, y0 - 1, 1), (x1 + 1, y1 + 1, 1), (x0 - 1, y1 + 1, 1)]
-    for a, b, c, op in cell:
+    for a, b, c, op in dict.fromkeys(cell):
         triples = clipped(triples, a, b, c) if triples else []
         if op == '=':
             triples = clipped(triples, -a, -b, -c) if triples else []
@@ -115,17 +128,19 @@ def joined(segments: list[Segment]) -> list[Segment]:
     return sorted(out)
 
 
-def holds(segment: Segment, point: Point) -> bool:
-    return turn(*segment, point) == 0 and min(segment) <= point <= max(segment)
-
-
 def cover_of(closures: list[list[Point]]) -> Cover:
     """What the closures cover: cells that share sides are one polygon, and nothing is told twice."""
     if len(closures) == 1 and len(closures[0]) > 2:
         return Cover([Outline(closures[0], [])], [], [])
     areas = [corners for corners in closures if len(corners) > 2]
-    lines = joined([part for corners in closures if len(corners) == 2 for part in rest_of((corners[0], corners[1]), areas)])
-    points = sorted({corners[0] for corners in closures if len(corners) == 1})
+    segments = dict.fromkeys((corners[0], corners[1]) for corners in closures if len(corners) == 2)
+    lines = joined([part for segment in segments for part in rest_of(segment, areas)])
     inside = lambda point: any(all(turn(p, q, point) >= 0 for p, q in zip(area, area[1:] + area[:1])) for area in areas)
-    alone = [point for point in points if not inside(point) and not any(holds(line, point) for line in lines)]
+    alone = [point for point in beside({corners[0] for corners in closures if len(corners) == 1}, lines) if not inside(point)]
     return Cover(outlines_of(areas), lines, alone)
+
+
+def cover_of_error(error: Error) -> Cover:
+    """What the cells of an error cover, or its frame where the listing has none."""
+    found = bounds_of(error) if error.cells else None
+    return cover_of(closures_of(error)) if found is None else Cover([], *parts_on_lines(found))

@@ -48,8 +48,10 @@ def prepare(folder: str, root: str, program: list[str]) -> None:
     for name in LINKS:
         os.symlink(os.path.join(root, name), os.path.join(folder, name))
     words = [os.path.abspath(shutil.which(program[0]) or program[0])] + program[1:]
+    launcher = os.path.join(root, 'tools', 'lib', 'launch.sh')
+    lines = ['#!/bin/sh', 'called=./topo beside=tools/ pages=docs version= more=', '. ' + shlex.quote(launcher), 'launch %s "$@"' % shlex.join(words)]
     with open(os.path.join(folder, 'topo'), 'w', encoding='utf-8') as out:
-        out.write('#!/bin/sh\nexec %s "$@"\n' % shlex.join(words))
+        out.write('\n'.join(lines) + '\n')
     os.chmod(os.path.join(folder, 'topo'), 0o755)
 
 

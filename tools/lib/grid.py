@@ -19,7 +19,11 @@ from fractions import Fraction
 from typing import Iterable, Optional
 
 REACH = 4194304
+# How far from the origin of the whole a coordinate of tiles may be.
+FAR = 1 << 40
 ROUND = 100000
+# No number of a grid has more digits, before the point or behind it.
+MOST_DIGITS = 320
 
 Place = tuple[int, int]
 Extent = tuple[Fraction, Fraction, Fraction, Fraction]
@@ -46,11 +50,14 @@ def decimal_text(number: Fraction) -> str:
 
 
 def exact(text: str) -> Fraction:
-    """The number that a text in decimals says."""
+    """The number that a text in decimals says; a GridError where it says none, or one of too many digits to reckon with."""
     try:
-        return Fraction(Decimal(text))
-    except (ArithmeticError, ValueError) as fault:
-        raise GridError('%r is no number' % text) from fault
+        number = Decimal(text)
+        if len(text) > MOST_DIGITS or number and abs(number.adjusted()) > MOST_DIGITS:
+            raise GridError('%s has more than %d digits' % (text[:20], MOST_DIGITS))
+        return Fraction(number)
+    except (ArithmeticError, ValueError):
+        raise GridError('%r is no number' % text[:60]) from None
 
 
 @dataclass(frozen=True)

@@ -1,6 +1,8 @@
 """A scene as one SVG for looking at many features: colours by class and by rule, a legend, labels where they have room."""
 from __future__ import annotations
 
+import re
+from colorsys import hls_to_rgb
 from typing import Optional
 from xml.sax.saxutils import escape
 
@@ -13,6 +15,8 @@ OF_CLASS = ['#2f5f9e', '#3c7a4b', '#8a5a2b', '#5b4a9e', '#2a8a8a', '#7a6a2a', '#
 OF_RULE = ['#c8102e', '#e07000', '#b000b0', '#d0006f', '#a03000', '#7000c0', '#c04060', '#905000']
 GREY, YELLOW = '#666666', '#a87900'
 LETTER, LINE = 6.2, 12
+GOLDEN = 0.61803398875
+NO_XML = re.compile('[\x00-\x08\x0b\x0c\x0e-\x1f\ud800-\udfff\ufffe\uffff]')
 
 Box = tuple[float, float, float, float]
 
@@ -47,8 +51,19 @@ class Sheet:
         return True
 
 
-def colour(names: list, name, palette: list[str]) -> str:
-    return palette[names.index(name) % len(palette)] if name in names else GREY
+def colour(names: list, name: object, palette: list[str]) -> str:
+    """A colour of its own for each name: those of the palette, and then others round the circle of hues."""
+    if name not in names:
+        return GREY
+    at = names.index(name)
+    if at < len(palette):
+        return palette[at]
+    return '#%02x%02x%02x' % tuple(round(255 * part) for part in hls_to_rgb(at * GOLDEN % 1, 0.36 + 0.1 * (at % 3), 0.7))
+
+
+def xml_text(text: str) -> str:
+    """A text as XML has it; what no XML may have is replaced."""
+    return escape(NO_XML.sub('\ufffd', text))
 
 
 def put_feature(sheet: Sheet, feature: Drawn) -> None:
@@ -61,7 +76,7 @@ def put_feature(sheet: Sheet, feature: Drawn) -> None:
 def put_class(sheet: Sheet, name: str, kind: str, features: list[Drawn], of: str) -> None:
     fill = 'fill="%s" fill-opacity="0.14" fill-rule="evenodd" stroke="%s"' % (of, of) if kind == 'polygon' else \
         'fill="none" stroke="%s"' % of if kind == 'line' else 'fill="%s"' % of
-    sheet.put('<g id="class-%s" stroke-width="%s" %s>' % (escape(name), '0.7' if kind == 'polygon' else '1.2', fill))
+    sheet.put('<g id="class-%s" stroke-width="%s" %s>' % (xml_text(name), '0.7' if kind == 'polygon' else '1.2', fill))
     for feature in features:
         put_feature(sheet, feature)
     sheet.put('</g>')
@@ -80,7 +95,7 @@ def put_label(sheet: Sheet, feature: Drawn, text: str) -> None:
         x, y = sheet.at(feature.lists[0][len(feature.lists[0]) // 2])
         x, y = x + 5, y - 3
     if sheet.has_room((x, y - LINE, x + wide, y)):
-        sheet.put('<text x="%.1f" y="%.1f">%s</text>' % (x, y, escape(text)))
+        sheet.put('<text x="%.1f" y="%.1f">%s</text>' % (x, y, xml_text(text)))
 
 
 def put_error(sheet: Sheet, marked: Marked, of: str, ring: int) -> None:
@@ -109,7 +124,7 @@ def put_legend(sheet: Sheet, entries: list[tuple[str, str]]) -> None:
     x, y = sheet.width + 10, MARGIN + 10
     for of, text in entries:
         sheet.put('<rect x="%.1f" y="%.1f" width="12" height="12" fill="%s" fill-opacity="0.7"/><text x="%.1f" y="%.1f">%s</text>' %
-                  (x, y, of, x + 18, y + 10, escape(text)))
+                  (x, y, of, x + 18, y + 10, xml_text(text)))
         y += 19
     for text in ('from %d %d' % sheet.window[:2], 'to %d %d' % sheet.window[2:]):
         sheet.put('<text x="%.1f" y="%.1f" fill="%s">%s</text>' % (x, y + 14, GREY, text))

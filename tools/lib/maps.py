@@ -3,23 +3,27 @@ from __future__ import annotations
 
 import csv
 import json
+import math
 import os
 import re
-import tempfile
-from typing import NamedTuple, Optional, Union
-from xml.sax.saxutils import escape
+import shutil
+from typing import NamedTuple, Optional, TextIO, Union
+from xml.sax.saxutils import escape, quoteattr
 
-from .cells import Cover, cover_of
+from .cells import Cover, closures_of, cover_of_error
 from .grid import Grid, Place
 from .ogr import run
 from .outlines import Point, doubled_area
+from .outputs import binary_output
+from .replies import Error
 from .shapes import first_clash, near_pairs, turn
 
 Position = tuple[float, float]
 List = list[Position]
-Field = Union[str, int]
+Field = Union[str, int, float, None]
 
-TYPES = {'error_polygons': 'MultiPolygon', 'error_lines': 'MultiLineString', 'error_points': 'MultiPoint', 'dirty': 'Unknown'}
+TYPES = {'error_polygons': 'MultiPolygon', 'error_lines': 'MultiLineString', 'error_points': 'MultiPoint', 'gaps': 'MultiPolygon',
+         'perimeter': 'MultiLineString', 'dirty': 'Unknown'}
 
 
 class Geometry(NamedTuple):
@@ -103,12 +107,33 @@ def hull_of(positions: List) -> List:
     return half[0] + half[1] if len(ends) > 1 else ends
 
 
-def geometries_of(closures: list[list[Point]], rounding: Rounding, by_cell: bool) -> tuple[list[tuple[int, Geometry]], bool]:
+def geometries_of(error: Error, rounding: Rounding, by_cell: bool) -> tuple[list[tuple[int, Geometry]], bool]:
     """The geometries of an error, with the number of the cell where each has one; and whether they were dissolved as asked."""
-    dissolved = None if by_cell else rounding.cover(cover_of(closures))
+    return geometries_in(error, None if by_cell else cover_of_error(error), rounding)
+
+
+def geometries_in(error: Error, cover: Optional[Cover], rounding: Rounding) -> tuple[list[tuple[int, Geometry]], bool]:
+    """The same of an error whose cells cover this; by cells where no cover is given."""
+    by_cell = cover is None
+    dissolved = None if by_cell else rounding.cover(cover)
     if dissolved is None:
-        return [(number, rounding.cell(corners)) for number, corners in enumerate(closures, 1)], by_cell
+        return [(number, rounding.cell(corners)) for number, corners in enumerate(closures_of(error), 1)], by_cell
     return [(0, geometry) for geometry in dissolved], True
+
+
+def size_of(geometry: Geometry) -> list[float]:
+    """The area of polygons, or the length of lines, as a list; an empty one of points."""
+    if geometry.kind == 'polygon':
+        return [sum(area_of(ring) for rings in geometry.parts for ring in rings)]
+    if geometry.kind == 'line':
+        return [sum(math.dist(p, q) for line in geometry.parts for p, q in zip(line, line[1:]))]
+    return []
+
+
+def area_of(ring: List) -> float:
+    """Under 0 where the ring goes clockwise; far from the origin as exact as near to it."""
+    x, y = ring[0]
+    return sum((p[0] - x) * (q[1] - y) - (q[0] - x) * (p[1] - y) for p, q in zip(ring, ring[1:] + ring[:1])) / 2
 
 
 # ---- written
@@ -141,28 +166,26 @@ def crs_name(crs: str) -> str:
 class JsonLayer:
     """A layer as a file of GeoJSON."""
 
-    def __init__(self, folder: str, name: str, fields: dict[str, str], crs: str):
-        self.fields = fields
-        self.file = open(os.path.join(folder, name + '.geojson'), 'w', encoding='utf-8')
+    def __init__(self, out: TextIO, name: str, fields: dict[str, str], crs: str):
+        self.fields, self.file = fields, out
         of = {'crs': {'type': 'name', 'properties': {'name': crs_name(crs)}}} if crs_name(crs) else {}
         self.file.write('%s, "features": [' % json.dumps(dict(type='FeatureCollection', name=name, **of))[:-1])
         self.between = '\n'
 
     def add(self, row: list[Field], geometry: Geometry) -> None:
-        feature = {'type': 'Feature', 'properties': dict(zip(self.fields, row)), 'geometry': json_of(geometry)}
+        feature = {'type': 'Feature', 'properties': {name: None if cell == '' else cell for name, cell in zip(self.fields, row)}, 'geometry': json_of(geometry)}
         self.file.write(self.between + json.dumps(feature, ensure_ascii=False))
         self.between = ',\n'
 
     def close(self) -> None:
         self.file.write('\n]}\n')
-        self.file.close()
 
 
 class TextLayer:
     """A layer as a table with well-known text, which ogr2ogr reads."""
 
-    def __init__(self, folder: str, name: str, fields: dict[str, str], crs: str):
-        self.file = open(os.path.join(folder, name + '.csv'), 'w', encoding='utf-8', newline='')
+    def __init__(self, out: TextIO, name: str, fields: dict[str, str], crs: str):
+        self.file = out
         self.rows = csv.writer(self.file)
         self.rows.writerow(list(fields) + ['geometry'])
 
@@ -170,17 +193,17 @@ class TextLayer:
         self.rows.writerow(row + [wkt_of(geometry)])
 
     def close(self) -> None:
-        self.file.close()
+        self.file.flush()
 
 
 def vrt_of(layers: dict[str, dict[str, str]], folder: str, crs: str) -> str:
     """What tells ogr2ogr of the tables: their files, their columns and the coordinate system."""
     text = ['<OGRVRTDataSource>']
-    for name, fields in layers.items():
-        text += ['<OGRVRTLayer name="%s"><SrcDataSource>%s</SrcDataSource>' % (name, escape(os.path.join(folder, name + '.csv'))),
-                 '<GeometryType>wkb%s</GeometryType>' % TYPES[name], '<LayerSRS>%s</LayerSRS>' % escape(crs) if crs else '',
-                 '<GeometryField encoding="WKT" field="geometry"/>']
-        text += ['<Field name="%s" type="%s"/>' % field for field in fields.items()] + ['</OGRVRTLayer>']
+    for layer, fields in layers.items():
+        text += ['<OGRVRTLayer name="%s"><SrcDataSource>%s</SrcDataSource>' % (layer, escape(os.path.join(folder, layer + '.csv'))),
+                 '<GeometryType>wkb%s</GeometryType>' % TYPES[layer], '<LayerSRS>%s</LayerSRS>' % escape(crs) if crs else '',
+                 '<OpenOptions><OOI key="EMPTY_STRING_AS_NULL">YES</OOI></OpenOptions><GeometryField encoding="WKT" field="geometry"/>']
+        text += ['<Field name=%s type="%s"/>' % (quoteattr(name), type) for name, type in fields.items()] + ['</OGRVRTLayer>']
     return ''.join(text + ['</OGRVRTDataSource>'])
 
 
@@ -190,8 +213,5 @@ def write_geopackage(layers: dict[str, dict[str, str]], folder: str, crs: str, o
     with open(source, 'w', encoding='utf-8') as file:
         file.write(vrt_of(layers, folder, crs))
     run(['ogr2ogr', '-f', 'GPKG', made, source])
-    with open(made, 'rb') as whole_file, tempfile.NamedTemporaryFile(dir=os.path.dirname(os.path.abspath(out)), delete=False) as beside:
-        for piece in iter(lambda: whole_file.read(1 << 20), b''):
-            beside.write(piece)
-    os.chmod(beside.name, 0o644)
-    os.replace(beside.name, out)
+    with open(made, 'rb') as whole_file, binary_output(out) as beside:
+        shutil.copyfileobj(whole_file, beside, 1 << 20)

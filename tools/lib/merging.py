@@ -6,18 +6,20 @@ import os
 from typing import Iterator, NamedTuple
 
 from .grid import Place
-from .replies import Ending, Error, Listing, ReplyError, Rule, ending_of, errors_of
+from .replies import Ending, Error, Listing, Origin, ReplyError, Rule, ending_of, errors_of
 
 TILE = '# grid tile '
 SCRIPT, REPLIES = '.topo', '.replies'
 
 
 class Merged(NamedTuple):
-    """The errors of all subjects in the order of their keys, the rules, and the number of refused lines of each tile that has some."""
+    """The errors of all subjects in the order of their keys, the rules, the number of refused lines of each tile that has some, and what stands
+    at the end of the whole, as far as the errors ask for it: the grid, and where their features come from, by handles of the whole."""
 
     errors: list[Error]
     rules: dict[int, Rule]
     refused: dict[str, int]
+    ending: Ending
 
 
 def tile_remark(number: int, count: int) -> str:
@@ -60,7 +62,7 @@ def endings_of(folder: str) -> Iterator[tuple[str, Ending]]:
 def is_of_tile(error: Error, listing: Listing, ending: Ending) -> bool:
     """Whether the error is of a rule of the tile, and of features that its script adds to the classes of the rule."""
     rule, handles = listing.rules.get(error.rule), [error.subject, error.other] if error.other else [error.subject]
-    return rule is not None and all(own in ending.origins and ending.origins[own].of_class in rule[1:] for own in handles)
+    return rule is not None and all(own in ending.origins and ending.origins[own].of_class in rule.classes for own in handles)
 
 
 def moved_back(error: Error, ending: Ending, by: Place) -> Error:
@@ -90,14 +92,30 @@ def errors_of_tile(script: str, listing: Listing, ending: Ending) -> list[Error]
     return [moved_back(error, ending, by) for error in errors if ending.origins[error.subject].is_subject]
 
 
+def whole_remarks(ending: Ending) -> list[str]:
+    """The remark lines of the grid of the whole that a tile is part of."""
+    dx, dy = ending.grid.whole_offset(ending.remarks)
+    return ending.grid.shifted((-dx, -dy)).remarks()
+
+
+def origins_in(errors: list[Error], ending: Ending) -> dict[int, Origin]:
+    """Where the features of errors come from, by handles of the whole."""
+    asked = {handle for error in errors for handle in error[2:4]}
+    return {origin.handle: origin for origin in ending.origins.values() if origin.handle in asked}
+
+
 def merged(folder: str) -> Merged:
     """The errors of all tiles in a folder. A ReplyError where an error comes twice, or the tiles have different rules."""
     found: list[Error] = []
     rules: dict[int, Rule] = {}
     refused: dict[str, int] = {}
+    whole = Ending()
     for script, ending in endings_of(folder):
         listing = listing_of(script, ending)
-        found += errors_of_tile(script, listing, ending)
+        of_tile = errors_of_tile(script, listing, ending)
+        found += of_tile
+        whole.remarks = whole.remarks or whole_remarks(ending)
+        whole.origins.update(origins_in(of_tile, ending))
         refused.update({script: ending.refused} if ending.refused else {})
         rules = rules or listing.rules
         if listing.rules != rules:
@@ -106,4 +124,4 @@ def merged(folder: str) -> Merged:
     twice = next((error for error, after in zip(found, found[1:]) if error[1:4] == after[1:4]), None)
     if twice:
         raise ReplyError('two tiles in %s have the error %d %d %d: a feature is the subject of one alone' % (folder, *twice[1:4]))
-    return Merged(found, rules, refused)
+    return Merged(found, rules, refused, whole)

@@ -1,26 +1,30 @@
-"""Sources that GDAL's command-line programs read: their layers, and their features one at a time."""
+"""Sources as GDAL reads them: their layers, and their features in batches.
+
+They are read through GDAL's own bindings with numpy where this python3 has them, else through GDAL's command-line programs; both give the same.
+"""
 from __future__ import annotations
 
-import csv
+import functools
 import os
 import re
 import shlex
 import shutil
 import subprocess
-import sys
-import tempfile
-from decimal import Decimal
 from fractions import Fraction
+from types import ModuleType
 from typing import Iterator, NamedTuple, Optional
 
+from .drivers import SETTINGS, DriverError, drivers_for
 from .grid import Extent
+from .interpreter import READER, has_bindings
+from .watch import WATCH, watched
+from .wkb import word_of
 
 KINDS = {'POINT': 'point', 'MULTIPOINT': 'point', 'LINESTRING': 'line', 'MULTILINESTRING': 'line', 'POLYGON': 'polygon',
          'MULTIPOLYGON': 'polygon'}
-ENVIRONMENT = dict(os.environ, LC_ALL='C', OGR_WKT_PRECISION='17')
-
-
-Position = tuple[str, str]
+ENVIRONMENT = dict(os.environ, LC_ALL='C', **SETTINGS)
+# So many features are read at a time.
+BATCH = 5000
 
 
 class SourceError(Exception):
@@ -28,9 +32,10 @@ class SourceError(Exception):
 
 
 class Layer(NamedTuple):
-    """A layer of a source, as ogrinfo tells it; its type is in capitals without blanks."""
+    """A layer of a source, by its number from 0 and its name; its type is in capitals without blanks."""
 
     source: str
+    number: int
     name: str
     type: str
     count: int
@@ -40,19 +45,18 @@ class Layer(NamedTuple):
 
 
 class Feature(NamedTuple):
-    """A feature of a layer: its number, the text of the field that was asked for, and its geometry, which may be empty."""
+    """A feature of a layer: its number, and the texts of the fields of its id and of its subtype, where these were asked for."""
 
-    fid: str
+    fid: int
     id: str
-    wkt: str
+    subtype: str = ''
 
 
-class Geometry(NamedTuple):
-    """A geometry's parts, each a list of lists of positions; has_more says that Z or M stood beside them."""
+class Batch(NamedTuple):
+    """Features of a layer, and their geometries as well-known binary; a feature without one has None."""
 
-    word: str
-    has_more: bool
-    parts: list[list[list[Position]]]
+    features: list[Feature]
+    geometries: list[Optional[bytes]]
 
 
 def require_gdal() -> None:
@@ -61,87 +65,78 @@ def require_gdal() -> None:
             raise SourceError('%s is missing: install the package gdal-bin' % program)
 
 
-def run(words: list[str]) -> str:
+def run(words: list[str], environment: Optional[dict[str, str]] = None) -> str:
     """What a program of GDAL writes; a SourceError with its last lines, or its words where it says nothing, where it fails."""
-    done = subprocess.run(words, capture_output=True, env=ENVIRONMENT)
-    if done.returncode:
-        raise SourceError('%s: %s' % (words[0], done.stderr.decode('utf-8', 'replace').strip() or 'failed as `%s`' % shlex.join(words)))
-    return done.stdout.decode('utf-8', 'replace')
+    with subprocess.Popen(words, stdout=subprocess.PIPE, stderr=subprocess.PIPE, env=environment or ENVIRONMENT) as program:
+        WATCH.process = program.pid
+        out, told = program.communicate()
+        WATCH.process = None
+    if program.returncode:
+        raise SourceError('%s: %s' % (words[0], told.decode('utf-8', 'replace').strip() or 'failed as `%s`' % shlex.join(words)))
+    return out.decode('utf-8', 'replace')
 
 
-def is_source(word: str) -> bool:
-    """Whether a word is the path of a file or folder, or may be a connection."""
-    return os.path.exists(word) or re.match('/vsi|[A-Za-z]+:', word) is not None
+def has_vectors() -> bool:
+    """Whether sources are read through GDAL's own bindings, beside which there is numpy."""
+    return os.environ.get(READER) != 'programs' and has_bindings()
+
+
+@functools.lru_cache(1)
+def reader() -> ModuleType:
+    """The module by which sources are read."""
+    if has_vectors():
+        from . import by_bindings
+        return by_bindings
+    require_gdal()
+    from . import by_programs
+    return by_programs
+
+
+def check_source(source: str) -> list[str]:
+    """The drivers that may read a source; a SourceError where it is none."""
+    try:
+        return drivers_for(source)
+    except DriverError as fault:
+        raise SourceError(str(fault)) from None
 
 
 def layer_names(source: str) -> list[str]:
-    """The layers in their order; after a name ogrinfo may have a title and a type, both in brackets."""
-    if not is_source(source):
-        raise SourceError('there is no file or folder %s' % source)
+    """The layers in their order."""
+    check_source(source)
+    with WATCH.waiting():
+        return reader().layer_names(source)
+
+
+def layer_of(source: str, number: int, name: str) -> Layer:
+    """What GDAL tells of a layer."""
+    with WATCH.waiting():
+        return reader().layer_of(source, number, name)
+
+
+def batches_of(layer: Layer, id_field: Optional[str] = None, subtype_field: Optional[str] = None) -> Iterator[Batch]:
+    """The features of a layer; a SourceError behind the last one where the reading failed."""
+    return watched(reader().batches_of(layer, [field if field in layer.fields else None for field in (id_field, subtype_field)]))
+
+
+def words_of(layer: Layer) -> Iterator[str]:
+    """The words of the geometries of a layer."""
+    return (word_of(data) for batch in batches_of(layer) for data in batch.geometries)
+
+
+def type_of(name: str) -> str:
+    """A type of geometries by the name that GDAL has for it, in capitals, without blanks, and without Z and M."""
+    return re.sub('[^A-Z]', '', re.sub('^(3D|MEASURED| )+', '', name.upper()))
+
+
+def extent_of(*numbers: float) -> Optional[Extent]:
+    """An extent by its least and greatest x and y, with six decimals; none where it is not finite."""
     try:
-        lines = run(['ogrinfo', '-ro', '-q', source]).splitlines()
-    except SourceError as fault:
-        raise SourceError('GDAL cannot open this source: %s' % fault) from None
-    found = (re.fullmatch(r'\d+: (.*?)(?: \(title: .*\))?(?: \([^()]*(?:\(any\))?\))?', line) for line in lines)
-    return [match[1] for match in found if match]
-
-
-def layer_of(source: str, name: str) -> Layer:
-    """What ogrinfo tells of a layer."""
-    text = run(['ogrinfo', '-ro', '-so', '-wkt_format', 'WKT2_2019', source, name])
-    told = dict(re.findall(r'^([A-Z][\w ]*): (.*)$', text, re.M))
-    numbers = re.fullmatch(r'\((\S+), (\S+)\) - \((\S+), (\S+)\)', told.get('Extent', ''))
-    crs = re.search(r'^Layer SRS WKT:\n(?!\w+\["Undefined)(.*?)\nData axis to CRS', text, re.M | re.S)
-    return Layer(source, name, re.sub('^3D|^MEASURED|[^A-Z]', '', told.get('Geometry', '').upper().replace(' ', '')),
-                 int(told.get('Feature Count', 0)),
-                 tuple(Fraction(Decimal(n)) for n in numbers.groups()) if numbers else None,
-                 ''.join(line.strip() for line in crs[1].splitlines()) if crs else '',
-                 re.findall(r'^(.+): \w+(?:\(\w+\))? \(\d+\.\d+\)', text, re.M))
-
-
-def quoted(name: str) -> str:
-    return '"%s"' % name.replace('\\', '\\\\').replace('"', '\\"')
-
-
-def features_of(layer: Layer, id_field: Optional[str] = None) -> Iterator[Feature]:
-    """The features of a layer, read one at a time; a SourceError behind the last one where the reading failed."""
-    field = ', %s AS topo_id' % quoted(id_field) if id_field in layer.fields else ''
-    asked = 'SELECT FID AS topo_fid%s FROM %s' % (field, quoted(layer.name))
-    words = ['ogr2ogr', '-f', 'CSV', '/vsistdout/', layer.source, '-dialect', 'OGRSQL', '-sql', asked, '-lco', 'GEOMETRY=AS_WKT',
-             '-lco', 'STRING_QUOTING=ALWAYS']
-    csv.field_size_limit(sys.maxsize)
-    with tempfile.TemporaryFile() as faults:
-        with subprocess.Popen(words, stdout=subprocess.PIPE, stderr=faults, env=ENVIRONMENT, encoding='utf-8', errors='replace') as reader:
-            rows = csv.reader(reader.stdout)
-            head = next(rows, None)
-            for row in rows:
-                cells = dict(zip(head, row))
-                yield Feature(cells['topo_fid'], cells.get('topo_id', ''), cells.get('WKT', ''))
-        if reader.returncode:
-            faults.seek(0)
-            raise SourceError('ogr2ogr: ' + faults.read().decode('utf-8', 'replace').strip())
-
-
-def number_of(text: str) -> Fraction:
-    """The number with the fewest decimals that double precision reads as this one."""
-    return Fraction(repr(float(text)))
-
-
-def positions_of(text: str) -> list[Position]:
-    pairs = (position.split(None, 2) for position in text.strip(',').split(','))
-    return [(pair[0], pair[1]) for pair in pairs]
-
-
-def geometry_of(wkt: str) -> Optional[Geometry]:
-    """The geometry of a text as ogr2ogr writes it; none where it is empty, or of a word that is none of KINDS."""
-    head, _, body = wkt.partition('(')
-    word, _, marks = head.strip().partition(' ')
-    if word not in KINDS or not body or 'EMPTY' in body:
+        x0, y0, x1, y1 = (Fraction('%f' % number) for number in numbers)
+    except ValueError:
         return None
-    bodies = body.split(')),((') if word == 'MULTIPOLYGON' else [body]
-    parts = [[positions_of(each) for each in re.findall(r'[^()]*[^(),\s][^()]*', part)] for part in bodies]
-    if word == 'MULTILINESTRING':
-        parts = [[each] for each in parts[0]]
-    if word == 'MULTIPOINT':
-        parts = [[[position]] for each in parts[0] for position in each]
-    return Geometry(word, bool(marks.strip()), parts)
+    return x0, y0, x1, y1
+
+
+def crs_of(text: str) -> str:
+    """A coordinate system in one line; nothing where GDAL says that it is not known."""
+    return '' if re.match(r'\w+\["Undefined', text) else ''.join(line.strip() for line in text.splitlines())

@@ -1,63 +1,154 @@
-"""A scene as one self-contained page: pan, zoom, a list of errors that leads to each place, dirt shown or hidden."""
+"""A scene as one self-contained page: pan, zoom, a list of errors by rule that leads to each place, gaps as areas, dirt shown or hidden."""
 from __future__ import annotations
 
 import json
 import os
+import re
+from base64 import b64encode
 from fractions import Fraction
 from html import escape
-from typing import Iterable
+from typing import Iterable, Iterator, NamedTuple
 
+from .gaps import Gap
 from .grid import Grid
-from .mapping import OF_CLASS, OF_RULE, colour, rule_text
+from .mapping import GREY, OF_CLASS, OF_RULE, colour, rule_text
 from .outlines import Point
+from .rules import title_of
 from .scenes import Drawn, Marked, Scene, box_of
+from .spans import Segment
 
 TEMPLATE = os.path.join(os.path.dirname(os.path.abspath(__file__)), 'page.html')
 DIGITS = 3
+QUIET = '#7d8794'
+UNIT = Grid(Fraction(1), Fraction(0), Fraction(0))
+NO_TITLE = re.compile('[\x00-\x1f\x7f-\x9f\ud800-\udfff\ufffe\uffff]')
+MOST_BESIDE = 4
+
+
+class Group(NamedTuple):
+    """What is ticked as one: the errors of a rule, its gaps, or its perimeter; with the number and the word of the rule."""
+
+    title: str
+    word: str
+    sides: str
+    colour: str
+    kind: str
 
 
 def rounded(number: Fraction) -> float:
-    """A coordinate for the screen, to a thousandth of a unit."""
-    return round(float(number), DIGITS)
+    """A coordinate for the screen, to a thousandth of a unit; whole where it can be."""
+    near = round(float(number), DIGITS)
+    return int(near) if near == int(near) else near
 
 
 def flat(points: Iterable[Point]) -> list[float]:
     return [rounded(number) for point in points for number in point]
 
 
-def feature_data(feature: Drawn, names: list[str], scene: Scene) -> dict:
-    """A feature: its class, its name, its frame, its lists of numbers."""
-    return {'c': names.index(feature.of_class), 'n': scene.name_of(feature.handle), 'b': feature.frame,
-            'l': [[number for place in each for number in place] for each in feature.lists]}
+# ---- features as few bytes
+
+def bytes_of(number: int) -> bytes:
+    """A whole number as bytes of seven bits each, the lowest first; its sign is the lowest bit of all."""
+    rest = number * 2 if number >= 0 else -number * 2 - 1
+    out = bytearray()
+    while rest > 127:
+        out.append(rest & 127 | 128)
+        rest >>= 7
+    out.append(rest)
+    return bytes(out)
 
 
-def error_data(marked: Marked, rules: list[int], scene: Scene) -> dict:
-    """An error: its rule, mark, frame, the names of both, and its areas, segments and points."""
-    error = marked.error
-    return {'r': rules.index(error.rule), 'm': error.mark, 'b': error.frame, 'n': scene.name_of(error.subject),
-            'o': scene.name_of(error.other) if error.other else '',
-            'a': [flat(ring) for ring in marked.rings], 's': [flat(segment) for segment in marked.cover.lines],
-            'p': [flat([point]) for point in marked.cover.points]}
+def packed(features: list[Drawn], names: list[str]) -> str:
+    """The features in base64: of each the class, the number of its lists, and of each list the number of its places and the way from place to
+    place."""
+    small = {number: bytes_of(number) for number in range(-4096, 4096)}
+    put = lambda number: small.get(number) or bytes_of(number)
+    out, x, y = bytearray(), 0, 0
+    index = {name: number for number, name in enumerate(names)}
+    for feature in features:
+        out += put(index[feature.of_class]) + put(len(feature.lists))
+        for each in feature.lists:
+            places = each[:-1] if feature.kind == 'polygon' else each
+            out += put(len(places))
+            for u, v in places:
+                out += put(u - x) + put(v - y)
+                x, y = u, v
+    return b64encode(bytes(out)).decode()
 
 
-def data_of(scene: Scene) -> dict:
-    """All that the page draws."""
-    names, rules = list(scene.ending.classes), sorted({m.error.rule for m in scene.errors} | set(scene.ending.rules))
-    grid = scene.ending.grid or Grid(Fraction(1), Fraction(0), Fraction(0))
-    count_of = {name: sum(feature.of_class == name for feature in scene.features) for name in names}
-    return {'classes': [{'name': name, 'kind': kind, 'count': count_of[name], 'colour': colour(names, name, OF_CLASS)}
-                        for name, kind in scene.ending.classes.items()],
-            'rules': [{'word': rule_text(scene, rule), 'colour': colour(rules, rule, OF_RULE),
-                       'count': sum(marked.error.rule == rule for marked in scene.errors)} for rule in rules],
-            'features': [feature_data(feature, names, scene) for feature in scene.features],
-            'errors': [error_data(marked, rules, scene) for marked in scene.errors],
-            'dirt': scene.dirt, 'box': box_of(scene), 'grid': [float(grid.resolution), float(grid.x), float(grid.y)],
-            'digits': max(0, len(str(grid.resolution.denominator)) - 1)}
+# ---- errors and gaps
+
+class Pages:
+    """Makes the data of a page."""
+
+    def __init__(self, scene: Scene):
+        self.scene = scene
+        self.grid = scene.ending.grid or UNIT
+        self.grounds = scene.grounds()
+        self.rules = sorted({marked.error.rule for marked in scene.errors} | set(scene.ending.rules))
+        self.groups = [self.group(rule, '', colour(self.rules, rule, OF_RULE), 'rule') for rule in self.rules]
+        self.number: dict[tuple[int, str], int] = {(rule, 'rule'): at for at, rule in enumerate(self.rules)}
+        for rule in self.grounds:
+            for kind, of in (('gap', colour(self.rules, rule, OF_RULE)), ('perimeter', QUIET)):
+                self.number[rule, kind] = len(self.groups)
+                self.groups.append(self.group(rule, {'gap': 'Gaps', 'perimeter': 'Outer Perimeter'}[kind], of, kind))
+
+    def group(self, rule: int, title: str, of: str, kind: str) -> Group:
+        known = self.scene.ending.rules.get(rule)
+        sides = ', '.join(side for side in known[1:] if side) if known else ''
+        return Group(title or (title_of(known.word) if known else 'Rule %d' % rule), rule_text(self.scene, rule), sides, of, kind)
+
+    def size(self, area: Fraction, length: float) -> list:
+        """The size in units of the source, and its dimension: an area where there is one, else a length, else nothing."""
+        unit = self.grid.resolution
+        return [float('%.6g' % float(area * unit * unit)), 2] if area else [float('%.6g' % (length * float(unit))), 1] if length else [0, 0]
+
+    def is_outer(self, marked: Marked, segment: Segment) -> bool:
+        ground = self.grounds.get(marked.error.rule)
+        return ground is not None and segment in ground.outer
+
+    def error(self, marked: Marked) -> list:
+        """An error: its group, its frame, whether it is an exception, subject and other, its size, its areas, its segments, those of them
+        that are drawn quietly, and its points."""
+        error, cover = marked.error, marked.cover
+        quiet = [segment for segment in cover.lines if self.is_outer(marked, segment)]
+        loud = [segment for segment in cover.lines if not self.is_outer(marked, segment)] if quiet else cover.lines
+        kind = 'perimeter' if quiet and not loud else 'rule'
+        return [self.number[error.rule, kind], error.frame, int(error.mark != 'error'), error.subject, error.other,
+                self.size(cover.area, cover.length) if error.cells else [0, 0], [flat(ring) for ring in marked.rings], list(map(flat, loud)), list(map(flat, quiet)),
+                flat(cover.points)]
+
+    def gap(self, rule: int, gap: Gap) -> list:
+        """A gap as an error, with the names of features beside it in place of subject and other."""
+        xs, ys = zip(*gap.outline.shell)
+        handles = sorted(gap.beside)
+        beside = [self.scene.name_of(handle) for handle in handles[:MOST_BESIDE]] + ['..'] * (len(handles) > MOST_BESIDE)
+        return [self.number[rule, 'gap'], [*map(rounded, (min(xs), min(ys), max(xs), max(ys)))], 0, 'beside ' + ', '.join(beside), 0,
+                self.size(gap.area, 0), [flat(ring) for ring in [gap.outline.shell] + gap.outline.holes], [], [], []]
+
+    def items(self) -> Iterator[list]:
+        """All errors in their order, and behind them the gaps."""
+        yield from map(self.error, self.scene.errors)
+        for rule, ground in self.grounds.items():
+            yield from (self.gap(rule, gap) for gap in ground.gaps)
+
+    def data(self) -> dict:
+        """All that the page draws."""
+        scene, classes = self.scene, self.scene.ending.classes
+        names = list(classes)
+        return {'classes': [{'name': name, 'kind': kind, 'colour': colour(names, name, OF_CLASS)} for name, kind in classes.items()],
+                'groups': [group._asdict() for group in self.groups], 'grey': GREY,
+                'handles': [feature.handle for feature in scene.features],
+                'names': [scene.name_of(feature.handle) for feature in scene.features],
+                'features': packed(scene.features, names), 'items': list(self.items()), 'errors': len(scene.errors), 'dirt': scene.dirt,
+                'box': box_of(scene), 'grid': [float(self.grid.resolution), float(self.grid.x), float(self.grid.y)],
+                'unit': 'm' if 'UNIT["met' in self.grid.crs else 'units', 'refused': scene.ending.refused, 'digits': max(0, len(str(self.grid.resolution.denominator)) - 1)}
 
 
 def html_of(scene: Scene, title: str) -> str:
     """The page; `<` in its data is written so that no text of theirs can end them."""
     with open(TEMPLATE, encoding='utf-8') as template:
         text = template.read()
-    data = json.dumps(data_of(scene), ensure_ascii=False, separators=(',', ':')).replace('<', '\\u003c')
-    return text.replace('TITLE', escape(title)).replace('DATA', data, 1)
+    data = json.dumps(Pages(scene).data(), ensure_ascii=False, separators=(',', ':')).replace('<', '\\u003c')
+    head, tail = text.replace('TITLE', escape(NO_TITLE.sub('\ufffd', title))).rsplit('DATA', 1)
+    return head + data + tail

@@ -5,11 +5,13 @@ import re
 from typing import Callable, NamedTuple, Optional
 
 from .forms import DEEDS, FORMS
-from .replies import Answer, Ending, ReplyError, misfit_text
-from .rules import KINDS_OF, nearest
+from .replies import Answer, Ending, ReplyError, misfit_text, named_by
+from .rules import KINDS_OF, nearest, of_kind
 from .texts import KINDS, lists_of, misfit_of, sides_of, tokens_of
 
-NUMBERS = {'H': 4294967295, 'SUBJECT': 4294967295, 'OTHER': 4294967295, 'R': 65535}
+NUMBERS = {'H': 4294967295, 'SUBJECT': 4294967295, 'OTHER': 4294967295, 'R': 65535, 'S': 255}
+FROM_NONE = 'OTHER', 'S'
+SIDES = 'CLASS', 'ORIGIN', 'DEST'
 REACH = 4194304
 
 
@@ -50,6 +52,12 @@ def number_fault(text: str, most: int, least: int) -> str:
     return '' if least <= int(text) <= most else 'the number %s is not from %d to %s' % (text, least, format(most, ','))
 
 
+def side_fault(text: str) -> str:
+    """Why this is neither a class nor one subtype of it."""
+    name, colon, subtype = text.partition(':')
+    return name_fault(name) or (number_fault(subtype, NUMBERS['S'], 0) if colon else '')
+
+
 def window_fault(text: str) -> str:
     return '' if re.fullmatch(r'-?[0-9]+', text) else '`%s` is no number of a window: one is digits, with or without `-` before them' % text
 
@@ -79,11 +87,13 @@ def piece_fault(piece: str, text: str) -> str:
         is_near = text in KINDS_OF or nearest(text, KINDS_OF)
         return choice_fault(text, list(KINDS_OF), 'word of a rule') if is_near else 'no rule has the word `%s`' % text
     if piece in NUMBERS:
-        return number_fault(text, NUMBERS[piece], piece != 'OTHER')
+        return number_fault(text, NUMBERS[piece], piece not in FROM_NONE)
     if piece[0] in 'XY':
         return window_fault(text)
     if piece == 'WKT':
         return text_fault(text)
+    if piece in SIDES:
+        return side_fault(text)
     return name_fault(text) if piece.isupper() else '' if piece == text else '`%s` stands where `%s` is expected' % (text, piece)
 
 
@@ -173,7 +183,7 @@ def not_valid(of: Refused) -> str:
 
 
 def no_class(of: Refused) -> str:
-    named = of.words[2:4] if of.words[0] == 'rule' else of.words[3:4]
+    named = [named_by(side)[0] for side in (of.words[2:4] if of.words[0] == 'rule' else of.words[3:4])]
     gone = next((name for name in named if name not in of.before.classes), named[0])
     return 'there is no class `%s`%s' % (gone, nearest(gone, of.before.classes))
 
@@ -184,11 +194,13 @@ def kind_in(of: Refused, name: str) -> str:
 
 
 def unfit_rule(of: Refused) -> str:
-    kinds, named = KINDS_OF[of.words[1]], of.words[2:4]
+    kinds, named = KINDS_OF[of.words[1]], [named_by(side)[0] for side in of.words[2:4]]
     if len(set(named)) < len(named):
-        return 'the rule takes two different classes'
+        return 'the rule takes two different classes, or two different subtypes of one'
     wanted = next((pair for pair in zip(named, kinds) if of.before.classes.get(pair[0]) != pair[1]), (named[0], kinds[0]))
-    return 'the rule takes a class of %ss, and `%s` is of %s' % (wanted[1], wanted[0], kind_in(of, wanted[0]))
+    kind = of.before.classes.get(wanted[0])
+    hint = of_kind(of.words[1], kind) if kind and wanted[0] == named[0] and kind != kinds[0] else ''
+    return 'the rule takes a class of %ss, and `%s` is of %s%s' % (wanted[1], wanted[0], kind_in(of, wanted[0]), hint)
 
 
 def unfit_shape(of: Refused) -> str:
@@ -196,7 +208,7 @@ def unfit_shape(of: Refused) -> str:
     origin = of.before.origins.get(int(of.words[3])) if of.words[2] == 'change' else None
     if of.words[2] == 'change' and origin is None:
         return 'the shape is a %s, and feature %s is of another kind' % (kind, of.words[3])
-    name = origin.of_class if origin else of.words[3]
+    name = origin.of_class if origin else named_by(of.words[3])[0]
     return 'the shape is a %s, and the class `%s` is of %s' % (kind, name, kind_in(of, name))
 
 

@@ -4,7 +4,8 @@ from __future__ import annotations
 import json
 import re
 from dataclasses import dataclass, field
-from typing import BinaryIO, Iterator, NamedTuple, Optional
+from functools import lru_cache
+from typing import BinaryIO, Iterable, Iterator, NamedTuple, Optional
 
 from .forms import can_answer
 from .grid import Grid, grid_of
@@ -45,20 +46,38 @@ class Error(NamedTuple):
 
 
 class Rule(NamedTuple):
+    """The word of a rule and its sides, each as it was written: a class, or one subtype of it."""
+
     word: str
     origin: str
     dest: str
 
+    @property
+    def classes(self) -> set[str]:
+        return {named_by(side)[0] for side in (self.origin, self.dest) if side}
+
 
 class Origin(NamedTuple):
     """Where a feature comes from: its class, its number and its id in the source; in a tile also its handle in the whole, and
-    whether it is a subject of the tile."""
+    whether it is a subject of the tile. Its subtype is that of its last line."""
 
     of_class: str
     fid: str = ''
     id: str = ''
     handle: int = 0
     is_subject: bool = True
+    subtype: int = 0
+
+    @property
+    def side(self) -> str:
+        """The class, and the subtype where it is not 0, as a listing writes them."""
+        return '%s:%d' % (self.of_class, self.subtype) if self.subtype else self.of_class
+
+
+def named_by(side: str) -> tuple[str, int]:
+    """The class and the subtype that a text NAME or NAME:S names."""
+    name, _, subtype = side.partition(':')
+    return name, int(subtype or 0)
 
 
 def is_skipped(line: bytes) -> bool:
@@ -114,22 +133,42 @@ def answers_of(script: BinaryIO, replies: BinaryIO) -> Iterator[Answer]:
         raise ReplyError('there are more replies than lines')
 
 
+@lru_cache(1 << 14)
 def half_of(text: str) -> Half:
+    """A half-plane by its text; cells next to each other have most of theirs in common."""
     a, b, c, op = text.split()
     return int(a), int(b), int(c), op
 
 
-def errors_of(lines: list[str]) -> list[Error]:
-    """The errors of a listing, without its total."""
-    errors: list[Error] = []
+def error_of(line: str) -> Error:
+    """The error of a line of a listing, without cells yet."""
+    mark, rule, subject, other, extent, *frame = line.split()
+    return Error(mark, int(rule), int(subject), int(other), extent, tuple(map(int, frame)), [])
+
+
+def each_error(lines: Iterable[str]) -> Iterator[Error]:
+    """The errors of a listing, without its total, one at a time."""
+    error = None
     for line in lines:
-        word, rest = line.split(' ', 1)
-        if word == 'cell':
-            errors[-1].cells.append([half_of(half) for half in rest.split(', ')])
-        else:
-            rule, subject, other, extent, *frame = rest.split()
-            errors.append(Error(word, int(rule), int(subject), int(other), extent, tuple(map(int, frame)), []))
-    return errors
+        if line.startswith('cell '):
+            error.cells.append([half_of(half) for half in line[5:].split(', ')])
+            continue
+        if error:
+            yield error
+        error = error_of(line)
+    if error:
+        yield error
+
+
+def errors_of(lines: Iterable[str]) -> list[Error]:
+    """The errors of a listing, without its total."""
+    return list(each_error(lines))
+
+
+def is_of(side: str, of_class: str, subtype: int) -> bool:
+    """Whether a feature of this class and subtype is of a side."""
+    name, number = named_by(side)
+    return name == of_class and (':' not in side or number == subtype)
 
 
 def rule_of(words: list[str]) -> Rule:
@@ -187,9 +226,10 @@ class Ending:
     def listed(self, lines: list[str]) -> None:
         """Takes the features of a listing: where the script began with a saved project, they tell of its classes."""
         for line in lines:
-            _, handle, name, wkt = line.split(' ', 3)
+            _, handle, side, wkt = line.split(' ', 3)
+            name, subtype = named_by(side)
             self.classes.setdefault(name, KINDS[wkt.split(' ', 1)[0]])
-            self.origins.setdefault(int(handle), Origin(name))
+            self.origins[int(handle)] = self.origins.get(int(handle), Origin(name))._replace(subtype=subtype)
 
     def done(self, words: list[str], answer: Answer) -> None:
         """Takes a line that was done."""
@@ -208,9 +248,17 @@ class Ending:
             self.rules[int(last[1])] = rule_of(words[1:])
         elif words[0] == 'droprule':
             self.rules.pop(int(words[1]), None)
-        elif words[0] == 'by' and words[2] == 'add':
-            self.origins[int(last[1])] = Origin(words[3], **self.waiting)
+        elif words[0] == 'by':
+            self.edited(words[2:], last)
+
+    def edited(self, words: list[str], last: list[str]) -> None:
+        """Takes an edit that was done: what it says of a feature beside its shape."""
+        if words[0] == 'add':
+            name, subtype = named_by(words[1])
+            self.origins[int(last[1])] = Origin(name, subtype=subtype, **self.waiting)
             self.waiting = {}
+        elif words[0] == 'retype' and int(words[1]) in self.origins:
+            self.origins[int(words[1])] = self.origins[int(words[1])]._replace(subtype=int(words[2]))
 
     def take(self, answer: Answer) -> None:
         if not answer.reply:

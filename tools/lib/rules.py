@@ -2,7 +2,9 @@
 from __future__ import annotations
 
 import difflib
-from typing import Iterable, Optional
+from typing import Callable, Iterable, Optional
+
+from .lines import LineError, side_of
 
 KINDS_OF: dict[str, tuple[str, Optional[str]]] = {
     'polygon_must_not_overlap': ('polygon', None),
@@ -35,6 +37,12 @@ KINDS_OF: dict[str, tuple[str, Optional[str]]] = {
 }
 
 
+def title_of(word: str) -> str:
+    """The name of a rule in words, as GIS programs show it; the kind of its first class is left out."""
+    kind, _, name = word.partition('_')
+    return ' '.join(part.capitalize() for part in (name if kind in ('polygon', 'line', 'point') else word).split('_'))
+
+
 class RuleError(Exception):
     """A rule that cannot be asked for; its text says why."""
 
@@ -46,16 +54,37 @@ def nearest(word: str, words: Iterable[str]) -> str:
     return '; did you mean %s?' % ' or '.join('`%s`' % each for each in near) if near else ''
 
 
-def rule_line(words: list[str], classes: dict[str, str]) -> str:
-    """The line that puts a rule in force for some of the classes, which have these kinds."""
+def of_kind(word: str, kind: str) -> str:
+    """The rule for classes of this kind that says the same as this one, or nearly, as a question after a sentence; nothing where none does."""
+    _, _, rest = word.partition('_')
+    own = [each for each, (of, other) in KINDS_OF.items() if of == kind and (other is None) == (KINDS_OF[word][1] is None)]
+    near = [each for each in own if each == '%s_%s' % (kind, rest)] or difflib.get_close_matches('%s_%s' % (kind, rest), own, 1, 0.6)
+    return '; did you mean `%s`?' % near[0] if near else ''
+
+
+def check_subtype(side: str) -> None:
+    """Raises a RuleError where a side names a subtype that is none."""
+    try:
+        side_of(side)
+    except LineError as fault:
+        raise RuleError('`%s`: %s' % (side, fault)) from None
+
+
+def rule_line(words: list[str], classes: dict[str, str], side: Callable[[str], str] = str) -> str:
+    """The line that puts a rule in force for some of the classes, which have these kinds, or for subtypes of them, whose words become numbers."""
     if words[0] not in KINDS_OF:
         raise RuleError('no rule has the word `%s`%s' % (words[0], nearest(words[0], KINDS_OF)))
     kinds = [kind for kind in KINDS_OF[words[0]] if kind]
     if len(words) - 1 != len(kinds):
         raise RuleError('the rule %s takes %s' % (words[0], ' and '.join('a class of %ss' % kind for kind in kinds)))
-    for name, kind in zip(words[1:], kinds):
+    sides = list(map(side, words[1:]))
+    names = [each.partition(':')[0] for each in sides]
+    for name, kind in zip(names, kinds):
         if name not in classes:
             raise RuleError('there is no class `%s`%s' % (name, nearest(name, classes) or '; there are %s' % ', '.join(classes)))
         if classes[name] != kind:
-            raise RuleError('the rule %s takes a class of %ss, and `%s` is of %ss' % (words[0], kind, name, classes[name]))
-    return 'rule ' + ' '.join(words)
+            hint = of_kind(words[0], classes[name]) if name == names[0] else ''
+            raise RuleError('the rule %s takes a class of %ss, and `%s` is of %ss%s' % (words[0], kind, name, classes[name], hint))
+    for each in filter(lambda each: ':' in each, sides):
+        check_subtype(each)
+    return 'rule ' + ' '.join([words[0], *sides])

@@ -6,12 +6,19 @@ import re
 import subprocess
 from typing import NamedTuple
 
-from .cells import Cover, closures_of, cover_of
+from .cells import Cover, cover_of_error
+from .gaps import WORD, Ground, ground_of
 from .grid import REACH, Place
+from .names import NO_NAMES, Names
 from .outlines import Point
-from .replies import Ending, Error, Frame, Origin, answers_of, errors_of
+from .replies import Ending, Error, Frame, ReplyError, answers_of, each_error, named_by
+from .spans import Segment, stops_of
 
 KINDS = {'POINT': 'point', 'LINESTRING': 'line', 'MULTILINESTRING': 'line', 'POLYGON': 'polygon', 'MULTIPOLYGON': 'polygon'}
+
+
+# How many listings are asked for behind the lines of a script.
+LISTED = 3
 
 
 class Drawn(NamedTuple):
@@ -21,6 +28,7 @@ class Drawn(NamedTuple):
     of_class: str
     kind: str
     lists: list[list[Place]]
+    subtype: int = 0
 
     @property
     def frame(self) -> Frame:
@@ -45,28 +53,64 @@ class Scene(NamedTuple):
     errors: list[Marked]
     dirt: list[Frame]
     ending: Ending
+    names: Names = NO_NAMES
 
     def name_of(self, handle: int) -> str:
         """The id of a feature in its source, or its handle."""
-        return self.ending.origins.get(handle, Origin('')).id or str(handle)
+        return self.names.origin(handle, self.ending).id or str(handle)
+
+    def grounds(self) -> dict[int, Ground]:
+        """The ground of each coverage, by the rule whose errors tell of it."""
+        rules = [number for number, rule in self.ending.rules.items() if rule.word == WORD]
+        return {rule: ground_by([marked for marked in self.errors if marked.error.rule == rule]) for rule in rules}
+
+
+def ground_by(errors: list[Marked]) -> Ground:
+    borders: dict[Segment, set[int]] = {}
+    points: set[Point] = set()
+    for marked in errors:
+        points.update(stops_of(marked.error))
+        for side in marked.cover.lines:
+            borders.setdefault(side, set()).add(marked.error.subject)
+    return ground_of(borders, points)
 
 
 def drawn_of(line: str) -> Drawn:
-    _, handle, of_class, word, text = line.split(' ', 4)
+    _, handle, side, word, text = line.split(' ', 4)
     lists = re.findall(r'\(([-0-9 ,]+)\)', text)
-    return Drawn(int(handle), of_class, KINDS[word], [[tuple(map(int, place.split())) for place in each.split(',')] for each in lists])
+    of_class, subtype = named_by(side)
+    return Drawn(int(handle), of_class, KINDS[word], [[tuple(map(int, place.split())) for place in each.split(',')] for each in lists], subtype)
 
 
-def scene_of(program: list[str], script: bytes) -> Scene:
-    """Runs the script, and behind its lines the three listings."""
+def replies_to(program: list[str], script: bytes) -> tuple[bytes, bytes]:
+    """What is asked, a script and behind its lines the three listings, and the replies. A ReplyError where it is no script."""
+    if b'\0' in script:
+        raise ReplyError('this is no script: it has bytes that no script has')
     asked = script.rstrip(b'\n') + b'\nfeatures\ncells\ndirty\n'
-    replies = subprocess.run(program + ['replay'], input=asked, stdout=subprocess.PIPE).stdout
-    ending = Ending()
+    return asked, subprocess.run(program + ['replay'], input=asked, stdout=subprocess.PIPE).stdout
+
+
+def ending_after(asked: bytes, replies: bytes) -> Ending:
+    """What stands at the end. A ReplyError where no line could be done, or where there is none: a drawing of nothing would look as if all
+    were well."""
+    ending, last = Ending(), 0
     for answer in answers_of(io.BytesIO(asked), io.BytesIO(replies)):
         ending.take(answer)
+        last += bool(answer.reply)
+    if last == LISTED:
+        raise ReplyError('the script has no lines')
+    if ending.refused and not ending.changes:
+        raise ReplyError('this is no script: none of its lines could be done')
+    return ending
+
+
+def scene_of(program: list[str], script: bytes, names: Names = NO_NAMES) -> Scene:
+    """What the script leaves behind."""
+    ending = ending_after(*replies_to(program, script))
     features = [drawn_of(line) for line in ending.listings['features'].lines]
-    errors = [Marked(error, cover_of(closures_of(error))) for error in errors_of(ending.listings['cells'].lines)]
-    return Scene(features, errors, [tuple(map(int, line.split()[1:])) for line in ending.listings['dirty'].lines], ending)
+    errors = [Marked(error, cover_of_error(error)) for error in each_error(ending.listings['cells'].lines)]
+    dirt = [tuple(map(int, line.split()[1:])) for line in ending.listings['dirty'].lines]
+    return Scene(features, errors, dirt, ending, names)
 
 
 def box_of(scene: Scene) -> Frame:

@@ -1,26 +1,34 @@
-"""Features of a source as lines of a script: the lines, what was moved, split or left out, and the classes of layers."""
+"""Features of a source as shapes of a script: what was moved, split or left out, and the classes of layers."""
 from __future__ import annotations
 
-import functools
-import json
+import math
 import re
+import unicodedata
+from array import array
 from fractions import Fraction
-from typing import Iterator, NamedTuple, Optional
+from itertools import accumulate, chain, pairwise
+from operator import eq
+from typing import Iterable, NamedTuple, Optional, Union
 
+from .axes import Axis
 from .bodies import common
-from .grid import REACH, Grid, Place, decimal_text
-from .ogr import KINDS, Feature, Geometry, Layer, features_of, geometry_of, number_of
-from .shapes import Shape, fault_of, kept, segments_of, shape_text
+from .grid import FAR, REACH, Grid, decimal_text
+from .ogr import KINDS, Layer, words_of
+from .shapes import MOST_VERTICES, Flat, List, Shape, fault_of, flat_of, has_clash, kept, segments_of, sides_of
+from .wkb import Geometry, geometry_of, vertex_text, word_of
 
-EDITOR = 'import'
-MOST_BYTES = 268435456
-LISTINGS = ['validate all', 'cells', 'dirty']
+# Letters that no accent makes of one from A to Z, and how they are written without.
+LETTERS = str.maketrans({'ä': 'ae', 'ö': 'oe', 'ü': 'ue', 'Ä': 'Ae', 'Ö': 'Oe', 'Ü': 'Ue', 'ß': 'ss', 'æ': 'ae', 'Æ': 'Ae', 'œ': 'oe', 'Œ': 'Oe',
+                         'ø': 'o', 'Ø': 'O', 'đ': 'd', 'Đ': 'D', 'ł': 'l', 'Ł': 'L', 'þ': 'th', 'Þ': 'Th', 'ð': 'd', 'ı': 'i'})
+
+LEAST = {'point': 1, 'line': 2, 'polygon': 3}
+CURVES = re.compile('CIRCULAR|COMPOUND|CURVE|MULTICURVE|MULTISURFACE')
 
 
 class Taken(NamedTuple):
     """A shape of a feature, by how much its coordinates moved at most, and what else was done to it."""
 
-    shape: Shape
+    shape: Flat
     moved: Fraction
     notes: list[str]
 
@@ -29,9 +37,19 @@ class LeftOut(Exception):
     """Why a feature cannot be one of its class."""
 
 
+# The shapes of a feature: one, or of a multipoint one for each point; or why there is none.
+Outcome = Union[list[Taken], LeftOut]
+
+
+def transliterated(name: str) -> str:
+    """A name with its letters as those from A to Z, where they have such: ä as ae, é as e."""
+    plain = unicodedata.normalize('NFC', name).translate(LETTERS)
+    return ''.join(letter for letter in unicodedata.normalize('NFKD', plain) if not unicodedata.combining(letter))
+
+
 def class_name(layer: str, taken: set[str]) -> str:
     """A name of a class for a layer: letters, digits and _, a letter first, 32 at most, and none that is taken."""
-    name = re.sub(r'[^A-Za-z0-9_]', '_', layer)
+    name = re.sub(r'[^A-Za-z0-9_]', '_', transliterated(layer))
     name = (name if re.match('[A-Za-z]', name) else 'l' + name)[:32]
     number = 2
     while name in taken:
@@ -46,8 +64,7 @@ def kind_of_layer(layer: Layer) -> Optional[str]:
         return None
     if layer.type in KINDS:
         return KINDS[layer.type]
-    words = (feature.wkt.split(' ', 1)[0] for feature in features_of(layer))
-    return next((KINDS[word] for word in words if word in KINDS), 'polygon')
+    return next((KINDS[word] for word in words_of(layer) if word in KINDS), 'polygon')
 
 
 class Converter:
@@ -55,52 +72,75 @@ class Converter:
 
     def __init__(self, grid: Grid, is_bounded: bool = True):
         self.grid = grid
-        self.is_bounded = is_bounded
-        self.x = functools.lru_cache(1 << 17)(lambda text: grid.units(number_of(text), grid.x))
-        self.y = functools.lru_cache(1 << 17)(lambda text: grid.units(number_of(text), grid.y))
+        self.reach = REACH if is_bounded else FAR
+        self.x, self.y = Axis(grid.resolution, grid.x), Axis(grid.resolution, grid.y)
 
-    def place(self, position: tuple[str, str]) -> tuple[Place, Fraction]:
+    def outcomes(self, geometries: list[Optional[bytes]], kind: str) -> list[Outcome]:
+        """What becomes of features of a class of this kind, by the bytes of their geometries."""
+        return [self.outcome(data, kind) for data in geometries]
+
+    def outcome(self, data: Optional[bytes], kind: str) -> Outcome:
         try:
-            (x, of_x), (y, of_y) = self.x(position[0]), self.y(position[1])
-        except (ValueError, OverflowError):
-            raise LeftOut('its coordinate %s %s is no number' % position) from None
-        if self.is_bounded and max(abs(x), abs(y)) > REACH:
-            raise LeftOut('its vertex %s %s is beyond the reach of the grid' % position)
-        return (x, y), max(of_x, of_y) if of_x or of_y else of_x
+            return self.shapes(data, kind)
+        except LeftOut as why:
+            return why
 
     def point_text(self, place: tuple[Fraction, Fraction]) -> str:
         """A point of the plane, for reading."""
         return '%.10g %.10g' % tuple(map(float, self.grid.source_of(*place)))
 
-    def geometry(self, wkt: str, kind: str) -> Geometry:
+    def geometry(self, data: Optional[bytes], kind: str) -> Geometry:
         """The geometry of a feature, of the kind that its class has."""
-        if not wkt or wkt.endswith('EMPTY'):
+        geometry = geometry_of(data)
+        if geometry is None or geometry.is_empty:
             raise LeftOut('it is empty')
-        geometry, word = geometry_of(wkt), wkt.split(' ', 1)[0]
-        if re.match('CIRCULAR|COMPOUND|CURVE|MULTICURVE|MULTISURFACE', word):
+        word = geometry.word
+        if CURVES.match(word):
             raise LeftOut('%s may hold curves: write the source anew with ogr2ogr -nlt CONVERT_TO_LINEAR' % word)
-        if geometry is None or KINDS[geometry.word] != kind:
-            raise LeftOut('%s is no %s' % (word if geometry or word not in KINDS else 'a part that is empty', kind))
+        if KINDS.get(word) != kind:
+            raise LeftOut('%s is no %s' % (word, kind))
         return geometry
 
-    def shapes(self, wkt: str, kind: str) -> Iterator[Taken]:
-        """The shapes of a feature: one, or of a multipoint one for each point. LeftOut where it has none that is valid."""
-        geometry = self.geometry(wkt, kind)
+    def shapes(self, data: Optional[bytes], kind: str) -> list[Taken]:
+        """The shapes of a feature. LeftOut where it has none that is valid."""
+        geometry = self.geometry(data, kind)
         notes = ['its Z or M is left out'] if geometry.has_more else []
-        split = geometry.parts if kind == 'point' else [geometry.parts]
-        if kind == 'point':
-            split = [[part] for part in split]
-            notes += ['it is split into %d points' % len(split)] if len(split) > 1 else []
-        return iter([self.shape(parts, kind, notes) for parts in split])
+        if kind != 'point':
+            return [self.shape(geometry.parts, kind, notes)]
+        notes += ['it is split into %d points' % len(geometry.parts)] if len(geometry.parts) > 1 else []
+        return [self.shape([part], kind, notes) for part in geometry.parts]
 
-    def shape(self, parts: list, kind: str, notes: list[str]) -> Taken:
-        placed = [[[self.place(position) for position in each] for each in part] for part in parts]
-        moved = max((by for part in placed for each in part for _, by in each if by), default=Fraction(0))
-        shape = Shape(kind, [[kept([place for place, _ in each], kind == 'polygon') for each in part] for part in placed])
-        fault = fault_of(shape)
-        if fault:
-            raise LeftOut(self.fault_text(shape, fault))
-        return Taken(shape, moved, notes)
+    def shape(self, parts: list[list[array]], kind: str, notes: list[str]) -> Taken:
+        counts = [len(each) // 2 for part in parts for each in part]
+        numbers = parts[0][0] if len(counts) == 1 else array('d', chain.from_iterable(chain.from_iterable(parts)))
+        xs, ys = numbers[0::2].tolist(), numbers[1::2].tolist()
+        if not (all(map(math.isfinite, xs)) and all(map(math.isfinite, ys))):
+            self.refuse_vertex(xs, ys)
+        (across, of_x), (up, of_y) = self.x.lines(xs), self.y.lines(ys)
+        if max(max(across), max(up), -min(across), -min(up)) > self.reach:
+            self.refuse_vertex(xs, ys)
+        places = list(zip(across, up))
+        lists = iter([places[start:end] for start, end in pairwise(accumulate(counts, initial=0))])
+        return Taken(self.checked(Shape(kind, [[next(lists) for _ in part] for part in parts])), max(of_x, of_y), notes)
+
+    def refuse_vertex(self, xs: list[float], ys: list[float]) -> None:
+        """Raises a LeftOut that names the first vertex that is no number or beyond the reach."""
+        for x, y in zip(xs, ys):
+            if not (math.isfinite(x) and math.isfinite(y)):
+                raise LeftOut('its coordinate %s is no number' % vertex_text(x, y))
+            if max(abs(self.x.line_of(x)[0]), abs(self.y.line_of(y)[0])) > self.reach:
+                raise LeftOut('its vertex %s is beyond the reach of the grid' % vertex_text(x, y))
+
+    def checked(self, placed: Shape) -> Flat:
+        """The shape of these vertices as it is written, without those that say nothing."""
+        is_ring = placed.kind == 'polygon'
+        shape = Shape(placed.kind, [[said(each, is_ring) for each in part] for part in placed.parts])
+        lists = [each for part in shape.parts for each in part]
+        flat = flat_of(shape)
+        is_few = min(map(len, lists)) < LEAST[shape.kind]
+        if is_few or sum(map(len, lists)) > MOST_VERTICES or is_ring and has_clash(closed_sides(lists)):
+            raise LeftOut(self.fault_text(shape, fault_of(shape)))
+        return flat
 
     def fault_text(self, shape: Shape, fault: str) -> str:
         """Why the shape is not valid, in words, with the place in the source's coordinates."""
@@ -115,13 +155,16 @@ class Converter:
         return 'its segments %d and %d %s at %s' % (i, j, how, self.point_text(common(s, t)[0]))
 
 
-def remark_of(feature: Feature) -> str:
-    """The remark line before a feature's own, by which its number and its id in the source are found again."""
-    return '# fid %s%s' % (feature.fid, ' id ' + json.dumps(feature.id, ensure_ascii=False) if feature.id else '')
+def said(places: List, is_ring: bool) -> List:
+    """The vertices that say something; in a hurry where all do but the last one of a ring."""
+    if any(map(eq, places, places[1:])) or is_ring and places[0] != places[-1]:
+        return kept(places, is_ring)
+    return places[:-1] if is_ring else places
 
 
-def add_line(of_class: str, shape: Shape) -> str:
-    return 'by %s add %s %s' % (EDITOR, of_class, shape_text(shape))
+def closed_sides(rings: Iterable[List]) -> list[tuple[int, int, int, int]]:
+    """The sides of all rings."""
+    return [side for ring in rings for side in sides_of(ring + ring[:1])]
 
 
 def moved_text(moved: Fraction) -> str:

@@ -1,6 +1,8 @@
 """Shapes on the grid as topo takes them: their kept vertices, their faults, their text (docs/shapes.md)."""
 from __future__ import annotations
 
+import functools
+from itertools import chain
 from typing import Iterator, NamedTuple, Optional
 
 from .grid import Place
@@ -11,6 +13,9 @@ MOST_VERTICES = 2000
 List = list[Place]
 Part = list[List]
 Segment = tuple[Place, Place]
+Counts = tuple[tuple[int, ...], ...]
+# A side by the x and y of its lesser end, then of its greater one.
+Side = tuple[int, int, int, int]
 
 
 class Shape(NamedTuple):
@@ -18,6 +23,15 @@ class Shape(NamedTuple):
 
     kind: str
     parts: list[Part]
+
+
+class Flat(NamedTuple):
+    """A shape as it is written: for each part how many vertices each of its lists has, with the first vertex of a ring again at its end,
+    and x and y of all vertices in turn."""
+
+    kind: str
+    counts: Counts
+    numbers: list[int]
 
 
 def kept(vertices: List, is_ring: bool) -> List:
@@ -63,6 +77,33 @@ def first_clash(segments: list[Segment]) -> Optional[tuple[int, int, str]]:
     return min(((i, j, how) for i, j, how in clashes if how), default=None)
 
 
+def sides_of(places: List) -> list[Side]:
+    """The sides between the places of a list."""
+    return [(*p, *q) if p < q else (*q, *p) for p, q in zip(places, places[1:])]
+
+
+def has_clash(sides: list[Side]) -> bool:
+    """Whether two of the sides clash."""
+    sides = sorted(sides)
+    for at, (ax, ay, bx, by) in enumerate(sides, 1):
+        low, high = (ay, by) if ay <= by else (by, ay)
+        for cx, cy, dx, dy in sides[at:]:
+            if cx > bx:
+                break
+            if cy > high and dy > high or cy < low and dy < low:
+                continue
+            of_c = (bx - ax) * (cy - ay) - (by - ay) * (cx - ax)
+            of_d = (bx - ax) * (dy - ay) - (by - ay) * (dx - ax)
+            if of_c == 0 and of_d == 0 and max((ax, ay), (cx, cy)) < min((bx, by), (dx, dy)):
+                return True
+            if of_c < 0 < of_d or of_d < 0 < of_c:
+                of_a = (dx - cx) * (ay - cy) - (dy - cy) * (ax - cx)
+                of_b = (dx - cx) * (by - cy) - (dy - cy) * (bx - cx)
+                if of_a < 0 < of_b or of_b < 0 < of_a:
+                    return True
+    return False
+
+
 def fault_of(shape: Shape) -> Optional[str]:
     """Why topo would refuse the shape, as its details say it; none where it is valid."""
     lists = [each for part in shape.parts for each in part]
@@ -77,22 +118,29 @@ def fault_of(shape: Shape) -> Optional[str]:
     return '%s %d %d' % (clash[2], clash[0], clash[1]) if clash else None
 
 
-def envelope_of(shape: Shape) -> tuple[int, int, int, int]:
-    """The least rectangle that holds it: its least corner, then its greatest."""
-    xs, ys = zip(*(place for part in shape.parts for each in part for place in each))
-    return min(xs), min(ys), max(xs), max(ys)
+def flat_of(shape: Shape) -> Flat:
+    """The shape as it is written."""
+    lists = [[each + each[:1] if shape.kind == 'polygon' else each for each in part] for part in shape.parts]
+    numbers = chain.from_iterable(chain.from_iterable(chain.from_iterable(lists)))
+    return Flat(shape.kind, tuple(tuple(map(len, part)) for part in lists), list(numbers))
 
 
-def list_text(places: List) -> str:
-    return '(%s)' % ', '.join('%d %d' % place for place in places)
+@functools.lru_cache(1 << 14)
+def form_of(kind: str, counts: Counts) -> str:
+    """The written form of shapes with so many vertices, in well-known text, with room for their numbers."""
+    lists = [['(%s)' % ', '.join(['%d %d'] * count) for count in part] for part in counts]
+    if kind == 'point':
+        return 'POINT ' + lists[0][0]
+    if kind == 'line':
+        return 'LINESTRING ' + lists[0][0] if len(lists) == 1 else 'MULTILINESTRING (%s)' % ', '.join(part[0] for part in lists)
+    parts = ['(%s)' % ', '.join(part) for part in lists]
+    return 'POLYGON ' + parts[0] if len(parts) == 1 else 'MULTIPOLYGON (%s)' % ', '.join(parts)
+
+
+def flat_text(flat: Flat) -> str:
+    """Its written form, in well-known text."""
+    return form_of(flat.kind, flat.counts) % tuple(flat.numbers)
 
 
 def shape_text(shape: Shape) -> str:
-    """Its written form, in well-known text."""
-    if shape.kind == 'point':
-        return 'POINT ' + list_text(shape.parts[0][0])
-    if shape.kind == 'line':
-        lists = [list_text(part[0]) for part in shape.parts]
-        return 'LINESTRING ' + lists[0] if len(lists) == 1 else 'MULTILINESTRING (%s)' % ', '.join(lists)
-    parts = ['(%s)' % ', '.join(list_text(ring + ring[:1]) for ring in part) for part in shape.parts]
-    return 'POLYGON ' + parts[0] if len(parts) == 1 else 'MULTIPOLYGON (%s)' % ', '.join(parts)
+    return flat_text(flat_of(shape))

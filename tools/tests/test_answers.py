@@ -22,6 +22,7 @@ SAID = {
     'rule must_not_overlap lots': '`must_not_overlap` is no word of a rule; did you mean `polygon_must_not_overlap` or `line_must_not_overlap`? (the form is `rule WORD ORIGIN`)',
     'rule polygon_must_not_overlap_with lots': 'DEST is missing (the form is `rule WORD ORIGIN DEST`)',
     'rule polygon_must_not_overlap wells': 'the rule takes a class of polygons, and `wells` is of points',
+    'rule line_must_not_overlap lots': 'the rule takes a class of lines, and `lots` is of polygons; did you mean `polygon_must_not_overlap`?',
     'rule polygon_must_not_overlap lakes': 'there is no class `lakes`',
     'rule polygon_must_not_overlap lot': 'there is no class `lot`; did you mean `lots`?',
     'by ann ad lots POLYGON ((0 0, 1 0, 0 1, 0 0))': '`ad` is no word after an editor; did you mean `add`?',

@@ -57,7 +57,7 @@ class Changes(Case):
         for words, said in (((script('A', 'A'),), 'new.topo: two features of class lots have the id A'),
                             ((script('A', ''),), 'new.topo: a feature of class lots has no id'),
                             ((script('A', of_class='lakes'),), 'new.topo: the project has no class lakes'),
-                            ((script('A'), 'topology 2\n'), 'a.project is no saved project'),
+                            ((script('A'), 'topology 3\n'), 'a.project is no saved project'),
                             ((script('A'), PROJECT, 'id,handle\nA,1\n'), 'a.csv has not the columns ' + HEADER),
                             ((script('A'), PROJECT, TABLE.replace('B,lots', 'B,lakes')), 'a.csv: feature 2 is of class lots in the project: '
                                                                                          'the table is of another one')):

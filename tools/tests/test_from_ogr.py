@@ -1,5 +1,6 @@
 """tools/from-ogr: sources of three formats, real coordinates, what is moved, split and left out, and handles that hold."""
 import csv
+import os
 import random
 import re
 import unittest
@@ -7,7 +8,7 @@ from fractions import Fraction
 
 from lib.grid import Grid, GridError, chosen_grid, decimal_text, grid_of
 from lib.shapes import Shape, fault_of, kept, shape_text
-from working import Case, by_lines, polygon, rectangle
+from working import TOOLS, Case, by_lines, polygon, rectangle
 
 X, Y = 3499250.137, 5412300.021
 LOTS = [rectangle(X, Y, 3499260.137, 5412310.025), rectangle(3499260.137, Y, 3499270.637, 5412310.0205),
@@ -47,6 +48,74 @@ class Sources(Case):
         self.assertEqual(far.status, 1)
         self.assertIn('lots 1: left out: its vertex 3499250.1370000001 5412300.0209999997 is beyond the reach of the grid', far.told)
 
+    def test_a_source_in_degrees(self):
+        self.source('degrees.gpkg', [rectangle(9, 50, 9.01, 50.01)], '-a_srs', 'EPSG:4326')
+        done = self.tool('from-ogr', 'degrees.gpkg', '--grid', '0.001')
+        self.assertEqual((done.status, done.out), (2, ''))
+        self.assertIn('from-ogr: the coordinates are degrees, so one unit of this grid is about 111 m from south to north', done.told)
+        self.assertEqual(self.tool('from-ogr', 'degrees.gpkg', '--grid', '0.00001', '--degrees').status, 0)
+
+    def test_the_odd_coordinate_system_is_named(self):
+        for number in range(6):
+            self.source('six.gpkg', LOTS[:1], *(['-update'] if number else []), *(['-a_srs', 'EPSG:25832'] if number == 3 else []),
+                        layer='layer%d' % number)
+        done = self.tool('from-ogr', 'six.gpkg', '--grid', '0.01')
+        self.assertEqual(done.status, 2)
+        self.assertIn('from-ogr: layer layer3 has the coordinate system ETRS89 / UTM zone 32N, and the other 5 have DHDN / 3-degree Gauss-Kruger '
+                      'zone 3: bring them into one', done.told)
+
+    def test_a_class_of_several_layers_and_files(self):
+        self.source('north.gpkg', LOTS[:1], layer='lots')
+        self.source('south.gpkg', LOTS[1:2], layer='lots')
+        self.source('south.gpkg', LOTS[2:], '-update', layer='commons')
+        self.source('south.gpkg', [{'type': 'Point', 'coordinates': [X, Y]}], '-update', layer='wells')
+        words = ['north.gpkg', 'south.gpkg', '--grid', '0.01', '--id', 'nr', '--rule', 'polygon_must_not_overlap', 'parcels']
+        done = self.tool('from-ogr', *words, '--layer', 'lots=parcels', '--layer', 'commons=parcels')
+        self.assertEqual(done.status, 0, done.told)
+        lines = done.out.splitlines()
+        self.assertEqual([line for line in lines if line.startswith('class')], ['class parcels polygon'])
+        self.assertEqual([line for line in lines if line.startswith('# grid class')], ['# grid class parcels polygon lots north.gpkg',
+                         '# grid class parcels polygon lots south.gpkg', '# grid class parcels polygon commons south.gpkg'])
+        self.assertEqual(sum(line.startswith('by import add parcels ') for line in lines), 3)
+        mixed = self.tool('from-ogr', *words, '--layer', 'lots=parcels', '--layer', 'wells=parcels')
+        self.assertEqual((mixed.status, mixed.told), (2, 'from-ogr: layer wells has points, and the class parcels polygons of layer lots\n'))
+
+    def test_a_rule_of_the_wrong_kind(self):
+        self.source('roads.gpkg', [{'type': 'LineString', 'coordinates': [[X, Y], [X + 9, Y]]}], layer='roads')
+        done = self.tool('from-ogr', 'roads.gpkg', '--grid', '0.01', '--rule', 'polygon_must_not_overlap', 'roads')
+        self.assertEqual((done.status, done.told), (2, 'from-ogr: the rule polygon_must_not_overlap takes a class of polygons, and `roads` is of '
+                                                       'lines; did you mean `line_must_not_overlap`?\n'))
+        self.assertIn('no --rule is given', self.tool('from-ogr', 'roads.gpkg', '--grid', '0.01').told)
+
+    def test_subtypes(self):
+        """Numbers are the subtypes; words get numbers, which they keep; rules name either."""
+        self.source('kinds.gpkg', [rectangle(x, 0, x + 11, 10) for x in range(0, 40, 10)], layer='lots')
+        for column, values in (('code', "'N1' THEN 3 WHEN 'N2' THEN 255 WHEN 'N3' THEN 0"), ('use', "'N1' THEN 'farm' WHEN 'N2' THEN 'built' WHEN 'N3' THEN 'farm'")):
+            for asked in ('ALTER TABLE lots ADD COLUMN %s %s' % (column, 'INTEGER' if column == 'code' else 'TEXT'),
+                          'UPDATE lots SET %s = CASE nr WHEN %s END' % (column, values)):
+                self.assertEqual(self.run_words(['ogrinfo', '-q', 'kinds.gpkg', '-sql', asked]).status, 0)
+        words = ['kinds.gpkg', '--grid', '1', '--id', 'nr', '--table', 'ids.csv', '--rule', 'polygon_must_not_overlap']
+        done = self.tool('from-ogr', *words, 'lots:255', '--subtype', 'code')
+        self.assertEqual(re.findall(r'add (\S+)|rule \S+ (\S+)', done.out), [('', 'lots:255'), ('lots:3', ''), ('lots:255', ''), ('lots', ''), ('lots', '')])
+        self.assertEqual([row['class'] for row in self.table('ids.csv')], ['lots:3', 'lots:255', 'lots', 'lots'])
+        for reader in ('programs', 'bindings'):
+            done = self.run_words(['env', 'TOPO_READER=' + reader, os.path.join(TOOLS, 'from-ogr'), *words, 'lots:farm', '--subtype', 'lots', 'use'])
+            self.assertEqual(re.findall(r'add (\S+)|rule \S+ (\S+)', done.out), [('', 'lots:2'), ('lots:2', ''), ('lots:1', ''), ('lots:2', ''), ('lots', '')])
+            self.assertIn('# grid subtype lots 1 "built"\n# grid subtype lots 2 "farm"\n', done.out)
+        self.assertNotIn('refused', '\n'.join(self.replay(done.out)))
+        with open(self.path('first.topo'), 'w', encoding='utf-8') as out:
+            out.write(done.out)
+        self.assertEqual(self.run_words(['ogrinfo', '-q', 'kinds.gpkg', '-sql', "UPDATE lots SET use = 'acre' WHERE nr = 'N4'"]).status, 0)
+        done = self.tool('from-ogr', *words, 'lots:acre', '--subtype', 'use', '--subtypes-of', 'first.topo')
+        self.assertEqual(re.findall(r'add (\S+)|rule \S+ (\S+)', done.out), [('', 'lots:3'), ('lots:2', ''), ('lots:1', ''), ('lots:2', ''), ('lots:3', '')])
+        self.assertEqual(self.run_words(['ogrinfo', '-q', 'kinds.gpkg', '-sql', "UPDATE lots SET code = 256 WHERE nr = 'N4'"]).status, 0)
+        done = self.tool('from-ogr', *words, 'lots', '--subtype', 'code')
+        self.assertEqual((done.status, done.told), (2, 'from-ogr: class lots: a subtype is a number from 0 to 255, and there is 256\n'))
+
+    def table(self, name: str) -> list[dict[str, str]]:
+        with open(self.path(name), encoding='utf-8', newline='') as table:
+            return list(csv.DictReader(table))
+
     def test_an_extent_that_does_not_fit(self):
         source = self.source('d.gpkg', [rectangle(0, 0, 1, 1), rectangle(9000, 0, 9001, 1)])
         done = self.tool('from-ogr', source, '--grid', '0.001')
@@ -56,8 +125,8 @@ class Sources(Case):
     def test_layers_and_rules(self):
         self.source('e.gpkg', LOTS, layer='lots')
         self.source('e.gpkg', LOTS[:1], '-update', layer='Gebäude 2')
-        done = self.tool('from-ogr', 'e.gpkg', '--grid', '0.01', '--rule', 'polygon_must_not_overlap_with', 'lots', 'Geb_ude_2')
-        self.assertIn('layer Gebäude 2: its class is named Geb_ude_2', done.told)
+        done = self.tool('from-ogr', 'e.gpkg', '--grid', '0.01', '--rule', 'polygon_must_not_overlap_with', 'lots', 'Gebaeude_2')
+        self.assertIn('layer Gebäude 2: its class is named Gebaeude_2', done.told)
         self.assertEqual(self.replay(done.out)[-5:-2], ['ok judged 3 errors 1 dirty 0', 'error 1 1 4 cells %s' % self.frame(done.out), self.replay(done.out)[-3]])
         wrong = self.tool('from-ogr', 'e.gpkg', '--grid', '0.01', '--rule', 'polygon_must_not_overlapp', 'lots')
         self.assertEqual(wrong.status, 2)
@@ -68,7 +137,7 @@ class Sources(Case):
             text.write('POLYGON ((0 0, 9 0, 0 9, 0 0))\n')
         other = self.tool('from-ogr', 'lots.txt', '--grid', '0.01')
         self.assertEqual((other.status, other.out), (2, ''))
-        self.assertIn('from-ogr: GDAL cannot open this source: ogrinfo', other.told)
+        self.assertIn('from-ogr: GDAL cannot open this source: ', other.told)
         none = self.tool('from-ogr', 'e.gpkg', '--grid', '0.01', '--layer', 'streets')
         self.assertEqual((none.status, none.told), (2, "from-ogr: no layer 'streets'; there are lots, Gebäude 2\n"))
 

@@ -26,7 +26,8 @@ class Lapsed(Case):
 
     def test_what_lapses(self):
         self.reports()
-        expected = by_lines(HEADER, '1,polygon_must_not_overlap,1,2,cells,error,8,0,9,8', '1,polygon_must_not_overlap,2,3,cells,gone,18,0,19,9')
+        expected = by_lines(HEADER + ',why', '1,polygon_must_not_overlap,1,2,cells,error,8,0,9,8,its frame was 8 0 9 9',
+                            '1,polygon_must_not_overlap,2,3,cells,gone,18,0,19,9,there is no such error any more')
         self.assertEqual(tuple(self.tool('lapsed', 'a.csv', 'b.csv')), (0, expected, ''))
         self.assertEqual(tuple(self.tool('lapsed', 'a.csv', 'b.csv', '--marks')), (0, 'mark 1 1 2\n', ''))
 
@@ -39,7 +40,21 @@ class Lapsed(Case):
 
     def test_nothing_lapses(self):
         self.reports()
-        self.assertEqual(tuple(self.tool('lapsed', 'a.csv', 'a.csv')), (0, HEADER + '\n', ''))
+        self.assertEqual(tuple(self.tool('lapsed', 'a.csv', 'a.csv')), (0, HEADER + ',why\n', ''))
+
+    def test_why(self):
+        was = '1,polygon_must_not_overlap,%d,%d,cells,exception,0,0,1,1'
+        self.keep('a', by_lines(HEADER, was % (1, 2), was % (3, 4), was % (5, 6), was % (7, 8)))
+        now = was.replace('exception', 'error')
+        self.keep('b', by_lines(HEADER, now % (1, 2), now.replace('cells', 'whole') % (3, 4), now.replace('1,1', '2,1') % (5, 6)))
+        with open(self.path('edits'), 'w', encoding='utf-8') as edits:
+            edits.write(by_lines('begin import', 'by import change 1 POINT (0 0)', 'by import retype 4 2', 'by import delete 7', 'by import delete 8'))
+        rows = self.tool('lapsed', 'a.csv', 'b.csv', '--edits', 'edits').out.splitlines()[1:]
+        self.assertEqual([row.split(',', 10)[10].strip('"') for row in rows],
+                         ['its frame is the same, and its cells are others; its subject was changed',
+                          'it was of extent cells; its partner got another subtype',
+                          'its frame was 0 0 1 1; features beside it were edited, or a rule',
+                          'there is no such error any more; its subject was deleted, its partner was deleted'])
 
     def test_what_is_refused(self):
         record = '1,polygon_must_not_overlap,1,2,cells,exception,0,0,1,1'

@@ -45,6 +45,45 @@ REFUSED = {
     'topology 1/next 10/feature 9 a POINT (1 0)/end/': 'line 3 unknown',
 }
 
+# The lines of a project in format 2 behind its first two and the class line, with subtypes, and what is said of them.
+FEATURE = 'feature 1 a:%s POINT (0 0)'
+SIDES = 'rule 1 point_must_coincide_with %s %s'
+TYPED = {
+    FEATURE % '1': 'sound',
+    FEATURE % '255': 'sound',
+    FEATURE % '256': 'line 4 range',
+    FEATURE % '99999999999999999999': 'line 4 range',
+    FEATURE % '-5': 'line 4 range',
+    FEATURE % '0': 'line 4 form',
+    FEATURE % '-0': 'line 4 form',
+    FEATURE % '007': 'line 4 form',
+    FEATURE % '+1': 'line 4 form',
+    FEATURE % '': 'line 4 form',
+    FEATURE % '1:2': 'line 4 form',
+    FEATURE % '0x1': 'line 4 form',
+    'feature 1 :1 POINT (0 0)': 'line 4 form',
+    'feature 1 b:1 POINT (0 0)': 'line 4 unknown',
+    'feature 1 b:256 POINT (0 0)': 'line 4 range',
+    'feature 2 a:1 POINT (0 0)': 'line 4 range',
+    'feature 1 a:1 LINESTRING (0 0, 1 1)': 'line 4 unknown',
+    'feature 1 a:256 POINT (.5 0)': 'line 4 shape',
+    SIDES % ('a:1', 'a:2'): 'sound',
+    SIDES % ('a:0', 'a:2'): 'sound',
+    SIDES % ('a:0', 'a:255'): 'sound',
+    SIDES % ('a:0', 'a:256'): 'line 4 range',
+    SIDES % ('a:-1', 'b:2'): 'line 4 range',
+    SIDES % ('a:00', 'a:2'): 'line 4 form',
+    SIDES % ('a:1', 'a:'): 'line 4 form',
+    SIDES % ('a:1', 'b:2'): 'line 4 unknown',
+    SIDES % ('a', 'a:2'): 'line 4 unknown',
+    SIDES % ('a:2', 'a'): 'line 4 unknown',
+    SIDES % ('a:2', 'a:2'): 'line 4 unknown',
+    'rule 1 point_must_be_disjoint a:1 a:2': 'line 4 unknown',
+    'rule 1 point_must_be_disjoint a:1/rule 2 point_must_be_disjoint a': 'sound',
+    'rule 1 point_must_be_disjoint a:1/rule 2 point_must_be_disjoint a:1': 'line 5 order',
+    'class b:1 point': 'line 4 form',
+}
+
 # The lines between the first and the last, at a limit and beyond it. Where a cell is accepted, its error is not sound.
 RULED = 'next 2/class a line/rule %d line_must_not_overlap a'
 CELL = RULED % 1 + '/error 1 1 0 cells 0 0 0 0/cell %s >'
@@ -84,7 +123,7 @@ LIMITS = {
 LOTS = by_lines('class lots polygon', 'rule polygon_must_not_overlap lots', 'begin ann',
                 'by ann add lots POLYGON ((0 0, 10 0, 10 10, 0 10, 0 0))',
                 'by ann add lots POLYGON ((5 5, 15 5, 15 15, 5 15, 5 5))', 'validate all')
-SAVED = by_lines('topology 1', 'next 3', 'class lots polygon', 'rule 1 polygon_must_not_overlap lots',
+SAVED = by_lines('topology 2', 'next 3', 'class lots polygon', 'rule 1 polygon_must_not_overlap lots',
                  'feature 1 lots POLYGON ((0 0, 10 0, 10 10, 0 10, 0 0))', 'feature 2 lots POLYGON ((5 5, 15 5, 15 15, 5 15, 5 5))',
                  'error 1 1 2 cells 5 5 10 10',
                  'cell 1 0 0 >, -1 0 10 >, 0 10 0 >, 0 -10 100 >, 1 0 -5 >, -1 0 15 >, 0 10 -50 >, 0 -10 150 >', 'end')
@@ -195,11 +234,43 @@ class Refused(Kept):
                     self.assertEqual(self.topo(*words, script=LOTS), (6, 'project refused %s\n' % said, ''))
         self.assertEqual(os.listdir(self.folder), ['a.project'])
 
+    def checked(self, title: str, lines: str, said: str) -> None:
+        with self.subTest(title=title, lines=lines):
+            name = self.keep('a.project', by_lines(title, *lines.split('/'), 'end'))
+            self.assertIn(self.topo('check', name).out, (said + '\n', 'project refused %s\n' % said))
+
     def test_limits_of_a_text(self):
         for text, said in LIMITS.items():
-            with self.subTest(text=text):
-                name = self.keep('a.project', by_lines('topology 1', *text.split('/'), 'end'))
-                self.assertIn(self.topo('check', name).out, (said + '\n', 'project refused %s\n' % said))
+            self.checked('topology 1', text, said)
+            self.checked('topology 2', text, said)
+
+    def test_subtypes_of_a_text(self):
+        for text, said in TYPED.items():
+            lines = 'next 2/class a point/' + text
+            self.checked('topology 2', lines, said)
+            self.checked('topology 1', lines, 'line 4 form')
+
+    def test_format_1_is_opened_and_saved_in_format_2(self):
+        older = SAVED.replace('topology 2', 'topology 1')
+        name = self.keep('old', older)
+        self.assertEqual(self.topo('check', name), (0, 'sound\n', ''))
+        self.assertEqual(self.topo('report', name), (0, REPORT, ''))
+        self.assertEqual(self.topo('replay', name, 'new', script=''), (0, '', ''))
+        self.assertEqual(self.kept('new'), SAVED)
+        self.assertEqual(self.kept('old'), older)
+
+    def test_subtypes_are_saved_and_opened(self):
+        script = LOTS + by_lines('rule polygon_must_not_overlap_with lots:0 lots:7', 'by ann retype 2 7', 'validate all')
+        self.assertEqual(self.topo('replay', '-', 'town', script=script).status, 0)
+        text = self.kept('town')
+        self.assertIn('\nrule 2 polygon_must_not_overlap_with lots:0 lots:7\nfeature 1 lots POLYGON', text)
+        self.assertIn('\nfeature 2 lots:7 POLYGON', text)
+        self.assertEqual(self.topo('check', 'town'), (0, 'sound\n', ''))
+        self.assertEqual(self.topo('replay', 'town', 'again', script='rules\n').out,
+                         by_lines('rule 1 polygon_must_not_overlap lots', 'rule 2 polygon_must_not_overlap_with lots:0 lots:7', 'total 2'))
+        self.assertEqual(self.kept('again'), text)
+        name = self.keep('old', text.replace('topology 2', 'topology 1'))
+        self.assertEqual(self.topo('check', name), (6, 'project refused line 5 form\n', ''))
 
     def test_each_part_that_stops_early_is_short(self):
         for project, text in [('saved', SAVED)] + [(project, text_of(project)) for project in NAMES]:

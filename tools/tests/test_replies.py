@@ -68,6 +68,27 @@ class Tools(Case):
         self.assertGreater(sum(map(bool, sum(told, []))), 0.95 * len(texts) ** 2)
 
 
+class Subtypes(unittest.TestCase):
+    SCRIPT = by_lines('class lots polygon', 'rule polygon_must_not_overlap_with lots:2 lots:03', 'begin ann', '# fid 5 id "A"',
+                      'by ann add lots:2 POLYGON ((0 0, 9 0, 0 9, 0 0))', 'by ann add lots POLYGON ((0 0, 9 0, 0 9, 0 0))', 'by ann retype 2 3',
+                      'validate all', 'features', 'rules', 'errors')
+    REPLIES = by_lines('ok 1', 'ok 1', 'ok', 'ok 1', 'ok 2', 'ok', 'ok judged 1 errors 1 dirty 0', 'feature 1 lots:2 POLYGON ((0 0, 9 0, 0 9, 0 0))',
+                       'feature 2 lots:3 POLYGON ((0 0, 9 0, 0 9, 0 0))', 'total 2', 'rule 1 polygon_must_not_overlap_with lots:2 lots:3', 'total 1',
+                       'error 1 1 2 cells 0 0 9 9', 'total 1')
+
+    def test_features_and_sides(self):
+        ending = Ending()
+        for answer in answers_of(io.BytesIO(self.SCRIPT.encode()), io.BytesIO(self.REPLIES.encode())):
+            ending.take(answer)
+        self.assertEqual([origin.side for origin in ending.origins.values()], ['lots:2', 'lots:3'])
+        self.assertEqual((ending.origins[1].id, ending.rules[1].classes, ending.classes), ('A', {'lots'}, {'lots': 'polygon'}))
+
+    def test_what_a_line_can_have(self):
+        for line, reply, is_fit in (('by ann retype 2 255', 'ok', True), ('by ann retype 2 256', 'ok', False), ('by ann add lots:300 POINT (0 0)', 'ok 1', False),
+                                    ('by ann retype 2', 'ok', False), ('class lots:2 polygon', 'ok 1', False), ('by ann retype 9 1', 'refused E19', True)):
+            self.assertEqual(can_answer(line, [reply]), is_fit, line)
+
+
 class Forms(unittest.TestCase):
     def test_what_a_line_can_have(self):
         error, cell = 'error 1 2 0 cells 0 0 1 1', 'cell 1 0 -3 =, 0 1 -4 >='

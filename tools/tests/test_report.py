@@ -86,6 +86,50 @@ class Tables(Case):
         self.assertEqual(self.run_words([os.path.join(TOOLS, 'report'), script, '-'], replies.encode()).out, OVERLAP)
 
 
+TOWN = ['# grid resolution 0.5', '# grid origin 100 200', *LOTS[:2], 'rule polygon_must_not_overlap lots', 'begin ann', '# fid 7 id "A"',
+        'by ann add lots POLYGON ((0 0, 9 0, 9 9, 0 9, 0 0))', 'by ann add lots POLYGON ((7 0, 12 0, 12 4, 7 4, 7 0))', 'validate all', 'cells']
+WIDE = HEADER[:-1] + ',class,other_class,subject_fid,subject_id,other_fid,other_id,west,south,east,north,area,length'
+OF_CELLS = '1,polygon_must_not_overlap,1,2,cells,error,7,0,9,4,lots,lots,'
+
+
+class Wide(Case):
+    def report(self, *words: str, table: str = '') -> tuple[int, list[str], str]:
+        """The table of two lots that overlap, with these words for the tool."""
+        with open(self.path('names.csv'), 'w', encoding='utf-8') as out:
+            out.write(table)
+        done = self.tool('report', *self.replayed('s', by_lines(*TOWN)), *words)
+        return done.status, done.out.splitlines(), done.told
+
+    def test_ids_places_and_sizes(self):
+        self.assertEqual(self.report('--wide'), (0, [WIDE, OF_CELLS + '7,A,,,103.5,200,104.5,202,2,'], ''))
+
+    def test_a_table_of_from_ogr_and_one_of_your_own(self):
+        table = 'layer,fid,id,class,handle,moved,note\nlots,8,B,lots,2,,\nlots,9,C,lots,,,it is empty\n'
+        self.assertEqual(self.report('--table', 'names.csv', table=table), (0, [WIDE, OF_CELLS + '7,A,8,B,103.5,200,104.5,202,2,'], ''))
+        head, row = self.report('--table', 'names.csv', '--semicolon', table='handle;owner\n2;"Dorn; Abt"\n')[1]
+        self.assertEqual((head.split(';')[-2:], row[-14:]), (['subject_owner', 'other_owner'], ';2;;;"Dorn; Abt"'[-14:]))
+
+    def test_cells_that_a_spreadsheet_takes_for_formulas(self):
+        said = "report: fields that a spreadsheet may take for formulas, since they begin with =, +, - or @: 1; --safe puts a ' before them\n"
+        table = 'handle,id,height\n2,=cmd(),-1.5\n'
+        for words, id, told in ((['--table', 'names.csv'], '=cmd()', said), (['--table', 'names.csv', '--safe'], "'=cmd()", '')):
+            self.assertEqual(self.report(*words, table=table), (0, [WIDE + ',subject_height,other_height',
+                             OF_CELLS + '7,A,,%s,103.5,200,104.5,202,2,,,-1.5' % id], told))
+
+    def test_tables_that_are_none(self):
+        for table, said in (('a,b\n1,2\n', 'names.csv has no column `handle`: it is not the table of from-ogr --table'),
+                            ('handle,id\n1,A\n1,B\n', 'names.csv: the handle 1 is there twice'), ('handle,id\nx,A\n', 'names.csv: x is no handle'),
+                            ('handle,id\n1\n', 'names.csv: row 1 has not as many cells as there are columns')):
+            self.assertEqual(self.report('--table', 'names.csv', table=table), (2, [], 'report: %s\n' % said))
+
+    def test_refused_lines_are_told(self):
+        script, replies = self.replayed('s', by_lines(*TOWN[:-2], 'by ann add lots POLYGON ((0 0, 9 9, 9 0, 0 9, 0 0))', 'validate all', 'cells', 'dirty'))
+        done = self.tool('report', script, replies)
+        self.assertEqual((done.status, len(done.out.splitlines()), done.told), (1, 2, 'report: %s: refused lines: 1\n' % script))
+        done = self.tool('to-gis', script, replies, 'out')
+        self.assertEqual((done.status, done.told.splitlines()[0]), (1, '%s: refused lines: 1; tools/answers says which' % script))
+
+
 class Replies(Case):
     def report(self, script: str, replies: str) -> tuple[int, str, str]:
         for name, text in (('s.topo', script), ('s.replies', replies)):

@@ -82,18 +82,21 @@ class Ends(Case):
 
     @unittest.skipUnless(shutil.which('snakemake'), 'snakemake is not installed')
     def test_the_snakefile(self):
-        self.source('four.gpkg', [rectangle(x, 0, x + 11, 10) for x in range(0, 40, 10)], layer='lots')
+        crossed = {'type': 'Polygon', 'coordinates': [[[90, 0], [99, 9], [99, 0], [90, 9], [90, 0]]]}
+        self.source('four lots.gpkg', [rectangle(x, 0, x + 11, 10) for x in range(0, 40, 10)] + [crossed], layer='my lots')
         root = os.path.dirname(TOOLS)
         with open(self.path('topo'), 'w', encoding='utf-8') as out:
             out.write('#!/bin/sh\nexec %s "$@"\n' % shlex.join(PROGRAM))
         os.chmod(self.path('topo'), 0o755)
-        done = self.run_words(['snakemake', '-s', os.path.join(root, 'examples', 'Snakefile'), '--cores', '2', '--config', 'source=four.gpkg',
-                               'grid=1', 'tiles=2', 'tools=' + TOOLS, 'rules=polygon_must_not_overlap lots'])
+        done = self.run_words(['snakemake', '-s', os.path.join(root, 'examples', 'Snakefile'), '--cores', '2', '--config', 'source=four lots.gpkg',
+                               'grid=1', 'tiles=2', 'tools=' + TOOLS, 'layers=my lots=lots', 'rules=polygon_must_not_overlap lots'])
         self.assertEqual(done.status, 0, done.told)
         with open(self.path('tiles/errors.txt'), encoding='utf-8') as errors:
             self.assertEqual([line.split(' cells')[0] for line in errors if not line.startswith('cell')],
                              ['error 1 1 2', 'error 1 2 3', 'error 1 3 4', 'total 3\n'])
         self.assertEqual(self.rows('tiles/errors.gpkg', 'SELECT count(*) AS n FROM error_polygons'), [{'n': 3}])
+        with open(self.path('tiles/split.log'), encoding='utf-8') as log:
+            self.assertIn('my lots 5: left out: ', log.read())
 
 
 

@@ -5,11 +5,11 @@ import random
 import unittest
 from fractions import Fraction
 
-from lib.cells import corners_of, cover_of
+from lib.cells import corners_of, cover_of, cover_of_error
 from lib.maps import Rounding, are_valid, geometries_of
 from lib.grid import Grid
 from lib.outlines import doubled_area, outlines_of
-from lib.replies import half_of
+from lib.replies import Error, Half, half_of
 from working import TOOLS, Case, by_lines, rectangle
 
 UNIT = Grid(Fraction(1), Fraction(0), Fraction(0))
@@ -79,6 +79,38 @@ class Layers(Case):
         found = self.errors('by a add wells POINT (3 4)', 'by a add wells POINT (3 4)', 'validate all', 'errors')
         self.assertEqual([each['properties']['drawn'] for each in found['error_points']], ['frame'])
 
+    def test_where_no_errors_are_listed_nothing_is_made(self):
+        for lines in (['class lots polygon'], ['class lots polygon', 'dirty']):
+            script, replies = self.replayed('s', by_lines(*lines))
+            for out in ('out', 'out.gpkg'):
+                done = self.tool('to-gis', script, replies, out)
+                self.assertEqual((done.status, done.told.splitlines()[-1]),
+                                 (2, 'to-gis: %s lists no errors: end it with the lines `cells` and `dirty`' % script))
+                self.assertFalse(os.path.exists(self.path(out)))
+
+    def test_ids_of_a_table_and_sizes(self):
+        script, replies = self.replayed('s', by_lines('# grid resolution 0.5', '# grid origin 0 0', 'class lots polygon', 'rule polygon_must_not_overlap lots', 'begin a',
+                                                      '# fid 7 id "A"', 'by a add lots POLYGON ((0 0, 9 0, 9 9, 0 9, 0 0))',
+                                                      'by a add lots POLYGON ((7 0, 12 0, 12 4, 7 4, 7 0))', 'validate all', 'cells', 'dirty'))
+        with open(self.path('names.csv'), 'w', encoding='utf-8') as out:
+            out.write('handle,fid,id,owner\n2,8,B,Dorn\n')
+        for out in ('out.gpkg', 'out/error_polygons.geojson'):
+            self.assertEqual(self.tool('to-gis', script, replies, out.split('/')[0], '--table', 'names.csv').status, 0)
+            asked = 'SELECT subject_fid, subject_id, other_fid, other_id, subject_owner, other_owner, area FROM error_polygons'
+            self.assertEqual(self.rows(out, asked), [{'subject_fid': 7, 'subject_id': 'A', 'other_fid': 8, 'other_id': 'B', 'subject_owner': None,
+                                                      'other_owner': 'Dorn', 'area': 2}])
+
+    def test_an_older_output_stays_where_nothing_can_be_made(self):
+        good, bad = self.replayed('good', 'class lots polygon\nerrors\ndirty\n'), self.replayed('bad', 'class lots polygon\ndirty\n')
+        for out in ('out/error_lines.geojson', 'out.gpkg'):
+            self.assertEqual(self.tool('to-gis', *good, out.split('/')[0]).status, 0)
+            with open(self.path(out), 'rb') as file:
+                before = file.read()
+            self.assertEqual(self.tool('to-gis', *bad, out.split('/')[0]).status, 2)
+            with open(self.path(out), 'rb') as file:
+                self.assertEqual(file.read(), before)
+            self.assertEqual([name for name in os.listdir(self.folder) if name.startswith('.')], [])
+
     def test_replies_of_another_script(self):
         script, replies = self.replayed('s', 'class lots polygon\nclass more polygon\n')
         with open(script, 'a', encoding='utf-8') as out:
@@ -96,13 +128,43 @@ class Overlaps(Case):
             lines.append('by a add lots POLYGON (%s)' % ', '.join('(%s)' % ', '.join('%d %d' % p for p in ring + ring[:1]) for ring in rings))
         script, replies = self.replayed('s', by_lines(*lines, 'validate 0 0 7 7', 'cells', 'dirty'))
         done = self.tool('to-gis', script, replies, 'out.gpkg')
-        self.assertEqual(done.status, 0, done.told)
+        self.assertEqual(done.status, 1, done.told)
         self.tool('to-gis', script, replies, 'cells.gpkg', '--cells')
         asked = 'SELECT count(*) AS n, sum(ST_IsValid(geom)) AS good, sum(ST_Area(geom)) AS area FROM error_polygons'
         whole, by_cell = self.rows('out.gpkg', asked)[0], self.rows('cells.gpkg', asked)[0]
         self.assertGreater(whole['n'], 100)
         self.assertEqual((whole['n'], by_cell['n']), (whole['good'], by_cell['good']))
         self.assertAlmostEqual(whole['area'], by_cell['area'], 6)
+
+
+def cell_of(text: str) -> list[Half]:
+    return [half_of(half) for half in text.split(', ')]
+
+
+def in_the_plane(cell: list[Half]) -> list[Half]:
+    """The same cell, with each equation as two half-planes: so it is clipped as one that may have an area."""
+    both = lambda a, b, c, op: [(a, b, c, '>='), (-a, -b, -c, '>=')] if op == '=' else [(a, b, c, op)]
+    return [half for each in cell for half in both(*each)]
+
+
+class Lines(unittest.TestCase):
+    def error(self, lot: random.Random) -> Error:
+        """An error whose cells lie on few lines, through few places."""
+        number = lambda: lot.randint(-3, 3)
+        line = lambda: (*lot.choice([(1, 0), (0, 1), (1, 1), (2, -1), (-2, 4), (0, -3), (-1, 0)]), number(), '=')
+        cells = [[line()] + [(number(), number(), number(), lot.choice(['>', '>=', '='])) for _ in range(lot.randint(0, 4))]
+                 for _ in range(lot.randint(1, 6))]
+        return Error('error', 1, 1, 2, 'cells', (number() - 4, number() - 4, number() + 4, number() + 4), [lot.sample(cell, len(cell)) for cell in cells])
+
+    def test_cells_on_lines_cover_what_they_cover_in_the_plane(self):
+        lot, kinds = random.Random(5), [0, 0]
+        for _ in range(1500):
+            error = self.error(lot)
+            cover = cover_of_error(error)
+            by_plane = cover_of([corners for cell in error.cells if (corners := corners_of(error.frame, in_the_plane(cell)))])
+            self.assertEqual(cover, by_plane, error)
+            kinds = [kinds[0] + len(cover.lines), kinds[1] + len(cover.points)]
+        self.assertGreater(min(kinds), 500)
 
 
 class Outlines(unittest.TestCase):
@@ -115,15 +177,14 @@ class Outlines(unittest.TestCase):
         self.assertEqual(area, 14)
 
     def test_a_wall_beside_a_column_and_one_within(self):
-        frame, cell = (0, 0, 9, 9), lambda text: [half_of(half) for half in text.split(', ')]
         texts = '1 0 0 >, -1 0 4 >, 0 1 0 >, 0 -1 4 >', '1 0 -4 =, 0 1 0 >, 0 -1 6 >', '1 0 -2 =, 0 1 0 >, 0 -1 4 >', '1 0 -4 =, 0 1 -5 ='
-        cover = cover_of([corners_of(frame, cell(text)) for text in texts])
+        cover = cover_of([corners_of((0, 0, 9, 9), cell_of(text)) for text in texts])
         self.assertEqual([len(cover.polygons), cover.lines, cover.points], [1, [((4, 4), (4, 6))], []])
 
     def test_a_sliver_too_thin_for_double_precision(self):
         far = Grid(Fraction(1), Fraction(2) ** 52, Fraction(2) ** 52)
-        thin = [(Fraction(0), Fraction(0)), (Fraction(9), Fraction(0)), (Fraction(9), Fraction(1, 3)), (Fraction(0), Fraction(1, 3))]
-        found, as_asked = geometries_of([thin], Rounding(far), False)
+        thin = Error('error', 1, 1, 2, 'cells', (0, 0, 9, 1), [cell_of('1 0 0 >, -1 0 9 >, 0 1 0 >, 0 -3 1 >')])
+        found, as_asked = geometries_of(thin, Rounding(far), False)
         self.assertEqual(([geometry.kind for _, geometry in found], as_asked), (['line'], False))
         self.assertFalse(are_valid([[[(0.0, 0.0), (4.0, 0.0), (4.0, 4.0), (2.0, 0.0)]]]))
 

@@ -10,7 +10,7 @@ import unittest
 from typing import NamedTuple
 
 TOOLS = os.path.dirname(os.path.dirname(os.path.abspath(__file__)))
-PROGRAM = os.environ.get('TOPO', os.path.join(os.path.dirname(TOOLS), 'topo')).split('\n')
+PROGRAM = os.environ.get('TOPO', os.path.join(os.path.dirname(TOOLS), '.build', 'topo')).split('\n')
 
 
 class Done(NamedTuple):

@@ -1,15 +1,16 @@
 -- What is refused leaves the state, and what is done is the command's.
-use Rattle.std.proofs.Common.{◌≡◌, ◌⊎◌, inl, inr, ℕ, ◌+◌, ◌-◌, ◌≤◌, ◌<◌, ap, ◌∙◌, Bool, true, false, List, [], ◌∷◌, length, Option, Some, None, refl, arith}
-use Rattle.std.specs.Prelude.{not, IsSomeAnd}
+use Rattle.std.proofs.Common.{◌≡◌, ◌⊎◌, inl, inr, ℕ, ◌+◌, ◌-◌, ◌≤◌, ◌<◌, ap, ◌∙◌, Bool, true, false, List, [], ◌∷◌, length, Option, Some, None, refl, sym, if◌then◌else◌, arith}
+use Rattle.std.specs.Prelude.{not, IsSomeAnd, unwrap_or, bytes_eq}
 use Rattle.plane_terms.specs.Lists.{Every}
 use Rattle.plane_terms.specs.Rectangle.{Rectangle}
 use Rattle.plane_terms.specs.Shape.{Shape}
 use Rattle.plane_terms.specs.declared.kind.Kind.{Kind}
 use Rattle.rule_words.specs.declared.rule_kind.RuleKind.{RuleKind}
-use Rattle.topology_terms.specs.Changes.{IsClassAdded, IsFeatureAdded, IsFeatureSet, IsRuleAdded, IsRuleDropped, reshaped}
+use Rattle.topology_terms.specs.Changes.{IsClassAdded, IsFeatureAdded, IsFeatureSet, IsRuleAdded, IsRuleDropped, reshaped, retyped}
 use Rattle.topology_terms.specs.Causes.{Tells, when, first_of, class_cause, add_cause, change_cause, delete_cause, rule_cause, drop_cause}
-use Rattle.topology_terms.specs.Feature.{Feature, feature_at}
-use Rattle.topology_terms.specs.Lookups.{class_number}
+use Rattle.topology_terms.specs.Feature.{Class as AClass, Feature, feature_at}
+use Rattle.topology_terms.specs.Lookups.{number_from, class_number}
+use Rattle.topology_terms.specs.Project.{Project}
 use Rattle.topology_terms.specs.Poster.{poster}
 use Rattle.topology_terms.specs.Session.{holder}
 use Rattle.topology_terms.specs.Settled.{IsValidatedBy}
@@ -19,7 +20,7 @@ use Rattle.topology_terms.specs.Counts.{raised, judged_of}
 use Rattle.feature_store.specs.Keeps.{IsGiven}
 use Rattle.topo_core.specs.Steps.{IsCounted}
 use Rattle.topo_core.specs.Topologies.{IsTopology}
-use Rattle.line_terms.specs.Commands.{Command, Class, Rule, DropRule, Add, Change as AChange, Delete, Validate}
+use Rattle.line_terms.specs.Commands.{Sided, Command, Class, Rule, DropRule, Add, Change as AChange, Delete, Retype, Validate}
 use Rattle.script_terms.specs.Refusal.{Refusal, NoSession, Change}
 use Rattle.script_terms.specs.Reply.{Reply, Done, Number, Judged, Refused}
 use Rattle.script_terms.specs.State.{State, is_open}
@@ -50,9 +51,10 @@ only None = refl
 only (Some r) = refl
 
 -- ---- a line that adds a feature, changes or deletes one, puts a rule in force
-add_refusal : (s : State) (editor class : List ℕ) (shape : Shape) (n : ℕ) → is_open s editor ≡ true → class_number s.project class ≡ Some n
-    → refusal_of s (Add editor class shape) ≡ changes (add_cause s.project.classes s.project.next n shape.kind)
-add_refusal s editor class shape n opened named =
+add_refusal : (s : State) (editor : List ℕ) (own : Sided) (shape : Shape) (n : ℕ) → is_open s editor ≡ true
+    → class_number s.project own.name ≡ Some n
+    → refusal_of s (Add editor own shape) ≡ changes (add_cause s.project.classes s.project.next n shape.kind)
+add_refusal s editor own shape n opened named =
     rw (opened, named) (only (changes (add_cause s.project.classes s.project.next n shape.kind)))
 
 -- an edit is refused as a deletion is, and then for its own cause
@@ -80,11 +82,15 @@ change_stopped s editor h shape r e = refused s s (AChange editor h shape) (Refu
     (edit_stopped (when (not (is_open s editor)) NoSession) (changes (delete_cause s.project.features h)) (held_by (holder s.sessions h) editor)
     (changes (change_cause s.project.features h shape.kind)) r e) refl refl
 
+pub retype_stopped : (s : State) (editor : List ℕ) (h t : ℕ) (r : Refusal) → refusal_of s (Delete editor h) ≡ Some r
+    → Answers s (Retype editor h t) (Refused r) s
+retype_stopped s editor h t r e = refused s s (Retype editor h t) (Refused r) r e refl refl
+
 pub delete_stopped : (s : State) (editor : List ℕ) (h : ℕ) (r : Refusal) → refusal_of s (Delete editor h) ≡ Some r
     → Answers s (Delete editor h) (Refused r) s
 delete_stopped s editor h r e = refused s s (Delete editor h) (Refused r) r e refl refl
 
-rule_refusal : (s : State) (k : RuleKind) (origin : List ℕ) (dest : Option (List ℕ)) → is_nowhere s.project dest ≡ false
+rule_refusal : (s : State) (k : RuleKind) (origin : Sided) (dest : Option Sided) → is_nowhere s.project dest ≡ false
     → refusal_of s (Rule k origin dest) ≡ changes (rule_cause s.project (row_of s.project k origin dest))
 rule_refusal s k origin dest there = rw there (only (changes (rule_cause s.project (row_of s.project k origin dest))))
 
@@ -95,14 +101,14 @@ pub class_added : (s t : State) (name : List ℕ) (k : Kind) (n : ℕ) → class
 class_added s t name k n may number h same = did s t (Class name k) (Number n) (class_cause s.project.classes name) refl may
     (ap Number number, record { project = h; sessions = same })
 
-pub feature_added : (s t : State) (editor class : List ℕ) (shape : Shape) (n h : ℕ) → is_open s editor ≡ true
-    → class_number s.project class ≡ Some n
-    → add_cause s.project.classes s.project.next n shape.kind ≡ None → LeavesNoted editor (added_step h n shape) (IsFeatureAdded n shape h)
-    s t
-    → Answers s (Add editor class shape) (Number h) t
-feature_added s t editor class shape n h opened named may more =
-    did s t (Add editor class shape) (Number h) (add_cause s.project.classes s.project.next n shape.kind)
-    (add_refusal s editor class shape n opened named) may
+pub feature_added : (s t : State) (editor : List ℕ) (own : Sided) (shape : Shape) (n h : ℕ) → is_open s editor ≡ true
+    → class_number s.project own.name ≡ Some n
+    → add_cause s.project.classes s.project.next n shape.kind ≡ None
+    → LeavesNoted editor (added_step h n (unwrap_or own.subtype 0) shape) (IsFeatureAdded n (unwrap_or own.subtype 0) shape h) s t
+    → Answers s (Add editor own shape) (Number h) t
+feature_added s t editor own shape n h opened named may more =
+    did s t (Add editor own shape) (Number h) (add_cause s.project.classes s.project.next n shape.kind)
+    (add_refusal s editor own shape n opened named) may
     (h, refl, rw named more)
 
 pub feature_changed : (s t : State) (editor : List ℕ) (h : ℕ) (shape : Shape) → refusal_of s (Delete editor h) ≡ None
@@ -117,7 +123,12 @@ pub feature_deleted : (s t : State) (editor : List ℕ) (h : ℕ) → refusal_of
     → LeavesNoted editor (set_step s.project h None) (IsFeatureSet h None) s t → Answers s (Delete editor h) Done t
 feature_deleted s t editor h free k = done s t (Delete editor h) Done free (refl, k)
 
-pub rule_added : (s t : State) (k : RuleKind) (origin : List ℕ) (dest : Option (List ℕ)) (n : ℕ) → is_nowhere s.project dest ≡ false
+pub feature_retyped : (s t : State) (editor : List ℕ) (h u : ℕ) → refusal_of s (Delete editor h) ≡ None
+    → (let after = retyped (feature_at s.project.features h) u in LeavesNoted editor (set_step s.project h after)
+    (IsFeatureSet h after) s t) → Answers s (Retype editor h u) Done t
+feature_retyped s t editor h u free k = done s t (Retype editor h u) Done free (refl, k)
+
+pub rule_added : (s t : State) (k : RuleKind) (origin : Sided) (dest : Option Sided) (n : ℕ) → is_nowhere s.project dest ≡ false
     → rule_cause s.project (row_of s.project k origin dest) ≡ None → IsRuleAdded n (row_of s.project k origin dest) s.project t.project
     → t.sessions ≡ s.sessions
     → Answers s (Rule k origin dest) (Number n) t
@@ -131,17 +142,17 @@ pub class_refused : (s t : State) (name : List ℕ) (k : Kind) (o : Option Cause
     → IsSomeAnd o (λ x. reply ≡ Refused (Change x)) → t ≡ s → Answers s (Class name k) reply t
 class_refused s t name k o reply tells said same = told s t (Class name k) reply o (class_cause s.project.classes name) refl tells said same
 
-pub no_session : (s t : State) (editor class : List ℕ) (shape : Shape) → is_open s editor ≡ false → t ≡ s
-    → Answers s (Add editor class shape) (Refused NoSession) t
-no_session s t editor class shape opened same = refused s t (Add editor class shape) (Refused NoSession) NoSession (rw opened refl) refl
+pub no_session : (s t : State) (editor : List ℕ) (own : Sided) (shape : Shape) → is_open s editor ≡ false → t ≡ s
+    → Answers s (Add editor own shape) (Refused NoSession) t
+no_session s t editor own shape opened same = refused s t (Add editor own shape) (Refused NoSession) NoSession (rw opened refl) refl
     same
 
-pub add_refused : (s t : State) (editor class : List ℕ) (shape : Shape) (n : ℕ) (o : Option Cause) (reply : Reply) → is_open s editor ≡ true
-    → class_number s.project class ≡ Some n → Tells o (add_cause s.project.classes s.project.next n shape.kind)
-    → IsSomeAnd o (λ x. reply ≡ Refused (Change x)) → t ≡ s → Answers s (Add editor class shape) reply t
-add_refused s t editor class shape n o reply opened named tells said same =
-    told s t (Add editor class shape) reply o (add_cause s.project.classes s.project.next n shape.kind)
-    (add_refusal s editor class shape n opened named) tells said same
+pub add_refused : (s t : State) (editor : List ℕ) (own : Sided) (shape : Shape) (n : ℕ) (o : Option Cause) (reply : Reply)
+    → is_open s editor ≡ true → class_number s.project own.name ≡ Some n → Tells o (add_cause s.project.classes s.project.next n shape.kind)
+    → IsSomeAnd o (λ x. reply ≡ Refused (Change x)) → t ≡ s → Answers s (Add editor own shape) reply t
+add_refused s t editor own shape n o reply opened named tells said same =
+    told s t (Add editor own shape) reply o (add_cause s.project.classes s.project.next n shape.kind)
+    (add_refusal s editor own shape n opened named) tells said same
 
 pub change_refused : (s t : State) (editor : List ℕ) (h : ℕ) (shape : Shape) (o : Option Cause) (reply : Reply)
     → refusal_of s (Delete editor h) ≡ None
@@ -164,7 +175,13 @@ pub delete_refused : (s t : State) (editor : List ℕ) (h : ℕ) (o : Option Cau
 delete_refused s t editor h None reply free tells said same = absurd said
 delete_refused s t editor h (Some x) reply free tells said same = let none = deletes s editor h free in absurd cc
 
-pub rule_refused : (s t : State) (k : RuleKind) (origin : List ℕ) (dest : Option (List ℕ)) (o : Option Cause) (reply : Reply)
+pub retype_refused : (s t : State) (editor : List ℕ) (h u : ℕ) (o : Option Cause) (reply : Reply) → refusal_of s (Delete editor h) ≡ None
+    → Tells o (delete_cause s.project.features h) → IsSomeAnd o (λ x. reply ≡ Refused (Change x)) → t ≡ s
+    → Answers s (Retype editor h u) reply t
+retype_refused s t editor h u None reply free tells said same = absurd said
+retype_refused s t editor h u (Some x) reply free tells said same = let none = deletes s editor h free in absurd cc
+
+pub rule_refused : (s t : State) (k : RuleKind) (origin : Sided) (dest : Option Sided) (o : Option Cause) (reply : Reply)
     → is_nowhere s.project dest ≡ false → Tells o (rule_cause s.project (row_of s.project k origin dest))
     → IsSomeAnd o (λ x. reply ≡ Refused (Change x)) → t ≡ s → Answers s (Rule k origin dest) reply t
 rule_refused s t k origin dest o reply there tells said same =
@@ -181,8 +198,8 @@ pub no_rule : (s t : State) (n : ℕ) → drop_cause s.project.rules n ≡ Some 
 no_rule s t n none same = refused s t (DropRule n) (Refused (Change cause.NoRule)) (Change cause.NoRule) (ap changes none) refl same
 
 -- a class that a line names is not there: no class has the number 0
-pub no_class : (s t : State) (k : RuleKind) (origin : List ℕ) (dest : Option (List ℕ))
-    → (class_number s.project origin ≡ None) ⊎ (is_nowhere s.project dest ≡ true) → t ≡ s
+pub no_class : (s t : State) (k : RuleKind) (origin : Sided) (dest : Option Sided)
+    → (class_number s.project origin.name ≡ None) ⊎ (is_nowhere s.project dest ≡ true) → t ≡ s
     → Answers s (Rule k origin dest) (Refused (Change cause.NoClass)) t
 no_class s t k origin dest lacks same = by (is_nowhere s.project dest) refl lacks
   where
@@ -190,11 +207,24 @@ no_class s t k origin dest lacks same = by (is_nowhere s.project dest) refl lack
         t
     says e = refused s t (Rule k origin dest) (Refused (Change cause.NoClass)) (Change cause.NoClass) e refl same
 
-    by : (b : Bool) → is_nowhere s.project dest ≡ b → (class_number s.project origin ≡ None) ⊎ (is_nowhere s.project dest ≡ true)
+    by : (b : Bool) → is_nowhere s.project dest ≡ b → (class_number s.project origin.name ≡ None) ⊎ (is_nowhere s.project dest ≡ true)
         → Answers s (Rule k origin dest) (Refused (Change cause.NoClass)) t
     by true e l = says (rw e refl)
     by false e (inl l) = says (rw (e, l) refl)
     by false e (inr l) = cc
+
+-- ---- classes have numbers from 1
+counted_from : (n : ℕ) (cs : List AClass) (name : List ℕ) (k : ℕ) → number_from n cs name ≡ Some k → n ≤ k
+counted_from n [] name k e = cc
+counted_from n (c ∷ cs) name k e = by (bytes_eq c.name name) e (counted_from (n + 1) cs name k)
+  where
+    by : (b : Bool) → (if b then Some n else number_from (n + 1) cs name) ≡ Some k → (number_from (n + 1) cs name ≡ Some k → n + 1 ≤ k)
+        → n ≤ k
+    by true f rest = let same : n ≡ k = cc in omega (arith, same)
+    by false f rest = omega (arith, rest f)
+
+pub number_from_1 : (p : Project) (name : List ℕ) (k : ℕ) → Some k ≡ class_number p name → 0 < k
+number_from_1 p name k e = omega (arith, counted_from 1 p.classes name k (sym e))
 
 -- ---- a validation
 -- a count that begins low stays far from its end

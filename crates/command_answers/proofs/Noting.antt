@@ -4,7 +4,7 @@ use Rattle.std.specs.Prelude.{IfSome, if◌then◌else◌}
 use Rattle.plane_terms.specs.Lists.{Every}
 use Rattle.plane_terms.specs.Shape.{Shape}
 use Rattle.topology_terms.specs.Changes.{IsFeatureSet, IsFeatureAdded}
-use Rattle.topology_terms.specs.Feature.{Class, Feature, feature_at}
+use Rattle.topology_terms.specs.Feature.{feature_of, Class, Feature, feature_at}
 use Rattle.topology_terms.specs.Project.{Project, IsOrdered}
 use Rattle.feature_store.specs.Keeps.{IsOfClass, IsGiven, IsStore}
 use Rattle.feature_store.proofs.Keeping.{kind_end}
@@ -128,14 +128,14 @@ may_more p q k x c n m = record {
       subst (λ es. IfSome x (IsOfClass es)) (sym c) m.fits;
 }
 
-pub add_done : (p q : Project) (name : List ℕ) (ss ts : List KeptSession) (class : ℕ) (shape : Shape) (h : ℕ) → IsWorld p ss
-    → IsFeatureAdded class shape h p q
-    → calls.IsNoted name (record { handle = h; kept = None }) ss ts → LeavesNoted name (added_step h class shape)
-    (IsFeatureAdded class shape h) (state_of p ss) (state_of q ts)
-add_done p q name ss ts class shape h w e d =
+pub add_done : (p q : Project) (name : List ℕ) (ss ts : List KeptSession) (class subtype : ℕ) (shape : Shape) (h : ℕ) → IsWorld p ss
+    → IsFeatureAdded class subtype shape h p q
+    → calls.IsNoted name (record { handle = h; kept = None }) ss ts → LeavesNoted name (added_step h class subtype shape)
+    (IsFeatureAdded class subtype shape h) (state_of p ss) (state_of q ts)
+add_done p q name ss ts class subtype shape h w e d =
     let at = feature_at p.features in
     let bt = feature_at q.features in
-    let x : Option Feature = Some (record { handle = h; class = class; shape = shape }) in
+    let x : Option Feature = Some (feature_of h class subtype shape) in
     let alone = subst (IsAlone (seen at ss) name) (sym e.number) (fresh_alone p.next name (seen at ss) w.keeping.given) in
     let noted = subst (λ o. IsKeptNoted d.was (record { handle = h; kept = o }) d.is) (sym e.absent) d.noted in
     let b = note_bridge at bt name d.was d.is ss ts h x d.change noted (record {
@@ -146,16 +146,16 @@ add_done p q name ss ts class shape h w e d =
     let n = subst (λ o. IsNoted name (record { handle = h; before = o; after = x }) (seen at ss) (seen bt ts)) e.absent b in
     (n.session, record { project = e; session = n.change })
 
-pub add_world : (p q : Project) (name : List ℕ) (ss ts : List KeptSession) (class : ℕ) (shape : Shape) (h : ℕ)
-    → IsStore p.classes p.features p.next → IsWorld p ss → IsFeatureAdded class shape h p q
+pub add_world : (p q : Project) (name : List ℕ) (ss ts : List KeptSession) (class subtype : ℕ) (shape : Shape) (h : ℕ)
+    → IsStore p.classes p.features p.next → IsWorld p ss → IsFeatureAdded class subtype shape h p q
     → calls.IsNoted name (record { handle = h; kept = None }) ss ts → IsWorld q ts
-add_world p q name ss ts class shape h store w e d =
+add_world p q name ss ts class subtype shape h store w e d =
     let still : (k : ℕ) (x : Option Feature) → May p k x → May q k x = λ k x. may_more p q k x e.edit.classes e.next in
     let one : 1 ≤ h = (let n = e.number in let f = store.from_1 in omega (arith, n, f)) in
     let below : h < q.next = (let n = e.number in let m = e.next in omega (arith, n, m)) in
     let step : May q h None = record { from_1 = one; given = below; own = tt; fits = tt } in
     record {
-      keeping = added_keeps name class shape h (state_of p ss) (state_of q ts) w.keeping (add_done p q name ss ts class shape h w e d);
+      keeping = added_keeps name class subtype shape h (state_of p ss) (state_of q ts) w.keeping (add_done p q name ss ts class subtype shape h w e d);
       may = may_changed p q name d.was d.is ss ts d.change still (noted_may (May p) (May q) d.was (record { handle = h; kept = None }) d.is
           still d.noted (named_has (MayAll (May p)) ss name d.was d.change.there w.may) step) w.may;
     }

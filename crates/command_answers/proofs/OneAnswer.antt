@@ -21,7 +21,7 @@ use Rattle.sound_laws.proofs.Lists.{unmark, unmark_option, same_entries, entry_k
 use Rattle.sound_laws.proofs.Edits.{same_or_not}
 use Rattle.sound_laws.proofs.RuleLists.{same_rules}
 use Rattle.sound_laws.proofs.Settling.{alike_same}
-use Rattle.line_terms.specs.Commands.{Command, Blank, Class, Rule, DropRule, Begin, End, Discard, Add, Change, Delete, Undo, Redo, Validate, Mark, Unmark, Dirty, Errors, Cells, Features, Rules}
+use Rattle.line_terms.specs.Commands.{Command, Blank, Class, Rule, DropRule, Begin, End, Discard, Add, Change, Delete, Retype, Undo, Redo, Validate, Mark, Unmark, Dirty, Errors, Cells, Features, Rules}
 use Rattle.script_terms.specs.Refusal.{Refusal}
 use Rattle.script_terms.specs.Reply.{Reply, Number, Judged}
 use Rattle.script_terms.specs.State.{State}
@@ -414,11 +414,11 @@ one_done C s t u (DropRule r) reply said v w d e = (
 one_done C s t u (Begin editor) reply said v w d e = (d.0 ∙ sym e.0, d.1 ∙ sym e.1)
 one_done C s t u (End editor) reply said v w d e = (d.0 ∙ sym e.0, d.1 ∙ sym e.1)
 one_done C s t u (Discard editor) reply said v w d e = (d.0 ∙ sym e.0, discard_same editor s t u v w d.1 e.1)
-one_done C s t u (Add editor class shape) reply said v w (g, d, i) (h, e, j) =
+one_done C s t u (Add editor own shape) reply said v w (g, d, i) (h, e, j) =
     let same : g ≡ h = i.1.project.number ∙ sym j.1.project.number in
     let k = rw same at i.1.project.edit in (
       d ∙ (ap Number same ∙ sym e),
-      noted_same editor s t u _ _ i j (ap (λ (n : ℕ). added_step n (unwrap_or (class_number s.project class) 0) shape) same)
+      noted_same editor s t u _ _ i j (ap (λ (n : ℕ). added_step n (unwrap_or (class_number s.project own.name) 0) (unwrap_or own.subtype 0) shape) same)
           (edit_same h _ s.project t.project u.project v w k j.1.project.edit (i.1.project.next ∙ sym j.1.project.next)),
     )
 one_done C s t u (Change editor h shape) reply said v w d e = (
@@ -430,6 +430,11 @@ one_done C s t u (Delete editor h) reply said v w d e = (
   d.0 ∙ sym e.0,
   noted_same editor s t u _ _ d.1 e.1 refl (edit_same h None s.project t.project u.project v w
       d.1.1.project.edit e.1.1.project.edit (d.1.1.project.next ∙ sym e.1.1.project.next)),
+)
+one_done C s t u (Retype editor h n) reply said v w d e = (
+  d.0 ∙ sym e.0,
+  noted_same editor s t u _ _ d.1 e.1 refl (edit_same h _ s.project t.project u.project v w d.1.1.project.edit
+      e.1.1.project.edit (d.1.1.project.next ∙ sym e.1.1.project.next)),
 )
 one_done C s t u (Undo editor) reply said v w d e = (d.0 ∙ sym e.0, undo_same editor s t u v w d.1 e.1)
 one_done C s t u (Redo editor) reply said v w d e = (d.0 ∙ sym e.0, redo_same editor s t u v w d.1 e.1)

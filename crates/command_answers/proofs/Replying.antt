@@ -1,12 +1,12 @@
 -- What a call of the topology answers is what the command is answered.
 use Rattle.std.proofs.Common.{◌≡◌, ◌+◌, ℕ, true, false, List, length, Option, Some, None, ap, ◌∙◌, sym, subst, inl, inr}
-use Rattle.std.specs.Prelude.{Result, Ok, Err, IfOk, OnOk, IfErr, OnErr, IsSomeAnd, MatchResult}
+use Rattle.std.specs.Prelude.{Result, Ok, Err, IfOk, OnOk, IfErr, OnErr, IsSomeAnd, MatchResult, unwrap_or}
 use Rattle.plane_terms.specs.Shape.{Shape}
 use Rattle.plane_terms.specs.declared.kind.Kind.{Kind}
 use Rattle.rule_words.specs.declared.rule_kind.RuleKind.{RuleKind}
 use Rattle.topology_terms.specs.Broken.{Row}
 use Rattle.topology_terms.specs.Causes.{Tells, class_cause, add_cause, change_cause, delete_cause, rule_cause}
-use Rattle.topology_terms.specs.Changes.{IsClassAdded, IsFeatureAdded, IsFeatureSet, IsRuleAdded, reshaped}
+use Rattle.topology_terms.specs.Changes.{IsClassAdded, IsFeatureAdded, IsFeatureSet, IsRuleAdded, reshaped, retyped}
 use Rattle.topology_terms.specs.Feature.{Feature, feature_at}
 use Rattle.topology_terms.specs.Lookups.{class_number}
 use Rattle.topology_terms.specs.Project.{Project, IsOrdered}
@@ -17,8 +17,8 @@ use Rattle.feature_store.specs.declared.fault.StoreFault.{StoreFault}
 use Rattle.topo_core.specs.Faults.{edit_cause, row_cause}
 use Rattle.topo_core.specs.declared.fault.ChangeFault.{ChangeFault}
 use Rattle.topo_core.specs.declared.rule_fault.RuleFault.{RuleFault}
-use Rattle.line_terms.specs.Commands.{Class, Rule, Add, Change as AChange, Delete}
-use Rattle.script_terms.specs.Answer.{Answers}
+use Rattle.line_terms.specs.Commands.{Sided, Class, Rule, Add, Change as AChange, Delete, Retype}
+use Rattle.script_terms.specs.Answer.{Answers, LeavesNoted, added_step}
 use Rattle.script_terms.specs.Refusal.{Change}
 use Rattle.script_terms.specs.Refusing.{row_of, is_nowhere, refusal_of}
 use Rattle.script_terms.specs.Reply.{Done, Number, Refused}
@@ -30,7 +30,7 @@ use Rattle.reply_text.specs.Replies.{said_of}
 use Rattle.reply_text.specs.declared.reply.Reply.{Reply}
 use Rattle.command_answers.specs.Refusals.{SaysCause}
 use Rattle.command_answers.proofs.Noting.{set_done, set_world, add_done, add_world, seen_same, stays_world, class_world, room_done, room_world}
-use Rattle.command_answers.proofs.Answering.{class_added, class_refused, rule_added, rule_refused, feature_added, add_refused, feature_changed, change_refused, feature_deleted, delete_refused}
+use Rattle.command_answers.proofs.Answering.{class_added, class_refused, rule_added, rule_refused, feature_added, add_refused, feature_changed, change_refused, feature_deleted, delete_refused, feature_retyped, retype_refused}
 
 abbrev Says : {T F : Type 0} → (F → Option Cause) → Result T F → (T → Reply → Type 0) → Reply → Type 0
 Says cause called done r = MatchResult called (λ x. done x r) (λ e. SaysCause (cause e) r)
@@ -70,29 +70,30 @@ room_kept p q name ss ts e (inl s) w = subst (λ (r : Project). IsWorld r ts) (s
 room_kept p q name ss ts e (inr r) w = subst (λ (r : Project). IsWorld r ts) (sym e) (room_world p name ss ts r w)
 
 -- ---- a feature is added
-pub add_replied : {E : Type 0} (p q : Project) (ss ts : List KeptSession) (editor class : List ℕ) (shape : Shape) (n : ℕ)
+pub add_replied : {E : Type 0} (p q : Project) (ss ts : List KeptSession) (editor : List ℕ) (own : Sided) (shape : Shape) (n u : ℕ)
     (added : Result ℕ ChangeFault) (reply : Result Reply E)
-    → IsWorld p ss → is_open (state_of p ss) editor ≡ true → class_number p class ≡ Some n
-    → IfOk added (λ h. IsFeatureAdded n shape h p q) → IfOk added (λ h. calls.IsNoted editor (record { handle = h; kept = None }) ss ts)
+    → u ≡ unwrap_or own.subtype 0 → IsWorld p ss → is_open (state_of p ss) editor ≡ true → class_number p own.name ≡ Some n
+    → IfOk added (λ h. IsFeatureAdded n u shape h p q) → IfOk added (λ h. calls.IsNoted editor (record { handle = h; kept = None }) ss ts)
     → OnOk added (add_cause p.classes p.next n shape.kind ≡ None)
     → IfErr added (λ e. Tells (edit_cause e) (add_cause p.classes p.next n shape.kind)) → OnErr added (q ≡ p)
     → OnErr added (IsRoomAlone editor ss ts)
     → IfOk reply (Says edit_cause added (λ h r. (p : Project) → said_of p r ≡ Number h))
-    → IfOk reply (λ r. Answers (state_of p ss) (Add editor class shape) (said_of q r) (state_of q ts))
-add_replied p q ss ts editor class shape n added (Err e) w opened named ok noted may err kept room said = tt
-add_replied p q ss ts editor class shape n (Ok h) (Ok r) w opened named ok noted may err kept room said =
-    rw (said q) (feature_added (state_of p ss) (state_of q ts) editor class shape n h opened named may
-    (add_done p q editor ss ts n shape h w ok noted))
-add_replied p q ss ts editor class shape n (Err e) (Ok r) w opened named ok noted may err kept room said =
-    add_refused (state_of p ss) (state_of q ts) editor class shape n (edit_cause e) (said_of q r) opened named err
+    → IfOk reply (λ r. Answers (state_of p ss) (Add editor own shape) (said_of q r) (state_of q ts))
+add_replied p q ss ts editor own shape n u added (Err e) bound w opened named ok noted may err kept room said = tt
+add_replied p q ss ts editor own shape n u (Ok h) (Ok r) bound w opened named ok noted may err kept room said =
+    rw (said q) (feature_added (state_of p ss) (state_of q ts) editor own shape n h opened named may
+    (subst (λ x. LeavesNoted editor (added_step h n x shape) (IsFeatureAdded n x shape h) (state_of p ss) (state_of q ts)) bound
+    (add_done p q editor ss ts n u shape h w ok noted)))
+add_replied p q ss ts editor own shape n u (Err e) (Ok r) bound w opened named ok noted may err kept room said =
+    add_refused (state_of p ss) (state_of q ts) editor own shape n (edit_cause e) (said_of q r) opened named err
     (said_at (edit_cause e) q r said) (room_state p q editor ss ts kept room)
 
-pub add_kept : (p q : Project) (ss ts : List KeptSession) (editor : List ℕ) (shape : Shape) (n : ℕ) (added : Result ℕ ChangeFault)
+pub add_kept : (p q : Project) (ss ts : List KeptSession) (editor : List ℕ) (shape : Shape) (n u : ℕ) (added : Result ℕ ChangeFault)
     → IsStore p.classes p.features p.next → IsWorld p ss
-    → IfOk added (λ h. IsFeatureAdded n shape h p q) → IfOk added (λ h. calls.IsNoted editor (record { handle = h; kept = None }) ss ts)
+    → IfOk added (λ h. IsFeatureAdded n u shape h p q) → IfOk added (λ h. calls.IsNoted editor (record { handle = h; kept = None }) ss ts)
     → OnErr added (q ≡ p) → OnErr added (IsRoomAlone editor ss ts) → IsWorld q ts
-add_kept p q ss ts editor shape n (Ok h) store w ok noted kept room = add_world p q editor ss ts n shape h store w ok noted
-add_kept p q ss ts editor shape n (Err e) store w ok noted kept room = room_kept p q editor ss ts kept room w
+add_kept p q ss ts editor shape n u (Ok h) store w ok noted kept room = add_world p q editor ss ts n u shape h store w ok noted
+add_kept p q ss ts editor shape n u (Err e) store w ok noted kept room = room_kept p q editor ss ts kept room w
 
 -- ---- a feature is changed, or deleted
 pub change_replied : {E T : Type 0} (p q : Project) (ss ts : List KeptSession) (editor : List ℕ) (h : ℕ) (shape : Shape)
@@ -129,6 +130,23 @@ delete_replied p q ss ts editor h (Err e) (Ok r) w ord free ok noted err kept ro
     delete_refused (state_of p ss) (state_of q ts) editor h (edit_cause e) (said_of q r) free err (said_at (edit_cause e) q r said)
     (room_state p q editor ss ts kept room)
 
+pub retype_replied : {E T : Type 0} (p q : Project) (ss ts : List KeptSession) (editor : List ℕ) (h u : ℕ) (deleted : Result T ChangeFault)
+    (reply : Result Reply E)
+    → IsWorld p ss → IsOrdered p → refusal_of (state_of p ss) (Delete editor h) ≡ None
+    → OnOk deleted (IsFeatureSet h (retyped (feature_at p.features h) u) p q)
+    → OnOk deleted (calls.IsNoted editor (record { handle = h; kept = feature_at p.features h }) ss ts)
+    → IfErr deleted (λ e. Tells (edit_cause e) (delete_cause p.features h)) → OnErr deleted (q ≡ p)
+    → OnErr deleted (IsRoomAlone editor ss ts)
+    → IfOk reply (Says edit_cause deleted (λ f r. (p : Project) → said_of p r ≡ Done))
+    → IfOk reply (λ r. Answers (state_of p ss) (Retype editor h u) (said_of q r) (state_of q ts))
+retype_replied p q ss ts editor h u deleted (Err e) w ord free ok noted err kept room said = tt
+retype_replied p q ss ts editor h u (Ok f) (Ok r) w ord free ok noted err kept room said =
+    rw (said q) (feature_retyped (state_of p ss) (state_of q ts) editor h u free
+    (set_done p q editor ss ts h (retyped (feature_at p.features h) u) w ord free ok noted))
+retype_replied p q ss ts editor h u (Err e) (Ok r) w ord free ok noted err kept room said =
+    retype_refused (state_of p ss) (state_of q ts) editor h u (edit_cause e) (said_of q r) free err (said_at (edit_cause e) q r said)
+    (room_state p q editor ss ts kept room)
+
 pub set_kept : {T : Type 0} (p q : Project) (ss ts : List KeptSession) (editor : List ℕ) (h : ℕ) (after : Option Feature)
     (changed : Result T ChangeFault) → IsStore p.classes p.features p.next → IsWorld p ss → IsOrdered p
     → refusal_of (state_of p ss) (Delete editor h) ≡ None → OnOk changed (IsFeatureSet h after p q)
@@ -158,7 +176,7 @@ pub class_kept : (p q : Project) (ss : List KeptSession) (name : List ℕ) (k : 
 class_kept p q ss name k (Ok n) w ok kept = class_world p q ss (record { name = name; kind = k }) ok.classes ok.features ok.next w
 class_kept p q ss name k (Err e) w ok kept = subst (λ (r : Project). IsWorld r ss) (sym kept) w
 
-pub rule_replied : {E : Type 0} (p q : Project) (ss : List KeptSession) (k : RuleKind) (origin : List ℕ) (dest : Option (List ℕ))
+pub rule_replied : {E : Type 0} (p q : Project) (ss : List KeptSession) (k : RuleKind) (origin : Sided) (dest : Option Sided)
     (row : Row) (added : Result ℕ RuleFault) (reply : Result Reply E)
     → is_nowhere p dest ≡ false → row ≡ row_of p k origin dest
     → IfOk added (λ n. IsRuleAdded n row p q) → OnOk added (rule_cause p row ≡ None)

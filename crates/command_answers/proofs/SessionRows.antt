@@ -8,10 +8,10 @@ use Rattle.plane_terms.specs.Rectangle.{Rectangle, rect_of, rect_at}
 use Rattle.plane_terms.specs.Dirt.{add_dirt}
 use Rattle.plane_terms.specs.Shape.{Shape, envelope_of}
 use Rattle.plane_terms.specs.declared.kind.Kind.TheVariants as shapes
-use Rattle.topology_terms.specs.Feature.{Feature, by_handle, feature_at, IsSetAt}
+use Rattle.topology_terms.specs.Feature.{Feature, feature_of, by_handle, feature_at, IsSetAt}
 use Rattle.topology_terms.specs.Project.{Project}
 use Rattle.topology_terms.specs.Session.{EditStep, Session}
-use Rattle.line_terms.specs.Commands.{Begin, End, Add, Change, Undo, Redo}
+use Rattle.line_terms.specs.Commands.{Begin, End, Add, Change, Retype, Undo, Redo}
 use Rattle.sound_laws.proofs.FeatureLists.{handles}
 use Rattle.sound_laws.proofs.Keyed as keyed
 use Rattle.script_terms.specs.Refusal.{HeldBy, SessionOpen, SessionsFull, NoSession, NothingToUndo, NothingToRedo}
@@ -30,7 +30,7 @@ abbrev spot : ℤ → ℤ → Rectangle
 spot x y = rect_at (place x y)
 
 abbrev well : ℕ → ℤ → ℤ → Feature
-well h x y = record { handle = h; class = 1; shape = point x y }
+well h x y = feature_of h 1 0 (point x y)
 
 abbrev ann : List ℕ
 ann = codes "ann"
@@ -162,10 +162,10 @@ three = record {
       session ann (moved_step ∷ []) [] ∷ session bob (third ∷ []) [] ∷ [];
 }
 
-may_add : refusal_of moved (Add bob (codes "wells") (point (pos 4) (pos 4))) ≡ None
+may_add : refusal_of moved (Add bob (record { name = codes "wells"; subtype = None }) (point (pos 4) (pos 4))) ≡ None
 may_add = refl
 
-bob_adds : IsDone moved (Add bob (codes "wells") (point (pos 4) (pos 4))) (Number 3) three
+bob_adds : IsDone moved (Add bob (record { name = codes "wells"; subtype = None }) (point (pos 4) (pos 4))) (Number 3) three
 unfolding feature_at add_dirt envelope_of
 bob_adds = (
   3,
@@ -342,12 +342,56 @@ capital : IsDone (record { project = wells [] 1 []; sessions = named (codes "ann
     (record { project = wells [] 1 []; sessions = named (codes "Zed") ∷ named (codes "ann") ∷ [] })
 capital = (refl, refl)
 
+-- ---- a retype is a step, and its undo brings the subtype back; the envelope becomes dirty each time
+abbrev typed : Feature
+typed = feature_of 1 1 3 (point (pos 0) (pos 0))
+
+abbrev before_retype : State
+before_retype = record { project = wells (well 1 (pos 0) (pos 0) ∷ []) 2 []; sessions = session ann [] [] ∷ [] }
+
+abbrev after_retype : State
+after_retype = record {
+  project = wells (typed ∷ []) 2 (spot (pos 0) (pos 0) ∷ []);
+  sessions = session ann (step 1 (Some (well 1 (pos 0) (pos 0))) (Some typed) ∷ []) [] ∷ [];
+}
+
+may_retype : refusal_of before_retype (Retype ann 1 3) ≡ None
+unfolding feature_at
+may_retype = refl
+
+retypes : IsDone before_retype (Retype ann 1 3) Done after_retype
+unfolding feature_at add_dirt envelope_of
+retypes = (
+  refl,
+  (
+    session ann [] [],
+    record {
+      project = record {
+        edit = record {
+          features = set_between 1 [] [] (Some (well 1 (pos 0) (pos 0))) (Some typed)
+              (record { before = tt; own = refl; after = tt }) (record { before = tt; own = refl; after = tt });
+          dirt = refl;
+          classes = refl;
+          rules = refl;
+          entries = refl;
+        };
+        next = refl;
+      };
+      session = record { there = refl; name = refl; sessions = refl };
+    },
+  ),
+)
+
+typed_listed : reply_text (FeatureList after_retype.project) ≡ codes "feature 1 wells:3 POINT (0 0)" ++ 10 ∷ codes "total 1" ++ 10 ∷ []
+unfolding digits
+typed_listed = refl
+
 -- ---- a deleted square comes back: its envelope is dirty
 abbrev square : ℤ → ℤ → Shape
 square lo hi = record { kind = shapes.Polygon; parts = ((place lo lo ∷ place hi lo ∷ place hi hi ∷ place lo hi ∷ []) ∷ []) ∷ [] }
 
 abbrev lot : ℕ → ℤ → ℤ → Feature
-lot h lo hi = record { handle = h; class = 1; shape = square lo hi }
+lot h lo hi = feature_of h 1 0 (square lo hi)
 
 abbrev lots : List Feature → List Rectangle → Project
 lots F d = record {

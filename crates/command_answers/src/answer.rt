@@ -12,7 +12,7 @@ ghost use Rattle.reply_text.specs.Replies.{said_of};
 use crate::world::World;
 use grid_plane::NoMemory;
 use reply_text::Reply;
-use rule_set::poster_law;
+use rules::poster_law;
 use script_text::Command;
 use topo_core::Key;
 
@@ -27,7 +27,7 @@ pub fn one_answer_law()
 
 impl World {
     /// Does what the command asks for, and answers what the reply says; a listing lists the state as it is then. If memory
-    /// runs out, nothing has changed, except that the last steps of a discard may be undone, and its session stays open.
+    /// runs out, a sound state is sound still, and a settled one settled; of the rest no clause speaks.
     pub fn answer(&mut self, command: Command) -> Result<Reply, NoMemory>
         ensures answers { IfOk result (λ r. Answers self.old (command_of command) (said_of self.new.project r) self.new) }
         ensures sound { IsSound self.old.project → IsSound self.new.project }
@@ -41,9 +41,12 @@ impl World {
             Command::Begin(editor) => self.answer_begin(editor),
             Command::End(editor) => self.answer_end(&editor),
             Command::Discard(editor) => self.answer_discard(&editor),
-            Command::Add(editor, class, shape) => self.answer_add(&editor, &class, shape),
+            Command::Add(editor, own, shape) => self.answer_add(&editor, &own, shape),
             Command::Change(editor, handle, shape) => self.answer_change(&editor, handle, shape),
             Command::Delete(editor, handle) => self.answer_delete(&editor, handle),
+            Command::Retype(editor, handle, subtype) => self.answer_retype(
+                &editor, handle, subtype,
+            ),
             Command::Undo(editor) => self.answer_undo(&editor),
             Command::Redo(editor) => self.answer_redo(&editor),
             Command::Validate(window) => self.answer_validate(window),

@@ -1,16 +1,17 @@
-ghost use Rattle.std.specs.Prelude.{◌≡◌, ◌≤◌, IfOk, OnErr};
+ghost use Rattle.std.specs.Prelude.{◌≡◌, ◌≤◌, IfOk, OnErr, unwrap_or};
 ghost use Rattle.topology_terms.specs.Settled.{IsSettled};
 ghost use Rattle.topology_terms.specs.Sound.{IsSound};
-ghost use Rattle.line_terms.specs.Commands.{Add, Change, Delete, Validate};
+ghost use Rattle.line_terms.specs.Commands.{Add, Change, Delete, Retype, Validate};
 ghost use Rattle.script_terms.specs.Answer.{Answers};
 ghost use Rattle.reply_text.specs.Replies.{said_of};
 
-use crate::noted::{add_noted, change_noted, delete_noted};
+use crate::noted::{add_noted, change_noted, delete_noted, retype_noted};
 use crate::refused::{reply_to_add, reply_to_change};
 use crate::world::World;
 use grid_plane::{Name, NoMemory, Rect};
 use reply_text::{Refusal, Reply};
 use rule_core::Work;
+use script_text::Sided;
 use shape::Shape;
 use topology_terms::Cause;
 
@@ -26,16 +27,23 @@ fn begin_count(work: &mut Work)
     }
 }
 
+// The subtype of a feature that a line adds: 0 where it names none.
+fn subtype_of(own: &Sided) -> u8
+    ensures { result ≡ unwrap_or own.now.subtype 0 }
+{
+    own.subtype.unwrap_or(0)
+}
+
 impl World {
     /// `by EDITOR add CLASS SHAPE`
     #[tactic(auto, using(crate::proofs::Replying::add_replied))]
     pub(crate) fn answer_add(
         &mut self,
         editor: &Name,
-        class: &Name,
+        own: &Sided,
         shape: Shape,
     ) -> Result<Reply, NoMemory>
-        ensures answers { IfOk result (λ r. Answers self.old (Add editor.now class.now shape) (said_of self.new.project r) self.new) }
+        ensures answers { IfOk result (λ r. Answers self.old (Add editor.now own.now shape) (said_of self.new.project r) self.new) }
         ensures sound { IsSound self.old.project → IsSound self.new.project }
         ensures settled { IsSettled self.old.project → IsSettled self.new.project }
         ensures err { OnErr result (self.new ≡ self.old) }
@@ -43,11 +51,19 @@ impl World {
         if !self.is_open(editor) {
             return Ok(Reply::Refused(Refusal::NoSession));
         }
-        let Some(class) = self.topology.store().class_by_name(class) else {
+        let Some(class) = self.topology.store().class_by_name(&own.name) else {
             return Ok(Reply::Refused(Refusal::Change(Cause::NoClass)));
         };
         self.topology.topology_law();
-        reply_to_add(add_noted(&mut self.topology, &mut self.sessions, editor, class, shape))
+        let subtype = subtype_of(own);
+        reply_to_add(add_noted(
+            &mut self.topology,
+            &mut self.sessions,
+            editor,
+            class,
+            subtype,
+            shape,
+        ))
     }
 
     /// `by EDITOR change H SHAPE`
@@ -91,6 +107,33 @@ impl World {
         self.topology.topology_law();
         self.topology.order_law();
         reply_to_change(delete_noted(&mut self.topology, &mut self.sessions, editor, handle))
+    }
+
+    /// `by EDITOR retype H SUBTYPE`
+    #[tactic(auto, using(crate::proofs::Answering::retype_stopped))]
+    pub(crate) fn answer_retype(
+        &mut self,
+        editor: &Name,
+        handle: u32,
+        subtype: u8,
+    ) -> Result<Reply, NoMemory>
+        ensures answers { IfOk result (λ r. Answers self.old (Retype editor.now handle subtype) (said_of self.new.project r) self.new) }
+        ensures sound { IsSound self.old.project → IsSound self.new.project }
+        ensures settled { IsSettled self.old.project → IsSettled self.new.project }
+        ensures err { OnErr result (self.new ≡ self.old) }
+    {
+        if let Some(refusal) = self.edit_refusal(editor, handle) {
+            return Ok(Reply::Refused(refusal));
+        }
+        self.topology.topology_law();
+        self.topology.order_law();
+        reply_to_change(retype_noted(
+            &mut self.topology,
+            &mut self.sessions,
+            editor,
+            handle,
+            subtype,
+        ))
     }
 
     /// `validate X0 Y0 X1 Y1`, and `validate all`

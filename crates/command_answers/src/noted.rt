@@ -1,6 +1,6 @@
 ghost use Rattle.std.specs.Prelude.{◌≡◌, Some, None, IfOk, IfErr, OnOk, OnErr};
 ghost use Rattle.topology_terms.specs.Causes.{Tells, add_cause, change_cause, delete_cause};
-ghost use Rattle.topology_terms.specs.Changes.{IsFeatureAdded, IsFeatureSet, reshaped};
+ghost use Rattle.topology_terms.specs.Changes.{IsFeatureAdded, IsFeatureSet, reshaped, retyped};
 ghost use Rattle.topology_terms.specs.Feature as terms;
 ghost use Rattle.topology_terms.specs.Feature.{feature_at};
 ghost use Rattle.topology_terms.specs.Settled.{IsSettled};
@@ -12,7 +12,7 @@ ghost use Rattle.command_answers.specs.Worlds.{IsRoomAlone};
 
 use edit_session::{Sessions, Step};
 use grid_plane::{Name, NoMemory};
-use rule_set::PosterRules;
+use rules::PosterRules;
 use shape::Shape;
 use topo_core::{ChangeFault, Topology};
 
@@ -53,6 +53,30 @@ pub fn change_noted(
     Ok(())
 }
 
+/// Sets the subtype of a feature, and notes the step. There is room for the step before the change.
+#[tactic(auto, using(crate::proofs::Noting::room_noted))]
+pub fn retype_noted(
+    topology: &mut Topology<PosterRules>,
+    sessions: &mut Sessions,
+    editor: &Name,
+    handle: u32,
+    subtype: u8,
+) -> Result<(), ChangeFault>
+    ensures ok { OnOk result (IsFeatureSet handle (retyped (feature_at topology.old.features handle) subtype) topology.old topology.new) }
+    ensures noted { OnOk result (IsNoted editor.now (record { handle = handle; kept = feature_at topology.old.features handle }) sessions.old sessions.new) }
+    ensures live { OnOk result ((f : terms.Feature) × (feature_at topology.old.features handle ≡ Some f)) }
+    ensures refused { IfErr result (λ e. Tells (edit_cause e) (delete_cause topology.old.features handle)) }
+    ensures sound { IsSound topology.old → IsSound topology.new }
+    ensures settled { IsSettled topology.old → IsSettled topology.new }
+    ensures err { OnErr result (topology.new ≡ topology.old) }
+    ensures room { OnErr result (IsRoomAlone editor.now sessions.old sessions.new) }
+{
+    make_room(sessions, editor)?;
+    let was = topology.retype(handle, subtype)?;
+    sessions.note_in(editor, Step::new(handle, Some(was)));
+    Ok(())
+}
+
 /// Takes a feature away, and notes the step. There is room for the step before the change.
 #[tactic(auto, using(crate::proofs::Noting::room_noted))]
 pub fn delete_noted(
@@ -83,9 +107,10 @@ pub fn add_noted(
     sessions: &mut Sessions,
     editor: &Name,
     class: u16,
+    subtype: u8,
     shape: Shape,
 ) -> Result<u32, ChangeFault>
-    ensures ok { IfOk result (λ h. IsFeatureAdded class shape h topology.old topology.new) }
+    ensures ok { IfOk result (λ h. IsFeatureAdded class subtype shape h topology.old topology.new) }
     ensures noted { IfOk result (λ h. IsNoted editor.now (record { handle = h; kept = None }) sessions.old sessions.new) }
     ensures may { OnOk result (add_cause topology.old.classes topology.old.next class shape.kind ≡ None) }
     ensures refused { IfErr result (λ e. Tells (edit_cause e) (add_cause topology.old.classes topology.old.next class shape.kind)) }
@@ -95,7 +120,7 @@ pub fn add_noted(
     ensures room { OnErr result (IsRoomAlone editor.now sessions.old sessions.new) }
 {
     make_room(sessions, editor)?;
-    let handle = topology.add(class, shape)?;
+    let handle = topology.add_typed(class, subtype, shape)?;
     sessions.note_in(editor, Step::new(handle, None));
     Ok(handle)
 }

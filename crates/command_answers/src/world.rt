@@ -8,7 +8,7 @@ ghost use Rattle.script_terms.specs.Headline.{Invariant, SoundHeadline};
 
 use edit_session::Sessions;
 use rule_core::Work;
-use rule_set::{PosterRules, poster_law};
+use rules::{PosterRules, poster_law};
 use std::alloc::Global;
 use std::marker::Model;
 use topo_core::Topology;

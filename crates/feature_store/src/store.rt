@@ -137,32 +137,32 @@ impl Store {
         Ok(())
     }
 
-    /// Adds a feature of the class of this number and answers its handle, the next one, which then rises by one. Takes no
-    /// memory: there is room.
-    pub fn add_in(&mut self, class: u16, shape: Shape) -> u32
+    /// Adds a feature of the class of this number and of the subtype, and answers its handle, the next one, which then rises by one.
+    /// Takes no memory: there is room.
+    pub fn add_typed_in(&mut self, class: u16, subtype: u8, shape: Shape) -> u32
         requires may { add_cause self.old.classes self.old.next class shape.kind ≡ None }
         requires room { 1 ≤ self.old.room }
         ensures number { result ≡ self.old.next }
         ensures classes { self.new.classes ≡ self.old.classes }
-        ensures features { self.new.features ≡ self.old.features ++ record { handle = result; class = class; shape = shape } ∷ [] }
+        ensures features { self.new.features ≡ self.old.features ++ terms.feature_of result class subtype shape ∷ [] }
         ensures next { self.new.next ≡ self.old.next + 1 }
     {
         shape.simple_law();
         let handle = self.next;
         count_law(&self.slots);
-        self.slots
-            .push_reserved(Slot::Filled(Feature::new(handle, class, shape)));
+        let feature = Feature::typed(handle, class, subtype, shape);
+        self.slots.push_reserved(Slot::Filled(feature));
         self.live += 1;
         self.next = handle + 1;
         handle
     }
 
-    /// Adds a feature of the class of this number and answers its handle, the next one, which then rises by one. Refused
-    /// where there is no such class, then where the kinds differ, then where the next handle is 4,294,967,295; after a
-    /// refusal nothing has changed.
-    pub fn add(&mut self, class: u16, shape: Shape) -> Result<u32, StoreFault>
+    /// Adds a feature of the class of this number and of the subtype, and answers its handle, the next one, which then rises by one.
+    /// Refused where there is no such class, then where the kinds differ, then where the next handle is 4,294,967,295; after a refusal
+    /// nothing has changed.
+    pub fn add_typed(&mut self, class: u16, subtype: u8, shape: Shape) -> Result<u32, StoreFault>
         ensures number { IfOk result (λ h. h ≡ self.old.next) }
-        ensures added { IfOk result (λ h. self.new.features ≡ self.old.features ++ record { handle = h; class = class; shape = shape } ∷ []) }
+        ensures added { IfOk result (λ h. self.new.features ≡ self.old.features ++ terms.feature_of h class subtype shape ∷ []) }
         ensures next { OnOk result (self.new.next ≡ self.old.next + 1) }
         ensures may { OnOk result (add_cause self.old.classes self.old.next class shape.kind ≡ None) }
         ensures refused { IfErr result (λ e. Tells (store_cause e) (add_cause self.old.classes self.old.next class shape.kind)) }
@@ -171,7 +171,20 @@ impl Store {
     {
         self.check_add(class, &shape)?;
         self.room()?;
-        Ok(self.add_in(class, shape))
+        Ok(self.add_typed_in(class, subtype, shape))
+    }
+
+    /// Adds a feature of the subtype 0, as `add_typed` does.
+    pub fn add(&mut self, class: u16, shape: Shape) -> Result<u32, StoreFault>
+        ensures number { IfOk result (λ h. h ≡ self.old.next) }
+        ensures added { IfOk result (λ h. self.new.features ≡ self.old.features ++ terms.feature_of h class 0 shape ∷ []) }
+        ensures next { OnOk result (self.new.next ≡ self.old.next + 1) }
+        ensures may { OnOk result (add_cause self.old.classes self.old.next class shape.kind ≡ None) }
+        ensures refused { IfErr result (λ e. Tells (store_cause e) (add_cause self.old.classes self.old.next class shape.kind)) }
+        ensures classes { self.new.classes ≡ self.old.classes }
+        ensures err { OnErr result (IsSame self.old self.new) }
+    {
+        self.add_typed(class, 0, shape)
     }
 
     /// The live feature of this handle. Takes steps for the logarithm of the number of slots.

@@ -1,11 +1,11 @@
 -- Lines that are written out, and their forms.
-use Rattle.std.proofs.Common.{pos, [], refl, inl, inr, arith, Some, None}
+use Rattle.std.proofs.Common.{◌≡◌, ℕ, pos, List, [], ◌∷◌, refl, inl, inr, arith, Option, Some, None}
 use Rattle.std.specs.Prelude.{codes}
 use Rattle.plane_terms.specs.declared.kind.Kind.TheVariants as shapes
 use Rattle.text_terms.specs.Numbers.{IsNumeral, IsSigned, IsWithinText}
 use Rattle.rule_words.specs.declared.rule_kind.RuleKind.TheVariants as rule
 use Rattle.plane_terms.specs.Rectangle.{rect_of}
-use Rattle.line_terms.specs.Commands.{Blank, Class, Rule, Add, Delete, Validate, All, Numbers, Rules}
+use Rattle.line_terms.specs.Commands.{Sided, Blank, Class, Rule, Add, Delete, Retype, Validate, All, Numbers, Rules}
 use Rattle.line_terms.specs.Forms.{HasForm}
 
 skipped : HasForm (codes " # class wells point") Blank
@@ -17,21 +17,44 @@ empty = (refl, refl)
 class_line : HasForm (codes "class wells  point ") (Class (codes "wells") shapes.Point)
 class_line = (refl, ((refl, refl), (refl, refl)))
 
+abbrev of : List ℕ → Option ℕ → Sided
+of name subtype = record { name = name; subtype = subtype }
+
 -- a rule that takes a second class, and one that takes none
-contains_line : HasForm (codes "rule polygon_contains_point lots wells") (Rule rule.PolygonContainsPoint (codes "lots")
-    (Some (codes "wells")))
+contains_line : HasForm (codes "rule polygon_contains_point lots wells") (Rule rule.PolygonContainsPoint (of (codes "lots") None)
+    (Some (of (codes "wells") None)))
 contains_line = (refl, (refl, ((refl, refl), ((refl, refl), refl))))
 
-disjoint_line : HasForm (codes "rule point_must_be_disjoint wells") (Rule rule.PointMustBeDisjoint (codes "wells") None)
+disjoint_line : HasForm (codes "rule point_must_be_disjoint wells") (Rule rule.PointMustBeDisjoint (of (codes "wells") None) None)
 disjoint_line = (refl, (refl, ((refl, refl), refl)))
 
 -- the text of a shape is what is left, blanks inside included
-add_line : HasForm (codes " by ann add wells  POINT  (3 4) ") (Add (codes "ann") (codes "wells") (codes "POINT  (3 4)"))
+add_line : HasForm (codes " by ann add wells  POINT  (3 4) ") (Add (codes "ann") (of (codes "wells") None) (codes "POINT  (3 4)"))
 add_line = (refl, ((refl, refl), (refl, ((refl, refl), (refl, refl)))))
 
 -- zeros in front are free
 seven : IsWithinText 1 4294967295 (codes "007") 7
 seven = record { numeral = record { some = λ e. cc; digits = refl; value = refl }; at_least = omega arith; at_most = omega arith }
+
+-- subtypes: behind a colon, from 0 to 255, zeros in front are free
+two : IsWithinText 0 255 (codes "02") 2
+two = record { numeral = record { some = λ e. cc; digits = refl; value = refl }; at_least = omega arith; at_most = omega arith }
+
+nought : IsWithinText 0 255 (codes "0") 0
+nought = record { numeral = record { some = λ e. cc; digits = refl; value = refl }; at_least = omega arith; at_most = omega arith }
+
+subtype_line : HasForm (codes "by ann add lots:02 POINT (3 4)") (Add (codes "ann") (of (codes "lots") (Some 2)) (codes "POINT (3 4)"))
+subtype_line = (refl, ((refl, refl), (refl, ((refl, (codes "02", refl, two)), (refl, refl)))))
+
+sides_line : HasForm (codes "rule polygon_contains_point lots:0 wells") (Rule rule.PolygonContainsPoint (of (codes "lots") (Some 0))
+    (Some (of (codes "wells") None)))
+sides_line = (refl, (refl, ((refl, (codes "0", refl, nought)), ((refl, refl), refl))))
+
+retype_line : HasForm (codes "by ann retype 007 02") (Retype (codes "ann") 7 2)
+retype_line = (refl, ((refl, refl), (refl, (seven, (two, refl)))))
+
+no_subtype_above_255 : IsWithinText 0 255 (codes "256") 256 → ⊥
+no_subtype_above_255 h = omega (arith, h.at_most)
 
 delete_line : HasForm (codes "by ann delete 007") (Delete (codes "ann") 7)
 delete_line = (refl, ((refl, refl), (refl, (seven, refl))))

@@ -4,6 +4,7 @@
 --                shape,
 --                and W for its window
 -- Command        with the shape, and with the window's rectangle
+-- Sided          what a line speaks of by a name: a class, or one subtype of it
 -- Window         a window as it is written: as the word `all`, or as four whole numbers of any size, in the order of a rectangle's
 -- Form           what a line says: a command with the text of its shape, which is the rest of the line without the blanks at its ends, and
 --                with its window as it is written
@@ -15,17 +16,22 @@ use Rattle.plane_terms.specs.Shape.{Shape}
 use Rattle.plane_terms.specs.declared.kind.Kind.{Kind}
 use Rattle.rule_words.specs.declared.rule_kind.RuleKind.{RuleKind}
 
+pub record Sided : Type 0 where
+  pub name : List ℕ
+  pub subtype : Option ℕ
+
 pub data CommandOf (S W : Type 0) : Type 0 where
   Blank : CommandOf S W
   Class : List ℕ → Kind → CommandOf S W
-  Rule : RuleKind → List ℕ → Option (List ℕ) → CommandOf S W
+  Rule : RuleKind → Sided → Option Sided → CommandOf S W
   DropRule : ℕ → CommandOf S W
   Begin : List ℕ → CommandOf S W
   End : List ℕ → CommandOf S W
   Discard : List ℕ → CommandOf S W
-  Add : List ℕ → List ℕ → S → CommandOf S W
+  Add : List ℕ → Sided → S → CommandOf S W
   Change : List ℕ → ℕ → S → CommandOf S W
   Delete : List ℕ → ℕ → CommandOf S W
+  Retype : List ℕ → ℕ → ℕ → CommandOf S W
   Undo : List ℕ → CommandOf S W
   Redo : List ℕ → CommandOf S W
   Validate : W → CommandOf S W

@@ -1,6 +1,7 @@
 -- How the words `replay PROJECT TARGET` end.
 --
--- Saves h target p             the text of the project p was put on the shelf h under this name, and the other names have what they had
+-- Saves h target p             the text of the project p, in format 2, was put on the shelf h under this name, and the other names have what
+--                              they had
 -- SavesRun start target s h k kept refused     this, all of the source s, was replayed from the start, and the project of the last state was
 --                              saved. It is sound where the start was, and settled where the start was that too
 -- FailsToSave start target s h k     all of the source was replayed; the shelf's count of faults rose in this call, and the other
@@ -22,6 +23,7 @@ use Rattle.std.specs.Prelude.{ℕ, ◌≡◌, ◌≢◌, ◌≤◌, ◌<◌, ◌
 use Rattle.topology_terms.specs.Project.{Project}
 use Rattle.topology_terms.specs.Sound.{IsSound}
 use Rattle.topology_terms.specs.Settled.{IsSettled}
+use Rattle.project_terms.specs.Written.{project_text}
 use Rattle.project_terms.specs.Texts.{IsProjectText}
 use Rattle.outside_terms.specs.Faults.{Rose}
 use Rattle.outside_terms.specs.Reads.{Passage, script_limit}
@@ -38,6 +40,7 @@ use Rattle.opening_terms.specs.Replaying.{IsStart, IsToldStart, start_of}
 pub record Saves (h : Visit) (target : List ℕ) (p : Project) : Type 0 where
   pub text : List ℕ
   pub says : IsProjectText text p
+  pub format : text ≡ project_text p
   pub put : SetsHeld h.old h.new target text
   pub others : KeepsOthers h.old h.new target
 

@@ -30,7 +30,7 @@ pub there : (F : List Feature) (class h : ℕ) (p : Point) (q : Place) (f : Plai
 there F class h p q f r e c i t = (
   (λ b. record {
     f = feature_of f;
-    live = record { live = sym e; on_side = record { class = c } };
+    live = record { live = sym e; on_side = record { class = c; subtype = tt } };
     here = let P : Place → Type 0 = λ z. IsAt z p in subst P (sym (t.0 b)) i;
   }),
   (λ w.

@@ -7,21 +7,21 @@ use Rattle.std.specs.Prelude.{ℕ, List}
 use Rattle.plane_terms.specs.Point.{Point}
 use Rattle.plane_terms.specs.Polygon.{IsInside}
 use Rattle.rule_words.specs.declared.rule_kind.RuleKind.TheVariants as kind
-use Rattle.topology_terms.specs.Feature.{Feature, IsOf, sides}
+use Rattle.topology_terms.specs.Feature.{Feature, IsOf, no_side, sides}
 use Rattle.topology_terms.specs.Broken.{Row}
+use Rattle.plain_topology.specs.Plain.{whole_class}
 
 abbrev pub overlap_row : ℕ → Row
-overlap_row class = record { kind = kind.PolygonMustNotOverlap; origin = record { class = class }; dest = record { class = 0 } }
+overlap_row class = record { kind = kind.PolygonMustNotOverlap; origin = whole_class class; dest = no_side }
 
 abbrev pub overlap_with_row : ℕ → ℕ → Row
 overlap_with_row class other = record {
   kind = kind.PolygonMustNotOverlapWith;
-  origin = record { class = class };
-  dest =
-      record { class = other };
+  origin = whole_class class;
+  dest = whole_class other;
 }
 
 pub record IsInsideOf (F : List Feature) (class h : ℕ) (p : Point) : Type 0 where
   pub f : Feature
-  pub live : IsOf F (record { class = class }) h f
+  pub live : IsOf F (whole_class class) h f
   pub inside : IsInside (sides f) p

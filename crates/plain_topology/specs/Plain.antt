@@ -1,7 +1,8 @@
 -- What the plain structs stand for.
 --
--- feature_of p, features_of ps     the feature of a point; those of a list of points, as they stand
+-- feature_of p, features_of ps     the feature of a point, of the subtype 0; those of a list of points, as they stand
 -- entry_of e, entries_of es        the error of rule 1 with one cell, a place, which is its frame too; unmarked
+-- whole_class class                the side of each feature of the class of this number
 -- row_of class                     Must Be Disjoint for the class of this number
 -- IsThere F class h p              the live feature of the handle h is of the class, and at p
 -- SaysAt d es row F a b p          what the headline says of one point: off the dirt d it lies in the error of a and b exactly
@@ -13,7 +14,7 @@
 -- AreRising xs                     each number is below all later ones
 -- IsPairBelow x y                  the pair x comes before y, by its first number, then by its second
 -- AreAscending xs                  each pair comes before all later ones
-use Rattle.std.specs.Prelude.{◌≡◌, ◌↔◌, ◌⊎◌, ℕ, ◌<◌, false, List, [], ◌∷◌, map}
+use Rattle.std.specs.Prelude.{◌≡◌, ◌↔◌, ◌⊎◌, ℕ, ◌<◌, false, List, [], ◌∷◌, None, map}
 use Rattle.plane_terms.specs.Lists.{EveryPair}
 use Rattle.plane_terms.specs.Point.{Place, Point, IsAt}
 use Rattle.plane_terms.specs.Rectangle.{Rectangle, rect_at}
@@ -21,6 +22,7 @@ use Rattle.plane_terms.specs.Cell.{at_place}
 use Rattle.plane_terms.specs.Dirt.{Covers}
 use Rattle.plane_terms.specs.Shape.{point_shape}
 use Rattle.topology_terms.specs.Feature.{Feature, IsOf, place}
+use Rattle.topology_terms.specs.Feature as features
 use Rattle.topology_terms.specs.Broken.{Row, BrokenAt}
 use Rattle.topology_terms.specs.Entry.{Entry, HasCellsAt}
 use Rattle.topology_terms.specs.Project.{Project}
@@ -29,7 +31,7 @@ use Rattle.plain_topology.specs.declared.points.PlainPoint.{PlainPoint}
 use Rattle.plain_topology.specs.declared.entries.PlainEntry.{PlainEntry}
 
 abbrev pub feature_of : PlainPoint → Feature
-feature_of p = record { handle = p.handle; class = p.class; shape = point_shape p.place }
+feature_of p = features.feature_of p.handle p.class 0 (point_shape p.place)
 
 abbrev pub features_of : List PlainPoint → List Feature
 features_of ps = map feature_of ps
@@ -49,12 +51,15 @@ entry_of e = record {
 abbrev pub entries_of : List PlainEntry → List Entry
 entries_of es = map entry_of es
 
+abbrev pub whole_class : ℕ → features.Side
+whole_class class = record { class = class; subtype = None }
+
 abbrev pub row_of : ℕ → Row
-row_of class = record { kind = kind.PointMustBeDisjoint; origin = record { class = class }; dest = record { class = 0 } }
+row_of class = record { kind = kind.PointMustBeDisjoint; origin = whole_class class; dest = features.no_side }
 
 pub record IsThere (F : List Feature) (class h : ℕ) (p : Point) : Type 0 where
   pub f : Feature
-  pub live : IsOf F (record { class = class }) h f
+  pub live : IsOf F (whole_class class) h f
   pub here : IsAt (place f) p
 
 abbrev pub SaysAt : List Rectangle → List Entry → Row → List Feature → ℕ → ℕ → Point → Type 0

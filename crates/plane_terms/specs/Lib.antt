@@ -13,5 +13,6 @@ pub mod ShapeFaults
 pub mod Polygon
 pub mod Line
 pub mod Columns
+pub mod Corners
 pub mod Laws
 pub mod Between

@@ -19,6 +19,7 @@ use grid_index::Index;
 use grid_plane::NoMemory;
 use rule_core::{InForce, RuleSet, Work};
 use std::alloc::Global;
+use step_count::Count;
 use validation::FeatureIndex;
 
 /// A rule in force, by its number, and a subject at which the project is not sound: the handle of a feature, live or not.
@@ -34,7 +35,7 @@ fn first_unsound<R: RuleSet>(
     rules: &R,
     alloc: Global,
     in_force: &[InForce],
-    features: &FeatureIndex<'_>,
+    features: &FeatureIndex<'_, Count>,
     errors: &Errors,
     dirt: &Dirt,
     subjects: &[u32],
@@ -78,7 +79,7 @@ pub fn check_project<R: RuleSet>(
     alloc: Global,
     in_force: &[InForce],
     features: &Features<'_>,
-    index: &Index,
+    index: &Index<Count>,
     errors: &Errors,
     dirt: &Dirt,
 ) -> Result<Option<Unsound>, NoMemory>

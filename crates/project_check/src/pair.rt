@@ -15,10 +15,11 @@ use grid_plane::{NoMemory, Rect};
 use rule_core::{InForce, RuleSet, Work};
 use sound_check::is_sound_pair;
 use std::alloc::Global;
+use step_count::Count;
 use validation::{FeatureIndex, RulePart, judge_subject};
 
 // The envelope of the live feature of this handle.
-fn envelope_of(features: &FeatureIndex<'_>, handle: u32) -> Option<Rect>
+fn envelope_of(features: &FeatureIndex<'_, Count>, handle: u32) -> Option<Rect>
     requires { features_of.IsAscending features.now.features }
     ensures { result ≡ option_map env (feature_at features.now.features handle) }
 {
@@ -53,7 +54,7 @@ pub fn first_rule<R: RuleSet>(
     rules: &R,
     alloc: Global,
     in_force: &[InForce],
-    features: &FeatureIndex<'_>,
+    features: &FeatureIndex<'_, Count>,
     errors: &Errors,
     dirt: &Dirt,
     subject: u32,
@@ -64,7 +65,8 @@ pub fn first_rule<R: RuleSet>(
     ensures within { IfOk result (λ place. IfSome place (λ k. k < length in_force.now)) }
     ensures first { IfOk result (λ place. (p : Project) → HasLists p features.now.features dirt.now errors.now → IsFirstRule R.meaning p in_force.now subject place) }
 {
-    let fresh = judge_subject(rules, alloc, in_force, features, subject, work)?;
+    let meter = &mut Count::new();
+    let fresh = judge_subject(rules, alloc, in_force, features, subject, work, meter)?;
     let envelope = envelope_of(features, subject);
     for i in 0..fresh.len() {
         if !is_sound_part(alloc, &fresh[i], subject, envelope, errors, dirt)? {

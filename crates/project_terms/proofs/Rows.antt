@@ -1,7 +1,7 @@
 -- Lines, verdicts and a whole text, computed from the definitions.
 --
 -- two_lots      two squares that overlap, their rule, and the error between them: the worked project
-use Rattle.std.proofs.Common.{◌≡◌, ℕ, ℤ, pos, negsuc, false, List, [], ◌∷◌, ◌++◌, refl}
+use Rattle.std.proofs.Common.{◌≡◌, ℕ, ℤ, pos, negsuc, false, true, Option, List, [], ◌∷◌, ◌++◌, refl}
 use Rattle.std.specs.Prelude.{codes, Some, None, flat_map, Ok, Err}
 use Rattle.std.specs.Fmt.{digits}
 use Rattle.plane_terms.specs.Point.{Place}
@@ -11,14 +11,16 @@ use Rattle.plane_terms.specs.Shape.{Shape}
 use Rattle.plane_terms.specs.declared.kind.Kind.TheVariants as kind
 use Rattle.plane_terms.specs.declared.op.Op.TheVariants.{Over}
 use Rattle.rule_words.specs.declared.rule_kind.RuleKind.TheVariants as rule
+use Rattle.topology_terms.specs.Feature.{Side, no_side, feature_of as feature}
 use Rattle.topology_terms.specs.Entry.{Entry}
 use Rattle.topology_terms.specs.Project.{Project, empty_project}
 use Rattle.project_terms.specs.declared.stage.Stage.TheVariants as stage
 use Rattle.project_terms.specs.declared.project_cause.ProjectCause.TheVariants as cause
 use Rattle.project_terms.specs.Lines.{fields, number}
-use Rattle.project_terms.specs.Written.{project_text}
+use Rattle.project_terms.specs.Written.{project_text, text_of}
+use Rattle.project_terms.specs.Records.{IsPlain}
 use Rattle.project_terms.specs.Drafts.{Draft, start}
-use Rattle.project_terms.specs.Verdicts.{Unwritten, Written, line_verdict}
+use Rattle.project_terms.specs.Verdicts.{SideForm, Unwritten, Written, line_verdict, side_form, own_form}
 use Rattle.project_terms.specs.Texts.{ended}
 
 -- ---- fields and numbers
@@ -79,24 +81,18 @@ two_lots = record {
     number = 1;
     row = record {
       kind = rule.PolygonMustNotOverlap;
-      origin = record { class = 1 };
-      dest =
-          record { class = 0 };
+      origin = record { class = 1; subtype = None };
+      dest = no_side;
     };
   } ∷ [];
-  features = record { handle = 1; class = 1; shape = square (pos 0) (pos 10) } ∷ record {
-    handle = 2;
-    class = 1;
-    shape =
-        square (pos 5) (pos 15);
-  } ∷ [];
+  features = feature 1 1 0 (square (pos 0) (pos 10)) ∷ feature 2 1 0 (square (pos 5) (pos 15)) ∷ [];
   next = 3;
   dirt = [];
   entries = overlap ∷ [];
 }
 
-abbrev lines : List (List ℕ)
-lines = codes "topology 1"
+abbrev lines : List ℕ → List (List ℕ)
+lines title = title
     ∷ codes "next 3"
     ∷ codes "class lots polygon"
     ∷ codes "rule 1 polygon_must_not_overlap lots"
@@ -107,25 +103,105 @@ lines = codes "topology 1"
     ∷ codes "end"
     ∷ []
 
-text : project_text two_lots ≡ flat_map ended lines
+text : project_text two_lots ≡ flat_map ended (lines (codes "topology 2"))
 unfolding digits
 text = refl
 
-empty_text : project_text empty_project ≡ flat_map ended (codes "topology 1" ∷ codes "next 1" ∷ codes "end" ∷ [])
+-- in format 1 the first line alone is another
+older_text : text_of 1 two_lots ≡ flat_map ended (lines (codes "topology 1"))
+unfolding digits
+older_text = refl
+
+plain : IsPlain two_lots
+plain = record { rules = (record { origin = refl; dest = refl }, tt); features = (refl, (refl, tt)) }
+
+empty_text : project_text empty_project ≡ flat_map ended (codes "topology 2" ∷ codes "next 1" ∷ codes "end" ∷ [])
 unfolding digits
 empty_text = refl
 
+-- a rule between two subtypes of one class, and features of each
+abbrev of_lots : Option ℕ → Side
+of_lots t = record { class = 1; subtype = t }
+
+abbrev two_kinds : Project
+two_kinds = record two_lots {
+  rules = record {
+    number = 1;
+    row = record { kind = rule.PolygonMustNotOverlapWith; origin = of_lots (Some 1); dest = of_lots (Some 0) };
+  } ∷ [];
+  features = feature 1 1 1 (square (pos 0) (pos 10)) ∷ feature 2 1 0 (square (pos 5) (pos 15)) ∷ [];
+  entries = [];
+}
+
+typed_text : project_text two_kinds ≡ flat_map ended (codes "topology 2"
+    ∷ codes "next 3"
+    ∷ codes "class lots polygon"
+    ∷ codes "rule 1 polygon_must_not_overlap_with lots:1 lots:0"
+    ∷ codes "feature 1 lots:1 POLYGON ((0 0, 10 0, 10 10, 0 10, 0 0))"
+    ∷ codes "feature 2 lots POLYGON ((5 5, 15 5, 15 15, 5 15, 5 5))"
+    ∷ codes "end"
+    ∷ [])
+unfolding digits
+typed_text = refl
+
+-- ---- sides
+
+abbrev named : List ℕ → Option ℤ → SideForm
+named name subtype = record { name = name; subtype = subtype }
+
+plain_side : side_form true (codes "lots") ≡ Some (named (codes "lots") None)
+plain_side = refl
+
+bound_side : side_form true (codes "lots:2") ≡ Some (named (codes "lots") (Some (pos 2)))
+bound_side = refl
+
+-- the format 1 has no colon
+no_side_of_format_1 : side_form false (codes "lots:2") ≡ None
+no_side_of_format_1 = refl
+
+-- a side may bind the subtype 0, and a feature's is not written
+side_of_0 : side_form true (codes "lots:0") ≡ Some (named (codes "lots") (Some (pos 0)))
+side_of_0 = refl
+
+no_own_of_0 : own_form true (codes "lots:0") ≡ None
+no_own_of_0 = refl
+
+-- a number is spelled in one way; its limits are looked at later
+no_nought_below : side_form true (codes "lots:-0") ≡ None
+no_nought_below = refl
+
+no_zeros : own_form true (codes "lots:007") ≡ None
+no_zeros = refl
+
+no_plus : own_form true (codes "lots:+1") ≡ None
+no_plus = refl
+
+no_number : side_form true (codes "lots:") ≡ None
+no_number = refl
+
+one_colon : side_form true (codes "lots:1:2") ≡ None
+one_colon = refl
+
+no_name : side_form true (codes ":1") ≡ None
+no_name = refl
+
+below_0 : own_form true (codes "lots:-5") ≡ Some (named (codes "lots") (Some (negsuc 4)))
+below_0 = refl
+
 -- ---- verdicts
 
-titled : line_verdict Unwritten start (fields (codes "topology 1")) ≡ Ok (record start { stage = stage.Title })
+titled : line_verdict Unwritten start (fields (codes "topology 2")) ≡ Ok (record start { stage = stage.Title; typed = true })
 titled = refl
+
+older : line_verdict Unwritten start (fields (codes "topology 1")) ≡ Ok (record start { stage = stage.Title })
+older = refl
 
 another_format : line_verdict Unwritten start (fields (codes "topology 9")) ≡ Err cause.Form
 another_format = refl
 
 -- a section behind a later one, and a number beyond its limits
 abbrev behind_features : Draft
-behind_features = record { stage = stage.Features; project = record two_lots { entries = [] } }
+behind_features = record { stage = stage.Features; typed = true; project = record two_lots { entries = [] } }
 
 late_class : line_verdict Unwritten behind_features (fields (codes "class zones polygon")) ≡ Err cause.Form
 late_class = refl
@@ -142,6 +218,7 @@ cell_too_soon = refl
 
 end_too_soon : line_verdict Unwritten (record {
   stage = stage.Errors;
+  typed = true;
   project = record two_lots {
     entries =
         record overlap { cells = [] } ∷ [];
@@ -151,7 +228,7 @@ end_too_soon : line_verdict Unwritten (record {
 end_too_soon = refl
 
 -- nothing stands behind the end: no cell either, though the last error is of cells
-cell_too_late : line_verdict Unwritten (record { stage = stage.End; project = two_lots }) (fields (codes "cell 1 0 0 >")) ≡ Err cause.Form
+cell_too_late : line_verdict Unwritten (record { stage = stage.End; typed = true; project = two_lots }) (fields (codes "cell 1 0 0 >")) ≡ Err cause.Form
 cell_too_late = refl
 
 -- each cause but `Shape`, which is the shape's, and `Short`, which is the text's
@@ -163,6 +240,7 @@ again = refl
 
 nested : line_verdict Unwritten (record {
   stage = stage.Dirt;
+  typed = true;
   project = record two_lots { entries = []; dirt = rect_of (pos 1) (pos 1) (pos 2) (pos 2) ∷ [] };
 }) (fields (codes "dirty 0 0 2 2")) ≡ Err cause.Order
 nested = refl
@@ -176,3 +254,52 @@ carriage_return = refl
 handle_not_given : line_verdict (Written (square (pos 0) (pos 10))) behind_features (fields (codes "feature 3 lot POINT (0 0)")) ≡ Err
     cause.Range
 handle_not_given = refl
+
+-- a subtype is looked at before the class, and after the form
+abbrev behind_rule : Draft
+behind_rule = record { stage = stage.Rules; typed = true; project = record two_lots { features = []; entries = [] } }
+
+subtype_256 : line_verdict (Written (square (pos 0) (pos 10))) behind_rule (fields (codes "feature 1 plots:256 POINT (0 0)")) ≡ Err
+    cause.Range
+subtype_256 = refl
+
+subtype_below_0 : line_verdict (Written (square (pos 0) (pos 10))) behind_rule (fields (codes "feature 1 lots:-5 POINT (0 0)")) ≡ Err
+    cause.Range
+subtype_below_0 = refl
+
+class_not_there : line_verdict (Written (square (pos 0) (pos 10))) behind_rule (fields (codes "feature 1 plots:255 POINT (0 0)")) ≡ Err
+    cause.Unknown
+class_not_there = refl
+
+own_of_0 : line_verdict (Written (square (pos 0) (pos 10))) behind_rule (fields (codes "feature 1 lots:0 POINT (0 0)")) ≡ Err
+    cause.Form
+own_of_0 = refl
+
+-- of a rule, too; its sides must have no feature in common
+side_256 : line_verdict Unwritten behind_rule (fields (codes "rule 2 polygon_must_not_overlap_with lots:1 plots:256")) ≡ Err cause.Range
+side_256 = refl
+
+a_class_and_its_subtype : line_verdict Unwritten behind_rule (fields (codes "rule 2 polygon_must_not_overlap_with lots lots:2")) ≡ Err
+    cause.Unknown
+a_class_and_its_subtype = refl
+
+one_subtype_twice : line_verdict Unwritten behind_rule (fields (codes "rule 2 polygon_must_not_overlap_with lots:2 lots:2")) ≡ Err
+    cause.Unknown
+one_subtype_twice = refl
+
+two_subtypes : line_verdict Unwritten behind_rule (fields (codes "rule 2 polygon_must_not_overlap_with lots:1 lots:2")) ≡ Ok
+    (record behind_rule {
+      project = record two_lots {
+        features = [];
+        entries = [];
+        rules = two_lots.rules ++ record {
+          number = 2;
+          row = record { kind = rule.PolygonMustNotOverlapWith; origin = of_lots (Some 1); dest = of_lots (Some 2) };
+        } ∷ [];
+      };
+    })
+two_subtypes = refl
+
+-- the same rule on the class and on a subtype of it are two rules
+another_side : line_verdict Unwritten behind_rule (fields (codes "rule 2 polygon_must_not_overlap lots")) ≡ Err cause.Order
+another_side = refl

@@ -1,6 +1,7 @@
 -- What the lines read so far say, and where a line may stand.
 --
--- Draft             the stage that the text has come to, and the project of the lines before
+-- Draft             the stage that the text has come to, whether its format has subtypes (that of format 1 has none), and the project of
+--                   the lines before
 -- start             no line is read
 -- may_follow a s    a line of the stage s may come behind the stage a: the title first, the next handle behind it, then the sections in
 --                   their
@@ -25,10 +26,11 @@ use Rattle.project_terms.specs.declared.stage.Stage.TheVariants as stage
 
 pub record Draft : Type 0 where
   pub stage : Stage
+  pub typed : Bool
   pub project : Project
 
 abbrev pub start : Draft
-start = record { stage = stage.Start; project = empty_project }
+start = record { stage = stage.Start; typed = false; project = empty_project }
 
 abbrev pub rank : Stage → ℕ
 rank stage.Start = 0

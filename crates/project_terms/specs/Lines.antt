@@ -10,6 +10,8 @@
 --                     otherwise.
 --                     `-0` and `+1` are no numbers. Whatever its length, a number is one
 -- natural low high z  the number z where it is from low to high
+-- before_colon field  the field up to its first colon; all of it, where it has none
+-- behind_colon field  what stands behind that colon, where there is one
 --
 -- Source: own.
 use Rattle.std.specs.Prelude.{ℕ, ℤ, pos, negsuc, neg_ℤ, Bool, false, ◌&&◌, ◌||◌, ◌==◌, nat_le, List, [], ◌∷◌, ◌++◌, Option, Some, None, if◌then◌else◌}
@@ -59,3 +61,11 @@ number (b ∷ bs) = if b == 45 then negative bs else positive (b ∷ bs)
 abbrev pub natural : ℕ → ℕ → ℤ → Option ℕ
 natural low high (pos n) = if nat_le low n && nat_le n high then Some n else None
 natural low high (negsuc n) = None
+
+abbrev pub before_colon : List ℕ → List ℕ
+before_colon [] = []
+before_colon (b ∷ bs) = if b == 58 then [] else b ∷ before_colon bs
+
+abbrev pub behind_colon : List ℕ → Option (List ℕ)
+behind_colon [] = None
+behind_colon (b ∷ bs) = if b == 58 then Some bs else behind_colon bs

@@ -1,7 +1,7 @@
 -- The text of a project: what it says, or its first wrong line.
 --
--- IsProjectText t p     t is the text of the project p, which a text can say: the grammar, both ways. A project has one text, and a text
---                       one project
+-- IsProjectText t p     t is a text of the project p, which a text can say: the grammar, both ways. A project has one text of format 2, and
+--                       one of format 1 exactly where it has no subtype; and a text has one project
 -- IsReading t r         r is what comes of the text t of a shape
 -- IsLineVerdict d fs v  v is the verdict on a line of these fields behind the draft d
 -- IsVerdict d l v       the same, on the line l
@@ -28,14 +28,14 @@ use Rattle.project_terms.specs.declared.stage.Stage.TheVariants as stage
 use Rattle.project_terms.specs.declared.project_cause.ProjectCause.{ProjectCause}
 use Rattle.project_terms.specs.declared.project_cause.ProjectCause.TheVariants as cause
 use Rattle.project_terms.specs.Lines.{fields}
-use Rattle.project_terms.specs.Written.{project_text}
-use Rattle.project_terms.specs.Records.{IsRecord}
+use Rattle.project_terms.specs.Written.{project_text, text_of}
+use Rattle.project_terms.specs.Records.{IsRecord, IsPlain}
 use Rattle.project_terms.specs.Drafts.{Draft, start}
 use Rattle.project_terms.specs.Verdicts.{Verdict, WktReading, Unwritten, Refused, Written, line_verdict, wkt_of}
 
 pub record IsProjectText (t : List ℕ) (p : Project) : Type 0 where
   pub record_of : IsRecord p
-  pub text : t ≡ project_text p
+  pub text : (t ≡ project_text p) ⊎ (IsPlain p × (t ≡ text_of 1 p))
 
 -- ---- shapes
 

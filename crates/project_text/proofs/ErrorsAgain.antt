@@ -82,7 +82,7 @@ pub error_put : (d : Draft) (e : Entry) → natural 1 (d.project.next - 1) (pos 
     → natural 0 (d.project.next - 1) (pos e.other) ≡ Some e.other → is_rectangle e.frame ≡ true → (e.whole && not (e.other == 0)) ≡ false
     → natural 1 256 (pos e.rule) ≡ Some e.rule → is_some (rule_at d.project.rules e.rule) ≡ true
     → is_last_key d.project.entries (key_of e) ≡ true → error_verdict e.marked d (form_of e) ≡
-    Ok (record { stage = stage.Errors; project = record d.project { entries = d.project.entries ++ bare e ∷ [] } })
+    Ok (record d { stage = stage.Errors; project = record d.project { entries = d.project.entries ++ bare e ∷ [] } })
 error_put d e a b frame partner r rule last =
     ap (λ o. error_in d e.marked (form_of e) o (natural 0 (d.project.next - 1) (pos e.other))) a
     ∙ (ap (λ o. error_in d e.marked (form_of e) (Some e.subject) o) b
@@ -90,11 +90,11 @@ error_put d e a b frame partner r rule last =
     (or_from (not (is_rectangle e.frame)) (e.whole && not (e.other == 0)) (ap not frame) partner)
     ∙ (ap (error_ruled d e.marked (form_of e) e.subject e.other) r ∙ rw (rule, last) refl)))
 
-pub error_step : (p : Project) → IsRecord p → (done : List Entry) (e : Entry) (es : List Entry) → done ++ e ∷ es ≡ p.entries → (s : Stage)
+pub error_step : (t : Bool) (p : Project) → IsRecord p → (done : List Entry) (e : Entry) (es : List Entry) → done ++ e ∷ es ≡ p.entries → (s : Stage)
     → 2 ≤ rank s → rank s ≤ 7
-    → IsVerdict (at_stage s (in_errors p done)) (joined (error_line e)) (Ok (at_stage stage.Errors (in_errors p (done ++ bare e ∷ []))))
-error_step p h done e es same s some up =
-    let d : Draft = at_stage s (in_errors p done) in
+    → IsVerdict (at_stage t s (in_errors p done)) (joined (error_line e)) (Ok (at_stage t stage.Errors (in_errors p (done ++ bare e ∷ []))))
+error_step t p h done e es same s some up =
+    let d : Draft = at_stage t s (in_errors p done) in
     let g = every_mid (IsError p) done e es (subst (Every (IsError p)) (sym same) h.errors) in
     let rising = between IsKeyBelow done e es (subst (EveryPair IsKeyBelow) (sym same) h.entries) in
     let full = no_wants done (every_left HasCells done (e ∷ es) (subst (Every HasCells) (sym same) (all_cells p h))) in
@@ -114,7 +114,7 @@ error_step p h done e es same s some up =
     )
     (mark_shape e.marked d fs)
     (mark_line e.marked Unwritten d fs
-    ∙ (at_true stage.Errors d _ (open_here s stage.Errors (in_errors p done) some up (omega arith) up full)
+    ∙ (at_true stage.Errors d _ (open_here t s stage.Errors (in_errors p done) some up (omega arith) up full)
     ∙ (ap (judged (error_verdict e.marked d)) read
     ∙ error_put d e (natural_back 1 (p.next - 1) e.subject g.from_1 (omega (arith, g.given)))
     (natural_back 0 (p.next - 1) e.other (omega arith) (omega (arith, g.partner))) (rectangle_true e.frame g.frame)
@@ -175,50 +175,50 @@ cell_put d c a = rw a refl
 pub cell_true : (d : Draft) (v : Verdict) → is_cell_open d ≡ true → (if is_cell_open d then v else Err cause.Form) ≡ v
 cell_true d v o = rw o refl
 
-pub cell_step : (p : Project) (done : List Entry) (e : Entry) (c : Cell) → e.whole ≡ false → c ≢ [] → Every IsHalfPlane c
-    → IsVerdict (at_stage stage.Errors (in_errors p (done ++ e ∷ []))) (joined (cell_line c))
-    (Ok (at_stage stage.Errors (in_errors p (done ++ record e { cells = e.cells ++ c ∷ [] } ∷ []))))
-cell_step p done e c part some v =
-    let d : Draft = at_stage stage.Errors (in_errors p (done ++ e ∷ [])) in
+pub cell_step : (t : Bool) (p : Project) (done : List Entry) (e : Entry) (c : Cell) → e.whole ≡ false → c ≢ [] → Every IsHalfPlane c
+    → IsVerdict (at_stage t stage.Errors (in_errors p (done ++ e ∷ []))) (joined (cell_line c))
+    (Ok (at_stage t stage.Errors (in_errors p (done ++ record e { cells = e.cells ++ c ∷ [] } ∷ []))))
+cell_step t p done e c part some v =
+    let d : Draft = at_stage t stage.Errors (in_errors p (done ++ e ∷ [])) in
     let takes : takes_cell (done ++ e ∷ []) ≡ true = takes_end done e ∙ ap not part in
     plain_verdict d _ (codes "cell") (cell_fields c) (refl, plain_halves c) refl
     (cell_true d _ takes ∙ (ap (judged (cell_verdict d)) (cell_back c some v)
-    ∙ (cell_put d c (all_halves c v) ∙ ap (λ (es : List Entry). Ok (at_stage stage.Errors (in_errors p es))) (put_end done e c))))
+    ∙ (cell_put d c (all_halves c v) ∙ ap (λ (es : List Entry). Ok (at_stage t stage.Errors (in_errors p es))) (put_end done e c))))
 
 pub part_of_cells : (w : Bool) (done : List Cell) (c : Cell) (cs all : List Cell) → done ++ c ∷ cs ≡ all → (w ≡ true → all ≡ []) → w ≡ false
 part_of_cells true done c cs all same h = absurd (no_end done c cs (same ∙ h refl))
 part_of_cells false done c cs all same h = refl
 
-pub cells_read : (p : Project) (before : List Entry) (x : Entry) → IsError p x → (rest : List (List (List ℕ))) (e : Draft)
-    → AreRead (at_stage stage.Errors (in_errors p (before ++ x ∷ []))) (map joined rest) e
+pub cells_read : (t : Bool) (p : Project) (before : List Entry) (x : Entry) → IsError p x → (rest : List (List (List ℕ))) (e : Draft)
+    → AreRead (at_stage t stage.Errors (in_errors p (before ++ x ∷ []))) (map joined rest) e
     → (todo done : List Cell) → done ++ todo ≡ x.cells
-    → AreRead (at_stage stage.Errors (in_errors p (before ++ record x { cells = done } ∷ [])))
+    → AreRead (at_stage t stage.Errors (in_errors p (before ++ record x { cells = done } ∷ [])))
     (map joined (map {A = Cell} cell_line todo ++ rest)) e
-cells_read p before x g rest e k [] done same =
-    subst (λ (cs : List Cell). AreRead (at_stage stage.Errors (in_errors p (before ++ record x { cells = cs } ∷ []))) (map joined rest) e)
+cells_read t p before x g rest e k [] done same =
+    subst (λ (cs : List Cell). AreRead (at_stage t stage.Errors (in_errors p (before ++ record x { cells = cs } ∷ []))) (map joined rest) e)
     (sym same ∙ append-nil done) k
-cells_read p before x g rest e k (c ∷ cs) done same = (
-  at_stage stage.Errors (in_errors p (before ++ record x { cells = done ++ c ∷ [] } ∷ [])),
-  cell_step p before (record x { cells = done }) c (part_of_cells x.whole done c cs x.cells same (λ w. (g.whole w).1))
+cells_read t p before x g rest e k (c ∷ cs) done same = (
+  at_stage t stage.Errors (in_errors p (before ++ record x { cells = done ++ c ∷ [] } ∷ [])),
+  cell_step t p before (record x { cells = done }) c (part_of_cells x.whole done c cs x.cells same (λ w. (g.whole w).1))
       (every_mid (λ (k : Cell). k ≢ []) done c cs (subst (Every (λ (k : Cell). k ≢ [])) (sym same) g.some))
       (every_mid (λ (k : Cell). Every IsHalfPlane k) done c cs (subst (Every (λ (k : Cell). Every IsHalfPlane k)) (sym same) g.halves)),
-  cells_read p before x g rest e k cs (done ++ c ∷ []) (append_assoc done (c ∷ []) cs ∙ same),
+  cells_read t p before x g rest e k cs (done ++ c ∷ []) (append_assoc done (c ∷ []) cs ∙ same),
 )
 
-pub errors_read : (p : Project) → IsRecord p → (rest : List (List (List ℕ))) (e : Draft)
-    → ((s : Stage) → 2 ≤ rank s → rank s ≤ 7 → AreRead (at_stage s p) (map joined rest) e)
+pub errors_read : (t : Bool) (p : Project) → IsRecord p → (rest : List (List (List ℕ))) (e : Draft)
+    → ((s : Stage) → 2 ≤ rank s → rank s ≤ 7 → AreRead (at_stage t s p) (map joined rest) e)
     → (todo done : List Entry) → done ++ todo ≡ p.entries → (s : Stage) → 2 ≤ rank s → rank s ≤ 7
-    → AreRead (at_stage s (in_errors p done)) (map joined (flat_map error_lines todo ++ rest)) e
-errors_read p h rest e k [] done same s some up =
-    subst (λ (es : List Entry). AreRead (at_stage s (in_errors p es)) (map joined rest) e) (sym same ∙ append-nil done) (k s some up)
-errors_read p h rest e k (x ∷ xs) done same s some up =
+    → AreRead (at_stage t s (in_errors p done)) (map joined (flat_map error_lines todo ++ rest)) e
+errors_read t p h rest e k [] done same s some up =
+    subst (λ (es : List Entry). AreRead (at_stage t s (in_errors p es)) (map joined rest) e) (sym same ∙ append-nil done) (k s some up)
+errors_read t p h rest e k (x ∷ xs) done same s some up =
     let g = every_mid (IsError p) done x xs (subst (Every (IsError p)) (sym same) h.errors) in
-    let m : Draft = at_stage stage.Errors (in_errors p (done ++ bare x ∷ [])) in
-    let more = errors_read p h rest e k xs (done ++ x ∷ []) (append_assoc done (x ∷ []) xs ∙ same) stage.Errors (omega arith)
+    let m : Draft = at_stage t stage.Errors (in_errors p (done ++ bare x ∷ [])) in
+    let more = errors_read t p h rest e k xs (done ++ x ∷ []) (append_assoc done (x ∷ []) xs ∙ same) stage.Errors (omega arith)
     (omega arith) in
-    let cells = cells_read p done x g (flat_map error_lines xs ++ rest) e more x.cells [] refl in (
+    let cells = cells_read t p done x g (flat_map error_lines xs ++ rest) e more x.cells [] refl in (
       m,
-      error_step p h done x xs same s some up,
+      error_step t p h done x xs same s some up,
       subst (λ (ls : List (List (List ℕ))). AreRead m (map joined ls) e)
           (sym (append_assoc (map {A = Cell} cell_line x.cells) (flat_map error_lines xs) rest)) cells,
     )

@@ -18,27 +18,19 @@ gives_map (Ok x) P Q d f h = f (Ok d) h
 gives_map (Err (line.Wrong c)) P Q d f h = f (Err c) h
 gives_map (Err line.NoMemory) P Q d f h = tt
 
--- the verdict does not look at the text of a shape that is read
-same_numbered : (d : Draft) (f : FeatureForm) (s : Shape) (o : Option ℕ)
-    → feature_numbered d (record { handle = f.handle; class = f.class; wkt = [] }) s o ≡ feature_numbered d f s o
-same_numbered d f s None = refl
-same_numbered d f s (Some h) = refl
-
 pub feature_read : {X : Type 0} (r : Result X LineFault) (d new : Draft) (fs : List (List ℕ)) (f : FeatureForm) (s : Shape)
     → is_open stage.Features d ≡ true
-    → feature_of fs ≡ Some f → IsReading f.wkt (Written s)
-    → Says r (feature_numbered d (record { handle = f.handle; class = f.class; wkt = [] }) s (natural 1 (d.project.next - 1) f.handle)) new
+    → feature_of d.typed fs ≡ Some f → IsReading f.wkt (Written s)
+    → Says r (feature_numbered d f.own s (natural 1 (d.project.next - 1) f.handle)) new
     → Gives r (IsFeatureVerdict d fs) new
 feature_read r d new fs f s may said reading h =
-    gives_map r (λ v. v ≡ feature_numbered d (record { handle = f.handle; class = f.class; wkt = [] }) s
-    (natural 1 (d.project.next - 1) f.handle))
-    (IsFeatureVerdict d fs) new
-    (λ v e. (Written s, λ o. rw said reading, rw (may, said) (e ∙ same_numbered d f s (natural 1 (d.project.next - 1) f.handle)))) h
+    gives_map r (λ v. v ≡ feature_numbered d f.own s (natural 1 (d.project.next - 1) f.handle)) (IsFeatureVerdict d fs) new
+    (λ v e. (Written s, λ o. rw said reading, rw (may, said) e)) h
 
 of_feature : (d : Draft) (fs : List (List ℕ)) (v : Verdict) → IsFeatureVerdict d fs v → IsLineVerdict d (codes "feature" ∷ fs) v
 of_feature d fs v (r, read, e) = (r, looked (is_open stage.Features d) refl, e)
   where
-    looked : (b : Bool) → is_open stage.Features d ≡ b → IfSome (if b then wkt_in (feature_of fs) else None) (λ t. IsReading t r)
+    looked : (b : Bool) → is_open stage.Features d ≡ b → IfSome (if b then wkt_in (feature_of d.typed fs) else None) (λ t. IsReading t r)
     looked true o = read o
     looked false o = tt
 

@@ -14,13 +14,13 @@ use Rattle.rule_words.specs.Table.{word_of, first_of_word, all_rules}
 use Rattle.rule_words.proofs.OneWord.{has_word}
 use Rattle.wkt_terms.specs.Numerals.{value_of}
 use Rattle.project_terms.specs.Lines.{number, positive, negative, spelled, is_positive, counted, joined, fields, fields_from}
-use Rattle.project_terms.specs.Verdicts.{FeatureForm, HalfForm, bind, is_none, is_one, number_of, kind_of_word, class_of, second_of, rule_of, feature_of, rect_of, extent_of, error_of, op_of, half_of, halves_behind}
+use Rattle.project_terms.specs.Verdicts.{SideForm, RuleForm, FeatureForm, HalfForm, bind, is_none, title_of, side_form, own_form, number_of, kind_of_word, class_of, second_of, rule_of, feature_of, rect_of, extent_of, error_of, op_of, half_of, halves_behind}
 use Rattle.project_text.specs.Reading.{is_single}
 
-pub not_one : (fs : List (List ℕ)) → is_single fs ≡ false → is_one fs ≡ false
-not_one [] h = refl
-not_one (f ∷ []) h = absurd cc
-not_one (f ∷ g ∷ fs) h = refl
+pub no_title : (fs : List (List ℕ)) → is_single fs ≡ false → title_of fs ≡ None
+no_title [] h = refl
+no_title (f ∷ []) h = absurd cc
+no_title (f ∷ g ∷ fs) h = refl
 
 pub no_number_of : (fs : List (List ℕ)) → is_single fs ≡ false → number_of fs ≡ None
 no_number_of [] h = refl
@@ -54,36 +54,26 @@ pub class_found : (n k : List ℕ) (c : Kind) → is_name n ≡ true → kind_of
 class_found n k c h e = rw (h, e) refl
 
 -- ---- rules
-pub no_second : (fs : List (List ℕ)) → is_none fs ≡ false → is_single fs ≡ false → second_of fs ≡ None
-no_second [] h s = absurd cc
-no_second (f ∷ []) h s = absurd cc
-no_second (f ∷ g ∷ fs) h s = refl
+pub no_second : (typed : Bool) (fs : List (List ℕ)) → is_none fs ≡ false → is_single fs ≡ false → second_of typed fs ≡ None
+no_second typed [] h s = absurd cc
+no_second typed (f ∷ []) h s = absurd cc
+no_second typed (f ∷ g ∷ fs) h s = refl
 
-pub second_none : (fs : List (List ℕ)) → is_none fs ≡ true → second_of fs ≡ Some None
-second_none [] h = refl
-second_none (f ∷ fs) h = absurd cc
+pub second_none : (typed : Bool) (fs : List (List ℕ)) → is_none fs ≡ true → second_of typed fs ≡ Some None
+second_none typed [] h = refl
+second_none typed (f ∷ fs) h = absurd cc
 
-pub rule_unnumbered : (f : List ℕ) (fs : List (List ℕ)) → number f ≡ None → rule_of (f ∷ fs) ≡ None
-rule_unnumbered f [] h = refl
-rule_unnumbered f (w ∷ []) h = refl
-rule_unnumbered f (w ∷ n ∷ fs) h = rw h refl
+pub rule_unworded : (typed : Bool) (f w n : List ℕ) (fs : List (List ℕ)) (z : ℤ) → number f ≡ Some z → first_of_word w all_rules ≡ None
+    → rule_of typed (f ∷ w ∷ n ∷ fs) ≡ None
+rule_unworded typed f w n fs z h e = rw (h, e) refl
 
-pub rule_unworded : (f w n : List ℕ) (fs : List (List ℕ)) (z : ℤ) → number f ≡ Some z → first_of_word w all_rules ≡ None
-    → rule_of (f ∷ w ∷ n ∷ fs) ≡ None
-rule_unworded f w n fs z h e = rw (h, e) refl
-
-pub rule_unseconded : (f w n : List ℕ) (fs : List (List ℕ)) (z : ℤ) (k : RuleKind) → number f ≡ Some z
-    → first_of_word w all_rules ≡ Some k → second_of fs ≡ None → rule_of (f ∷ w ∷ n ∷ fs) ≡ None
-rule_unseconded f w n fs z k h e s = rw (h, e, s) refl
-
-pub rule_unnamed : (f w n : List ℕ) (fs : List (List ℕ)) (z : ℤ) (k : RuleKind) (d : Option (List ℕ)) → number f ≡ Some z
-    → first_of_word w all_rules ≡ Some k → second_of fs ≡ Some d → is_name n ≡ false → rule_of (f ∷ w ∷ n ∷ fs) ≡ None
-rule_unnamed f w n fs z k d h e s m = rw (h, e, s, m) refl
-
-pub rule_found : (f w n : List ℕ) (fs : List (List ℕ)) (z : ℤ) (k : RuleKind) (d : Option (List ℕ)) → number f ≡ Some z
-    → first_of_word w all_rules ≡ Some k → second_of fs ≡ Some d → is_name n ≡ true
-    → rule_of (f ∷ w ∷ n ∷ fs) ≡ Some (record { number = z; kind = k; origin = n; dest = d })
-rule_found f w n fs z k d h e s m = rw (h, e, s, m) refl
+pub rule_found : (typed : Bool) (f w n : List ℕ) (fs : List (List ℕ)) (z : ℤ) (k : RuleKind) (a : SideForm) (d : Option SideForm)
+    → number f ≡ Some z → first_of_word w all_rules ≡ Some k → second_of typed fs ≡ Some d → side_form typed n ≡ Some a
+    → rule_of typed (f ∷ w ∷ n ∷ fs) ≡ Some (record { number = z; kind = k; origin = a; dest = d })
+rule_found typed f w n fs z k a d h e s m =
+    let put : SideForm → RuleForm = λ x. record { number = z; kind = k; origin = x; dest = d } in
+    rw (h, e) (ap (λ o. bind o (λ dest. option_map (λ (x : SideForm). record { number = z; kind = k; origin = x; dest = dest })
+    (side_form typed n))) s ∙ ap (λ o. option_map put o) m)
 
 -- ---- features
 -- the parts of a line with spaces between them are the line
@@ -107,27 +97,19 @@ joined_from before (b ∷ bs) = by (b == 32) refl (joined_from [] bs) (joined_fr
 pub joined_fields : (t : List ℕ) → joined (fields t) ≡ t
 joined_fields t = joined_from [] t
 
-pub feature_short : (h n : List ℕ) → feature_of (h ∷ n ∷ []) ≡ None
-feature_short h n = refl
+pub feature_found : (typed : Bool) (h n t : List ℕ) (fs : List (List ℕ)) (z : ℤ) (a : SideForm) → fs ≡ fields t → number h ≡ Some z
+    → own_form typed n ≡ Some a → feature_of typed (h ∷ n ∷ fs) ≡ Some (record { handle = z; own = a; wkt = t })
+feature_found typed h n t [] z a e m k = absurd (let s = some_fields [] t in let e' : [] ≡ fields_from [] t = e in cc)
+feature_found typed h n t (f ∷ fs) z a e m k =
+    let put : List ℕ → ℤ → FeatureForm = λ w x. record { handle = x; own = a; wkt = w } in
+    ap (λ o. bind o (λ (x : SideForm). option_map (λ (y : ℤ). record { handle = y; own = x; wkt = joined (f ∷ fs) }) (number h))) k
+    ∙ (ap (λ o. option_map (put (joined (f ∷ fs))) o) m ∙ ap (λ w. Some (put w z)) (ap joined e ∙ joined_fields t))
 
-pub feature_unnumbered : (h n t : List ℕ) (fs : List (List ℕ)) → fs ≡ fields t → number h ≡ None → feature_of (h ∷ n ∷ fs) ≡ None
-feature_unnumbered h n t [] e m = refl
-feature_unnumbered h n t (f ∷ fs) e m = by (is_name n)
-  where
-    by : (y : Bool) → (if y then option_map {U = FeatureForm} (λ (z : ℤ). record { handle = z; class = n; wkt = joined (f ∷ fs) })
-        (number h) else None) ≡ None
-    by true = rw m refl
-    by false = refl
-
-pub feature_unnamed : (h n : List ℕ) (fs : List (List ℕ)) → is_name n ≡ false → feature_of (h ∷ n ∷ fs) ≡ None
-feature_unnamed h n [] e = refl
-feature_unnamed h n (f ∷ fs) e = rw e refl
-
-pub feature_found : (h n t : List ℕ) (fs : List (List ℕ)) (z : ℤ) → fs ≡ fields t → number h ≡ Some z → is_name n ≡ true
-    → feature_of (h ∷ n ∷ fs) ≡ Some (record { handle = z; class = n; wkt = t })
-feature_found h n t [] z e m k = absurd (let s = some_fields [] t in let e' : [] ≡ fields_from [] t = e in cc)
-feature_found h n t (f ∷ fs) z e m k =
-    rw (m, k) (ap (λ w. Some (record { handle = z; class = n; wkt = w })) (ap joined e ∙ joined_fields t))
+pub feature_unnamed : (typed : Bool) (h n : List ℕ) (fs : List (List ℕ)) → own_form typed n ≡ None → feature_of typed (h ∷ n ∷ fs) ≡ None
+feature_unnamed typed h n [] e = refl
+feature_unnamed typed h n (f ∷ fs) e =
+    ap (λ o. bind o (λ (x : SideForm). option_map {U = FeatureForm} (λ (y : ℤ). record { handle = y; own = x; wkt = joined (f ∷ fs) })
+    (number h))) e
 
 -- ---- half-planes
 pub no_half : (fs : List (List ℕ)) → fs ≡ [] → (hs : List HalfPlane) → halves_behind hs true fs ≡ None
@@ -255,12 +237,15 @@ pub fits : (f : List ℕ) (z : ℤ) → Some z ≡ number f → to_z w64 (of_z w
 fits f z e = omega (arith, ints, number_small f z e)
 
 -- ---- what is left, field by field
-pub feature_said_at : (ls ms fs : List (List ℕ)) (h n t : List ℕ) (z : ℤ) → ls ≡ h ∷ ms → ms ≡ n ∷ fs → fs ≡ fields t → Some z ≡ number h
-    → is_name n ≡ true → feature_of ls ≡ Some (record { handle = z; class = n; wkt = t })
-feature_said_at ls ms fs h n t z a b e k m = ap feature_of (a ∙ ap (λ x. h ∷ x) b) ∙ feature_found h n t fs z e (sym k) m
+pub feature_said_at : (typed : Bool) (ls ms fs : List (List ℕ)) (h n t : List ℕ) (z : ℤ) (a : SideForm) → ls ≡ h ∷ ms → ms ≡ n ∷ fs
+    → fs ≡ fields t → Some z ≡ number h → Some a ≡ own_form typed n
+    → feature_of typed ls ≡ Some (record { handle = z; own = a; wkt = t })
+feature_said_at typed ls ms fs h n t z a b c e k m =
+    ap (feature_of typed) (b ∙ ap (λ x. h ∷ x) c) ∙ feature_found typed h n t fs z a e (sym k) (sym m)
 
-pub feature_unnamed_at : (ls ms fs : List (List ℕ)) (h n : List ℕ) → ls ≡ h ∷ ms → ms ≡ n ∷ fs → is_name n ≡ false → feature_of ls ≡ None
-feature_unnamed_at ls ms fs h n a b m = ap feature_of (a ∙ ap (λ x. h ∷ x) b) ∙ feature_unnamed h n fs m
+pub feature_unnamed_at : (typed : Bool) (ls ms fs : List (List ℕ)) (h n : List ℕ) → ls ≡ h ∷ ms → ms ≡ n ∷ fs → None ≡ own_form typed n
+    → feature_of typed ls ≡ None
+feature_unnamed_at typed ls ms fs h n b c m = ap (feature_of typed) (b ∙ ap (λ x. h ∷ x) c) ∙ feature_unnamed typed h n fs (sym m)
 
 pub rect_short_at : (ls ms ns fs : List (List ℕ)) (a b c : List ℕ) → ls ≡ a ∷ ms → ms ≡ b ∷ ns → ns ≡ c ∷ fs → is_single fs ≡ false
     → rect_of ls ≡ None
@@ -273,10 +258,10 @@ no_rule w h = by (first_of_word w all_rules) (has_word w all_rules)
     by None k = refl
     by (Some r) k = sym (h r k)
 
-pub rule_unworded_at : (ls ms ns fs : List (List ℕ)) (f w n : List ℕ) (z : ℤ) → ls ≡ f ∷ ms → ms ≡ w ∷ ns → ns ≡ n ∷ fs → Some z ≡ number f
-    → ((k : RuleKind) → word_of k ≡ w → None ≡ Some k) → rule_of ls ≡ None
-rule_unworded_at ls ms ns fs f w n z h i j k l = ap rule_of (h ∙ ap (λ x. f ∷ x) (i ∙ ap (λ x. w ∷ x) j))
-    ∙ rule_unworded f w n fs z (sym k) (no_rule w l)
+pub rule_unworded_at : (typed : Bool) (ls ms ns fs : List (List ℕ)) (f w n : List ℕ) (z : ℤ) → ls ≡ f ∷ ms → ms ≡ w ∷ ns → ns ≡ n ∷ fs → Some z ≡ number f
+    → ((k : RuleKind) → word_of k ≡ w → None ≡ Some k) → rule_of typed ls ≡ None
+rule_unworded_at typed ls ms ns fs f w n z h i j k l = ap (rule_of typed) (h ∙ ap (λ x. f ∷ x) (i ∙ ap (λ x. w ∷ x) j))
+    ∙ rule_unworded typed f w n fs z (sym k) (no_rule w l)
 
 pub half_said_at : (ls ms ns os fs : List (List ℕ)) (a b c w : List ℕ) (x y z : ℤ) (o : Op) (m : Bool) → ls ≡ a ∷ ms → ms ≡ b ∷ ns
     → ns ≡ c ∷ os

@@ -1,5 +1,5 @@
 -- What is read is a record: each line keeps what a draft keeps of it.
-use Rattle.std.proofs.Common.{ℕ, ℤ, ◌≡◌, ◌≢◌, ◌<◌, ◌≤◌, ◌-◌, ◌==◌, ltb, Bool, true, false, ◌&&◌, ◌||◌, not, List, [], ◌∷◌, ◌++◌, length, Option, Some, None, Ok, Err, refl, sym, ap, subst, arith}
+use Rattle.std.proofs.Common.{ℕ, ℤ, ◌≡◌, ◌≢◌, ◌<◌, ◌≤◌, ◌-◌, ◌==◌, ltb, Bool, true, false, ◌&&◌, ◌||◌, not, List, [], ◌∷◌, ◌++◌, length, Option, Some, None, Ok, Err, refl, sym, ap, subst, ◌∙◌, arith}
 use Rattle.std.specs.Prelude.{IfOk, IfSome, is_some, codes}
 use Rattle.std.specs.List.{list_all, list_any}
 use Rattle.std.proofs.lemmas.Bool.{not-true, not-false, and_parts, or_parts}
@@ -12,7 +12,7 @@ use Rattle.plane_terms.specs.Cell.{Cell}
 use Rattle.plane_terms.specs.Dirt.{AreLoose}
 use Rattle.text_terms.specs.Fields.{is_name}
 use Rattle.topology_terms.specs.Broken.{Row}
-use Rattle.topology_terms.specs.Feature.{Class, Feature}
+use Rattle.topology_terms.specs.Feature.{Class, Feature, Side, no_side, feature_of as feature}
 use Rattle.topology_terms.specs.Entry.{Entry, key_of}
 use Rattle.topology_terms.specs.Lookups.{number_from, kind_of_class}
 use Rattle.topology_terms.specs.Causes.{is_kind, is_fit, is_row, is_there}
@@ -24,19 +24,20 @@ use Rattle.project_terms.specs.declared.stage.Stage.{Stage}
 use Rattle.project_terms.specs.declared.stage.Stage.TheVariants as stage
 use Rattle.project_terms.specs.declared.project_cause.ProjectCause.TheVariants as cause
 use Rattle.project_terms.specs.Lines.{fields, natural}
-use Rattle.project_terms.specs.Records.{IsNumbered, IsPlaced, IsError, IsRecord}
+use Rattle.project_terms.specs.Records.{IsNumbered, IsSmall, HasSmallSides, HasPlainSides, IsPlaced, IsError, IsRecord}
 use Rattle.project_terms.specs.Drafts.{Draft, start, rank, may_follow, is_open, is_cell_open, is_bare, takes_cell, wants_cell, with_cell, last_in, is_last_key, is_rectangle, is_half}
-use Rattle.project_terms.specs.Verdicts.{Verdict, WktReading, Unwritten, Refused, Written, RuleForm, FeatureForm, ErrorForm, is_one, is_none, number_of, class_of, rule_of, row_of, feature_of, rect_of, error_of, cell_of, next_verdict, next_numbered, class_verdict, rule_verdict, rule_numbered, rule_in, feature_verdict, feature_numbered, feature_in, are_nested, dirty_verdict, error_verdict, error_in, error_ruled, with_error, cell_verdict, line_verdict, wkt_of}
+use Rattle.project_terms.specs.Verdicts.{Verdict, WktReading, Unwritten, Refused, Written, RuleForm, FeatureForm, ErrorForm, SideForm, title_of, title_verdict, is_none, number_of, class_of, rule_of, row_of, feature_of, rect_of, error_of, cell_of, next_verdict, next_numbered, class_verdict, rule_verdict, rule_numbered, rule_bound, rule_in, bound_in, dest_bound, side_in, dest_in, feature_verdict, feature_numbered, feature_typed, feature_in, subtype_in, are_nested, dirty_verdict, error_verdict, error_in, error_ruled, with_error, cell_verdict, line_verdict, wkt_of}
 use Rattle.project_terms.specs.Texts.{AreRead, IsVerdict, IsReading, IsRead}
 use Rattle.project_text.proofs.Ends.{every_end, pairs_end, none_pass, ascending_end}
 use Rattle.project_text.proofs.Spelled.{class_said, cell_said}
-use Rattle.project_text.proofs.Named.{natural_said, kind_there, row_said}
+use Rattle.project_text.proofs.SideLines.{IsSecond, rule_said, feature_said}
+use Rattle.project_text.proofs.Named.{natural_said, kind_there, side_named, bound_is, subtype_is, IsRowOf, row_said}
 use Rattle.project_text.proofs.Halves.{is_valid}
 use Rattle.project_text.proofs.Rects.{rectangle_there}
 use Rattle.project_text.proofs.LineCases.{line_by, at_ok, judged_ok, said_ok, if_ok}
 use Rattle.project_text.proofs.Sound.{open_next}
 use Rattle.project_text.proofs.Sound as sound
-use Rattle.project_text.proofs.Staged.{may_stand, opened, restaged, AreClasses, AreRules, IsStarted, HasCells, AreFilled, AreErrors, head_of, IsKept, no_rules, no_features, no_errors, start_kept}
+use Rattle.project_text.proofs.Staged.{may_stand, opened, restaged, AreClasses, AreRules, ArePlain, none_plain, IsStarted, HasCells, AreFilled, AreErrors, head_of, IsKept, no_rules, no_features, no_errors, start_kept}
 
 -- ---- lines that say nothing else
 said_kept : (s : Stage) (d : Draft) → IsKept d → is_open s d ≡ true → rank s ≢ 2 → IsKept (record d { stage = s })
@@ -47,6 +48,25 @@ said_kept s d h o n =
       classes = h.classes;
       rules = h.rules;
       features = h.features;
+      plain = h.plain;
+      dirt = h.dirt;
+      errors = h.errors;
+      over = λ e. b.1;
+    }
+
+-- ---- the format
+title_kept : (d : Draft) → IsKept d → is_open stage.Title d ≡ true → (t : Bool) → IfOk (title_verdict d t) IsKept
+title_kept d h o t =
+    let b = opened stage.Title d o in
+    let up : rank d.stage ≤ 1 = b.0.up in
+    let rules = h.staged.rules (omega (arith, up)) in
+    let features = h.staged.features (omega (arith, up)) in
+    record {
+      staged = restaged d.stage stage.Title d.project b.0 (λ n. absurd (omega (arith, n))) h.staged;
+      classes = h.classes;
+      rules = h.rules;
+      features = h.features;
+      plain = λ e. none_plain d.project.rules d.project.features rules features;
       dirt = h.dirt;
       errors = h.errors;
       over = λ e. b.1;
@@ -79,6 +99,7 @@ next_kept d h o z = by (natural 1 4294967295 z) refl
           classes = h.classes;
           rules = h.rules;
           features = no_features _ d.project.features features;
+          plain = h.plain;
           dirt = h.dirt;
           errors = no_errors _ d.project.entries entries;
           over = λ k. absurd (omega (arith, k));
@@ -121,33 +142,59 @@ class_kept d h o c name = if_ok (length d.project.classes == 64) (Err cause.Rang
       classes = class_put d.project.classes c h.classes name e (none_of (number_from 1 d.project.classes c.name) k);
       rules = no_rules _ d.project.rules rules;
       features = no_features _ d.project.features features;
+      plain = h.plain;
       dirt = h.dirt;
       errors = no_errors _ d.project.entries entries;
       over = λ n. absurd (omega (arith, n));
     }))
 
 -- ---- a rule
-rule_put : (cs : List Class) (rs : List InForce) (q : InForce) → AreRules cs rs → IsNumbered q → is_fit cs q.row ≡ true
+rule_put : (cs : List Class) (rs : List InForce) (q : InForce) → AreRules cs rs → IsNumbered q → HasSmallSides q → is_fit cs q.row ≡ true
     → (not (ltb (last_in (λ (r : InForce). r.number) rs) q.number) || is_there rs q.row) ≡ false → AreRules cs (rs ++ q ∷ [])
-rule_put cs rs q h n fit free =
+rule_put cs rs q h n small fit free =
     let b = or_parts (not (ltb (last_in (λ (r : InForce). r.number) rs) q.number)) (is_there rs q.row) free in
     let t = not-false (ltb (last_in (λ (r : InForce). r.number) rs) q.number) b.0 in
     let less : last_in (λ (r : InForce). r.number) rs < q.number = grind (arith, nat_tests, t) in
     record {
       numbers = every_end IsNumbered rs q h.numbers n;
+      sides = every_end HasSmallSides rs q h.sides small;
       ascending = ascending_end (λ (r : InForce). r.number) rs q h.ascending less;
       fit = every_end (λ (r : InForce). is_fit cs r.row ≡ true) rs q h.fit fit;
       apart = pairs_end (λ (r s : InForce). is_row r.row s.row ≡ false) rs q h.apart
           (none_pass (λ (r : InForce). is_row r.row q.row) rs b.1);
     }
 
-rule_kept : (d : Draft) → IsKept d → is_open stage.Rules d ≡ true → (q : RuleForm) → IfOk (rule_verdict d q) IsKept
-rule_kept d h o q = numbered (natural 1 256 q.number) refl
+-- what the sides of a read row bind
+side_small : (cs : List Class) (a : SideForm) (s : Option ℕ) (A : Side) → bound_in a.subtype ≡ Some s → side_in cs a s ≡ Some A → IsSmall A
+side_small cs a s A b e =
+    let n = side_named cs a s A e in
+    subst (λ x. IfSome x (λ (n : ℕ). n ≤ 255)) (sym n.subtype) (bound_is a.subtype s b).1
+
+dest_small : (cs : List Class) (o : Option SideForm) (s : Option ℕ) (A : Side) → dest_bound o ≡ Some s → dest_in cs o s ≡ Some A → IsSmall A
+dest_small cs None s A b e = let same : no_side ≡ A = cc in subst IsSmall same tt
+dest_small cs (Some a) s A b e = side_small cs a s A b e
+
+side_plain : (cs : List Class) (a : SideForm) (s : Option ℕ) (A : Side) → a.subtype ≡ None → bound_in a.subtype ≡ Some s
+    → side_in cs a s ≡ Some A → A.subtype ≡ None
+side_plain cs a s A plain b e =
+    let n = side_named cs a s A e in
+    let none : Some None ≡ Some s = subst (λ o. bound_in o ≡ Some s) plain b in
+    let same : None ≡ s = cc in
+    n.subtype ∙ sym same
+
+dest_plain : (cs : List Class) (typed : Bool) (fs : List (List ℕ)) (o : Option SideForm) (s : Option ℕ) (A : Side) → IsSecond typed fs o
+    → typed ≡ false → dest_bound o ≡ Some s → dest_in cs o s ≡ Some A → A.subtype ≡ None
+dest_plain cs typed fs None s A l t b e = let same : no_side ≡ A = cc in subst (λ (B : Side). B.subtype ≡ None) same refl
+dest_plain cs typed fs (Some a) s A l t b e = side_plain cs a s A (l.2.plain t) b e
+
+rule_kept : (d : Draft) → IsKept d → is_open stage.Rules d ≡ true → (fs : List (List ℕ)) (q : RuleForm) → rule_of d.typed fs ≡ Some q
+    → IfOk (rule_verdict d q) IsKept
+rule_kept d h o fs q said = numbered (natural 1 256 q.number) refl
   where
-    put : (r : InForce) → IsNumbered r → is_fit d.project.classes r.row ≡ true
+    put : (r : InForce) → IsNumbered r → HasSmallSides r → (d.typed ≡ false → HasPlainSides r) → is_fit d.project.classes r.row ≡ true
         → (not (ltb (last_in (λ (s : InForce). s.number) d.project.rules) r.number) || is_there d.project.rules r.row) ≡ false
-        → IsKept (record { stage = stage.Rules; project = record d.project { rules = d.project.rules ++ r ∷ [] } })
-    put r n fit free =
+        → IsKept (record d { stage = stage.Rules; project = record d.project { rules = d.project.rules ++ r ∷ [] } })
+    put r n small plain fit free =
         let s = restaged d.stage stage.Rules d.project (opened stage.Rules d o).0 (λ n. absurd (omega (arith, n))) h.staged in
         let features = s.features (omega arith) in
         let entries = s.entries (omega arith) in
@@ -161,33 +208,55 @@ rule_kept d h o q = numbered (natural 1 256 q.number) refl
             entries = s.entries;
           };
           classes = h.classes;
-          rules = rule_put d.project.classes d.project.rules r h.rules n fit free;
+          rules = rule_put d.project.classes d.project.rules r h.rules n small fit free;
           features = no_features _ d.project.features features;
+          plain = λ t. record {
+            rules = every_end HasPlainSides d.project.rules r (h.plain t).rules (plain t);
+            features = (h.plain t).features;
+          };
           dirt = h.dirt;
           errors = no_errors _ d.project.entries entries;
           over = λ n. absurd (omega (arith, n));
         }
 
-    in_force : (n : ℕ) → (1 ≤ n) × (n ≤ 256) → (r : Option Row) → row_of d.project.classes q ≡ r → IfOk (rule_in d n r) IsKept
-    in_force n b None e = tt
-    in_force n b (Some r) e = if_ok _ (Err cause.Order) _ IsKept (λ k. tt)
-        (λ k. put (record { number = n; row = r }) b (row_said d.project.classes q r e).fit k)
+    in_force : (n : ℕ) → (1 ≤ n) × (n ≤ 256) → (s t : Option ℕ) → bound_in q.origin.subtype ≡ Some s → dest_bound q.dest ≡ Some t
+        → (r : Option Row) → row_of d.project.classes q s t ≡ r → IfOk (rule_in d n r) IsKept
+    in_force n b s t i j None e = tt
+    in_force n b s t i j (Some r) e =
+        let cs = d.project.classes in
+        let w = row_said cs q s t r e in
+        let l = rule_said d.typed fs q said in
+        let small : HasSmallSides (record { number = n; row = r }) = record {
+          origin = side_small cs q.origin s r.origin i w.origin;
+          dest = dest_small cs q.dest t r.dest j w.dest;
+        } in
+        let plain : d.typed ≡ false → HasPlainSides (record { number = n; row = r }) = λ f. record {
+          origin = side_plain cs q.origin s r.origin (l.origin.plain f) i w.origin;
+          dest = dest_plain cs d.typed l.more q.dest t r.dest l.dest f j w.dest;
+        } in
+        if_ok _ (Err cause.Order) _ IsKept (λ k. tt) (λ k. put (record { number = n; row = r }) b small plain w.fit k)
+
+    bounded : (n : ℕ) → (1 ≤ n) × (n ≤ 256) → (s : Option (Option ℕ)) → bound_in q.origin.subtype ≡ s → (t : Option (Option ℕ))
+        → dest_bound q.dest ≡ t → IfOk (rule_bound d q n s t) IsKept
+    bounded n b None i t j = tt
+    bounded n b (Some s) i None j = tt
+    bounded n b (Some s) i (Some t) j = in_force n b s t i j (row_of d.project.classes q s t) refl
 
     numbered : (n : Option ℕ) → natural 1 256 q.number ≡ n → IfOk (rule_numbered d q n) IsKept
     numbered None e = tt
     numbered (Some n) e =
-        let b = natural_said 1 256 q.number n e in in_force n (b.1, b.2) (row_of d.project.classes q) refl
+        let b = natural_said 1 256 q.number n e in bounded n (b.1, b.2) (bound_in q.origin.subtype) refl (dest_bound q.dest) refl
 
 -- ---- a feature
-feature_kept : (d : Draft) → IsKept d → is_open stage.Features d ≡ true → (r : WktReading) (f : FeatureForm) → IsReading f.wkt r
-    → IfOk (feature_verdict r d f) IsKept
-feature_kept d h o Unwritten f reading = tt
-feature_kept d h o Refused f reading = tt
-feature_kept d h o (Written s) f reading = numbered (natural 1 (d.project.next - 1) f.handle) refl
+feature_kept : (d : Draft) → IsKept d → is_open stage.Features d ≡ true → (r : WktReading) (fs : List (List ℕ)) (f : FeatureForm)
+    → feature_of d.typed fs ≡ Some f → IsReading f.wkt r → IfOk (feature_verdict r d f) IsKept
+feature_kept d h o Unwritten fs f said reading = tt
+feature_kept d h o Refused fs f said reading = tt
+feature_kept d h o (Written s) fs f said reading = numbered (natural 1 (d.project.next - 1) f.handle) refl
   where
-    put : (g : Feature) → IsPlaced (head_of d.project) g → ltb (last_in (λ (f : Feature). f.handle) d.project.features) g.handle ≡ true
-        → IsKept (record { stage = stage.Features; project = record d.project { features = d.project.features ++ g ∷ [] } })
-    put g placed t =
+    put : (g : Feature) → IsPlaced (head_of d.project) g → (d.typed ≡ false → g.subtype ≡ 0) → ltb (last_in (λ (f : Feature). f.handle) d.project.features) g.handle ≡ true
+        → IsKept (record d { stage = stage.Features; project = record d.project { features = d.project.features ++ g ∷ [] } })
+    put g placed plain t =
         let s = restaged d.stage stage.Features d.project (opened stage.Features d o).0 (λ n. absurd (omega (arith, n))) h.staged in
         let less : last_in (λ (f : Feature). f.handle) d.project.features < g.handle = grind (arith, nat_tests, t) in
         record {
@@ -205,26 +274,46 @@ feature_kept d h o (Written s) f reading = numbered (natural 1 (d.project.next -
             placed = every_end (IsPlaced (head_of d.project)) d.project.features g h.features.placed placed;
             ascending = ascending_end (λ (f : Feature). f.handle) d.project.features g h.features.ascending less;
           };
+          plain = λ e. record {
+            rules = (h.plain e).rules;
+            features = every_end (λ (f : Feature). f.subtype ≡ 0) d.project.features g (h.plain e).features (plain e);
+          };
           dirt = h.dirt;
           errors = h.errors;
           over = λ n. absurd (omega (arith, n));
         }
 
-    of_class : (n : ℕ) → (1 ≤ n) × (n ≤ d.project.next - 1) → (c : Option ℕ) → IfOk (feature_in d n s c) IsKept
-    of_class n b None = tt
-    of_class n b (Some c) = if_ok (is_kind (kind_of_class d.project.classes c) s.kind) _ (Err cause.Unknown) IsKept
+    own_0 : (t : ℕ) → subtype_in f.own.subtype ≡ Some t → d.typed ≡ false → t ≡ 0
+    own_0 t i e =
+        let l = feature_said d.typed fs f said in
+        let k : Some 0 ≡ Some t = subst (λ o. subtype_in o ≡ Some t) (l.own.plain e) i in
+        cc
+
+    small : (t : ℕ) → subtype_in f.own.subtype ≡ Some t → t ≤ 255
+    small t i = (subtype_is f.own.subtype t i (feature_said d.typed fs f said).other).1
+
+    of_class : (n : ℕ) → (1 ≤ n) × (n ≤ d.project.next - 1) → (t : ℕ) → subtype_in f.own.subtype ≡ Some t → (c : Option ℕ)
+        → IfOk (feature_in d n t s c) IsKept
+    of_class n b t i None = tt
+    of_class n b t i (Some c) = if_ok (is_kind (kind_of_class d.project.classes c) s.kind) _ (Err cause.Unknown) IsKept
         (λ e. if_ok (ltb (last_in (λ (g : Feature). g.handle) d.project.features) n) _ (Err cause.Order) IsKept
-        (λ k. put (record { handle = n; class = c; shape = s }) (record {
+        (λ k. put (feature n c t s) (record {
           from_1 = b.0;
           given = omega (arith, b.0, b.1);
           kind = kind_there (kind_of_class d.project.classes c) s.kind e;
+          subtype = small t i;
           shape = reading.0.says.valid;
-        }) k) (λ k. tt)) (λ e. tt)
+        }) (own_0 t i) k) (λ k. tt)) (λ e. tt)
 
-    numbered : (n : Option ℕ) → natural 1 (d.project.next - 1) f.handle ≡ n → IfOk (feature_numbered d f s n) IsKept
+    typed : (n : ℕ) → (1 ≤ n) × (n ≤ d.project.next - 1) → (t : Option ℕ) → subtype_in f.own.subtype ≡ t
+        → IfOk (feature_typed d f.own s n t) IsKept
+    typed n b None i = tt
+    typed n b (Some t) i = of_class n b t i (number_from 1 d.project.classes f.own.name)
+
+    numbered : (n : Option ℕ) → natural 1 (d.project.next - 1) f.handle ≡ n → IfOk (feature_numbered d f.own s n) IsKept
     numbered None e = tt
     numbered (Some n) e =
-        let b = natural_said 1 (d.project.next - 1) f.handle n e in of_class n (b.1, b.2) (number_from 1 d.project.classes f.class)
+        let b = natural_said 1 (d.project.next - 1) f.handle n e in typed n (b.1, b.2) (subtype_in f.own.subtype) refl
 
 -- ---- a dirty rectangle
 none_nested : (r : Rectangle) (D : List Rectangle) → list_any (are_nested r) D ≡ false → Every (λ s. AreLoose s r) D
@@ -247,6 +336,7 @@ dirty_kept d h o r = if_ok (not (is_rectangle r)) (Err cause.Range) _ IsKept (λ
       classes = h.classes;
       rules = h.rules;
       features = h.features;
+      plain = h.plain;
       dirt = record {
         rectangles = every_end IsRectangle d.project.dirt r h.dirt.rectangles (rectangle_there r (not-false (is_rectangle r) e));
         loose = pairs_end AreLoose d.project.dirt r h.dirt.loose (none_nested r d.project.dirt k);
@@ -312,6 +402,7 @@ error_kept d h o marked e =
           classes = h.classes;
           rules = h.rules;
           features = h.features;
+          plain = h.plain;
           dirt = h.dirt;
           errors = error_put (head_of d.project) d.project.entries x h.errors b.1 started k;
           over = λ n. absurd (omega (arith, n));
@@ -392,6 +483,7 @@ cell_kept d h o c some = if_ok (list_all is_half c) _ (Err cause.Range) IsKept (
       classes = h.classes;
       rules = h.rules;
       features = h.features;
+      plain = h.plain;
       dirt = h.dirt;
       errors = record {
         started = started_cell (head_of d.project) d.project.entries c b.1 some (all_valid c k) h.errors.started;
@@ -404,7 +496,7 @@ cell_kept d h o c some = if_ok (list_all is_half c) _ (Err cause.Range) IsKept (
 -- ---- lines
 -- the shape's text of a line of a feature is read
 pub shape_read : (d : Draft) (w : List ℕ) (fs : List (List ℕ)) (r : WktReading) (f : FeatureForm) → w ≡ codes "feature"
-    → is_open stage.Features d ≡ true → feature_of fs ≡ Some f → IfSome (wkt_of d (w ∷ fs)) (λ t. IsReading t r) → IsReading f.wkt r
+    → is_open stage.Features d ≡ true → feature_of d.typed fs ≡ Some f → IfSome (wkt_of d (w ∷ fs)) (λ t. IsReading t r) → IsReading f.wkt r
 shape_read d w fs r f k o e h =
     let g = subst (λ (x : List ℕ). IfSome (wkt_of d (x ∷ fs)) (λ t. IsReading t r)) k h in
     rw (o, e) at g
@@ -414,14 +506,13 @@ line_kept : (d : Draft) → IsKept d → (r : WktReading) (fs : List (List ℕ))
 line_kept d h r [] reading = tt
 line_kept d h r (w ∷ fs) reading =
     line_by (λ v. IfOk v IsKept) r d w fs tt
-    (λ k. at_ok stage.Title d _ IsKept (λ o. said_ok stage.Title d (is_one fs) IsKept
-    (λ b. said_kept stage.Title d h o (λ n. absurd (omega (arith, n))))))
+    (λ k. at_ok stage.Title d _ IsKept (λ o. judged_ok (title_verdict d) (title_of fs) IsKept (λ t e. title_kept d h o t)))
     (λ k. at_ok stage.Next d _ IsKept (λ o. judged_ok (next_verdict d) (number_of fs) IsKept (λ z e. next_kept d h o z)))
     (λ k. at_ok stage.Classes d _ IsKept (λ o. judged_ok (class_verdict d) (class_of fs) IsKept
     (λ c e. class_kept d h o c (class_said fs c e).0)))
-    (λ k. at_ok stage.Rules d _ IsKept (λ o. judged_ok (rule_verdict d) (rule_of fs) IsKept (λ q e. rule_kept d h o q)))
-    (λ k. at_ok stage.Features d _ IsKept (λ o. judged_ok (feature_verdict r d) (feature_of fs) IsKept
-    (λ f e. feature_kept d h o r f (shape_read d w fs r f k o e reading))))
+    (λ k. at_ok stage.Rules d _ IsKept (λ o. judged_ok (rule_verdict d) (rule_of d.typed fs) IsKept (λ q e. rule_kept d h o fs q e)))
+    (λ k. at_ok stage.Features d _ IsKept (λ o. judged_ok (feature_verdict r d) (feature_of d.typed fs) IsKept
+    (λ f e. feature_kept d h o r fs f e (shape_read d w fs r f k o e reading))))
     (λ k. at_ok stage.Dirt d _ IsKept (λ o. judged_ok (dirty_verdict d) (rect_of fs) IsKept (λ q e. dirty_kept d h o q)))
     (λ k. at_ok stage.Errors d _ IsKept (λ o. judged_ok (error_verdict false d) (error_of fs) IsKept (λ q e. error_kept d h o false q)))
     (λ k. at_ok stage.Errors d _ IsKept (λ o. judged_ok (error_verdict true d) (error_of fs) IsKept (λ q e. error_kept d h o true q)))
@@ -440,7 +531,7 @@ read_kept (l ∷ ls) d e h (m, v, r) = read_kept ls m e (verdict_kept d m l h v)
 -- ---- the end
 all_placed : (p : Project) (F : List Feature) → Every (IsPlaced (head_of p)) F → Every (IsPlaced p) F
 all_placed p F h = every_map (IsPlaced (head_of p)) (IsPlaced p)
-    (λ f g. record { from_1 = g.from_1; given = g.given; kind = g.kind; shape = g.shape }) F h
+    (λ f g. record { from_1 = g.from_1; given = g.given; kind = g.kind; subtype = g.subtype; shape = g.shape }) F h
 
 all_errors : (p : Project) (es : List Entry) → Every (IsStarted (head_of p)) es → Every HasCells es → Every (IsError p) es
 all_errors p [] h k = tt
@@ -470,6 +561,7 @@ made d h over =
       unlike = h.classes.unlike;
       numbers = h.rules.numbers;
       rules = h.rules.ascending;
+      sides = h.rules.sides;
       fit = h.rules.fit;
       apart = h.rules.apart;
       placed = all_placed d.project d.project.features h.features.placed;

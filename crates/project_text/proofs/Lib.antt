@@ -3,6 +3,8 @@ pub mod Sections
 pub mod Spaces
 pub mod FieldForms
 pub mod Lasts
+pub mod Sides
+pub mod SideLines
 pub mod LineCases
 pub mod Readings
 pub mod OneText

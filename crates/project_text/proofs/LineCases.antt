@@ -6,7 +6,7 @@ use Rattle.project_terms.specs.declared.stage.Stage.{Stage}
 use Rattle.project_terms.specs.declared.stage.Stage.TheVariants as stage
 use Rattle.project_terms.specs.declared.project_cause.ProjectCause.TheVariants as cause
 use Rattle.project_terms.specs.Drafts.{Draft, is_open, is_cell_open}
-use Rattle.project_terms.specs.Verdicts.{Verdict, WktReading, at, said, judged, is_one, is_none, number_of, class_of, rule_of, feature_of, rect_of, error_of, cell_of, next_verdict, class_verdict, rule_verdict, feature_verdict, dirty_verdict, error_verdict, cell_verdict, line_verdict}
+use Rattle.project_terms.specs.Verdicts.{Verdict, WktReading, at, said, judged, title_of, title_verdict, is_none, number_of, class_of, rule_of, feature_of, rect_of, error_of, cell_of, next_verdict, class_verdict, rule_verdict, feature_verdict, dirty_verdict, error_verdict, cell_verdict, line_verdict}
 
 -- by the word that it is
 pub pick : {V : Type 0} (P : V → Type 0) (w k : List ℕ) (x y : V) → (w ≡ k → P x) → P y → P (if bytes_eq w k then x else y)
@@ -18,11 +18,11 @@ pick P w k x y h g = by (bytes_eq w k) refl
 
 -- what holds of the verdict on each kind of line, and of a wrong form, holds of the verdict on the line
 pub line_by : (P : Verdict → Type 0) (r : WktReading) (d : Draft) (w : List ℕ) (fs : List (List ℕ)) → P (Err cause.Form)
-    → (w ≡ codes "topology" → P (at stage.Title d (said stage.Title d (is_one fs))))
+    → (w ≡ codes "topology" → P (at stage.Title d (judged (title_verdict d) (title_of fs))))
     → (w ≡ codes "next" → P (at stage.Next d (judged (next_verdict d) (number_of fs))))
     → (w ≡ codes "class" → P (at stage.Classes d (judged (class_verdict d) (class_of fs))))
-    → (w ≡ codes "rule" → P (at stage.Rules d (judged (rule_verdict d) (rule_of fs))))
-    → (w ≡ codes "feature" → P (at stage.Features d (judged (feature_verdict r d) (feature_of fs))))
+    → (w ≡ codes "rule" → P (at stage.Rules d (judged (rule_verdict d) (rule_of d.typed fs))))
+    → (w ≡ codes "feature" → P (at stage.Features d (judged (feature_verdict r d) (feature_of d.typed fs))))
     → (w ≡ codes "dirty" → P (at stage.Dirt d (judged (dirty_verdict d) (rect_of fs))))
     → (w ≡ codes "error" → P (at stage.Errors d (judged (error_verdict false d) (error_of fs))))
     → (w ≡ codes "exception" → P (at stage.Errors d (judged (error_verdict true d) (error_of fs))))

@@ -1,7 +1,7 @@
 -- The lines of a project as far as a stage, and a line more.
 --
--- lines_to s p         the lines of the project p as far as the stage s
-use Rattle.std.proofs.Common.{ℕ, ◌≡◌, ◌≤◌, true, List, [], ◌∷◌, ◌++◌, map, append_assoc, refl, sym, ap, ◌∙◌, arith}
+-- lines_to t s p       the lines of the project p as far as the stage s, in the format that has subtypes or that has none
+use Rattle.std.proofs.Common.{ℕ, ◌≡◌, ◌≤◌, Bool, true, List, [], ◌∷◌, ◌++◌, map, append_assoc, refl, sym, ap, ◌∙◌, arith}
 use Rattle.std.specs.Prelude.{flat_map}
 use Rattle.std.proofs.lemmas.Grind.{flat_map-append}
 use Rattle.plane_terms.specs.Rectangle.{Rectangle}
@@ -13,6 +13,7 @@ use Rattle.project_terms.specs.declared.stage.Stage.{Stage}
 use Rattle.project_terms.specs.declared.stage.Stage.TheVariants as stage
 use Rattle.project_terms.specs.Written.{title, next_line, class_line, rule_line, feature_line, dirty_line, error_line, cell_line, last_line, error_lines, lines_of}
 use Rattle.project_terms.specs.Drafts.{rank, takes_cell, with_cell}
+use Rattle.project_text.proofs.Spelled.{format}
 
 -- ---- the lines as far as a stage
 abbrev pub body_of : List Class → List InForce → List Feature → List Rectangle → List Entry → List (List (List ℕ))
@@ -22,32 +23,32 @@ body_of cs rs F D es = map class_line
 abbrev pub body : Project → List (List (List ℕ))
 body p = body_of p.classes p.rules p.features p.dirt p.entries
 
-abbrev pub lines_to : Stage → Project → List (List (List ℕ))
-lines_to stage.Start p = []
-lines_to stage.Title p = title ∷ []
-lines_to stage.End p = title ∷ next_line p.next ∷ (body p ++ last_line ∷ [])
-lines_to s p = title ∷ next_line p.next ∷ body p
+abbrev pub lines_to : Bool → Stage → Project → List (List (List ℕ))
+lines_to t stage.Start p = []
+lines_to t stage.Title p = title (format t) ∷ []
+lines_to t stage.End p = title (format t) ∷ next_line p.next ∷ (body p ++ last_line ∷ [])
+lines_to t s p = title (format t) ∷ next_line p.next ∷ body p
 
-pub lines_in : (s : Stage) (p : Project) → 2 ≤ rank s → rank s ≤ 7 → lines_to s p ≡ title ∷ next_line p.next ∷ body p
-lines_in stage.Start p some on = absurd (omega (arith, some))
-lines_in stage.Title p some on = absurd (omega (arith, some))
-lines_in stage.Next p some on = refl
-lines_in stage.Classes p some on = refl
-lines_in stage.Rules p some on = refl
-lines_in stage.Features p some on = refl
-lines_in stage.Dirt p some on = refl
-lines_in stage.Errors p some on = refl
-lines_in stage.End p some on = absurd (omega (arith, on))
+pub lines_in : (t : Bool) (s : Stage) (p : Project) → 2 ≤ rank s → rank s ≤ 7 → lines_to t s p ≡ title (format t) ∷ next_line p.next ∷ body p
+lines_in t stage.Start p some on = absurd (omega (arith, some))
+lines_in t stage.Title p some on = absurd (omega (arith, some))
+lines_in t stage.Next p some on = refl
+lines_in t stage.Classes p some on = refl
+lines_in t stage.Rules p some on = refl
+lines_in t stage.Features p some on = refl
+lines_in t stage.Dirt p some on = refl
+lines_in t stage.Errors p some on = refl
+lines_in t stage.End p some on = absurd (omega (arith, on))
 
-pub lines_all : (p : Project) → lines_to stage.End p ≡ lines_of p
-lines_all p =
+pub lines_all : (t : Bool) (p : Project) → lines_to t stage.End p ≡ lines_of (format t) p
+lines_all t p =
     let cs = map class_line p.classes in
     let rs = map (rule_line p.classes) p.rules in
     let F = map (feature_line p.classes) p.features in
     let D = map dirty_line p.dirt in
     let es = flat_map error_lines p.entries in
     let last : List (List (List ℕ)) = last_line ∷ [] in
-    ap (λ t. title ∷ next_line p.next ∷ t) (append_assoc cs (rs ++ (F ++ (D ++ es))) last
+    ap (λ ls. title (format t) ∷ next_line p.next ∷ ls) (append_assoc cs (rs ++ (F ++ (D ++ es))) last
     ∙ ap (λ t. cs ++ t) (append_assoc rs (F ++ (D ++ es)) last
     ∙ ap (λ t. rs ++ t) (append_assoc F (D ++ es) last ∙ ap (λ t. F ++ t) (append_assoc D es last))))
 

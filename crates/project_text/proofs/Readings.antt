@@ -53,7 +53,7 @@ unread d (w ∷ fs) r q e = elim (cases_Bool (bytes_eq w (codes "feature"))) [
   | inr other ↦ rw other refl
   | inl is ↦ elim (cases_Bool (is_open stage.Features d)) [
     | inr shut ↦ let e' = rw (is, shut) at e in rw (is, shut) refl
-    | inl may ↦ let none : feature_of fs ≡ None = no_form (feature_of fs) (rw (is, may) at e) in rw (is, may, none) refl
+    | inl may ↦ let none : feature_of d.typed fs ≡ None = no_form (feature_of d.typed fs) (rw (is, may) at e) in rw (is, may, none) refl
   ]
 ]
 

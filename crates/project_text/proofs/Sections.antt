@@ -14,8 +14,9 @@ use Rattle.topology_terms.specs.Entry.{Entry}
 use Rattle.topology_terms.specs.Project.{Project, InForce}
 use Rattle.topology_terms.specs.Lookups.{class_at}
 use Rattle.project_terms.specs.Lines.{joined}
-use Rattle.project_terms.specs.Written.{name_in, rect_fields, cell_fields, mark_word, extent_word, line_text, title, next_line, class_line, rule_line, feature_line, dirty_line, error_line, cell_line, error_lines, last_line, project_text}
-use Rattle.project_text.specs.Pushed.{name_text, rect_text, half_text, sign_text, halves_text, class_text, rule_text, feature_text, dirty_text, error_text, cell_text, error_texts, head_text, text_of}
+use Rattle.project_terms.specs.Written.{sided, sided_in, written_subtype, rect_fields, cell_fields, mark_word, extent_word, line_text, title, next_line, class_line, rule_line, feature_line, dirty_line, error_line, cell_line, error_lines, last_line, project_text}
+use Rattle.project_text.proofs.Spelled.{title_fields}
+use Rattle.project_text.specs.Pushed.{side_text, rect_text, half_text, sign_text, halves_text, class_text, rule_text, feature_text, dirty_text, error_text, cell_text, error_texts, head_text, sections_text}
 
 -- ---- fields behind spaces
 
@@ -31,9 +32,9 @@ spaced-append : (fs gs : List (List ℕ)) (rest : List ℕ) → spaced (fs ++ gs
 spaced-append [] gs rest = refl
 spaced-append (f ∷ fs) gs rest = ap (λ t. 32 ∷ f ++ t) (spaced-append fs gs rest)
 
-name_spaced : (o : Option Class) (rest : List ℕ) → spaced (name_in o) rest ≡ name_text o ++ rest
-name_spaced None rest = refl
-name_spaced (Some c) rest = refl
+side_spaced : (o : Option Class) (s : Option ℕ) (rest : List ℕ) → spaced (sided_in o s) rest ≡ side_text o s ++ rest
+side_spaced None s rest = refl
+side_spaced (Some c) s rest = refl
 
 rect_spaced : (r : Rectangle) (rest : List ℕ) → spaced (rect_fields r) rest ≡ rect_text r ++ rest
 rect_spaced r rest = simp append_assoc refl
@@ -67,17 +68,20 @@ pub rule_same : (cs : List Class) (q : InForce) → line_text (rule_line cs q) �
 rule_same cs q =
     let o = class_at cs q.row.origin.class in
     let d = class_at cs q.row.dest.class in
-    spaced_line (codes "rule") (decimal q.number ∷ word_of q.row.kind ∷ (name_in o ++ name_in d)) (10 ∷ [])
+    let s = q.row.origin.subtype in
+    let t = q.row.dest.subtype in
+    spaced_line (codes "rule") (decimal q.number ∷ word_of q.row.kind ∷ (sided_in o s ++ sided_in d t)) (10 ∷ [])
     ∙ ap (λ t. codes "rule" ⧺ 32 ∷ decimal q.number ⧺ 32 ∷ word_of q.row.kind ⧺ t)
-    (spaced-append (name_in o) (name_in d) (10 ∷ []) ∙ (name_spaced o (spaced (name_in d) (10 ∷ []))
-    ∙ ap (λ t. name_text o ++ t) (name_spaced d (10 ∷ []))))
+    (spaced-append (sided_in o s) (sided_in d t) (10 ∷ []) ∙ (side_spaced o s (spaced (sided_in d t) (10 ∷ []))
+    ∙ ap (λ x. side_text o s ++ x) (side_spaced d t (10 ∷ []))))
 
 pub feature_same : (cs : List Class) (f : Feature) → line_text (feature_line cs f) ≡ feature_text cs f
 feature_same cs f =
     let o = class_at cs f.class in
-    spaced_line (codes "feature") (decimal f.handle ∷ (name_in o ++ shape_text f.shape ∷ [])) (10 ∷ [])
+    let s = written_subtype f.subtype in
+    spaced_line (codes "feature") (decimal f.handle ∷ (sided_in o s ++ shape_text f.shape ∷ [])) (10 ∷ [])
     ∙ ap (λ t. codes "feature" ⧺ 32 ∷ decimal f.handle ⧺ t)
-    (spaced-append (name_in o) (shape_text f.shape ∷ []) (10 ∷ []) ∙ name_spaced o (spaced (shape_text f.shape ∷ []) (10 ∷ [])))
+    (spaced-append (sided_in o s) (shape_text f.shape ∷ []) (10 ∷ []) ∙ side_spaced o s (spaced (shape_text f.shape ∷ []) (10 ∷ [])))
 
 pub dirty_same : (r : Rectangle) → line_text (dirty_line r) ≡ dirty_text r
 dirty_same r = spaced_line (codes "dirty") (rect_fields r) (10 ∷ []) ∙ ap (λ t. codes "dirty" ++ t) (rect_spaced r (10 ∷ []))
@@ -124,14 +128,14 @@ errors_same (e ∷ es) ls =
     ∙ (ap (λ t. error_texts e ++ t) (errors_same es ls) ∙ sym (append_assoc (error_texts e) (flat_map error_texts es)
     (flat_map line_text ls)))))
 
-pub sections : (p : Project) → project_text p ≡ text_of p
+pub sections : (p : Project) → project_text p ≡ sections_text p
 sections p =
     let errors = flat_map error_lines p.entries ++ last_line ∷ [] in
     let dirt = map dirty_line p.dirt ++ errors in
     let features = map (feature_line p.classes) p.features ++ dirt in
     let rules = map (rule_line p.classes) p.rules ++ features in
-    let head : (t : List ℕ) → line_text title ++ (line_text (next_line p.next) ++ t) ≡ head_text p.next ++ t =
-    λ t. simp append_assoc refl in
+    let head : (t : List ℕ) → line_text (title 2) ++ (line_text (next_line p.next) ++ t) ≡ head_text p.next ++ t =
+    λ t. ap (λ fs. line_text fs ++ (line_text (next_line p.next) ++ t)) (title_fields true) ∙ simp append_assoc refl in
     head (flat_map line_text (map class_line p.classes ++ rules)) ∙ ap (λ t. head_text p.next ++ t)
     (section class_line (λ (c : Class). class_text (Some c)) class_same p.classes rules
     ∙ ap (λ t. flat_map (λ (c : Class). class_text (Some c)) p.classes ++ t)
@@ -144,9 +148,9 @@ sections p =
 
 -- what is appended of a project to nothing is its text
 pub all_written : (p : Project) (ds : List Rectangle) (old new : List ℕ) → ds ≡ p.dirt → old ≡ []
-    → new ≡ old ++ text_of (record p { dirt = ds }) → new ≡ project_text p
+    → new ≡ old ++ sections_text (record p { dirt = ds }) → new ≡ project_text p
 all_written p ds old new d o said =
-    said ∙ (ap (λ t. t ++ text_of (record p { dirt = ds })) o ∙ (ap (λ xs. text_of (record p { dirt = xs })) d ∙ sym (sections p)))
+    said ∙ (ap (λ t. t ++ sections_text (record p { dirt = ds })) o ∙ (ap (λ xs. sections_text (record p { dirt = xs })) d ∙ sym (sections p)))
 
 one_said : (o a b o1 o2 : List ℕ) → o1 ≡ o ++ a → o2 ≡ o1 ++ b → o2 ≡ o ++ (a ++ b)
 one_said o a b o1 o2 first second = second ∙ (ap (λ t. t ++ b) first ∙ append_assoc o a b)

@@ -21,7 +21,7 @@ use Rattle.project_terms.specs.declared.stage.Stage.TheVariants as stage
 use Rattle.project_terms.specs.declared.project_cause.ProjectCause.TheVariants as cause
 use Rattle.project_terms.specs.Lines.{fields, natural}
 use Rattle.project_terms.specs.Drafts.{Draft, start, may_follow, is_open, is_cell_open, with_cell, last_in, is_before, is_last_key, is_rectangle, is_half}
-use Rattle.project_terms.specs.Verdicts.{Verdict, WktReading, Unwritten, Refused, Written, RuleForm, FeatureForm, ErrorForm, is_one, is_none, number_of, class_of, rule_of, row_of, feature_of, rect_of, error_of, cell_of, next_verdict, next_numbered, class_verdict, rule_verdict, rule_numbered, rule_in, feature_verdict, feature_numbered, feature_in, are_nested, dirty_verdict, error_verdict, error_in, error_ruled, with_error, cell_verdict, line_verdict}
+use Rattle.project_terms.specs.Verdicts.{Verdict, WktReading, Unwritten, Refused, Written, RuleForm, FeatureForm, ErrorForm, SideForm, title_of, title_verdict, is_none, number_of, class_of, rule_of, row_of, feature_of, rect_of, error_of, cell_of, next_verdict, next_numbered, class_verdict, rule_verdict, rule_numbered, rule_bound, rule_in, bound_in, dest_bound, feature_verdict, feature_numbered, feature_typed, feature_in, subtype_in, are_nested, dirty_verdict, error_verdict, error_in, error_ruled, with_error, cell_verdict, line_verdict}
 use Rattle.project_terms.specs.Texts.{AreRead, IsVerdict}
 use Rattle.project_text.proofs.LineCases.{line_by, at_ok, judged_ok, said_ok, if_ok}
 
@@ -109,7 +109,7 @@ rule_sound d h q = numbered (natural 1 256 q.number)
     in_force : (n : ℕ) (o : Option Row) → IfOk (rule_in d n o) IsSound
     in_force n None = tt
     in_force n (Some r) =
-        let m : Draft = record {
+        let m : Draft = record d {
           stage = stage.Rules;
           project =
               record d.project { rules = d.project.rules ++ record { number = n; row = r } ∷ [] };
@@ -119,24 +119,33 @@ rule_sound d h q = numbered (natural 1 256 q.number)
         IsSound
         (λ e. tt) (λ e. s)
 
+    bounded : (n : ℕ) (s t : Option (Option ℕ)) → IfOk (rule_bound d q n s t) IsSound
+    bounded n None t = tt
+    bounded n (Some s) None = tt
+    bounded n (Some s) (Some t) = in_force n (row_of d.project.classes q s t)
+
     numbered : (o : Option ℕ) → IfOk (rule_numbered d q o) IsSound
     numbered None = tt
-    numbered (Some n) = in_force n (row_of d.project.classes q)
+    numbered (Some n) = bounded n (bound_in q.origin.subtype) (dest_bound q.dest)
 
 feature_sound : (d : Draft) → IsSound d → (r : WktReading) (f : FeatureForm) → IfOk (feature_verdict r d f) IsSound
 feature_sound d h Unwritten f = tt
 feature_sound d h Refused f = tt
 feature_sound d h (Written s) f = numbered (natural 1 (d.project.next - 1) f.handle)
   where
-    of_class : (n : ℕ) (o : Option ℕ) → IfOk (feature_in d n s o) IsSound
-    of_class n None = tt
-    of_class n (Some c) = if_ok (is_kind (kind_of_class d.project.classes c) s.kind) _ (Err cause.Unknown) IsSound
+    of_class : (n t : ℕ) (o : Option ℕ) → IfOk (feature_in d n t s o) IsSound
+    of_class n t None = tt
+    of_class n t (Some c) = if_ok (is_kind (kind_of_class d.project.classes c) s.kind) _ (Err cause.Unknown) IsSound
         (λ e. if_ok (ltb (last_in (λ (g : Feature). g.handle) d.project.features) n) _ (Err cause.Order) IsSound
         (λ k. record { early = λ e. cc; titled = λ e. cc; ascending = h.ascending }) (λ k. tt)) (λ e. tt)
 
-    numbered : (o : Option ℕ) → IfOk (feature_numbered d f s o) IsSound
+    typed : (n : ℕ) (o : Option ℕ) → IfOk (feature_typed d f.own s n o) IsSound
+    typed n None = tt
+    typed n (Some t) = of_class n t (number_from 1 d.project.classes f.own.name)
+
+    numbered : (o : Option ℕ) → IfOk (feature_numbered d f.own s o) IsSound
     numbered None = tt
-    numbered (Some n) = of_class n (number_from 1 d.project.classes f.class)
+    numbered (Some n) = typed n (subtype_in f.own.subtype)
 
 dirty_sound : (d : Draft) → IsSound d → (r : Rectangle) → IfOk (dirty_verdict d r) IsSound
 dirty_sound d h r = if_ok (not (is_rectangle r)) (Err cause.Range) _ IsSound (λ e. tt)
@@ -174,13 +183,13 @@ line_sound : (d : Draft) → IsSound d → (r : WktReading) (fs : List (List ℕ
 line_sound d h r [] = tt
 line_sound d h r (w ∷ fs) =
     line_by (λ v. IfOk v IsSound) r d w fs tt
-    (λ k. at_ok stage.Title d _ IsSound (λ o. said_ok stage.Title d (is_one fs) IsSound
-    (λ b. record { early = λ e. cc; titled = λ e. h.early (before_title d.stage ((and_parts _ _ o).0)); ascending = h.ascending })))
+    (λ k. at_ok stage.Title d _ IsSound (λ o. judged_ok (title_verdict d) (title_of fs) IsSound
+    (λ t b. record { early = λ e. cc; titled = λ e. h.early (before_title d.stage ((and_parts _ _ o).0)); ascending = h.ascending })))
     (λ k. at_ok stage.Next d _ IsSound
     (λ o. judged_ok (next_verdict d) (number_of fs) IsSound (λ z e. next_sound d h (natural 1 4294967295 z))))
     (λ k. at_ok stage.Classes d _ IsSound (λ o. judged_ok (class_verdict d) (class_of fs) IsSound (λ c e. class_sound d h c)))
-    (λ k. at_ok stage.Rules d _ IsSound (λ o. judged_ok (rule_verdict d) (rule_of fs) IsSound (λ q e. rule_sound d h q)))
-    (λ k. at_ok stage.Features d _ IsSound (λ o. judged_ok (feature_verdict r d) (feature_of fs) IsSound (λ f e. feature_sound d h r f)))
+    (λ k. at_ok stage.Rules d _ IsSound (λ o. judged_ok (rule_verdict d) (rule_of d.typed fs) IsSound (λ q e. rule_sound d h q)))
+    (λ k. at_ok stage.Features d _ IsSound (λ o. judged_ok (feature_verdict r d) (feature_of d.typed fs) IsSound (λ f e. feature_sound d h r f)))
     (λ k. at_ok stage.Dirt d _ IsSound (λ o. judged_ok (dirty_verdict d) (rect_of fs) IsSound (λ q e. dirty_sound d h q)))
     (λ k. at_ok stage.Errors d _ IsSound (λ o. judged_ok (error_verdict false d) (error_of fs) IsSound (λ q e. error_sound d h false q)))
     (λ k. at_ok stage.Errors d _ IsSound (λ o. judged_ok (error_verdict true d) (error_of fs) IsSound (λ q e. error_sound d h true q)))

@@ -3,7 +3,7 @@ use Rattle.std.proofs.Common.{ℕ, ℤ, ◌≡◌, ◌≢◌, Bool, true, false,
 use Rattle.std.specs.Prelude.{codes, IfSome}
 use Rattle.std.specs.List.{list_all}
 use Rattle.std.specs.Option.{option_map}
-use Rattle.std.specs.Fmt.{signed_decimal}
+use Rattle.std.specs.Fmt.{signed_decimal, digits}
 use Rattle.std.proofs.lemmas.Option.{same_Some}
 use Rattle.std.proofs.lemmas.Slice.Eq.{bytes_eq-Decides}
 use Rattle.std.proofs.lemmas.Bool.{and_parts}
@@ -22,8 +22,8 @@ use Rattle.line_terms.specs.Forms.{kind_word}
 use Rattle.topology_terms.specs.Feature.{Class}
 use Rattle.project_terms.specs.Lines.{number, joined}
 use Rattle.project_terms.specs.Drafts.{is_half}
-use Rattle.project_terms.specs.Verdicts.{RuleForm, FeatureForm, ErrorForm, HalfForm, bind, is_one, is_none, number_of, kind_of_word, class_of, second_of, rule_of, feature_of, rect_of, extent_of, error_of, op_of, half_of, halves_behind, cell_of}
-use Rattle.project_terms.specs.Written.{cell_fields, extent_word}
+use Rattle.project_terms.specs.Verdicts.{ErrorForm, HalfForm, bind, title_of, is_none, number_of, kind_of_word, class_of, rect_of, extent_of, error_of, op_of, half_of, halves_behind, cell_of}
+use Rattle.project_terms.specs.Written.{title, cell_fields, extent_word}
 use Rattle.project_text.specs.Pushed.{sign_text, some}
 use Rattle.project_text.proofs.LineCases.{pick}
 use Rattle.project_text.proofs.Halves.{is_valid}
@@ -69,7 +69,7 @@ sign_spelled w s =
     (pick P w (codes ">=,") _ _ (λ e t. e ∙ ap sign_of (same_Some (AtLeast, true) s t))
     (pick P w (codes "=,") _ _ (λ e t. e ∙ ap sign_of (same_Some (Zero, true) s t)) (λ t. absurd cc))))))
 
-rule_spelled : (w : List ℕ) (k : RuleKind) → first_of_word w all_rules ≡ Some k → w ≡ word_of k
+pub rule_spelled : (w : List ℕ) (k : RuleKind) → first_of_word w all_rules ≡ Some k → w ≡ word_of k
 rule_spelled w k e = by (first_of_word w all_rules) (has_word w all_rules) e
   where
     by : (o : Option RuleKind) → IfSome o (λ r. word_of r ≡ w) → o ≡ Some k → w ≡ word_of k
@@ -77,10 +77,30 @@ rule_spelled w k e = by (first_of_word w all_rules) (has_word w all_rules) e
     by (Some r) h s = sym h ∙ ap word_of (same_Some r k s)
 
 -- ---- lines
-pub one_said : (fs : List (List ℕ)) → is_one fs ≡ true → fs ≡ codes "1" ∷ []
-one_said [] h = absurd cc
-one_said (f ∷ []) h = ap (λ t. t ∷ []) ((bytes_eq-Decides f (codes "1")).0 h)
-one_said (f ∷ g ∷ fs) h = absurd cc
+abbrev pub format_word : Bool → List ℕ
+format_word true = codes "2"
+format_word false = codes "1"
+
+-- the number of the format
+abbrev pub format : Bool → ℕ
+format true = 2
+format false = 1
+
+pub title_fields : (t : Bool) → title (format t) ≡ codes "topology" ∷ format_word t ∷ []
+unfolding digits
+title_fields true = refl
+title_fields false = refl
+
+title_word : (f : List ℕ) (t : Bool) → title_of (f ∷ []) ≡ Some t → f ≡ format_word t
+title_word f t =
+    let P : Option Bool → Type 0 = λ o. o ≡ Some t → f ≡ format_word t in
+    pick P f (codes "1") _ _ (λ e s. e ∙ ap format_word (same_Some false t s))
+    (pick P f (codes "2") _ _ (λ e s. e ∙ ap format_word (same_Some true t s)) (λ s. absurd cc))
+
+pub title_said : (fs : List (List ℕ)) (t : Bool) → title_of fs ≡ Some t → fs ≡ format_word t ∷ []
+title_said [] t e = absurd cc
+title_said (f ∷ []) t e = ap (λ x. x ∷ []) (title_word f t e)
+title_said (f ∷ g ∷ fs) t e = absurd cc
 
 pub none_said : (fs : List (List ℕ)) → is_none fs ≡ true → fs ≡ []
 none_said [] h = refl
@@ -100,58 +120,6 @@ class_said (n ∷ k ∷ []) c e =
     let m = mapped (λ (x : Kind). record { name = n; kind = x }) (kind_of_word k) c t.1 in
     subst (λ (d : Class). (is_name d.name ≡ true) × (n ∷ k ∷ [] ≡ d.name ∷ kind_word d.kind ∷ [])) m.2
     (t.0, ap (λ w. n ∷ w ∷ []) (kind_spelled k m.0 m.1))
-
-abbrev pub second : Option (List ℕ) → List (List ℕ)
-second None = []
-second (Some n) = n ∷ []
-
-pub record IsRuleLine (fs : List (List ℕ)) (q : RuleForm) : Type 0 where
-  pub numeral : List ℕ
-  pub number : number numeral ≡ Some q.number
-  pub name : is_name q.origin ≡ true
-  pub dest : IfSome q.dest (λ n. is_name n ≡ true)
-  pub spelled : fs ≡ numeral ∷ word_of q.kind ∷ q.origin ∷ second q.dest
-
-second_said : (fs : List (List ℕ)) (o : Option (List ℕ)) → second_of fs ≡ Some o → IfSome o (λ n. is_name n ≡ true) × (fs ≡ second o)
-second_said [] o e = subst (λ (p : Option (List ℕ)). IfSome p (λ n. is_name n ≡ true) × ([] ≡ second p)) (same_Some None o e) (tt, refl)
-second_said (n ∷ []) o e =
-    let t = tested (is_name n) (Some (Some n)) o e in
-    subst (λ (p : Option (List ℕ)). IfSome p (λ n. is_name n ≡ true) × (n ∷ [] ≡ second p)) (same_Some (Some n) o t.1) (t.0, refl)
-second_said (n ∷ m ∷ fs) o e = absurd cc
-
-pub rule_said : (fs : List (List ℕ)) (q : RuleForm) → rule_of fs ≡ Some q → IsRuleLine fs q
-rule_said [] q e = absurd cc
-rule_said (r ∷ []) q e = absurd cc
-rule_said (r ∷ w ∷ []) q e = absurd cc
-rule_said (r ∷ w ∷ n ∷ fs) q e =
-    let a = bound (number r) _ q e in
-    let b = bound (first_of_word w all_rules) _ q a.2 in
-    let c = bound (second_of fs) _ q b.2 in
-    let t = tested (is_name n) _ q c.2 in
-    let s = second_said fs c.0 c.1 in
-    let made : RuleForm = record { number = a.0; kind = b.0; origin = n; dest = c.0 } in
-    subst (IsRuleLine (r ∷ w ∷ n ∷ fs)) (same_Some made q t.1) (record {
-      numeral = r;
-      number = a.1;
-      name = t.0;
-      dest = s.0;
-      spelled = ap (λ x. r ∷ x ∷ n ∷ fs) (rule_spelled w b.0 b.1) ∙ ap (λ xs. r ∷ word_of b.0 ∷ n ∷ xs) s.1;
-    })
-
-pub record IsFeatureLine (fs : List (List ℕ)) (f : FeatureForm) : Type 0 where
-  pub numeral : List ℕ
-  pub number : number numeral ≡ Some f.handle
-  pub name : is_name f.class ≡ true
-  pub spelled : (w : List ℕ) → joined (w ∷ fs) ≡ joined (w ∷ numeral ∷ f.class ∷ f.wkt ∷ [])
-
-pub feature_said : (fs : List (List ℕ)) (f : FeatureForm) → feature_of fs ≡ Some f → IsFeatureLine fs f
-feature_said [] f e = absurd cc
-feature_said (h ∷ []) f e = absurd cc
-feature_said (h ∷ n ∷ []) f e = absurd cc
-feature_said (h ∷ n ∷ g ∷ fs) f e =
-    let t = tested (is_name n) _ f e in
-    let m = mapped (λ (z : ℤ). record { handle = z; class = n; wkt = joined (g ∷ fs) }) (number h) f t.1 in
-    subst (IsFeatureLine (h ∷ n ∷ g ∷ fs)) m.2 (record { numeral = h; number = m.1; name = t.0; spelled = λ w. refl })
 
 pub record IsRectLine (fs : List (List ℕ)) (r : Rectangle) : Type 0 where
   pub x0 : List ℕ

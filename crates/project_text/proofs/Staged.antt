@@ -4,6 +4,7 @@
 -- AreStaged s p      what lines of a later stage alone say is not there yet
 -- AreClasses, AreRules, AreFeatures, AreDirt, AreErrors     what holds of each section
 -- IsStarted p e      what holds of an error whose cells are to come; AreFilled es: only the last lacks them
+-- ArePlain rs F      the rules and the features have no subtype
 -- IsKept d           the draft keeps all that
 use Rattle.std.proofs.Common.{◌≡◌, ◌≢◌, ◌<◌, ◌≤◌, nat_le, true, false, ◌&&◌, not, List, [], ◌∷◌, length, Some, refl, sym, subst, arith}
 use Rattle.std.proofs.lemmas.Bool.{not-true, and_parts}
@@ -23,7 +24,7 @@ use Rattle.topology_terms.specs.Causes.{is_fit, is_row}
 use Rattle.topology_terms.specs.Project.{Project, InForce, rule_at, AreAscending, empty_project}
 use Rattle.project_terms.specs.declared.stage.Stage.{Stage}
 use Rattle.project_terms.specs.declared.stage.Stage.TheVariants as stage
-use Rattle.project_terms.specs.Records.{IsNumbered, IsPlaced}
+use Rattle.project_terms.specs.Records.{IsNumbered, HasSmallSides, HasPlainSides, IsPlaced}
 use Rattle.project_terms.specs.Drafts.{Draft, start, rank, may_follow, is_open, wants_cell}
 
 -- ---- stages
@@ -84,6 +85,7 @@ pub record AreClasses (cs : List Class) : Type 0 where
 pub record AreRules (cs : List Class) (rs : List InForce) : Type 0 where
   pub numbers : Every IsNumbered rs
   pub ascending : AreAscending rs
+  pub sides : Every HasSmallSides rs
   pub fit : Every (λ (q : InForce). is_fit cs q.row ≡ true) rs
   pub apart : EveryPair (λ (q r : InForce). is_row q.row r.row ≡ false) rs
 
@@ -119,6 +121,11 @@ pub record AreErrors (p : Project) (es : List Entry) : Type 0 where
   pub filled : AreFilled es
   pub ascending : entries.IsAscending es
 
+-- in a format that has no subtypes
+pub record ArePlain (rs : List InForce) (F : List Feature) : Type 0 where
+  pub rules : Every HasPlainSides rs
+  pub features : Every (λ (f : Feature). f.subtype ≡ 0) F
+
 -- what features and errors look at
 abbrev pub head_of : Project → Project
 head_of p = record empty_project { classes = p.classes; rules = p.rules; next = p.next }
@@ -128,12 +135,16 @@ pub record IsKept (d : Draft) : Type 0 where
   pub classes : AreClasses d.project.classes
   pub rules : AreRules d.project.classes d.project.rules
   pub features : AreFeatures (head_of d.project) d.project.features
+  pub plain : d.typed ≡ false → ArePlain d.project.rules d.project.features
   pub dirt : AreDirt d.project.dirt
   pub errors : AreErrors (head_of d.project) d.project.entries
   pub over : rank d.stage ≡ 8 → wants_cell d.project.entries ≡ false
 
 pub no_rules : (cs : List Class) (rs : List InForce) → rs ≡ [] → AreRules cs rs
-no_rules cs rs e = subst (AreRules cs) (sym e) (record { numbers = tt; ascending = tt; fit = tt; apart = tt })
+no_rules cs rs e = subst (AreRules cs) (sym e) (record { numbers = tt; ascending = tt; sides = tt; fit = tt; apart = tt })
+
+pub none_plain : (rs : List InForce) (F : List Feature) → rs ≡ [] → F ≡ [] → ArePlain rs F
+none_plain rs F e k = subst (λ (x : List InForce). ArePlain x F) (sym e) (subst (ArePlain []) (sym k) (record { rules = tt; features = tt }))
 
 pub no_features : (p : Project) (F : List Feature) → F ≡ [] → AreFeatures p F
 no_features p F e = subst (AreFeatures p) (sym e) (record { placed = tt; ascending = tt })
@@ -154,6 +165,7 @@ start_kept = record {
   classes = record { few = omega arith; names = tt; unlike = tt };
   rules = no_rules [] [] refl;
   features = no_features (head_of empty_project) [] refl;
+  plain = λ e. none_plain [] [] refl refl;
   dirt = record { rectangles = tt; loose = tt };
   errors = no_errors (head_of empty_project) [] refl;
   over = λ e. absurd (omega (arith, e));

@@ -1,8 +1,8 @@
 -- Drafts of a record: where a line may stand, and how a line is read whose fields are plain.
 --
--- at_stage s p                   a draft
+-- at_stage t s p                 a draft, in a format that has subtypes (t) or has none
 -- in_classes p cs, in_rules p rs, in_features p F, in_dirt p D, in_errors p es      the project p as far as so much of a section
-use Rattle.std.proofs.Common.{ℕ, pos, ◌≡◌, ◌<◌, ◌≤◌, ◌==◌, ltb, nat_le, true, false, not, List, [], ◌∷◌, ◌++◌, Option, Some, None, Ok, if◌then◌else◌, refl, sym, ap, subst, arith}
+use Rattle.std.proofs.Common.{ℕ, pos, ◌≡◌, ◌<◌, ◌≤◌, ◌==◌, ltb, nat_le, Bool, true, false, not, List, [], ◌∷◌, ◌++◌, Option, Some, None, Ok, if◌then◌else◌, refl, sym, ap, subst, arith}
 use Rattle.std.specs.Prelude.{IfSome}
 use Rattle.std.proofs.lemmas.Bool.{and_from}
 use Rattle.std.proofs.lemmas.Bool.Decides.{nat_tests}
@@ -58,12 +58,12 @@ opens stage.Dirt s some on far up = and_from _ _ (within 3 (rank s) far) (within
 opens stage.Errors s some on far up = and_from _ _ (within 3 (rank s) far) (within 7 (rank s) up)
 opens stage.End s some on far up = absurd (omega (arith, on))
 
-abbrev pub at_stage : Stage → Project → Draft
-at_stage s p = record { stage = s; project = p }
+abbrev pub at_stage : Bool → Stage → Project → Draft
+at_stage t s p = record { stage = s; typed = t; project = p }
 
-pub open_here : (a s : Stage) (p : Project) → 2 ≤ rank a → rank a ≤ 7 → 3 ≤ rank s → rank a ≤ rank s → wants_cell p.entries ≡ false
-    → is_open s (at_stage a p) ≡ true
-open_here a s p some on far up full = and_from _ _ (opens a s some on far up) (ap not full)
+pub open_here : (t : Bool) (a s : Stage) (p : Project) → 2 ≤ rank a → rank a ≤ 7 → 3 ≤ rank s → rank a ≤ rank s → wants_cell p.entries ≡ false
+    → is_open s (at_stage t a p) ≡ true
+open_here t a s p some on far up full = and_from _ _ (opens a s some on far up) (ap not full)
 
 pub at_true : (s : Stage) (d : Draft) (v : Verdict) → is_open s d ≡ true → at s d v ≡ v
 at_true s d v o = rw o refl

@@ -1,7 +1,7 @@
 -- The lines of a project's text as they are appended, each grouped from the right.
 --
--- rect_text, name_text, key_text      the numbers of a rectangle, the name of a class where there is one, the key of an error: each behind
---                                     a space
+-- rect_text, side_text, key_text      the numbers of a rectangle, the name of a class where there is one and the subtype behind it, the key
+--                                     of an error: each behind a space
 -- half_text h m            the numbers and the sign of a half-plane, each behind a space, with a comma at the end if more follow
 -- class_text, rule_text, feature_text, dirty_text, error_text, cell_text     one line each; of a class that is not there, nothing
 -- error_texts e            the line of an error, and behind it those of its cells
@@ -19,14 +19,14 @@ use Rattle.topology_terms.specs.Feature.{Class, Feature}
 use Rattle.topology_terms.specs.Entry.{Entry}
 use Rattle.topology_terms.specs.Project.{Project, InForce}
 use Rattle.topology_terms.specs.Lookups.{class_at}
-use Rattle.project_terms.specs.Written.{op_word, mark_word, extent_word}
+use Rattle.project_terms.specs.Written.{op_word, mark_word, extent_word, sided, written_subtype}
 
 abbrev pub rect_text : Rectangle → List ℕ
 rect_text r = 32 ∷ signed_decimal r.x0 ⧺ 32 ∷ signed_decimal r.y0 ⧺ 32 ∷ signed_decimal r.x1 ⧺ 32 ∷ signed_decimal r.y1
 
-abbrev pub name_text : Option Class → List ℕ
-name_text None = []
-name_text (Some c) = 32 ∷ c.name
+abbrev pub side_text : Option Class → Option ℕ → List ℕ
+side_text None s = []
+side_text (Some c) s = 32 ∷ sided c.name s
 
 abbrev pub sign_text : Op → Bool → List ℕ
 sign_text op more = if more then op_word op ++ 44 ∷ [] else op_word op
@@ -48,11 +48,11 @@ class_text None = []
 class_text (Some c) = codes "class" ⧺ 32 ∷ c.name ⧺ 32 ∷ kind_word c.kind ⧺ 10 ∷ []
 
 abbrev pub rule_text : List Class → InForce → List ℕ
-rule_text cs q = codes "rule" ⧺ 32 ∷ decimal q.number ⧺ 32 ∷ word_of q.row.kind ⧺ name_text (class_at cs q.row.origin.class) ⧺ name_text
-    (class_at cs q.row.dest.class) ⧺ 10 ∷ []
+rule_text cs q = codes "rule" ⧺ 32 ∷ decimal q.number ⧺ 32 ∷ word_of q.row.kind ⧺ side_text (class_at cs q.row.origin.class)
+    q.row.origin.subtype ⧺ side_text (class_at cs q.row.dest.class) q.row.dest.subtype ⧺ 10 ∷ []
 
 abbrev pub feature_text : List Class → Feature → List ℕ
-feature_text cs f = codes "feature" ⧺ 32 ∷ decimal f.handle ⧺ name_text (class_at cs f.class) ⧺ 32 ∷ shape_text f.shape ⧺ 10 ∷ []
+feature_text cs f = codes "feature" ⧺ 32 ∷ decimal f.handle ⧺ side_text (class_at cs f.class) (written_subtype f.subtype) ⧺ 32 ∷ shape_text f.shape ⧺ 10 ∷ []
 
 abbrev pub dirty_text : Rectangle → List ℕ
 dirty_text r = codes "dirty" ⧺ rect_text r ⧺ 10 ∷ []
@@ -70,12 +70,12 @@ abbrev pub error_texts : Entry → List ℕ
 error_texts e = error_text e ⧺ flat_map cell_text e.cells
 
 abbrev pub head_text : ℕ → List ℕ
-head_text next = codes "topology 1" ⧺ 10 ∷ codes "next" ⧺ 32 ∷ decimal next ⧺ 10 ∷ []
+head_text next = codes "topology 2" ⧺ 10 ∷ codes "next" ⧺ 32 ∷ decimal next ⧺ 10 ∷ []
 
 abbrev pub class_texts : List Class → List ℕ
 class_texts cs = flat_map (λ (c : Class). class_text (Some c)) cs
 
 -- all sections
-abbrev pub text_of : Project → List ℕ
-text_of p = head_text p.next ⧺ class_texts p.classes ⧺ flat_map (rule_text p.classes) p.rules ⧺ flat_map (feature_text p.classes) p.features
+abbrev pub sections_text : Project → List ℕ
+sections_text p = head_text p.next ⧺ class_texts p.classes ⧺ flat_map (rule_text p.classes) p.rules ⧺ flat_map (feature_text p.classes) p.features
     ⧺ flat_map dirty_text p.dirt ⧺ flat_map error_texts p.entries ⧺ codes "end" ⧺ 10 ∷ []

@@ -2,6 +2,7 @@
 --
 -- left rest           the fields behind a part of a line of which rest is left: none, or those behind its first byte, a space
 -- is_single fs        there is just one field
+-- plain_side, bound_side      the side that a name alone spells, or a name and digits behind a colon
 -- Gives r P d         after Ok, P holds of the verdict that makes the draft d; of a wrong line, of the verdict of its cause; out of memory
 --                     says nothing
 -- Says r v d          after Ok the verdict v makes the draft d; of a wrong line it is the cause
@@ -15,8 +16,10 @@
 -- IsProjectFault t e  the line of this number is the first that is wrong, and this is its first cause; out of memory says nothing
 -- at_line n f         the fault of a text whose line n has the fault f
 -- IsFaultAt n c e     the fault is this line and this cause, or out of memory
-use Rattle.std.specs.Prelude.{ℕ, ◌≡◌, Bool, true, false, List, [], ◌∷◌, ◌++◌, Option, Some, None, Result, Ok, Err, IfSome, is_some, ◌⊎◌, if◌then◌else◌}
+use Rattle.std.specs.Prelude.{ℕ, ℤ, ◌≡◌, Bool, true, false, List, [], ◌∷◌, ◌++◌, Option, Some, None, Result, Ok, Err, IfSome, is_some, ◌⊎◌, if◌then◌else◌}
 use Rattle.std.specs.List.{list_all}
+use Rattle.std.specs.Option.{option_map}
+use Rattle.text_terms.specs.Fields.{is_name}
 use Rattle.plane_terms.specs.Rectangle.{Rectangle, rect_of as rectangle}
 use Rattle.plane_terms.specs.HalfPlane.{HalfPlane}
 use Rattle.plane_terms.specs.Cell.{Cell}
@@ -27,9 +30,9 @@ use Rattle.wkt_terms.specs.declared.wkt_fault.WktFault.TheVariants as text
 use Rattle.project_terms.specs.declared.project_cause.ProjectCause.{ProjectCause}
 use Rattle.project_terms.specs.declared.project_cause.ProjectCause.TheVariants as cause
 use Rattle.project_terms.specs.declared.stage.Stage.TheVariants as stage
-use Rattle.project_terms.specs.Lines.{fields}
+use Rattle.project_terms.specs.Lines.{fields, number}
 use Rattle.project_terms.specs.Drafts.{Draft, is_open, is_cell_open, is_half}
-use Rattle.project_terms.specs.Verdicts.{Verdict, WktReading, Unwritten, Refused, Written, RuleForm, FeatureForm, ErrorForm, at, judged, cell_of, cell_verdict, feature_of, feature_verdict, halves_behind, wkt_in}
+use Rattle.project_terms.specs.Verdicts.{Verdict, WktReading, Unwritten, Refused, Written, SideForm, RuleForm, FeatureForm, ErrorForm, at, judged, cell_of, cell_verdict, feature_of, feature_verdict, halves_behind, wkt_in}
 use Rattle.project_terms.specs.Texts.{IsFault, IsReading}
 use Rattle.project_text.specs.declared.fault.LineFault.{LineFault}
 use Rattle.project_text.specs.declared.fault.LineFault.TheVariants as line
@@ -51,6 +54,14 @@ abbrev pub is_single : List (List ℕ) → Bool
 is_single (f ∷ []) = true
 is_single other = false
 
+-- a side whose field has no colon; one whose field has one
+abbrev pub plain_side : List ℕ → Option SideForm
+plain_side name = if is_name name then Some (record { name = name; subtype = None }) else None
+
+abbrev pub bound_side : List ℕ → List ℕ → Option SideForm
+bound_side name digits = if is_name name
+    then option_map (λ (z : ℤ). record { name = name; subtype = Some z }) (number digits) else None
+
 abbrev pub Gives : {X : Type 0} → Result X LineFault → (Verdict → Type 0) → Draft → Type 0
 Gives (Ok x) P d = P (Ok d)
 Gives (Err (line.Wrong c)) P d = P (Err c)
@@ -66,7 +77,7 @@ abbrev pub rule_said : code_rule.RuleForm → RuleForm
 rule_said q = record { number = q.number; kind = q.kind; origin = q.origin; dest = q.dest }
 
 abbrev pub feature_said : code_feature.FeatureForm → FeatureForm
-feature_said f = record { handle = f.handle; class = f.class; wkt = f.wkt.now }
+feature_said f = record { handle = f.handle; own = f.own; wkt = f.wkt.now }
 
 abbrev pub error_said : code_error.ErrorForm → ErrorForm
 error_said e = record { rule = e.rule; subject = e.subject; other = e.other; whole = is_whole e.extent; frame = rect_said e.frame }
@@ -100,8 +111,8 @@ abbrev pub cell_line_verdict : Draft → List (List ℕ) → Verdict
 cell_line_verdict d fs = if is_cell_open d then judged (cell_verdict d) (cell_of fs) else Err cause.Form
 
 abbrev pub IsFeatureVerdict : Draft → List (List ℕ) → Verdict → Type 0
-IsFeatureVerdict d fs v = (r : WktReading) × (is_open stage.Features d ≡ true → IfSome (wkt_in (feature_of fs)) (λ t. IsReading t r))
-    × (v ≡ at stage.Features d (judged (feature_verdict r d) (feature_of fs)))
+IsFeatureVerdict d fs v = (r : WktReading) × (is_open stage.Features d ≡ true → IfSome (wkt_in (feature_of d.typed fs)) (λ t. IsReading t r))
+    × (v ≡ at stage.Features d (judged (feature_verdict r d) (feature_of d.typed fs)))
 
 abbrev pub IsProjectFault : List ℕ → ProjectFault → Type 0
 IsProjectFault t (fault.Wrong n c) = IsFault t n c

@@ -12,10 +12,11 @@ use rule_core::InForce;
 use std::alloc::Global;
 use std::marker::Model;
 
-/// The stage that a text has come to, and what its lines have said so far.
+/// The stage that a text has come to, whether its format has subtypes, and what its lines have said so far.
 #[derive(Drop)]
 pub struct Draft {
     pub stage: Stage,
+    pub typed: bool,
     pub store: Store,
     pub rules: Vec<InForce>,
     pub dirt: IndexedDirt,
@@ -27,7 +28,7 @@ impl Model for Draft {
 
     ghost Value = { terms.Draft };
 
-    ghost view = { λ d. record { stage = d.stage; project = record { classes = d.store.classes; rules = d.rules.items; features = d.store.features; next = d.store.next; dirt = d.dirt; entries = d.entries.items } } };
+    ghost view = { λ d. record { stage = d.stage; typed = d.typed; project = record { classes = d.store.classes; rules = d.rules.items; features = d.store.features; next = d.store.next; dirt = d.dirt; entries = d.entries.items } } };
 }
 
 fn rank(stage: Stage) -> u8
@@ -84,6 +85,7 @@ impl Draft {
     {
         Draft {
             stage: Stage::Start,
+            typed: false,
             store: Store::new(alloc),
             rules: Vec::new(alloc),
             dirt: IndexedDirt::new(alloc),

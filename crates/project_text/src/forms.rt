@@ -1,14 +1,16 @@
 ghost use Rattle.std.specs.Prelude.{◌≡◌, ◌<◌, length, MatchOption};
 ghost use Rattle.std.specs.Option.{option_map};
 ghost use Rattle.topology_terms.specs.Extents.{is_whole};
-ghost use Rattle.project_terms.specs.Verdicts.{is_one, number_of, kind_of_word, class_of, second_of, rule_of, feature_of, rect_of, extent_of, error_of, op_of};
-ghost use Rattle.project_text.specs.Reading.{left, rule_said, feature_said, rect_said, error_said, IsNoHalf, IsHalfForm};
+ghost use Rattle.project_terms.specs.Verdicts.{title_of, number_of, kind_of_word, class_of, side_form, own_form, is_0, second_of, rule_of, feature_of, rect_of, extent_of, error_of, op_of};
+ghost use Rattle.project_text.specs.Reading.{left, plain_side, bound_side, rule_said, feature_said, rect_said, error_said, IsNoHalf, IsHalfForm};
 
 use crate::fields::{is_over, is_word, last_field, next_field, rest_of};
 use crate::numbers::read_number;
 use grid_plane::{Name, Op};
 use rule_words::RuleKind;
 use shape::Kind;
+use std::marker::Model;
+use text_fields::split_colon;
 use topology_terms::Extent;
 
 /// Four numbers, as a line spells them.
@@ -20,20 +22,35 @@ pub struct RectForm {
     pub y1: i64,
 }
 
+/// A class, and the number of a subtype where one is given, as a field spells them.
+#[derive(Drop)]
+pub struct SideForm {
+    pub name: Name,
+    pub subtype: Option<i64>,
+}
+
+impl Model for SideForm {
+    ghost use Rattle.project_terms.specs.Verdicts as terms;
+
+    ghost Value = { terms.SideForm };
+
+    ghost view = { λ a. record { name = a.name; subtype = a.subtype } };
+}
+
 /// What the line of a rule says.
 #[derive(Drop)]
 pub struct RuleForm {
     pub number: i64,
     pub kind: RuleKind,
-    pub origin: Name,
-    pub dest: Option<Name>,
+    pub origin: SideForm,
+    pub dest: Option<SideForm>,
 }
 
 /// What the line of a feature says; the text of its shape is unread.
 #[derive(Drop)]
 pub struct FeatureForm<'a> {
     pub handle: i64,
-    pub class: Name,
+    pub own: SideForm,
     pub wkt: &'a [u8],
 }
 
@@ -58,14 +75,19 @@ pub struct HalfForm<'a> {
     pub rest: &'a [u8],
 }
 
-/// Whether `1` is all that is left.
-pub fn is_one(rest: &[u8]) -> bool
-    ensures { result ≡ is_one (left rest.now) }
+/// Whether the format that is all that is left has subtypes.
+#[tactic(auto, using(crate::proofs::FieldForms::no_title))]
+pub fn title_form(rest: &[u8]) -> Option<bool>
+    ensures { result ≡ title_of (left rest.now) }
 {
-    match last_field(rest) {
-        Some(field) => is_word(field, b"1"),
-        None => false,
+    let format = last_field(rest)?;
+    if is_word(format, b"1") {
+        return Some(false);
     }
+    if is_word(format, b"2") {
+        return Some(true);
+    }
+    None
 }
 
 /// The number that is all that is left.
@@ -99,20 +121,69 @@ pub fn class_form(rest: &[u8]) -> Option<(Name, Kind)>
     Some((Name::of(name)?, kind_of(word)?))
 }
 
-// The second name of a rule, where there is one.
-fn second_name(rest: &[u8]) -> Option<Option<Name>>
-    ensures { result ≡ second_of (left rest.now) }
+// The class of this name.
+fn plain_side(name: &[u8]) -> Option<SideForm>
+    ensures { result ≡ plain_side name.now }
+{
+    Some(SideForm {
+        name: Name::of(name)?,
+        subtype: None,
+    })
+}
+
+// The subtype of this number of the class of this name.
+fn bound_side(name: &[u8], digits: &[u8]) -> Option<SideForm>
+    ensures { result ≡ bound_side name.now digits.now }
+{
+    let name = Name::of(name)?;
+    let number = read_number(digits)?;
+    Some(SideForm {
+        name,
+        subtype: Some(number),
+    })
+}
+
+// The class that a field names, in a format that has subtypes perhaps with a number behind a colon.
+fn side_form(typed: bool, field: &[u8]) -> Option<SideForm>
+    ensures { result ≡ side_form typed field.now }
+{
+    match split_colon(field) {
+        None => plain_side(field),
+        Some((front, digits)) => {
+            if typed {
+                bound_side(front, digits)
+            } else {
+                None
+            }
+        }
+    }
+}
+
+// The same of a feature, whose subtype is not written where it is 0.
+fn own_form(typed: bool, field: &[u8]) -> Option<SideForm>
+    ensures { result ≡ own_form typed field.now }
+{
+    let own = side_form(typed, field)?;
+    match own.subtype {
+        Some(0) => None,
+        _ => Some(own),
+    }
+}
+
+// The second side of a rule, where there is one.
+fn second_side(typed: bool, rest: &[u8]) -> Option<Option<SideForm>>
+    ensures { result ≡ second_of typed (left rest.now) }
 {
     if is_over(rest) {
         return Some(None);
     }
-    let name = Name::of(last_field(rest)?)?;
-    Some(Some(name))
+    let side = side_form(typed, last_field(rest)?)?;
+    Some(Some(side))
 }
 
-/// The number, the word and the classes of a rule.
-pub fn rule_form(rest: &[u8]) -> Option<RuleForm>
-    ensures { MatchOption result (rule_of (left rest.now) ≡ None) (λ q. rule_of (left rest.now) ≡ Some (rule_said q)) }
+/// The number, the word and the sides of a rule, in a format that has subtypes or has none.
+pub fn rule_form(typed: bool, rest: &[u8]) -> Option<RuleForm>
+    ensures { MatchOption result (rule_of typed (left rest.now) ≡ None) (λ q. rule_of typed (left rest.now) ≡ Some (rule_said q)) }
 {
     let (number, rest) = next_field(rest)?;
     let (word, rest) = next_field(rest)?;
@@ -120,21 +191,21 @@ pub fn rule_form(rest: &[u8]) -> Option<RuleForm>
     Some(RuleForm {
         number: read_number(number)?,
         kind: RuleKind::of_word(word)?,
-        dest: second_name(rest)?,
-        origin: Name::of(origin)?,
+        dest: second_side(typed, rest)?,
+        origin: side_form(typed, origin)?,
     })
 }
 
-/// The handle and the class of a feature, and the text of its shape.
-pub fn feature_form(rest: &[u8]) -> Option<FeatureForm<'_>>
-    ensures { MatchOption result (feature_of (left rest.entry.now) ≡ None) (λ f. feature_of (left rest.entry.now) ≡ Some (feature_said f)) }
+/// The handle and the class of a feature, in a format that has subtypes perhaps with one, and the text of its shape.
+pub fn feature_form(typed: bool, rest: &[u8]) -> Option<FeatureForm<'_>>
+    ensures { MatchOption result (feature_of typed (left rest.entry.now) ≡ None) (λ f. feature_of typed (left rest.entry.now) ≡ Some (feature_said f)) }
 {
     let (handle, rest) = next_field(rest)?;
     let (class, rest) = next_field(rest)?;
     let wkt = rest_of(rest)?;
     Some(FeatureForm {
         handle: read_number(handle)?,
-        class: Name::of(class)?,
+        own: own_form(typed, class)?,
         wkt,
     })
 }

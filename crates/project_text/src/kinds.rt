@@ -1,6 +1,6 @@
 ghost use Rattle.std.specs.Prelude.{◌≡◌, false, true};
 ghost use Rattle.project_terms.specs.Texts.{IsVerdict};
-ghost use Rattle.project_terms.specs.Verdicts.{at, said, judged, is_one, is_none, number_of, class_of, rule_of, rect_of, error_of, next_verdict, class_verdict, rule_verdict, dirty_verdict, error_verdict};
+ghost use Rattle.project_terms.specs.Verdicts.{at, said, judged, title_of, title_verdict, is_none, number_of, class_of, rule_of, rect_of, error_of, next_verdict, class_verdict, rule_verdict, dirty_verdict, error_verdict};
 ghost use Rattle.project_terms.specs.declared.stage.Stage.TheVariants as stage;
 ghost use Rattle.project_text.specs.Reading.{left, Gives, Says, IsFeatureVerdict, cell_line_verdict};
 
@@ -9,7 +9,7 @@ use crate::draft::Draft;
 use crate::fault::LineFault;
 use crate::fields::{is_over, is_word, split_field};
 use crate::forms::{
-    class_form, error_form, feature_form, is_one, number_form, rect_form, rule_form,
+    class_form, error_form, feature_form, number_form, rect_form, rule_form, title_form,
 };
 use crate::shapes::{Reading, read_shape};
 use project_terms::{ProjectCause, Stage};
@@ -18,13 +18,19 @@ use std::alloc::Global;
 impl Draft {
     /// The line that names the format.
     fn read_title(&mut self, rest: &[u8]) -> Result<(), LineFault>
-        ensures { Says result (at stage.Title self.old (said stage.Title self.old (is_one (left rest.now)))) self.new }
+        ensures { Says result (at stage.Title self.old (judged (title_verdict self.old) (title_of (left rest.now)))) self.new }
     {
-        if !self.is_open(Stage::Title) || !is_one(rest) {
+        if !self.is_open(Stage::Title) {
             return Err(LineFault::Wrong(ProjectCause::Form));
         }
-        self.stage = Stage::Title;
-        Ok(())
+        match title_form(rest) {
+            Some(typed) => {
+                self.typed = typed;
+                self.stage = Stage::Title;
+                Ok(())
+            }
+            None => Err(LineFault::Wrong(ProjectCause::Form)),
+        }
     }
 
     /// The last line.
@@ -67,12 +73,12 @@ impl Draft {
 
     /// The line of a rule.
     fn read_rule(&mut self, rest: &[u8]) -> Result<(), LineFault>
-        ensures { Says result (at stage.Rules self.old (judged (rule_verdict self.old) (rule_of (left rest.now)))) self.new }
+        ensures { Says result (at stage.Rules self.old (judged (rule_verdict self.old) (rule_of self.old.typed (left rest.now)))) self.new }
     {
         if !self.is_open(Stage::Rules) {
             return Err(LineFault::Wrong(ProjectCause::Form));
         }
-        match rule_form(rest) {
+        match rule_form(self.typed, rest) {
             Some(form) => self.say_rule(&form),
             None => Err(LineFault::Wrong(ProjectCause::Form)),
         }
@@ -85,13 +91,13 @@ impl Draft {
         if !self.is_open(Stage::Features) {
             return Err(LineFault::Wrong(ProjectCause::Form));
         }
-        let Some(form) = feature_form(rest) else {
+        let Some(form) = feature_form(self.typed, rest) else {
             return Err(LineFault::Wrong(ProjectCause::Form));
         };
         match read_shape(alloc, form.wkt)? {
             Reading::Unwritten => Err(LineFault::Wrong(ProjectCause::Form)),
             Reading::Refused => Err(LineFault::Wrong(ProjectCause::Shape)),
-            Reading::Written(shape) => self.say_feature(form.handle, &form.class, shape),
+            Reading::Written(shape) => self.say_feature(form.handle, &form.own, shape),
         }
     }
 

@@ -22,6 +22,7 @@ mod write;
 pub use data::ProjectData;
 pub use fault::ProjectFault;
 pub use law::{one_number_law, one_text_law, project_text_law};
+pub use lines::written_subtype;
 pub use project_terms::ProjectCause;
 pub use read::read_project;
 pub use write::{write_parts, write_project};

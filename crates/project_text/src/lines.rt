@@ -1,16 +1,16 @@
-ghost use Rattle.std.specs.Prelude.{◌≡◌, ◌++◌, Some, OnOk};
+ghost use Rattle.std.specs.Prelude.{◌≡◌, ◌++◌, ◌∷◌, Some, OnOk};
 ghost use Rattle.line_terms.specs.Forms.{kind_word};
 ghost use Rattle.topology_terms.specs.Extents.{is_whole};
 ghost use Rattle.topology_terms.specs.Lookups.{class_at};
-ghost use Rattle.project_terms.specs.Written.{mark_word, extent_word};
-ghost use Rattle.project_text.specs.Pushed.{rect_text, name_text, sign_text, half_text, halves_text, class_text, rule_text, feature_text, dirty_text, key_text, error_text, cell_text};
+ghost use Rattle.project_terms.specs.Written.{mark_word, extent_word, sided, written_subtype};
+ghost use Rattle.project_text.specs.Pushed.{rect_text, side_text, sign_text, half_text, halves_text, class_text, rule_text, feature_text, dirty_text, key_text, error_text, cell_text};
 
-use crate::push::{push_end, push_field, push_number, push_text};
+use crate::push::{push_digits, push_end, push_field, push_number, push_text};
 use convex_cell::BorrowedCell;
 use error_store::Entry;
 use feature_store::Store;
 use grid_plane::{Half, NoMemory, Op, Rect};
-use rule_core::InForce;
+use rule_core::{InForce, Side};
 use shape::{Feature, Kind};
 use topology_terms::Extent;
 use wkt_text::write_wkt;
@@ -62,14 +62,46 @@ fn push_rect(out: &mut Vec<u8>, r: &Rect) -> Result<(), NoMemory>
     push_number(out, r.y1())
 }
 
-// The name of the class of this number behind a space; nothing where there is none.
-fn push_class_name(out: &mut Vec<u8>, store: &Store, class: u16) -> Result<(), NoMemory>
-    ensures { OnOk result (out.new.items ≡ out.old.items ++ name_text (class_at store.now.classes class)) }
+// A name behind a space, and behind a colon the subtype, where there is one.
+fn push_sided(out: &mut Vec<u8>, name: &[u8], subtype: Option<u8>) -> Result<(), NoMemory>
+    ensures { OnOk result (out.new.items ≡ out.old.items ++ 32 ∷ sided name.now subtype) }
 {
-    match store.class_name(class) {
-        Some(name) => push_field(out, name.bytes()),
+    push_field(out, name)?;
+    match subtype {
+        Some(subtype) => {
+            push_text(out, b":")?;
+            push_digits(out, subtype)
+        }
         None => Ok(()),
     }
+}
+
+// The same of the class of this number; nothing where there is none.
+fn push_class(
+    out: &mut Vec<u8>,
+    store: &Store,
+    class: u16,
+    subtype: Option<u8>,
+) -> Result<(), NoMemory>
+    ensures { OnOk result (out.new.items ≡ out.old.items ++ side_text (class_at store.now.classes class) subtype) }
+{
+    match store.class_name(class) {
+        Some(name) => push_sided(out, name.bytes(), subtype),
+        None => Ok(()),
+    }
+}
+
+fn push_side(out: &mut Vec<u8>, store: &Store, side: &Side) -> Result<(), NoMemory>
+    ensures { OnOk result (out.new.items ≡ out.old.items ++ side_text (class_at store.now.classes side.now.class) side.now.subtype) }
+{
+    push_class(out, store, side.class, side.subtype)
+}
+
+/// The subtype of a feature as it is written: none where it is 0.
+pub fn written_subtype(subtype: u8) -> Option<u8>
+    ensures { result ≡ written_subtype subtype }
+{
+    if subtype == 0 { None } else { Some(subtype) }
 }
 
 fn push_named_class(out: &mut Vec<u8>, name: &[u8], kind: Kind) -> Result<(), NoMemory>
@@ -98,8 +130,8 @@ pub fn push_rule_line(out: &mut Vec<u8>, store: &Store, rule: &InForce) -> Resul
     push_text(out, b"rule")?;
     push_number(out, rule.number)?;
     push_field(out, rule.row.kind.word().as_bytes())?;
-    push_class_name(out, store, rule.row.origin)?;
-    push_class_name(out, store, rule.row.dest_number())?;
+    push_side(out, store, &rule.row.origin)?;
+    push_side(out, store, &rule.row.dest_side())?;
     push_end(out)
 }
 
@@ -113,7 +145,8 @@ pub fn push_feature_line(
 {
     push_text(out, b"feature")?;
     push_number(out, feature.handle())?;
-    push_class_name(out, store, feature.class())?;
+    let subtype = written_subtype(feature.subtype());
+    push_class(out, store, feature.class(), subtype)?;
     push_text(out, b" ")?;
     write_wkt(feature.shape(), out)?;
     push_end(out)

@@ -23,6 +23,14 @@ pub fn push_field(out: &mut Vec<u8>, field: &[u8]) -> Result<(), NoMemory>
     push_text(out, field)
 }
 
+/// Appends the number as a plain decimal, behind `-` where it is negative.
+pub fn push_digits<N: Integer>(out: &mut Vec<u8>, number: N) -> Result<(), NoMemory>
+    ensures { OnOk result (out.new.items ≡ out.old.items ++ N.text number) }
+{
+    let mut buffer = Buffer::new();
+    push_text(out, buffer.format(number).as_bytes())
+}
+
 /// Appends a space and the number as a plain decimal, behind `-` where it is negative.
 pub fn push_number<N: Integer>(out: &mut Vec<u8>, number: N) -> Result<(), NoMemory>
     ensures { OnOk result (out.new.items ≡ out.old.items ++ 32 ∷ N.text number) }

@@ -1,38 +1,36 @@
-ghost use Rattle.std.specs.Prelude.{◌≡◌, ◌≤◌, ◌<◌, ◌-◌, ◌==◌, ◌&&◌, ◌||◌, not, Some, Ok, true, false, [], is_some, MatchOption};
+ghost use Rattle.std.specs.Prelude.{◌≡◌, ◌≤◌, ◌<◌, ◌-◌, ◌==◌, ◌&&◌, ◌||◌, not, Some, Ok, true, false, [], is_some, IfSome, unwrap_or, MatchOption};
 ghost use Rattle.rule_words.specs.Table.{dest_of};
 ghost use Rattle.topology_terms.specs.Causes.{fits_dest, is_fit, is_kind, is_row, is_there};
-ghost use Rattle.std.specs.Option.{option_map, option_map_or};
-ghost use Rattle.std.specs.NonZero.{non_zero_u16_get};
+ghost use Rattle.std.specs.Option.{option_map};
 ghost use Rattle.topology_terms.specs.Extents.{is_whole};
 ghost use Rattle.topology_terms.specs.Feature as feature_terms;
-ghost use Rattle.topology_terms.specs.Feature.{IsAscending};
+ghost use Rattle.topology_terms.specs.Feature.{IsAscending, feature_of, no_side};
 ghost use Rattle.topology_terms.specs.Lookups.{kind_of_class};
 ghost use Rattle.topology_terms.specs.Project.{rule_at};
 ghost use Rattle.topology_terms.specs.Project as project_terms;
 ghost use Rattle.project_terms.specs.Lines.{natural};
 ghost use Rattle.project_terms.specs.Drafts.{is_rectangle, last_in, is_last_key, is_before, takes_cell, with_cell};
-ghost use Rattle.project_terms.specs.Verdicts.{class_verdict, row_of, dest_in, with_rule, rule_verdict, dirty_verdict, with_feature, feature_numbered, with_error, error_verdict, next_verdict};
+ghost use Rattle.project_terms.specs.Verdicts.{class_verdict, row_of, bound_in, dest_bound, side_in, dest_in, subtype_in, with_rule, rule_verdict, dirty_verdict, with_feature, feature_numbered, with_error, error_verdict, next_verdict};
 ghost use Rattle.project_text.specs.Reading.{Says, rule_said, rect_said, error_said, is_in_force};
 
 use crate::draft::Draft;
 use crate::fault::LineFault;
-use crate::forms::{ErrorForm, FeatureForm, RectForm, RuleForm};
+use crate::forms::{ErrorForm, RectForm, RuleForm, SideForm};
 use crate::numbers::natural;
 use convex_cell::{Cell, Cells};
 use error_store::{Entry, Key};
 use feature_store::{Features, Store};
 use grid_plane::{Name, Rect};
 use project_terms::{ProjectCause, Stage};
-use rule_core::{InForce, RuleRow};
+use rule_core::{InForce, RuleRow, Side};
 use shape::{Feature, Kind, Shape};
 use std::alloc::Global;
-use std::num::NonZeroU16;
 use topology_terms::Extent;
 
 fn is_row(a: &RuleRow, b: &RuleRow) -> bool
     ensures { result ≡ is_row a.now b.now }
 {
-    a.kind == b.kind && a.origin == b.origin && a.dest_number() == b.dest_number()
+    a.kind == b.kind && a.origin.same(&b.origin) && a.dest_side().same(&b.dest_side())
 }
 
 fn is_there(rules: &[InForce], row: &RuleRow) -> bool
@@ -54,16 +52,15 @@ fn has_rule(rules: &[InForce], number: u16) -> bool
     false
 }
 
-// Whether the second class serves the rule; or, where the rule takes none, whether none is given.
-#[tactic(auto, using(rule_core::proofs::Seconds::none_at_0))]
+// Whether the second side serves the rule; or, where the rule takes none, whether none is given.
 fn does_dest_fit(store: &Store, row: &RuleRow) -> bool
     ensures { result ≡ fits_dest store.now.classes row.now (dest_of row.now.kind) }
 {
     match row.kind.dest() {
-        None => row.dest.is_none(),
+        None => !row.has_dest(),
         Some(kind) => {
-            let number = row.dest_number();
-            store.class_kind(number) == Some(kind) && number != row.origin
+            let side = row.dest_side();
+            store.class_kind(side.class) == Some(kind) && side.is_apart(&row.origin)
         }
     }
 }
@@ -71,7 +68,7 @@ fn does_dest_fit(store: &Store, row: &RuleRow) -> bool
 fn do_classes_fit(store: &Store, row: &RuleRow) -> bool
     ensures { result ≡ is_fit store.now.classes row.now }
 {
-    store.class_kind(row.origin) == Some(row.kind.origin()) && does_dest_fit(store, row)
+    store.class_kind(row.origin.class) == Some(row.kind.origin()) && does_dest_fit(store, row)
 }
 
 // Whether the shapes of the class of this number are of the kind.
@@ -88,25 +85,72 @@ fn features_law(store: &Store)
     let _ = store.features();
 }
 
-// The number of the second class of a rule, or none where it names none; nothing where it names a class that is not there.
-fn dest_in(store: &Store, name: &Option<Name>) -> Option<Option<NonZeroU16>>
-    ensures { option_map (λ d. option_map_or non_zero_u16_get d 0) result ≡ dest_in store.now.classes name.now }
+// The subtype of this number, or none where there is no number; nothing where it is beyond its limits.
+fn bound_in(number: Option<i64>) -> Option<Option<u8>>
+    ensures { result ≡ bound_in number }
 {
-    match name {
+    match number {
         None => Some(None),
-        Some(name) => Some(NonZeroU16::new(store.class_by_name(name)?)),
+        Some(number) => {
+            let subtype = natural(0, 255, number)? as u8;
+            Some(Some(subtype))
+        }
     }
 }
 
-// The row of classes that are there, and fit the rule.
-fn row_of(store: &Store, form: &RuleForm) -> Option<RuleRow>
-    ensures { result ≡ row_of store.now.classes (rule_said form.now) }
+// The same of a second side, where there is one.
+fn dest_bound(form: &Option<SideForm>) -> Option<Option<u8>>
+    ensures { result ≡ dest_bound form.now }
 {
-    let row = RuleRow {
-        kind: form.kind,
-        origin: store.class_by_name(&form.origin)?,
-        dest: dest_in(store, &form.dest)?,
-    };
+    match form {
+        None => Some(None),
+        Some(side) => bound_in(side.subtype),
+    }
+}
+
+// The subtype of a feature; nothing where its number is beyond its limits.
+fn subtype_in(number: Option<i64>) -> Option<u8>
+    ensures { result ≡ subtype_in number }
+{
+    match number {
+        None => Some(0),
+        Some(number) => {
+            let subtype = natural(0, 255, number)? as u8;
+            Some(subtype)
+        }
+    }
+}
+
+// The side of the class, where it is there.
+fn side_in(store: &Store, form: &SideForm, subtype: Option<u8>) -> Option<Side>
+    ensures { result ≡ side_in store.now.classes form.now subtype }
+{
+    let class = store.class_by_name(&form.name)?;
+    Some(Side { class, subtype })
+}
+
+// The second side of a rule, or none where it names none; nothing where it names a class that is not there.
+#[tactic(auto, using(crate::proofs::Named::side_numbered))]
+fn dest_in(store: &Store, form: &Option<SideForm>, subtype: Option<u8>) -> Option<Option<Side>>
+    ensures said { option_map (λ d. unwrap_or d no_side) result ≡ dest_in store.now.classes form.now subtype }
+    ensures numbered { IfSome result (λ d. IfSome d (λ s. 0 < s.class)) }
+{
+    match form {
+        None => Some(None),
+        Some(form) => {
+            let side = side_in(store, form, subtype)?;
+            Some(Some(side))
+        }
+    }
+}
+
+// The row of sides whose classes are there, and which fit the rule.
+fn row_of(store: &Store, form: &RuleForm, origin: Option<u8>, dest: Option<u8>) -> Option<RuleRow>
+    ensures { result ≡ row_of store.now.classes (rule_said form.now) origin dest }
+{
+    let origin = side_in(store, &form.origin, origin)?;
+    let dest = dest_in(store, &form.dest, dest)?;
+    let row = RuleRow::new(form.kind, origin, dest);
     if do_classes_fit(store, &row) {
         Some(row)
     } else {
@@ -214,7 +258,13 @@ impl Draft {
         let Some(number) = natural(1, 256, form.number) else {
             return Err(LineFault::Wrong(ProjectCause::Range));
         };
-        let Some(row) = row_of(&self.store, form) else {
+        let Some(origin) = bound_in(form.origin.subtype) else {
+            return Err(LineFault::Wrong(ProjectCause::Range));
+        };
+        let Some(dest) = dest_bound(&form.dest) else {
+            return Err(LineFault::Wrong(ProjectCause::Range));
+        };
+        let Some(row) = row_of(&self.store, form, origin, dest) else {
             return Err(LineFault::Wrong(ProjectCause::Unknown));
         };
         self.put_rule(InForce {
@@ -224,16 +274,22 @@ impl Draft {
     }
 
     // A feature more, of a class of its kind.
-    fn put_feature(&mut self, handle: u32, class: u16, shape: Shape) -> Result<(), LineFault>
+    fn put_feature(
+        &mut self,
+        handle: u32,
+        class: u16,
+        subtype: u8,
+        shape: Shape,
+    ) -> Result<(), LineFault>
         requires from_1 { 1 ≤ handle }
         requires given { handle < self.old.project.next }
         requires kind { is_kind (kind_of_class self.old.project.classes class) shape.kind ≡ true }
-        ensures { Says result (with_feature self.old (record { handle = handle; class = class; shape = shape })) self.new }
+        ensures { Says result (with_feature self.old (feature_of handle class subtype shape)) self.new }
     {
         if last_handle(&self.store.features()) >= handle {
             return Err(LineFault::Wrong(ProjectCause::Order));
         }
-        let mut kept = Some(Feature::new(handle, class, shape));
+        let mut kept = Some(Feature::typed(handle, class, subtype, shape));
         self.store.swap(handle, &mut kept)?;
         features_law(&self.store);
         self.stage = Stage::Features;
@@ -241,19 +297,27 @@ impl Draft {
     }
 
     /// A feature more, its shape read.
-    pub fn say_feature(&mut self, number: i64, class: &Name, shape: Shape) -> Result<(), LineFault>
-        ensures { Says result (feature_numbered self.old (record { handle = number; class = class.now; wkt = [] }) shape (natural 1 (self.old.project.next - 1) number)) self.new }
+    pub fn say_feature(
+        &mut self,
+        number: i64,
+        own: &SideForm,
+        shape: Shape,
+    ) -> Result<(), LineFault>
+        ensures { Says result (feature_numbered self.old own.now shape (natural 1 (self.old.project.next - 1) number)) self.new }
     {
         let Some(handle) = natural(1, self.store.next_handle() - 1, number) else {
             return Err(LineFault::Wrong(ProjectCause::Range));
         };
-        let Some(class) = self.store.class_by_name(class) else {
+        let Some(subtype) = subtype_in(own.subtype) else {
+            return Err(LineFault::Wrong(ProjectCause::Range));
+        };
+        let Some(class) = self.store.class_by_name(&own.name) else {
             return Err(LineFault::Wrong(ProjectCause::Unknown));
         };
         if !is_of_kind(&self.store, class, shape.kind()) {
             return Err(LineFault::Wrong(ProjectCause::Unknown));
         }
-        self.put_feature(handle, class, shape)
+        self.put_feature(handle, class, subtype, shape)
     }
 
     /// A dirty rectangle more.

@@ -3,7 +3,7 @@ ghost use Rattle.std.specs.Option.{option_to_list};
 ghost use Rattle.plane_terms.specs.Cell as terms_cell;
 ghost use Rattle.feature_store.specs.Slots.{feature_in, filled};
 ghost use Rattle.dirty_area.specs.Blocks.{all_rects};
-ghost use Rattle.project_text.specs.Pushed.{head_text, class_texts, rule_text, feature_text, dirty_text, cell_text, error_texts, text_of};
+ghost use Rattle.project_text.specs.Pushed.{head_text, class_texts, rule_text, feature_text, dirty_text, cell_text, error_texts, sections_text};
 ghost use Rattle.project_terms.specs.Written.{project_text};
 
 use crate::data::ProjectData;
@@ -23,7 +23,7 @@ use std::alloc::Global;
 fn push_head(out: &mut Vec<u8>, next: u32) -> Result<(), NoMemory>
     ensures { OnOk result (out.new.items ≡ out.old.items ++ head_text next) }
 {
-    push_text(out, b"topology 1\nnext")?;
+    push_text(out, b"topology 2\nnext")?;
     push_number(out, next)?;
     push_end(out)
 }
@@ -131,7 +131,7 @@ fn push_project(
     blocks: &[Block],
     errors: &Errors,
 ) -> Result<(), NoMemory>
-    ensures { OnOk result (out.new.items ≡ out.old.items ++ text_of (record { classes = store.now.classes; rules = rules.now; features = store.now.features; next = store.now.next; dirt = all_rects blocks.now; entries = errors.now })) }
+    ensures { OnOk result (out.new.items ≡ out.old.items ++ sections_text (record { classes = store.now.classes; rules = rules.now; features = store.now.features; next = store.now.next; dirt = all_rects blocks.now; entries = errors.now })) }
 {
     push_head(out, store.next_handle())?;
     push_classes(out, store)?;
@@ -143,7 +143,7 @@ fn push_project(
     Ok(())
 }
 
-/// The text of the project of these parts, format 1: for each project one text. The parts stay as they are.
+/// The text of the project of these parts, in format 2: for each project one text. The parts stay as they are.
 pub fn write_parts(
     alloc: Global,
     store: &Store,
@@ -158,7 +158,7 @@ pub fn write_parts(
     Ok(out)
 }
 
-/// The text of a project, format 1: for each project one text.
+/// The text of a project, in format 2: for each project one text.
 pub fn write_project(alloc: Global, project: &ProjectData) -> Result<Vec<u8>, NoMemory>
     ensures { IfOk result (λ text. text.items ≡ project_text project.now) }
 {

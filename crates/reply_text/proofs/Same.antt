@@ -1,24 +1,22 @@
 -- The lines of listings are those of a project's text.
-use Rattle.std.proofs.Common.{ℕ, ◌≡◌, Bool, true, false, List, [], ◌∷◌, ◌++◌, map, refl, sym, ap, ◌∙◌, append_assoc, append-nil}
+use Rattle.std.proofs.Common.{ℕ, ◌≡◌, Bool, true, false, List, [], ◌∷◌, ◌++◌, Option, refl, sym, ap, ◌∙◌, append_assoc, append-nil}
 use Rattle.std.specs.Prelude.{flat_map, length, codes, decimal}
 use Rattle.std.proofs.lemmas.Grind.{flat_map-append}
 use Rattle.std.specs.Fmt.{signed_decimal}
 use Rattle.plane_terms.specs.Cell.{Cell}
-use Rattle.plane_terms.specs.HalfPlane.{HalfPlane}
-use Rattle.plane_terms.specs.Rectangle.{Rectangle}
-use Rattle.text_terms.specs.Wkt.{◌⧺◌, listed}
+use Rattle.text_terms.specs.Wkt.{◌⧺◌}
 use Rattle.rule_words.specs.Table.{word_of}
 use Rattle.topology_terms.specs.Feature.{Class, Feature}
 use Rattle.topology_terms.specs.Entry.{Entry}
 use Rattle.topology_terms.specs.Project.{Project, InForce}
 use Rattle.topology_terms.specs.Lookups.{class_at}
 use Rattle.project_terms.specs.Written as text
-use Rattle.project_terms.specs.Written.{op_word, mark_word, extent_word, line_text}
+use Rattle.project_terms.specs.Written.{op_word, mark_word, extent_word, line_text, written_subtype}
 use Rattle.project_text.specs.Pushed as pushed
-use Rattle.project_text.specs.Pushed.{name_text, feature_text, dirty_text}
+use Rattle.project_text.specs.Pushed.{side_text, feature_text, dirty_text}
 use Rattle.project_text.proofs.Sections.{lines_same, dirty_same, error_same, error_all, feature_same, rule_same}
 use Rattle.script_terms.specs.Reply.{CellList, DirtyList, ErrorList, FeatureList, RuleList, reply_text, total_line}
-use Rattle.reply_text.specs.Lines.{half_text, halves_text, cell_line, mark_text, extent_text, key_text, rect_text, entry_line, entry_lines, row_text, rule_line}
+use Rattle.reply_text.specs.Lines.{half_text, halves_text, cell_line, mark_text, extent_text, key_text, rect_text, entry_line, entry_lines, rule_line}
 
 -- ---- one line
 half_said : (a b c d t : List ℕ) → (a ++ (32 ∷ (b ++ (32 ∷ (c ++ (32 ∷ d)))))) ++ 44 ∷ t ≡
@@ -51,7 +49,14 @@ row_said w o d t = simp append_assoc refl
 
 row_same : (cs : List Class) (q : InForce) → rule_line cs q ≡ pushed.rule_text cs q
 row_same cs q = ap (λ t. codes "rule " ⧺ decimal q.number ⧺ 32 ∷ t) (row_said (word_of q.row.kind)
-    (name_text (class_at cs q.row.origin.class)) (name_text (class_at cs q.row.dest.class)) (10 ∷ []))
+    (side_text (class_at cs q.row.origin.class) q.row.origin.subtype) (side_text (class_at cs q.row.dest.class) q.row.dest.subtype)
+    (10 ∷ []))
+
+-- the class and the subtype of a feature
+pub own_said : (cs : List Class) (f : Feature) (n t : ℕ) (s : Option ℕ) → n ≡ f.class → t ≡ f.subtype → s ≡ written_subtype t
+    → side_text (class_at cs n) s ≡ side_text (class_at cs f.class) (written_subtype f.subtype)
+own_said cs f n t s class subtype written =
+    ap (λ x. side_text (class_at cs x) s) class ∙ ap (λ x. side_text (class_at cs f.class) x) (written ∙ ap written_subtype subtype)
 
 -- ---- all lines of a listing
 cells_same : (cs : List Cell) → flat_map {X = Cell} cell_line cs ≡ flat_map {X = Cell} pushed.cell_text cs

@@ -3,7 +3,7 @@
 -- rect_text r, half_text h, key_text e     the numbers of a rectangle, those of a half-plane and its sign, the key of an error
 -- halves_text c            the half-planes of a cell behind a space, with commas between them; nothing where it has none
 -- mark_text m, extent_text w     the first word of an error's line, with the space behind it; its extent, between spaces
--- row_text cs row          the word of a rule, and the names of its classes
+-- row_text cs row          the word of a rule, and its sides
 -- entry_line e, cell_line c, rule_line cs q     one line each; entry_lines e: that of an error, and behind it those of its cells
 --
 -- That they are the lines of a project's text is proved in `proofs/Same.antt`. Of features and dirty areas the words of `project_text`
@@ -21,7 +21,7 @@ use Rattle.topology_terms.specs.Entry.{Entry}
 use Rattle.topology_terms.specs.Project.{InForce}
 use Rattle.topology_terms.specs.Lookups.{class_at}
 use Rattle.project_terms.specs.Written.{op_word}
-use Rattle.project_text.specs.Pushed.{name_text}
+use Rattle.project_text.specs.Pushed.{side_text}
 
 abbrev pub rect_text : Rectangle → List ℕ
 rect_text r = signed_decimal r.x0 ⧺ 32 ∷ signed_decimal r.y0 ⧺ 32 ∷ signed_decimal r.x1 ⧺ 32 ∷ signed_decimal r.y1
@@ -52,7 +52,8 @@ abbrev pub entry_lines : Entry → List ℕ
 entry_lines e = entry_line e ⧺ flat_map cell_line e.cells
 
 abbrev pub row_text : List Class → Row → List ℕ
-row_text cs row = word_of row.kind ⧺ name_text (class_at cs row.origin.class) ⧺ name_text (class_at cs row.dest.class)
+row_text cs row = word_of row.kind ⧺ side_text (class_at cs row.origin.class) row.origin.subtype ⧺ side_text
+    (class_at cs row.dest.class) row.dest.subtype
 
 abbrev pub rule_line : List Class → InForce → List ℕ
 rule_line cs q = codes "rule " ⧺ decimal q.number ⧺ 32 ∷ row_text cs q.row ⧺ 10 ∷ []

@@ -3,19 +3,19 @@ ghost use Rattle.script_terms.specs.Reply.{total_line};
 ghost use Rattle.reply_text.specs.Lines.{row_text, rule_line};
 ghost use Rattle.wkt_text.specs.Appended.{Appends};
 
-use crate::features::push_class_name;
+use crate::features::push_side;
 use crate::numbers::{push_number, push_text, push_total};
 use feature_store::Store;
 use grid_plane::NoMemory;
 use rule_core::{InForce, RuleRow};
 
-// The word of the rule, and the names of its classes.
+// The word of the rule, and its sides.
 fn push_row(out: &mut Vec<u8>, store: &Store, row: &RuleRow) -> Result<(), NoMemory>
     ensures { Appends result out.old.items out.new.items (row_text store.now.classes row.now) }
 {
     push_text(out, row.kind.word().as_bytes())?;
-    push_class_name(out, store, row.origin)?;
-    push_class_name(out, store, row.dest_number())?;
+    push_side(out, store, &row.origin)?;
+    push_side(out, store, &row.dest_side())?;
     Ok(())
 }
 

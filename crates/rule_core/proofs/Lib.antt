@@ -2,6 +2,6 @@ mod Lookups
 pub mod Partners
 mod Puts
 mod Rooms
-pub mod Seconds
+pub mod Sides
 mod Totals
 pub mod Works

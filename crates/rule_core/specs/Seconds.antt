@@ -1,20 +1,23 @@
--- The second class of a rule, by its number.
+-- The second side of a rule, by its class.
 --
--- given n          the number n, where it is not 0
--- given_back o     of the number of what is given, or 0, that is given
-use Rattle.std.specs.Prelude.{◌≡◌, ℕ, ◌<◌, Option, None, Some}
-use Rattle.std.specs.Option.{option_map_or}
-use Rattle.std.specs.NonZero.{non_zero_u16_get}
-use Rattle.std.specs.declared.num.NonZeroU16.{NonZeroU16}
-use Rattle.std.proofs.Common.{refl}
-use Rattle.number_laws.specs.Given.{given_by, given_same}
+-- given s          the side s, where its class is not 0
+-- given_back o     of what is given, or no side, that is given
+use Rattle.std.specs.Prelude.{◌≡◌, ℕ, ◌<◌, Option, None, Some, IfSome, unwrap_or}
+use Rattle.std.proofs.Common.{zero, suc, refl}
+use Rattle.std.proofs.Math.Nat.{not-suc-le-zero}
+use Rattle.topology_terms.specs.Feature.{Side, no_side}
 
-abbrev made : (n : ℕ) → 0 < n → NonZeroU16
-made n p = record { value = n; ok = p }
+abbrev pub given_by : ℕ → Side → Option Side
+given_by zero s = None
+given_by (suc n) s = Some s
 
-abbrev pub given : ℕ → Option NonZeroU16
-given n = given_by made n
+abbrev pub given : Side → Option Side
+given s = given_by s.class s
 
-pub given_back : (o : Option NonZeroU16) → given (option_map_or non_zero_u16_get o 0) ≡ o
-given_back None = refl
-given_back (Some n) = given_same made n.value n.ok
+given_same : (n : ℕ) (s : Side) → 0 < n → given_by n s ≡ Some s
+given_same zero s p = absurd (not-suc-le-zero p)
+given_same (suc n) s p = refl
+
+pub given_back : (o : Option Side) → IfSome o (λ s. 0 < s.class) → given (unwrap_or o no_side) ≡ o
+given_back None p = refl
+given_back (Some s) p = given_same s.class s p

@@ -1,39 +1,43 @@
-ghost use Rattle.std.specs.Prelude.{◌≡◌, ◌&&◌};
+ghost use Rattle.std.specs.Prelude.{◌≡◌, ◌<◌, ◌&&◌, IfSome, not, unwrap_or};
 ghost use Rattle.topology_terms.specs.Feature as terms;
+ghost use Rattle.topology_terms.specs.Feature.{no_side};
+ghost use Rattle.topology_terms.specs.Causes.{same_side};
 ghost use Rattle.topology_terms.specs.Broken.{judged};
 ghost use Rattle.topology_terms.specs.Plans as plans;
 ghost use Rattle.validation_laws.specs.Views as views;
 
 use crate::ends::has_end_at;
+use crate::side::Side;
 use grid_plane::GridPoint;
 use plane_terms::Kind;
 use rule_words::RuleKind;
 use shape::Feature;
 use std::marker::Model;
-use std::num::NonZeroU16;
 
-/// What a rule in force speaks of: its kind, the number of the class of its subjects, and the number of its second class,
-/// where it takes one. Classes are numbered from 1.
+/// What a rule in force speaks of: its kind, the side of its subjects, and its second side, where it takes one. `RuleRow::new`
+/// makes one.
 #[derive(Clone, Copy)]
 pub struct RuleRow {
     pub kind: RuleKind,
-    pub origin: u16,
-    pub dest: Option<NonZeroU16>,
+    pub origin: Side,
+    pub dest: Option<Side>,
 }
 
 impl Model for RuleRow {
-    ghost use Rattle.std.specs.Option.{option_map_or};
-    ghost use Rattle.std.specs.NonZero.{non_zero_u16_get};
+    ghost use Rattle.std.specs.Prelude.{◌<◌, IfSome, unwrap_or};
+    ghost use Rattle.topology_terms.specs.Feature.{no_side};
     ghost use Rattle.topology_terms.specs.Broken.{Row};
     ghost use Rattle.rule_core.specs.Seconds.{given, given_back};
 
     ghost Value = { Row };
 
-    ghost view = { λ r. record { kind = r.kind; origin = record { class = r.origin }; dest = record { class = option_map_or non_zero_u16_get r.dest 0 } } };
+    ghost view = { λ r. record { kind = r.kind; origin = r.origin; dest = unwrap_or r.dest no_side } };
 
-    ghost inverse = { λ v. record { kind = v.kind; origin = v.origin.class; dest = given v.dest.class } };
+    ghost invariant = { λ r. IfSome r.dest (λ s. 0 < s.class) };
 
-    ghost inverse_ok = { λ r _ i. record { kind = r.kind; origin = r.origin; dest = given_back r.dest i } };
+    ghost inverse = { λ v. record { kind = v.kind; origin = v.origin; dest = given v.dest } };
+
+    ghost inverse_ok = { λ r numbered i. record { kind = r.kind; origin = r.origin; dest = given_back r.dest numbered i } };
 }
 
 // Whether a line ends at the place, and so has a segment there.
@@ -47,21 +51,40 @@ fn ends_there(g: &Feature, place: GridPoint) -> bool
 }
 
 impl RuleRow {
-    /// The number of the second class; 0, which no class has, where the rule takes none.
-    pub fn dest_number(&self) -> u16
-        ensures { result ≡ self.now.dest.class }
+    /// The row of this kind and these sides. Classes have numbers from 1.
+    pub fn new(kind: RuleKind, origin: Side, dest: Option<Side>) -> RuleRow
+        requires { IfSome dest (λ s. 0 < s.class) }
+        ensures { result ≡ record { kind = kind; origin = origin; dest = unwrap_or dest no_side } }
+    {
+        RuleRow { kind, origin, dest }
+    }
+
+    /// The second side; where the rule takes none, a side that nothing is on.
+    pub fn dest_side(&self) -> Side
+        ensures { result ≡ self.now.dest }
     {
         match self.dest {
-            Some(number) => number.get(),
-            None => 0,
+            Some(side) => side,
+            None => Side {
+                class: 0,
+                subtype: None,
+            },
         }
     }
 
-    /// Whether the features of this class are subjects of the rule.
-    pub fn judges(&self, class: u16) -> bool
-        ensures { (f : terms.Feature) → f.class ≡ class → result ≡ judged self.now f }
+    /// Whether a second side is given.
+    pub fn has_dest(&self) -> bool
+        ensures { result ≡ not (same_side self.now.dest no_side) }
     {
-        class == self.origin || (self.kind.judges_either() && class == self.dest_number())
+        self.dest.is_some()
+    }
+
+    /// Whether the features of this class and subtype are subjects of the rule.
+    pub fn judges(&self, class: u16, subtype: u8) -> bool
+        ensures { (f : terms.Feature) → f.class ≡ class → f.subtype ≡ subtype → result ≡ judged self.now f }
+    {
+        self.origin.has(class, subtype)
+            || (self.kind.judges_either() && self.dest_side().has(class, subtype))
     }
 
     /// Whether the rule asks of a line only what is at its ends.
@@ -76,16 +99,16 @@ impl RuleRow {
         }
     }
 
-    /// Whether the feature is one of those that a rule on ends counts at an end there: of its first class a line that ends there, or, if
-    /// it asks for points at ends, of its second class a point there.
+    /// Whether the feature is one of those that a rule on ends counts at an end there: on its first side a line that ends there, or, if
+    /// it asks for points at ends, on its second side a point there.
     pub fn counts_at(&self, g: &Feature, place: GridPoint) -> bool
         ensures { result ≡ views.counts_at self.now g.now place }
     {
         match self.kind {
             RuleKind::LineEndpointMustBeCoveredBy => {
-                g.class() == self.dest_number() && g.shape().place() == place
+                self.dest_side().holds(g) && g.shape().place() == place
             }
-            _ => g.class() == self.origin && ends_there(g, place),
+            _ => self.origin.holds(g) && ends_there(g, place),
         }
     }
 

@@ -172,7 +172,7 @@ impl Work {
     }
 
     /// One judgement more.
-    pub fn raise(&mut self)
+    pub(crate) fn raise(&mut self)
         ensures judged { self.new.judged ≡ raised self.old.judged 1 }
         ensures hits { self.new.hits ≡ self.old.hits }
         ensures kept { (r : Region) → kept_of r self.new ≡ kept_of r self.old }

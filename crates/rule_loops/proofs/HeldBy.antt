@@ -1,6 +1,6 @@
 -- A segment of which both ends are on another lies on it, and where it lies on one nothing is left of it.
 use Rattle.std.proofs.Common.{◌≡◌, inl, inr, ℕ, ◌+◌, ◌<◌, ℤ, pos, ◌*◌, ◌+ℤ◌, ◌*ℤ◌, Bool, true, false, List, [], ◌∷◌, Some, refl, sym, ◌∙◌, ap, subst, take, drop, length, get_or, cond, arith}
-use Rattle.std.specs.Prelude.{slice_get, flat_map, ◌==◌}
+use Rattle.std.specs.Prelude.{slice_get, flat_map}
 use Rattle.std.specs.Bool.{OnTrue}
 use Rattle.std.proofs.lemmas.Int.{ints}
 use Rattle.std.proofs.lemmas.List.{take-append-drop}
@@ -12,7 +12,7 @@ use Rattle.plane_terms.specs.Share.{turn}
 use Rattle.plane_terms.specs.Line.{holds_place}
 use Rattle.plane_terms.specs.Cell.{Cell, InCells, on_segment}
 use Rattle.plane_terms.proofs.ListLemmas.{every_right, SomeOf-append_left, SomeOf-append_right}
-use Rattle.topology_terms.specs.Feature.{Feature, sides}
+use Rattle.topology_terms.specs.Feature.{Feature, is_on_side, Side, sides}
 use Rattle.topology_terms.specs.Cells.{out_of_segments}
 use Rattle.number_laws.proofs.Order.{zero_unscaled}
 use Rattle.cell_laws.proofs.AtPlaces.{turn_on}
@@ -24,9 +24,10 @@ use Rattle.rule_laws.proofs.Held.{low_held, high_held}
 use Rattle.rule_laws.proofs.Tests.{place_from}
 use Rattle.rule_laws.proofs.Uncovered.{every_flat, uncovered_points, uncovered_have_points, segment_has_point, one_cell, out_points}
 use Rattle.rule_loops.specs.Blocks.{block_size, left_from, block_of}
-use Rattle.rule_loops.specs.Views.{of_class, left_of_segment, IsHeldBy}
+use Rattle.topology_terms.specs.Together.{of_side}
+use Rattle.rule_loops.specs.Views.{left_of_segment, IsHeldBy}
 use Rattle.rule_loops.proofs.Blocked.{left_block}
-use Rattle.rule_loops.proofs.More.{class_apart}
+use Rattle.rule_loops.proofs.More.{side_apart}
 use Rattle.rule_loops.proofs.Opened.{some_at}
 use Rattle.rule_loops.proofs.Rest.{drop_one}
 use Rattle.rule_loops.proofs.Sharing.{no_cells}
@@ -91,23 +92,23 @@ none_on : (s : Segment) (ts : List Segment) (p : Point) → OnSegment s p → So
 none_on s [] p o h n = h
 none_on s (t ∷ ts) p o h n = elim h [ inl i ↦ n.0 (i p o) | inr i ↦ none_on s ts p o i n.1 ]
 
-of_that_class : (P : Feature → Type 0) (n : ℕ) (F : List Feature) (i : ℕ) (g : Feature) → slice_get F i ≡ Some g → (g.class == n) ≡ true
-    → Every P (of_class n F) → P g
-of_that_class P n F i g e t h =
+of_that_side : (P : Feature → Type 0) (S : Side) (F : List Feature) (i : ℕ) (g : Feature) → slice_get F i ≡ Some g → is_on_side S g ≡ true
+    → Every P (of_side S F) → P g
+of_that_side P S F i g e t h =
     let later = drop (i + 1) F in
-    let rest = every_right P (of_class n (take i F)) (of_class n (drop i F)) (subst (Every P) (class_apart n F i) h) in
-    let first : of_class n (drop i F) ≡ g ∷ of_class n later = ap (of_class n) (drop_one F i g e)
-    ∙ ap (λ (b : Bool). cond b (g ∷ of_class n later) (of_class n later)) t in
+    let rest = every_right P (of_side S (take i F)) (of_side S (drop i F)) (subst (Every P) (side_apart S F i) h) in
+    let first : of_side S (drop i F) ≡ g ∷ of_side S later = ap (of_side S) (drop_one F i g e)
+    ∙ ap (λ (b : Bool). cond b (g ∷ of_side S later) (of_side S later)) t in
     (subst (Every P) first rest).0
 
-pub none_of_held : (s : Segment) (n : ℕ) (F : List Feature) (i : ℕ) (g : Feature) → slice_get F i ≡ Some g → (g.class == n) ≡ true
-    → IsSegment s → Every IsSegment (sides g) → SomeOf (IsHeldBy s) (sides g) → left_of_segment (of_class n F) s ≡ []
-none_of_held s n F i g e t u v h =
+pub none_of_held : (s : Segment) (S : Side) (F : List Feature) (i : ℕ) (g : Feature) → slice_get F i ≡ Some g → is_on_side S g ≡ true
+    → IsSegment s → Every IsSegment (sides g) → SomeOf (IsHeldBy s) (sides g) → left_of_segment (of_side S F) s ≡ []
+none_of_held s S F i g e t u v h =
     let outs : Feature → List (List Cell) = λ (g : Feature). out_of_segments s (sides g) in
-    let gs = of_class n F in
+    let gs = of_side S F in
     no_cells (left_of_segment gs s) (uncovered_have_points (on_segment s ∷ []) (flat_map outs gs) (segment_has_point s u, tt)) (λ p j.
     let y = (uncovered_points (on_segment s ∷ []) (flat_map outs gs) p).0 j in
     let o = (on_segment_points s p u).0 ((one_cell (on_segment s) p).0 y.0) in
-    let out = of_that_class (λ (g : Feature). Every (λ ds. InCells ds p) (outs g)) n F i g e t
+    let out = of_that_side (λ (g : Feature). Every (λ ds. InCells ds p) (outs g)) S F i g e t
     ((every_flat (λ ds. InCells ds p) outs gs).0 y.1) in
     none_on s (sides g) p o h ((out_points s (sides g) p u v o).0 out))

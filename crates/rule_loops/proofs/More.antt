@@ -5,20 +5,20 @@ use Rattle.std.specs.List.{filter}
 use Rattle.std.proofs.lemmas.Grind.{flat_map-append}
 use Rattle.std.proofs.lemmas.List.{map-append, take-append-drop}
 use Rattle.std.proofs.lemmas.List.Elements.{filter_more, filter-append}
-use Rattle.std.proofs.lemmas.Bool.Decides.{nat_tests}
 use Rattle.plane_terms.specs.Rectangle.{Rectangle, rects_meet}
 use Rattle.plane_terms.specs.Segment.{Segment, box_of}
 use Rattle.plane_terms.specs.Cell.{Cell, on_segment, out_of_segment, weak_of}
 use Rattle.plane_terms.specs.Carve.{carve_of}
 use Rattle.plane_terms.proofs.Truths.{both_parts}
-use Rattle.topology_terms.specs.Feature.{Feature, sides, env}
+use Rattle.topology_terms.specs.Feature.{Feature, is_on_side, Side, sides, env}
 use Rattle.topology_terms.specs.Cells.{uncovered, outside, box_meets, out_of_segments}
 use Rattle.topology_terms.specs.Plans.{others, open_ground, gap_cells}
 use Rattle.sound_laws.proofs.FeatureFilters.{kept_twice}
 use Rattle.shape.specs.Frames.{IsRound}
 use Rattle.rule_core.proofs.Partners.{kept_more}
 use Rattle.rule_loops.specs.Open.{outsides}
-use Rattle.rule_loops.specs.Views.{of_class, other_of, beside, left_of_segment}
+use Rattle.topology_terms.specs.Together.{of_side}
+use Rattle.rule_loops.specs.Views.{other_of, beside, left_of_segment}
 use Rattle.rule_loops.specs.Blocks.{block_count, left_from, block_of}
 use Rattle.rule_loops.proofs.Blocked.{left_block, left_none}
 use Rattle.rule_loops.proofs.Boxes.{none_beside, none_in_frame}
@@ -28,18 +28,12 @@ use Rattle.rule_loops.proofs.Carved.{uncovered-append, stopped}
 kept_apart : {A : Type 0} (test : A → Bool) (F : List A) (i : ℕ) → filter test F ≡ filter test (take i F) ++ filter test (drop i F)
 kept_apart test F i = ap (filter test) (sym (take-append-drop i F)) ∙ filter-append test (take i F) (drop i F)
 
-pub class_more : (n : ℕ) (F : List Feature) (i : ℕ) (g : Feature) (b : Bool) → slice_get F i ≡ Some g → (g.class == n) ≡ b
-    → of_class n (take (i + 1) F) ≡ of_class n (take i F) ++ cond b (g ∷ []) []
-class_more n F i g b e t = kept_more (λ (h : Feature). h.class == n) F i g b e t
+pub side_more : (S : Side) (F : List Feature) (i : ℕ) (g : Feature) (b : Bool) → slice_get F i ≡ Some g → is_on_side S g ≡ b
+    → of_side S (take (i + 1) F) ≡ of_side S (take i F) ++ cond b (g ∷ []) []
+side_more S F i g b e t = kept_more (is_on_side S) F i g b e t
 
-pub class_apart : (n : ℕ) (F : List Feature) (i : ℕ) → of_class n F ≡ of_class n (take i F) ++ of_class n (drop i F)
-class_apart n F i = kept_apart (λ (h : Feature). h.class == n) F i
-
-pub class_is : (m r n : ℕ) → r ≡ m → r ≡ n → (m == n) ≡ true
-class_is m r n e h = grind (arith, nat_tests)
-
-pub class_is_not : (m r n : ℕ) → r ≡ m → (r ≡ n → ⊥) → (m == n) ≡ false
-class_is_not m r n e h = grind (arith, nat_tests)
+pub side_apart : (S : Side) (F : List Feature) (i : ℕ) → of_side S F ≡ of_side S (take i F) ++ of_side S (drop i F)
+side_apart S F i = kept_apart (is_on_side S) F i
 
 -- ---- what segments leave of a segment
 chosen_more : (s : Segment) (ts : List Segment) (i : ℕ) (t : Segment) (b : Bool) → i < length ts → t ≡ get_or ts i t → box_meets s t ≡ b
@@ -98,49 +92,49 @@ pub off_blocks : (s : Segment) (k : ℕ) (ts : List Segment) (left all : List Ce
 off_blocks s k ts left all l h = sym (ap (λ us. uncovered left (out_of_segments s us)) (left_none k ts l)) ∙ h
 
 -- ---- what features leave of a segment
-by_class : (s : Segment) (n : ℕ) (F : List Feature) (i : ℕ) (g : Feature) (left : List Cell) → slice_get F i ≡ Some g → (g.class == n)
-    ≡ true → left ≡ left_of_segment (of_class n (take i F)) s
-    → uncovered left (out_of_segments s (sides g)) ≡ left_of_segment (of_class n (take (i + 1) F)) s
-by_class s n F i g left e t h =
+by_side : (s : Segment) (S : Side) (F : List Feature) (i : ℕ) (g : Feature) (left : List Cell) → slice_get F i ≡ Some g → is_on_side S g
+    ≡ true → left ≡ left_of_segment (of_side S (take i F)) s
+    → uncovered left (out_of_segments s (sides g)) ≡ left_of_segment (of_side S (take (i + 1) F)) s
+by_side s S F i g left e t h =
     let outs : Feature → List (List Cell) = λ (g : Feature). out_of_segments s (sides g) in
-    let gs = of_class n (take i F) in
-    rw h (sym (ap (λ hs. left_of_segment hs s) (class_more n F i g true e t)
+    let gs = of_side S (take i F) in
+    rw h (sym (ap (λ hs. left_of_segment hs s) (side_more S F i g true e t)
     ∙ (ap (uncovered (on_segment s ∷ [])) (flat_map-append outs gs (g ∷ []) ∙ ap (λ l. flat_map outs gs ++ l) (append-nil (outs g)))
     ∙ uncovered-append (on_segment s ∷ []) (flat_map outs gs) (outs g))))
 
-pub of_beside : (n : ℕ) (s : Segment) (g : Feature) → beside n s g ≡ true → (g.class == n) ≡ true
-of_beside n s g e = (both_parts (g.class == n) (rects_meet (box_of s) (env g)) e).0
+pub of_beside : (S : Side) (s : Segment) (g : Feature) → beside S s g ≡ true → is_on_side S g ≡ true
+of_beside S s g e = (both_parts (is_on_side S g) (rects_meet (box_of s) (env g)) e).0
 
-pub segment_more : (s : Segment) (n : ℕ) (F : List Feature) (i : ℕ) (g : Feature) (left : List Cell) → slice_get F i ≡ Some g
-    → beside n s g ≡ true → left ≡ left_of_segment (of_class n (take i F)) s
-    → uncovered left (out_of_segments s (sides g)) ≡ left_of_segment (of_class n (take (i + 1) F)) s
-segment_more s n F i g left e t h = by_class s n F i g left e (of_beside n s g t) h
+pub segment_more : (s : Segment) (S : Side) (F : List Feature) (i : ℕ) (g : Feature) (left : List Cell) → slice_get F i ≡ Some g
+    → beside S s g ≡ true → left ≡ left_of_segment (of_side S (take i F)) s
+    → uncovered left (out_of_segments s (sides g)) ≡ left_of_segment (of_side S (take (i + 1) F)) s
+segment_more s S F i g left e t h = by_side s S F i g left e (of_beside S s g t) h
 
--- one that is not beside it is of another class, or has no segment that is
-pub segment_same : (s : Segment) (n : ℕ) (F : List Feature) (i : ℕ) (g : Feature) (left : List Cell) → slice_get F i ≡ Some g
-    → beside n s g ≡ false → left ≡ left_of_segment (of_class n (take i F)) s → left ≡ left_of_segment (of_class n (take (i + 1) F)) s
-segment_same s n F i g left e t h = by_test (g.class == n) refl t
+-- one that is not beside it is of another side, or has no segment that is
+pub segment_same : (s : Segment) (S : Side) (F : List Feature) (i : ℕ) (g : Feature) (left : List Cell) → slice_get F i ≡ Some g
+    → beside S s g ≡ false → left ≡ left_of_segment (of_side S (take i F)) s → left ≡ left_of_segment (of_side S (take (i + 1) F)) s
+segment_same s S F i g left e t h = by_test (is_on_side S g) refl t
   where
-    by_test : (b : Bool) → (g.class == n) ≡ b → (b && rects_meet (box_of s) (env g)) ≡ false → left
-        ≡ left_of_segment (of_class n (take (i + 1) F)) s
-    by_test true c m = sym (ap (uncovered left) (none_beside s g m)) ∙ by_class s n F i g left e c h
-    by_test false c m = h ∙ sym (ap (λ hs. left_of_segment hs s) (class_more n F i g false e c ∙ append-nil (of_class n (take i F))))
+    by_test : (b : Bool) → is_on_side S g ≡ b → (b && rects_meet (box_of s) (env g)) ≡ false → left
+        ≡ left_of_segment (of_side S (take (i + 1) F)) s
+    by_test true c m = sym (ap (uncovered left) (none_beside s g m)) ∙ by_side s S F i g left e c h
+    by_test false c m = h ∙ sym (ap (λ hs. left_of_segment hs s) (side_more S F i g false e c ∙ append-nil (of_side S (take i F))))
 
-pub segment_none : (s : Segment) (n : ℕ) (F : List Feature) (i : ℕ) (left : List Cell) → left ≡ left_of_segment (of_class n (take i F)) s
-    → length left ≡ 0 → left ≡ left_of_segment (of_class n F) s
-segment_none s n F i left h z =
+pub segment_none : (s : Segment) (S : Side) (F : List Feature) (i : ℕ) (left : List Cell) → left ≡ left_of_segment (of_side S (take i F)) s
+    → length left ≡ 0 → left ≡ left_of_segment (of_side S F) s
+segment_none s S F i left h z =
     let outs : Feature → List (List Cell) = λ (g : Feature). out_of_segments s (sides g) in
-    let gs = of_class n (take i F) in
-    let hs = of_class n (drop i F) in
-    stopped (on_segment s ∷ []) left (flat_map outs (of_class n F)) (flat_map outs gs) (flat_map outs hs)
-    (ap (flat_map outs) (class_apart n F i) ∙ flat_map-append outs gs hs) h z
+    let gs = of_side S (take i F) in
+    let hs = of_side S (drop i F) in
+    stopped (on_segment s ∷ []) left (flat_map outs (of_side S F)) (flat_map outs gs) (flat_map outs hs)
+    (ap (flat_map outs) (side_apart S F i) ∙ flat_map-append outs gs hs) h z
 
 -- ---- open ground
-others_kept : (f : Feature) (n : ℕ) (F : List Feature) → others f (of_class n F) ≡ filter (other_of n f) F
-others_kept f n F = kept_twice (λ (h : Feature). not (h.handle == f.handle)) (λ (h : Feature). h.class == n) F
+others_kept : (f : Feature) (S : Side) (F : List Feature) → others f (of_side S F) ≡ filter (other_of S f) F
+others_kept f S F = kept_twice (λ (h : Feature). not (h.handle == f.handle)) (is_on_side S) F
 
-pub ground_left : (f : Feature) (n : ℕ) (F : List Feature) → uncovered (open_ground f []) (outsides n (Some f.handle) F)
-    ≡ open_ground f (of_class n F)
+pub ground_left : (f : Feature) (S : Side) (F : List Feature) → uncovered (open_ground f []) (outsides S (Some f.handle) F)
+    ≡ open_ground f (of_side S F)
 ground_left f n F = ap (λ gs. uncovered (open_ground f []) (map {A = Feature} outside gs)) (sym (others_kept f n F))
 
 -- where there is no ground, there is no gap

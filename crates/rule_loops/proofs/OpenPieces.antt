@@ -9,7 +9,7 @@ use Rattle.plane_terms.specs.Lists.{Every, SomeOf}
 use Rattle.plane_terms.specs.Point.{Point, point_at}
 use Rattle.plane_terms.specs.Cell.{Cell, InCell, InCells, HasPoint, box_round}
 use Rattle.plane_terms.specs.Rectangle.{Rectangle, IsProper}
-use Rattle.topology_terms.specs.Feature.{Feature, sides}
+use Rattle.topology_terms.specs.Feature.{Feature, Side, sides}
 use Rattle.topology_terms.specs.Cells.{outside}
 use Rattle.plane_terms.proofs.ListLemmas.{every_append, every_left, every_got}
 use Rattle.cell_laws.proofs.GridLines.{x_over_holds, y_over_holds, y_under_holds, x_under_holds}
@@ -111,11 +111,11 @@ pub all_off : (G : List Feature) → Every AreOffWalls (map {A = Feature} outsid
 all_off [] = tt
 all_off (g ∷ G) = (outside_off_walls (sides g), all_off G)
 
-pub held_off : (n : ℕ) (o : Option ℕ) (F : List Feature) (held rest first : List (List Cell)) → held ++ rest ≡ first ++ outsides n o F
+pub held_off : (S : Side) (o : Option ℕ) (F : List Feature) (held rest first : List (List Cell)) → held ++ rest ≡ first ++ outsides S o F
     → Every AreOffWalls first → Every AreOffWalls held
-held_off n o F held rest first e h =
+held_off S o F held rest first e h =
     every_left AreOffWalls held rest (subst (Every AreOffWalls) (sym e)
-    (every_append AreOffWalls first (outsides n o F) h (all_off (filter (chosen n o) F))))
+    (every_append AreOffWalls first (outsides S o F) h (all_off (filter (chosen S o) F))))
 
 -- ---- the box round a rectangle
 pub box_has_point : (r : Rectangle) → IsProper r → HasPoint (box_round r)

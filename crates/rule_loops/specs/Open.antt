@@ -1,7 +1,7 @@
 -- Cells that polygons may cover, before they are carved in full.
 --
--- chosen n e g           g is of the class n, and is not the feature of the handle e, where one is given
--- outsides n e F         of each feature of F that is chosen, the cells of what is closed out of it
+-- chosen A e g           g is of the side A, and is not the feature of the handle e, where one is given
+-- outsides A e F         of each feature of F that is chosen, the cells of what is closed out of it
 -- IsInEach dss p         p is in each of these lists of cells
 -- IsShutAt k dss c ds    no point of c that is in the cell k of ds is in each of dss
 -- AreShutAt bs dss c ds  that is so of each k at which bs is set
@@ -10,7 +10,7 @@ use Rattle.std.specs.Prelude.{◌≡◌, ℕ, Bool, true, false, not, ◌==◌, 
 use Rattle.plane_terms.specs.Lists.{Every}
 use Rattle.plane_terms.specs.Point.{Point}
 use Rattle.plane_terms.specs.Cell.{Cell, InCell, InCells}
-use Rattle.topology_terms.specs.Feature.{Feature}
+use Rattle.topology_terms.specs.Feature.{Feature, Side, is_on_side}
 use Rattle.plane_terms.specs.Carve.{carve_of}
 use Rattle.topology_terms.specs.Cells.{outside, uncovered}
 
@@ -18,11 +18,11 @@ abbrev pub but_for : Option ℕ → Feature → Bool
 but_for None g = true
 but_for (Some h) g = not (g.handle == h)
 
-abbrev pub chosen : ℕ → Option ℕ → Feature → Bool
-chosen n e g = g.class == n && but_for e g
+abbrev pub chosen : Side → Option ℕ → Feature → Bool
+chosen A e g = is_on_side A g && but_for e g
 
-abbrev pub outsides : ℕ → Option ℕ → List Feature → List (List Cell)
-outsides n e F = map {A = Feature} outside (filter (chosen n e) F)
+abbrev pub outsides : Side → Option ℕ → List Feature → List (List Cell)
+outsides A e F = map {A = Feature} outside (filter (chosen A e) F)
 
 abbrev pub IsInEach : List (List Cell) → Point → Type 0
 IsInEach dss p = Every (λ ds. InCells ds p) dss

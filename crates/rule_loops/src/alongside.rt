@@ -2,13 +2,14 @@ ghost use Rattle.std.specs.Prelude.{◌≡◌, ◌<◌, [], true};
 ghost use Rattle.std.specs.Bool.{OnTrue};
 ghost use Rattle.plane_terms.specs.Lists.{SomeOf};
 ghost use Rattle.topology_terms.specs.Feature.{sides};
+ghost use Rattle.topology_terms.specs.Together.{of_side};
 ghost use Rattle.rule_loops.specs.Blocks.{block_count, block_of};
-ghost use Rattle.rule_loops.specs.Views.{of_class, beside, left_of_segment, IsHeldBy};
+ghost use Rattle.rule_loops.specs.Views.{beside, left_of_segment, IsHeldBy};
 
 use crate::blocks::Blocks;
 use crate::places::is_on;
 use grid_plane::Seg;
-use rule_core::View;
+use rule_core::{Side, View};
 use shape::Feature;
 
 // Whether both ends of the segment are on the other, and so all of it.
@@ -50,29 +51,29 @@ fn lies_on_shape(segment: &Seg, blocks: &Blocks<'_>) -> bool
     false
 }
 
-/// Whether the feature is of the class, and its envelope meets the box of the segment.
-pub(crate) fn is_beside(class: u16, segment: &Seg, other: &Feature) -> bool
-    ensures { result ≡ beside class segment.now other.now }
+/// Whether the feature is of the side, and its envelope meets the box of the segment.
+pub(crate) fn is_beside(side: Side, segment: &Seg, other: &Feature) -> bool
+    ensures { result ≡ beside side segment.now other.now }
 {
-    other.class() == class && segment.env().meets(&other.shape().env())
+    side.holds(other) && segment.env().meets(&other.shape().env())
 }
 
-fn lies_on_feature(class: u16, segment: &Seg, other: &Feature) -> bool
-    ensures beside { OnTrue result (beside class segment.now other.now ≡ true) }
+fn lies_on_feature(side: Side, segment: &Seg, other: &Feature) -> bool
+    ensures beside { OnTrue result (beside side segment.now other.now ≡ true) }
     ensures held { OnTrue result (SomeOf (IsHeldBy segment.now) (sides other.now)) }
 {
-    is_beside(class, segment, other) && lies_on_shape(segment, &Blocks::of(other.shape()))
+    is_beside(side, segment, other) && lies_on_shape(segment, &Blocks::of(other.shape()))
 }
 
-/// Whether the segment is found to lie on one single segment of the features of the class that are shown: then they leave nothing
+/// Whether the segment is found to lie on one single segment of the features of the side that are shown: then they leave nothing
 /// of it.
-pub(crate) fn is_covered_at_once(class: u16, segment: &Seg, view: &View<'_>) -> bool
-    ensures { OnTrue result (left_of_segment (of_class class view.now) segment.now ≡ []) }
+pub(crate) fn is_covered_at_once(side: Side, segment: &Seg, view: &View<'_>) -> bool
+    ensures { OnTrue result (left_of_segment (of_side side view.now) segment.now ≡ []) }
 {
     segment.lo();
     for i in 0..view.len() {
         let other = view.feature(i);
-        if lies_on_feature(class, segment, other) {
+        if lies_on_feature(side, segment, other) {
             other.shape().simple_law();
             return true;
         }

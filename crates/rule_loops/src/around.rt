@@ -1,12 +1,13 @@
-ghost use Rattle.std.specs.Prelude.{◌≡◌, Bool, ◌&&◌, ◌==◌};
+ghost use Rattle.std.specs.Prelude.{◌≡◌, Bool, ◌&&◌};
 ghost use Rattle.plane_terms.specs.Point.{Place};
 ghost use Rattle.topology_terms.specs.Feature as terms;
 ghost use Rattle.topology_terms.specs.Plans as plans;
-ghost use Rattle.rule_loops.specs.Views.{of_class};
+ghost use Rattle.topology_terms.specs.Feature.{is_on_side};
+ghost use Rattle.topology_terms.specs.Together.{of_side};
 
 use crate::blocks_at::{holds_at, is_inside_at};
 use grid_plane::GridPoint;
-use rule_core::{View, has_end_at};
+use rule_core::{Side, View, has_end_at};
 use shape::Feature;
 
 /// A test of a feature at a place of the grid.
@@ -69,18 +70,18 @@ impl AtPlace for EndThere {
     }
 }
 
-fn is_there<T: AtPlace>(class: u16, other: &Feature, place: GridPoint) -> bool
-    ensures { result ≡ (other.now.class == class && T.at other.now place) }
+fn is_there<T: AtPlace>(side: Side, other: &Feature, place: GridPoint) -> bool
+    ensures { result ≡ (is_on_side side other.now && T.at other.now place) }
 {
-    other.class() == class && T::is_at(other, place)
+    side.holds(other) && T::is_at(other, place)
 }
 
-/// Whether no feature of the class that is shown passes the test at the place. Stops at the first that does.
-pub fn none_there<T: AtPlace>(class: u16, view: &View<'_>, place: GridPoint) -> bool
-    ensures { result ≡ plans.none_at T.at (of_class class view.now) place }
+/// Whether no feature of the side that is shown passes the test at the place. Stops at the first that does.
+pub fn none_there<T: AtPlace>(side: Side, view: &View<'_>, place: GridPoint) -> bool
+    ensures { result ≡ plans.none_at T.at (of_side side view.now) place }
 {
     for i in 0..view.len() {
-        if is_there::<T>(class, view.feature(i), place) {
+        if is_there::<T>(side, view.feature(i), place) {
             return false;
         }
     }

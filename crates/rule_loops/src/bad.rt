@@ -5,14 +5,14 @@ ghost use Rattle.plane_terms.specs.Shape as planes;
 ghost use Rattle.topology_terms.specs.Feature as terms;
 ghost use Rattle.topology_terms.specs.Tests.{in_order_once};
 ghost use Rattle.topology_terms.specs.Plans as plans;
-ghost use Rattle.rule_loops.specs.Views.{of_class};
+ghost use Rattle.topology_terms.specs.Together.{of_side};
 
 use crate::around::{AtPlace, none_there};
 use crate::counts::{ends_at, is_single_at, segments_at};
 use crate::places::is_among;
 use convex_cell::{Cell, Cells};
 use grid_plane::{GridPoint, NoMemory};
-use rule_core::View;
+use rule_core::{Side, View};
 use shape::{Feature, Shape};
 use std::alloc::Global;
 use std::marker::PhantomData;
@@ -21,9 +21,9 @@ use std::marker::PhantomData;
 pub trait Bad {
     ghost bad: { List terms.Feature → Place → Bool };
 
-    /// Whether the place is bad among the features of the class that are shown.
-    fn is_bad(class: u16, view: &View<'_>, place: GridPoint) -> bool
-        ensures { result ≡ bad (of_class class view.now) place };
+    /// Whether the place is bad among the features of the side that are shown.
+    fn is_bad(side: Side, view: &View<'_>, place: GridPoint) -> bool
+        ensures { result ≡ bad (of_side side view.now) place };
 }
 
 /// None of the features passes the test at the place.
@@ -34,8 +34,8 @@ pub struct NoneThere<T: AtPlace> {
 impl<T: AtPlace> Bad for NoneThere<T> {
     ghost bad = { plans.none_at T.at };
 
-    fn is_bad(class: u16, view: &View<'_>, place: GridPoint) -> bool {
-        none_there::<T>(class, view, place)
+    fn is_bad(side: Side, view: &View<'_>, place: GridPoint) -> bool {
+        none_there::<T>(side, view, place)
     }
 }
 
@@ -45,8 +45,8 @@ pub struct Dangle;
 impl Bad for Dangle {
     ghost bad = { plans.is_dangle };
 
-    fn is_bad(class: u16, view: &View<'_>, place: GridPoint) -> bool {
-        is_single_at(class, view, place)
+    fn is_bad(side: Side, view: &View<'_>, place: GridPoint) -> bool {
+        is_single_at(side, view, place)
     }
 }
 
@@ -56,8 +56,8 @@ pub struct PseudoNode;
 impl Bad for PseudoNode {
     ghost bad = { plans.is_pseudo };
 
-    fn is_bad(class: u16, view: &View<'_>, place: GridPoint) -> bool {
-        ends_at(class, view, place) == 2 && segments_at(class, view, place) == 2
+    fn is_bad(side: Side, view: &View<'_>, place: GridPoint) -> bool {
+        ends_at(side, view, place) == 2 && segments_at(side, view, place) == 2
     }
 }
 
@@ -65,14 +65,14 @@ impl Bad for PseudoNode {
 fn bad_among<B: Bad>(
     alloc: Global,
     places: &[GridPoint],
-    class: u16,
+    side: Side,
     view: &View<'_>,
 ) -> Result<Cells, NoMemory>
-    ensures { IfOk result (λ cells. cells ≡ map {A = Place} at_place (filter (B.bad (of_class class view.now)) places.now)) }
+    ensures { IfOk result (λ cells. cells ≡ map {A = Place} at_place (filter (B.bad (of_side side view.now)) places.now)) }
 {
     let mut cells = Cells::new(alloc);
     for place in places {
-        if B::is_bad(class, view, *place) {
+        if B::is_bad(side, view, *place) {
             cells.push(Cell::at(alloc, *place)?)?;
         }
     }
@@ -93,27 +93,27 @@ fn ends_once(alloc: Global, line: &Shape) -> Result<Vec<GridPoint>, NoMemory>
     Ok(ends)
 }
 
-/// The cells of those ends of the subject that are bad among the features of the class that are shown, each place once.
+/// The cells of those ends of the subject that are bad among the features of the side that are shown, each place once.
 pub fn bad_ends<B: Bad>(
     alloc: Global,
-    class: u16,
+    side: Side,
     subject: &Feature,
     view: &View<'_>,
 ) -> Result<Cells, NoMemory>
-    ensures { IfOk result (λ cells. cells ≡ plans.bad_places plans.own_ends B.bad subject.now (of_class class view.now)) }
+    ensures { IfOk result (λ cells. cells ≡ plans.bad_places plans.own_ends B.bad subject.now (of_side side view.now)) }
 {
     let ends = ends_once(alloc, subject.shape())?;
-    bad_among::<B>(alloc, &ends, class, view)
+    bad_among::<B>(alloc, &ends, side, view)
 }
 
-/// The cell of the subject's place, where it is bad among the features of the class that are shown.
+/// The cell of the subject's place, where it is bad among the features of the side that are shown.
 pub fn bad_place<B: Bad>(
     alloc: Global,
-    class: u16,
+    side: Side,
     subject: &Feature,
     view: &View<'_>,
 ) -> Result<Cells, NoMemory>
-    ensures { IfOk result (λ cells. cells ≡ plans.bad_places plans.own_place B.bad subject.now (of_class class view.now)) }
+    ensures { IfOk result (λ cells. cells ≡ plans.bad_places plans.own_place B.bad subject.now (of_side side view.now)) }
 {
-    bad_among::<B>(alloc, &[subject.shape().place()], class, view)
+    bad_among::<B>(alloc, &[subject.shape().place()], side, view)
 }

@@ -2,12 +2,13 @@ ghost use Rattle.std.specs.Prelude.{◌≡◌, List, filter, IfOk};
 ghost use Rattle.plane_terms.specs.Cell as planes;
 ghost use Rattle.topology_terms.specs.Feature.{Feature, IsAscending};
 ghost use Rattle.topology_terms.specs.Plans as plans;
-ghost use Rattle.rule_loops.specs.Views.{of_class, later_of};
+ghost use Rattle.topology_terms.specs.Together.{of_side};
+ghost use Rattle.rule_loops.specs.Views.{later_of};
 
 use crate::single::push_cells;
 use convex_cell::Cells;
 use grid_plane::NoMemory;
-use rule_core::{Findings, View, Work};
+use rule_core::{Findings, Side, View, Work};
 use shape::Feature;
 use std::alloc::Global;
 
@@ -21,29 +22,29 @@ pub trait Common {
         ensures uncounted { work.new.judged ≡ work.old.judged };
 }
 
-fn is_later(class: u16, subject: &Feature, other: &Feature) -> bool
-    ensures { result ≡ later_of class subject.now other.now }
+fn is_later(side: Side, subject: &Feature, other: &Feature) -> bool
+    ensures { result ≡ later_of side subject.now other.now }
 {
-    other.class() == class && other.handle() > subject.handle()
+    side.holds(other) && other.handle() > subject.handle()
 }
 
-/// A finding for each feature of the class that is shown, comes after the subject and has something in common with it.
+/// A finding for each feature of the side that is shown, comes after the subject and has something in common with it.
 pub fn with_later<C: Common>(
     alloc: Global,
     common: &C,
-    class: u16,
+    side: Side,
     subject: &Feature,
     view: &View<'_>,
     work: &mut Work,
 ) -> Result<Findings, NoMemory>
     requires { IsAscending view.now }
-    ensures found { IfOk result (λ xs. xs ≡ plans.pair_findings (C.common common.now) (filter (later_of class subject.now) view.now)) }
+    ensures found { IfOk result (λ xs. xs ≡ plans.pair_findings (C.common common.now) (filter (later_of side subject.now) view.now)) }
     ensures uncounted { work.new.judged ≡ work.old.judged }
 {
     let mut findings = Findings::new(alloc);
     for i in 0..view.len() {
         let other = view.feature(i);
-        if is_later(class, subject, other) {
+        if is_later(side, subject, other) {
             let cells = common.cells(alloc, other, work)?;
             push_cells(&mut findings, other.handle(), cells)?;
         }
@@ -51,22 +52,22 @@ pub fn with_later<C: Common>(
     Ok(findings)
 }
 
-/// A finding for each feature of the class that is shown and has something in common with the subject.
-pub fn with_class<C: Common>(
+/// A finding for each feature of the side that is shown and has something in common with the subject.
+pub fn with_side<C: Common>(
     alloc: Global,
     common: &C,
-    class: u16,
+    side: Side,
     view: &View<'_>,
     work: &mut Work,
 ) -> Result<Findings, NoMemory>
     requires { IsAscending view.now }
-    ensures found { IfOk result (λ xs. xs ≡ plans.pair_findings (C.common common.now) (of_class class view.now)) }
+    ensures found { IfOk result (λ xs. xs ≡ plans.pair_findings (C.common common.now) (of_side side view.now)) }
     ensures uncounted { work.new.judged ≡ work.old.judged }
 {
     let mut findings = Findings::new(alloc);
     for i in 0..view.len() {
         let other = view.feature(i);
-        if other.class() == class {
+        if side.holds(other) {
             let cells = common.cells(alloc, other, work)?;
             push_cells(&mut findings, other.handle(), cells)?;
         }

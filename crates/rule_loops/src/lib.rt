@@ -36,7 +36,7 @@ pub use area::area_left;
 pub use around::{AtPlace, EndThere, InsideThere, PointThere, SideThere, contains, none_there};
 pub use bad::{Bad, Dangle, NoneThere, PseudoNode, bad_ends, bad_place};
 pub use beside::common_inside;
-pub use common::{Common, with_class, with_later};
+pub use common::{Common, with_later, with_side};
 pub use gaps::gap_cells;
 pub use inner::{common_but_ends, common_inner};
 pub use own::own_crossings;

@@ -5,7 +5,7 @@ ghost use Rattle.rule_loops.specs.Open.{chosen, outsides};
 use crate::polygon::outside_of;
 use convex_cell::{BoundedCells, Piece};
 use grid_plane::{Half, NoMemory, Op, Rect};
-use rule_core::{View, Work};
+use rule_core::{Side, View, Work};
 use shape::Feature;
 use std::alloc::Global;
 use std::marker::Model;
@@ -33,11 +33,11 @@ impl Model for Nearby {
     ghost view = { λ n. n.outside.value };
 }
 
-/// Whether the feature is of the class, and is not the one of this handle, where one is given.
-pub(crate) fn is_chosen(class: u16, except: Option<u32>, other: &Feature) -> bool
-    ensures { result ≡ chosen class except other.now }
+/// Whether the feature is of the side, and is not the one of this handle, where one is given.
+pub(crate) fn is_chosen(side: Side, except: Option<u32>, other: &Feature) -> bool
+    ensures { result ≡ chosen side except other.now }
 {
-    other.class() == class
+    side.holds(other)
         && match except {
             Some(handle) => other.handle() != handle,
             None => true,
@@ -69,19 +69,19 @@ pub(crate) struct NearPolygons {
 pub(crate) fn nearby_of(
     alloc: Global,
     first: Vec<Nearby>,
-    class: u16,
+    side: Side,
     except: Option<u32>,
     view: &View<'_>,
     work: &mut Work,
 ) -> Result<NearPolygons, NoMemory>
-    ensures all { IfOk result (λ near. near.held.items ++ outsides class except (drop near.rest view.now) ≡ first.items ++ outsides class except view.now) }
+    ensures all { IfOk result (λ near. near.held.items ++ outsides side except (drop near.rest view.now) ≡ first.items ++ outsides side except view.now) }
     ensures uncounted { work.new.judged ≡ work.old.judged }
 {
     let mut held = first;
     let mut room = MOST_CELLS;
     for i in 0..view.len() {
         let other = view.feature(i);
-        if is_chosen(class, except, other) {
+        if is_chosen(side, except, other) {
             let near = polygon_nearby(alloc, other, work)?;
             let count = near.outside.cells().len();
             if count > room || held.len() >= MOST_POLYGONS {

@@ -1,13 +1,14 @@
 ghost use Rattle.std.specs.Prelude.{◌≡◌, IfOk};
 ghost use Rattle.topology_terms.specs.Cells.{uncovered, out_of_segments};
 ghost use Rattle.topology_terms.specs.Plans as plans;
-ghost use Rattle.rule_loops.specs.Views.{of_class, left_of_segment};
+ghost use Rattle.topology_terms.specs.Together.{of_side};
+ghost use Rattle.rule_loops.specs.Views.{left_of_segment};
 
 use crate::alongside::{is_beside, is_covered_at_once};
 use crate::blocks::Blocks;
 use convex_cell::{Cell, Cells};
 use grid_plane::{NoMemory, Seg};
-use rule_core::View;
+use rule_core::{Side, View};
 use shape::Feature;
 use std::alloc::Global;
 
@@ -51,14 +52,14 @@ fn off_shape(
     Ok(left)
 }
 
-// The cell of a segment, carved by the features of the class that are shown. Stops where nothing is left.
+// The cell of a segment, carved by the features of the side that are shown. Stops where nothing is left.
 fn carved_segment(
     alloc: Global,
-    class: u16,
+    side: Side,
     segment: &Seg,
     view: &View<'_>,
 ) -> Result<Cells, NoMemory>
-    ensures { IfOk result (λ left. left ≡ left_of_segment (of_class class view.now) segment.now) }
+    ensures { IfOk result (λ left. left ≡ left_of_segment (of_side side view.now) segment.now) }
 {
     let mut left = Cells::new(alloc);
     left.push(Cell::on_seg(alloc, segment)?)?;
@@ -67,40 +68,40 @@ fn carved_segment(
             return Ok(left);
         }
         let other = view.feature(i);
-        if is_beside(class, segment, other) {
+        if is_beside(side, segment, other) {
             left = off_shape(alloc, left, segment, &Blocks::of(other.shape()))?;
         }
     }
     Ok(left)
 }
 
-// What the features of the class that are shown leave of a segment.
+// What the features of the side that are shown leave of a segment.
 fn segment_left(
     alloc: Global,
-    class: u16,
+    side: Side,
     segment: &Seg,
     view: &View<'_>,
 ) -> Result<Cells, NoMemory>
-    ensures { IfOk result (λ left. left ≡ left_of_segment (of_class class view.now) segment.now) }
+    ensures { IfOk result (λ left. left ≡ left_of_segment (of_side side view.now) segment.now) }
 {
-    if is_covered_at_once(class, segment, view) {
+    if is_covered_at_once(side, segment, view) {
         return Ok(Cells::new(alloc));
     }
-    carved_segment(alloc, class, segment, view)
+    carved_segment(alloc, side, segment, view)
 }
 
-/// What the features of the class that are shown leave of the subject's segments.
+/// What the features of the side that are shown leave of the subject's segments.
 pub fn sides_left(
     alloc: Global,
-    class: u16,
+    side: Side,
     subject: &Feature,
     view: &View<'_>,
 ) -> Result<Cells, NoMemory>
-    ensures { IfOk result (λ cells. cells ≡ plans.sides_left subject.now (of_class class view.now)) }
+    ensures { IfOk result (λ cells. cells ≡ plans.sides_left subject.now (of_side side view.now)) }
 {
     let mut cells = Cells::new(alloc);
     for segment in subject.shape().segs() {
-        cells.append(segment_left(alloc, class, segment, view)?)?;
+        cells.append(segment_left(alloc, side, segment, view)?)?;
     }
     Ok(cells)
 }

@@ -8,21 +8,21 @@ use crate::polygon::outside_of;
 use crate::remainder::left_of_cells;
 use convex_cell::{BoundedCells, Cells};
 use grid_plane::NoMemory;
-use rule_core::{View, Work};
+use rule_core::{Side, View, Work};
 use std::alloc::Global;
 
 /// What is left of the cells, carved by the outsides of the chosen polygons in turn, from this place of the view on. Stops where nothing is
 /// left.
 pub(crate) fn left_by_turns(
     alloc: Global,
-    class: u16,
+    side: Side,
     except: Option<u32>,
     cells: Cells,
     from: usize,
     view: &View<'_>,
     work: &mut Work,
 ) -> Result<Cells, NoMemory>
-    ensures left { IfOk result (λ left. left ≡ uncovered cells (outsides class except (drop from view.now))) }
+    ensures left { IfOk result (λ left. left ≡ uncovered cells (outsides side except (drop from view.now))) }
     ensures uncounted { work.new.judged ≡ work.old.judged }
 {
     if from >= view.len() {
@@ -34,7 +34,7 @@ pub(crate) fn left_by_turns(
             return Ok(left.into_cells());
         }
         let other = view.feature(i);
-        if is_chosen(class, except, other) {
+        if is_chosen(side, except, other) {
             let outside = outside_of(alloc, other, work)?;
             left = left.carve_again(alloc, &outside)?;
         }
@@ -45,17 +45,17 @@ pub(crate) fn left_by_turns(
 /// What is left of the cells, carved by the outsides of the chosen polygons in turn.
 pub(crate) fn left_uncovered(
     alloc: Global,
-    class: u16,
+    side: Side,
     except: Option<u32>,
     cells: &Cells,
     view: &View<'_>,
     work: &mut Work,
 ) -> Result<Cells, NoMemory>
     requires { HavePoints cells.now }
-    ensures left { IfOk result (λ left. left ≡ uncovered cells.now (outsides class except view.now)) }
+    ensures left { IfOk result (λ left. left ≡ uncovered cells.now (outsides side except view.now)) }
     ensures uncounted { work.new.judged ≡ work.old.judged }
 {
-    let near = nearby_of(alloc, Vec::new(alloc), class, except, view, work)?;
+    let near = nearby_of(alloc, Vec::new(alloc), side, except, view, work)?;
     let left = left_of_cells(alloc, cells, &near.held)?;
-    left_by_turns(alloc, class, except, left, near.rest, view, work)
+    left_by_turns(alloc, side, except, left, near.rest, view, work)
 }

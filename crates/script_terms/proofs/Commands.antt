@@ -4,7 +4,7 @@ use Rattle.std.proofs.lemmas.Bool.Decides.{nat_tests}
 use Rattle.std.specs.List.{list_any}
 use Rattle.std.specs.Prelude.{if◌then◌else◌, bytes_eq, is_some}
 use Rattle.plane_terms.specs.Lists.{Every}
-use Rattle.topology_terms.specs.Feature.{Feature, feature_at}
+use Rattle.topology_terms.specs.Feature.{Feature, feature_of, feature_at}
 use Rattle.topology_terms.specs.Project.{Project}
 use Rattle.topology_terms.specs.Session.{EditStep, Session, session_of, with_step}
 use Rattle.session_terms.specs.KeptChanges.{is_below}
@@ -146,13 +146,13 @@ each_below n m (o ∷ ss) l h = (
       n m ss l h.1,
 )
 
-pub added_keeps : (editor : List ℕ) (class : ℕ) (shape : Shape) (h : ℕ) (old new : State) → IsKeeping old
-    → LeavesNoted editor (added_step h class shape) (IsFeatureAdded class shape h) old new → IsKeeping new
-added_keeps editor class shape h old new k d =
+pub added_keeps : (editor : List ℕ) (class subtype : ℕ) (shape : Shape) (h : ℕ) (old new : State) → IsKeeping old
+    → LeavesNoted editor (added_step h class subtype shape) (IsFeatureAdded class subtype shape h) old new → IsKeeping new
+added_keeps editor class subtype shape h old new k d =
     let f = feature_at old.project.features in
     let e = feature_at new.project.features in
     let s = d.0 in let ch = d.1.session in
-    let x : Option Feature = Some (record { handle = h; class = class; shape = shape }) in
+    let x : Option Feature = Some (feature_of h class subtype shape) in
     let t : EditStep = record { handle = h; before = None; after = x } in
     let p = d.1.project in
     let set = p.edit.features in

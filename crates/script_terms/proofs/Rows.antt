@@ -1,5 +1,5 @@
 -- Worked rows: replies and refusals, computed from the definitions.
-use Rattle.std.proofs.Common.{◌≡◌, ℤ, pos, false, [], ◌∷◌, ◌++◌, Some, None, refl}
+use Rattle.std.proofs.Common.{◌≡◌, ℕ, ℤ, pos, false, Option, List, [], ◌∷◌, ◌++◌, Some, None, refl}
 use Rattle.std.specs.Prelude.{codes}
 use Rattle.std.specs.Fmt.{digits}
 use Rattle.plane_terms.specs.Point.{Place}
@@ -10,12 +10,12 @@ use Rattle.plane_terms.specs.Shape.{Shape}
 use Rattle.plane_terms.specs.declared.kind.Kind.TheVariants as shapes
 use Rattle.rule_words.specs.declared.rule_kind.RuleKind.TheVariants as kind
 use Rattle.topology_terms.specs.Entry.{entry_at}
-use Rattle.topology_terms.specs.Feature.{feature_at}
+use Rattle.topology_terms.specs.Feature.{Side, no_side, feature_of as feature, feature_at}
 use Rattle.topology_terms.specs.declared.cause.Cause.TheVariants.{ClassTaken, NoClass, Unfit, RuleThere, NoRule, WrongKind, NoFeature, NoError, AlreadySo}
 use Rattle.topology_terms.specs.Project.{Project, rule_at}
 use Rattle.plane_terms.specs.declared.shape_fault.ShapeFault.TheVariants as fault
 use Rattle.line_terms.specs.declared.line_refusal.LineRefusal.TheVariants as line
-use Rattle.line_terms.specs.Commands.{Class, Rule, DropRule, Begin, Add, Change as AChange, Delete, Undo, Mark, Unmark, Rules}
+use Rattle.line_terms.specs.Commands.{Sided, Class, Rule, DropRule, Begin, Add, Change as AChange, Delete, Retype, Undo, Mark, Unmark, Rules}
 use Rattle.script_terms.specs.Refusal.{Line, SessionOpen, NoSession, NothingToUndo, Change}
 use Rattle.script_terms.specs.Reply.{Judged, Refused, CellList, DirtyList, ErrorList, FeatureList, RuleList, reply_text}
 use Rattle.script_terms.specs.State.{State}
@@ -28,20 +28,25 @@ at x y = record { x = x; y = y }
 abbrev point : ℤ → ℤ → Shape
 point x y = record { kind = shapes.Point; parts = ((at x y ∷ []) ∷ []) ∷ [] }
 
+abbrev side : ℕ → Option ℕ → Side
+side n s = record { class = n; subtype = s }
+
+-- a class that a line names, and a subtype of one
+abbrev class : List ℕ → Sided
+class name = record { name = name; subtype = None }
+
+abbrev one : List ℕ → ℕ → Sided
+one name s = record { name = name; subtype = Some s }
+
 -- the project after "two points at one place"
 abbrev wells : Project
 wells = record {
   classes = record { name = codes "wells"; kind = shapes.Point } ∷ [];
   rules = record {
     number = 1;
-    row = record { kind = kind.PointMustBeDisjoint; origin = record { class = 1 }; dest = record { class = 0 } };
+    row = record { kind = kind.PointMustBeDisjoint; origin = side 1 None; dest = no_side };
   } ∷ [];
-  features = record { handle = 1; class = 1; shape = point (pos 3) (pos 4) } ∷ record {
-    handle = 2;
-    class = 1;
-    shape =
-        point (pos 3) (pos 4);
-  } ∷ [];
+  features = feature 1 1 0 (point (pos 3) (pos 4)) ∷ feature 2 1 0 (point (pos 3) (pos 4)) ∷ [];
   next = 3;
   dirt = [];
   entries = record {
@@ -78,16 +83,16 @@ unfolding digits
 judged = refl
 
 -- ---- one refusal each
-no_session : refusal_of open_ann (Add (codes "bob") (codes "wells") (point (pos 0) (pos 0))) ≡ Some NoSession
+no_session : refusal_of open_ann (Add (codes "bob") (class (codes "wells")) (point (pos 0) (pos 0))) ≡ Some NoSession
 no_session = refl
 
-no_class : refusal_of open_ann (Add (codes "ann") (codes "roads") (point (pos 0) (pos 0))) ≡ Some (Change NoClass)
+no_class : refusal_of open_ann (Add (codes "ann") (class (codes "roads")) (point (pos 0) (pos 0))) ≡ Some (Change NoClass)
 no_class = refl
 
-accepted : refusal_of open_ann (Add (codes "ann") (codes "wells") (point (pos 0) (pos 0))) ≡ None
+accepted : refusal_of open_ann (Add (codes "ann") (class (codes "wells")) (point (pos 0) (pos 0))) ≡ None
 accepted = refl
 
-other_kind : refusal_of open_ann (Add (codes "ann") (codes "wells") (record {
+other_kind : refusal_of open_ann (Add (codes "ann") (class (codes "wells")) (record {
   kind = shapes.Line;
   parts =
       ((at (pos 0) (pos 0) ∷ at (pos 5) (pos 0) ∷ []) ∷ []) ∷ [];
@@ -97,16 +102,16 @@ other_kind = refl
 second_class : refusal_of open_ann (Class (codes "wells") shapes.Line) ≡ Some (Change ClassTaken)
 second_class = refl
 
-second_rule : refusal_of open_ann (Rule kind.PointMustBeDisjoint (codes "wells") None) ≡ Some (Change RuleThere)
+second_rule : refusal_of open_ann (Rule kind.PointMustBeDisjoint (class (codes "wells")) None) ≡ Some (Change RuleThere)
 second_rule = refl
 
-lots_of_points : refusal_of open_ann (Rule kind.PolygonMustNotOverlap (codes "wells") None) ≡ Some (Change Unfit)
+lots_of_points : refusal_of open_ann (Rule kind.PolygonMustNotOverlap (class (codes "wells")) None) ≡ Some (Change Unfit)
 lots_of_points = refl
 
-no_such_class : refusal_of open_ann (Rule kind.PointMustBeDisjoint (codes "roads") None) ≡ Some (Change NoClass)
+no_such_class : refusal_of open_ann (Rule kind.PointMustBeDisjoint (class (codes "roads")) None) ≡ Some (Change NoClass)
 no_such_class = refl
 
-lines_nowhere : refusal_of open_ann (Rule kind.LineMustNotOverlap (codes "roads") None) ≡ Some (Change NoClass)
+lines_nowhere : refusal_of open_ann (Rule kind.LineMustNotOverlap (class (codes "roads")) None) ≡ Some (Change NoClass)
 lines_nowhere = refl
 
 no_such_rule : refusal_of open_ann (DropRule 2) ≡ Some (Change NoRule)
@@ -129,6 +134,34 @@ moved = refl
 
 undone : refusal_of open_ann (Undo (codes "ann")) ≡ Some NothingToUndo
 undone = refl
+
+-- ---- subtypes
+retyped : refusal_of open_ann (Retype (codes "ann") 2 3) ≡ None
+unfolding feature_at
+retyped = refl
+
+retyped_away : refusal_of open_ann (Retype (codes "ann") 3 3) ≡ Some (Change NoFeature)
+unfolding feature_at
+retyped_away = refl
+
+of_one_subtype : refusal_of open_ann (Rule kind.PointMustBeDisjoint (one (codes "wells") 2) None) ≡ None
+of_one_subtype = refl
+
+a_class_and_its_subtype : refusal_of open_ann (Rule kind.PointMustCoincideWith (class (codes "wells")) (Some (one (codes "wells") 2))) ≡ Some
+    (Change Unfit)
+a_class_and_its_subtype = refl
+
+two_subtypes : refusal_of open_ann (Rule kind.PointMustCoincideWith (one (codes "wells") 0) (Some (one (codes "wells") 2))) ≡ None
+two_subtypes = refl
+
+-- a class that is not there comes before sides that do not fit, the first side before the second
+first_nowhere : refusal_of open_ann (Rule kind.PointMustCoincideWith (one (codes "roads") 1) (Some (one (codes "roads") 1))) ≡ Some
+    (Change NoClass)
+first_nowhere = refl
+
+second_nowhere : refusal_of open_ann (Rule kind.PolygonContainsPoint (one (codes "wells") 1) (Some (one (codes "roads") 1))) ≡ Some
+    (Change NoClass)
+second_nowhere = refl
 
 -- ---- exceptions
 marks : refusal_of open_ann (Mark 1 1 2) ≡ None
@@ -166,9 +199,8 @@ zones = record wells {
     number = 3;
     row = record {
       kind = kind.PolygonMustBeCoveredBy;
-      origin = record { class = 1 };
-      dest =
-          record { class = 2 };
+      origin = side 1 None;
+      dest = side 2 None;
     };
   } ∷ [];
 }
@@ -181,6 +213,25 @@ report : report_of wells.rules wells.entries ≡ codes "rule,kind,subject,other,
     "1,point_must_be_disjoint,1,2,cells,error,3,4,3,4" ++ 10 ∷ []
 unfolding digits rule_at
 report = refl
+
+-- sides and features of a subtype
+abbrev typed : Project
+typed = record wells {
+  rules = record {
+    number = 1;
+    row = record { kind = kind.PointMustCoincideWith; origin = side 1 (Some 0); dest = side 1 (Some 2) };
+  } ∷ [];
+  features = feature 1 1 0 (point (pos 3) (pos 4)) ∷ feature 2 1 2 (point (pos 3) (pos 4)) ∷ [];
+}
+
+typed_rules : reply_text (RuleList typed) ≡ codes "rule 1 point_must_coincide_with wells:0 wells:2" ++ 10 ∷ codes "total 1" ++ 10 ∷ []
+unfolding digits
+typed_rules = refl
+
+typed_features : reply_text (FeatureList typed) ≡ codes "feature 1 wells POINT (3 4)" ++ 10 ∷ codes "feature 2 wells:2 POINT (3 4)" ++ 10
+    ∷ codes "total 2" ++ 10 ∷ []
+unfolding digits
+typed_features = refl
 
 -- ---- the words of refusals
 beyond_text : reply_text (Refused (Line (line.OutOfReach 3))) ≡ codes "refused E15 3" ++ 10 ∷ []

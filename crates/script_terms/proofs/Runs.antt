@@ -8,9 +8,9 @@ use Rattle.topology_terms.specs.Project.{IsOrdered}
 use Rattle.topology_terms.specs.Session.{Session, holder}
 use Rattle.session_terms.specs.Steps.{AreAllApart, IsAlone}
 use Rattle.session_terms.proofs.Apart.{free_alone, held_alone}
-use Rattle.line_terms.specs.Commands.{Command, Blank, Class, Rule, DropRule, Begin, End, Discard, Add, Change, Delete, Undo, Redo, Validate, Mark, Unmark, Dirty, Errors, Cells, Features, Rules}
+use Rattle.line_terms.specs.Commands.{Command, Blank, Class, Rule, DropRule, Begin, End, Discard, Add, Change, Delete, Retype, Undo, Redo, Validate, Mark, Unmark, Dirty, Errors, Cells, Features, Rules}
 use Rattle.topology_terms.specs.Causes.{when, first_of, delete_cause}
-use Rattle.topology_terms.specs.Changes.{reshaped}
+use Rattle.topology_terms.specs.Changes.{reshaped, retyped}
 use Rattle.topology_terms.specs.Lookups.{class_number}
 use Rattle.topology_terms.specs.declared.cause.Cause.{Cause}
 use Rattle.topology_terms.specs.declared.cause.Cause.TheVariants.{NoFeature}
@@ -83,12 +83,14 @@ done_keeps old (Begin editor) reply new k ord n d = begun_keeps editor old new k
     (when_none (is_open old editor) SessionOpen (first_none (when (is_open old editor) SessionOpen) _ n).0) d.1
 done_keeps old (End editor) reply new k ord n d = ended_keeps editor old new k d.1
 done_keeps old (Discard editor) reply new k ord n d = discard_keeps editor old new k d.1
-done_keeps old (Add editor class shape) reply new k ord n d = added_keeps editor (unwrap_or (class_number old.project class) 0) shape d.0
-    old new k d.2
+done_keeps old (Add editor own shape) reply new k ord n d =
+    added_keeps editor (unwrap_or (class_number old.project own.name) 0) (unwrap_or own.subtype 0) shape d.0 old new k d.2
 done_keeps old (Change editor h shape) reply new k ord n d = let m = may_edit old editor h _ k ord n
     in altered_keeps editor h (reshaped (feature_at old.project.features h) shape) old new k m.0 m.1 d.1
 done_keeps old (Delete editor h) reply new k ord n d = let m = may_edit old editor h _ k ord n
     in altered_keeps editor h None old new k m.0 m.1 d.1
+done_keeps old (Retype editor h t) reply new k ord n d = let m = may_edit old editor h _ k ord n
+    in altered_keeps editor h (retyped (feature_at old.project.features h) t) old new k m.0 m.1 d.1
 done_keeps old (Undo editor) reply new k ord n d = undo_keeps editor old new k d.1
 done_keeps old (Redo editor) reply new k ord n d = redo_keeps editor old new k d.1
 done_keeps old (Validate w) reply new k ord n d = same_keeps old new k d.2.sessions d.2.project.features d.2.project.next

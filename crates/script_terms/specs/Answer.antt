@@ -12,22 +12,23 @@
 -- IsDiscarded             the done steps of the editor's session are taken back, and it is gone
 -- Tries p w j             a validation of the window w tries j pairs: of a rule in force and a selected feature that it judges
 --
+-- A line that names no subtype adds a feature of the subtype 0. A change keeps the subtype of its feature, and a new subtype its shape.
 -- A session begins without steps; where it ends, its steps stand. What is not named stays.
 -- Source: editing and validation of a geodatabase topology (Esri).
 use Rattle.std.specs.Prelude.{◌≡◌, ℕ, ◌+◌, true, false, List, [], ◌∷◌, length, Option, Some, None, unwrap_or, MatchOption}
 use Rattle.plane_terms.specs.Lists.{IsThose}
 use Rattle.plane_terms.specs.Rectangle.{Rectangle}
 use Rattle.plane_terms.specs.Shape.{Shape}
-use Rattle.topology_terms.specs.Feature.{Feature, feature_at}
+use Rattle.topology_terms.specs.Feature.{Feature, feature_of, feature_at}
 use Rattle.topology_terms.specs.Poster.{poster}
 use Rattle.topology_terms.specs.Project.{Project}
 use Rattle.topology_terms.specs.Lookups.{class_number}
 use Rattle.topology_terms.specs.Session.{EditStep, Session, session_of, with_step}
-use Rattle.topology_terms.specs.Changes.{IsClassAdded, IsFeatureAdded, IsFeatureSet, IsRuleAdded, IsRuleDropped, IsMarked, IsSelected, reshaped}
+use Rattle.topology_terms.specs.Changes.{IsClassAdded, IsFeatureAdded, IsFeatureSet, IsRuleAdded, IsRuleDropped, IsMarked, IsSelected, reshaped, retyped}
 use Rattle.topology_terms.specs.Settled.{IsValidatedBy}
 use Rattle.topology_terms.specs.Counts.{judged_of}
 use Rattle.session_terms.specs.Steps.{IsUndoneTo, with_session, with_opened, without}
-use Rattle.line_terms.specs.Commands.{Command, Blank, Class as AClass, Rule, DropRule, Begin, End, Discard, Add, Change, Delete, Undo, Redo, Validate, Mark, Unmark, Dirty, Errors, Cells, Features, Rules}
+use Rattle.line_terms.specs.Commands.{Command, Blank, Class as AClass, Rule, DropRule, Begin, End, Discard, Add, Change, Delete, Retype, Undo, Redo, Validate, Mark, Unmark, Dirty, Errors, Cells, Features, Rules}
 use Rattle.script_terms.specs.Reply.{Reply, Nothing, Done, Number, Judged, Refused, DirtyList, ErrorList, CellList, FeatureList, RuleList}
 use Rattle.script_terms.specs.State.{State}
 use Rattle.script_terms.specs.Refusing.{row_of, refusal_of}
@@ -50,8 +51,8 @@ abbrev pub LeavesNoted : List ℕ → EditStep → (Project → Project → Type
 LeavesNoted editor t P old new = (s : Session) × Moves editor s (with_step s t) P old new
 
 -- the step of a feature that comes, and that of one that is set or taken away
-abbrev pub added_step : ℕ → ℕ → Shape → EditStep
-added_step h class shape = record { handle = h; before = None; after = Some (record { handle = h; class = class; shape = shape }) }
+abbrev pub added_step : ℕ → ℕ → ℕ → Shape → EditStep
+added_step h class subtype shape = record { handle = h; before = None; after = Some (feature_of h class subtype shape) }
 
 abbrev pub set_step : Project → ℕ → Option Feature → EditStep
 set_step p h after = record { handle = h; before = feature_at p.features h; after = after }
@@ -85,13 +86,17 @@ IsDone old (DropRule r) reply new = (reply ≡ Done) × Leaves (IsRuleDropped r)
 IsDone old (Begin editor) reply new = (reply ≡ Done) × (new ≡ record old { sessions = with_opened old.sessions editor })
 IsDone old (End editor) reply new = (reply ≡ Done) × (new ≡ record old { sessions = without old.sessions editor })
 IsDone old (Discard editor) reply new = (reply ≡ Done) × IsDiscarded editor old new
-IsDone old (Add editor class shape) reply new =
-    let n = unwrap_or (class_number old.project class) 0 in
-    (h : ℕ) × (reply ≡ Number h) × LeavesNoted editor (added_step h n shape) (IsFeatureAdded n shape h) old new
+IsDone old (Add editor own shape) reply new =
+    let n = unwrap_or (class_number old.project own.name) 0 in
+    let t = unwrap_or own.subtype 0 in
+    (h : ℕ) × (reply ≡ Number h) × LeavesNoted editor (added_step h n t shape) (IsFeatureAdded n t shape h) old new
 IsDone old (Change editor h shape) reply new =
     let after = reshaped (feature_at old.project.features h) shape in
     (reply ≡ Done) × LeavesNoted editor (set_step old.project h after) (IsFeatureSet h after) old new
 IsDone old (Delete editor h) reply new = (reply ≡ Done) × LeavesNoted editor (set_step old.project h None) (IsFeatureSet h None) old new
+IsDone old (Retype editor h t) reply new =
+    let after = retyped (feature_at old.project.features h) t in
+    (reply ≡ Done) × LeavesNoted editor (set_step old.project h after) (IsFeatureSet h after) old new
 IsDone old (Undo editor) reply new = (reply ≡ Done) × IsUndone editor old new
 IsDone old (Redo editor) reply new = (reply ≡ Done) × IsRedone editor old new
 IsDone old (Validate w) reply new = (j : ℕ) × Tries old.project w j × Leaves (IsValidatedBy poster w) old new

@@ -1,6 +1,7 @@
 -- What each command is refused for.
 --
--- row_of p k origin dest  the row that a line names; no class has the number 0
+-- side_of p a             the side that a line names: a class, or one subtype of it; no class has the number 0
+-- row_of p k origin dest  the row that a line names
 -- is_nowhere p dest       the line names a second class that is not there
 -- changes c               the refusal of a change that has this cause
 -- held_by name editor     the refusal of an edit of a handle that the session of this name holds, where the editor is another
@@ -21,19 +22,23 @@ use Rattle.topology_terms.specs.Lookups.{class_number}
 use Rattle.topology_terms.specs.Causes.{when, first_of, class_cause, add_cause, change_cause, delete_cause, rule_cause, drop_cause, mark_cause}
 use Rattle.topology_terms.specs.declared.cause.Cause.{Cause}
 use Rattle.topology_terms.specs.declared.cause.Cause.TheVariants as cause
-use Rattle.line_terms.specs.Commands.{Command, Class as AClass, Rule, DropRule, Begin, End, Discard, Add, Change as AChange, Delete, Undo, Redo, Mark, Unmark}
+use Rattle.line_terms.specs.Commands.{Sided, Command, Class as AClass, Rule, DropRule, Begin, End, Discard, Add, Change as AChange, Delete, Retype, Undo, Redo, Mark, Unmark}
 use Rattle.script_terms.specs.Refusal.{Refusal, SessionOpen, SessionsFull, NoSession, HeldBy, NothingToUndo, NothingToRedo, Change}
 use Rattle.script_terms.specs.State.{State, is_open}
 
--- the side that a line names; class 0 where it names none, or a class that is not there
-abbrev pub side_of : Project → Option (List ℕ) → Side
-side_of p name = record { class = unwrap_or (option_and_then (class_number p) name) 0 }
+-- the number of the class that a line names
+abbrev pub class_of : Project → Option Sided → Option ℕ
+class_of p a = option_and_then (λ (x : Sided). class_number p x.name) a
 
-abbrev pub row_of : Project → RuleKind → List ℕ → Option (List ℕ) → Row
+-- class 0 where the line names no side, or a class that is not there
+abbrev pub side_of : Project → Option Sided → Side
+side_of p a = record { class = unwrap_or (class_of p a) 0; subtype = option_and_then (λ (x : Sided). x.subtype) a }
+
+abbrev pub row_of : Project → RuleKind → Sided → Option Sided → Row
 row_of p k origin dest = record { kind = k; origin = side_of p (Some origin); dest = side_of p dest }
 
-abbrev pub is_nowhere : Project → Option (List ℕ) → Bool
-is_nowhere p dest = is_some dest && is_none (option_and_then (class_number p) dest)
+abbrev pub is_nowhere : Project → Option Sided → Bool
+is_nowhere p dest = is_some dest && is_none (class_of p dest)
 
 abbrev pub changes : Option Cause → Option Refusal
 changes c = option_map (λ (x : Cause). Change x) c
@@ -54,15 +59,17 @@ refusal_of s (DropRule r) = changes (drop_cause s.project.rules r)
 refusal_of s (Begin editor) = first_of (when (is_open s editor) SessionOpen ∷ when (length s.sessions == 16) SessionsFull ∷ [])
 refusal_of s (End editor) = when (not (is_open s editor)) NoSession
 refusal_of s (Discard editor) = when (not (is_open s editor)) NoSession
-refusal_of s (Add editor class shape) = first_of (
+refusal_of s (Add editor own shape) = first_of (
     when (not (is_open s editor)) NoSession
-    ∷ changes (add_cause s.project.classes s.project.next (unwrap_or (class_number s.project class) 0) shape.kind) ∷ [])
+    ∷ changes (add_cause s.project.classes s.project.next (unwrap_or (class_number s.project own.name) 0) shape.kind) ∷ [])
 refusal_of s (AChange editor h shape) = first_of (
     when (not (is_open s editor)) NoSession
     ∷ changes (delete_cause s.project.features h)
     ∷ held_by (holder s.sessions h) editor
     ∷ changes (change_cause s.project.features h shape.kind) ∷ [])
 refusal_of s (Delete editor h) = first_of (
+    when (not (is_open s editor)) NoSession ∷ changes (delete_cause s.project.features h) ∷ held_by (holder s.sessions h) editor ∷ [])
+refusal_of s (Retype editor h t) = first_of (
     when (not (is_open s editor)) NoSession ∷ changes (delete_cause s.project.features h) ∷ held_by (holder s.sessions h) editor ∷ [])
 refusal_of s (Undo editor) = first_of (
     when (not (is_open s editor)) NoSession ∷ when (length (steps_of (λ (x : Session). x.done) s editor) == 0) NothingToUndo ∷ [])

@@ -5,9 +5,9 @@ use Rattle.plane_terms.specs.declared.kind.Kind.{Kind}
 use Rattle.plane_terms.specs.declared.kind.Kind.TheVariants as shapes
 use Rattle.text_terms.specs.Fields.{is_skipped}
 use Rattle.rule_words.specs.declared.rule_kind.RuleKind.{RuleKind}
-use Rattle.line_terms.specs.Commands.{Command, Form, All}
+use Rattle.line_terms.specs.Commands.{Sided, Command, Form, All}
 use Rattle.line_terms.specs.Commands as form
-use Rattle.line_terms.specs.Forms.{Word, Name, Rest, HasForm, IsLine, pieces, written, kind_word, second_class, rule_number, handle, partner}
+use Rattle.line_terms.specs.Forms.{Word, Name, Own, Rest, HasForm, IsLine, pieces, written, kind_word, second_class, rule_number, handle, subtype, partner}
 use Rattle.line_terms.specs.Lines.{Holds, IsSpelling}
 use Rattle.line_terms.specs.Windows.{IsWindow}
 use Rattle.wkt_terms.specs.Shapes.{IsShapeText}
@@ -21,18 +21,18 @@ no_kind text p l g shapes.Point h = p h
 no_kind text p l g shapes.Line h = l h
 no_kind text p l g shapes.Polygon h = g h
 
-pub no_second : (text : List ℕ) → ((n : List ℕ) → IsLine text (Name n ∷ []) → ⊥) → (d : Option (List ℕ)) → IsLine text (second_class true d)
+pub no_second : (text : List ℕ) → ((a : Sided) → IsLine text (Own a ∷ []) → ⊥) → (d : Option Sided) → IsLine text (second_class true d)
     → ⊥
 no_second text none None h = h.0
-no_second text none (Some n) h = none n h
+no_second text none (Some a) h = none a h
 
-pub no_first : (text : List ℕ) → (IsLine text [] → ⊥) → (d : Option (List ℕ)) → IsLine text (second_class false d) → ⊥
+pub no_first : (text : List ℕ) → (IsLine text [] → ⊥) → (d : Option Sided) → IsLine text (second_class false d) → ⊥
 no_first text none None h = none h
 no_first text none (Some n) h = h.0
 
 pub no_class : (line : List ℕ)
     → ((n : List ℕ) (k : Kind) → HasForm line (form.Class n k) → ⊥)
-    → ((k : RuleKind) (n : List ℕ) (d : Option (List ℕ)) → HasForm line (form.Rule k n d) → ⊥)
+    → ((k : RuleKind) (a : Sided) (d : Option Sided) → HasForm line (form.Rule k a d) → ⊥)
     → ((r : ℕ) → HasForm line (form.DropRule r) → ⊥)
     → NoneOf Classes line
 no_class line class rule drop (form.Class n k) g p = class n k p
@@ -52,18 +52,20 @@ no_session line begin end discard f g p = absurd cc
 
 -- behind the editor
 pub no_edit : (text : List ℕ)
-    → ((c s : List ℕ) → IsLine text (Word (codes "add") ∷ Name c ∷ Rest s ∷ []) → ⊥)
+    → ((a : Sided) (s : List ℕ) → IsLine text (Word (codes "add") ∷ Own a ∷ Rest s ∷ []) → ⊥)
     → ((h : ℕ) (s : List ℕ) → IsLine text (Word (codes "change") ∷ handle h ∷ Rest s ∷ []) → ⊥)
     → ((h : ℕ) → IsLine text (Word (codes "delete") ∷ handle h ∷ []) → ⊥)
+    → ((h t : ℕ) → IsLine text (Word (codes "retype") ∷ handle h ∷ subtype t ∷ []) → ⊥)
     → (IsLine text (Word (codes "undo") ∷ []) → ⊥)
     → (IsLine text (Word (codes "redo") ∷ []) → ⊥)
     → (f : Form) → group_of f ≡ Edits → IsLine text (behind_editor (pieces Rest written f)) → ⊥
-no_edit text add change delete undo redo (form.Add e c s) g p = add c s p
-no_edit text add change delete undo redo (form.Change e h s) g p = change h s p
-no_edit text add change delete undo redo (form.Delete e h) g p = delete h p
-no_edit text add change delete undo redo (form.Undo e) g p = undo p
-no_edit text add change delete undo redo (form.Redo e) g p = redo p
-no_edit text add change delete undo redo f g p = absurd cc
+no_edit text add change delete retype undo redo (form.Add e c s) g p = add c s p
+no_edit text add change delete retype undo redo (form.Change e h s) g p = change h s p
+no_edit text add change delete retype undo redo (form.Delete e h) g p = delete h p
+no_edit text add change delete retype undo redo (form.Retype e h t) g p = retype h t p
+no_edit text add change delete retype undo redo (form.Undo e) g p = undo p
+no_edit text add change delete retype undo redo (form.Redo e) g p = redo p
+no_edit text add change delete retype undo redo f g p = absurd cc
 
 pub no_mark : (line : List ℕ)
     → ((r a b : ℕ) → IsLine line (Word (codes "mark") ∷ rule_number r ∷ handle a ∷ partner b ∷ []) → ⊥)

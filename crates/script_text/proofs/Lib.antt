@@ -1,5 +1,6 @@
 pub mod Numbers
 pub mod Wholes
+pub mod Sides
 pub mod Groups
 pub mod OneForm
 pub mod OneCommand

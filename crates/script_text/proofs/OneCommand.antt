@@ -53,6 +53,7 @@ said t v (form.Discard e) = form.Discard e
 said t v (form.Add e c s) = form.Add e c t
 said t v (form.Change e h s) = form.Change e h t
 said t v (form.Delete e h) = form.Delete e h
+said t v (form.Retype e h s) = form.Retype e h s
 said t v (form.Undo e) = form.Undo e
 said t v (form.Redo e) = form.Redo e
 said t v (form.Validate w) = form.Validate v

@@ -7,12 +7,13 @@ use Rattle.text_terms.specs.Fields.{is_remark, skip_blanks, front_field, behind_
 use Rattle.rule_words.specs.Table.{dest_of}
 use Rattle.rule_words.proofs.OneWord.{one_word}
 use Rattle.plane_terms.specs.Rectangle.{Rectangle}
-use Rattle.line_terms.specs.Commands.{CommandOf, Form, Window, All, Numbers}
+use Rattle.line_terms.specs.Commands.{Sided, CommandOf, Form, Window, All, Numbers}
 use Rattle.line_terms.specs.Commands as form
 use Rattle.text_terms.specs.Numbers.{IsSigned}
 use Rattle.line_terms.specs.Lines.{Holds}
 use Rattle.line_terms.specs.Forms.{Piece, Rest, HasForm, IsLine, pieces, written, kind_word, second_class}
 use Rattle.script_text.proofs.Numbers.{one_number}
+use Rattle.script_text.proofs.Sides.{one_sided}
 use Rattle.script_text.proofs.Wholes.{one_signed, all_is_none}
 
 one_kind : (j k : Kind) → kind_word j ≡ kind_word k → j ≡ k
@@ -45,6 +46,7 @@ tag (form.Discard e) = 6
 tag (form.Add e c s) = 7
 tag (form.Change e h s) = 8
 tag (form.Delete e h) = 9
+tag (form.Retype e h t) = 13
 tag (form.Undo e) = 10
 tag (form.Redo e) = 11
 tag (form.Validate window) = 12
@@ -61,7 +63,8 @@ edit_tag word =
     if bytes_eq word (codes "add") then 7 else
     (if bytes_eq word (codes "change") then 8 else
     (if bytes_eq word (codes "delete") then 9 else
-    (if bytes_eq word (codes "undo") then 10 else 11)))
+    (if bytes_eq word (codes "retype") then 13 else
+    (if bytes_eq word (codes "undo") then 10 else 11))))
 
 abbrev listing_tag : List ℕ → ℕ
 listing_tag word =
@@ -110,6 +113,7 @@ tagged s w line (form.Discard e) p = by_word line (codes "discard") p.0
 tagged s w line (form.Add e c x) p = by_edit line (codes "add") p.0 p.1.1.0
 tagged s w line (form.Change e h x) p = by_edit line (codes "change") p.0 p.1.1.0
 tagged s w line (form.Delete e h) p = by_edit line (codes "delete") p.0 p.1.1.0
+tagged s w line (form.Retype e h t) p = by_edit line (codes "retype") p.0 p.1.1.0
 tagged s w line (form.Undo e) p = by_edit line (codes "undo") p.0 p.1.1.0
 tagged s w line (form.Redo e) p = by_edit line (codes "redo") p.0 p.1.1.0
 tagged s w line (form.Validate x) p = by_word line (codes "validate") p.0
@@ -122,10 +126,10 @@ tagged s w line form.Features p = by_word line (codes "features") p.0
 tagged s w line form.Rules p = by_word line (codes "rules") p.0
 
 -- ---- and each form has its values from the line
-one_second : (takes : Bool) (text : List ℕ) (d e : Option (List ℕ)) → IsLine text (second_class takes d)
+one_second : (takes : Bool) (text : List ℕ) (d e : Option Sided) → IsLine text (second_class takes d)
     → IsLine text (second_class takes e) → d ≡ e
 one_second false text None None p q = refl
-one_second true text (Some n) (Some m) p q = cc
+one_second true text (Some a) (Some b) p q = ap (λ x. Some x) (one_sided (first text) a b p.0 q.0)
 one_second true text None e p q = absurd p.0
 one_second false text (Some n) e p q = absurd p.0
 one_second true text d None p q = absurd q.0
@@ -155,6 +159,7 @@ one_of s t v w M N O P shapes windows line (form.Rule j x d) (form.Rule k y c) p
     let same = one_word j k (sym p.1.0 ∙ q.1.0) in
     let text = behind_first (behind_first (behind_first line)) in
     let takes = subst (λ i. IsLine text (second_class (is_some (dest_of i)) d)) same p.1.1.1 in
+    let origin = one_sided (third line) x y p.1.1.0 q.1.1.0 in
     let dest = one_second (is_some (dest_of k)) text d c takes q.1.1.1 in
     cc
 one_of s t v w M N O P shapes windows line (form.DropRule x) (form.DropRule y) p q m n e =
@@ -162,14 +167,20 @@ one_of s t v w M N O P shapes windows line (form.DropRule x) (form.DropRule y) p
 one_of s t v w M N O P shapes windows line (form.Begin x) (form.Begin y) p q m n e = cc
 one_of s t v w M N O P shapes windows line (form.End x) (form.End y) p q m n e = cc
 one_of s t v w M N O P shapes windows line (form.Discard x) (form.Discard y) p q m n e = cc
-one_of s t v w M N O P shapes windows line (form.Add x a g) (form.Add y b h) p q m n e = let same =
-    shapes (behind_fourth line) g h p.1.1.1.1 q.1.1.1.1 m n in cc
+one_of s t v w M N O P shapes windows line (form.Add x a g) (form.Add y b h) p q m n e =
+    let own = one_sided (fourth line) a b p.1.1.1.0 q.1.1.1.0 in
+    let same = shapes (behind_fourth line) g h p.1.1.1.1 q.1.1.1.1 m n in
+    cc
 one_of s t v w M N O P shapes windows line (form.Change x a g) (form.Change y b h) p q m n e =
     let number = one_number (fourth line) 1 4294967295 a b p.1.1.1.0 q.1.1.1.0 in
     let same = shapes (behind_fourth line) g h p.1.1.1.1 q.1.1.1.1 m n in
     cc
 one_of s t v w M N O P shapes windows line (form.Delete x a) (form.Delete y b) p q m n e =
     let number = one_number (fourth line) 1 4294967295 a b p.1.1.1.0 q.1.1.1.0 in
+    cc
+one_of s t v w M N O P shapes windows line (form.Retype x a r) (form.Retype y b o) p q m n e =
+    let number = one_number (fourth line) 1 4294967295 a b p.1.1.1.0 q.1.1.1.0 in
+    let subtype = one_number (first (behind_fourth line)) 0 255 r o p.1.1.1.1.0 q.1.1.1.1.0 in
     cc
 one_of s t v w M N O P shapes windows line (form.Undo x) (form.Undo y) p q m n e = cc
 one_of s t v w M N O P shapes windows line (form.Redo x) (form.Redo y) p q m n e = cc

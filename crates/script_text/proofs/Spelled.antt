@@ -33,7 +33,7 @@ abbrev behind : List ℕ → List ℕ
 behind text = behind_field (skip_blanks text)
 
 -- ---- edits
-pub add_fault : (n k t : List ℕ) (f : WktFault) (e : LineFault) → e ≡ fault_of f → IsWktFault t f → IsEditFault (form.Add n k t) e
+pub add_fault : (n : List ℕ) (k : form.Sided) (t : List ℕ) (f : WktFault) (e : LineFault) → e ≡ fault_of f → IsWktFault t f → IsEditFault (form.Add n k t) e
 add_fault n k t f e same w = subst (IsEditFault (form.Add n k t)) (sym same) (by f w)
   where
     by : (g : WktFault) → IsWktFault t g → IsEditFault (form.Add n k t) (fault_of g)
@@ -47,9 +47,10 @@ add_fault n k t f e same w = subst (IsEditFault (form.Add n k t)) (sym same) (by
 
 edit_pieces : (n : List ℕ) (d : Edit)
     → pieces Rest written (edit_form n d) ≡ Word (codes "by") ∷ (Name n ∷ behind_editor (pieces Rest written (edit_form n d)))
-edit_pieces n (edit.Add class text) = refl
+edit_pieces n (edit.Add own text) = refl
 edit_pieces n (edit.Change handle text) = refl
 edit_pieces n (edit.Delete handle) = refl
+edit_pieces n (edit.Retype handle subtype) = refl
 edit_pieces n edit.Undo = refl
 edit_pieces n edit.Redo = refl
 
@@ -67,6 +68,8 @@ edit_spelled line (form.Add e k t) c h m = subst (IsSpelling line) (sym m.2) (re
 edit_spelled line (form.Change e k t) c h m =
     subst (IsSpelling line) (sym m.2) (record { text = t; window = All; spelled = h; meant = m.1 })
 edit_spelled line (form.Delete e k) c h m = subst (IsSpelling line) (sym m) (record { text = []; window = All; spelled = h; meant = tt })
+edit_spelled line (form.Retype e k t) c h m =
+    subst (IsSpelling line) (sym m) (record { text = []; window = All; spelled = h; meant = tt })
 edit_spelled line (form.Undo e) c h m = subst (IsSpelling line) (sym m) (record { text = []; window = All; spelled = h; meant = tt })
 edit_spelled line (form.Redo e) c h m = subst (IsSpelling line) (sym m) (record { text = []; window = All; spelled = h; meant = tt })
 edit_spelled line other c h m = absurd m

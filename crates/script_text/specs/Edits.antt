@@ -18,9 +18,10 @@ use Rattle.script_text.specs.declared.fault.LineFault.{LineFault}
 use Rattle.script_text.specs.declared.fault.LineFault.TheVariants.{Refused, NoMemory}
 
 abbrev pub edit_form : List ℕ → Edit → Form
-edit_form e (edit.Add class text) = command.Add e class text.now
+edit_form e (edit.Add own text) = command.Add e own text.now
 edit_form e (edit.Change handle text) = command.Change e handle text.now
 edit_form e (edit.Delete handle) = command.Delete e handle
+edit_form e (edit.Retype handle subtype) = command.Retype e handle subtype
 edit_form e edit.Undo = command.Undo e
 edit_form e edit.Redo = command.Redo e
 
@@ -37,6 +38,7 @@ abbrev pub IsEditOf : Form → Command → Type 0
 IsEditOf (command.Add e k t) c = (s : Shape) × IsShapeText t s × (c ≡ command.Add e k s)
 IsEditOf (command.Change e h t) c = (s : Shape) × IsShapeText t s × (c ≡ command.Change e h s)
 IsEditOf (command.Delete e h) c = c ≡ command.Delete e h
+IsEditOf (command.Retype e h t) c = c ≡ command.Retype e h t
 IsEditOf (command.Undo e) c = c ≡ command.Undo e
 IsEditOf (command.Redo e) c = c ≡ command.Redo e
 IsEditOf other c = ⊥

@@ -29,6 +29,7 @@ group_of (command.Discard e) = Sessions
 group_of (command.Add e c shape) = Edits
 group_of (command.Change e h shape) = Edits
 group_of (command.Delete e h) = Edits
+group_of (command.Retype e h t) = Edits
 group_of (command.Undo e) = Edits
 group_of (command.Redo e) = Edits
 group_of (command.Validate window) = Validations

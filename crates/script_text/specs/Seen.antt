@@ -24,6 +24,7 @@ command_of (command.Discard editor) = commands.Discard editor
 command_of (command.Add editor class shape) = commands.Add editor class shape
 command_of (command.Change editor handle shape) = commands.Change editor handle shape
 command_of (command.Delete editor handle) = commands.Delete editor handle
+command_of (command.Retype editor handle subtype) = commands.Retype editor handle subtype
 command_of (command.Undo editor) = commands.Undo editor
 command_of (command.Redo editor) = commands.Redo editor
 command_of (command.Validate window) = commands.Validate window

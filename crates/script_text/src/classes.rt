@@ -1,12 +1,13 @@
 ghost use Rattle.std.specs.Prelude.{◌≡◌, ℕ, List, [], ◌∷◌, Option, is_some, MatchOption};
 ghost use Rattle.line_terms.specs.Forms.{IsLine, HasForm, kind_word, second_class};
 ghost use Rattle.line_terms.specs.Commands as command;
+ghost use Rattle.line_terms.specs.Commands.{Sided};
 ghost use Rattle.line_terms.specs.Forms as form;
 ghost use Rattle.script_text.specs.Groups.{NoneOf, IsBare, Classes};
 ghost use Rattle.script_text.specs.Seen.{command_of};
 
-use crate::command::Command;
-use crate::fields::{next_name, next_rule};
+use crate::command::{Command, Sided};
+use crate::fields::{next_name, next_own, next_rule};
 use grid_plane::Name;
 use rule_words::{Kind, RuleKind};
 use text_fields::{behind_word, is_only, is_over, next_field};
@@ -37,33 +38,33 @@ fn read_class(line: &[u8]) -> Option<(Name, Kind)>
     Some((name, last_kind(rest)?))
 }
 
-// The name that is all that is left.
-fn last_name(text: &[u8]) -> Option<Name>
-    ensures { MatchOption result ((n : List ℕ) → IsLine text.now (form.Name n ∷ []) → ⊥) (λ n. IsLine text.now (form.Name n ∷ [])) }
+// The class, or the subtype of one, that is all that is left.
+fn last_own(text: &[u8]) -> Option<Sided>
+    ensures { MatchOption result ((a : Sided) → IsLine text.now (form.Own a ∷ []) → ⊥) (λ a. IsLine text.now (form.Own a ∷ [])) }
 {
-    let (name, rest) = next_name(text)?;
-    if is_over(rest) { Some(name) } else { None }
+    let (own, rest) = next_own(text)?;
+    if is_over(rest) { Some(own) } else { None }
 }
 
-// The name of the second class that is all that is left, or nothing where the rule takes no second class.
+// The second class, or the subtype of it, that is all that is left, or nothing where the rule takes no second class.
 #[tactic(auto, using(crate::proofs::Groups::no_second))]
-fn last_second(takes: bool, text: &[u8]) -> Option<Option<Name>>
-    ensures { MatchOption result ((d : Option (List ℕ)) → IsLine text.now (second_class takes d) → ⊥) (λ d. IsLine text.now (second_class takes d)) }
+fn last_second(takes: bool, text: &[u8]) -> Option<Option<Sided>>
+    ensures { MatchOption result ((d : Option Sided) → IsLine text.now (second_class takes d) → ⊥) (λ d. IsLine text.now (second_class takes d)) }
 {
     if takes {
-        let name = last_name(text)?;
-        return Some(Some(name));
+        let own = last_own(text)?;
+        return Some(Some(own));
     }
     if is_over(text) { Some(None) } else { None }
 }
 
-fn read_rule(line: &[u8]) -> Option<(RuleKind, Name, Option<Name>)>
-    ensures { MatchOption result ((k : RuleKind) (n : List ℕ) (d : Option (List ℕ)) → HasForm line.now (command.Rule k n d) → ⊥)
+fn read_rule(line: &[u8]) -> Option<(RuleKind, Sided, Option<Sided>)>
+    ensures { MatchOption result ((k : RuleKind) (a : Sided) (d : Option Sided) → HasForm line.now (command.Rule k a d) → ⊥)
         (λ x. HasForm line.now (command.Rule x.0 x.1 x.2)) }
 {
     let (word, rest) = next_field(behind_word(line, b"rule")?);
     let kind = RuleKind::of_word(word)?;
-    let (origin, rest) = next_name(rest)?;
+    let (origin, rest) = next_own(rest)?;
     let dest = last_second(kind.takes_dest(), rest)?;
     Some((kind, origin, dest))
 }

@@ -1,7 +1,23 @@
 use grid_plane::{Name, Rect};
 use rule_words::{Kind, RuleKind};
 use shape::Shape;
+use std::marker::Model;
 use std::num::NonZeroU32;
+
+/// What a line speaks of by a name: a class, or one subtype of it.
+#[derive(Drop)]
+pub struct Sided {
+    pub name: Name,
+    pub subtype: Option<u8>,
+}
+
+impl Model for Sided {
+    ghost use Rattle.line_terms.specs.Commands as commands;
+
+    ghost Value = { commands.Sided };
+
+    ghost view = { λ a. record { name = a.name; subtype = a.subtype } };
+}
 
 /// What a line asks for: one variant a command, with the values of the line's fields in their order.
 #[derive(Drop)]
@@ -11,7 +27,7 @@ pub enum Command {
     /// `class NAME KIND`
     Class(Name, Kind),
     /// `rule WORD ORIGIN [DEST]`
-    Rule(RuleKind, Name, Option<Name>),
+    Rule(RuleKind, Sided, Option<Sided>),
     /// `droprule R`
     DropRule(u16),
     /// `begin EDITOR`
@@ -21,11 +37,13 @@ pub enum Command {
     /// `discard EDITOR`
     Discard(Name),
     /// `by EDITOR add CLASS SHAPE`
-    Add(Name, Name, Shape),
+    Add(Name, Sided, Shape),
     /// `by EDITOR change H SHAPE`
     Change(Name, u32, Shape),
     /// `by EDITOR delete H`
     Delete(Name, u32),
+    /// `by EDITOR retype H SUBTYPE`
+    Retype(Name, u32, u8),
     /// `by EDITOR undo`
     Undo(Name),
     /// `by EDITOR redo`

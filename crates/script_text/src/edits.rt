@@ -2,15 +2,15 @@ ghost use Rattle.std.specs.Prelude.{◌≡◌, ◌≤◌, ℕ, List, [], ◌∷�
 ghost use Rattle.line_terms.specs.Commands as command;
 ghost use Rattle.line_terms.specs.Commands.{Form};
 ghost use Rattle.line_terms.specs.Forms as form;
-ghost use Rattle.line_terms.specs.Forms.{IsLine, HasForm, pieces, written, handle};
+ghost use Rattle.line_terms.specs.Forms.{IsLine, HasForm, pieces, written, handle, subtype};
 ghost use Rattle.script_text.specs.Edits.{edit_form, behind_editor, IsTextWithin, IsEditOf, IsEditFault};
 ghost use Rattle.script_text.specs.Faults.{IsRead};
 ghost use Rattle.script_text.specs.Groups.{group_of, NoneOf, Edits};
 ghost use Rattle.script_text.specs.Seen.{command_of};
 
-use crate::command::Command;
+use crate::command::{Command, Sided};
 use crate::fault::LineFault;
-use crate::fields::{next_handle, next_name, rest_of};
+use crate::fields::{next_handle, next_name, next_own, next_subtype, rest_of};
 use grid_plane::Name;
 use std::alloc::Global;
 use text_fields::{behind_word, is_only, is_over};
@@ -20,23 +20,25 @@ use wkt_text::read_wkt;
 #[derive(Drop)]
 pub enum Edit<'a> {
     /// `add CLASS SHAPE`
-    Add(Name, &'a [u8]),
+    Add(Sided, &'a [u8]),
     /// `change H SHAPE`
     Change(u32, &'a [u8]),
     /// `delete H`
     Delete(u32),
+    /// `retype H SUBTYPE`
+    Retype(u32, u8),
     /// `undo`
     Undo,
     /// `redo`
     Redo,
 }
 
-fn read_add(text: &[u8]) -> Option<(Name, &[u8])>
-    ensures { MatchOption result ((c s : List ℕ) → IsLine text.now (form.Word (codes "add") ∷ form.Name c ∷ form.Rest s ∷ []) → ⊥)
-        (λ x. IsLine text.now (form.Word (codes "add") ∷ form.Name x.0 ∷ form.Rest x.1.now ∷ [])) }
+fn read_add(text: &[u8]) -> Option<(Sided, &[u8])>
+    ensures { MatchOption result ((a : command.Sided) (s : List ℕ) → IsLine text.now (form.Word (codes "add") ∷ form.Own a ∷ form.Rest s ∷ []) → ⊥)
+        (λ x. IsLine text.now (form.Word (codes "add") ∷ form.Own x.0 ∷ form.Rest x.1.now ∷ [])) }
 {
-    let (class, rest) = next_name(behind_word(text, b"add")?)?;
-    Some((class, rest_of(rest)))
+    let (own, rest) = next_own(behind_word(text, b"add")?)?;
+    Some((own, rest_of(rest)))
 }
 
 fn read_change(text: &[u8]) -> Option<(u32, &[u8])>
@@ -55,20 +57,36 @@ fn read_delete(text: &[u8]) -> Option<u32>
     if is_over(rest) { Some(handle) } else { None }
 }
 
+fn read_retype(text: &[u8]) -> Option<(u32, u8)>
+    ensures { MatchOption result ((h t : ℕ) → IsLine text.now (form.Word (codes "retype") ∷ handle h ∷ subtype t ∷ []) → ⊥)
+        (λ x. IsLine text.now (form.Word (codes "retype") ∷ handle x.0 ∷ subtype x.1 ∷ [])) }
+{
+    let (handle, rest) = next_handle(behind_word(text, b"retype")?)?;
+    let (subtype, rest) = next_subtype(rest)?;
+    if is_over(rest) {
+        Some((handle, subtype))
+    } else {
+        None
+    }
+}
+
 // What a line says behind its editor.
 #[tactic(auto, using(crate::proofs::Groups::no_edit))]
 fn read_edit(text: &[u8]) -> Option<Edit<'_>>
     ensures { MatchOption result ((f : Form) → group_of f ≡ Edits → IsLine text.now (behind_editor (pieces form.Rest written f)) → ⊥)
         (λ d. (e : List ℕ) → IsLine text.now (behind_editor (pieces form.Rest written (edit_form e d)))) }
 {
-    if let Some((class, shape)) = read_add(text) {
-        return Some(Edit::Add(class, shape));
+    if let Some((own, shape)) = read_add(text) {
+        return Some(Edit::Add(own, shape));
     }
     if let Some((handle, shape)) = read_change(text) {
         return Some(Edit::Change(handle, shape));
     }
     if let Some(handle) = read_delete(text) {
         return Some(Edit::Delete(handle));
+    }
+    if let Some((handle, subtype)) = read_retype(text) {
+        return Some(Edit::Retype(handle, subtype));
     }
     if is_only(text, b"undo") {
         return Some(Edit::Undo);
@@ -79,12 +97,12 @@ fn read_edit(text: &[u8]) -> Option<Edit<'_>>
     None
 }
 
-fn add_of(alloc: Global, editor: Name, class: Name, text: &[u8]) -> Result<Command, LineFault>
+fn add_of(alloc: Global, editor: Name, own: Sided, text: &[u8]) -> Result<Command, LineFault>
     requires { length text.now ≤ 1048576 }
-    ensures { MatchResult result (λ c. IsEditOf (command.Add editor class text.now) (command_of c)) (λ e. IsEditFault (command.Add editor class text.now) e) }
+    ensures { MatchResult result (λ c. IsEditOf (command.Add editor own text.now) (command_of c)) (λ e. IsEditFault (command.Add editor own text.now) e) }
 {
     match read_wkt(alloc, text) {
-        Ok(shape) => Ok(Command::Add(editor, class, shape)),
+        Ok(shape) => Ok(Command::Add(editor, own, shape)),
         Err(fault) => Err(LineFault::from(fault)),
     }
 }
@@ -105,9 +123,10 @@ fn edit_of(alloc: Global, editor: Name, edit: Edit<'_>) -> Result<Command, LineF
     ensures { MatchResult result (λ c. IsEditOf (edit_form editor edit.entry) (command_of c)) (λ e. IsEditFault (edit_form editor edit.entry) e) }
 {
     match edit {
-        Edit::Add(class, text) => add_of(alloc, editor, class, text),
+        Edit::Add(own, text) => add_of(alloc, editor, own, text),
         Edit::Change(handle, text) => change_of(alloc, editor, handle, text),
         Edit::Delete(handle) => Ok(Command::Delete(editor, handle)),
+        Edit::Retype(handle, subtype) => Ok(Command::Retype(editor, handle, subtype)),
         Edit::Undo => Ok(Command::Undo(editor)),
         Edit::Redo => Ok(Command::Redo(editor)),
     }

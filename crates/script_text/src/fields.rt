@@ -1,10 +1,13 @@
 ghost use Rattle.std.specs.Prelude.{◌≡◌, ℕ, IsTrue, MatchOption};
 ghost use Rattle.text_terms.specs.Fields.{is_name, skip_blanks, front_field, behind_field, skip_end_blanks, is_skipped};
 ghost use Rattle.text_terms.specs.Numbers.{IsWithinText};
+ghost use Rattle.line_terms.specs.Commands as commands;
+ghost use Rattle.line_terms.specs.Forms.{IsSided};
 
+use crate::command::Sided;
 use crate::number::number_within;
 use grid_plane::Name;
-use text_fields::{next_field, skip_blanks, skip_end_blanks};
+use text_fields::{next_field, skip_blanks, skip_end_blanks, split_colon};
 
 /// The name that comes next, and what follows it.
 pub fn next_name(text: &[u8]) -> Option<(Name, &[u8])>
@@ -13,6 +16,35 @@ pub fn next_name(text: &[u8]) -> Option<(Name, &[u8])>
 {
     let (field, rest) = next_field(text);
     Some((Name::of(field)?, rest))
+}
+
+// The class, or the subtype of one, that a field names.
+#[tactic(auto, using(crate::proofs::Sides::no_class))]
+fn sided_of(field: &[u8]) -> Option<Sided>
+    ensures { MatchOption result ((a : commands.Sided) → IsSided field.now a → ⊥) (λ a. IsSided field.now a) }
+{
+    let Some((front, digits)) = split_colon(field) else {
+        let name = Name::of(field)?;
+        return Some(Sided {
+            name,
+            subtype: None,
+        });
+    };
+    let name = Name::of(front)?;
+    let subtype = number_within(digits, 0, 255)? as u8;
+    Some(Sided {
+        name,
+        subtype: Some(subtype),
+    })
+}
+
+/// The class, or the subtype of one, that comes next, and what follows it.
+pub fn next_own(text: &[u8]) -> Option<(Sided, &[u8])>
+    ensures { MatchOption result ((a : commands.Sided) → IsSided (front_field (skip_blanks text.now)) a → ⊥)
+        (λ x. IsSided (front_field (skip_blanks text.now)) x.0 × (x.1.now ≡ behind_field (skip_blanks text.now))) }
+{
+    let (field, rest) = next_field(text);
+    Some((sided_of(field)?, rest))
 }
 
 /// The number from `low` to `high` that comes next, and what follows it.
@@ -39,6 +71,15 @@ pub fn next_handle(text: &[u8]) -> Option<(u32, &[u8])>
         (λ x. IsWithinText 1 4294967295 (front_field (skip_blanks text.now)) x.0 × (x.1.now ≡ behind_field (skip_blanks text.now))) }
 {
     next_number(text, 1, u32::MAX)
+}
+
+/// The subtype that comes next, and what follows it.
+pub fn next_subtype(text: &[u8]) -> Option<(u8, &[u8])>
+    ensures { MatchOption result ((n : ℕ) → IsWithinText 0 255 (front_field (skip_blanks text.now)) n → ⊥)
+        (λ x. IsWithinText 0 255 (front_field (skip_blanks text.now)) x.0 × (x.1.now ≡ behind_field (skip_blanks text.now))) }
+{
+    let (subtype, rest) = next_number(text, 0, 255)?;
+    Some((subtype as u8, rest))
 }
 
 /// What is left of a line, without the blanks at its ends.

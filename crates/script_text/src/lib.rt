@@ -14,7 +14,7 @@ mod sessions;
 mod validations;
 mod whole;
 
-pub use command::Command;
+pub use command::{Command, Sided};
 pub use fault::LineFault;
 pub use grid_plane::Name;
 pub use line_terms::LineRefusal;

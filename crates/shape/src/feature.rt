@@ -1,17 +1,17 @@
 ghost use Rattle.std.specs.Prelude.{◌≡◌, IfOk};
-ghost use Rattle.plane_terms.specs.Shape.{IsShape};
-ghost use Rattle.topology_terms.specs.Feature as terms;
+ghost use Rattle.topology_terms.specs.Feature.{feature_of};
 
 use crate::shape::Shape;
 use grid_plane::NoMemory;
 use std::alloc::Global;
 use std::marker::Model;
 
-/// A feature: its handle, the number of its class, its shape.
+/// A feature: its handle, the number of its class, its subtype, its shape.
 #[derive(Drop)]
 pub struct Feature {
     handle: u32,
     class: u16,
+    subtype: u8,
     shape: Shape,
 }
 
@@ -20,16 +20,24 @@ impl Model for Feature {
 
     ghost Value = { terms.Feature };
 
-    ghost view = { λ f. record { handle = f.handle; class = f.class; shape = f.shape } };
+    ghost view = { λ f. terms.feature_of f.handle f.class f.subtype f.shape };
 }
 
 impl Feature {
+    /// A feature of the subtype 0.
     pub fn new(handle: u32, class: u16, shape: Shape) -> Feature
-        ensures { result ≡ record { handle = handle; class = class; shape = shape } }
+        ensures { result ≡ feature_of handle class 0 shape }
+    {
+        Feature::typed(handle, class, 0, shape)
+    }
+
+    pub fn typed(handle: u32, class: u16, subtype: u8, shape: Shape) -> Feature
+        ensures { result ≡ feature_of handle class subtype shape }
     {
         Feature {
             handle,
             class,
+            subtype,
             shape,
         }
     }
@@ -46,10 +54,34 @@ impl Feature {
         self.class
     }
 
+    pub fn subtype(&self) -> u8
+        ensures { result ≡ self.now.subtype }
+    {
+        self.subtype
+    }
+
     pub fn shape(&self) -> &Shape
         ensures { result.now ≡ self.now.shape }
     {
         &self.shape
+    }
+
+    /// The same feature, of another subtype.
+    pub fn with_subtype(self, subtype: u8) -> Feature
+        ensures { result ≡ record self { subtype = subtype } }
+    {
+        let Feature {
+            handle,
+            class,
+            subtype: _,
+            shape,
+        } = self;
+        Feature {
+            handle,
+            class,
+            subtype,
+            shape,
+        }
     }
 
     /// An equal feature.
@@ -59,6 +91,7 @@ impl Feature {
         Ok(Feature {
             handle: self.handle,
             class: self.class,
+            subtype: self.subtype,
             shape: self.shape.try_copy(alloc)?,
         })
     }

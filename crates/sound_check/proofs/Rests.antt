@@ -95,7 +95,7 @@ pub rest_whole : {A : Type 0} (P : A → Point → Type 0) (cs : List Cell) → 
 rest_whole P cs h = record { some = h; points = λ p. (λ m. (m, λ k. k), λ m. m.0) }
 
 -- ---- nothing left
-not_zero : (c : Cell) (cs : List Cell) (n : ℕ) → n ≡ length (c ∷ cs) → nat_eq n 0 ≡ false
+pub not_zero : (c : Cell) (cs : List Cell) (n : ℕ) → n ≡ length (c ∷ cs) → nat_eq n 0 ≡ false
 not_zero c cs n e = ap (λ m. nat_eq m 0) e ∙ eqb-suc-zero (length cs)
 
 pub none_test : (cs : List Cell) (n : ℕ) → HavePoints cs → n ≡ length cs → IsTrue (nat_eq n 0) ↔ ((p : Point) → ¬ (InCells cs p))
@@ -103,7 +103,7 @@ none_test [] n h e = rw e (λ t p i. i, λ k. refl)
 none_test (c ∷ cs) n h e = rw (not_zero c cs n e) (λ t. absurd (false≢true t), λ k. absurd (k h.0.0 (inl h.0.1)))
 
 -- ---- a list holds a point or not
-in_cells_stable : (cs : List Cell) (p : Point) → ¬ (¬ (InCells cs p)) → InCells cs p
+pub in_cells_stable : (cs : List Cell) (p : Point) → ¬ (¬ (InCells cs p)) → InCells cs p
 in_cells_stable cs p n = elim (some_or_none (λ c. InCell c p) (λ c. in_or_not c p) cs) [ inl h ↦ h | inr k ↦ absurd (n k) ]
 
 -- ---- within

@@ -20,7 +20,7 @@ pub const LINES: [(&str, &str); LEN] = [
 
 /// The text of the project that the script comes to; by hand, from the documents.
 pub const SAVED: &str =
-    "topology 1\nnext 4\nclass wells point\nrule 1 point_must_be_disjoint wells\nfeature 1 wells POINT (3 4)\nfeature 2 wells POINT (3 4)\nfeature 3 wells POINT (-5 6)\ndirty -5 6 -5 6\nerror 1 1 2 cells 3 4 3 4\ncell 1 0 -3 =, 0 1 -4 =\nend\n";
+    "topology 2\nnext 4\nclass wells point\nrule 1 point_must_be_disjoint wells\nfeature 1 wells POINT (3 4)\nfeature 2 wells POINT (3 4)\nfeature 3 wells POINT (-5 6)\ndirty -5 6 -5 6\nerror 1 1 2 cells 3 4 3 4\ncell 1 0 -3 =, 0 1 -4 =\nend\n";
 
 /// The run that saves: two squares that overlap, each line with its reply; by hand, from the documents.
 pub const SAVING: [(&str, &str); 6] = [
@@ -40,4 +40,4 @@ pub const SAVING: [(&str, &str); 6] = [
 
 /// The text of the project that it saves; by hand, from the documents.
 pub const LOTS: &str =
-    "topology 1\nnext 3\nclass lots polygon\nrule 1 polygon_must_not_overlap lots\nfeature 1 lots POLYGON ((0 0, 10 0, 10 10, 0 10, 0 0))\nfeature 2 lots POLYGON ((5 5, 15 5, 15 15, 5 15, 5 5))\nerror 1 1 2 cells 5 5 10 10\ncell 1 0 0 >, -1 0 10 >, 0 10 0 >, 0 -10 100 >, 1 0 -5 >, -1 0 15 >, 0 10 -50 >, 0 -10 150 >\nend\n";
+    "topology 2\nnext 3\nclass lots polygon\nrule 1 polygon_must_not_overlap lots\nfeature 1 lots POLYGON ((0 0, 10 0, 10 10, 0 10, 0 0))\nfeature 2 lots POLYGON ((5 5, 15 5, 15 15, 5 15, 5 5))\nerror 1 1 2 cells 5 5 10 10\ncell 1 0 0 >, -1 0 10 >, 0 10 0 >, 0 -10 100 >, 1 0 -5 >, -1 0 15 >, 0 10 -50 >, 0 -10 150 >\nend\n";

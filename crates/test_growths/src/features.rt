@@ -2,9 +2,9 @@ use crate::call::{Call, Made};
 use error_store::Key;
 use feature_store::{Kind, Name, Shape, Store, StoreFault};
 use grid_plane::{NoMemory, Rect};
-use rule_core::{RuleRow, Work};
-use rule_set::PosterRules;
+use rule_core::{RuleRow, Side, Work};
 use rule_words::RuleKind;
+use rules::PosterRules;
 use std::alloc::Global;
 use topo_core::{ChangeFault, RuleFault, Topology};
 use wkt_text::read_wkt;
@@ -148,7 +148,10 @@ fn add_class(town: &mut Topology<PosterRules>) -> Result<Made, NoMemory> {
 fn add_rule(town: &mut Topology<PosterRules>) -> Made {
     let row = RuleRow {
         kind: RuleKind::PolygonMustNotOverlap,
-        origin: 1,
+        origin: Side {
+            class: 1,
+            subtype: None,
+        },
         dest: None,
     };
     match town.add_rule(row) {

@@ -16,7 +16,7 @@ use errors::{DIRT, ERRORS};
 use feature_store::Store;
 use features::{STORE, TOPOLOGY};
 use grid_plane::NoMemory;
-use rule_set::PosterRules;
+use rules::PosterRules;
 use std::io;
 use std::io::{ErrorKind, Write};
 use topo_core::Topology;

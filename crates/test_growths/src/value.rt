@@ -3,7 +3,7 @@ use error_store::Errors;
 use feature_store::Store;
 use grid_plane::NoMemory;
 use project_text::{ProjectData, write_project};
-use rule_set::PosterRules;
+use rules::PosterRules;
 use std::alloc::Global;
 use topo_core::Topology;
 

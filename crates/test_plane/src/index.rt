@@ -2,13 +2,14 @@
 ghost use Rattle.std.specs.Prelude.{◌^◌, ◌<◌, ◌≤ℤ◌, ◌<ℤ◌, pos};
 
 use crate::given::rect;
-use grid_index::{Count, Index, Meter, Placed};
+use grid_index::{Index, Meter, Placed};
 use grid_plane::{NoMemory, Rect};
 use std::alloc::Global;
 use std::test::Fail;
+use step_count::Count;
 
 // A row of squares of side 50, a hundred apart: the handle k begins at 100 k.
-fn row(alloc: Global) -> Result<Index, Fail> {
+fn row(alloc: Global) -> Result<Index<Count>, Fail> {
     let mut index = Index::new(alloc);
     for handle in 1..=1000u32 {
         let x = 100 * i64::from(handle);
@@ -24,7 +25,7 @@ fn row(alloc: Global) -> Result<Index, Fail> {
 #[test]
 fn one_of_a_row_is_near(rt: HostRuntime) -> Result<(), Fail> {
     let alloc = rt.alloc();
-    let near = row(alloc)?.query(alloc, &rect(0, 0, 120, 20)?)?;
+    let near = row(alloc)?.query(alloc, &rect(0, 0, 120, 20)?, &mut Count::new())?;
     assert_eq!(rt; near.len(), 1);
     assert!(rt; near[0] == 1);
     Ok(())
@@ -35,7 +36,7 @@ fn one_of_a_row_is_near(rt: HostRuntime) -> Result<(), Fail> {
 fn few_of_a_row_are_looked_at(rt: HostRuntime) -> Result<(), Fail> {
     let alloc = rt.alloc();
     let mut steps = Count::new();
-    let near = row(alloc)?.query_counted(alloc, &rect(0, 0, 200, 0)?, &mut steps)?;
+    let near = row(alloc)?.query(alloc, &rect(0, 0, 200, 0)?, &mut steps)?;
     assert_eq!(rt; near.len(), 2);
     let taken = steps.count();
     assert!(rt; taken >= 2);
@@ -108,7 +109,7 @@ fn as_a_scan_says(rt: HostRuntime) -> Result<(), Fail> {
     }
     for _ in 0..300 {
         let r = some_rect(&mut dice)?;
-        assert!(rt; index.query(alloc, &r)? == scan(alloc, &left, &r)?);
+        assert!(rt; index.query(alloc, &r, &mut Count::new())? == scan(alloc, &left, &r)?);
     }
     Ok(())
 }

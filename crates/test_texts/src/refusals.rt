@@ -1,7 +1,7 @@
 // The text of each refusal.
 use grid_plane::Name;
 use reply_text::{Cause, Refusal, Reply, push_reply};
-use rule_set::PosterRules;
+use rules::PosterRules;
 use script_text::LineRefusal;
 use shape::ShapeFault;
 use std::test::Fail;

@@ -1,9 +1,9 @@
 // The report of two lots that overlap, by hand; and of the same once the error is an exception.
 use grid_plane::{Name, Rect};
 use report_text::push_report;
-use rule_core::{RuleRow, Work};
-use rule_set::PosterRules;
+use rule_core::{RuleRow, Side, Work};
 use rule_words::RuleKind;
+use rules::PosterRules;
 use shape::Kind;
 use std::alloc::Global;
 use std::num::NonZeroU32;
@@ -24,7 +24,10 @@ fn two_lots(alloc: Global) -> Result<Topology<PosterRules>, Fail> {
     let lots = topology.add_class(Name::of(b"lots").ok_or("no name")?, Kind::Polygon)?;
     topology.add_rule(RuleRow {
         kind: RuleKind::PolygonMustNotOverlap,
-        origin: lots,
+        origin: Side {
+            class: lots,
+            subtype: None,
+        },
         dest: None,
     })?;
     let first = read_wkt(alloc, b"POLYGON ((0 0, 10 0, 10 10, 0 10, 0 0))").ok();

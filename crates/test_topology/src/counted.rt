@@ -1,12 +1,13 @@
 // How many steps a validation takes in the indexes of a topology, as meters count them.
 use feature_store::{Kind, Name, Shape};
-use grid_index::{Count, Meter};
+use grid_index::Meter;
 use grid_plane::{GridPoint, Rect};
-use rule_core::{RuleRow, Work};
-use rule_set::PosterRules;
+use rule_core::{RuleRow, Side, Work};
 use rule_words::RuleKind;
+use rules::PosterRules;
 use std::alloc::Global;
 use std::test::Fail;
+use step_count::Count;
 use topo_core::Topology;
 
 fn place(x: i64) -> Result<GridPoint, Fail> {
@@ -19,7 +20,10 @@ fn row(alloc: Global, work: &mut Work) -> Result<Topology<PosterRules>, Fail> {
     town.add_class(Name::of(b"wells").ok_or("no name")?, Kind::Point)?;
     town.add_rule(RuleRow {
         kind: RuleKind::PointMustBeDisjoint,
-        origin: 1,
+        origin: Side {
+            class: 1,
+            subtype: None,
+        },
         dest: None,
     })?;
     for k in 1..=1000i64 {

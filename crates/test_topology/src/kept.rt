@@ -2,9 +2,9 @@
 use crate::definitions::square;
 use feature_store::{Kind, Name, Shape};
 use grid_plane::Rect;
-use rule_core::{RuleRow, Work};
-use rule_set::PosterRules;
+use rule_core::{RuleRow, Side, Work};
 use rule_words::RuleKind;
+use rules::PosterRules;
 use std::alloc::Global;
 use std::test::Fail;
 use topo_core::Topology;
@@ -18,7 +18,10 @@ fn add_lots(alloc: Global, town: &mut Topology<PosterRules>) -> Result<(), Fail>
     town.add_class(Name::of(b"lots").ok_or("no name")?, Kind::Polygon)?;
     town.add_rule(RuleRow {
         kind: RuleKind::PolygonMustNotOverlap,
-        origin: 1,
+        origin: Side {
+            class: 1,
+            subtype: None,
+        },
         dest: None,
     })?;
     town.add(1, lot(alloc, 0, 0)?)?;

@@ -1,9 +1,9 @@
 // A store and a topology as a library: each call that takes memory succeeds.
 use feature_store::{Kind, Name, Shape, Store};
 use grid_plane::{GridPoint, Rect};
-use rule_core::{RuleRow, Work};
-use rule_set::PosterRules;
+use rule_core::{RuleRow, Side, Work};
 use rule_words::RuleKind;
+use rules::PosterRules;
 use std::test::Fail;
 use topo_core::Topology;
 
@@ -47,7 +47,10 @@ fn change_and_delete(
     town.add_class(Name::of(b"wells").ok_or("no name")?, Kind::Point)?;
     town.add_rule(RuleRow {
         kind: RuleKind::PointMustBeDisjoint,
-        origin: 1,
+        origin: Side {
+            class: 1,
+            subtype: None,
+        },
         dest: None,
     })?;
     town.add(1, well(5)?)?;

@@ -1,4 +1,5 @@
-ghost use Rattle.std.specs.Prelude.{◌≡◌, ◌≤◌, ◌↔◌, [], ◌∷◌, length, take, drop, IsTrue, MatchOption};
+ghost use Rattle.std.specs.Prelude.{◌≡◌, ◌≤◌, ◌<◌, ◌↔◌, ◌==◌, not, true, [], ◌∷◌, ◌++◌, length, take, drop, slice_index, IsTrue, MatchOption};
+ghost use Rattle.std.specs.List.{list_all};
 ghost use Rattle.text_terms.specs.Fields.{skip_blanks, front_field, behind_field, skip_end_blanks, Begins, HasFields};
 
 use crate::bytes::is_blank;
@@ -94,6 +95,32 @@ pub fn behind_word<'a>(text: &'a [u8], word: &[u8]) -> Option<&'a [u8]>
         (λ rest. (front_field (skip_blanks text.now) ≡ word.now) × (rest.now ≡ behind_field (skip_blanks text.now))) }
 {
     behind_front(skip_blanks(text), word)
+}
+
+// The number of bytes before the first colon, or all.
+fn colon_in(text: &[u8]) -> usize
+    ensures bound { result ≤ length text.now }
+    ensures before { list_all (λ b. not (b == 58)) (take result text.now) ≡ true }
+    ensures found { result < length text.now → slice_index text.now result ≡ 58 }
+{
+    let mut end = 0;
+    while end < text.len() && text[end] != b':' {
+        end += 1;
+    }
+    end
+}
+
+/// What stands before the first colon, and behind it; `None` exactly where the text has no colon.
+pub fn split_colon(text: &[u8]) -> Option<(&[u8], &[u8])>
+    ensures { MatchOption result (list_all (λ b. not (b == 58)) text.now ≡ true)
+        (λ x. (list_all (λ b. not (b == 58)) x.0.now ≡ true) × (text.now ≡ x.0.now ++ 58 ∷ x.1.now)) }
+{
+    let end = colon_in(text);
+    if end < text.len() {
+        Some((&text[..end], &text[end + 1..]))
+    } else {
+        None
+    }
 }
 
 /// Whether no field is left.

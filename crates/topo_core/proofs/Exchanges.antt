@@ -7,7 +7,7 @@ use Rattle.plane_terms.specs.Rectangle.{Rectangle}
 use Rattle.plane_terms.specs.Shape.{Shape, envelope_of}
 use Rattle.plane_terms.specs.Dirt.{add_dirt, add_all}
 use Rattle.plane_terms.specs.declared.kind.Kind.{Kind}
-use Rattle.topology_terms.specs.Feature.{Class, Feature, feature_at, env, IsSetAt}
+use Rattle.topology_terms.specs.Feature.{Class, Feature, feature_of, feature_at, env, IsSetAt}
 use Rattle.topology_terms.specs.Changes.{add_envelope, IsFeatureAdded, IsFeatureSet}
 use Rattle.topology_terms.specs.Causes.{Tells, add_cause}
 use Rattle.topology_terms.specs.Entry.{Entry}
@@ -32,14 +32,14 @@ pub record ChangesFeatures (next : ℕ) (F : List Feature) (s t : Stored) : Type
   pub next_is : t.next ≡ next
 
 -- s is the store before room was made, r with it, t after the change
-pub added : (class : ℕ) (shape : Shape) (h : ℕ) (s r t : Stored) (rules : List InForce) (d e : List Rectangle) (es : List Entry)
+pub added : (class subtype : ℕ) (shape : Shape) (h : ℕ) (s r t : Stored) (rules : List InForce) (d e : List Rectangle) (es : List Entry)
     → IsTopology (project_of s rules d es) → IsSame s r → h ≡ r.next → ChangesFeatures (r.next + 1)
-    (r.features ++ record { handle = h; class = class; shape = shape } ∷ []) r t → e ≡ add_dirt d (envelope_of shape)
-    → IsFeatureAdded class shape h (project_of s rules d es) (project_of t rules e es)
-added class shape h s r t rules d e es top same number i dirt =
+    (r.features ++ feature_of h class subtype shape ∷ []) r t → e ≡ add_dirt d (envelope_of shape)
+    → IsFeatureAdded class subtype shape h (project_of s rules d es) (project_of t rules e es)
+added class subtype shape h s r t rules d e es top same number i dirt =
     let handle : h ≡ s.next = number ∙ same.next in
     let none : feature_at s.features h ≡ None = rw handle (none_given s.next s.features top.store.given) in
-    let f : Feature = record { handle = h; class = class; shape = shape } in
+    let f : Feature = feature_of h class subtype shape in
     let set : IsSetAt h (Some f) s.features (s.features ++ f ∷ []) = set_end s.features f none in
     record {
       number = handle;
@@ -99,11 +99,15 @@ pub live_some : {A : Type 0} (o : Option A) (N : Type 0) (S : A → Type 0) → 
 live_some None N S m e = cc
 live_some (Some x) N S m e = (x, m)
 
-pub other_shape : (p : Project) → IsTopology p → (h n : ℕ) (f : Feature) (shape : Shape) → feature_at p.features h ≡ Some f → n ≡ f.class
-    → shape.kind ≡ f.shape.kind → IsOfClass p.classes (record { handle = h; class = n; shape = shape })
-other_shape p t h n f shape e same kind =
+pub other_shape : (p : Project) → IsTopology p → (h n s : ℕ) (f : Feature) (shape : Shape) → feature_at p.features h ≡ Some f → n ≡ f.class
+    → shape.kind ≡ f.shape.kind → IsOfClass p.classes (feature_of h n s shape)
+other_shape p t h n s f shape e same kind =
     let o : IsOfClass p.classes f = (let l = live_each (IsOfClass p.classes) p.features h t.store.kinds in rw e at l) in
     rw (same, kind) o
+
+pub other_subtype : (p : Project) → IsTopology p → (h s : ℕ) (f : Feature) → feature_at p.features h ≡ Some f
+    → IsOfClass p.classes (record f { subtype = s })
+other_subtype p t h s f e = let o = live_each (IsOfClass p.classes) p.features h t.store.kinds in rw e at o
 
 pub nothing : (s : Stored) (rules : List InForce) (d : List Rectangle) (es : List Entry) → s.classes ≡ [] → s.features ≡ [] → s.next ≡ 1
     → rules ≡ [] → d ≡ [] → es ≡ [] → project_of s rules d es ≡ empty_project

@@ -1,10 +1,10 @@
 -- What a validation finds is of a live subject and of a live partner or none, and each of its cells has a half-plane.
-use Rattle.std.proofs.Common.{◌≡◌, ◌≢◌, ◌<◌, ℕ, inl, inr, List, [], ◌∷◌, Some, refl, sym, subst, ◌∙◌, arith, pos, ◌+ℤ◌}
+use Rattle.std.proofs.Common.{◌≡◌, ◌≢◌, ◌<◌, ℕ, inl, inr, List, [], ◌∷◌, Some, sym, subst, ◌∙◌, arith, pos, ◌+ℤ◌}
 use Rattle.std.proofs.lemmas.Int.{ints}
 use Rattle.plane_terms.specs.Lists.{Every}
 use Rattle.plane_terms.specs.Point.{Point}
 use Rattle.plane_terms.specs.Rectangle.{Rectangle, RectHolds}
-use Rattle.plane_terms.specs.Cell.{Cell, InCell, InCells, HavePoints}
+use Rattle.plane_terms.specs.Cell.{Cell, InCell, InCells}
 use Rattle.plane_terms.proofs.Truths.{there_or_not}
 use Rattle.topology_terms.specs.Feature.{Feature, feature_at}
 use Rattle.topology_terms.specs.Broken.{Row}
@@ -14,7 +14,7 @@ use Rattle.topology_terms.specs.Project.{Project, rule_at}
 use Rattle.topology_terms.specs.Changes.{IsFresh, IsValidated}
 use Rattle.sound_laws.proofs.Dirts.{bool_cases}
 use Rattle.sound_laws.proofs.States.{some_point}
-use Rattle.topo_core.specs.Kinds.{IsPartner, NamesPartners}
+use Rattle.rule_core.specs.Kinds.{IsPartner, NamesPartners}
 use Rattle.topo_core.specs.Topologies.{IsErrorOf, IsTopology}
 use Rattle.topo_core.proofs.Exchanges.{live_given}
 

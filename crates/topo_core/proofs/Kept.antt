@@ -1,7 +1,7 @@
 -- Each change keeps what every topology keeps, and what it keeps of the rules' meaning.
-use Rattle.std.proofs.Common.{◌≡◌, ◌≤◌, inl, inr, ℕ, true, List, [], ◌∷◌, ◌++◌, Option, Some, refl, sym, ap, ◌∙◌, arith}
+use Rattle.std.proofs.Common.{◌≡◌, ◌≤◌, inl, inr, ℕ, true, List, [], ◌∷◌, ◌++◌, Option, Some, refl, sym, subst, ap, ◌∙◌, arith}
 use Rattle.std.specs.Option.{IfSome}
-use Rattle.plane_terms.specs.Lists.{Every}
+use Rattle.plane_terms.specs.Lists.{Every, IsThose}
 use Rattle.plane_terms.proofs.ListLemmas.{every_map}
 use Rattle.plane_terms.specs.Rectangle.{Rectangle, IsRectangle}
 use Rattle.plane_terms.specs.declared.kind.Kind.{Kind}
@@ -13,18 +13,21 @@ use Rattle.topology_terms.specs.Entry as entries
 use Rattle.topology_terms.specs.Project.{Project, InForce}
 use Rattle.topology_terms.specs.Sound.{IsSoundUnder}
 use Rattle.topology_terms.specs.Settled.{IsSettledUnder, IsValidatedBy}
-use Rattle.topology_terms.specs.Changes.{IsClassAdded, IsEdit}
+use Rattle.topology_terms.specs.Changes.{IsClassAdded, IsEdit, IsSelected}
 use Rattle.sound_laws.proofs.Edits.{same_or_not, edit_sound}
 use Rattle.sound_laws.proofs.Settling.{edit_settled, validated_by_cut}
 use Rattle.validation_laws.proofs.Validating.{parts_kept_valid, parts_kept_sound, parts_kept_settled}
 use Rattle.feature_store.specs.Keeps.{IsStore}
-use Rattle.topo_core.specs.Kinds.{TakesKinds, NamesPartners}
-use Rattle.topo_core.specs.Topologies.{IsErrorOf, IsTopology}
+use Rattle.rule_core.specs.Kinds.{TakesKinds, NamesPartners}
+use Rattle.topo_core.specs.Topologies.{IsErrorOf, AreLive, IsTopology}
 use Rattle.topo_core.proofs.Rows.{fit_end}
 use Rattle.topo_core.proofs.Whole.{valid}
 use Rattle.topo_core.proofs.Fresh.{validated_errors}
 use Rattle.grid_index.specs.declared.placed.Placed.{Placed}
 use Rattle.validation.specs.Projects.{RuledFeatures, HasParts}
+use Rattle.validation.specs.Placed.{ArePlaced}
+use Rattle.validation.specs.Asked.{dirty_parts, IsAskedFor}
+use Rattle.topo_core.specs.Steps.{IsAskedBy}
 
 -- ---- what a validation reads of the project
 pub parts_of : (p : Project) (r : RuledFeatures) (rules : List InForce) (F : List Feature) (ps : List Placed)
@@ -35,6 +38,24 @@ parts_of p r rules F ps e q f = record {
   features = sym (ap (λ (x : RuledFeatures). x.features) e ∙ f);
   dirt = refl;
   entries = refl;
+}
+
+-- and how much it asks about
+pub asked_by : (w : Rectangle) (p : Project) (r : RuledFeatures) (ps : List Placed) (m n : ℕ) → HasParts p r p.dirt p.entries → r.placed ≡ ps
+    → ArePlaced ps p.features → AreLive ps p.features
+    → ((fs : List Feature) → IsThose (λ (f : Feature). IsSelected p w f.handle) r.features fs → IsAskedFor r (dirty_parts p.dirt w) fs m n)
+    → IsAskedBy w p m n
+asked_by w p r ps m n parts e placed live h = record {
+  placed = ps;
+  all = placed;
+  live = live;
+  steps = λ fs those.
+      let x = h fs (subst (λ F. IsThose (λ (f : Feature). IsSelected p w f.handle) F fs) parts.features those) in
+      record {
+        about = x.about;
+        asked = x.asked;
+        steps = λ s. rw (← e, parts.rules) (x.steps s);
+      };
 }
 
 -- ---- an edit

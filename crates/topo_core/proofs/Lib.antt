@@ -3,6 +3,7 @@ mod Kept
 mod Marking
 mod Exchanges
 mod Standing
+mod Live
 mod RuleLists
 mod Rows
 mod RulesMore

@@ -1,18 +1,17 @@
 -- What every topology keeps, and what the types of its parts keep, is that a text can say it.
 use Rattle.std.proofs.Common.{◌≡◌, ◌<◌, ◌≤◌, ℕ, List, [], ◌∷◌, Some, sym, subst, ◌∙◌}
 use Rattle.plane_terms.specs.Lists.{Every}
-use Rattle.plane_terms.specs.Shape.{IsShape}
 use Rattle.topology_terms.specs.Feature.{Feature}
 use Rattle.topology_terms.specs.Broken.{Row}
 use Rattle.topology_terms.specs.Entry.{Entry, entry_at, by_key}
 use Rattle.topology_terms.specs.Project.{Project, rule_at, by_number}
-use Rattle.project_terms.specs.Records.{IsRecord, IsNumbered, IsPlaced, IsError}
+use Rattle.project_terms.specs.Records.{IsRecord, IsNumbered, HasSmallSides, IsPlaced, IsError}
 use Rattle.sound_laws.proofs.Keyed as keyed
 use Rattle.sound_laws.proofs.Lists.{keys, entry_key, every_found}
 use Rattle.sound_laws.proofs.RuleLists.{rule_numbers, found_rule}
 use Rattle.dirty_area.specs.Parts.{IsDirt}
 use Rattle.feature_store.specs.Keeps.{IsGiven, IsOfClass}
-use Rattle.topo_core.specs.Topologies.{IsTopology, IsNamed, IsDrawn}
+use Rattle.topo_core.specs.Topologies.{IsTopology, IsNamed, IsFormed, IsDrawn}
 
 -- the number of a rule in force
 numbered : (p : Project) → IsTopology p → (e : Entry) (r : ℕ) → e.rule ≡ r → (row : Row) → rule_at p.rules r ≡ Some row
@@ -47,25 +46,26 @@ unfolding entry_at
 errors p t drawn = keyed.each_found by_key keys (IsError p) p.entries t.order (λ k e found. error p t drawn k.0 k.1 k.2 e found)
 
 placed : (p : Project) (F : List Feature) → Every (IsGiven p.next) F → Every (IsOfClass p.classes) F
-    → Every (λ (f : Feature). IsShape f.shape) F → Every (IsPlaced p) F
-placed p [] given kinds shapes = tt
-placed p (f ∷ F) given kinds shapes = (
-  record { from_1 = given.0.from_1; given = given.0.before; kind = kinds.0; shape = shapes.0 },
-  placed p F given.1 kinds.1 shapes.1,
+    → Every IsFormed F → Every (IsPlaced p) F
+placed p [] given kinds formed = tt
+placed p (f ∷ F) given kinds formed = (
+  record { from_1 = given.0.from_1; given = given.0.before; kind = kinds.0; subtype = formed.0.subtype; shape = formed.0.shape },
+  placed p F given.1 kinds.1 formed.1,
 )
 
 pub topology_record : (p : Project) → IsTopology p → p.next ≤ 4294967295 → Every IsNamed p.classes
-    → Every (λ (f : Feature). IsShape f.shape) p.features → IsDirt p.dirt → Every IsDrawn p.entries → IsRecord p
-topology_record p t low names shapes dirt drawn = record {
+    → Every IsFormed p.features → Every HasSmallSides p.rules → IsDirt p.dirt → Every IsDrawn p.entries → IsRecord p
+topology_record p t low names formed small dirt drawn = record {
   next = (t.store.from_1, low);
   few = t.store.few;
   names = names;
   unlike = t.store.names;
   numbers = t.numbers;
   rules = t.rules;
+  sides = small;
   fit = t.fit;
   apart = t.apart;
-  placed = placed p p.features t.store.given t.store.kinds shapes;
+  placed = placed p p.features t.store.given t.store.kinds formed;
   features = t.store.ascending;
   rectangles = dirt.on_grid;
   loose = dirt.loose;

@@ -1,29 +1,26 @@
 -- Rows that are equal, and classes that fit a row, as their tests tell.
-use Rattle.std.proofs.Common.{◌≡◌, ℕ, inl, inr, Bool, true, false, ◌&&◌, ◌||◌, not, refl, sym, List, [], ◌∷◌, ◌++◌, Option, Some, None, arith}
+use Rattle.std.proofs.Common.{◌≡◌, ℕ, inl, inr, Bool, true, false, ◌&&◌, ◌||◌, not, refl, sym, List, [], ◌∷◌, ◌++◌, Option, Some, None}
 use Rattle.std.specs.Prelude.{◌==◌, IfSome, bytes_eq}
 use Rattle.std.proofs.lemmas.Bool.{cases_Bool, or_parts}
-use Rattle.std.proofs.lemmas.Bool.Decides.{nat_tests}
 use Rattle.std.proofs.lemmas.Slice.Eq.{bytes_eq-Decides}
 use Rattle.plane_terms.specs.Lists.{Every}
 use Rattle.plane_terms.specs.declared.kind.Kind.{Kind}
 use Rattle.plane_terms.specs.declared.kind.Kind.TheVariants as kind
 use Rattle.rule_words.specs.Table.{word_of, origin_of, dest_of}
-use Rattle.topology_terms.specs.Feature.{Class}
+use Rattle.topology_terms.specs.Feature.{Class, Side}
 use Rattle.topology_terms.specs.Broken.{Row}
 use Rattle.topology_terms.specs.Project.{InForce, rule_at}
 use Rattle.topology_terms.specs.Lookups.{kind_of_class}
-use Rattle.topology_terms.specs.Causes.{when, first_of, same_kind, is_kind, is_row, is_there, is_missing, is_fit, fits_dest, fit_cause}
+use Rattle.topology_terms.specs.Causes.{when, first_of, same_kind, is_kind, is_row, is_there, is_missing, is_fit, fits_dest, fit_cause, are_apart, same_side}
 use Rattle.topology_terms.specs.declared.cause.Cause.TheVariants as cause
 use Rattle.feature_store.proofs.Keeping.{kind_end}
+use Rattle.rule_core.proofs.Sides.{equal_sides, own_side}
 use Rattle.project_text.proofs.Named.{kind_there}
-use Rattle.topo_core.specs.Kinds.{HasKinds}
+use Rattle.rule_core.specs.Kinds.{HasKinds}
 use Rattle.plane_terms.proofs.Truths.{both_parts}
 
-own_number : (n : ℕ) → (n == n) ≡ true
-own_number n = grind (arith, nat_tests)
-
 pub own_row : (r : Row) → is_row r r ≡ true
-own_row r = rw ((bytes_eq-Decides (word_of r.kind) (word_of r.kind)).1 refl, own_number r.origin.class, own_number r.dest.class) refl
+own_row r = rw ((bytes_eq-Decides (word_of r.kind) (word_of r.kind)).1 refl, own_side r.origin, own_side r.dest) refl
 
 -- ---- a rule of the row
 true_last : (t : Bool) → (t || true) ≡ true
@@ -49,7 +46,7 @@ dest_told : (cs : List Class) (row : Row) (o : Option Kind) → fits_dest cs row
     → IfSome o (λ k. kind_of_class cs row.dest.class ≡ Some k)
 dest_told cs row None e = tt
 dest_told cs row (Some k) e = kind_there (kind_of_class cs row.dest.class) k (both_parts (is_kind (kind_of_class cs row.dest.class) k)
-    (not (row.dest.class == row.origin.class)) e).0
+    (are_apart row.dest row.origin) e).0
 
 pub fits_kinds : (cs : List Class) (row : Row) → is_fit cs row ≡ true → HasKinds cs row
 fits_kinds cs row e =
@@ -76,7 +73,7 @@ kind_stays cs d n k e = rw (kind_end cs d n k (kind_there (kind_of_class cs n) k
 dest_stays : (cs : List Class) (d : Class) (row : Row) (o : Option Kind) → fits_dest cs row o ≡ true → fits_dest (cs ++ d ∷ []) row o ≡ true
 dest_stays cs d row None e = e
 dest_stays cs d row (Some k) e =
-    let h = both_parts (is_kind (kind_of_class cs row.dest.class) k) (not (row.dest.class == row.origin.class)) e in
+    let h = both_parts (is_kind (kind_of_class cs row.dest.class) k) (are_apart row.dest row.origin) e in
     rw (kind_stays cs d row.dest.class k h.0, h.1) refl
 
 pub fit_end : (cs : List Class) (d : Class) (row : Row) → is_fit cs row ≡ true → is_fit (cs ++ d ∷ []) row ≡ true
@@ -85,19 +82,18 @@ fit_end cs d row e =
     rw (kind_stays cs d row.origin.class (origin_of row.kind) h.0, dest_stays cs d row (dest_of row.kind) h.1) refl
 
 -- ---- rows that differ
-same_back : (m n : ℕ) → (m == n) ≡ true → (n == m) ≡ true
-same_back m n e = grind (arith, nat_tests)
+side_back : (A B : Side) → same_side A B ≡ true → same_side B A ≡ true
+side_back A B e = let equal : A ≡ B = equal_sides A B e in rw equal (own_side B)
 
 row_back : (q r : Row) → is_row q r ≡ true → is_row r q ≡ true
 row_back q r e =
-    let h = both_parts (bytes_eq (word_of q.kind) (word_of r.kind)) ((q.origin.class == r.origin.class) && (q.dest.class ==
-    r.dest.class)) e in
-    let k = both_parts (q.origin.class == r.origin.class) (q.dest.class == r.dest.class) h.1 in
+    let h = both_parts (bytes_eq (word_of q.kind) (word_of r.kind)) (same_side q.origin r.origin && same_side q.dest r.dest) e in
+    let k = both_parts (same_side q.origin r.origin) (same_side q.dest r.dest) h.1 in
     let word = (bytes_eq-Decides (word_of q.kind) (word_of r.kind)).0 h.0 in
     rw (
       (bytes_eq-Decides (word_of r.kind) (word_of q.kind)).1 (sym word),
-      same_back q.origin.class r.origin.class k.0,
-      same_back q.dest.class r.dest.class k.1,
+      side_back q.origin r.origin k.0,
+      side_back q.dest r.dest k.1,
     ) refl
 
 pub apart_back : (q r : Row) → is_row q r ≡ false → is_row r q ≡ false

@@ -15,7 +15,7 @@ use Rattle.sound_laws.proofs.RuleChanges.{add_rule_sound}
 use Rattle.sound_laws.proofs.Settling.{add_rule_settled}
 use Rattle.feature_store.specs.Stored.{Stored}
 use Rattle.project_terms.specs.Records.{IsNumbered}
-use Rattle.topo_core.specs.Kinds.{TakesKinds}
+use Rattle.rule_core.specs.Kinds.{TakesKinds}
 use Rattle.topo_core.specs.RuleLists.{with_rule}
 use Rattle.topo_core.specs.Topologies.{IsTopology, project_of}
 use Rattle.topo_core.proofs.Rows.{apart_back, each_other}

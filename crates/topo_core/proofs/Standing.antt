@@ -11,7 +11,7 @@ use Rattle.feature_store.specs.Stored.{Stored, IsSame}
 use Rattle.grid_index.specs.Near.{HoldsSame, Gains, Loses}
 use Rattle.grid_index.specs.declared.placed.Placed.{Placed}
 use Rattle.validation.specs.Placed.{placed_of, ArePlaced}
-use Rattle.topo_core.specs.Topologies.{project_of, IsIndexed}
+use Rattle.topo_core.specs.Topologies.{project_of, AreLive, IsIndexed}
 
 pub none_placed : (ps : List Placed) (F : List Feature) → F ≡ [] → ArePlaced ps F
 unfolding feature_at
@@ -49,6 +49,18 @@ put_some comes p ps mid e put q = (
   (λ k. elim ((put q).0 k) [ inl m ↦ inl m | inr m ↦ inr (e ∙ ap (λ (x : Placed). Some x) (sym m)) ]),
   (λ k. (put q).1 (elim k [ inl m ↦ inl m | inr m ↦ inr (same_some p q (sym e ∙ m)) ])),
 )
+
+-- where the live feature of the handle lies, there is a pair
+pub stands_placed : (h : ℕ) (F : List Feature) (ps : List Placed) (o : Option Placed) → o ≡ option_map placed_of (feature_at F h)
+    → ArePlaced ps F → (q : Placed) → o ≡ Some q → Contains ps q
+stands_placed h F ps o s all = at (feature_at F h) refl s
+  where
+    none_some : {A : Type 0} {a : A} → None ≡ Some a → ⊥
+    none_some e = cc
+
+    at : (x : Option Feature) → feature_at F h ≡ x → o ≡ option_map placed_of x → (q : Placed) → o ≡ Some q → Contains ps q
+    at None e t q k = absurd (none_some (sym t ∙ k))
+    at (Some f) e t q k = subst (Contains ps) (sym (same_some (placed_of f) q (sym t ∙ k))) (all h f e)
 
 pub take_some : (gone stays : Option Placed) (p : Placed) (mid new : List Placed) → gone ≡ Some p → (stays ≡ Some p → ⊥) → Loses mid new p
     → IsTaken gone stays mid new
@@ -117,8 +129,10 @@ next_placed n f F G ps mid own set put placed k g e = elim (same_or_not k n) [
 
 -- ---- a change that was refused once there was room
 pub same_indexed : (s r : Stored) (rules : List InForce) (d e : List Rectangle) (es : List Entry) (ps qs : List Placed) → IsSame s r → e ≡ d
-    → (ArePlaced ps r.features → ArePlaced qs r.features) → IsIndexed (project_of s rules d es) ps → IsIndexed (project_of r rules e es) qs
-same_indexed s r rules d e es ps qs same dirt placed t = record {
+    → (ArePlaced ps r.features → ArePlaced qs r.features) → (AreLive ps r.features → AreLive qs r.features)
+    → IsIndexed (project_of s rules d es) ps → IsIndexed (project_of r rules e es) qs
+same_indexed s r rules d e es ps qs same dirt placed live t = record {
   topology = rw (same.classes, same.features, same.next, dirt) t.topology;
   placed = placed (subst (ArePlaced ps) (sym same.features) t.placed);
+  live = live (subst (AreLive ps) (sym same.features) t.live);
 }

@@ -19,7 +19,7 @@ use Rattle.sound_laws.proofs.FeatureLists.{handles}
 use Rattle.sound_laws.proofs.RuleLists.{rule_each}
 use Rattle.feature_store.specs.Keeps.{IsOfClass, IsGiven, HasSimpleSides, IsStore}
 use Rattle.feature_store.proofs.Keeping.{live_each, below_next}
-use Rattle.topo_core.specs.Kinds.{HasKinds, TakesKinds}
+use Rattle.rule_core.specs.Kinds.{HasKinds, TakesKinds}
 use Rattle.topo_core.specs.Topologies.{IsTopology}
 use Rattle.topo_core.proofs.Rows.{fits_kinds}
 

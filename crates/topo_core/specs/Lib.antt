@@ -1,4 +1,3 @@
-pub mod Kinds
 pub mod Topologies
 pub mod Faults
 pub mod Steps

@@ -1,22 +1,20 @@
-ghost use Rattle.std.specs.Prelude.{◌≡◌, Contains, IfOk, IfSome, OnOk};
+ghost use Rattle.std.specs.Prelude.{◌≡◌, ◌⊎◌, Contains, IfOk, IfSome, OnOk};
 ghost use Rattle.std.specs.Option.{option_to_list};
-ghost use Rattle.plane_terms.specs.Lists.{Every};
+ghost use Rattle.plane_terms.specs.Lists.{Every, SomeOf};
 ghost use Rattle.plane_terms.specs.Cell as cell_terms;
 ghost use Rattle.plane_terms.specs.HalfPlane.{IsHalfPlane};
 ghost use Rattle.plane_terms.specs.Rectangle.{IsRectangle};
-ghost use Rattle.plane_terms.specs.Shape.{IsShape};
 ghost use Rattle.topology_terms.specs.Feature as terms;
 ghost use Rattle.topology_terms.specs.Feature.{env};
 ghost use Rattle.topology_terms.specs.Lookups.{class_at};
-ghost use Rattle.project_terms.specs.Records.{IsRecord};
+ghost use Rattle.project_terms.specs.Records.{IsRecord, HasSmallSides};
 ghost use Rattle.project_terms.specs.Written.{project_text};
 ghost use Rattle.feature_store.specs.Slots.{feature_in, filled};
 ghost use Rattle.grid_index.specs.declared.placed.Placed as seats;
 ghost use Rattle.validation.specs.Placed.{placed_of};
-ghost use Rattle.topo_core.specs.Topologies.{IsNamed, IsDrawn};
+ghost use Rattle.topo_core.specs.Topologies.{IsNamed, IsFormed, IsDrawn};
 
 use crate::growth::store_law;
-use crate::kinds::KindRules;
 use crate::places::place_of;
 use crate::topology::Topology;
 use convex_cell::{BorrowedCell, Cells};
@@ -25,12 +23,15 @@ use feature_store::{Slot, Store};
 use grid_index::Index;
 use grid_plane::NoMemory;
 use project_text::{ProjectData, write_parts};
+use rule_core::{InForce, KindRules};
 use std::alloc::Global;
+use step_count::Count;
 
 // Puts the place of the feature in the slot, where it is filled, into the index; its envelope is a rectangle of the grid.
-fn put_slot(index: &mut Index, slot: &Slot) -> Result<(), NoMemory>
+fn put_slot(index: &mut Index<Count>, slot: &Slot) -> Result<(), NoMemory>
     ensures there { OnOk result (Every (λ (f : terms.Feature). Contains index.new (placed_of f)) (option_to_list (feature_in slot.now))) }
     ensures kept { OnOk result ((q : seats.Placed) → Contains index.old q → Contains index.new q) }
+    ensures only { OnOk result ((q : seats.Placed) → Contains index.new q → Contains index.old q ⊎ SomeOf (λ (f : terms.Feature). q ≡ placed_of f) (option_to_list (feature_in slot.now))) }
     ensures on_grid { OnOk result (Every (λ (f : terms.Feature). IsRectangle (env f)) (option_to_list (feature_in slot.now))) }
 {
     match slot.feature() {
@@ -42,9 +43,10 @@ fn put_slot(index: &mut Index, slot: &Slot) -> Result<(), NoMemory>
     }
 }
 
-// An index in which each of the features stands; the envelope of each is a rectangle of the grid.
-fn index_of(alloc: Global, slots: &[Slot]) -> Result<Index, NoMemory>
+// An index in which each of the features stands, and nothing else; the envelope of each is a rectangle of the grid.
+fn index_of(alloc: Global, slots: &[Slot]) -> Result<Index<Count>, NoMemory>
     ensures there { IfOk result (λ index. Every (λ (f : terms.Feature). Contains index (placed_of f)) (filled slots.now)) }
+    ensures only { IfOk result (λ index. (q : seats.Placed) → Contains index q → SomeOf (λ (f : terms.Feature). q ≡ placed_of f) (filled slots.now)) }
     ensures on_grid { IfOk result (λ _. Every (λ (f : terms.Feature). IsRectangle (env f)) (filled slots.now)) }
 {
     let mut index = Index::new(alloc);
@@ -72,24 +74,43 @@ fn names_law(store: &Store)
     }
 }
 
-// The law that the feature in a slot, where it is filled, has a valid shape.
-fn shape_law(slot: &Slot)
-    ensures { Every (λ (f : terms.Feature). IsShape f.shape) (option_to_list (feature_in slot.now)) }
+// The law that the feature in a slot, where it is filled, has a valid shape and a small subtype.
+fn slot_law(slot: &Slot)
+    ensures { Every IsFormed (option_to_list (feature_in slot.now)) }
 {
     match slot.feature() {
         Some(feature) => {
+            feature.subtype();
             feature.shape().kind();
         }
         None => {}
     }
 }
 
-// The law that each feature has a valid shape.
-fn shapes_law(slots: &[Slot])
-    ensures { Every (λ (f : terms.Feature). IsShape f.shape) (filled slots.now) }
+// The law that each feature has a valid shape and a small subtype.
+fn slots_law(slots: &[Slot])
+    ensures { Every IsFormed (filled slots.now) }
 {
     for slot in slots {
-        shape_law(slot);
+        slot_law(slot);
+    }
+}
+
+// The law that the sides of a rule bind small subtypes, where they bind any.
+fn rule_law(rule: &InForce)
+    ensures { HasSmallSides rule.now }
+{
+    let row = &rule.row;
+    row.origin.subtype();
+    row.dest_side().subtype();
+}
+
+// The law that the sides of each rule do.
+fn rules_law(rules: &[InForce])
+    ensures { Every HasSmallSides rules.now }
+{
+    for rule in rules {
+        rule_law(rule);
     }
 }
 
@@ -157,7 +178,8 @@ impl<R: KindRules> Topology<R> {
     {
         self.store.next_handle();
         names_law(&self.store);
-        shapes_law(self.store.features().slots());
+        slots_law(self.store.features().slots());
+        rules_law(&self.rules);
         self.dirt.loose_law();
         errors_law(&self.entries);
     }

@@ -8,8 +8,7 @@ use crate::rule_fault::RuleFault;
 use feature_store::Store;
 use rule_core::RuleRow;
 
-// Whether the second class serves the rule; or, where the rule takes none, whether none is given.
-#[tactic(auto, using(rule_core::proofs::Seconds::none_at_0))]
+// Whether the second side serves the rule; or, where the rule takes none, whether none is given.
 fn does_dest_fit(store: &Store, row: &RuleRow) -> Result<bool, RuleFault>
     ensures fit { IfOk result (λ b. b ≡ fits_dest store.now.classes row.now (dest_of row.now.kind)) }
     ensures there { OnOk result (lacks_dest store.now.classes row.now (dest_of row.now.kind) ≡ false) }
@@ -17,19 +16,21 @@ fn does_dest_fit(store: &Store, row: &RuleRow) -> Result<bool, RuleFault>
     ensures err { IfErr result (λ e. e ≡ fault.NoClass) }
 {
     let Some(kind) = row.kind.dest() else {
-        return Ok(row.dest.is_none());
+        return Ok(!row.has_dest());
     };
-    let number = row.dest_number();
-    let dest = store.class_kind(number).ok_or(RuleFault::NoClass)?;
-    Ok(dest == kind && number != row.origin)
+    let side = row.dest_side();
+    let dest = store.class_kind(side.class).ok_or(RuleFault::NoClass)?;
+    Ok(dest == kind && side.is_apart(&row.origin))
 }
 
-/// Whether the classes are there and fit the rule.
+/// Whether the classes are there and the sides fit the rule.
 pub fn fit(store: &Store, row: &RuleRow) -> Result<(), RuleFault>
     ensures ok { OnOk result (fit_cause store.now.classes row.now ≡ None) }
     ensures err { IfErr result (IsFitFault store.now.classes row.now) }
 {
-    let origin = store.class_kind(row.origin).ok_or(RuleFault::NoClass)?;
+    let origin = store
+        .class_kind(row.origin.class)
+        .ok_or(RuleFault::NoClass)?;
     let apart = does_dest_fit(store, row)?;
     if origin != row.kind.origin() || !apart {
         return Err(RuleFault::Unfit);

@@ -7,6 +7,7 @@ ghost use Rattle.topology_terms.specs.Changes as changes;
 ghost use Rattle.feature_store.specs.Keeps.{IsStore};
 ghost use Rattle.grid_index.specs.declared.placed.Placed as terms;
 ghost use Rattle.validation.specs.Placed.{placed_of, ArePlaced};
+ghost use Rattle.topo_core.specs.Topologies.{AreLive};
 
 use crate::places::{kept_place, live_place, put_place, take_place};
 use dirty_area::Dirt;
@@ -14,6 +15,7 @@ use feature_store::Store;
 use grid_index::{Index, Placed};
 use grid_plane::{NoMemory, Rect};
 use shape::{Feature, Shape};
+use step_count::Count;
 
 // The envelope of the live feature of this handle.
 fn live_env(store: &Store, handle: u32) -> Option<Rect>
@@ -34,37 +36,40 @@ fn kept_env(kept: &Option<Feature>) -> Option<Rect>
     }
 }
 
-/// Puts the place of what comes into the index, and makes the envelope of what stands at the handle dirty, then that of what
-/// comes. After an `Err`, out of memory, the dirt is as it was, and each live feature that stood in the index stands there.
+/// Puts the place of what comes into the index, unless it stands there already, and makes the envelope of what stands at the handle dirty, then that of what
+/// comes. After an `Err`, out of memory, the dirt is as it was, and an index of the live features and nothing else is one still.
 pub fn dirty_both(
     dirt: &mut Dirt,
-    index: &mut Index,
+    index: &mut Index<Count>,
     store: &Store,
     handle: u32,
     kept: &Option<Feature>,
 ) -> Result<(), NoMemory>
-    requires { IfSome kept.now (λ f. f.handle ≡ handle) }
+    requires own { IfSome kept.now (λ f. f.handle ≡ handle) }
+    requires placed { ArePlaced index.old store.now.features }
     ensures ok { OnOk result (dirt.new ≡ changes.add_envelope (changes.add_envelope dirt.old (feature_at store.now.features handle)) kept.now) }
     ensures put { OnOk result ((q : terms.Placed) → Contains index.new q ↔ (Contains index.old q ⊎ (option_map placed_of kept.now ≡ Some q))) }
     ensures err { OnErr result (dirt.new ≡ dirt.old) }
     ensures placed { OnErr result (ArePlaced index.old store.now.features → ArePlaced index.new store.now.features) }
+    ensures live { OnErr result (AreLive index.old store.now.features → AreLive index.new store.now.features) }
 {
     let comes = kept_place(kept);
-    put_place(index, &comes)?;
+    let stands = live_place(store, handle);
+    put_place(index, &comes, &stands)?;
     match dirt.add_two(live_env(store, handle), kept_env(kept)) {
         Ok(()) => Ok(()),
         Err(e) => {
-            take_place(index, &comes, &live_place(store, handle));
+            take_place(index, &comes, &stands);
             Err(e)
         }
     }
 }
 
 /// Puts the rectangle into the index under the next handle, and makes it dirty. After an `Err`, out of memory, the dirt is as
-/// it was, and each live feature that stood in the index stands there.
+/// it was, and an index of the live features and nothing else is one still.
 pub fn dirty_next(
     dirt: &mut Dirt,
-    index: &mut Index,
+    index: &mut Index<Count>,
     store: &Store,
     env: Rect,
 ) -> Result<(), NoMemory>
@@ -72,6 +77,7 @@ pub fn dirty_next(
     ensures put { OnOk result ((q : terms.Placed) → Contains index.new q ↔ (Contains index.old q ⊎ (q ≡ record { rect = env; handle = store.now.next }))) }
     ensures err { OnErr result (dirt.new ≡ dirt.old) }
     ensures placed { OnErr result (ArePlaced index.old store.now.features → ArePlaced index.new store.now.features) }
+    ensures live { OnErr result (AreLive index.old store.now.features → AreLive index.new store.now.features) }
 {
     let place = Placed {
         rect: env,

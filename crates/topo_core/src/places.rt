@@ -8,6 +8,7 @@ use feature_store::Store;
 use grid_index::{Index, Placed};
 use grid_plane::NoMemory;
 use shape::Feature;
+use step_count::Count;
 
 /// Where a feature lies, and its handle.
 pub fn place_of(feature: &Feature) -> Placed
@@ -56,19 +57,28 @@ fn is_this(some: &Option<Placed>, p: &Placed) -> bool
     }
 }
 
-/// Puts the pair into the index, where it is there; after an `Err`, out of memory, the same pairs stand in it.
-pub fn put_place(index: &mut Index, comes: &Option<Placed>) -> Result<(), NoMemory>
+/// Puts the pair into the index, where it is there, unless it is the one that stands there already; after an `Err`, out of memory, the
+/// same pairs stand in it.
+pub fn put_place(
+    index: &mut Index<Count>,
+    comes: &Option<Placed>,
+    stands: &Option<Placed>,
+) -> Result<(), NoMemory>
+    requires { (q : terms.Placed) → stands.now ≡ Some q → Contains index.old q }
     ensures ok { OnOk result ((q : terms.Placed) → Contains index.new q ↔ (Contains index.old q ⊎ (comes.now ≡ Some q))) }
     ensures err { OnErr result ((q : terms.Placed) → Contains index.new q ↔ Contains index.old q) }
 {
-    match comes {
-        Some(p) => index.put(*p),
-        None => Ok(()),
+    let Some(p) = comes else {
+        return Ok(());
+    };
+    if is_this(stands, p) {
+        return Ok(());
     }
+    index.put(*p)
 }
 
 /// Takes the pair that is gone out of the index, where it is there, unless it is the one that stays.
-pub fn take_place(index: &mut Index, gone: &Option<Placed>, stays: &Option<Placed>)
+pub fn take_place(index: &mut Index<Count>, gone: &Option<Placed>, stays: &Option<Placed>)
     ensures { (q : terms.Placed) → Contains index.new q ↔ (Contains index.old q × (gone.now ≡ Some q → stays.now ≡ Some q)) }
 {
     if let Some(p) = gone {

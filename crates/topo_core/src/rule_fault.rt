@@ -13,7 +13,7 @@ pub enum RuleFault {
     /// No class has the number of the origin; or that of the destination, where the rule's kind takes one.
     #[error("there is no such class")]
     NoClass,
-    /// A class has not the kind of shape that the rule takes, the two classes are one, or the rule takes no destination.
+    /// A class has not the kind of shape that the rule takes, a feature could be on both sides, or the rule takes no destination.
     #[error("the classes do not fit the rule")]
     Unfit,
     /// An equal rule is in force.

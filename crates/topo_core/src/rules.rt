@@ -9,7 +9,7 @@ fn is_row(a: &RuleRow, b: &RuleRow) -> bool
     ensures test { result ≡ is_row a.now b.now }
     ensures same { result ≡ true → a.now ≡ b.now }
 {
-    a.kind == b.kind && a.origin == b.origin && a.dest_number() == b.dest_number()
+    a.kind == b.kind && a.origin.same(&b.origin) && a.dest_side().same(&b.dest_side())
 }
 
 /// The number of the rule in force that has this row.

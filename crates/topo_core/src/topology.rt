@@ -5,19 +5,18 @@ ghost use Rattle.topology_terms.specs.Sound.{IsSoundUnder};
 ghost use Rattle.topology_terms.specs.Settled.{IsSettledUnder, IsValidatedBy};
 ghost use Rattle.topology_terms.specs.Causes.{Tells, class_cause, add_cause, change_cause, delete_cause, rule_cause, drop_cause, mark_cause};
 ghost use Rattle.topology_terms.specs.declared.cause.Cause.TheVariants as cause;
-ghost use Rattle.topology_terms.specs.Changes.{IsClassAdded, IsFeatureAdded, IsFeatureSet, IsRuleAdded, IsRuleDropped, IsMarked, reshaped};
+ghost use Rattle.topology_terms.specs.Changes.{IsClassAdded, IsFeatureAdded, IsFeatureSet, IsRuleAdded, IsRuleDropped, IsMarked, reshaped, retyped};
 ghost use Rattle.error_store.specs.Marking.{fault_cause};
 ghost use Rattle.feature_store.specs.Keeps.{IsOfClass};
 ghost use Rattle.feature_store.specs.Faults.{store_cause};
 ghost use Rattle.project_check.specs.Checked.{IsChecked};
 ghost use Rattle.topo_core.specs.Faults.{edit_cause, row_cause, IsThereAt};
 ghost use Rattle.topo_core.specs.Topologies.{IsTopology};
-ghost use Rattle.topo_core.specs.Steps.{IsCounted, IsCountWithin};
+ghost use Rattle.topo_core.specs.Steps.{IsCounted, IsCountWithin, IsAskedBy};
 
 use crate::fault::ChangeFault;
 use crate::fitting::fit;
 use crate::growth::{dirty_both, dirty_next, envelope_law, has_other_kind, store_law};
-use crate::kinds::KindRules;
 use crate::no_rule::NoRule;
 use crate::places::{kept_place, live_place, take_place};
 use crate::rule_fault::RuleFault;
@@ -25,13 +24,14 @@ use crate::rules::{drop_from, free_number, has_number, number_of_row, put_rule};
 use dirty_area::Dirt;
 use error_store::{Errors, Key, MarkFault};
 use feature_store::{Store, StoreFault};
-use grid_index::{Index, Meter, NoCount};
+use grid_index::Index;
 use grid_plane::{Name, NoMemory, Rect};
 use project_check::{Unsound, check_project};
-use rule_core::{InForce, RuleRow, Work};
+use rule_core::{InForce, KindRules, RuleRow, Work};
 use shape::{Feature, Kind, Shape};
 use std::alloc::Global;
 use std::marker::Model;
+use step_count::Count;
 use validation::{RuledFeatures, validate_counted};
 
 // The most rules there may be.
@@ -54,7 +54,7 @@ pub struct Topology<R> {
     pub(crate) alloc: Global,
     pub(crate) judging: R,
     pub(crate) store: Store,
-    pub(crate) index: Index,
+    pub(crate) index: Index<Count>,
     pub(crate) rules: Vec<InForce>,
     pub(crate) dirt: Dirt,
     pub(crate) entries: Errors,
@@ -121,10 +121,10 @@ impl<R: KindRules> Topology<R> {
         Ok(number)
     }
 
-    /// Adds a feature of the class of this number under the next handle, and answers the handle; its envelope is dirty then.
-    /// Refused where there is no such class, then where the kinds differ, then where the next handle is 4,294,967,295.
-    pub fn add(&mut self, class: u16, shape: Shape) -> Result<u32, ChangeFault>
-        ensures ok { IfOk result (λ h. IsFeatureAdded class shape h self.old self.new) }
+    /// Adds a feature of the class of this number and of the subtype under the next handle, and answers the handle; its envelope is
+    /// dirty then. Refused where there is no such class, then where the kinds differ, then where the next handle is 4,294,967,295.
+    pub fn add_typed(&mut self, class: u16, subtype: u8, shape: Shape) -> Result<u32, ChangeFault>
+        ensures ok { IfOk result (λ h. IsFeatureAdded class subtype shape h self.old self.new) }
         ensures may { OnOk result (add_cause self.old.classes self.old.next class shape.kind ≡ None) }
         ensures refused { IfErr result (λ e. Tells (edit_cause e) (add_cause self.old.classes self.old.next class shape.kind)) }
         ensures sound { IsSoundUnder R.meaning self.old → IsSoundUnder R.meaning self.new }
@@ -137,13 +137,26 @@ impl<R: KindRules> Topology<R> {
         self.store.check_add(class, &shape)?;
         self.store.room()?;
         dirty_next(&mut self.dirt, &mut self.index, &self.store, env)?;
-        let handle = self.store.add_in(class, shape);
+        let handle = self.store.add_typed_in(class, subtype, shape);
         store_law(&self.store);
         Ok(handle)
     }
 
+    /// Adds a feature of the subtype 0, as `add_typed` does.
+    pub fn add(&mut self, class: u16, shape: Shape) -> Result<u32, ChangeFault>
+        ensures ok { IfOk result (λ h. IsFeatureAdded class 0 shape h self.old self.new) }
+        ensures may { OnOk result (add_cause self.old.classes self.old.next class shape.kind ≡ None) }
+        ensures refused { IfErr result (λ e. Tells (edit_cause e) (add_cause self.old.classes self.old.next class shape.kind)) }
+        ensures sound { IsSoundUnder R.meaning self.old → IsSoundUnder R.meaning self.new }
+        ensures settled { IsSettledUnder R.meaning self.old → IsSettledUnder R.meaning self.new }
+        ensures ordered { IsOrdered self.new }
+        ensures err { OnErr result (self.new ≡ self.old) }
+    {
+        self.add_typed(class, 0, shape)
+    }
+
     /// Puts a rule in force under the least number from 1 that is free, and answers the number; the whole grid is dirty then.
-    /// Refused where a class is missing, then where the classes do not fit the rule, then where an equal rule is in force, then
+    /// Refused where a class is missing, then where the sides do not fit the rule, then where an equal rule is in force, then
     /// where there are 256 rules.
     pub fn add_rule(&mut self, row: RuleRow) -> Result<u16, RuleFault>
         ensures ok { IfOk result (λ n. IsRuleAdded n row self.old self.new) }
@@ -231,7 +244,8 @@ impl<R: KindRules> Topology<R> {
         Ok(())
     }
 
-    /// Gives the live feature of this handle another shape, and answers the feature as it was. Both envelopes are dirty then.
+    /// Gives the live feature of this handle another shape, and answers the feature as it was; its subtype stays. Both envelopes are
+    /// dirty then.
     /// Refused where there is no such feature, then where the kinds differ.
     pub fn change(&mut self, handle: u32, shape: Shape) -> Result<Feature, ChangeFault>
         ensures ok { OnOk result (IsFeatureSet handle (reshaped (feature_at self.old.features handle) shape) self.old self.new) }
@@ -249,10 +263,31 @@ impl<R: KindRules> Topology<R> {
         if has_other_kind(&shape, feature) {
             return Err(ChangeFault::WrongKind);
         }
-        let class = feature.class();
-        let mut kept = Some(Feature::new(handle, class, shape));
+        let (class, subtype) = (feature.class(), feature.subtype());
+        let mut kept = Some(Feature::typed(handle, class, subtype, shape));
         self.swap(handle, &mut kept)?;
         kept.ok_or(ChangeFault::NoFeature)
+    }
+
+    /// Gives the live feature of this handle another subtype, and answers the feature as it was. Its envelope is dirty then. Refused
+    /// where there is no such feature.
+    pub fn retype(&mut self, handle: u32, subtype: u8) -> Result<Feature, ChangeFault>
+        ensures ok { OnOk result (IsFeatureSet handle (retyped (feature_at self.old.features handle) subtype) self.old self.new) }
+        ensures was { IfOk result (λ f. feature_at self.old.features handle ≡ Some f) }
+        ensures may { OnOk result (delete_cause self.old.features handle ≡ None) }
+        ensures refused { IfErr result (λ e. Tells (edit_cause e) (delete_cause self.old.features handle)) }
+        ensures sound { IsSoundUnder R.meaning self.old → IsSoundUnder R.meaning self.new }
+        ensures settled { IsSettledUnder R.meaning self.old → IsSettledUnder R.meaning self.new }
+        ensures ordered { IsOrdered self.new }
+        ensures err { OnErr result (self.new ≡ self.old) }
+    {
+        let Some(feature) = self.store.get(handle) else {
+            return Err(ChangeFault::NoFeature);
+        };
+        let copy = feature.try_copy(self.alloc)?;
+        let mut typed = Some(copy.with_subtype(subtype));
+        self.swap(handle, &mut typed)?;
+        typed.ok_or(ChangeFault::NoFeature)
     }
 
     /// Takes the live feature of this handle away, and answers it. Its envelope is dirty then. Refused where there is no such
@@ -287,17 +322,18 @@ impl<R: KindRules> Topology<R> {
         ensures ordered { IsOrdered self.new }
         ensures err { OnErr result (self.new ≡ self.old) }
     {
-        self.validate_counted(window, work, &mut NoCount, &mut NoCount)
+        self.validate_counted(window, work, &mut Count::new(), &mut Count::new())
     }
 
     /// What `validate` does, and the steps of its questions to the indexes: the first meter counts those in the index of where
-    /// features lie, and the second those in that of the errors' frames.
-    pub fn validate_counted<M: Meter, N: Meter>(
+    /// features lie, which has the live ones and no other, and the second those in that of the errors' frames. The first rises by no
+    /// more than questions about what is dirty of the window, and about what is near each feature that is judged, allow.
+    pub fn validate_counted(
         &mut self,
         window: Rect,
         work: &mut Work,
-        feature_meter: &mut M,
-        error_meter: &mut N,
+        feature_meter: &mut Count,
+        error_meter: &mut Count,
     ) -> Result<Summary, NoMemory>
         ensures ok { OnOk result (IsValidatedBy R.meaning window self.old self.new) }
         ensures judged { OnOk result (IsCounted window self.old work.old.judged work.new.judged) }
@@ -307,8 +343,9 @@ impl<R: KindRules> Topology<R> {
         ensures settled { IsSettledUnder R.meaning self.old → IsSettledUnder R.meaning self.new }
         ensures ordered { IsOrdered self.new }
         ensures err { OnErr result (self.new ≡ self.old) }
-        ensures rises { M.taken feature_meter.old ≤ M.taken feature_meter.new }
-        ensures error_rises { N.taken error_meter.old ≤ N.taken error_meter.new }
+        ensures asked { IsAskedBy window self.old feature_meter.old feature_meter.new }
+        ensures rises { feature_meter.old ≤ feature_meter.new }
+        ensures error_rises { error_meter.old ≤ error_meter.new }
     {
         let before = work.judged();
         let features = self.store.features();

@@ -91,7 +91,8 @@ pub puts : {E : Type 0} (h : Visit) (target text bytes : List ℕ) (p q : Projec
     → OnOk r (Saves h target p)
 puts h target text bytes p q (Ok u) put others same says is valid = record {
   text = text;
-  says = record { record_of = subst IsRecord is valid; text = says ∙ ap project_text is };
+  says = record { record_of = subst IsRecord is valid; text = inl (says ∙ ap project_text is) };
+  format = says ∙ ap project_text is;
   put = subst (λ (b : List ℕ). SetsHeld h.old h.new target b) same put;
   others = others;
 }
@@ -177,6 +178,7 @@ after_saves : (target : List ℕ) (h : Visit) (old : Option Held) (before : ℕ)
 after_saves target h old before p held saved = record {
   text = saved.text;
   says = saved.says;
+  format = saved.format;
   put = keeps_sets old h.old h.new target saved.text held saved.put;
   others = keeps_others old h.old h.new target held saved.others;
 }

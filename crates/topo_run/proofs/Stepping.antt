@@ -3,7 +3,7 @@ use Rattle.std.proofs.Common.{◌≡◌, ℕ, Bool, List, ◌++◌, refl, ◌∙
 use Rattle.topology_terms.specs.Project.{Project, IsOrdered}
 use Rattle.topology_terms.specs.Settled.{IsSettled}
 use Rattle.topology_terms.specs.Sound.{IsSound}
-use Rattle.line_terms.specs.Commands.{Command, Blank, Class, Rule, DropRule, Begin, End, Discard, Add, Change, Delete, Undo, Redo, Validate, Mark, Unmark, Dirty, Errors, Cells, Features, Rules}
+use Rattle.line_terms.specs.Commands.{Command, Blank, Class, Rule, DropRule, Begin, End, Discard, Add, Change, Retype, Delete, Undo, Redo, Validate, Mark, Unmark, Dirty, Errors, Cells, Features, Rules}
 use Rattle.line_terms.specs.Lines.{IsCommandLine, IsLineFault}
 use Rattle.script_text.specs.Faults.{IsFault}
 use Rattle.script_text.specs.declared.fault.LineFault.{LineFault}
@@ -64,6 +64,7 @@ tried s t (End e) r h = none_tried (refusal_of s (End e)) s t (End e) r (λ d. a
 tried s t (Discard e) r h = none_tried (refusal_of s (Discard e)) s t (Discard e) r (λ d. ap judged_said d.0) h
 tried s t (Add e c f) r h = none_tried (refusal_of s (Add e c f)) s t (Add e c f) r (λ d. ap judged_said d.1) h
 tried s t (Change e a f) r h = none_tried (refusal_of s (Change e a f)) s t (Change e a f) r (λ d. ap judged_said d.0) h
+tried s t (Retype e a b) r h = none_tried (refusal_of s (Retype e a b)) s t (Retype e a b) r (λ d. ap judged_said d.0) h
 tried s t (Delete e a) r h = none_tried (refusal_of s (Delete e a)) s t (Delete e a) r (λ d. ap judged_said d.0) h
 tried s t (Undo e) r h = none_tried (refusal_of s (Undo e)) s t (Undo e) r (λ d. ap judged_said d.0) h
 tried s t (Redo e) r h = none_tried (refusal_of s (Redo e)) s t (Redo e) r (λ d. ap judged_said d.0) h

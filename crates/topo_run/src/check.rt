@@ -12,7 +12,7 @@ use grid_plane::NoMemory;
 use outside_terms::Status;
 use project_check::Unsound;
 use project_text::ProjectData;
-use rule_set::PosterRules;
+use rules::PosterRules;
 use std::alloc::{AllocError, Global};
 use std::mem;
 use topo_core::Topology;

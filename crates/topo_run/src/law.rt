@@ -6,7 +6,7 @@ ghost use Rattle.script_terms.specs.Restored.{IsRestored, IsAllRestored};
 ghost use Rattle.script_terms.specs.Run.{Outcome, Run, Step, last_state};
 ghost use Rattle.script_terms.specs.State.{State, empty_state};
 
-use rule_set::poster_law;
+use rules::poster_law;
 
 /// The law of runs: two runs over the same lines from the same state have the same outcomes, line by line: the texts, the states
 /// and what was refused. So what `run` writes with status 0, 1, 3, 8 or 10 follows from the bytes that it read, from the start and

@@ -10,7 +10,7 @@ use crate::write::say;
 use command_answers::World;
 use outside_terms::Status;
 use project_text::{ProjectCause, ProjectData, ProjectFault, read_project};
-use rule_set::PosterRules;
+use rules::PosterRules;
 use std::alloc::{AllocError, Global};
 use topo_core::Topology;
 use topo_outside::{Shelf, ShelfFault, Sink};

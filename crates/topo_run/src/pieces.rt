@@ -17,7 +17,7 @@ use crate::stops::Stop;
 use crate::write::write_all;
 use command_answers::World;
 use grid_plane::NoMemory;
-use rule_set::PosterRules;
+use rules::PosterRules;
 use std::alloc::Global;
 use std::marker::Model;
 use topo_core::Topology;

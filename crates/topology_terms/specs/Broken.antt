@@ -4,7 +4,7 @@
 -- broken_at k A B F a b p      the sentence of each rule; three rules are broken at no point, but by a subject as a whole
 -- BrokenAt row F a b p     the subject a breaks the rule at the point p, with the partner b, or 0 where the rule has none
 -- BrokenWhole row F a      the subject a breaks the rule as a whole
--- judged row f     f is a subject of the rule: it is of the first class, or, of a rule that judges either class, of one of the two
+-- judged row f     f is a subject of the rule: it is on the first side, or, of a rule that judges both, on one of the two
 -- Fits row F       F ascends, the features of both sides have the kinds that the rule takes, and shapes are as shapes are: segments are
 --                  proper, those of a polygon meet at ends alone, and a polygon has some
 --

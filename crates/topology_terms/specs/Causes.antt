@@ -12,7 +12,9 @@
 -- mark_cause es r a b on   why the mark of the entry of this key is not set on, or off: no such error; it is so already
 -- is_kind o k              there is a kind, and it is k
 -- is_missing cs row        the class of the subjects is not there, or the second one where the rule takes one
--- is_fit cs row            the classes have the kinds that the rule takes, and are two; where it takes one, no second is given
+-- are_apart A B            no feature can be on both sides: they are of two classes, or of two subtypes of one (other_subtype)
+-- same_side A B            the two sides are equal (same_subtype: so is what they bind)
+-- is_fit cs row            the classes have the kinds that the rule takes, and the sides are apart; where it takes one, no second is given
 -- is_row q r, is_there rs row      the two rows are equal; a rule in force has this row
 -- Tells told cause         what a call tells: the cause that there is, or out of memory, of which nothing is said
 --
@@ -22,7 +24,7 @@ use Rattle.std.specs.List.{list_any}
 use Rattle.plane_terms.specs.declared.kind.Kind.{Kind}
 use Rattle.plane_terms.specs.declared.kind.Kind.TheVariants as kind
 use Rattle.rule_words.specs.Table.{word_of, origin_of, dest_of}
-use Rattle.topology_terms.specs.Feature.{Class, Feature, feature_at}
+use Rattle.topology_terms.specs.Feature.{Class, Feature, Side, no_side, feature_at}
 use Rattle.topology_terms.specs.Broken.{Row}
 use Rattle.topology_terms.specs.Entry.{Entry, entry_at}
 use Rattle.topology_terms.specs.Project.{Project, InForce, rule_at}
@@ -66,9 +68,26 @@ abbrev pub lacks_dest : List Class → Row → Option Kind → Bool
 lacks_dest cs row None = false
 lacks_dest cs row (Some k) = is_none (kind_of_class cs row.dest.class)
 
+-- two bound subtypes that differ
+abbrev pub other_subtype : Option ℕ → Option ℕ → Bool
+other_subtype None t = false
+other_subtype (Some s) None = false
+other_subtype (Some s) (Some t) = not (s == t)
+
+abbrev pub are_apart : Side → Side → Bool
+are_apart A B = not (A.class == B.class) || other_subtype A.subtype B.subtype
+
+abbrev pub same_subtype : Option ℕ → Option ℕ → Bool
+same_subtype None None = true
+same_subtype (Some s) (Some t) = s == t
+same_subtype s t = false
+
+abbrev pub same_side : Side → Side → Bool
+same_side A B = (A.class == B.class) && same_subtype A.subtype B.subtype
+
 abbrev pub fits_dest : List Class → Row → Option Kind → Bool
-fits_dest cs row None = row.dest.class == 0
-fits_dest cs row (Some k) = is_kind (kind_of_class cs row.dest.class) k && not (row.dest.class == row.origin.class)
+fits_dest cs row None = same_side row.dest no_side
+fits_dest cs row (Some k) = is_kind (kind_of_class cs row.dest.class) k && are_apart row.dest row.origin
 
 abbrev pub is_missing : List Class → Row → Bool
 is_missing cs row = is_none (kind_of_class cs row.origin.class) || lacks_dest cs row (dest_of row.kind)
@@ -78,7 +97,7 @@ is_fit cs row = is_kind (kind_of_class cs row.origin.class) (origin_of row.kind)
 
 -- a rule's word tells its kind
 abbrev pub is_row : Row → Row → Bool
-is_row q r = bytes_eq (word_of q.kind) (word_of r.kind) && ((q.origin.class == r.origin.class) && (q.dest.class == r.dest.class))
+is_row q r = bytes_eq (word_of q.kind) (word_of r.kind) && (same_side q.origin r.origin && same_side q.dest r.dest)
 
 abbrev pub is_there : List InForce → Row → Bool
 is_there rs row = list_any (λ (q : InForce). is_row q.row row) rs

@@ -3,8 +3,8 @@
 -- near A f F           the features of the side whose envelope meets the subject's, in the order of F; with the subject itself, where it
 --                      is of the side
 -- near_after A f F     of those, the ones whose handle is above the subject's
--- Around               whom a subject is judged with: the near of its own class that come after it, all the near of its own class, itself
---                      included, the near of the second class, or, where subjects are of both classes, the near of the other one
+-- Around               whom a subject is judged with: the near of its own side that come after it, all the near of its own side, itself
+--                      included, the near of the second side, or, where subjects are of both sides, the near of the other one
 -- finding_of b cells   the finding of these cells, where there are any
 -- pair_findings cells gs   for each partner of gs whose cells there are, a finding of them
 -- Plan                 how findings are made

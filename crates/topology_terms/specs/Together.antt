@@ -1,4 +1,4 @@
--- The features of a class taken together.
+-- The features of a side taken together.
 --
 -- of_side A F       those of the side, in the order of F
 -- ends f            the ends of a line, in the order of its parts, with repeats

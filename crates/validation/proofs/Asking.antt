@@ -24,7 +24,7 @@ use Rattle.validation_laws.specs.Parts.{IsRising, live_of}
 use Rattle.grid_index.specs.declared.placed.Placed.{Placed}
 use Rattle.grid_index.specs.Steps.{most_steps}
 use Rattle.grid_plane.specs.Rectangles.{IsJoin}
-use Rattle.validation.specs.Asked.{dirty_parts, places_of, places_in, IsRound, IsClose, asked_steps, judged_envelopes, IsAskedOf, IsAskedFor}
+use Rattle.validation.specs.Asked.{dirty_parts, places_of, places_in, IsRound, IsClose, asked_steps, view_steps, viewed_steps, judged_envelopes, IsAskedOf, IsAskedFor}
 use Rattle.validation.specs.Projects.{RuledFeatures}
 use Rattle.validation.specs.Parted.{RulePart, rules_of}
 use Rattle.validation.proofs.Dirtied.{front_more, every_moved}
@@ -161,32 +161,35 @@ pub steps_within : (s : ℕ) (rs : List Rectangle) (ps : List Placed) (i m a : �
 steps_within s rs ps i m a h = omega (arith, h, sum_by-take-le (λ (q : Rectangle). most_steps s q ps) rs i)
 
 -- ---- of the features that are judged
+one_viewed : (s : ℕ) (q : Rectangle) (ps : List Placed) → viewed_steps s (q ∷ []) ps ≡ view_steps s q ps
+one_viewed s q ps = omega (arith, sum_by-cons (λ (r : Rectangle). view_steps s r ps) q [])
+
 pub live_steps : (s : ℕ) (f : Feature) (parts : List RulePart) (ps : List Placed) (m n : ℕ)
-    → list_any (λ (p : RulePart). judged p.rule.row f) parts ≡ true → n ≤ m + most_steps s (env f) ps
-    → n ≤ m + asked_steps s (judged_envelopes (rules_of parts) (f ∷ [])) ps
+    → list_any (λ (p : RulePart). judged p.rule.row f) parts ≡ true → n ≤ m + view_steps s (env f) ps
+    → n ≤ m + viewed_steps s (judged_envelopes (rules_of parts) (f ∷ [])) ps
 live_steps s f parts ps m n t h =
     let on : list_any (λ (q : InForce). judged q.row f) (rules_of parts) ≡ true = any_rule (λ (q : InForce). judged q.row f) parts ∙ t in
-    rw on (omega (arith, h, one_asked s (env f) ps))
+    rw on (omega (arith, h, one_viewed s (env f) ps))
 
 judged_joined : (s : ℕ) (rules : List InForce) (fs gs : List Feature) (ps : List Placed)
-    → asked_steps s (judged_envelopes rules (fs ++ gs)) ps
-    ≡ asked_steps s (judged_envelopes rules fs) ps + asked_steps s (judged_envelopes rules gs) ps
+    → viewed_steps s (judged_envelopes rules (fs ++ gs)) ps
+    ≡ viewed_steps s (judged_envelopes rules fs) ps + viewed_steps s (judged_envelopes rules gs) ps
 judged_joined s rules fs gs ps =
     let test : Feature → Bool = λ (f : Feature). list_any (λ (q : InForce). judged q.row f) rules in
     let split : judged_envelopes rules (fs ++ gs) ≡ judged_envelopes rules fs ++ judged_envelopes rules gs =
     ap (map env) (filter-append test fs gs) ∙ map-append env (filter test fs) (filter test gs) in
-    rw split (sum_by-append (λ (q : Rectangle). most_steps s q ps) (judged_envelopes rules fs) (judged_envelopes rules gs))
+    rw split (sum_by-append (λ (q : Rectangle). view_steps s q ps) (judged_envelopes rules fs) (judged_envelopes rules gs))
 
 pub subject_steps : (s : ℕ) (rules : List InForce) (F : List Feature) (selected : List ℕ) (ps : List Placed) (i a m was new : ℕ)
-    → i < length selected → a ≡ get_or selected i a → was ≤ m + asked_steps s (judged_envelopes rules (live_of F (take i selected))) ps
-    → new ≤ was + asked_steps s (judged_envelopes rules (option_to_list (feature_at F a))) ps
-    → new ≤ m + asked_steps s (judged_envelopes rules (live_of F (take (i + 1) selected))) ps
+    → i < length selected → a ≡ get_or selected i a → was ≤ m + viewed_steps s (judged_envelopes rules (live_of F (take i selected))) ps
+    → new ≤ was + viewed_steps s (judged_envelopes rules (option_to_list (feature_at F a))) ps
+    → new ≤ m + viewed_steps s (judged_envelopes rules (live_of F (take (i + 1) selected))) ps
 subject_steps s rules F selected ps i a m was new l e h k = rw (live_more F selected i a (feature_at F a) l e refl)
     (omega (arith, h, k, judged_joined s rules (live_of F (take i selected)) (option_to_list (feature_at F a)) ps))
 
 pub subjects_within : (s : ℕ) (rules : List InForce) (F : List Feature) (selected : List ℕ) (ps : List Placed) (i m n : ℕ)
-    → n ≤ m + asked_steps s (judged_envelopes rules (live_of F (take i selected))) ps
-    → n ≤ m + asked_steps s (judged_envelopes rules (live_of F selected)) ps
+    → n ≤ m + viewed_steps s (judged_envelopes rules (live_of F (take i selected))) ps
+    → n ≤ m + viewed_steps s (judged_envelopes rules (live_of F selected)) ps
 subjects_within s rules F selected ps i m n h =
     let one : ℕ → List Feature = λ n. option_to_list (feature_at F n) in
     let whole : live_of F selected ≡ live_of F (take i selected) ++ live_of F (drop i selected) =
@@ -195,7 +198,7 @@ subjects_within s rules F selected ps i m n h =
 
 -- ---- of a validation
 pub asked_for : (r : RuledFeatures) (rs : List Rectangle) (fs : List Feature) (m n k : ℕ) → IsAskedOf rs r.placed m n
-    → ((s : ℕ) → k ≤ n + asked_steps s (judged_envelopes r.in_force fs) r.placed) → IsAskedFor r rs fs m k
+    → ((s : ℕ) → k ≤ n + viewed_steps s (judged_envelopes r.in_force fs) r.placed) → IsAskedFor r rs fs m k
 asked_for r rs fs m n k h more = record {
   about = h.about;
   asked = h.asked;
@@ -214,7 +217,7 @@ asked_met d met w ps m n e h = subst (λ rs. IsAskedOf rs ps m n) (ap (λ c. dir
 pub asked_selected : (r : RuledFeatures) (rs : List Rectangle) (w : Rectangle) (p : Project) (selected : List ℕ) (m n k : ℕ)
     → IsAscending r.features → IsRising selected → ((a : ℕ) → Contains selected a ↔ IsSelected p w a)
     → IsAskedOf rs r.placed m n
-    → ((s : ℕ) → k ≤ n + asked_steps s (judged_envelopes r.in_force (live_of r.features selected)) r.placed)
+    → ((s : ℕ) → k ≤ n + viewed_steps s (judged_envelopes r.in_force (live_of r.features selected)) r.placed)
     → (fs : List Feature) → IsThose (λ (f : Feature). IsSelected p w f.handle) r.features fs → IsAskedFor r rs fs m k
 asked_selected r rs w p selected m n k u v chosen h more fs those =
     let one = those_one (λ (f : Feature). IsSelected p w f.handle) r.features (live_of r.features selected) fs

@@ -7,9 +7,11 @@
 -- IsClose j rs           rs are more than 64, or fill half of j
 -- AreAsked rs qs         to learn what meets one of rs, qs are asked about: rs themselves, or the least rectangle round them, if they are close
 -- asked_steps s qs ps    the most steps of a question about each of qs in an index with the placed rectangles ps, whichever length s is
+-- view_steps s q ps      the most steps to see what is near q: those of a question about it, and one to learn how far the whole reaches
+-- viewed_steps s qs ps   the most steps to see what is near each of qs
 -- judged_envelopes rules fs    the envelopes of those of the features fs that one of the rules judges
 -- IsAskedOf rs ps m n    from the count m to n there are no more steps than to learn what of ps meets one of rs
--- IsAskedFor r rs fs m n the same, and what lies near each of the features fs that one of the rules judges: of the rules and placed rectangles of r
+-- IsAskedFor r rs fs m n the same, and to see what is near each of the features fs that one of the rules judges: of the rules and placed rectangles of r
 use Rattle.std.specs.Prelude.{◌≡◌, ◌⊎◌, ◌<◌, ◌≤◌, ◌+◌, ◌*◌, ◌/◌, ℕ, ◌-ℤ◌, unsigned_abs, List, [], ◌∷◌, map, filter, length}
 use Rattle.std.specs.List.{list_any, sum_by}
 use Rattle.plane_terms.specs.Lists.{Every}
@@ -43,6 +45,12 @@ AreAsked rs qs = (qs ≡ rs) ⊎ ((j : Rectangle) × IsRound j rs × IsClose j r
 abbrev pub asked_steps : ℕ → List Rectangle → List Placed → ℕ
 asked_steps s qs ps = sum_by (λ (q : Rectangle). most_steps s q ps) qs
 
+abbrev pub view_steps : ℕ → Rectangle → List Placed → ℕ
+view_steps s q ps = most_steps s q ps + 1
+
+abbrev pub viewed_steps : ℕ → List Rectangle → List Placed → ℕ
+viewed_steps s qs ps = sum_by (λ (q : Rectangle). view_steps s q ps) qs
+
 abbrev pub judged_envelopes : List InForce → List Feature → List Rectangle
 judged_envelopes rules fs = map env (filter (λ (f : Feature). list_any (λ (q : InForce). judged q.row f) rules) fs)
 
@@ -54,4 +62,4 @@ pub record IsAskedOf (rs : List Rectangle) (ps : List Placed) (m n : ℕ) : Type
 pub record IsAskedFor (r : RuledFeatures) (rs : List Rectangle) (fs : List Feature) (m n : ℕ) : Type 0 where
   pub about : List Rectangle
   pub asked : AreAsked rs about
-  pub steps : (s : ℕ) → n ≤ m + (asked_steps s about r.placed + asked_steps s (judged_envelopes r.in_force fs) r.placed)
+  pub steps : (s : ℕ) → n ≤ m + (asked_steps s about r.placed + viewed_steps s (judged_envelopes r.in_force fs) r.placed)

@@ -113,7 +113,7 @@ fn close_join(rects: &[Rect]) -> Option<Rect>
 // The handles of the placed rectangles that meet one of these, one after another: a handle may come twice.
 fn near_each<M: Meter>(
     alloc: Global,
-    index: &Index,
+    index: &Index<M>,
     rects: &[Rect],
     meter: &mut M,
 ) -> Result<Vec<u32>, NoMemory>
@@ -123,7 +123,7 @@ fn near_each<M: Meter>(
 {
     let mut found = Vec::new(alloc);
     for r in rects {
-        let near = index.query_counted(alloc, r, meter)?;
+        let near = index.query(alloc, r, meter)?;
         put_behind(&mut found, near)?;
     }
     Ok(found)
@@ -152,7 +152,7 @@ impl DirtyParts {
     pub fn near<M: Meter>(
         &self,
         alloc: Global,
-        index: &Index,
+        index: &Index<M>,
         meter: &mut M,
     ) -> Result<Vec<u32>, NoMemory>
         ensures near { IfOk result (λ v. HasNear v.items index.now self.now) }
@@ -161,7 +161,7 @@ impl DirtyParts {
     {
         let parts = self.parts.rects();
         match close_join(parts) {
-            Some(joined) => index.query_counted(alloc, &joined, meter),
+            Some(joined) => index.query(alloc, &joined, meter),
             None => near_each(alloc, index, parts, meter),
         }
     }

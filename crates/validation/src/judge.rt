@@ -78,7 +78,7 @@ pub(crate) fn judge_shown<R: RuleSet>(
     ensures stopped { OnErr result (work.new.judged ≤ raised work.old.judged (how_many (judged rule.now.row) (f.now ∷ []))) }
 {
     f.shape().env().corner_law();
-    if !rule.row.judges(f.class()) {
+    if !rule.row.judges(f.class(), f.subtype()) {
         return Ok(());
     }
     let findings = rules.judge_row(alloc, &rule.row, view, f.handle(), work)?;

@@ -17,4 +17,4 @@ mod window;
 pub use near::FeatureIndex;
 pub use parts::{RulePart, judge_subject};
 pub use ruled::RuledFeatures;
-pub use window::{validate, validate_counted};
+pub use window::validate_counted;

@@ -7,6 +7,7 @@ ghost use Rattle.topology_terms.specs.Together.{ends};
 ghost use Rattle.validation_laws.specs.Parts.{live_of};
 ghost use Rattle.validation_laws.specs.Views.{IsView, counts_at, has_enough, open_of};
 ghost use Rattle.grid_index.specs.Steps.{most_steps};
+ghost use Rattle.validation.specs.Asked.{view_steps};
 ghost use Rattle.validation.specs.Ends.{AreAtEnds};
 ghost use Rattle.validation.specs.Placed.{ArePlaced};
 
@@ -22,12 +23,12 @@ use std::marker::Model;
 
 /// Features in the order of handles, and an index in which each of them stands.
 #[derive(Drop)]
-pub struct FeatureIndex<'a> {
+pub struct FeatureIndex<'a, M: Meter> {
     features: &'a Features<'a>,
-    index: &'a Index,
+    index: &'a Index<M>,
 }
 
-impl<'a> Model for FeatureIndex<'a> {
+impl<'a, M: Meter> Model for FeatureIndex<'a, M> {
     ghost use Rattle.validation.specs.Placed.{ArePlaced};
     ghost use Rattle.validation.specs.Projects.{IndexedFeatures};
 
@@ -89,9 +90,9 @@ fn view_among<'a, A: Aim>(
     Ok(view)
 }
 
-impl<'a> FeatureIndex<'a> {
+impl<'a, M: Meter> FeatureIndex<'a, M> {
     /// These features, each of which stands in the index.
-    pub fn of(features: &'a Features<'a>, index: &'a Index) -> FeatureIndex<'a>
+    pub fn of(features: &'a Features<'a>, index: &'a Index<M>) -> FeatureIndex<'a, M>
         requires { ArePlaced index.now features.now }
         ensures { result ≡ record { features = features.now; placed = index.now } }
     {
@@ -106,10 +107,13 @@ impl<'a> FeatureIndex<'a> {
         self.features.get(handle)
     }
 
-    // Whether many features may lie near this one.
-    fn is_amid_many(&self, f: &Feature) -> bool {
+    // Whether many features may lie near this one. It takes one step at most.
+    fn is_amid_many(&self, f: &Feature, meter: &mut M) -> bool
+        ensures rises { M.taken meter.old ≤ M.taken meter.new }
+        ensures steps { M.taken meter.new ≤ M.taken meter.old + 1 }
+    {
         let count = self.features.slots().len() as u64;
-        match self.index.reach() {
+        match self.index.reach(meter) {
             Some(whole) => is_crowded(&f.shape().env(), &whole, count),
             None => false,
         }
@@ -117,7 +121,7 @@ impl<'a> FeatureIndex<'a> {
 
     // The features whose envelope the aim touches. Their handles are put in place of those of the list, which saves its room. The meter
     // counts the steps in the index.
-    fn view_about<A: Aim, M: Meter>(
+    fn view_about<A: Aim>(
         &self,
         alloc: Global,
         aim: &A,
@@ -137,7 +141,7 @@ impl<'a> FeatureIndex<'a> {
 
     /// The features whose envelope meets the subject's. Looks only at those that the index gives for it, and puts their handles in
     /// place of those of the list. The meter counts the steps in the index.
-    pub fn view_of<M: Meter>(
+    pub fn view_of(
         &self,
         alloc: Global,
         f: &Feature,
@@ -153,7 +157,7 @@ impl<'a> FeatureIndex<'a> {
     }
 
     // The features whose envelope holds an end of the line, which has some. The bound of its steps in the index is that for its envelope.
-    fn view_at_ends<M: Meter>(
+    fn view_at_ends(
         &self,
         alloc: Global,
         f: &Feature,
@@ -171,8 +175,9 @@ impl<'a> FeatureIndex<'a> {
     }
 
     /// What lies near the line, or, where much may lie near it, only what is at its ends, of which it has some. Looks only at what the
-    /// index gives for its envelope or its ends. The meter counts the steps in the index.
-    pub(crate) fn view_near_or_at_ends<M: Meter>(
+    /// index gives for its envelope or its ends. The meter counts the steps in the index: those of a
+    /// question about its envelope, and one to learn whether much may lie near it.
+    pub(crate) fn view_near_or_at_ends(
         &self,
         alloc: Global,
         f: &Feature,
@@ -184,9 +189,9 @@ impl<'a> FeatureIndex<'a> {
         requires ends { 0 < length (ends f.now) }
         ensures view { IfOk result (λ v. IsView self.now.features f.now v ⊎ AreAtEnds self.now.features f.now [] (ends f.now) v) }
         ensures rises { M.taken meter.old ≤ M.taken meter.new }
-        ensures steps { (s : ℕ) → M.taken meter.new ≤ M.taken meter.old + most_steps s (env f.now) self.now.placed }
+        ensures steps { (s : ℕ) → M.taken meter.new ≤ M.taken meter.old + view_steps s (env f.now) self.now.placed }
     {
-        if self.is_amid_many(f) {
+        if self.is_amid_many(f, meter) {
             self.view_at_ends(alloc, f, found, meter)
         } else {
             self.view_of(alloc, f, found, meter)
@@ -196,7 +201,7 @@ impl<'a> FeatureIndex<'a> {
     /// The line, and of the features whose envelope holds an end of it those of the known handles and all that are at an open end: the
     /// first and the last of two, as these say. The handles that are looked at are put with the known ones. The bound of its steps in the
     /// index is that for its envelope.
-    pub(crate) fn view_at_open_ends<M: Meter>(
+    pub(crate) fn view_at_open_ends(
         &self,
         alloc: Global,
         f: &Feature,

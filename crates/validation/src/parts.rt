@@ -9,7 +9,7 @@ ghost use Rattle.topology_terms.specs.Project as projects;
 ghost use Rattle.topology_terms.specs.Counts.{raised, judged_of};
 ghost use Rattle.validation_laws.specs.Parts.{IsJudging, live_of};
 ghost use Rattle.validation_laws.specs.Views.{IsView};
-ghost use Rattle.validation.specs.Asked.{asked_steps, judged_envelopes};
+ghost use Rattle.validation.specs.Asked.{viewed_steps, judged_envelopes};
 ghost use Rattle.validation.specs.Ends.{looks_beyond};
 ghost use Rattle.validation.specs.Parted.{IsPartOf, IsGrown, AreGrown, IsDone, rules_of, entries_of};
 ghost use Rattle.validation.specs.Parted as terms;
@@ -19,7 +19,7 @@ use crate::lists::put_behind;
 use crate::near::FeatureIndex;
 use crate::shown::view_for;
 use error_store::Entry;
-use grid_index::{Meter, NoCount};
+use grid_index::Meter;
 use grid_plane::{Handles, NoMemory};
 use rule_core::{InForce, RuleRow, RuleSet, View, Work};
 use shape::Feature;
@@ -77,7 +77,7 @@ impl RulePart {
     pub(crate) fn judges(&self, f: &Feature) -> bool
         ensures { result ≡ judged self.now.rule.row f.now }
     {
-        self.rule.row.judges(f.class())
+        self.rule.row.judges(f.class(), f.subtype())
     }
 
     /// Whether the rule judges the feature by more than what is at its ends.
@@ -153,7 +153,7 @@ fn judge_live_by_each<R: RuleSet, M: Meter>(
     rules: &R,
     alloc: Global,
     parts: &mut [RulePart],
-    features: &FeatureIndex<'_>,
+    features: &FeatureIndex<'_, M>,
     f: &Feature,
     work: &mut Work,
     meter: &mut M,
@@ -165,7 +165,7 @@ fn judge_live_by_each<R: RuleSet, M: Meter>(
     ensures judged { OnOk result (work.new.judged ≡ raised work.old.judged (judged_of (rules_of parts.old) (f.now ∷ []))) }
     ensures stopped { OnErr result (work.new.judged ≤ raised work.old.judged (judged_of (rules_of parts.old) (f.now ∷ []))) }
     ensures rises { M.taken meter.old ≤ M.taken meter.new }
-    ensures steps { (s : ℕ) → M.taken meter.new ≤ M.taken meter.old + asked_steps s (judged_envelopes (rules_of parts.old) (f.now ∷ [])) features.now.placed }
+    ensures steps { (s : ℕ) → M.taken meter.new ≤ M.taken meter.old + viewed_steps s (judged_envelopes (rules_of parts.old) (f.now ∷ [])) features.now.placed }
 {
     if !judges_any(parts, f) {
         return Ok(());
@@ -179,7 +179,7 @@ fn judge_by_each<R: RuleSet, M: Meter>(
     rules: &R,
     alloc: Global,
     parts: &mut [RulePart],
-    features: &FeatureIndex<'_>,
+    features: &FeatureIndex<'_, M>,
     subject: u32,
     work: &mut Work,
     meter: &mut M,
@@ -190,7 +190,7 @@ fn judge_by_each<R: RuleSet, M: Meter>(
     ensures judged { OnOk result (work.new.judged ≡ raised work.old.judged (judged_of (rules_of parts.old) (option_to_list (feature_at features.now.features subject)))) }
     ensures stopped { OnErr result (work.new.judged ≤ raised work.old.judged (judged_of (rules_of parts.old) (option_to_list (feature_at features.now.features subject)))) }
     ensures rises { M.taken meter.old ≤ M.taken meter.new }
-    ensures steps { (s : ℕ) → M.taken meter.new ≤ M.taken meter.old + asked_steps s (judged_envelopes (rules_of parts.old) (option_to_list (feature_at features.now.features subject))) features.now.placed }
+    ensures steps { (s : ℕ) → M.taken meter.new ≤ M.taken meter.old + viewed_steps s (judged_envelopes (rules_of parts.old) (option_to_list (feature_at features.now.features subject))) features.now.placed }
 {
     match features.find(subject) {
         Some(f) => judge_live_by_each(rules, alloc, parts, features, f, work, meter),
@@ -199,24 +199,26 @@ fn judge_by_each<R: RuleSet, M: Meter>(
 }
 
 /// The new entries of the subject under each of these rules, in their order; where it is not live there are none. What lies near
-/// it is looked up once. The count of judgements rises by one for each rule that judges the subject, where it is live. After an
+/// it is looked up once; the meter counts the steps. The count of judgements rises by one for each rule that judges the subject, where it is live. After an
 /// `Err`, out of memory, it has risen by no more.
-pub fn judge_subject<R: RuleSet>(
+pub fn judge_subject<R: RuleSet, M: Meter>(
     rules: &R,
     alloc: Global,
     in_force: &[InForce],
-    features: &FeatureIndex<'_>,
+    features: &FeatureIndex<'_, M>,
     subject: u32,
     work: &mut Work,
+    meter: &mut M,
 ) -> Result<Vec<RulePart>, NoMemory>
     requires ascending { IsAscending features.now.features }
     requires fits { Every (λ (q : projects.InForce). R.meaning.Fits q.row features.now.features) in_force.now }
     ensures parts { IfOk result (λ v. Paired (IsPartOf R.meaning features.now.features subject) in_force.now v.items) }
     ensures judged { IfOk result (λ _. work.new.judged ≡ raised work.old.judged (judged_of in_force.now (option_to_list (feature_at features.now.features subject)))) }
     ensures stopped { OnErr result (work.new.judged ≤ raised work.old.judged (judged_of in_force.now (option_to_list (feature_at features.now.features subject)))) }
+    ensures rises { M.taken meter.old ≤ M.taken meter.new }
+    ensures steps { (s : ℕ) → M.taken meter.new ≤ M.taken meter.old + viewed_steps s (judged_envelopes in_force.now (option_to_list (feature_at features.now.features subject))) features.now.placed }
 {
     let mut parts = empty_parts(alloc, in_force)?;
-    let meter = &mut NoCount;
     judge_by_each(rules, alloc, &mut parts, features, subject, work, meter)?;
     Ok(parts)
 }
@@ -226,7 +228,7 @@ fn judge_selected<R: RuleSet, M: Meter>(
     rules: &R,
     alloc: Global,
     parts: &mut [RulePart],
-    features: &FeatureIndex<'_>,
+    features: &FeatureIndex<'_, M>,
     selected: &Handles,
     work: &mut Work,
     meter: &mut M,
@@ -239,7 +241,7 @@ fn judge_selected<R: RuleSet, M: Meter>(
     ensures judged { OnOk result (work.new.judged ≡ raised work.old.judged (judged_of (rules_of parts.old) (live_of features.now.features selected.now))) }
     ensures stopped { OnErr result (work.new.judged ≤ raised work.old.judged (judged_of (rules_of parts.old) (live_of features.now.features selected.now))) }
     ensures rises { M.taken meter.old ≤ M.taken meter.new }
-    ensures steps { (s : ℕ) → M.taken meter.new ≤ M.taken meter.old + asked_steps s (judged_envelopes (rules_of parts.old) (live_of features.now.features selected.now)) features.now.placed }
+    ensures steps { (s : ℕ) → M.taken meter.new ≤ M.taken meter.old + viewed_steps s (judged_envelopes (rules_of parts.old) (live_of features.now.features selected.now)) features.now.placed }
 {
     for i in 0..selected.len() {
         let subject = selected.at(i);
@@ -265,7 +267,7 @@ pub fn judge_all<R: RuleSet, M: Meter>(
     rules: &R,
     alloc: Global,
     in_force: &[InForce],
-    features: &FeatureIndex<'_>,
+    features: &FeatureIndex<'_, M>,
     selected: &Handles,
     work: &mut Work,
     meter: &mut M,
@@ -276,7 +278,7 @@ pub fn judge_all<R: RuleSet, M: Meter>(
     ensures judged { IfOk result (λ _. work.new.judged ≡ raised work.old.judged (judged_of in_force.now (live_of features.now.features selected.now))) }
     ensures stopped { OnErr result (work.new.judged ≤ raised work.old.judged (judged_of in_force.now (live_of features.now.features selected.now))) }
     ensures rises { M.taken meter.old ≤ M.taken meter.new }
-    ensures steps { (s : ℕ) → M.taken meter.new ≤ M.taken meter.old + asked_steps s (judged_envelopes in_force.now (live_of features.now.features selected.now)) features.now.placed }
+    ensures steps { (s : ℕ) → M.taken meter.new ≤ M.taken meter.old + viewed_steps s (judged_envelopes in_force.now (live_of features.now.features selected.now)) features.now.placed }
 {
     if selected.len() == 0 {
         return Ok(Vec::new(alloc));

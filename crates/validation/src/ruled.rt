@@ -5,7 +5,7 @@ ghost use Rattle.validation.specs.Placed.{ArePlaced};
 
 use crate::near::FeatureIndex;
 use feature_store::Features;
-use grid_index::Index;
+use grid_index::{Index, Meter};
 use rule_core::InForce;
 use std::alloc::Global;
 use std::marker::Model;
@@ -14,15 +14,15 @@ use std::marker::Model;
 /// order of their numbers, features in the order of their handles, and an index in which each of them stands. Other pairs that
 /// stand in the index change nothing.
 #[derive(Drop)]
-pub struct RuledFeatures<'a, R> {
+pub struct RuledFeatures<'a, R, M: Meter> {
     pub(crate) alloc: Global,
     pub(crate) rules: &'a R,
     in_force: &'a [InForce],
     features: &'a Features<'a>,
-    index: &'a Index,
+    index: &'a Index<M>,
 }
 
-impl<'a, R> Model for RuledFeatures<'a, R> {
+impl<'a, R, M: Meter> Model for RuledFeatures<'a, R, M> {
     ghost use Rattle.topology_terms.specs.Feature.{IsAscending};
     ghost use Rattle.topology_terms.specs.Project.{AreAscending};
     ghost use Rattle.validation.specs.Placed.{ArePlaced};
@@ -35,15 +35,15 @@ impl<'a, R> Model for RuledFeatures<'a, R> {
     ghost invariant = { λ x. AreAscending x.in_force.now × IsAscending x.features.now × ArePlaced x.index.now x.features.now };
 }
 
-impl<'a, R> RuledFeatures<'a, R> {
+impl<'a, R, M: Meter> RuledFeatures<'a, R, M> {
     /// These rules and these features, each of which stands in the index.
     pub fn of(
         alloc: Global,
         rules: &'a R,
         in_force: &'a [InForce],
         features: &'a Features<'a>,
-        index: &'a Index,
-    ) -> RuledFeatures<'a, R>
+        index: &'a Index<M>,
+    ) -> RuledFeatures<'a, R, M>
         requires rules { AreAscending in_force.now }
         requires features { IsAscending features.now }
         requires placed { ArePlaced index.now features.now }
@@ -73,7 +73,7 @@ impl<'a, R> RuledFeatures<'a, R> {
     }
 
     /// The index in which each feature stands.
-    pub(crate) fn index(&self) -> &'a Index
+    pub(crate) fn index(&self) -> &'a Index<M>
         ensures value { result.now ≡ self.now.placed }
         ensures placed { ArePlaced result.now self.now.features }
     {
@@ -81,7 +81,7 @@ impl<'a, R> RuledFeatures<'a, R> {
     }
 
     /// The features with their index.
-    pub(crate) fn indexed(&self) -> FeatureIndex<'a>
+    pub(crate) fn indexed(&self) -> FeatureIndex<'a, M>
         ensures { result ≡ record { features = self.now.features; placed = self.now.placed } }
     {
         FeatureIndex::of(self.features, self.index)

@@ -20,6 +20,7 @@ use feature_store::Features;
 use grid_index::{Index, Meter, once_each};
 use grid_plane::{Handles, NoMemory, Rect};
 use std::alloc::Global;
+use step_count::Count;
 
 fn push_if(found: &mut Vec<u32>, test: bool, handle: u32) -> Result<(), NoMemory>
     ensures { OnOk result (found.new.items ≡ found.old.items ++ (if test then handle ∷ [] else [])) }
@@ -87,7 +88,7 @@ fn add_subjects(runs: &[&[Entry]], dirty: &DirtyParts, found: &mut Vec<u32>) -> 
 fn near_of<M: Meter>(
     alloc: Global,
     dirty: &DirtyParts,
-    index: &Index,
+    index: &Index<M>,
     meter: &mut M,
 ) -> Result<Vec<u32>, NoMemory>
     ensures rising { IfOk result (λ v. IsStrictlyIncreasing v.items) }
@@ -103,19 +104,19 @@ fn near_of<M: Meter>(
 /// The handles that the window and the dirt select: of live features by their envelope, and of subjects of errors by the
 /// error's frame. Of the dirt it takes the rectangles that meet the window. It looks only at those features and errors that the
 /// indexes give. The first meter counts the steps in that of the features, and the second those in that of the errors' frames.
-pub fn select<R, M: Meter, N: Meter>(
-    ruled: &RuledFeatures<'_, R>,
+pub fn select<R, M: Meter>(
+    ruled: &RuledFeatures<'_, R, M>,
     errors: &Errors,
     met: &[Rect],
     window: &Rect,
     feature_meter: &mut M,
-    error_meter: &mut N,
+    error_meter: &mut Count,
 ) -> Result<Handles, NoMemory>
     ensures rising { IfOk result IsRising }
     ensures chosen { IfOk result (λ s. (p : Project) → p.features ≡ ruled.now.features → met.now ≡ filter (λ r. rects_meet r window.now) p.dirt → p.entries ≡ errors.now → (a : ℕ) → Contains s a ↔ IsSelected p window.now a) }
     ensures asked { IsAskedOf (dirty_parts met.now window.now) ruled.now.placed (M.taken feature_meter.old) (M.taken feature_meter.new) }
     ensures rises { M.taken feature_meter.old ≤ M.taken feature_meter.new }
-    ensures error_rises { N.taken error_meter.old ≤ N.taken error_meter.new }
+    ensures error_rises { error_meter.old ≤ error_meter.new }
 {
     let alloc = ruled.alloc;
     let dirty = DirtyParts::of(alloc, met, window)?;

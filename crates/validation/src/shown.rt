@@ -5,6 +5,7 @@ ghost use Rattle.topology_terms.specs.Feature.{feature_at, env, IsAscending};
 ghost use Rattle.topology_terms.specs.Together.{ends};
 ghost use Rattle.validation_laws.specs.Parts.{live_of};
 ghost use Rattle.grid_index.specs.Steps.{most_steps};
+ghost use Rattle.validation.specs.Asked.{view_steps};
 ghost use Rattle.validation.specs.Ends.{lacks_at, looks_beyond, shows_at_ends, IsShownFor};
 ghost use Rattle.validation.specs.Parted.{rules_of};
 ghost use Rattle.validation.specs.Parted as terms;
@@ -51,9 +52,9 @@ fn known_at_ends(alloc: Global, f: &Feature, work: &mut Work) -> Result<Vec<u32>
 }
 
 // Whether a rule that judges the subject has not enough of the features of these handles at the place.
-fn is_open(
+fn is_open<M: Meter>(
     parts: &[RulePart],
-    features: &FeatureIndex<'_>,
+    features: &FeatureIndex<'_, M>,
     handles: &[u32],
     f: &Feature,
     place: GridPoint,
@@ -61,14 +62,18 @@ fn is_open(
     requires { IsAscending features.now.features }
     ensures { result ≡ list_any (λ (p : terms.RulePart). lacks_at f.now (live_of features.now.features handles.now) place p.rule) parts.now }
 {
-    parts.iter().any(|p| p.judges(f) && !features.are_enough(p.row(), handles, place))
+    parts.iter().any(
+        |p|
+            requires { IsAscending features.now.features }
+        { p.judges(f) && !features.are_enough(p.row(), handles, place) },
+    )
 }
 
 // What is at the ends of the line, where these handles are known there: of an end at which they are enough for each rule no more.
 fn view_beside<'a, M: Meter>(
     alloc: Global,
     parts: &[RulePart],
-    features: &FeatureIndex<'a>,
+    features: &FeatureIndex<'a, M>,
     f: &Feature,
     known: &mut Vec<u32>,
     meter: &mut M,
@@ -150,7 +155,7 @@ fn keep_junctions(
 pub(crate) fn view_for<'a, M: Meter>(
     alloc: Global,
     parts: &[RulePart],
-    features: &FeatureIndex<'a>,
+    features: &FeatureIndex<'a, M>,
     f: &Feature,
     work: &mut Work,
     meter: &mut M,
@@ -160,7 +165,7 @@ pub(crate) fn view_for<'a, M: Meter>(
     ensures view { IfOk result (λ v. IsShownFor (rules_of parts.now) features.now.features f.now v) }
     ensures uncounted { work.new.judged ≡ work.old.judged }
     ensures rises { M.taken meter.old ≤ M.taken meter.new }
-    ensures steps { (s : ℕ) → M.taken meter.new ≤ M.taken meter.old + most_steps s (env f.now) features.now.placed }
+    ensures steps { (s : ℕ) → M.taken meter.new ≤ M.taken meter.old + view_steps s (env f.now) features.now.placed }
 {
     if !is_shown_at_ends(parts, f) {
         let mut found = work.take_handles(alloc);

@@ -1,7 +1,7 @@
 -- Endpoint Must Be Covered By (line, point)
 --
 -- Source: the topology rules poster, for its name; the sentence is our own.
--- Broken by a at p, without a partner: p is an end of a, and no point of the second class is at p.
+-- Broken by a at p, without a partner: p is an end of a, and no point of the second side is at p.
 use Rattle.std.specs.Prelude.{◌≡◌, ℕ, List}
 use Rattle.plane_terms.specs.Point.{Point, IsAt}
 use Rattle.plane_terms.specs.Line.{IsEnd}

@@ -1,7 +1,7 @@
 -- Must Not Have Dangles (line)
 --
 -- Source: the topology rules poster, for its name; the sentence is our own.
--- Broken by a at p, without a partner: p is an end of a, and of all segments of all lines of the class just one holds p. That one is
+-- Broken by a at p, without a partner: p is an end of a, and of all segments of all lines of the side just one holds p. That one is
 -- a's own. A closed part does not dangle: its first and its last segment both hold its end.
 use Rattle.std.specs.Prelude.{◌≡◌, ℕ, List}
 use Rattle.plane_terms.specs.Lists.{AreMany}

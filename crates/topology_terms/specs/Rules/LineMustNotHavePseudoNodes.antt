@@ -1,7 +1,7 @@
 -- Must Not Have Pseudo Nodes (line)
 --
 -- Source: the topology rules poster, for its name; the sentence is our own.
--- Broken by a at p, without a partner: p is an end of a, and of all lines of the class just two ends are at p and just two segments
+-- Broken by a at p, without a partner: p is an end of a, and of all lines of the side just two ends are at p and just two segments
 -- hold it. Ends are counted with repeats, so a closed part that meets nothing else has a pseudo node. Where a line
 -- passes through p, more segments hold p, and it is no pseudo node.
 use Rattle.std.specs.Prelude.{◌≡◌, ℕ, List}

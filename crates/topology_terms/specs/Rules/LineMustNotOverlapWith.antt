@@ -1,7 +1,7 @@
 -- Must Not Overlap With (line, line)
 --
 -- Source: the topology rules poster, for its name; the sentence is our own.
--- Broken by a at p with b of the second class: a segment of a and one of b overlap, and both hold p. Lines that cross or touch in a
+-- Broken by a at p with b of the second side: a segment of a and one of b overlap, and both hold p. Lines that cross or touch in a
 -- single point do not overlap there; the ends of a stretch in common belong to it.
 use Rattle.std.specs.Prelude.{ℕ, List}
 use Rattle.plane_terms.specs.Lists.{SomeOf}

@@ -1,7 +1,7 @@
 -- Must Be Covered By Line (point, line)
 --
 -- Source: the topology rules poster, for its name; the sentence is our own.
--- Broken by a at p, without a partner: a is at p, and p is on no line of the second class.
+-- Broken by a at p, without a partner: a is at p, and p is on no line of the second side.
 use Rattle.std.specs.Prelude.{◌≡◌, ℕ, List}
 use Rattle.plane_terms.specs.Point.{Point, IsAt}
 use Rattle.plane_terms.specs.Line.{OnLine}

@@ -1,7 +1,7 @@
 -- Must Be Properly Inside (point, polygon)
 --
 -- Source: the topology rules poster, for its name; the sentence is our own.
--- Broken by a at p, without a partner: a is at p, and p is inside no polygon of the second class. On a boundary is not inside.
+-- Broken by a at p, without a partner: a is at p, and p is inside no polygon of the second side. On a boundary is not inside.
 use Rattle.std.specs.Prelude.{◌≡◌, ℕ, List}
 use Rattle.plane_terms.specs.Point.{Point, IsAt}
 use Rattle.plane_terms.specs.Polygon.{IsInside}

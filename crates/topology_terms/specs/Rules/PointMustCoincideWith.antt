@@ -1,7 +1,7 @@
 -- Must Coincide With (point, point)
 --
 -- Source: the topology rules poster, for its name; the sentence is our own.
--- Broken by a at p, without a partner: a is at p, and no point of the second class is.
+-- Broken by a at p, without a partner: a is at p, and no point of the second side is.
 use Rattle.std.specs.Prelude.{◌≡◌, ℕ, List}
 use Rattle.plane_terms.specs.Point.{Point, IsAt}
 use Rattle.topology_terms.specs.Feature.{Feature, Side, IsOf, NoneOf, place}

@@ -1,7 +1,7 @@
 -- Area Boundary Must Be Covered By Boundary Of (polygon, polygon)
 --
 -- Source: the topology rules poster, for its name; the sentence is our own.
--- Broken by a at p, without a partner: p is on a's boundary and on the boundary of no polygon of the second class.
+-- Broken by a at p, without a partner: p is on a's boundary and on the boundary of no polygon of the second side.
 use Rattle.std.specs.Prelude.{◌≡◌, ℕ, List}
 use Rattle.plane_terms.specs.Point.{Point}
 use Rattle.plane_terms.specs.Polygon.{OnBoundary}

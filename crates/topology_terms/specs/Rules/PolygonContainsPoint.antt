@@ -1,7 +1,7 @@
 -- Contains Point (polygon, point)
 --
 -- Source: the topology rules poster, for its name; the sentence is our own.
--- Broken by a as a whole: no point of the second class is inside a. One on a's boundary is not inside.
+-- Broken by a as a whole: no point of the second side is inside a. One on a's boundary is not inside.
 use Rattle.std.specs.Prelude.{ℕ, List}
 use Rattle.plane_terms.specs.Point.{Point, IsAt}
 use Rattle.plane_terms.specs.Polygon.{IsInside}

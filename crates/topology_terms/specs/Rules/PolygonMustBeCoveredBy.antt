@@ -1,8 +1,8 @@
 -- Must Be Covered By (polygon, polygon)
 --
 -- Source: the topology rules poster, for its name; the sentence is our own.
--- Broken by a as a whole: no polygon of the second class alone holds, inside or on its boundary, each point that is inside a or on
--- a's boundary. Where there is none of that class, a is not covered.
+-- Broken by a as a whole: no polygon of the second side alone holds, inside or on its boundary, each point that is inside a or on
+-- a's boundary. Where there is none of that side, a is not covered.
 use Rattle.std.specs.Prelude.{ℕ, List}
 use Rattle.plane_terms.specs.Point.{Point}
 use Rattle.plane_terms.specs.Polygon.{IsInClosure}

@@ -1,8 +1,8 @@
 -- Must Be Covered By Feature Class Of (polygon, polygon)
 --
 -- Source: the topology rules poster, for its name; the sentence is our own.
--- Broken by a at p, without a partner: p is inside a, and neither inside nor on the boundary of any polygon of the second class.
--- Where two of that class have an edge in common, the edge is covered.
+-- Broken by a at p, without a partner: p is inside a, and neither inside nor on the boundary of any polygon of the second side.
+-- Where two of that side have an edge in common, the edge is covered.
 use Rattle.std.specs.Prelude.{◌≡◌, ℕ, List}
 use Rattle.plane_terms.specs.Point.{Point}
 use Rattle.plane_terms.specs.Polygon.{IsInside, IsInClosure}

@@ -1,14 +1,14 @@
 -- Must Cover Each Other (polygon, polygon)
 --
 -- Source: the topology rules poster, for its name; the sentence is our own.
--- Broken by a at p, without a partner: a is of either class, p is inside a, and neither inside nor on the boundary of any polygon of
--- the other class. Both classes are judged.
+-- Broken by a at p, without a partner: a is on either side, p is inside a, and neither inside nor on the boundary of any polygon of
+-- the other side. Both sides are judged.
 use Rattle.std.specs.Prelude.{◌≡◌, ◌⊎◌, ℕ, List, Some, if◌then◌else◌}
 use Rattle.plane_terms.specs.Point.{Point}
 use Rattle.plane_terms.specs.Polygon.{IsInside, IsInClosure}
 use Rattle.topology_terms.specs.Feature.{Feature, Side, IsOnSide, is_on_side, NoneOf, feature_at, sides}
 
--- the class that f is not of
+-- the side that f is not on
 abbrev pub other_side : Side → Side → Feature → Side
 other_side A B f = if is_on_side A f then B else A
 

@@ -2,7 +2,7 @@
 --
 -- Source: the topology rules poster, for its name; the sentence is our own.
 -- Broken by a at p, without a partner: p is on a's boundary, and as near to p as one likes there is open ground, a point that is
--- neither inside nor on the boundary of any polygon of the class. So the outer boundary of the class is broken too.
+-- neither inside nor on the boundary of any polygon of the side. So the outer boundary of the side is broken too.
 use Rattle.std.specs.Prelude.{◌≡◌, ℕ, ◌≤◌, List}
 use Rattle.plane_terms.specs.Point.{Point, IsNear}
 use Rattle.plane_terms.specs.Polygon.{OnBoundary, IsInClosure}

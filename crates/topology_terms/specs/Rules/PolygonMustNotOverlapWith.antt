@@ -1,7 +1,7 @@
 -- Must Not Overlap With (polygon, polygon)
 --
 -- Source: the topology rules poster, for its name; the sentence is our own.
--- Broken by a at p with b of the second class: p is inside both. Inside is open: a common edge is no overlap.
+-- Broken by a at p with b of the second side: p is inside both. Inside is open: a common edge is no overlap.
 use Rattle.std.specs.Prelude.{ℕ, List}
 use Rattle.plane_terms.specs.Point.{Point}
 use Rattle.plane_terms.specs.Polygon.{IsInside}

@@ -10,6 +10,6 @@ pub returns-then-lies_on_feature : goal.returns-then-lies_on_feature
 returns-then-lies_on_feature c =
     let s = c.args.segment.now in
     let g = c.feature-other.result.now in
-    none_of_held s c.args.class c.args.view.now c.loop-i.i g c.feature-other.ensures
-    (of_beside c.args.class s g c.if-lies_on_feature.ensures.beside) c.lo.ensures.valid.proper
+    none_of_held s c.args.side c.args.view.now c.loop-i.i g c.feature-other.ensures
+    (of_beside c.args.side s g c.if-lies_on_feature.ensures.beside) c.lo.ensures.valid.proper
     (subst (λ (h : Shape). Every IsSegment (segments_of h)) c.shape.ensures c.simple_law.ensures.proper) c.if-lies_on_feature.ensures.held

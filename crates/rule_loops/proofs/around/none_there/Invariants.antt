@@ -1,8 +1,8 @@
 use Rattle.std.proofs.Common.{◌≡◌, false, take}
-use Rattle.std.specs.Prelude.{◌==◌, ◌&&◌}
+use Rattle.std.specs.Prelude.{◌&&◌}
 use Rattle.std.specs.List.{list_any}
-use Rattle.topology_terms.specs.Feature.{Feature}
+use Rattle.topology_terms.specs.Feature.{Feature, is_on_side}
 use Rattle.rule_loops.proofs.around.none_there.Given as goal
 
 abbrev pub invariant-loop-i : goal.invariant-loop-i
-invariant-loop-i g l = list_any (λ (h : Feature). h.class == l.class && g.T.AtPlace.at h l.place) (take l.i l.view) ≡ false
+invariant-loop-i g l = list_any (λ (h : Feature). is_on_side l.side h && g.T.AtPlace.at h l.place) (take l.i l.view) ≡ false

@@ -12,13 +12,13 @@ pub push_cells-requires : goal.push_cells-requires
 push_cells-requires g c =
     rw (c.loop-i.invariant.found, c.handle.ensures)
     (found_below (g.C.Common.common c.args.common.now)
-    (later_of c.args.class c.args.subject.now) c.args.view.now c.loop-i.i c.feature-other.result.now c.requires c.feature-other.ensures)
+    (later_of c.args.side c.args.subject.now) c.args.view.now c.loop-i.i c.feature-other.result.now c.requires c.feature-other.ensures)
 
 pub loop-i-preserved : goal.loop-i-preserved
 loop-i-preserved g c =
     let h = c.feature-other.result.now in
     let cells : Feature → List Cell = g.C.Common.common c.args.common.now in
-    let test : Feature → Bool = later_of c.args.class c.args.subject.now in
+    let test : Feature → Bool = later_of c.args.side c.args.subject.now in
     let V = c.args.view.now in
     let i = c.loop-i.i in
     elim c.if-is_later.branch [

@@ -6,14 +6,14 @@ use Rattle.rule_loops.proofs.sides.carved_segment.Goals.{then-is_beside+in_ok-le
 use Rattle.rule_loops.proofs.sides.carved_segment.Goals as goal
 
 pub returns-then-len-eq0 : goal.returns-then-len-eq0
-returns-then-len-eq0 c = segment_none c.args.segment.now c.args.class c.args.view.now c.loop-i.i c.loop-i.left c.loop-i.invariant
+returns-then-len-eq0 c = segment_none c.args.segment.now c.args.side c.args.view.now c.loop-i.i c.loop-i.left c.loop-i.invariant
     (sym c.len.ensures ∙ c.if-len-eq0.true)
 
 pub loop-i-preserved : goal.loop-i-preserved
 loop-i-preserved c =
     let s = c.args.segment.now in
     let g = c.feature-other.result.now in
-    let n = c.args.class in
+    let n = c.args.side in
     let V = c.args.view.now in
     let i = c.loop-i.i in
     elim c.if-is_beside.branch [

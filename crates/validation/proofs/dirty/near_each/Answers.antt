@@ -8,23 +8,23 @@ pub loop-r-preserved : goal.loop-r-preserved
 loop-r-preserved g c = (
   near_more c.args.index.now c.args.rects.now c.loop-r.r-index c.r-item.result c.loop-r.found.items c.in_ok-near.near.items
       c.put_behind.new.out.items c.loop-r-test.true c.r-item.is c.loop-r.invariant.0 c.in_ok-near.ensures.near c.in_ok-put_behind.ensures,
-  omega (arith, c.loop-r.invariant.1, c.query_counted.ensures.rises),
+  omega (arith, c.loop-r.invariant.1, c.query.ensures.rises),
   λ s. steps_more s c.args.rects.now c.args.index.now c.loop-r.r-index c.r-item.result (g.M.Meter.taken c.args.meter.now)
-      (g.M.Meter.taken c.loop-r.meter) (g.M.Meter.taken c.query_counted.new.meter) c.loop-r-test.true c.r-item.is (c.loop-r.invariant.2 s)
-      (c.query_counted.ensures.steps s),
+      (g.M.Meter.taken c.loop-r.meter) (g.M.Meter.taken c.query.new.meter) c.loop-r-test.true c.r-item.is (c.loop-r.invariant.2 s)
+      (c.query.ensures.steps s),
 )
 
 pub returns-in_err-near-clause-steps : goal.returns-in_err-near-clause-steps
 returns-in_err-near-clause-steps g c s = steps_within s c.args.rects.now c.args.index.now (c.loop-r.r-index + 1) (g.M.Meter.taken c.args.meter.now)
-    (g.M.Meter.taken c.query_counted.new.meter) (steps_more s c.args.rects.now c.args.index.now c.loop-r.r-index c.r-item.result
-    (g.M.Meter.taken c.args.meter.now) (g.M.Meter.taken c.loop-r.meter) (g.M.Meter.taken c.query_counted.new.meter) c.loop-r-test.true
-    c.r-item.is (c.loop-r.invariant.2 s) (c.query_counted.ensures.steps s))
+    (g.M.Meter.taken c.query.new.meter) (steps_more s c.args.rects.now c.args.index.now c.loop-r.r-index c.r-item.result
+    (g.M.Meter.taken c.args.meter.now) (g.M.Meter.taken c.loop-r.meter) (g.M.Meter.taken c.query.new.meter) c.loop-r-test.true
+    c.r-item.is (c.loop-r.invariant.2 s) (c.query.ensures.steps s))
 
 pub returns-in_err-put_behind-clause-steps : goal.returns-in_err-put_behind-clause-steps
 returns-in_err-put_behind-clause-steps g c s = steps_within s c.args.rects.now c.args.index.now (c.loop-r.r-index + 1)
-    (g.M.Meter.taken c.args.meter.now) (g.M.Meter.taken c.query_counted.new.meter) (steps_more s c.args.rects.now c.args.index.now
+    (g.M.Meter.taken c.args.meter.now) (g.M.Meter.taken c.query.new.meter) (steps_more s c.args.rects.now c.args.index.now
     c.loop-r.r-index c.r-item.result (g.M.Meter.taken c.args.meter.now) (g.M.Meter.taken c.loop-r.meter)
-    (g.M.Meter.taken c.query_counted.new.meter) c.loop-r-test.true c.r-item.is (c.loop-r.invariant.2 s) (c.query_counted.ensures.steps s))
+    (g.M.Meter.taken c.query.new.meter) c.loop-r-test.true c.r-item.is (c.loop-r.invariant.2 s) (c.query.ensures.steps s))
 
 pub returns-clause-near : goal.returns-clause-near
 returns-clause-near g c = λ q k. rw (take_all c.loop-r.r-index c.args.rects.now c.loop-r-test.false) at (c.loop-r.invariant.0 q k)

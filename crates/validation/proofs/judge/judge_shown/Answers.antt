@@ -11,7 +11,7 @@ use Rattle.validation.proofs.judge.judge_shown.Goals as goal
 pub returns-then-not-judges-clause-part : goal.returns-then-not-judges-clause-part
 returns-then-not-judges-clause-part g c =
     let row = ap (λ (q : InForce). q.row) c.rule.view_is in
-    let t : judged c.args.rule.now.row c.args.f.now ≡ false = rw (← row) (sym (c.judges.ensures c.args.f.now (sym c.class.ensures))
+    let t : judged c.args.rule.now.row c.args.f.now ≡ false = rw (← row) (sym (c.judges.ensures c.args.f.now (sym c.class.ensures) (sym c.subtype.ensures))
     ∙ c.if-not-judges.true) in (
       [],
       sym (append-nil _),
@@ -25,7 +25,7 @@ judge_row-requires-clause-shown g c =
     record {
       subject = f;
       live = rw c.handle.ensures c.requires.live;
-      judged = sym (c.judges.ensures f (sym c.class.ensures)) ∙ c.if-not-judges.false;
+      judged = sym (c.judges.ensures f (sym c.class.ensures) (sym c.subtype.ensures)) ∙ c.if-not-judges.false;
       near = λ h x e. (c.requires.near.forth h x e).1;
       ascending = c.requires.near.ascending;
     }

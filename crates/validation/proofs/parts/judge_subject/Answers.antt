@@ -24,3 +24,11 @@ returns-clause-parts g c =
     ) in
     let all = written c.in_ok-parts.parts.len new c.in_ok-parts.parts.items same (omega (arith, c.in_ok-parts.parts.ok)) in
     rw all (parts_grown M F a c.args.in_force.now new (subst (λ ps. AreGrown M F a ps new) (was ∙ c.in_ok-parts.ensures) grown))
+
+pub returns-clause-steps : goal.returns-clause-steps
+returns-clause-steps g c =
+    rw (c.deref_mut.ensures.value, c.in_ok-parts.ensures, rules_empty c.args.in_force.now) at c.judge_by_each.ensures.steps
+
+pub returns-in_err-judge_by_each-clause-steps : goal.returns-in_err-judge_by_each-clause-steps
+returns-in_err-judge_by_each-clause-steps g c =
+    rw (c.deref_mut.ensures.value, c.in_ok-parts.ensures, rules_empty c.args.in_force.now) at c.judge_by_each.ensures.steps

@@ -1,13 +1,18 @@
-use Rattle.std.proofs.Common.{rules, sym}
+use Rattle.std.proofs.Common.{◌≡◌, ℕ, List, Some, rules, sym, ap, subst}
+use Rattle.line_terms.specs.Commands.{Sided}
+use Rattle.topology_terms.specs.Lookups.{class_number}
 use Rattle.command_answers.proofs.Replying.{kept_by, room_after, add_replied, add_kept}
 use Rattle.command_answers.proofs.SessionLines.{sound_seen, settled_seen}
 use Rattle.command_answers.proofs.world.World.answer_add.Goals as goal
 
 pub returns-clause-answers : goal.returns-clause-answers
 returns-clause-answers c =
+    let there = rw c.store.ensures.classes at (sym c.in-Some.ensures) in
+    let is = subst (λ (n : List ℕ). class_number c.self.inside.topology n ≡ Some c.in-Some.class) (ap (λ (a : Sided). a.name) c.own.view_is) there in
     rw (← c.self.view_is) (add_replied c.self.inside.topology c.add_noted.new.topology c.self.inside.sessions c.add_noted.new.sessions
-    c.args.editor.now c.args.class.now c.args.shape c.in-Some.class c.add_noted.result c.reply_to_add.result c.self.invariant
-    (search rules) (rw c.store.ensures.classes at (sym c.in-Some.ensures)) c.add_noted.ensures.ok c.add_noted.ensures.noted
+    c.args.editor.now c.args.own.now c.args.shape c.in-Some.class c.subtype_of-subtype.result c.add_noted.result c.reply_to_add.result
+    c.subtype_of-subtype.ensures c.self.invariant
+    (search rules) is c.add_noted.ensures.ok c.add_noted.ensures.noted
     c.add_noted.ensures.may c.add_noted.ensures.refused c.add_noted.ensures.err c.add_noted.ensures.room c.reply_to_add.ensures.said)
 
 pub returns-clause-err : goal.returns-clause-err
@@ -19,7 +24,7 @@ returns-clause-err c =
 pub invariant_of-self : goal.invariant_of-self
 invariant_of-self c =
     add_kept c.self.inside.topology c.add_noted.new.topology c.self.inside.sessions c.add_noted.new.sessions c.args.editor.now c.args.shape
-    c.in-Some.class c.add_noted.result c.topology_law.ensures.store c.self.invariant c.add_noted.ensures.ok c.add_noted.ensures.noted
+    c.in-Some.class c.subtype_of-subtype.result c.add_noted.result c.topology_law.ensures.store c.self.invariant c.add_noted.ensures.ok c.add_noted.ensures.noted
     c.add_noted.ensures.err c.add_noted.ensures.room
 
 pub returns-clause-sound : goal.returns-clause-sound

@@ -16,6 +16,7 @@ returns c =
     rw (← c.self.view_is) (ap (λ (es : List Entry). Ok
     (record {
       stage = i.stage;
+      typed = i.typed;
       project =
           record {
             classes = i.store.classes;

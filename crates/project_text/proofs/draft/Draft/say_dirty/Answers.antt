@@ -8,6 +8,7 @@ returns c =
     let i = c.self.inside in
     let d : Draft = record {
       stage = i.stage;
+      typed = i.typed;
       project =
           record {
             classes = i.store.classes;

@@ -2,6 +2,7 @@ use Rattle.std.proofs.Common.{subst, sym, refl}
 use Rattle.topology_terms.specs.Sound.{IsSoundUnder}
 use Rattle.topology_terms.specs.Settled.{IsSettledUnder}
 use Rattle.validation.specs.Placed.{ArePlaced}
+use Rattle.topo_core.specs.Topologies.{AreLive}
 use Rattle.topo_core.proofs.Whole.{ordered}
 use Rattle.topo_core.proofs.Kept.{class_keeps, class_sound, class_settled}
 use Rattle.topo_core.proofs.topology.Topology.add_class.Goals as goal
@@ -19,6 +20,7 @@ invariant_of-self-2 g c = record {
         entries = refl;
       }) c.store_law.ensures;
   placed = subst (ArePlaced c.self.inside.index) (sym c.add_class.ensures.features) c.self.invariant.placed;
+  live = subst (AreLive c.self.inside.index) (sym c.add_class.ensures.features) c.self.invariant.live;
 }
 
 pub returns-clause-sound : goal.returns-clause-sound

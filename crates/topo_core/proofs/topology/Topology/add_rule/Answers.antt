@@ -16,6 +16,7 @@ invariant_of-self-2 g c =
           (rw c.reserve.ensures.items at c.put_rule.ensures) c.self.invariant.topology (no_cause_fits _ c.args.row c.in_ok-fit.ensures.ok)
           (rw c.deref.ensures.value at c.in_default.ensures);
       placed = c.self.invariant.placed;
+      live = c.self.invariant.live;
     }
 
 pub returns-clause-ok : goal.returns-clause-ok

@@ -13,8 +13,8 @@ swap-requires-clause-given g c = subst (λ (q : Project). c.args.handle < q.next
     (live_given _ c.self.invariant.topology c.args.handle c.in-Some.feature.now c.in-Some.ensures).1
 
 pub swap-requires-clause-fits : goal.swap-requires-clause-fits
-swap-requires-clause-fits g c = subst (λ (q : Project). IsOfClass q.classes c.new.result) c.self.view_is
-    (rw c.new.ensures (other_shape _ c.self.invariant.topology c.args.handle c.class-class.result c.in-Some.feature.now c.args.shape
+swap-requires-clause-fits g c = subst (λ (q : Project). IsOfClass q.classes c.typed.result) c.self.view_is
+    (rw c.typed.ensures (other_shape _ c.self.invariant.topology c.args.handle c.class-class.result c.subtype-subtype.result c.in-Some.feature.now c.args.shape
     c.in-Some.ensures c.class-class.ensures (c.has_other_kind.ensures.same c.if-has_other_kind.false)))
 
 pub returns-then-has_other_kind-clause-ordered : goal.returns-then-has_other_kind-clause-ordered

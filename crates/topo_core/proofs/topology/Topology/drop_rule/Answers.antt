@@ -13,6 +13,7 @@ invariant_of-self g c = record {
       c.self.inside.dirt c.self.inside.entries c.drop_rule.new.self c.drop_from.ensures
       (record { gone = c.drop_rule.ensures.gone; kept = c.drop_rule.ensures.kept }) c.drop_rule.ensures.ascending c.self.invariant.topology;
   placed = c.self.invariant.placed;
+  live = c.self.invariant.live;
 }
 
 pub returns-clause-ok : goal.returns-clause-ok

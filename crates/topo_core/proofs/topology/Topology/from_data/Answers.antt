@@ -6,6 +6,7 @@ use Rattle.sound_laws.proofs.FeatureLists.{live_each}
 use Rattle.validation.specs.Placed.{placed_of}
 use Rattle.topo_core.specs.Topologies.{project_of}
 use Rattle.topo_core.proofs.Saved.{record_topology}
+use Rattle.topo_core.proofs.Live.{put_live}
 use Rattle.topo_core.proofs.topology.Topology.from_data.Goals as goal
 
 pub invariant_of-result : goal.invariant_of-result
@@ -18,4 +19,6 @@ invariant_of-result g c =
           (subst IsRecord (sym c.saved.view_is) c.requires);
       placed = λ h f e. live_each (λ (k : Feature). Contains index (placed_of k)) s.store.features h f
           (rw (c.slots.ensures, c.features.ensures.value) at c.in_ok-index.ensures.there) e;
+      live = put_live index s.store.features c.store_law.ensures.ascending
+          (rw (c.slots.ensures, c.features.ensures.value) at c.in_ok-index.ensures.only);
     }

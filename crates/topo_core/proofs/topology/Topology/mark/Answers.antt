@@ -15,6 +15,7 @@ invariant_of-self-2 g c =
     record {
       topology = mark_keeps _ _ c.self.invariant.topology i.marking m.ascending;
       placed = c.self.invariant.placed;
+      live = c.self.invariant.live;
     }
 
 pub returns-clause-ok : goal.returns-clause-ok

@@ -10,4 +10,4 @@ returns g c =
     let t = c.self.inside in
     let p : Project = project_of t.store t.rules.items t.dirt t.entries in
     subst IsRecord c.self.view_is (topology_record p c.self.invariant.topology (omega arith) c.names_law.ensures
-    (rw (c.slots.ensures, c.features.ensures.value) at c.shapes_law.ensures) c.loose_law.ensures c.errors_law.ensures)
+    (rw (c.slots.ensures, c.features.ensures.value) at c.slots_law.ensures) (rw c.deref.ensures.value at c.rules_law.ensures) c.loose_law.ensures c.errors_law.ensures)

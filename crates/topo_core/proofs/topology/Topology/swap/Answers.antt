@@ -5,7 +5,8 @@ use Rattle.topology_terms.specs.Settled.{IsSettledUnder}
 use Rattle.topo_core.proofs.Whole.{ordered}
 use Rattle.topo_core.proofs.Kept.{edit_keeps, edit_sound_kept, edit_settled_kept}
 use Rattle.topo_core.proofs.Exchanges.{exchanged}
-use Rattle.topo_core.proofs.Standing.{placed_set}
+use Rattle.topo_core.proofs.Standing.{placed_set, same_indexed}
+use Rattle.topo_core.proofs.Live.{set_live}
 use Rattle.topo_core.proofs.topology.Topology.swap.Goals as goal
 
 pub invariant_of-self-2 : goal.invariant_of-self-2
@@ -21,7 +22,19 @@ invariant_of-self-2 g c =
           c.dirty_both.new.index c.take_place.new.index (subst (λ F. IsSetAt c.args.handle c.args.kept.now F c.swap_in.new.self.features)
           c.room.ensures.same.features c.swap_in.ensures.set) c.in_ok-dirty_both.ensures.put
           (rw (c.live_place-stood.ensures, c.kept_place-comes.ensures) at c.take_place.ensures) c.self.invariant.placed;
+      live = set_live c.args.handle c.args.kept.now c.self.inside.store.features c.swap_in.new.self.features c.self.inside.index
+          c.dirty_both.new.index c.take_place.new.index (subst (λ F. IsSetAt c.args.handle c.args.kept.now F c.swap_in.new.self.features)
+          c.room.ensures.same.features c.swap_in.ensures.set) c.in_ok-dirty_both.ensures.put
+          (rw (c.live_place-stood.ensures, c.kept_place-comes.ensures) at c.take_place.ensures) c.self.invariant.live;
     }
+
+pub invariant_of-self-in_err-dirty_both : goal.invariant_of-self-in_err-dirty_both
+invariant_of-self-in_err-dirty_both g c = same_indexed c.self.inside.store c.room.new.self c.self.inside.rules.items c.self.inside.dirt
+    c.dirty_both.new.dirt c.self.inside.entries c.self.inside.index c.dirty_both.new.index c.room.ensures.same
+    c.in_err-dirty_both.ensures.err c.in_err-dirty_both.ensures.placed c.in_err-dirty_both.ensures.live c.self.invariant
+
+pub returns-in_err-dirty_both-clause-ordered : goal.returns-in_err-dirty_both-clause-ordered
+returns-in_err-dirty_both-clause-ordered g c = ordered _ (invariant_of-self-in_err-dirty_both g c).topology
 
 pub returns-clause-ok : goal.returns-clause-ok
 returns-clause-ok g c = rw (← c.self.view_is) (exchanged c.args.handle c.args.kept.now c.self.inside.store c.room.new.self

@@ -1,13 +1,14 @@
-use Rattle.std.proofs.Common.{◌≡◌, ◌≤◌, subst, sym}
+use Rattle.std.proofs.Common.{◌≡◌, ◌≤◌, ap, subst, sym}
 use Rattle.plane_terms.specs.Lists.{IsThose}
 use Rattle.topology_terms.specs.Feature.{Feature}
 use Rattle.topology_terms.specs.Changes.{IsSelected}
 use Rattle.topology_terms.specs.Sound.{IsSoundUnder}
 use Rattle.topology_terms.specs.Settled.{IsSettledUnder}
 use Rattle.topology_terms.specs.Counts.{raised, judged_of}
+use Rattle.validation.specs.Projects.{RuledFeatures}
 use Rattle.topo_core.specs.Topologies.{project_of}
 use Rattle.topo_core.proofs.Whole.{ordered, fitting}
-use Rattle.topo_core.proofs.Kept.{parts_of, validated_keeps, validated_sound_kept, validated_settled_kept}
+use Rattle.topo_core.proofs.Kept.{parts_of, asked_by, validated_keeps, validated_sound_kept, validated_settled_kept}
 use Rattle.grid_index.proofs.Nodes.{on_err}
 use Rattle.topo_core.proofs.topology.Topology.validate_counted.Goals as goal
 
@@ -28,6 +29,7 @@ invariant_of-self-2 g c =
           c.args.window p _
           c.self.invariant.topology (c.in_ok-validate_counted.ensures.step p parts) c.in_ok-validate_counted.ensures.ordered;
       placed = c.self.invariant.placed;
+      live = c.self.invariant.live;
     }
 
 pub returns-clause-ok : goal.returns-clause-ok
@@ -77,3 +79,17 @@ returns-in_err-validate_counted-clause-stopped g c =
     (judged_of rules fs)) (sym parts.rules)
     (c.in_err-validate_counted.ensures.stopped p parts fs
     (subst (λ F. IsThose (λ (f : Feature). IsSelected p c.args.window f.handle) F fs) parts.features those))))
+
+pub returns-clause-asked : goal.returns-clause-asked
+returns-clause-asked g c =
+    let p = project_of c.self.inside.store c.self.inside.rules.items c.self.inside.dirt c.self.inside.entries in
+    let parts = parts_of p _ _ _ _ c.of-ruled.ensures c.deref.ensures.value c.features-features.ensures.value in
+    rw (← c.self.view_is) (asked_by c.args.window p _ c.self.inside.index _ _ parts (ap (λ (r : RuledFeatures). r.placed) c.of-ruled.ensures)
+    c.self.invariant.placed c.self.invariant.live (c.validate_counted.ensures.asked p parts))
+
+pub returns-in_err-validate_counted-clause-asked : goal.returns-in_err-validate_counted-clause-asked
+returns-in_err-validate_counted-clause-asked g c =
+    let p = project_of c.self.inside.store c.self.inside.rules.items c.self.inside.dirt c.self.inside.entries in
+    let parts = parts_of p _ _ _ _ c.of-ruled.ensures c.deref.ensures.value c.features-features.ensures.value in
+    rw (← c.self.view_is) (asked_by c.args.window p _ c.self.inside.index _ _ parts (ap (λ (r : RuledFeatures). r.placed) c.of-ruled.ensures)
+    c.self.invariant.placed c.self.invariant.live (c.validate_counted.ensures.asked p parts))

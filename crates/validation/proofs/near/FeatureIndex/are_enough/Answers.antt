@@ -7,7 +7,7 @@ use Rattle.validation.proofs.near.FeatureIndex.are_enough.Goals as goal
 use Rattle.validation.proofs.near.FeatureIndex.are_enough.Goals.{then-counts_at, else-counts_at}
 
 pub loop-handle-preserved : goal.loop-handle-preserved
-loop-handle-preserved c =
+loop-handle-preserved g c =
     let test = λ (g : Feature). counts_at c.args.row.now g c.args.place in
     let F = c.args.self.now.features in
     let ns = c.args.handles.now in

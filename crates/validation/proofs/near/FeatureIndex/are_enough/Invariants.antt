@@ -6,5 +6,5 @@ use Rattle.validation_laws.specs.Views.{counts_at}
 use Rattle.validation.proofs.near.FeatureIndex.are_enough.Given as goal
 
 abbrev pub invariant-loop-handle : goal.invariant-loop-handle
-invariant-loop-handle l = (l.count ≡ how_many (λ (g : Feature). counts_at l.row g l.place) (live_of l.self.features (take l.handle-index l.handles)))
+invariant-loop-handle g l = (l.count ≡ how_many (λ (g : Feature). counts_at l.row g l.place) (live_of l.self.features (take l.handle-index l.handles)))
     × (l.count ≤ l.handle-index)

@@ -1,0 +1,5 @@
+pub mod Listed
+pub mod Held
+pub mod Lists
+pub mod Text
+pub mod Fractions
