@@ -1,4 +1,4 @@
-ghost use Rattle.std.specs.Prelude.{◌≡◌, [], ◌∷◌, ◌++◌, OnOk};
+ghost use Rattle.std.specs.Prelude.{◌≡◌, [], ◌∷◌, ◌++◌, codes, OnOk};
 
 use grid_plane::NoMemory;
 
@@ -25,6 +25,15 @@ pub fn push_field(out: &mut Vec<u8>, field: &[u8]) -> Result<(), NoMemory>
 {
     push_byte(out, b' ')?;
     push_text(out, field)
+}
+
+/// Appends a comma and a space.
+#[inline(always)]
+pub fn push_comma(out: &mut Vec<u8>) -> Result<(), NoMemory>
+    ensures { OnOk result (out.new.items ≡ out.old.items ++ codes ", ") }
+{
+    push_byte(out, b',')?;
+    push_byte(out, b' ')
 }
 
 /// Ends the line.
