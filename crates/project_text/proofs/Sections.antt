@@ -14,7 +14,7 @@ use Rattle.topology_terms.specs.Entry.{Entry}
 use Rattle.topology_terms.specs.Project.{Project, InForce}
 use Rattle.topology_terms.specs.Lookups.{class_at}
 use Rattle.project_terms.specs.Lines.{joined}
-use Rattle.project_terms.specs.Written.{sided, sided_in, written_subtype, rect_fields, cell_fields, mark_word, extent_word, line_text, title, next_line, class_line, rule_line, feature_line, dirty_line, error_line, cell_line, error_lines, last_line, project_text}
+use Rattle.project_terms.specs.Written.{sided_in, written_subtype, rect_fields, cell_fields, mark_word, extent_word, line_text, title, next_line, class_line, rule_line, feature_line, dirty_line, error_line, cell_line, error_lines, last_line, project_text}
 use Rattle.project_text.proofs.Spelled.{title_fields}
 use Rattle.text_out.specs.Fields.{rect_text}
 use Rattle.project_text.specs.Pushed.{side_text, half_text, sign_text, halves_text, class_text, rule_text, feature_text, dirty_text, error_text, cell_text, error_texts, head_text, sections_text}

@@ -142,7 +142,8 @@ fn push_project(
     push_features(out, store)?;
     push_blocks(out, blocks)?;
     push_errors(out, errors)?;
-    push_text(out, b"end\n")
+    push_text(out, b"end\n")?;
+    Ok(())
 }
 
 /// The text of the project of these parts, in format 2: for each project one text. The parts stay as they are.

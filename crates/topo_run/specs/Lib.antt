@@ -4,3 +4,4 @@ pub mod Told
 pub mod Unopened
 pub mod Verdicts
 pub mod Asked
+pub mod Passed

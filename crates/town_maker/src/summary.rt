@@ -31,7 +31,7 @@ pub fn byte_sum(text: &[u8]) -> u128
 }
 
 // A line of a word and a number.
-fn push_count(out: &mut Vec<u8>, word: &[u8], count: u128) -> Result<(), NoMemory>
+fn push_count(out: &mut Vec<u8>, word: &[u8], count: u64) -> Result<(), NoMemory>
     ensures { OnOk result (out.new.items ≡ out.old.items ++ count_line word.now count) }
 {
     push_text(out, word)?;
@@ -39,20 +39,29 @@ fn push_count(out: &mut Vec<u8>, word: &[u8], count: u128) -> Result<(), NoMemor
     push_end(out)
 }
 
+// The line of the sum of texts.
+fn push_byte_sum(out: &mut Vec<u8>, total: u128) -> Result<(), NoMemory>
+    ensures { OnOk result (out.new.items ≡ out.old.items ++ count_line (codes "text") total) }
+{
+    push_text(out, b"text")?;
+    push_number(out, total)?;
+    push_end(out)
+}
+
 // The lines on errors, dirt and texts.
 fn push_state(out: &mut Vec<u8>, counts: &TownCounts) -> Result<(), NoMemory>
     ensures { OnOk result (out.new.items ≡ out.old.items ++ (count_line (codes "errors") counts.now.errors ++ (count_line (codes "dirty") counts.now.dirty ++ count_line (codes "text") counts.now.text))) }
 {
-    push_count(out, b"errors", u128::from(counts.errors))?;
-    push_count(out, b"dirty", u128::from(counts.dirty))?;
-    push_count(out, b"text", counts.text)
+    push_count(out, b"errors", counts.errors)?;
+    push_count(out, b"dirty", counts.dirty)?;
+    push_byte_sum(out, counts.text)
 }
 
 /// Appends the five lines of a town's summary.
 pub fn push_summary(out: &mut Vec<u8>, counts: &TownCounts) -> Result<(), NoMemory>
     ensures { OnOk result (out.new.items ≡ out.old.items ++ summary_text (counts_of counts.now)) }
 {
-    push_count(out, b"features", u128::from(counts.features))?;
-    push_count(out, b"judged", u128::from(counts.judged))?;
+    push_count(out, b"features", counts.features)?;
+    push_count(out, b"judged", counts.judged)?;
     push_state(out, counts)
 }
