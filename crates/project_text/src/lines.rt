@@ -11,8 +11,8 @@ use grid_plane::{Half, NoMemory, Rect};
 use rule_core::{InForce, Side};
 use shape::{Feature, Kind};
 use text_out::{
-    extent_word, mark_word, push_byte, push_end, push_field, push_half, push_key, push_number, push_rect,
-    push_sided, push_text,
+    extent_word, mark_word, push_byte, push_end, push_field, push_half, push_key, push_number,
+    push_rect, push_sided, push_text,
 };
 use wkt_text::write_wkt;
 
