@@ -4,4 +4,3 @@ pub mod Told
 pub mod Unopened
 pub mod Verdicts
 pub mod Asked
-pub mod Passed

@@ -10,7 +10,7 @@ ghost use Rattle.opening_terms.specs.Reporting.{EndsAsReport, IsReportComplete};
 ghost use Rattle.opening_terms.specs.Replaying.{EndsAsReplayOf, IsReplayOfComplete};
 ghost use Rattle.opening_terms.specs.Saving.{EndsAsReplayTo, IsReplayToComplete};
 ghost use Rattle.topo_run.specs.Asked.{IsFit, EndsAsAsked, UnlessReplay, UnlessNamed, UnlessSaved};
-ghost use Rattle.topo_run.specs.Passed.{bytes_of, passed, visited, HasStatus, IfNoTarget, IfNoReplayed, IfNoProject};
+ghost use Rattle.opening_terms.specs.Passed.{bytes_of, passed, visited, HasStatus, IfNoTarget, IfNoReplayed, IfNoProject};
 ghost use Rattle.topo_run.specs.Unopened.{IfUnopened};
 
 use crate::check::check;
@@ -105,15 +105,19 @@ pub fn run<S: Source, K: Sink, H: Shelf>(
     ensures town_complete { (seed n : ℕ) → IsTownRequest (bytes_of words.now.items) seed n
         → IsTownComplete seed n (passed K.written K.faults sink.old sink.new) result }
     ensures replay_of { (project : List ℕ) → IsReplayOf (bytes_of words.now.items) project
-        → HasStatus result (EndsAsReplayOf project (passed S.left S.faults source.old source.new) (visited H.held H.faults shelf.old shelf.new) (passed K.written K.faults sink.old sink.new)) }
+        → HasStatus result (EndsAsReplayOf project (passed S.left S.faults source.old source.new)
+        (visited H.held H.faults shelf.old shelf.new) (passed K.written K.faults sink.old sink.new)) }
     ensures replay_of_complete { (project : List ℕ) → IsReplayOf (bytes_of words.now.items) project
-        → IsReplayOfComplete project (passed S.left S.faults source.old source.new) (visited H.held H.faults shelf.old shelf.new) (passed K.written K.faults sink.old sink.new) result }
+        → IsReplayOfComplete project (passed S.left S.faults source.old source.new)
+        (visited H.held H.faults shelf.old shelf.new) (passed K.written K.faults sink.old sink.new) result }
     ensures replay_of_opening { (project : List ℕ) → IsReplayOf (bytes_of words.now.items) project → project ≢ codes "-"
         → IsOpeningComplete project (visited H.held H.faults shelf.old shelf.new) (passed K.written K.faults sink.old sink.new) result }
     ensures replay_to { (project target : List ℕ) → IsReplayTo (bytes_of words.now.items) project target
-        → HasStatus result (EndsAsReplayTo project target (passed S.left S.faults source.old source.new) (visited H.held H.faults shelf.old shelf.new) (passed K.written K.faults sink.old sink.new)) }
+        → HasStatus result (EndsAsReplayTo project target (passed S.left S.faults source.old source.new)
+        (visited H.held H.faults shelf.old shelf.new) (passed K.written K.faults sink.old sink.new)) }
     ensures replay_to_complete { (project target : List ℕ) → IsReplayTo (bytes_of words.now.items) project target
-        → IsReplayToComplete project target (passed S.left S.faults source.old source.new) (visited H.held H.faults shelf.old shelf.new) (passed K.written K.faults sink.old sink.new) result }
+        → IsReplayToComplete project target (passed S.left S.faults source.old source.new)
+        (visited H.held H.faults shelf.old shelf.new) (passed K.written K.faults sink.old sink.new) result }
     ensures replay_to_opening { (project target : List ℕ) → IsReplayTo (bytes_of words.now.items) project target → project ≢ codes "-"
         → IsOpeningComplete project (visited H.held H.faults shelf.old shelf.new) (passed K.written K.faults sink.old sink.new) result }
     ensures check { (project : List ℕ) → IsCheckOf (bytes_of words.now.items) project
@@ -128,8 +132,13 @@ pub fn run<S: Source, K: Sink, H: Shelf>(
         → IsReportComplete project (visited H.held H.faults shelf.old shelf.new) (passed K.written K.faults sink.old sink.new) result }
     ensures report_opening { (project : List ℕ) → IsReportOf (bytes_of words.now.items) project
         → IsOpeningComplete project (visited H.held H.faults shelf.old shelf.new) (passed K.written K.faults sink.old sink.new) result }
-    ensures usage { ¬ (IsReplay words.now.items) → IfNoProject (bytes_of words.now.items) (((seed n : ℕ) → ¬ (IsTownRequest (bytes_of words.now.items) seed n))
-        → HasStatus result (EndsAsUsage (passed K.written K.faults sink.old sink.new))) }
+    ensures usage { ¬ (IsReplay words.now.items)
+        → ((project : List ℕ) → ¬ (IsReplayOf (bytes_of words.now.items) project))
+        → ((project target : List ℕ) → ¬ (IsReplayTo (bytes_of words.now.items) project target))
+        → ((project : List ℕ) → ¬ (IsCheckOf (bytes_of words.now.items) project))
+        → ((project : List ℕ) → ¬ (IsReportOf (bytes_of words.now.items) project))
+        → ((seed n : ℕ) → ¬ (IsTownRequest (bytes_of words.now.items) seed n))
+        → HasStatus result (EndsAsUsage (passed K.written K.faults sink.old sink.new)) }
     ensures unread { ¬ (IsReplay words.now.items) → IfNoReplayed (bytes_of words.now.items) (source.new ≡ source.old) }
     ensures unopened { (result ≡ 6) ⊎ ((result ≡ 7) ⊎ (result ≡ 11)) → source.new ≡ source.old }
     ensures counts { (S.faults source.old ≤ S.faults source.new) × (K.faults sink.old ≤ K.faults sink.new) }

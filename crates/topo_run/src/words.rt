@@ -1,7 +1,7 @@
 ghost use Rattle.std.specs.Prelude.{◌≡◌, ◌≢◌, ◌↔◌, ℕ, List, [], ◌∷◌, IsTrue, MatchOption, string_bytes, codes};
 ghost use Rattle.script_terms.specs.Ends.{IsReplay};
 ghost use Rattle.topo_run.specs.Asked.{IsAskedBy};
-ghost use Rattle.topo_run.specs.Passed.{bytes_of};
+ghost use Rattle.opening_terms.specs.Passed.{bytes_of};
 
 use town_maker::{TownRequest, town_request};
 

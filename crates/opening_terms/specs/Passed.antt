@@ -1,4 +1,4 @@
--- What the clauses of `run` speak of.
+-- What the clauses of the program speak of: its words, its source, its sink and its shelf, before and after a run.
 --
 -- bytes_of ws                 the words of the command line, each as its bytes
 -- passed bytes faults old new     a source or a sink before and after a run: its bytes, and its count of faults
