@@ -1,5 +1,5 @@
 -- Whether an error of another rule has a frame, by the runs of its subject.
-use Rattle.std.proofs.Common.{◌≡◌, ◌≢◌, ◌⊎◌, inl, inr, ℕ, Bool, true, false, cond, List, [], ◌∷◌, ◌++◌, Some, arith, refl, sym, ◌∙◌, ap, subst}
+use Rattle.std.proofs.Common.{◌≡◌, ◌≢◌, inl, inr, ℕ, Bool, true, cond, List, [], ◌∷◌, ◌++◌, Some, arith, sym, ◌∙◌, ap, subst}
 use Rattle.std.specs.BTreeMap.{BTreeMap, IsOrdered, get}
 use Rattle.std.specs.Global.{Vec}
 use Rattle.std.specs.List.{filter}

@@ -7,7 +7,7 @@ ghost use Rattle.error_store.specs.Frames.{frames_if, IsFrame, IsShared, LosesTh
 ghost use Rattle.error_store.specs.Pairs.{all_entries, AreRuns, IsOf};
 
 use crate::entry::Entry;
-use crate::frame_set::{is_same, FrameSet};
+use crate::frame_set::{FrameSet, is_same};
 use crate::frames::{drop_frames, note, place_of};
 use crate::pair::Pair;
 use crate::walk::next_of;
@@ -144,12 +144,7 @@ fn drop_unshared(
 }
 
 // Takes out the frames of this run, but for those that an error of another rule has. Takes no memory.
-fn drop_run(
-    index: &mut Index<Count>,
-    runs: &BTreeMap<Pair, Vec<Entry>>,
-    rule: u16,
-    run: &[Entry],
-)
+fn drop_run(index: &mut Index<Count>, runs: &BTreeMap<Pair, Vec<Entry>>, rule: u16, run: &[Entry])
     requires { AreRuns runs.now }
     ensures { LosesThose (IsFrame run.now) (IsShared rule (all_entries runs.now)) index.old index.new }
 {
