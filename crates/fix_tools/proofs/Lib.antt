@@ -1,4 +1,5 @@
 pub mod After
+mod Rows
 pub mod Done
 pub mod Deleting
 pub mod Slots

@@ -1,12 +1,12 @@
 -- The ends of a line: what they are once one of them is put elsewhere, and that each lies on a segment of its own.
-use Rattle.std.proofs.Common.{◌≡◌, ◌≢◌, ℕ, zero, suc, ◌+◌, ◌≤◌, ◌≤ℤ◌, Bool, true, false, cond, List, [], ◌∷◌, ◌++◌, length, map, flat_map, arith, refl, sym, subst, ap, ◌∙◌, Some, inl, inr, if◌then◌else◌}
+use Rattle.std.proofs.Common.{◌≡◌, ℕ, zero, suc, ◌+◌, ◌≤◌, ◌≤ℤ◌, Bool, true, false, cond, List, [], ◌∷◌, ◌++◌, length, map, flat_map, arith, refl, sym, subst, ap, ◌∙◌, Some, inl, inr, if◌then◌else◌}
 use Rattle.std.specs.Prelude.{slice_get}
 use Rattle.std.proofs.lemmas.Int.{ints, clamps}
 use Rattle.std.proofs.lemmas.Bool.{false≢true}
 use Rattle.plane_terms.specs.Lists.{Every, SomeOf, how_many}
 use Rattle.plane_terms.specs.Point.{Place, Point, IsAt, same_place}
 use Rattle.plane_terms.specs.Segment.{Segment, OnSegment, comes_before, segment_between}
-use Rattle.plane_terms.specs.Shape.{Shape, path, segments_of, rings_of, last_of, two_ends, ends_of, ends_by, without_repeats, NextDiffer, IsRing, IsShape}
+use Rattle.plane_terms.specs.Shape.{Shape, path, segments_of, rings_of, last_of, two_ends, ends_of, ends_by, without_repeats, IsRing, IsShape}
 use Rattle.plane_terms.specs.Line.{holds_place}
 use Rattle.plane_terms.specs.declared.kind.Kind.{Kind}
 use Rattle.plane_terms.specs.declared.kind.Kind.TheVariants as kind
@@ -15,7 +15,7 @@ use Rattle.cell_laws.proofs.OnLine.{on_lo, on_hi}
 use Rattle.cell_laws.proofs.AtPlaces.{turn_on, same_is, is_same}
 use Rattle.column_laws.proofs.Parity.{in_order, out_of_order}
 use Rattle.rule_laws.proofs.Tests.{holds_by, at_test, place_from}
-use Rattle.fix_tools.specs.Snap.{with_first, with_last, with_end, snapped_shape}
+use Rattle.fix_tools.specs.Snap.{with_last, with_end, snapped_shape}
 
 -- ---- equal neighbours that go leave the ends
 record Starts (p : Place) (ps : List Place) : Type 0 where
@@ -48,7 +48,7 @@ ends_made : (rings : List (List Place))
 ends_made [] = refl
 ends_made (r ∷ rs) =
     ap (λ (vs : List Place). vs ++ flat_map two_ends (flat_map (λ part. part) (map (λ part. map {A = List Place} without_repeats part)
-        (map {A = List Place} (λ ring. ring ∷ []) rs)))) (two_ends_kept r)
+    (map {A = List Place} (λ ring. ring ∷ []) rs)))) (two_ends_kept r)
     ∙ ap (λ (vs : List Place). two_ends r ++ vs) (ends_made rs)
 
 -- ---- one of them replaced

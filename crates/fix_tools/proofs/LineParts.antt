@@ -8,7 +8,7 @@ use Rattle.shape.proofs.Made.{line_parts as made_parts}
 use Rattle.std.proofs.lemmas.List.{length-map}
 use Rattle.topology_terms.specs.Feature.{Feature, feature_at}
 use Rattle.topology_terms.specs.Causes.{same_kind}
-use Rattle.std.specs.Prelude.{Bool, true, false, nat_lt, ◌&&◌}
+use Rattle.std.specs.Prelude.{true, false, nat_lt, ◌&&◌}
 use Rattle.std.proofs.lemmas.Bool.Decides.{nat_tests}
 use Rattle.fix_tools.specs.declared.plan.Edit.{Edit}
 use Rattle.fix_tools.specs.declared.plan.Edit.TheVariants.{Put, Add}

@@ -5,7 +5,7 @@ use Rattle.std.proofs.lemmas.List.{take_more}
 use Rattle.std.proofs.lemmas.List.Elements.{All-from_recursion}
 use Rattle.plane_terms.specs.Lists.{Every, EveryPair}
 use Rattle.plane_terms.specs.Point.{Place}
-use Rattle.plane_terms.proofs.ListLemmas.{every_map, every_filter}
+use Rattle.plane_terms.proofs.ListLemmas.{every_filter}
 use Rattle.topology_terms.specs.Feature.{Feature, IsAscending}
 use Rattle.cell_laws.proofs.Lists.{all_append}
 use Rattle.feature_store.specs.declared.slot.Slot.{Slot}

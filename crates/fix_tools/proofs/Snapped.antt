@@ -1,9 +1,9 @@
 -- A line with an end elsewhere, as the code makes it.
-use Rattle.std.proofs.Common.{◌≡◌, ℕ, zero, suc, ◌+◌, ◌-◌, ◌*◌, ◌/◌, ◌%◌, ◌<◌, ◌≤◌, List, [], ◌∷◌, ◌++◌, length, get_or, map, flat_map, take, drop, arith, refl, sym, subst, ap, ◌∙◌, length-append, inl, inr, ◌⊎◌}
-use Rattle.std.proofs.lemmas.List.{take_all, take_more, length-map, length-drop}
+use Rattle.std.proofs.Common.{◌≡◌, ℕ, zero, suc, ◌+◌, ◌-◌, ◌*◌, ◌/◌, ◌%◌, ◌<◌, ◌≤◌, List, [], ◌∷◌, ◌++◌, length, get_or, map, flat_map, take, drop, arith, refl, sym, ap, ◌∙◌, length-append, inl, inr, ◌⊎◌}
+use Rattle.std.proofs.lemmas.List.{take_all, length-map, length-drop}
 use Rattle.plane_terms.specs.Lists.{Every}
 use Rattle.plane_terms.specs.Point.{Place}
-use Rattle.plane_terms.specs.Shape.{Shape, shape_of, rings_of, vertices_of, two_ends, ends_of, IsShape}
+use Rattle.plane_terms.specs.Shape.{Shape, shape_of, rings_of, two_ends, ends_of, IsShape}
 use Rattle.plane_terms.specs.declared.kind.Kind.TheVariants as kind
 use Rattle.shape.specs.Given.{Ring, rings_in, lines_in, all_rings, all_vertices, IsCountable}
 use Rattle.shape.proofs.Filled.{line_rings}
@@ -11,7 +11,7 @@ use Rattle.shape.proofs.Made.{line_parts as made_parts}
 use Rattle.shape.proofs.Ends.{ends_counted}
 use Rattle.fix_tools.specs.Explode.{IsLinePart}
 use Rattle.fix_tools.specs.Snap.{with_first, with_last, with_end, snapped_shape}
-use Rattle.fix_tools.proofs.LineParts.{map_more, parts_are, every_item}
+use Rattle.fix_tools.proofs.LineParts.{map_more, parts_are}
 use Rattle.fix_tools.proofs.LineEnds.{ends_are}
 use Rattle.fix_tools.proofs.MovedParts.{rings_few}
 

@@ -1,16 +1,9 @@
 -- Whether a vertex is at a place, ring by ring and part by part.
-use Rattle.std.proofs.Common.{◌≡◌, ℕ, zero, suc, ◌+◌, ◌<◌, Bool, true, false, List, [], ◌∷◌, ◌++◌, length, get_or, take, arith, refl, sym, subst, ap, ◌∙◌, Vec, inl, inr, append_assoc, if◌then◌else◌}
+use Rattle.std.proofs.Common.{◌≡◌, Bool, true, false, List, [], ◌∷◌, ◌++◌, refl, sym, ap, ◌∙◌, Vec}
 use Rattle.std.specs.Prelude.{◌||◌}
 use Rattle.std.specs.List.{list_any}
-use Rattle.std.specs.Option.{option_to_list}
 use Rattle.std.specs.Global.{Global}
-use Rattle.std.proofs.lemmas.List.{take_more}
-use Rattle.plane_terms.specs.Lists.{SomeOf}
 use Rattle.plane_terms.specs.Point.{Place}
-use Rattle.topology_terms.specs.Feature.{Feature}
-use Rattle.cell_laws.proofs.Lists.{some_append}
-use Rattle.feature_store.specs.declared.slot.Slot.{Slot}
-use Rattle.feature_store.specs.Slots.{feature_in, filled}
 use Rattle.shape.specs.Given.{Ring, rings_in, polygons_in, all_rings, all_vertices}
 use Rattle.fix_tools.proofs.Exploding.{flat_append}
 

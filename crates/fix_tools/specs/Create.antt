@@ -62,8 +62,10 @@ IsCreateFault p r h at (Bad fault) = ⊥
 IsCreateFault p r h at Spent = (row : Row) × (f : Feature) × IsOfRule p r h row f × (may_create row p.features f at ≡ true) × ¬ (HasHandle p.next)
 IsCreateFault p r h at NoMemory = Unit {0}
 
--- the feature does not break the rule any more, as a whole or at the place; and no other feature changes
+-- the feature broke the rule, as a whole or at the place; it does not any more, and nobody does at the place; no other feature changes
 pub record HasCreated (row : Row) (f : Feature) (at : Place) (F : List Feature) (n : ℕ) (G : List Feature) : Type 0 where
+  pub broken_whole : row.kind ≡ rule.PolygonContainsPoint → BrokenWhole row F f.handle
+  pub broken_at : row.kind ≡ rule.LineEndpointMustBeCoveredBy → (p : Point) → IsAt at p → BrokenAt row F f.handle 0 p
   pub inside : row.kind ≡ rule.PolygonContainsPoint → ¬ (BrokenWhole row G f.handle)
   pub at_end : row.kind ≡ rule.LineEndpointMustBeCoveredBy → (a b : ℕ) (p : Point) → IsAt at p → ¬ (BrokenAt row G a b p)
   pub others : (k : ℕ) → k ≢ n → feature_at G k ≡ feature_at F k

@@ -47,11 +47,7 @@ fn push_parts(
 }
 
 // The first of these parts stays under the feature's handle; each other one comes as a feature of its class and subtype.
-fn parts_plan(
-    alloc: Global,
-    feature: &Feature,
-    parts: &[Vec<GridPoint>],
-) -> Result<Plan, NoMemory>
+fn parts_plan(alloc: Global, feature: &Feature, parts: &[Vec<GridPoint>]) -> Result<Plan, NoMemory>
     requires some { 1 ≤ length parts.now }
     requires parts { Every IsLinePart (rings_in parts.now) }
     ensures { IfOk result (λ plan. plan ≡ exploded_by feature.now (map (λ r. r ∷ []) (rings_in parts.now))) }

@@ -60,12 +60,7 @@ fn is_other_at(side: Side, feature: &Feature, other: &Feature, place: GridPoint)
 }
 
 /// Whether a segment of another feature of the side that is shown holds the place.
-pub(crate) fn holds_other(
-    side: Side,
-    view: &View<'_>,
-    feature: &Feature,
-    place: GridPoint,
-) -> bool
+pub(crate) fn holds_other(side: Side, view: &View<'_>, feature: &Feature, place: GridPoint) -> bool
     ensures { result ≡ holds_other feature.now (of_side side view.now) place }
 {
     for i in 0..view.len() {

@@ -90,6 +90,7 @@ pub(crate) fn shape_with_end(
 ) -> Result<Shape, ShapeFault>
     requires line { line.now.kind ≡ kind.Line }
     requires within { end < length (ends_of line.now) }
+    ensures given { IsShape line.now }
     ensures made { IfOk result (λ s. s ≡ snapped_shape end to line.now) }
     ensures valid { IfOk result (λ _. IsShape (snapped_shape end to line.now)) }
     ensures flawless { IfOk result (λ _. IsFlawless (snapped_shape end to line.now)) }

@@ -9,7 +9,10 @@ use std::marker::Model;
 #[derive(Drop)]
 pub enum Edit {
     /// The live feature of this handle gets this shape.
-    Put { handle: u32, shape: Shape },
+    Put {
+        handle: u32,
+        shape: Shape,
+    },
     /// A feature of this class, this subtype and this shape comes under the next handle.
     Add {
         class: u16,

@@ -33,13 +33,7 @@ fn dangles(side: Side, view: &View<'_>, line: &Shape, end: usize) -> bool
 }
 
 // Whether an end of the feature may be put to the place.
-fn may_snap(
-    row: &RuleRow,
-    view: &View<'_>,
-    feature: &Feature,
-    end: usize,
-    to: GridPoint,
-) -> bool
+fn may_snap(row: &RuleRow, view: &View<'_>, feature: &Feature, end: usize, to: GridPoint) -> bool
     ensures { result ≡ may_snap row.now view.now feature.now end to }
 {
     let RuleKind::LineMustNotHaveDangles = row.kind else {
@@ -60,14 +54,10 @@ fn put_plan(alloc: Global, handle: u32, shape: Shape) -> Result<Plan, NoMemory>
 }
 
 // The plan that puts the end of the line to the place.
-fn end_plan(
-    alloc: Global,
-    feature: &Feature,
-    end: usize,
-    to: GridPoint,
-) -> Result<Plan, FixFault>
+fn end_plan(alloc: Global, feature: &Feature, end: usize, to: GridPoint) -> Result<Plan, FixFault>
     requires line { feature.now.shape.kind ≡ kind.Line }
     requires within { end < length (ends_of feature.now.shape) }
+    ensures given { IsShape feature.now.shape }
     ensures plan { IfOk result (λ plan. plan ≡ snapped end to feature.now) }
     ensures flawless { IfOk result (λ _. IsFlawless (snapped_shape end to feature.now.shape)) }
     ensures ready { IfOk result (λ plan. (plan ≡ snapped end to feature.now) × IsShape (snapped_shape end to feature.now.shape)) }
