@@ -155,13 +155,15 @@ def grid_for(classes: list[Class], resolution: Fraction, origin: Optional[tuple[
 
 
 class Report:
-    """What became of each feature: a row each in the table, the first of each kind and the totals on standard error."""
+    """What became of each feature: a row each in the table, the first of each kind and the totals on standard error; the classes of which a
+    feature was cut."""
 
     def __init__(self, table: Optional[TextIO], of: int):
         self.rows = Table(table, COLUMNS) if table else None
         self.of, self.read, self.added, self.left_out, self.moved = of, 0, 0, 0, 0
         self.most = Fraction(0)
         self.shown: dict[str, int] = {}
+        self.cut: set[str] = set()
         self.next_word = time.monotonic() + PAUSE
 
     def name(self, of: Class, feature: Feature) -> str:
@@ -187,7 +189,10 @@ class Report:
     def take(self, arrival: Arrival) -> None:
         of, feature, taken, handle, _ = arrival
         self.added += 1
-        if not taken.moved and not taken.notes:
+        if taken.part:
+            self.take_part(arrival)
+        notes = taken.notes + ([taken.part.text()] if taken.part else [])
+        if not taken.moved and not notes:
             self.row(of, feature, arrival.side, str(handle), '', '')
             return
         moved = moved_text(taken.moved)
@@ -196,7 +201,13 @@ class Report:
         if taken.moved:
             self.moved, self.most = self.moved + 1, max(self.most, taken.moved)
             self.show('moved', of, feature, 'moved by %s at most' % moved)
-        self.row(of, feature, arrival.side, str(handle), moved if taken.moved else '', '; '.join(taken.notes))
+        self.row(of, feature, arrival.side, str(handle), moved if taken.moved else '', '; '.join(notes))
+
+    def take_part(self, arrival: Arrival) -> None:
+        """Tells of a feature that was cut, when its first part comes."""
+        self.cut.add(arrival.of_class.name)
+        if arrival.taken.part.number == 1:
+            say('%s: cut into %d parts, since a shape has 2,000 vertices at most' % (self.name(arrival.of_class, arrival.feature), arrival.taken.part.count))
 
     def count(self, features: int) -> None:
         """So many features have been read; now and then it is told how many."""
