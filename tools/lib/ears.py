@@ -104,14 +104,15 @@ class Clipper:
     # ---- holes
 
     def join(self, first: int, hole: List) -> None:
-        """Joins a hole to the loop by a way there and back; by none where it has the place of its least vertex in common with it."""
+        """Joins a hole to the loop: at a vertex that both have, or by a way there and back from its least one."""
+        known = set(self.places)
+        start = next((number for number, place in enumerate(hole) if place in known), None)
         least = min(range(len(hole)), key=hole.__getitem__)
-        ring = hole[least:] + hole[:least]
-        at = self.seen_from(first, ring[0])
-        there = self.sector(first, at, ring[0] if at != ring[0] else ring[1])
-        nodes = list(map(self.node, ring if at != ring[0] else ring[1:]))
-        back = [self.node(ring[0])] if at != ring[0] else []
-        way = [there, *nodes, *back, self.node(at), self.after[there]]
+        ring = hole[least:] + hole[:least] if start is None else hole[start:] + hole[:start]
+        at = self.seen_from(first, ring[0]) if start is None else ring[0]
+        there = self.sector(first, at, ring[0] if start is None else ring[1])
+        nodes = list(map(self.node, ring + ring[:1] if start is None else ring[1:]))
+        way = [there, *nodes, self.node(at), self.after[there]]
         for p, q in zip(way, way[1:]):
             self.link(p, q)
 

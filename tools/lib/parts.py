@@ -7,9 +7,9 @@ from typing import Iterable, Iterator, NamedTuple, Optional
 
 from .cells import corners_of
 from .grid import Place
-from .names import Names
+from .names import Names, names_of
 from .outlines import Point, turn
-from .replies import Ending, Error, Frame, Rule
+from .replies import Ending, Error, Frame, Rule, each_error, ending_of
 
 Segment = tuple[Place, Place]
 TEXT = re.compile(r'part ([0-9]+) of ([0-9]+)(?: along ((?:-?[0-9]+ -?[0-9]+ -?[0-9]+ -?[0-9]+(?:, )?)+))?')
@@ -109,6 +109,19 @@ def told_of(error: Error, rule: Rule, whole: Whole) -> Optional[Error]:
     cuts = whole.parts[error.subject].cuts if own else whole.cuts.get(rule.dest.partition(':')[0], ()) if rule.word.startswith('point') else ()
     left = off_cuts(error, cuts)
     return left if left.cells else None
+
+
+Keys = set[tuple[int, int, int]]
+
+
+def keys_told(script: str, replies: str, table: str) -> Optional[tuple[Whole, Keys]]:
+    """The features that were cut, and the keys of the errors of whole features; none where a table names no part."""
+    names = names_of(table)
+    if not any(name.part for name in names.by_handle.values()):
+        return None
+    ending = ending_of(script, replies)
+    whole, listing = whole_of(ending, names), ending.errors()
+    return whole, {error[1:4] for error in joined(each_error(listing.lines), listing.rules, whole)} if listing else set()
 
 
 def joined(errors: Iterable[Error], rules: dict[int, Rule], whole: Whole) -> list[Error]:

@@ -76,6 +76,7 @@ class Converter:
     def __init__(self, grid: Grid, is_bounded: bool = True):
         self.grid = grid
         self.reach = REACH if is_bounded else FAR
+        # Tiles are not told which parts are of one feature.
         self.may_cut = is_bounded
         self.x, self.y = Axis(grid.resolution, grid.x), Axis(grid.resolution, grid.y)
 

@@ -219,7 +219,11 @@ class Unfit(Case):
 
     def test_more_than_2000_vertices(self):
         ring = [(x, 0) for x in range(0, 1001)] + [(x, 5) for x in range(1000, -1, -1)]
-        done = self.tool('from-ogr', self.source('m.gpkg', [polygon(ring)]), '--grid', '1')
+        self.source('m.gpkg', [polygon(ring)])
+        done = self.tool('from-ogr', 'm.gpkg', '--grid', '1')
+        self.assertIn('lots 1: cut into 2 parts, since a shape has 2,000 vertices at most', done.told)
+        done = self.tool('tiles', 'split', 'm.gpkg', '--grid', '1', '--tiles', '1', '--into', 'tiles')
+        self.assertEqual(done.status, 1)
         self.assertIn('it has 2002 vertices, and a shape has 2,000 at most', done.told)
 
     def test_faults_are_those_of_the_program(self):
