@@ -158,8 +158,8 @@ class Report:
     """What became of each feature: a row each in the table, the first of each kind and the totals on standard error; the classes of which a
     feature was cut."""
 
-    def __init__(self, table: Optional[TextIO], of: int):
-        self.rows = Table(table, COLUMNS) if table else None
+    def __init__(self, table: Optional[TextIO], of: int, is_safe: bool = False):
+        self.rows = Table(table, COLUMNS, is_safe=is_safe) if table else None
         self.of, self.read, self.added, self.left_out, self.moved = of, 0, 0, 0, 0
         self.most = Fraction(0)
         self.shown: dict[str, int] = {}
@@ -217,6 +217,9 @@ class Report:
             self.next_word = time.monotonic() + PAUSE
 
     def total(self) -> None:
+        if self.rows and self.rows.formulas and not self.rows.is_safe:
+            say('cells of the table that a spreadsheet may take for formulas, since they begin with =, +, - or @: %d; --safe puts a \' before them' %
+                self.rows.formulas)
         say('%s features read, %s added, %s left out; %s moved, by %s at most' %
             (format(self.read, ','), format(self.added, ','), format(self.left_out, ','), format(self.moved, ','), moved_text(self.most)))
 
@@ -291,6 +294,7 @@ def reading_words(parser: argparse.ArgumentParser, needs_grid: bool = True) -> N
     parser.add_argument('--subtypes-of', metavar='SCRIPT', help='words get the numbers that this earlier script says')
     parser.add_argument('--degrees', action='store_true', help='takes a source whose coordinates are degrees, and so is the grid')
     parser.add_argument('--table', metavar='FILE', help='a table of features and handles, as CSV')
+    parser.add_argument('--safe', action='store_true', help="in the table a ' before each cell that a spreadsheet may take for a formula")
     parser.add_argument('--timeout', type=float, default=SECONDS, metavar='SECONDS',
                         help='gives up where the source gives nothing for so long: %d where it is left out; 0 waits for ever' % SECONDS)
 
