@@ -32,8 +32,9 @@ class Names(NamedTuple):
     by_handle: dict[int, Name]
 
     def origin(self, handle: int, ending: Ending) -> Origin:
-        """Where a feature comes from, by the remark above its line or by the table."""
-        origin, name = ending.origins.get(handle, Origin('')), self.by_handle.get(handle)
+        """Where a feature comes from, by the remark above its line or by the table, which in a tile has the handles of the whole."""
+        origin = ending.origins.get(handle, Origin(''))
+        name = self.by_handle.get(origin.handle or handle)
         if name is None:
             return origin
         return origin._replace(of_class=origin.of_class or name.of_class, fid=name.fid or origin.fid, id=name.id or origin.id, part=origin.part or name.part)

@@ -64,7 +64,7 @@ def handle_name(handle: int) -> Name:
 
 def names_of(table: str) -> dict[int, Name]:
     """The names of the features by their handles, as a table of tools/from-ogr or tools/changes has them."""
-    rows = [row for row in rows_of(table, COLUMNS) if row['handle']]
+    rows = [row for row in rows_of(table, COLUMNS, True) if row['handle']]
     return {number_of(row['handle']): Name(side_of(row['class'])[0], row['id'] or '#' + row['handle']) for row in rows}
 
 

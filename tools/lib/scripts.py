@@ -12,6 +12,8 @@ from typing import Iterable, NamedTuple, Optional, Union
 
 from .axes import Axis
 from .bodies import common
+from .curves import KINDS as CURVE_KINDS
+from .curves import TooFine, linear_of
 from .cutting import Uncuttable, pieces_of
 from .grid import FAR, REACH, Grid, decimal_text
 from .ogr import KINDS, Layer, words_of
@@ -65,16 +67,17 @@ def kind_of_layer(layer: Layer) -> Optional[str]:
     polygon, so that each is told of. None where the layer has no geometries."""
     if layer.type == 'NONE':
         return None
-    if layer.type in KINDS:
-        return KINDS[layer.type]
-    return next((KINDS[word] for word in words_of(layer) if word in KINDS), 'polygon')
+    known = KINDS | CURVE_KINDS
+    return known.get(layer.type) or next((known[word] for word in words_of(layer) if word in known), 'polygon')
 
 
 class Converter:
     """Makes shapes on a grid of the geometries of features."""
 
-    def __init__(self, grid: Grid, is_bounded: bool = True):
+    def __init__(self, grid: Grid, is_bounded: bool = True, linearize: float = 0):
         self.grid = grid
+        # How far lines may be from the curves that they stand for; 0 where curves are left out.
+        self.linearize = linearize
         self.reach = REACH if is_bounded else FAR
         # Tiles are not told which parts are of one feature.
         self.may_cut = is_bounded
@@ -100,16 +103,30 @@ class Converter:
         if geometry is None or geometry.is_empty:
             raise LeftOut('it is empty')
         word = geometry.word
-        if CURVES.match(word):
-            raise LeftOut('%s may hold curves: write the source anew with ogr2ogr -nlt CONVERT_TO_LINEAR' % word)
+        if CURVES.match(word) and (not self.linearize or CURVE_KINDS.get(word) == kind):
+            geometry = self.linear(data, word)
+            word = geometry.word
         if KINDS.get(word) != kind:
             raise LeftOut('%s is no %s' % (word, kind))
         return geometry
+
+    def linear(self, data: bytes, word: str) -> Geometry:
+        """A geometry with curves as lines; a LeftOut where this is not asked for, or is too fine."""
+        if not self.linearize:
+            raise LeftOut('%s may hold curves: say --linearize with how far lines may be from them' % word)
+        try:
+            geometry = linear_of(data, self.linearize)
+        except TooFine:
+            raise LeftOut('an arc of it would have too many vertices: take a larger --linearize') from None
+        if geometry is None or geometry.is_empty:
+            raise LeftOut('it is empty')
+        return geometry._replace(is_curved=True)
 
     def shapes(self, data: Optional[bytes], kind: str) -> list[Taken]:
         """The shapes of a feature. LeftOut where it has none that is valid."""
         geometry = self.geometry(data, kind)
         notes = ['its Z or M is left out'] if geometry.has_more else []
+        notes += ['its curves are lines, at most %g from them' % self.linearize] if geometry.is_curved else []
         if kind != 'point':
             return self.whole_or_cut(*self.shape(geometry.parts, kind), notes)
         notes += ['it is split into %d points' % len(geometry.parts)] if len(geometry.parts) > 1 else []
