@@ -308,7 +308,7 @@ def reading_words(parser: argparse.ArgumentParser, needs_grid: bool = True) -> N
     parser.add_argument('--rule', action='append', default=[], nargs='+', metavar='WORD', help='WORD ORIGIN [DEST]: puts a rule in force' + again)
     parser.add_argument('--outline', action='append', default=[], nargs=2, metavar=('LAYER', 'CLASS'),
                         help='a layer of polygons that CLASS has to cover: what is left uncovered is an error, with its area' + again)
-    parser.add_argument('--column', action='append', default=[], metavar='FIELD', help='a field whose texts the table has in a column of their own' + again)
+    parser.add_argument('--field', action='append', default=[], metavar='FIELD', help='a field whose texts the table has in a column of their own' + again)
     parser.add_argument('--id', action='append', default=[], nargs='+', metavar='WORD',
                         help="[CLASS] FIELD: the field by which you know a feature, such as a parcel's number; of one class or layer, or of "
                              'all others' + again)

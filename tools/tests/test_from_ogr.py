@@ -154,7 +154,7 @@ class Sources(Case):
         for asked in ('ALTER TABLE lots ADD COLUMN owner TEXT', "UPDATE lots SET owner = 'Ann' || fid || ',\n' WHERE fid < 3"):
             self.assertEqual(self.run_words(['ogrinfo', '-q', 'c.gpkg', '-sql', asked]).status, 0)
         for reader in ('programs', 'bindings'):
-            words = ['c.gpkg', '--grid', '0.01', '--id', 'nr', '--column', 'owner', '--column', 'nr', '--table', 't.csv', '--rule', 'polygon_must_not_overlap', 'lots']
+            words = ['c.gpkg', '--grid', '0.01', '--id', 'nr', '--field', 'owner', '--field', 'nr', '--table', 't.csv', '--rule', 'polygon_must_not_overlap', 'lots']
             done = self.run_words(['env', 'TOPO_READER=' + reader, os.path.join(TOOLS, 'from-ogr'), *words])
             self.assertEqual(done.status, 0, done.told)
             self.assertEqual([(row['id'], row['owner'], row['nr']) for row in self.table('t.csv')], [('N1', 'Ann1,\n', 'N1'), ('N2', 'Ann2,\n', 'N2'), ('N3', '', 'N3')])
@@ -168,7 +168,7 @@ class Sources(Case):
         changed = self.tool('changes', 'p.project', 'old.csv', 'now.topo', 'new.csv', '--beside', 't.csv')
         self.assertEqual(changed.status, 0, changed.told)
         self.assertEqual([(row['id'], row['handle'], row['owner']) for row in self.table('new.csv')], [('N1', '1', 'Ann1,\n'), ('N2', '2', 'Ann2,\n'), ('N3', '3', '')])
-        wrong = self.tool('from-ogr', 'c.gpkg', '--grid', '0.01', '--column', 'ownr')
+        wrong = self.tool('from-ogr', 'c.gpkg', '--grid', '0.01', '--field', 'ownr')
         self.assertEqual((wrong.status, wrong.told), (2, 'from-ogr: there is no field `ownr`; did you mean `owner`?\n'))
 
     def test_an_outline(self):

@@ -64,7 +64,7 @@ class Values(HostileCase):
         hostile.write_lots(self.path('plain.geojson'), [{'nr': 'N'} for _ in ids])
         for way in WAYS:
             with self.way(way):
-                evil = self.read('evil.geojson', '--id', 'nr', '--column', 'nr', '--table', 'evil.csv', '--layer', 'evil')
+                evil = self.read('evil.geojson', '--id', 'nr', '--field', 'nr', '--table', 'evil.csv', '--layer', 'evil')
                 plain = self.read('plain.geojson', '--id', 'nr', '--layer', 'plain')
                 self.assertEqual((evil.status, without_progress(evil.told)), (0, without_progress(plain.told)))
                 self.assertEqual(lines_without_remarks(evil.out), lines_without_remarks(plain.out.replace('plain', 'evil')))
