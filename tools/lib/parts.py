@@ -3,6 +3,7 @@ the whole feature again."""
 from __future__ import annotations
 
 import re
+from collections import Counter
 from typing import Iterable, Iterator, NamedTuple, Optional
 
 from .cells import corners_of
@@ -66,16 +67,20 @@ class Whole(NamedTuple):
 
 
 def whole_of(ending: Ending, names: Names) -> Whole:
-    """The features that were cut, by the remarks of a script and the notes of a table."""
+    """The features that were cut, by the remarks of a script and the notes of a table. Two sources may have features of one number and id in one
+    class: then the second part of a number is of the second one."""
     whole = Whole({}, {}, {})
-    firsts: dict[tuple[str, str, str], int] = {}
+    firsts: dict[tuple[str, str, str, int], int] = {}
+    times: Counter[tuple[str, str, str, int]] = Counter()
     for handle in sorted({*ending.origins, *names.by_handle}):
         origin = names.origin(handle, ending)
         part = part_in(origin.part)
         if part:
             of_class = origin.of_class.partition(':')[0]
             whole.parts[handle] = part
-            whole.first[handle] = firsts.setdefault((of_class, origin.fid, origin.id), handle)
+            key = of_class, origin.fid, origin.id
+            times[*key, part.number] += 1
+            whole.first[handle] = firsts.setdefault((*key, times[*key, part.number]), handle)
             whole.cuts.setdefault(of_class, []).extend(part.cuts)
     return whole
 

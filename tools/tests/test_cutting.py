@@ -143,6 +143,20 @@ class Told(Case):
         self.assertEqual(self.tool('to-gis', script, replies, 'layers').status, 0)
         self.assertEqual(self.rows('layers/error_polygons.geojson', 'SELECT count(*) AS n FROM error_polygons'), [{'n': 3}])
 
+    def test_two_sources_in_one_class(self) -> None:
+        """Features of the same number and id, each of several parts, stay two."""
+        self.make('north.gpkg', 2000)
+        self.make('south.gpkg', 2000)
+        done = self.tool('from-ogr', 'north.gpkg', 'south.gpkg', '--layer', 'lots=lots', *self.words(('polygon_must_not_overlap', 'lots')))
+        told = self.tool('report', *self.replayed('two', done.out), '--wide')
+        rows = [(row['subject'], row['other'], row['area']) for row in csv.DictReader(told.out.splitlines())]
+        self.assertIn(('1', '5', str(self.area())), rows)
+        self.assertEqual([(subject, other) for subject, other, _ in rows], [('1', '3'), ('1', '5'), ('1', '7'), ('3', '5'), ('3', '7'), ('4', '8'), ('5', '7')])
+
+    def area(self) -> float:
+        """That of the long lot."""
+        return 1200 * 50 + sum((x % 7 + (x + 1) % 7) / 2 for x in range(1200))
+
     def test_nights(self) -> None:
         """Parts keep their handles from night to night, an officer marks all of them with one row, and no error is of a cut alone."""
         self.make('day.gpkg', 2000)
