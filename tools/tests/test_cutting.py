@@ -168,7 +168,8 @@ class Told(Case):
         self.make('other.gpkg', 3000)
         done = self.tool('night', 'other.gpkg', 'nights', '--program', PROGRAM[0], '--marks', 'marked.csv')
         self.assertIn('7 the same, 1 changed, 0 added, 0 deleted', done.told)
-        self.assertEqual((done.status, done.out.splitlines()[:2]), (1, ['marked: 2', '    not marked: rule 1, lots N3: the error is another one now, so it is not marked']), done.told)
+        said = ['marked: 2', '    not marked: rule 1, lots N3: the error is another one now, so it is not marked']
+        self.assertEqual((done.status, done.out.splitlines()[:2]), (1, said), done.told)
         self.assertIn('errors: 1; exceptions: 1', done.out)
 
 
