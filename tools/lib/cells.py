@@ -7,10 +7,11 @@ from typing import NamedTuple
 
 from .outlines import Outline, Point, doubled_area, line_key, outlines_of, turn
 from .replies import Error, Frame, Half
-from .spans import Segment, beside, bounds_of, ends_of, equation_of, parts_on_lines, stops_in
+from .spans import ROOM, Segment, beside, bounds_of, ends_of, equation_of, near, parts_on_lines, stops_in
 
 Triple = tuple[int, int, int]
 Span = tuple[Fraction, Fraction]
+Box = tuple[float, float, float, float]
 
 
 class Cover(NamedTuple):
@@ -97,13 +98,21 @@ def span_in(segment: Segment, polygon: list[Point]) -> Span:
     return low, high
 
 
-def rest_of(segment: Segment, polygons: list[list[Point]]) -> list[Segment]:
-    """The parts of a segment that lie in none of the polygons."""
+def box_round(points: list[Point]) -> Box:
+    """A rectangle round points, by so much larger that it holds them also in double precision."""
+    xs, ys = zip(*map(near, points))
+    room = max(1.0, *map(abs, xs), *map(abs, ys)) * ROOM
+    return min(xs) - room, min(ys) - room, max(xs) + room, max(ys) + room
+
+
+def rest_of(segment: Segment, polygons: list[tuple[Box, list[Point]]]) -> list[Segment]:
+    """The parts of a segment that lie in none of the polygons, each of which comes with a rectangle round it."""
     (x, y), (u, v) = segment
     at = lambda t: (x + t * (u - x), y + t * (v - y))
     left, parts = Fraction(0), []
-    near = [polygon for polygon in polygons if min(polygon)[0] <= max(x, u) and max(polygon)[0] >= min(x, u)]
-    for low, high in sorted(span for span in (span_in(segment, polygon) for polygon in near) if span[0] <= span[1]):
+    x0, y0, x1, y1 = box_round(list(segment))
+    around = [polygon for box, polygon in polygons if box[0] <= x1 and x0 <= box[2] and box[1] <= y1 and y0 <= box[3]]
+    for low, high in sorted(span for span in (span_in(segment, polygon) for polygon in around) if span[0] <= span[1]):
         if low > left:
             parts.append((at(left), at(low)))
         left = max(left, high)
@@ -134,7 +143,8 @@ def cover_of(closures: list[list[Point]]) -> Cover:
         return Cover([Outline(closures[0], [])], [], [])
     areas = [corners for corners in closures if len(corners) > 2]
     segments = dict.fromkeys((corners[0], corners[1]) for corners in closures if len(corners) == 2)
-    lines = joined([part for segment in segments for part in rest_of(segment, areas)])
+    boxed = [(box_round(area), area) for area in areas]
+    lines = joined([part for segment in segments for part in rest_of(segment, boxed)])
     inside = lambda point: any(all(turn(p, q, point) >= 0 for p, q in zip(area, area[1:] + area[:1])) for area in areas)
     alone = [point for point in beside({corners[0] for corners in closures if len(corners) == 1}, lines) if not inside(point)]
     return Cover(outlines_of(areas), lines, alone)

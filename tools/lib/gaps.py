@@ -11,7 +11,7 @@ from fractions import Fraction
 from typing import Iterable, NamedTuple
 
 from .outlines import Outline, Point, Ring, doubled_area, rings_of, turn, way_on
-from .spans import Segment
+from .spans import Segment, may_hold, near
 
 WORD = 'polygon_must_not_have_gaps'
 MOST_STRIPS = 4096
@@ -43,10 +43,23 @@ class Ground(NamedTuple):
 
 # ---- the border as a graph
 
+class Kept(Fraction):
+    """A fraction that keeps its hash, which takes longer than all else that is done with it."""
+
+    __slots__ = ('_known',)
+
+    def __hash__(self) -> int:
+        try:
+            return self._known
+        except AttributeError:
+            self._known = super().__hash__()
+            return self._known
+
+
 def eased(point: Point) -> Point:
     """The same point, in whole numbers where it lies on the grid, as nearly all do: these are compared much faster."""
     x, y = point
-    return (x.numerator if x.denominator == 1 else x), (y.numerator if y.denominator == 1 else y)
+    return (x.numerator if x.denominator == 1 else Kept(x)), (y.numerator if y.denominator == 1 else Kept(y))
 
 
 def squares(low: Point, high: Point, size: float) -> Iterable[Square]:
@@ -73,13 +86,15 @@ def split(sides: dict[Segment, set[int]], points: set[Point]) -> dict[Segment, l
     """The pieces of each side, cut where another one ends, or where a point lies on it."""
     size = size_for(sides)
     places: dict[Square, set[Point]] = {}
-    for point in points.union(*sides):
+    known = {point: near(point) for point in points.union(*sides)}
+    for point in known:
         for square in squares(point, point, size):
             places.setdefault(square, set()).add(point)
     out: dict[Segment, list[Segment]] = {}
     for p, q in sides:
-        near = set().union(*(places.get(square, ()) for square in squares(*box_of((p, q)), size)))
-        stops = [p, *sorted(point for point in near if p < point < q and turn(p, q, point) == 0), q]
+        beside = set().union(*(places.get(square, ()) for square in squares(*box_of((p, q)), size)))
+        ends = near(p), near(q)
+        stops = [p, *sorted(point for point in beside if may_hold(*ends, known[point]) and p < point < q and turn(p, q, point) == 0), q]
         out[p, q] = list(zip(stops, stops[1:]))
     return out
 

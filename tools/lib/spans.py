@@ -15,6 +15,8 @@ Number = Union[int, Fraction]
 # Two bounds along a line, each as a whole number and what divides it, which is over 0.
 Bounds = tuple[int, int, int, int]
 Span = tuple[Number, Number]
+# What is lost of a number in double precision is less than this part of it, many times.
+ROOM = 1e-14
 
 
 class Line(NamedTuple):
@@ -133,10 +135,26 @@ def holds(segment: Segment, point: Point) -> bool:
     return segment[0] <= point <= segment[1] and turn(*segment, point) == 0
 
 
+def may_hold(p: tuple[float, float], q: tuple[float, float], point: tuple[float, float]) -> bool:
+    """Whether a point may lie on a segment, by all three as they are nearest in double precision: where it may not, it does not."""
+    (x, y), (u, v), (s, t) = p, q, point
+    room = max(1.0, abs(x), abs(y), abs(u), abs(v)) * ROOM
+    if not (min(x, u) - room <= s <= max(x, u) + room and min(y, v) - room <= t <= max(y, v) + room):
+        return False
+    return abs((u - x) * (t - y) - (v - y) * (s - x)) <= (abs(u - x) + abs(v - y) + room) * room
+
+
+def near(point: Point) -> tuple[float, float]:
+    """A point as it is nearest in double precision."""
+    return float(point[0]), float(point[1])
+
+
 def beside(points: set[Point], segments: list[Segment]) -> list[Point]:
     """The points that lie on none of the segments, in their order."""
+    ends = [(segment, near(segment[0]), near(segment[1])) for segment in segments]
+    is_held = lambda point, at: any(holds(segment, point) for segment, p, q in ends if may_hold(p, q, at))
     at_ends = {end for segment in segments for end in segment}
-    return [point for point in sorted(points - at_ends) if not any(holds(segment, point) for segment in segments)]
+    return sorted(point for point in points - at_ends if not is_held(point, near(point)))
 
 
 def parts_on_lines(found: dict[Line, set[Bounds]]) -> tuple[list[Segment], list[Point]]:

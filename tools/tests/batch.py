@@ -6,6 +6,7 @@ import shutil
 import socket
 import subprocess
 import time
+from typing import Optional
 
 LONG = 120
 CONFIGURATION = '''ClusterName=topo
@@ -38,7 +39,7 @@ def missing() -> str:
     return '%s (packages slurm-wlm and munge)' % ', '.join(absent) if absent else ''
 
 
-def found(name: str) -> str | None:
+def found(name: str) -> Optional[str]:
     return shutil.which(name, path=os.environ.get('PATH', '') + ':/usr/sbin')
 
 
