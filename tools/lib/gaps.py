@@ -11,7 +11,7 @@ from fractions import Fraction
 from typing import Iterable, NamedTuple
 
 from .outlines import Outline, Point, Ring, doubled_area, rings_of, turn, way_on
-from .spans import Segment, may_hold, near
+from .spans import ROOM, Segment, may_be_straight, may_hold, near
 
 WORD = 'polygon_must_not_have_gaps'
 MOST_STRIPS = 4096
@@ -134,6 +134,16 @@ def pieces_of(ways: dict[Point, list[Point]]) -> list[list[Point]]:
 
 # ---- its faces
 
+def goes_left(ring: Ring) -> bool:
+    """Whether a ring goes counter-clockwise. Fractions are asked only where double precision cannot tell: a sum of many has long numbers."""
+    x0, y0 = near(ring[0])
+    steps = [(x - x0, y - y0) for x, y in map(near, ring)]
+    doubled = math.fsum(x * v - y * u for (x, y), (u, v) in zip(steps, steps[1:]))
+    far = max(abs(number) for step in steps for number in step) + max(1.0, abs(x0), abs(y0)) * ROOM
+    room = len(ring) * far * (far + max(abs(x0), abs(y0))) * ROOM
+    return doubled > 0 if abs(doubled) > room else doubled_area(ring) > 0
+
+
 class Faces:
     """The walks round the faces of a graph in which from each point an even number of ways lead on, each with its face at its left."""
 
@@ -146,7 +156,7 @@ class Faces:
                 for q in ways[p]:
                     if (p, q) not in self.of_way:
                         self.walk((p, q))
-        self.is_bounded = [doubled_area(walk) > 0 for walk in self.walks]
+        self.is_bounded = list(map(goes_left, self.walks))
 
     def walk(self, way: Way) -> None:
         ring: Ring = []
@@ -233,8 +243,9 @@ class Map:
 
 def straightened(ring: Ring, ways: dict[Point, list[Point]]) -> Ring:
     """A ring without the points at which nothing turns and no other way passes."""
-    around = zip(ring[-1:] + ring[:-1], ring, ring[1:] + ring[:1])
-    return [q for p, q, r in around if len(ways[q]) > 2 or turn(p, q, r) != 0]
+    known = list(map(near, ring))
+    around = zip(ring[-1:] + ring[:-1], ring, ring[1:] + ring[:1], known[-1:] + known[:-1], known, known[1:] + known[:1])
+    return [q for p, q, r, *ends in around if len(ways[q]) > 2 or not may_be_straight(*ends) or turn(p, q, r) != 0]
 
 
 def side_of(way: Way) -> Segment:

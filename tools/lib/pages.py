@@ -16,7 +16,7 @@ from .mapping import GREY, OF_CLASS, OF_RULE, colour, rule_text
 from .outlines import Point
 from .replies import Frame
 from .rules import title_of
-from .scenes import Drawn, Marked, Scene, around, box_of
+from .scenes import Drawn, Marked, Scene, box_of
 from .spans import Segment
 
 TEMPLATE = os.path.join(os.path.dirname(os.path.abspath(__file__)), 'page.html')
@@ -71,30 +71,24 @@ def bytes_of_all(numbers: list[int]) -> bytes:
     return b''.join([BYTES[number] if -NEAR <= number < NEAR else bytes_of(number) for number in numbers])
 
 
-def steps_of(numbers: list[int], start: int) -> list[int]:
-    """The way from number to number, from `start` on."""
-    return list(map(sub, numbers, [start, *numbers[:-1]]))
-
-
 def packed(features: list[Drawn], names: list[str]) -> tuple[str, Optional[Frame]]:
     """The features in base64: of each the class, the number of its lists, and of each list the number of its places and the way from place to
     place; and the least rectangle that holds them all."""
-    out, x, y = bytearray(), 0, 0
-    frames: list[tuple[int, int, int, int]] = []
+    out, last = bytearray(), [0, 0]
+    xs: list[int] = []
+    ys: list[int] = []
     index = {name: number for number, name in enumerate(names)}
     for feature in features:
         lists = feature.numbers
         out += bytes_of_all([index[feature.of_class], len(lists)])
         for numbers in lists:
             if feature.kind == 'polygon':
-                numbers = numbers[:-2]
-            xs, ys = numbers[::2], numbers[1::2]
-            ways = [0] * len(numbers)
-            ways[::2], ways[1::2] = steps_of(xs, x), steps_of(ys, y)
-            out += bytes_of_all([len(xs)]) + bytes_of_all(ways)
-            x, y = numbers[-2:]
-            frames = [around([*frames, (min(xs), min(ys), max(xs), max(ys))])]
-    return b64encode(out).decode(), frames[0] if frames else None
+                del numbers[-2:]
+            out += bytes_of_all([len(numbers) // 2]) + bytes_of_all(list(map(sub, numbers, last + numbers)))
+            last = numbers[-2:]
+            xs += min(numbers[::2]), max(numbers[::2])
+            ys += min(numbers[1::2]), max(numbers[1::2])
+    return b64encode(out).decode(), (min(xs), min(ys), max(xs), max(ys)) if xs else None
 
 
 def runs_of(numbers: Iterable[int]) -> list[int]:

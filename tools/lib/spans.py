@@ -15,6 +15,8 @@ Number = Union[int, Fraction]
 # Two bounds along a line, each as a whole number and what divides it, which is over 0.
 Bounds = tuple[int, int, int, int]
 Span = tuple[Number, Number]
+# A point as it is nearest in double precision.
+Near = tuple[float, float]
 # What is lost of a number in double precision is less than this part of it, many times.
 ROOM = 1e-14
 
@@ -135,16 +137,22 @@ def holds(segment: Segment, point: Point) -> bool:
     return segment[0] <= point <= segment[1] and turn(*segment, point) == 0
 
 
-def may_hold(p: tuple[float, float], q: tuple[float, float], point: tuple[float, float]) -> bool:
-    """Whether a point may lie on a segment, by all three as they are nearest in double precision: where it may not, it does not."""
+def may_be_straight(p: Near, q: Near, r: Near) -> bool:
+    """Whether three points may lie on one line, by what is nearest to them in double precision: where they may not, they do not."""
+    (x, y), (u, v), (s, t) = p, q, r
+    room = max(1.0, abs(x), abs(y), abs(u), abs(v), abs(s), abs(t)) * ROOM
+    size = abs(u - x) + abs(v - y) + abs(s - x) + abs(t - y) + room
+    return abs((u - x) * (t - y) - (v - y) * (s - x)) <= size * room
+
+
+def may_hold(p: Near, q: Near, point: Near) -> bool:
+    """Whether a point may lie on a segment, in the same way."""
     (x, y), (u, v), (s, t) = p, q, point
     room = max(1.0, abs(x), abs(y), abs(u), abs(v)) * ROOM
-    if not (min(x, u) - room <= s <= max(x, u) + room and min(y, v) - room <= t <= max(y, v) + room):
-        return False
-    return abs((u - x) * (t - y) - (v - y) * (s - x)) <= (abs(u - x) + abs(v - y) + room) * room
+    return min(x, u) - room <= s <= max(x, u) + room and min(y, v) - room <= t <= max(y, v) + room and may_be_straight(p, q, point)
 
 
-def near(point: Point) -> tuple[float, float]:
+def near(point: Point) -> Near:
     """A point as it is nearest in double precision."""
     return float(point[0]), float(point[1])
 
