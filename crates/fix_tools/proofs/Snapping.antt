@@ -27,9 +27,9 @@ use Rattle.rule_laws.proofs.Nears.{side_test, side_from}
 use Rattle.rule_laws.proofs.Tests.{place_from, place_test}
 use Rattle.rule_laws.proofs.Counted.{count_test}
 use Rattle.rule_laws.proofs.Uncovered.{every_flat}
-use Rattle.fix_tools.specs.Plans.{IsAfter}
-use Rattle.fix_tools.specs.Snap.{snapped, snapped_shape, is_for_dangles, dangles_at, holds_other, may_snap, HasSnapped}
-use Rattle.fix_tools.specs.declared.plan.Edit.{Edit}
+use Rattle.fix_terms.specs.Plans.{IsAfter}
+use Rattle.fix_terms.specs.Snap.{snapped, snapped_shape, is_for_dangles, dangles_at, holds_other, may_snap, HasSnapped}
+use Rattle.fix_terms.specs.Plans.{Edit}
 use Rattle.fix_tools.proofs.After.{set_off, set_here}
 use Rattle.fix_tools.proofs.LineEnds.{replaced, snapped_ends, kind_of_ends, count_replaced, replaced_there, end_there, counted_at, held_counted, ends_held}
 

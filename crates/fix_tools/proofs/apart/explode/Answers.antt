@@ -2,9 +2,9 @@ use Rattle.std.proofs.Common.{◌≡◌, ◌<◌, ℕ, List, arith, sym, subst, 
 use Rattle.topology_terms.specs.Feature.{Feature, feature_at}
 use Rattle.sound_laws.proofs.FeatureLists.{handle_of, live_each}
 use Rattle.feature_store.specs.Keeps.{IsGiven}
-use Rattle.fix_tools.specs.declared.plan.Edit.{Edit}
-use Rattle.fix_tools.specs.Plans.{IsAfter}
-use Rattle.fix_tools.specs.Explode.{HasExploded}
+use Rattle.fix_terms.specs.Plans.{Edit}
+use Rattle.fix_terms.specs.Plans.{IsAfter}
+use Rattle.fix_terms.specs.Explode.{HasExploded}
 use Rattle.fix_tools.proofs.LineParts.{Several, several_parts, several_kind, several_may, several_plan, several_enough, too_few}
 use Rattle.fix_tools.proofs.Exploding.{explode_fixes}
 use Rattle.fix_tools.proofs.apart.explode.Goals as goal

@@ -4,9 +4,10 @@ use Rattle.plane_terms.specs.Point.{same_place}
 use Rattle.plane_terms.specs.ShapeFaults.{IsFlawless}
 use Rattle.topology_terms.specs.Feature.{Feature}
 use Rattle.feature_store.specs.Slots.{filled}
-use Rattle.fix_tools.specs.declared.plan.Edit.{Edit}
-use Rattle.fix_tools.specs.Plans.{IsAfter, shapes_of}
-use Rattle.fix_tools.specs.Move.{moves, IsMoveFault}
+use Rattle.fix_terms.specs.Plans.{Edit}
+use Rattle.fix_terms.specs.Plans.{IsAfter, shapes_of}
+use Rattle.fix_terms.specs.Move.{moves}
+use Rattle.fix_tools.specs.Move.{IsMoveFault}
 use Rattle.fix_tools.proofs.Moving.{move_fixes}
 use Rattle.fix_tools.proofs.MovePlans.{plan_is, none_of, stop_fault, nothing_moves, something_moves, onto_itself}
 use Rattle.fix_tools.proofs.moves.move_all.Goals as goal

@@ -3,7 +3,7 @@ use Rattle.std.proofs.lemmas.Result.{IfOk-weaker}
 use Rattle.plane_terms.specs.Shape.{IsShape}
 use Rattle.topology_terms.specs.Feature.{Feature, feature_at}
 use Rattle.topology_terms.specs.Project.{InForce, rule_at}
-use Rattle.fix_tools.specs.Snap.{snapped, snapped_shape}
+use Rattle.fix_terms.specs.Snap.{snapped, snapped_shape}
 use Rattle.fix_tools.proofs.Snapping.{snap_holds}
 use Rattle.fix_tools.proofs.snaps.snap.Goals as goal
 

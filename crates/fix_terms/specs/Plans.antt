@@ -1,7 +1,6 @@
 -- Plans of fixes, and what they leave.
 --
--- An edit of a plan puts a shape in place of that of a live feature, or adds a feature of a class and a subtype.
---
+-- Edit                     an edit of a plan: it puts a shape in place of that of a live feature, or adds a feature of a class and a subtype
 -- after_plan es n at h     what stands at the handle h after these edits, where `at` is what stood and n is the next handle
 -- IsAfter es F n G         G are the features after these edits of the features F, new ones under the handles from n on
 -- handles_of es n          the handles that the edits put or add, in turn
@@ -21,8 +20,11 @@ use Rattle.topology_terms.specs.Feature.{Feature, feature_of, feature_at, IsAsce
 use Rattle.topology_terms.specs.Project.{Project}
 use Rattle.topology_terms.specs.Changes.{reshaped, IsFeatureSet, IsFeatureAdded}
 use Rattle.session_terms.specs.Kept.{set_at}
-use Rattle.fix_tools.specs.declared.plan.Edit.{Edit}
-use Rattle.fix_tools.specs.declared.plan.Edit.TheVariants.{Put, Add}
+use Rattle.fix_terms.specs.declared.edit.Edit as edits
+use Rattle.fix_terms.specs.declared.edit.Edit.TheVariants.{Put, Add}
+
+abbrev pub Edit : Type 0
+Edit = edits.Edit Shape
 
 abbrev pub after_plan : List Edit → ℕ → (ℕ → Option Feature) → ℕ → Option Feature
 after_plan [] n at = at
