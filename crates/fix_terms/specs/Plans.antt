@@ -8,15 +8,17 @@
 -- adds es                  how many of them add
 -- IsFirstFault ss fault    of these shapes one is refused for this fault, and those before it have none
 -- IsBadPlan es fault       so of the shapes of a plan, and not for want of memory
+-- IsPossible es p          each of these edits can be done, one after another
 -- AreDone es p q           q is what the edits make of the project p, one after another, as changes of a topology
 --
 -- Source: own.
-use Rattle.std.specs.Prelude.{◌≡◌, ◌≢◌, ◌⊎◌, ℕ, ◌+◌, List, [], ◌∷◌, Option, Some}
+use Rattle.std.specs.Prelude.{◌≡◌, ◌≢◌, ◌⊎◌, ℕ, ◌+◌, List, [], ◌∷◌, Option, Some, None}
 use Rattle.plane_terms.specs.Shape.{Shape}
 use Rattle.plane_terms.specs.ShapeFaults.{IsFault, IsFlawless}
 use Rattle.plane_terms.specs.declared.shape_fault.ShapeFault.{ShapeFault}
 use Rattle.plane_terms.specs.declared.shape_fault.ShapeFault.TheVariants as shape_fault
 use Rattle.topology_terms.specs.Feature.{Feature, feature_of, feature_at, IsAscending}
+use Rattle.topology_terms.specs.Causes.{add_cause, change_cause}
 use Rattle.topology_terms.specs.Project.{Project}
 use Rattle.topology_terms.specs.Changes.{reshaped, IsFeatureSet, IsFeatureAdded}
 use Rattle.session_terms.specs.Kept.{set_at}
@@ -62,3 +64,10 @@ abbrev pub AreDone : List Edit → Project → Project → Type 0
 AreDone [] p q = q ≡ p
 AreDone (Put h s ∷ es) p q = (m : Project) × IsFeatureSet h (reshaped (feature_at p.features h) s) p m × AreDone es m q
 AreDone (Add class t s ∷ es) p q = (m : Project) × IsFeatureAdded class t s p.next p m × AreDone es m q
+
+abbrev pub IsPossible : List Edit → Project → Type 0
+IsPossible [] p = Unit {0}
+IsPossible (Put h s ∷ es) p = (change_cause p.features h s.kind ≡ None)
+    × ((q : Project) → IsFeatureSet h (reshaped (feature_at p.features h) s) p q → IsPossible es q)
+IsPossible (Add class t s ∷ es) p = (add_cause p.classes p.next class s.kind ≡ None)
+    × ((q : Project) → IsFeatureAdded class t s p.next p q → IsPossible es q)

@@ -2,22 +2,16 @@
 --
 -- IsCreated p r h at        the plan is that of the rule r and the feature h, and there is a handle for it
 -- IsCreateFault p r h at    why there is no such plan
-use Rattle.std.specs.Prelude.{Bool, true, false, ◌&&◌, ◌≡◌, ◌≢◌, ℕ, ◌+◌, ◌≤◌, List, [], ◌∷◌, Option, Some, None}
-use Rattle.plane_terms.specs.Point.{Place, Point, IsAt}
-use Rattle.plane_terms.specs.Shape.{point_shape}
-use Rattle.rule_words.specs.declared.rule_kind.RuleKind.{RuleKind}
-use Rattle.rule_words.specs.declared.rule_kind.RuleKind.TheVariants as rule
-use Rattle.topology_terms.specs.Feature.{Feature, Side, feature_at, is_on_side, sides}
-use Rattle.topology_terms.specs.Together.{of_side, ends}
-use Rattle.topology_terms.specs.Tests.{is_inside_at, has_end_at}
-use Rattle.topology_terms.specs.Plans.{none_inside, none_at, is_point_at}
-use Rattle.topology_terms.specs.Broken.{Row, BrokenAt, BrokenWhole}
+use Rattle.std.specs.Prelude.{true, false, ◌≡◌, ℕ, List, Some, None}
+use Rattle.plane_terms.specs.Point.{Place}
+use Rattle.topology_terms.specs.Feature.{Feature, feature_at}
+use Rattle.topology_terms.specs.Broken.{Row}
 use Rattle.topology_terms.specs.Project.{Project, rule_at}
 use Rattle.fix_tools.specs.Snap.{IsOfRule}
+use Rattle.fix_terms.specs.Create.{created, may_create, HasHandle}
 use Rattle.fix_tools.specs.declared.fault.FixFault.{FixFault}
 use Rattle.fix_tools.specs.declared.fault.FixFault.TheVariants.{NoRule, NoFeature, Nothing, Bad, Spent, NoMemory}
 use Rattle.fix_terms.specs.Plans.{Edit}
-use Rattle.fix_terms.specs.declared.edit.Edit.TheVariants.{Add}
 
 pub record IsCreated (p : Project) (r h : ℕ) (at : Place) (es : List Edit) : Type 0 where
   pub row : Row

@@ -4,21 +4,17 @@
 -- added_parts f rings  an addition of each of these parts, of the feature's class and subtype
 -- IsExploded p h       the plan is that of the live feature h, and there are handles for it
 -- IsExplodeFault p h   why there is no such plan
-use Rattle.std.specs.Prelude.{◌≡◌, ◌≢◌, ℕ, nat_lt, ◌+◌, ◌≤◌, Bool, true, false, ◌&&◌, List, [], ◌∷◌, length, map, flat_map, Some, None}
-use Rattle.plane_terms.specs.Lists.{Every}
+use Rattle.std.specs.Prelude.{◌≡◌, ℕ, ◌≤◌, true, false, List, [], ◌∷◌, length, map, Some, None}
 use Rattle.plane_terms.specs.Point.{Place}
-use Rattle.plane_terms.specs.Shape.{Shape, IsRing, segments_of}
+use Rattle.plane_terms.specs.Shape.{IsRing}
 use Rattle.plane_terms.specs.declared.kind.Kind.TheVariants as kind
-use Rattle.rule_words.specs.declared.rule_kind.RuleKind.TheVariants as rule
-use Rattle.topology_terms.specs.Feature.{Feature, feature_at, sides}
-use Rattle.topology_terms.specs.Broken.{Row, BrokenWhole}
-use Rattle.topology_terms.specs.Causes.{same_kind}
+use Rattle.topology_terms.specs.Feature.{Feature, feature_at}
 use Rattle.topology_terms.specs.Project.{Project}
-use Rattle.fix_terms.specs.Plans.{handles_of, shapes_of}
+use Rattle.fix_terms.specs.Explode.{line_of, exploded, may_explode, HasHandles}
 use Rattle.fix_tools.specs.declared.fault.FixFault.{FixFault}
 use Rattle.fix_tools.specs.declared.fault.FixFault.TheVariants.{NoRule, NoFeature, Nothing, Bad, Spent, NoMemory}
 use Rattle.fix_terms.specs.Plans.{Edit}
-use Rattle.fix_terms.specs.declared.edit.Edit.TheVariants.{Put, Add}
+use Rattle.fix_terms.specs.declared.edit.Edit.TheVariants.{Add}
 
 -- what each part of a line is
 pub record IsLinePart (vertices : List Place) : Type 0 where

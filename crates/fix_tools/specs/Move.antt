@@ -3,19 +3,16 @@
 -- IsMovePlan from to F     the plan is that of these features, and none of its shapes is refused
 -- IsMoveFault from to F    why there is no such plan
 -- IsMoveStop from to F     why no plan is made of these features, where the places differ
-use Rattle.std.specs.Prelude.{Bool, true, false, ◌&&◌, not, ◌≡◌, ℕ, List, [], ◌∷◌, map, filter, Some, if◌then◌else◌}
-use Rattle.std.specs.Option.{option_map}
-use Rattle.std.specs.List.{list_any}
+use Rattle.std.specs.Prelude.{true, false, ◌≡◌, List}
 use Rattle.plane_terms.specs.Lists.{Every}
-use Rattle.plane_terms.specs.Point.{Place, same_place}
-use Rattle.plane_terms.specs.Shape.{Shape, shape_of, vertices_of}
+use Rattle.plane_terms.specs.Point.{Place}
 use Rattle.plane_terms.specs.ShapeFaults.{IsFlawless}
-use Rattle.topology_terms.specs.Feature.{Feature, feature_at}
+use Rattle.topology_terms.specs.Feature.{Feature}
 use Rattle.fix_terms.specs.Plans.{shapes_of, IsBadPlan}
+use Rattle.fix_terms.specs.Move.{moves, may_move}
 use Rattle.fix_tools.specs.declared.fault.FixFault.{FixFault}
 use Rattle.fix_tools.specs.declared.fault.FixFault.TheVariants.{NoRule, NoFeature, Nothing, Bad, Spent, NoMemory}
 use Rattle.fix_terms.specs.Plans.{Edit}
-use Rattle.fix_terms.specs.declared.edit.Edit.TheVariants.{Put}
 
 pub record IsMovePlan (from to : Place) (F : List Feature) (es : List Edit) : Type 0 where
   pub may : may_move from to F ≡ true

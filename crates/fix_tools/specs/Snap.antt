@@ -4,24 +4,17 @@
 -- IsSnapped p r h i to     the plan is that of the feature h, whose shape is not refused
 -- IsSnapFault p r h i to   why there is no such plan
 -- IsSnapStop es            why no plan of these edits is made
-use Rattle.std.specs.Prelude.{Bool, true, false, ◌&&◌, not, ◌≡◌, ◌≢◌, ℕ, zero, suc, ◌==◌, List, [], ◌∷◌, map, Option, Some, None, slice_get}
-use Rattle.std.specs.List.{list_any}
-use Rattle.plane_terms.specs.Point.{Place, Point, IsAt}
-use Rattle.plane_terms.specs.Shape.{Shape, shape_of, rings_of}
+use Rattle.std.specs.Prelude.{true, false, ◌≡◌, ℕ, List, Some, None}
+use Rattle.plane_terms.specs.Point.{Place}
 use Rattle.plane_terms.specs.ShapeFaults.{IsFlawless}
-use Rattle.plane_terms.specs.declared.kind.Kind.TheVariants as kind
-use Rattle.rule_words.specs.declared.rule_kind.RuleKind.{RuleKind}
-use Rattle.rule_words.specs.declared.rule_kind.RuleKind.TheVariants as rule
-use Rattle.topology_terms.specs.Feature.{Feature, feature_at, is_on_side}
-use Rattle.topology_terms.specs.Together.{of_side, ends}
-use Rattle.topology_terms.specs.Plans.{is_dangle, has_side_at}
-use Rattle.topology_terms.specs.Broken.{Row, BrokenAt}
+use Rattle.topology_terms.specs.Feature.{Feature, feature_at}
+use Rattle.topology_terms.specs.Broken.{Row}
 use Rattle.topology_terms.specs.Project.{Project, rule_at}
 use Rattle.fix_terms.specs.Plans.{IsBadPlan}
+use Rattle.fix_terms.specs.Snap.{snapped, snapped_shape, may_snap}
 use Rattle.fix_tools.specs.declared.fault.FixFault.{FixFault}
 use Rattle.fix_tools.specs.declared.fault.FixFault.TheVariants.{NoRule, NoFeature, Nothing, Bad, Spent, NoMemory}
 use Rattle.fix_terms.specs.Plans.{Edit}
-use Rattle.fix_terms.specs.declared.edit.Edit.TheVariants.{Put}
 
 pub record IsOfRule (p : Project) (r h : ℕ) (row : Row) (f : Feature) : Type 0 where
   pub rule : rule_at p.rules r ≡ Some row

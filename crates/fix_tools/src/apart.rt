@@ -2,7 +2,7 @@ ghost use Rattle.std.specs.Prelude.{◌≡◌, ◌≤◌, ◌<◌, ◌+◌, ◌+
 ghost use Rattle.plane_terms.specs.Lists.{Every};
 ghost use Rattle.topology_terms.specs.Feature as terms;
 ghost use Rattle.shape.specs.Given.{rings_in};
-ghost use Rattle.fix_terms.specs.Plans.{IsAfter};
+ghost use Rattle.fix_terms.specs.Plans.{IsAfter, IsPossible};
 ghost use Rattle.fix_terms.specs.declared.edit.Edit.TheVariants.{Add};
 ghost use Rattle.fix_terms.specs.Explode.{line_of, exploded_by, HasExploded};
 ghost use Rattle.fix_tools.specs.Explode.{IsLinePart, added_parts, IsExploded, IsExplodeFault};
@@ -72,6 +72,7 @@ pub fn explode<R: KindRules>(
 ) -> Result<Plan, FixFault>
     ensures plan { IfOk result (IsExploded topology.now handle) }
     ensures refused { IfErr result (IsExplodeFault topology.now handle) }
+    ensures possible { IfOk result (λ plan. IsPossible plan topology.now) }
     ensures fixed { IfOk result (λ plan. (G : List terms.Feature) → IsAfter plan topology.now.features topology.now.next G → HasExploded topology.now.features topology.now.next handle plan G) }
 {
     topology.topology_law();

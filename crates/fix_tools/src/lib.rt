@@ -16,9 +16,9 @@ mod touch;
 
 pub use apart::explode;
 pub use fault::FixFault;
+pub use fix_terms::Edit;
 pub use laws::{deletion_law, done_law};
 pub use moves::{move_all, touched};
-pub use fix_terms::Edit;
 pub use plan::Plan;
 pub use points::create;
 pub use snaps::snap;

@@ -6,7 +6,7 @@ ghost use Rattle.plane_terms.specs.ShapeFaults.{IsFlawless};
 ghost use Rattle.feature_store.specs.Slots.{feature_in, filled};
 ghost use Rattle.topology_terms.specs.Feature as terms;
 ghost use Rattle.topology_terms.specs.Feature.{IsAscending};
-ghost use Rattle.fix_terms.specs.Plans.{IsAfter, handles_of, shapes_of};
+ghost use Rattle.fix_terms.specs.Plans.{IsAfter, IsPossible, handles_of, shapes_of};
 ghost use Rattle.fix_terms.specs.Move.{moves, touching, HasMoved};
 ghost use Rattle.fix_tools.specs.Move.{IsMoveStop, IsMoveFault, IsMovePlan};
 
@@ -14,8 +14,8 @@ use crate::fault::FixFault;
 use crate::moved::{is_at, shape_moved};
 use crate::plan::Plan;
 use crate::touch::has_vertex;
-use fix_terms::Edit;
 use feature_store::Slot;
+use fix_terms::Edit;
 use grid_plane::{GridPoint, Handles, NoMemory};
 use plane_terms::ShapeFault;
 use shape::{Feature, Shape};
@@ -99,6 +99,7 @@ pub fn move_all<R: KindRules>(
 ) -> Result<Plan, FixFault>
     ensures plan { IfOk result (IsMovePlan from to topology.now.features) }
     ensures refused { IfErr result (IsMoveFault from to topology.now.features) }
+    ensures possible { IfOk result (λ plan. IsPossible plan topology.now) }
     ensures fixed { IfOk result (λ plan. (G : List terms.Feature) → IsAfter plan topology.now.features topology.now.next G → HasMoved from to topology.now.features G) }
 {
     topology.topology_law();
