@@ -8,7 +8,7 @@ from typing import Iterator, Optional, Union
 from osgeo import gdal, ogr
 
 from .drivers import SETTINGS, drivers_for, path_of
-from .ogr import BATCH, Batch, Feature, Layer, SourceError, crs_of, extent_of, type_of
+from .ogr import BATCH, Batch, Feature, Layer, SourceError, crs_of, extent_of, features_of, type_of
 
 # Faults are asked for: a feature that GDAL cannot read is one without a geometry, and no end of all reading.
 gdal.DontUseExceptions()
@@ -96,7 +96,7 @@ def streamed(layer: ogr.Layer, names: list[str]) -> Iterator[Batch]:
     for columns in layer.GetArrowStreamAsNumPy(options=['MAX_FEATURES_IN_BATCH=%d' % BATCH]):
         fids = columns[fid_column].tolist()
         texts = [map(text_of, columns[name].tolist()) if name else [''] * len(fids) for name in names]
-        yield Batch(list(map(Feature, fids, *texts)), columns[geometry_column].tolist())
+        yield Batch(features_of(fids, *texts), columns[geometry_column].tolist())
 
 
 def value_text(feature: ogr.Feature, fields: list[ogr.FieldDefn], number: int) -> str:
@@ -114,7 +114,8 @@ def one_by_one(layer: ogr.Layer, fields: list[ogr.FieldDefn], wanted: list[int])
     geometries: list[Optional[bytes]] = []
     for feature in layer:
         geometry = feature.GetGeometryRef()
-        features.append(Feature(feature.GetFID(), *(value_text(feature, fields, number) for number in wanted)))
+        id, subtype, *more = (value_text(feature, fields, number) for number in wanted)
+        features.append(Feature(feature.GetFID(), id, subtype, tuple(more)))
         geometries.append(bytes(geometry.ExportToIsoWkb()) if geometry is not None else None)
         if len(features) == BATCH:
             yield Batch(features, geometries)

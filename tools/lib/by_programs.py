@@ -13,7 +13,7 @@ from itertools import islice, repeat
 from typing import IO, Iterator, Optional
 
 from .drivers import drivers_for, path_of
-from .ogr import BATCH, ENVIRONMENT, Batch, Feature, Layer, SourceError, crs_of, extent_of, run, type_of
+from .ogr import BATCH, ENVIRONMENT, Batch, Layer, SourceError, crs_of, extent_of, features_of, run, type_of
 
 # What ogr2ogr writes: a table of the geometries by the numbers of the features, the numbers in the order of the source, and the ids in it.
 GEOMETRIES = ['-f', 'SQLite', '-nln', 'topo', '-preserve_fid', '-fieldTypeToString', 'All', '-lco', 'FORMAT=WKB', '-lco', 'SPATIAL_INDEX=NO',
@@ -97,7 +97,7 @@ def batches_in(table: sqlite3.Connection, fids: Iterator[int], texts: list[Itera
     """The features of these numbers and texts of fields."""
     while chunk := list(islice(fids, BATCH)):
         rows = [table.execute('SELECT topo_wkb FROM topo WHERE topo_fid = ?', (fid,)).fetchone() for fid in chunk]
-        features = list(map(Feature, chunk, *texts))
+        features = features_of(chunk, *texts)
         if None in rows or len(features) < len(chunk):
             raise SourceError('ogr2ogr read the source twice, and not the same features')
         yield Batch(features, [row[0] for row in rows])

@@ -2,12 +2,15 @@
 from __future__ import annotations
 
 from fractions import Fraction
-from math import gcd, hypot
-from typing import NamedTuple
+from math import ceil, floor, gcd, hypot
+from typing import NamedTuple, Optional
 
 from .outlines import Outline, Point, doubled_area, line_key, outlines_of, turn
 from .replies import Error, Frame, Half
 from .spans import Segment, beside, bounds_of, ends_of, equation_of, parts_on_lines
+
+# A box that meets more squares is compared with all.
+MOST_SQUARES = 1024
 
 Triple = tuple[int, int, int]
 Span = tuple[Fraction, Fraction]
@@ -97,12 +100,49 @@ def span_in(segment: Segment, polygon: list[Point]) -> Span:
     return low, high
 
 
-def rest_of(segment: Segment, polygons: list[list[Point]]) -> list[Segment]:
+def whole_box(points: list[Point]) -> Frame:
+    """The least rectangle in whole numbers that holds the points."""
+    xs, ys = zip(*points)
+    return floor(min(xs)), floor(min(ys)), ceil(max(xs)), ceil(max(ys))
+
+
+class Near:
+    """Polygons by squares of the plane, to find those that may meet some points or what is between them."""
+
+    def __init__(self, polygons: list[list[Point]]):
+        self.polygons, self.boxes = polygons, list(map(whole_box, polygons))
+        spans = [max(x1 - x0, y1 - y0) for x0, y0, x1, y1 in self.boxes]
+        self.size = max(1, sum(spans) // max(1, len(spans)))
+        self.at: dict[tuple[int, int], list[int]] = {}
+        self.wide: list[int] = []
+        for number, box in enumerate(self.boxes):
+            squares = self.squares(box)
+            if squares is None:
+                self.wide.append(number)
+            for square in squares or ():
+                self.at.setdefault(square, []).append(number)
+
+    def squares(self, box: Frame) -> Optional[list[tuple[int, int]]]:
+        """The squares that a box meets; none where they are too many."""
+        x0, y0, x1, y1 = (side // self.size for side in box)
+        if (x1 - x0 + 1) * (y1 - y0 + 1) > MOST_SQUARES:
+            return None
+        return [(x, y) for x in range(x0, x1 + 1) for y in range(y0, y1 + 1)]
+
+    def to(self, points: list[Point]) -> list[list[Point]]:
+        x0, y0, x1, y1 = box = whole_box(points)
+        squares = self.squares(box)
+        numbers = range(len(self.boxes)) if squares is None else sorted({*self.wide, *(number for square in squares for number in self.at.get(square, ()))})
+        boxes = ((number, self.boxes[number]) for number in numbers)
+        return [self.polygons[number] for number, (a0, b0, a1, b1) in boxes if a0 <= x1 and x0 <= a1 and b0 <= y1 and y0 <= b1]
+
+
+def rest_of(segment: Segment, polygons: Near) -> list[Segment]:
     """The parts of a segment that lie in none of the polygons."""
     (x, y), (u, v) = segment
     at = lambda t: (x + t * (u - x), y + t * (v - y))
     left, parts = Fraction(0), []
-    near = [polygon for polygon in polygons if min(polygon)[0] <= max(x, u) and max(polygon)[0] >= min(x, u)]
+    near = polygons.to(list(segment))
     for low, high in sorted(span for span in (span_in(segment, polygon) for polygon in near) if span[0] <= span[1]):
         if low > left:
             parts.append((at(left), at(low)))
@@ -134,8 +174,9 @@ def cover_of(closures: list[list[Point]]) -> Cover:
         return Cover([Outline(closures[0], [])], [], [])
     areas = [corners for corners in closures if len(corners) > 2]
     segments = dict.fromkeys((corners[0], corners[1]) for corners in closures if len(corners) == 2)
-    lines = joined([part for segment in segments for part in rest_of(segment, areas)])
-    inside = lambda point: any(all(turn(p, q, point) >= 0 for p, q in zip(area, area[1:] + area[:1])) for area in areas)
+    near = Near(areas)
+    lines = joined([part for segment in segments for part in rest_of(segment, near)])
+    inside = lambda point: any(all(turn(p, q, point) >= 0 for p, q in zip(area, area[1:] + area[:1])) for area in near.to([point]))
     alone = [point for point in beside({corners[0] for corners in closures if len(corners) == 1}, lines) if not inside(point)]
     return Cover(outlines_of(areas), lines, alone)
 

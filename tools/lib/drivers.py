@@ -16,9 +16,10 @@ DATABASE = 'PostgreSQL'
 CONNECTION = re.compile('PG:', re.I)
 ARCHIVE = re.compile('/vsi(?:zip|tar|gzip)/')
 OTHER = re.compile('/vsi|[A-Za-z][A-Za-z0-9+._-]+:')
-# What drivers that read a file could ask of a network, or of other files, and do not.
+# What drivers that read a file could ask of a network, or of other files, and do not. Tables of SQLite that are virtual could be any other file.
 SETTINGS = {'GML_DOWNLOAD_SCHEMA': 'NO', 'GML_SKIP_RESOLVE_ELEMS': 'ALL', 'CPL_VSIL_CURL_ALLOWED_EXTENSIONS': '.none',
-            'OGR_SQLITE_LIST_VIRTUAL_OGR': 'NO', 'SQLITE_LIST_ALL_TABLES': 'NO', 'OGR_WKT_PRECISION': '17'}
+            'OGR_SQLITE_LIST_VIRTUAL_OGR': 'NO', 'OGR_SQLITE_STATIC_VIRTUAL_OGR': 'NO', 'SPATIALITE_LOAD': 'NO', 'ENABLE_SQL_LOAD_EXTENSION': 'NO',
+            'SQLITE_LIST_ALL_TABLES': 'NO', 'OGR_WKT_PRECISION': '17'}
 
 
 class DriverError(Exception):

@@ -11,10 +11,10 @@ from typing import Iterable, Iterator, NamedTuple, Optional, TextIO
 
 from .drivers import is_source
 from .frame import say
-from .grid import Extent, Grid, GridError, chosen_grid, decimal_text
+from .grid import Extent, Grid, GridError, chosen_grid, decimal_text, exact
 from .lines import name_of, side_text, told
 from .ogr import Feature, Layer, SourceError, batches_of, has_vectors, layer_names, layer_of
-from .rules import nearest
+from .rules import nearest, rule_line
 from .scripts import Converter, LeftOut, Taken, class_name, kind_of_layer, moved_text
 from .subtypes import Subtypes, numbers_in
 from .tables import COLUMNS, Table
@@ -22,6 +22,7 @@ from .watch import SECONDS
 
 SHOWN = 3
 PAUSE = 5
+COVERED = 'polygon_must_be_covered_by_feature_class_of'
 # A degree from south to north in metres, about.
 METRES = 111195
 
@@ -155,13 +156,15 @@ def grid_for(classes: list[Class], resolution: Fraction, origin: Optional[tuple[
 
 
 class Report:
-    """What became of each feature: a row each in the table, the first of each kind and the totals on standard error."""
+    """What became of each feature: a row each in the table, the first of each kind and the totals on standard error; the classes of which a
+    feature was cut."""
 
-    def __init__(self, table: Optional[TextIO], of: int):
-        self.rows = Table(table, COLUMNS) if table else None
+    def __init__(self, table: Optional[TextIO], of: int, columns: list[str] = [], is_safe: bool = False):
+        self.rows = Table(table, COLUMNS + columns, is_safe=is_safe) if table else None
         self.of, self.read, self.added, self.left_out, self.moved = of, 0, 0, 0, 0
         self.most = Fraction(0)
         self.shown: dict[str, int] = {}
+        self.cut: set[str] = set()
         self.next_word = time.monotonic() + PAUSE
 
     def name(self, of: Class, feature: Feature) -> str:
@@ -177,7 +180,7 @@ class Report:
 
     def row(self, of: Class, feature: Feature, side: str, handle: str, moved: str, note: str) -> None:
         if self.rows:
-            self.rows.write([of.layer.name, feature.fid, feature.id, side, handle, moved, note])
+            self.rows.write([of.layer.name, feature.fid, feature.id, side, handle, moved, note, *feature.more])
 
     def leave_out(self, of: Class, feature: Feature, why: str) -> None:
         self.left_out += 1
@@ -187,7 +190,10 @@ class Report:
     def take(self, arrival: Arrival) -> None:
         of, feature, taken, handle, _ = arrival
         self.added += 1
-        if not taken.moved and not taken.notes:
+        if taken.part:
+            self.take_part(arrival)
+        notes = taken.notes + ([taken.part.text()] if taken.part else [])
+        if not taken.moved and not notes:
             self.row(of, feature, arrival.side, str(handle), '', '')
             return
         moved = moved_text(taken.moved)
@@ -196,7 +202,13 @@ class Report:
         if taken.moved:
             self.moved, self.most = self.moved + 1, max(self.most, taken.moved)
             self.show('moved', of, feature, 'moved by %s at most' % moved)
-        self.row(of, feature, arrival.side, str(handle), moved if taken.moved else '', '; '.join(taken.notes))
+        self.row(of, feature, arrival.side, str(handle), moved if taken.moved else '', '; '.join(notes))
+
+    def take_part(self, arrival: Arrival) -> None:
+        """Tells of a feature that was cut, when its first part comes."""
+        self.cut.add(arrival.of_class.name)
+        if arrival.taken.part.number == 1:
+            say('%s: cut into %d parts, since a shape has 2,000 vertices at most' % (self.name(arrival.of_class, arrival.feature), arrival.taken.part.count))
 
     def count(self, features: int) -> None:
         """So many features have been read; now and then it is told how many."""
@@ -206,6 +218,9 @@ class Report:
             self.next_word = time.monotonic() + PAUSE
 
     def total(self) -> None:
+        if self.rows and self.rows.formulas and not self.rows.is_safe:
+            say('cells of the table that a spreadsheet may take for formulas, since they begin with =, +, - or @: %d; --safe puts a \' before them' %
+                self.rows.formulas)
         say('%s features read, %s added, %s left out; %s moved, by %s at most' %
             (format(self.read, ','), format(self.added, ','), format(self.left_out, ','), format(self.moved, ','), moved_text(self.most)))
 
@@ -237,6 +252,15 @@ def check_field(field: str, classes: list[Class]) -> None:
         raise SourceError('there is no field `%s`%s' % (field, nearest(field, known) or '; there are ' + ', '.join(known)))
 
 
+def columns_of(classes: list[Class], asked: list[str]) -> list[str]:
+    """The fields that the table has in columns of their own; a SourceError where no layer has one, or the table has a column of this name."""
+    for field in asked:
+        check_field(field, classes)
+        if field in COLUMNS:
+            raise SourceError('the table has a column `%s` of its own' % field)
+    return list(dict.fromkeys(asked))
+
+
 def id_fields(classes: list[Class], asked: list[list[str]], option: str = 'id') -> dict[str, str]:
     """The field of the ids of each class, by the class's name, as `--id FIELD` says of all classes and `--id CLASS FIELD` of one; of another
     option the fields of that. Tells of classes that have none of theirs."""
@@ -262,6 +286,17 @@ def subtypes_of(classes: list[Class], words: argparse.Namespace) -> Subtypes:
     return Subtypes(classes, id_fields(classes, words.subtype, 'subtype'), earlier)
 
 
+def layers_asked(words: argparse.Namespace) -> list[str]:
+    """The words of `--layer`, and where there are some, the layers of `--outline` too."""
+    return words.layer + [layer for layer, _ in words.outline if words.layer and layer not in words.layer]
+
+
+def rule_lines(words: argparse.Namespace, classes: list[Class], subtypes: Subtypes) -> list[str]:
+    """The lines of the rules that are asked for; each outline is to be covered by the class that it is of."""
+    outlines = [[COVERED, named_classes(classes, layer)[0].name, of_class] for layer, of_class in words.outline]
+    return [rule_line(rule, {of.name: of.kind for of in classes}, subtypes.side) for rule in words.rule + outlines]
+
+
 def reading_words(parser: argparse.ArgumentParser, needs_grid: bool = True) -> None:
     """The arguments of a tool that reads sources, which needs a grid or has kept one."""
     again = '; may be given more than once'
@@ -271,6 +306,9 @@ def reading_words(parser: argparse.ArgumentParser, needs_grid: bool = True) -> N
                         help='only this layer; as LAYER=CLASS into this class, into which several layers and files may go' + again)
     parser.add_argument('--origin', nargs=2, metavar=('X', 'Y'), help='where unit (0, 0) lies; otherwise near the middle of the extent')
     parser.add_argument('--rule', action='append', default=[], nargs='+', metavar='WORD', help='WORD ORIGIN [DEST]: puts a rule in force' + again)
+    parser.add_argument('--outline', action='append', default=[], nargs=2, metavar=('LAYER', 'CLASS'),
+                        help='a layer of polygons that CLASS has to cover: what is left uncovered is an error, with its area' + again)
+    parser.add_argument('--field', action='append', default=[], metavar='FIELD', help='a field whose texts the table has in a column of their own' + again)
     parser.add_argument('--id', action='append', default=[], nargs='+', metavar='WORD',
                         help="[CLASS] FIELD: the field by which you know a feature, such as a parcel's number; of one class or layer, or of "
                              'all others' + again)
@@ -278,25 +316,39 @@ def reading_words(parser: argparse.ArgumentParser, needs_grid: bool = True) -> N
                         help='[CLASS] FIELD: the field that has the subtype of a feature: a number from 0 to 255, or a word, which gets a number'
                              + again)
     parser.add_argument('--subtypes-of', metavar='SCRIPT', help='words get the numbers that this earlier script says')
+    parser.add_argument('--linearize', default='', metavar='DISTANCE',
+                        help='makes lines of curves, nowhere farther from them than this, in units of the source; otherwise curves are left out')
     parser.add_argument('--degrees', action='store_true', help='takes a source whose coordinates are degrees, and so is the grid')
     parser.add_argument('--table', metavar='FILE', help='a table of features and handles, as CSV')
+    parser.add_argument('--safe', action='store_true', help="in the table a ' before each cell that a spreadsheet may take for a formula")
     parser.add_argument('--timeout', type=float, default=SECONDS, metavar='SECONDS',
                         help='gives up where the source gives nothing for so long: %d where it is left out; 0 waits for ever' % SECONDS)
 
 
-def converter_on(grid: Grid, is_bounded: bool = True) -> Converter:
+def distance_of(text: str) -> float:
+    """The distance of `--linearize`; 0 where it is left out. A GridError where it is none."""
+    distance = float(exact(text)) if text else 0.0
+    if text and not distance > 0:
+        raise GridError('--linearize is a distance over 0')
+    return distance
+
+
+def converter_on(grid: Grid, linearize: str, is_bounded: bool = True) -> Converter:
     """What makes shapes on this grid: of many features at once where sources are read through GDAL's bindings."""
+    distance = distance_of(linearize)
     if has_vectors():
         from .vectors import VectorConverter
-        return VectorConverter(grid, is_bounded)
-    return Converter(grid, is_bounded)
+        return VectorConverter(grid, is_bounded, distance)
+    return Converter(grid, is_bounded, distance)
 
 
-def arrivals(classes: list[Class], converter: Converter, ids: dict[str, str], report: Report, subtypes: Subtypes) -> Iterator[Arrival]:
-    """The shapes of all features in the order of their handles, with the ids of these fields by class; what has none is told in the report."""
+def arrivals(classes: list[Class], converter: Converter, ids: dict[str, str], report: Report, subtypes: Subtypes,
+             columns: Iterable[str] = ()) -> Iterator[Arrival]:
+    """The shapes of all features in the order of their handles, with the ids of these fields by class, and the texts of these columns; what has
+    no shape is told in the report."""
     handle = 1
     for of in classes:
-        for batch in batches_of(of.layer, ids.get(of.name), subtypes.fields.get(of.name)):
+        for batch in batches_of(of.layer, ids.get(of.name), subtypes.fields.get(of.name), columns):
             for feature, outcome in zip(batch.features, converter.outcomes(batch.geometries, of.kind)):
                 if isinstance(outcome, LeftOut):
                     report.leave_out(of, feature, str(outcome))

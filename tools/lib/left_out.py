@@ -62,7 +62,7 @@ def frames_in(layer: Layer, fids: set[int], grid: Grid) -> dict[int, Frame]:
 
 def left_out_of(table: str, layers: list[Layer], grid: Grid) -> list[LeftOut]:
     """The features that a table of tools/from-ogr says were left out."""
-    rows = [row for row in rows_of(table, COLUMNS) if not row['handle']]
+    rows = [row for row in rows_of(table, COLUMNS, True) if not row['handle']]
     frames: dict[tuple[str, int], list[Frame]] = {}
     for layer in layers:
         fids = {int(row['fid']) for row in rows if row['layer'] == layer.name}

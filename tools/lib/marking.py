@@ -97,5 +97,6 @@ def marks_for(said: dict[Key, bool], errors: dict[Key, Found], seen: Optional[di
         elif seen is not None and (key not in seen or not now.is_as(seen[key])):
             marks.told.append('%s: the error is another one now, so it is not %s' % (what, 'marked' if is_exception else 'unmarked'))
         else:
-            marks.lines.append('%s %d %d %d' % ('mark' if is_exception else 'unmark', key.rule, now.subject, now.other))
+            marks.lines.extend('%s %d %d %d' % ('mark' if is_exception else 'unmark', key.rule, each.subject, each.other)
+                               for each in now.parts if (each.mark == 'exception') != is_exception)
     return marks

@@ -2,6 +2,7 @@
 from __future__ import annotations
 
 import csv
+import re
 from typing import Iterator, NamedTuple
 
 from .replies import Ending, Origin
@@ -10,14 +11,18 @@ from .tables import TableError
 # The columns of a table of from-ogr that say nothing of the feature itself.
 PASSED = 'layer', 'handle', 'class', 'moved', 'note', 'fid', 'id'
 
+PART = re.compile('part [0-9]+ of [0-9]+(?: along [-0-9 ,]+)?')
+
 
 class Name(NamedTuple):
-    """The number and the id of a feature in its source, and its cells of the other columns; its class where the table has one."""
+    """The number and the id of a feature in its source, and its cells of the other columns; its class where the table has one; which part it is
+    of a feature that was cut."""
 
     fid: str
     id: str
     of_class: str
     more: list[str]
+    part: str = ''
 
 
 class Names(NamedTuple):
@@ -27,11 +32,12 @@ class Names(NamedTuple):
     by_handle: dict[int, Name]
 
     def origin(self, handle: int, ending: Ending) -> Origin:
-        """Where a feature comes from, by the remark above its line or by the table."""
-        origin, name = ending.origins.get(handle, Origin('')), self.by_handle.get(handle)
+        """Where a feature comes from, by the remark above its line or by the table, which in a tile has the handles of the whole."""
+        origin = ending.origins.get(handle, Origin(''))
+        name = self.by_handle.get(origin.handle or handle)
         if name is None:
             return origin
-        return origin._replace(of_class=origin.of_class or name.of_class, fid=name.fid or origin.fid, id=name.id or origin.id)
+        return origin._replace(of_class=origin.of_class or name.of_class, fid=name.fid or origin.fid, id=name.id or origin.id, part=origin.part or name.part)
 
     def more(self, handle: int) -> list[str]:
         """The cells of the other columns; empty ones where the table does not name the feature."""
@@ -69,7 +75,7 @@ def names_of(path: str) -> Names:
             continue
         if not row['handle'].isdecimal() or len(row['handle']) > 10:
             raise TableError('%s: %s is no handle' % (path, row['handle'][:20]))
-        name = Name(row.get('fid', ''), row.get('id', ''), row.get('class', ''), [row[column] for column in columns])
+        name = Name(row.get('fid', ''), row.get('id', ''), row.get('class', ''), [row[column] for column in columns], (PART.search(row.get('note', '')) or ('',))[0])
         if found.setdefault(int(row['handle']), name) != name:
             raise TableError('%s: the handle %s is there twice' % (path, row['handle']))
     return Names(columns, found)

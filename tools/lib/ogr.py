@@ -12,7 +12,7 @@ import shutil
 import subprocess
 from fractions import Fraction
 from types import ModuleType
-from typing import Iterator, NamedTuple, Optional
+from typing import Iterable, Iterator, NamedTuple, Optional
 
 from .drivers import SETTINGS, DriverError, drivers_for
 from .grid import Extent
@@ -45,11 +45,12 @@ class Layer(NamedTuple):
 
 
 class Feature(NamedTuple):
-    """A feature of a layer: its number, and the texts of the fields of its id and of its subtype, where these were asked for."""
+    """A feature of a layer: its number, and the texts of the fields of its id, of its subtype and of others, where these were asked for."""
 
     fid: int
     id: str
     subtype: str = ''
+    more: tuple[str, ...] = ()
 
 
 class Batch(NamedTuple):
@@ -113,9 +114,15 @@ def layer_of(source: str, number: int, name: str) -> Layer:
         return reader().layer_of(source, number, name)
 
 
-def batches_of(layer: Layer, id_field: Optional[str] = None, subtype_field: Optional[str] = None) -> Iterator[Batch]:
-    """The features of a layer; a SourceError behind the last one where the reading failed."""
-    return watched(reader().batches_of(layer, [field if field in layer.fields else None for field in (id_field, subtype_field)]))
+def features_of(fids: Iterable[int], ids: Iterable[str], subtypes: Iterable[str], *more: Iterable[str]) -> list[Feature]:
+    """Features by their numbers and the texts of their fields."""
+    return list(map(Feature, fids, ids, subtypes, zip(*more)) if more else map(Feature, fids, ids, subtypes))
+
+
+def batches_of(layer: Layer, id_field: Optional[str] = None, subtype_field: Optional[str] = None, more: Iterable[str] = ()) -> Iterator[Batch]:
+    """The features of a layer, with the texts of more fields; a SourceError behind the last one where the reading failed."""
+    asked = [field if field in layer.fields else None for field in (id_field, subtype_field, *more)]
+    return watched(reader().batches_of(layer, asked))
 
 
 def words_of(layer: Layer) -> Iterator[str]:

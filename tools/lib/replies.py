@@ -16,6 +16,7 @@ LISTINGS = ('errors', 'cells', 'dirty', 'features', 'rules')
 ENDS = ('ok', 'refused', 'total ')
 SOURCE = re.compile(r'# fid (\S+)(?: id ("(?:[^"\\]|\\["\\/bfnrt]|\\u[0-9a-fA-F]{4})*"))?')
 ROLE = re.compile('# (subject|neighbour) ([0-9]+)')
+PART = re.compile('# (part [0-9]+ of [0-9]+(?: along [-0-9 ,]+)?)')
 
 Half = tuple[int, int, int, str]
 Frame = tuple[int, int, int, int]
@@ -59,7 +60,7 @@ class Rule(NamedTuple):
 
 class Origin(NamedTuple):
     """Where a feature comes from: its class, its number and its id in the source; in a tile also its handle in the whole, and
-    whether it is a subject of the tile. Its subtype is that of its last line."""
+    whether it is a subject of the tile. Its subtype is that of its last line. Of a feature that was cut it says which part this is."""
 
     of_class: str
     fid: str = ''
@@ -67,6 +68,7 @@ class Origin(NamedTuple):
     handle: int = 0
     is_subject: bool = True
     subtype: int = 0
+    part: str = ''
 
     @property
     def side(self) -> str:
@@ -222,6 +224,8 @@ class Ending:
             self.waiting.update(fid=source[0], id=source[1])
         elif role := ROLE.fullmatch(line):
             self.waiting.update(handle=int(role[2]), is_subject=role[1] == 'subject')
+        elif part := PART.fullmatch(line):
+            self.waiting.update(part=part[1])
 
     def listed(self, lines: list[str]) -> None:
         """Takes the features of a listing: where the script began with a saved project, they tell of its classes."""

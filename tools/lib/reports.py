@@ -31,7 +31,8 @@ class Key(NamedTuple):
 
 
 class Found(NamedTuple):
-    """An error of a report: the word of its rule, the handles of its features, its extent, mark and frame."""
+    """An error of a report: the word of its rule, the handles of its features, its extent, mark and frame. Of features that were cut it also
+    has the same error of the other parts."""
 
     word: str
     subject: int
@@ -39,10 +40,22 @@ class Found(NamedTuple):
     extent: str
     mark: str
     frame: tuple[int, int, int, int]
+    more: tuple['Found', ...] = ()
 
     def is_as(self, other: 'Found') -> bool:
         """Whether both have the same extent and frame."""
         return (self.extent, self.frame) == (other.extent, other.frame)
+
+    def with_part(self, error: 'Found') -> 'Found':
+        """The error with the one of another part: an exception where both are."""
+        x0, y0, x1, y1 = zip(self.frame, error.frame)
+        mark = self.mark if self.mark == error.mark else 'error'
+        return self._replace(mark=mark, frame=(min(x0), min(y0), max(x1), max(y1)), more=(*(self.more or (self,)), error))
+
+    @property
+    def parts(self) -> tuple['Found', ...]:
+        """The errors of all parts; of a whole feature this one."""
+        return self.more or (self,)
 
 
 def handle_name(handle: int) -> Name:
@@ -51,7 +64,7 @@ def handle_name(handle: int) -> Name:
 
 def names_of(table: str) -> dict[int, Name]:
     """The names of the features by their handles, as a table of tools/from-ogr or tools/changes has them."""
-    rows = [row for row in rows_of(table, COLUMNS) if row['handle']]
+    rows = [row for row in rows_of(table, COLUMNS, True) if row['handle']]
     return {number_of(row['handle']): Name(side_of(row['class'])[0], row['id'] or '#' + row['handle']) for row in rows}
 
 
@@ -66,5 +79,6 @@ def errors_in(report: str, names: dict[int, Name]) -> dict[Key, Found]:
     for row in rows_of(report, REPORT):
         error = found_in(row)
         subject, other = (names.get(handle, handle_name(handle)) for handle in (error.subject, error.other))
-        found[Key(number_of(row['rule']), subject, other)] = error
+        key = Key(number_of(row['rule']), subject, other)
+        found[key] = found[key].with_part(error) if key in found else error
     return found

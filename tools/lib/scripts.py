@@ -12,8 +12,12 @@ from typing import Iterable, NamedTuple, Optional, Union
 
 from .axes import Axis
 from .bodies import common
+from .curves import KINDS as CURVE_KINDS
+from .curves import TooFine, linear_of
+from .cutting import Uncuttable, pieces_of
 from .grid import FAR, REACH, Grid, decimal_text
 from .ogr import KINDS, Layer, words_of
+from .parts import CutPart
 from .shapes import MOST_VERTICES, Flat, List, Shape, fault_of, flat_of, has_clash, kept, segments_of, sides_of
 from .wkb import Geometry, geometry_of, vertex_text, word_of
 
@@ -26,11 +30,12 @@ CURVES = re.compile('CIRCULAR|COMPOUND|CURVE|MULTICURVE|MULTISURFACE')
 
 
 class Taken(NamedTuple):
-    """A shape of a feature, by how much its coordinates moved at most, and what else was done to it."""
+    """A shape of a feature, by how much its coordinates moved at most, and what else was done to it; of a feature that was cut which part."""
 
     shape: Flat
     moved: Fraction
     notes: list[str]
+    part: Optional[CutPart] = None
 
 
 class LeftOut(Exception):
@@ -62,17 +67,20 @@ def kind_of_layer(layer: Layer) -> Optional[str]:
     polygon, so that each is told of. None where the layer has no geometries."""
     if layer.type == 'NONE':
         return None
-    if layer.type in KINDS:
-        return KINDS[layer.type]
-    return next((KINDS[word] for word in words_of(layer) if word in KINDS), 'polygon')
+    known = KINDS | CURVE_KINDS
+    return known.get(layer.type) or next((known[word] for word in words_of(layer) if word in known), 'polygon')
 
 
 class Converter:
     """Makes shapes on a grid of the geometries of features."""
 
-    def __init__(self, grid: Grid, is_bounded: bool = True):
+    def __init__(self, grid: Grid, is_bounded: bool = True, linearize: float = 0):
         self.grid = grid
+        # How far lines may be from the curves that they stand for; 0 where curves are left out.
+        self.linearize = linearize
         self.reach = REACH if is_bounded else FAR
+        # Tiles are not told which parts are of one feature.
+        self.may_cut = is_bounded
         self.x, self.y = Axis(grid.resolution, grid.x), Axis(grid.resolution, grid.y)
 
     def outcomes(self, geometries: list[Optional[bytes]], kind: str) -> list[Outcome]:
@@ -95,22 +103,49 @@ class Converter:
         if geometry is None or geometry.is_empty:
             raise LeftOut('it is empty')
         word = geometry.word
-        if CURVES.match(word):
-            raise LeftOut('%s may hold curves: write the source anew with ogr2ogr -nlt CONVERT_TO_LINEAR' % word)
+        if CURVES.match(word) and (not self.linearize or CURVE_KINDS.get(word) == kind):
+            geometry = self.linear(data, word)
+            word = geometry.word
         if KINDS.get(word) != kind:
             raise LeftOut('%s is no %s' % (word, kind))
         return geometry
+
+    def linear(self, data: bytes, word: str) -> Geometry:
+        """A geometry with curves as lines; a LeftOut where this is not asked for, or is too fine."""
+        if not self.linearize:
+            raise LeftOut('%s may hold curves: say --linearize with how far lines may be from them' % word)
+        try:
+            geometry = linear_of(data, self.linearize)
+        except TooFine:
+            raise LeftOut('an arc of it would have too many vertices: take a larger --linearize') from None
+        if geometry is None or geometry.is_empty:
+            raise LeftOut('it is empty')
+        return geometry._replace(is_curved=True)
 
     def shapes(self, data: Optional[bytes], kind: str) -> list[Taken]:
         """The shapes of a feature. LeftOut where it has none that is valid."""
         geometry = self.geometry(data, kind)
         notes = ['its Z or M is left out'] if geometry.has_more else []
+        notes += ['its curves are lines, at most %g from them' % self.linearize] if geometry.is_curved else []
         if kind != 'point':
-            return [self.shape(geometry.parts, kind, notes)]
+            return self.whole_or_cut(*self.shape(geometry.parts, kind), notes)
         notes += ['it is split into %d points' % len(geometry.parts)] if len(geometry.parts) > 1 else []
-        return [self.shape([part], kind, notes) for part in geometry.parts]
+        return [taken for part in geometry.parts for taken in self.whole_or_cut(*self.shape([part], kind), notes)]
 
-    def shape(self, parts: list[list[array]], kind: str, notes: list[str]) -> Taken:
+    def whole_or_cut(self, shape: Shape, moved: Fraction, notes: list[str]) -> list[Taken]:
+        """The shape as it is written, or where it has too many vertices, its parts."""
+        count = sum(len(each) for part in shape.parts for each in part)
+        if count <= MOST_VERTICES or not self.may_cut:
+            return [Taken(self.checked(shape), moved, notes)]
+        self.check_lists(shape)
+        try:
+            pieces = pieces_of(shape)
+        except Uncuttable as why:
+            raise LeftOut('it has %d vertices, and a shape has 2,000 at most: %s' % (count, why)) from None
+        return [Taken(flat_of(piece.shape), moved, notes, CutPart(number, len(pieces), tuple(piece.cuts))) for number, piece in enumerate(pieces, 1)]
+
+    def shape(self, parts: list[list[array]], kind: str) -> tuple[Shape, Fraction]:
+        """The vertices on the grid that say something, and by how much they moved at most."""
         counts = [len(each) // 2 for part in parts for each in part]
         numbers = parts[0][0] if len(counts) == 1 else array('d', chain.from_iterable(chain.from_iterable(parts)))
         xs, ys = numbers[0::2].tolist(), numbers[1::2].tolist()
@@ -121,7 +156,8 @@ class Converter:
             self.refuse_vertex(xs, ys)
         places = list(zip(across, up))
         lists = iter([places[start:end] for start, end in pairwise(accumulate(counts, initial=0))])
-        return Taken(self.checked(Shape(kind, [[next(lists) for _ in part] for part in parts])), max(of_x, of_y), notes)
+        is_ring = kind == 'polygon'
+        return Shape(kind, [[said(next(lists), is_ring) for _ in part] for part in parts]), max(of_x, of_y)
 
     def refuse_vertex(self, xs: list[float], ys: list[float]) -> None:
         """Raises a LeftOut that names the first vertex that is no number or beyond the reach."""
@@ -131,16 +167,18 @@ class Converter:
             if max(abs(self.x.line_of(x)[0]), abs(self.y.line_of(y)[0])) > self.reach:
                 raise LeftOut('its vertex %s is beyond the reach of the grid' % vertex_text(x, y))
 
-    def checked(self, placed: Shape) -> Flat:
-        """The shape of these vertices as it is written, without those that say nothing."""
-        is_ring = placed.kind == 'polygon'
-        shape = Shape(placed.kind, [[said(each, is_ring) for each in part] for part in placed.parts])
-        lists = [each for part in shape.parts for each in part]
-        flat = flat_of(shape)
-        is_few = min(map(len, lists)) < LEAST[shape.kind]
-        if is_few or sum(map(len, lists)) > MOST_VERTICES or is_ring and has_clash(closed_sides(lists)):
+    def checked(self, shape: Shape) -> Flat:
+        """The shape as it is written; a LeftOut where it is not valid."""
+        if sum(len(each) for part in shape.parts for each in part) > MOST_VERTICES:
             raise LeftOut(self.fault_text(shape, fault_of(shape)))
-        return flat
+        self.check_lists(shape)
+        return flat_of(shape)
+
+    def check_lists(self, shape: Shape) -> None:
+        """Raises a LeftOut where a list has too few vertices, or sides clash."""
+        lists = [each for part in shape.parts for each in part]
+        if min(map(len, lists)) < LEAST[shape.kind] or shape.kind == 'polygon' and has_clash(closed_sides(lists)):
+            raise LeftOut(self.fault_text(shape, fault_of(shape, sum(map(len, lists)))))
 
     def fault_text(self, shape: Shape, fault: str) -> str:
         """Why the shape is not valid, in words, with the place in the source's coordinates."""

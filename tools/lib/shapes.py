@@ -104,15 +104,15 @@ def has_clash(sides: list[Side]) -> bool:
     return False
 
 
-def fault_of(shape: Shape) -> Optional[str]:
-    """Why topo would refuse the shape, as its details say it; none where it is valid."""
+def fault_of(shape: Shape, most: int = MOST_VERTICES) -> Optional[str]:
+    """Why topo would refuse the shape, if it took so many vertices, as its details say it; none where it is valid."""
     lists = [each for part in shape.parts for each in part]
     least = {'point': 1, 'line': 2, 'polygon': 3}[shape.kind]
     few = next((i for i, each in enumerate(lists) if len(each) < least), None)
     if few is not None:
         return 'few %d' % few
     count = sum(map(len, lists))
-    if count > MOST_VERTICES:
+    if count > most:
         return 'many %d' % count
     clash = first_clash(segments_of(shape.parts)) if shape.kind == 'polygon' else None
     return '%s %d %d' % (clash[2], clash[0], clash[1]) if clash else None

@@ -40,12 +40,12 @@ class Table:
         (self.quoting if '\r' in ''.join(cells) else self.plain).writerow(cells)
 
 
-def rows_of(path: str, columns: list[str]) -> Iterator[Record]:
-    """The rows of a table with just these columns; a TableError where it has others, or is no table."""
+def rows_of(path: str, columns: list[str], may_have_more: bool = False) -> Iterator[Record]:
+    """The rows of a table with these columns, and perhaps more behind them; a TableError where it has others, or is no table."""
     with open(path, encoding='utf-8', newline='') as table:
         rows = csv.DictReader(table)
         try:
-            if rows.fieldnames != columns:
+            if (rows.fieldnames or [])[:len(columns) if may_have_more else None] != columns:
                 raise TableError('%s has not the columns %s' % (path, ','.join(columns)))
             for number, row in enumerate(rows, 1):
                 if None in row or None in row.values():

@@ -207,8 +207,8 @@ def clash(sides: Sides, i: np.ndarray, j: np.ndarray) -> np.ndarray:
 class VectorConverter(Converter):
     """Makes shapes of many features at once."""
 
-    def __init__(self, grid: Grid, is_bounded: bool = True):
-        super().__init__(grid, is_bounded)
+    def __init__(self, grid: Grid, is_bounded: bool = True, linearize: float = 0):
+        super().__init__(grid, is_bounded, linearize)
         self.axes = VectorAxis(self.x), VectorAxis(self.y)
 
     def outcomes(self, geometries: list[Optional[bytes]], kind: str) -> list[Outcome]:

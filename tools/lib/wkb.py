@@ -20,12 +20,14 @@ Numbers = array
 
 class Geometry(NamedTuple):
     """A geometry of a source: each part has one list of vertices, or of a polygon one for each ring. A geometry of another word than those of
-    points, lines and polygons has no parts but says whether it is empty; has_more says that Z or M stood beside the numbers."""
+    points, lines and polygons has no parts but says whether it is empty; has_more says that Z or M stood beside the numbers, is_curved that it
+    stands for curves."""
 
     word: str
     has_more: bool
     is_empty: bool
     parts: list[list[Numbers]]
+    is_curved: bool = False
 
 
 class Reader:

@@ -54,3 +54,31 @@ def write_infinite_extent(path: str) -> None:
     table.execute('update gpkg_contents set min_x = -1e999, max_x = 1e999')
     table.commit()
     table.close()
+
+
+def add_virtual_tables(path: str, other: str) -> None:
+    """Adds virtual tables to a GeoPackage with lots that read another file, a view over each that looks like a layer, and a trigger that deletes
+    all lots where one is looked for."""
+    made = {'by_ogr': "VirtualOGR('%s', 0)" % other, 'by_text': "VirtualText('%s', 'UTF-8', 1, POINT, DOUBLEQUOTE, ',')" % other}
+    table = sqlite3.connect(path)
+    table.execute('pragma writable_schema = 1')
+    put = lambda kind, name, of, text: table.execute('insert into sqlite_master(type, name, tbl_name, rootpage, sql) values (?, ?, ?, 0, ?)', (kind, name, of, text))
+    for name, module in made.items():
+        view = 'view_' + name
+        put('table', name, name, 'create virtual table %s using %s' % (name, module))
+        put('view', view, view, 'create view %s as select fid, geom, (select count(*) from %s) as nr from lots' % (view, name))
+        table.execute("insert into gpkg_contents(table_name, data_type, identifier, srs_id) values (?, 'features', ?, 4326)", (view, view))
+        table.execute("insert into gpkg_geometry_columns values (?, 'geom', 'POLYGON', 4326, 0, 0)", (view,))
+    put('trigger', 'gone', 'lots', 'create trigger gone after update on lots begin delete from lots; end')
+    table.commit()
+    table.close()
+
+
+def add_plain_view(path: str) -> None:
+    """Adds a layer to a GeoPackage with lots: a view of its lots under another name."""
+    table = sqlite3.connect(path)
+    table.execute('create view seen as select fid, geom, nr from lots')
+    table.execute("insert into gpkg_contents(table_name, data_type, identifier, srs_id) values ('seen', 'features', 'seen', (select srs_id from gpkg_contents where table_name = 'lots'))")
+    table.execute("insert into gpkg_geometry_columns values ('seen', 'geom', 'POLYGON', (select srs_id from gpkg_contents where table_name = 'lots'), 0, 0)")
+    table.commit()
+    table.close()

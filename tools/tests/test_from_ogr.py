@@ -1,11 +1,13 @@
 """tools/from-ogr: sources of three formats, real coordinates, what is moved, split and left out, and handles that hold."""
 import csv
+import math
 import os
 import random
 import re
 import unittest
 from fractions import Fraction
 
+from lib.curves import arc, circle_of
 from lib.grid import Grid, GridError, chosen_grid, decimal_text, grid_of
 from lib.shapes import Shape, fault_of, kept, shape_text
 from working import TOOLS, Case, by_lines, polygon, rectangle
@@ -147,6 +149,41 @@ class Sources(Case):
         done = self.tool('from-ogr', source, '--grid', '0.01', '--id', 'nrr')
         self.assertEqual((done.status, done.out, done.told), (2, '', 'from-ogr: there is no field `nrr`; did you mean `nr`?\n'))
 
+    def test_columns_of_other_fields(self):
+        self.source('c.gpkg', LOTS, layer='lots')
+        for asked in ('ALTER TABLE lots ADD COLUMN owner TEXT', "UPDATE lots SET owner = 'Ann' || fid || ',\n' WHERE fid < 3"):
+            self.assertEqual(self.run_words(['ogrinfo', '-q', 'c.gpkg', '-sql', asked]).status, 0)
+        for reader in ('programs', 'bindings'):
+            words = ['c.gpkg', '--grid', '0.01', '--id', 'nr', '--field', 'owner', '--field', 'nr', '--table', 't.csv', '--rule', 'polygon_must_not_overlap', 'lots']
+            done = self.run_words(['env', 'TOPO_READER=' + reader, os.path.join(TOOLS, 'from-ogr'), *words])
+            self.assertEqual(done.status, 0, done.told)
+            self.assertEqual([(row['id'], row['owner'], row['nr']) for row in self.table('t.csv')], [('N1', 'Ann1,\n', 'N1'), ('N2', 'Ann2,\n', 'N2'), ('N3', '', 'N3')])
+        with open(self.path('p.project'), 'w', encoding='utf-8') as project:
+            shape = next(line for line in done.out.splitlines() if line.startswith('by')).split(' ', 4)[4]
+            project.write('topology 1\nnext 2\nclass lots polygon\nfeature 1 lots %s\nend\n' % shape)
+        with open(self.path('old.csv'), 'w', encoding='utf-8') as table:
+            table.write('layer,fid,id,class,handle,moved,note,size\nlots,1,N1,lots,1,,,small\n')
+        with open(self.path('now.topo'), 'w', encoding='utf-8') as script:
+            script.write(done.out)
+        changed = self.tool('changes', 'p.project', 'old.csv', 'now.topo', 'new.csv', '--beside', 't.csv')
+        self.assertEqual(changed.status, 0, changed.told)
+        self.assertEqual([(row['id'], row['handle'], row['owner']) for row in self.table('new.csv')], [('N1', '1', 'Ann1,\n'), ('N2', '2', 'Ann2,\n'), ('N3', '3', '')])
+        wrong = self.tool('from-ogr', 'c.gpkg', '--grid', '0.01', '--field', 'ownr')
+        self.assertEqual((wrong.status, wrong.told), (2, 'from-ogr: there is no field `ownr`; did you mean `owner`?\n'))
+
+    def test_an_outline(self):
+        """What a layer outlines and a class leaves uncovered is an error, with its area."""
+        self.source('town.gpkg', [rectangle(0, 0, 30, 10)], layer='town')
+        self.source('town.gpkg', [rectangle(0, 0, 10, 10), rectangle(12, 0, 30, 10)], '-update', layer='lots')
+        self.source('town.gpkg', [rectangle(50, 0, 60, 10)], '-update', layer='other')
+        done = self.tool('from-ogr', 'town.gpkg', '--grid', '0.1', '--layer', 'lots', '--outline', 'town', 'lots')
+        self.assertIn('\nrule polygon_must_be_covered_by_feature_class_of town lots\n', done.out)
+        self.assertNotIn('other', done.out)
+        self.assertEqual(self.tool('to-gis', *self.replayed('town', done.out), 'out.gpkg').status, 0)
+        self.assertEqual(self.rows('out.gpkg', 'SELECT class, round(area, 3) AS area FROM error_polygons'), [{'class': 'town', 'area': 20.0}])
+        wrong = self.tool('from-ogr', 'town.gpkg', '--grid', '0.1', '--outline', 'town', 'lot')
+        self.assertEqual((wrong.status, wrong.told[-53:]), (2, 'from-ogr: there is no class `lot`; did you mean `lots`?\n'[-53:]))
+
     def test_ids_of_a_field_of_each_layer(self):
         self.source('j.gpkg', LOTS[:2], layer='lots')
         self.source('j.gpkg', LOTS[:1], '-update', '-sql', 'SELECT nr AS house FROM "old houses"', layer='old houses')
@@ -196,6 +233,37 @@ class Unfit(Case):
             self.assertEqual([(row['fid'], row['handle']) for row in csv.DictReader(table)],
                              [('1', '1'), ('2', ''), ('3', ''), ('4', ''), ('5', ''), ('6', ''), ('7', '2'), ('8', '')])
 
+    def test_curves_as_lines(self):
+        """Two lots with an arc between them that goes the one way round in one and the other way in the other neither overlap nor leave a gap."""
+        with open(self.path('curves.csv'), 'w') as out:
+            out.write('nr,WKT\n1,"CURVEPOLYGON (COMPOUNDCURVE (CIRCULARSTRING (20 0, 25 5, 20 10), (20 10, 0 10, 0 0, 20 0)))"\n'
+                      '2,"MULTISURFACE (CURVEPOLYGON (COMPOUNDCURVE (CIRCULARSTRING (20 10, 25 5, 20 0), (20 0, 60 0, 60 10, 20 10))))"\n'
+                      '3,"CURVEPOLYGON (CIRCULARSTRING (100 0, 140 0, 100 0))"\n')
+        self.run_words(['ogr2ogr', '-nlt', 'GEOMETRY', '-oo', 'GEOM_POSSIBLE_NAMES=WKT', 'curves.gpkg', 'curves.csv'])
+        words = ['curves.gpkg', '--grid', '0.001', '--rule', 'polygon_must_not_overlap', 'curves', '--rule', 'polygon_must_not_have_gaps', 'curves']
+        scripts = []
+        for reader in ('programs', 'bindings'):
+            done = self.run_words(['env', 'TOPO_READER=' + reader, os.path.join(TOOLS, 'from-ogr'), *words, '--linearize', '0.05'])
+            self.assertEqual(done.status, 0, done.told)
+            self.assertIn('curves 1: its curves are lines, at most 0.05 from them', done.told)
+            scripts.append(done.out)
+        self.assertEqual(*scripts)
+        self.assertEqual(self.tool('to-gis', *self.replayed('curves', scripts[0]), 'out.gpkg').status, 0)
+        self.assertEqual(self.rows('out.gpkg', 'SELECT (SELECT count(*) FROM gaps) AS gaps, (SELECT count(*) FROM error_polygons) AS overlaps'), [{'gaps': 0, 'overlaps': 0}])
+        self.assertIn('too many vertices', self.tool('from-ogr', *words, '--linearize', '1e-12').told)
+        self.assertEqual(self.tool('from-ogr', *words, '--linearize', '0').status, 2)
+
+    def test_arcs_are_near_and_the_same_both_ways(self):
+        lot = random.Random(5)
+        for _ in range(200):
+            p, q, r = ((lot.uniform(0, 100), lot.uniform(0, 100)) for _ in range(3))
+            circle, most = circle_of(p, q, r), lot.choice((0.01, 0.1, 5))
+            points = [p, *arc(p, q, r, most)]
+            self.assertEqual([r, *arc(r, q, p, most)], points[::-1])
+            self.assertIn(q, points)
+            middles = [((a[0] + b[0]) / 2, (a[1] + b[1]) / 2) for a, b in zip(points, points[1:])]
+            self.assertLessEqual(max(circle.radius - math.dist(circle.centre, each) for each in middles), most * (1 + 1e-9) + 1e-9 * circle.radius)
+
     def test_a_layer_of_curves_alone_and_one_without_geometries(self):
         with open(self.path('curves.csv'), 'w') as out:
             out.write('nr,WKT\n1,"CURVEPOLYGON (CIRCULARSTRING (0 0, 4 0, 4 4, 0 4, 0 0))"\n')
@@ -219,7 +287,11 @@ class Unfit(Case):
 
     def test_more_than_2000_vertices(self):
         ring = [(x, 0) for x in range(0, 1001)] + [(x, 5) for x in range(1000, -1, -1)]
-        done = self.tool('from-ogr', self.source('m.gpkg', [polygon(ring)]), '--grid', '1')
+        self.source('m.gpkg', [polygon(ring)])
+        done = self.tool('from-ogr', 'm.gpkg', '--grid', '1')
+        self.assertIn('lots 1: cut into 2 parts, since a shape has 2,000 vertices at most', done.told)
+        done = self.tool('tiles', 'split', 'm.gpkg', '--grid', '1', '--tiles', '1', '--into', 'tiles')
+        self.assertEqual(done.status, 1)
         self.assertIn('it has 2002 vertices, and a shape has 2,000 at most', done.told)
 
     def test_faults_are_those_of_the_program(self):

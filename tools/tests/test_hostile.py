@@ -47,8 +47,8 @@ class HostileCase(Case):
 
 
 def without_progress(told: str) -> list[str]:
-    """What was told, without how many features had been read every few seconds."""
-    return [line for line in told.split('\n') if not line.endswith(' features')]
+    """What was told, without how many features had been read every few seconds, and which cells look like formulas."""
+    return [line for line in told.split('\n') if not line.endswith(' features') and not line.startswith('cells of the table that')]
 
 
 def lines_without_remarks(script: str) -> list[str]:
@@ -64,14 +64,31 @@ class Values(HostileCase):
         hostile.write_lots(self.path('plain.geojson'), [{'nr': 'N'} for _ in ids])
         for way in WAYS:
             with self.way(way):
-                evil = self.read('evil.geojson', '--id', 'nr', '--table', 'evil.csv', '--layer', 'evil')
+                evil = self.read('evil.geojson', '--id', 'nr', '--field', 'nr', '--table', 'evil.csv', '--layer', 'evil')
                 plain = self.read('plain.geojson', '--id', 'nr', '--layer', 'plain')
                 self.assertEqual((evil.status, without_progress(evil.told)), (0, without_progress(plain.told)))
                 self.assertEqual(lines_without_remarks(evil.out), lines_without_remarks(plain.out.replace('plain', 'evil')))
                 remarks = [source_of(line) for line in evil.out.split('\n') if line.startswith('# fid')]
                 self.assertEqual(remarks, [(str(i), each) for i, each in enumerate(ids)])
                 with open(self.path('evil.csv'), encoding='utf-8', newline='') as table:
-                    self.assertEqual([(row['id'], row['handle']) for row in csv.DictReader(table)], [(each, str(i)) for i, each in enumerate(ids, 1)])
+                    rows = [(row['id'], row['nr'], row['handle']) for row in csv.DictReader(table)]
+                self.assertEqual(rows, [(each, each, str(i)) for i, each in enumerate(ids, 1)])
+
+    def test_cells_that_are_no_formulas(self):
+        ids = ['=1+1', '+x', '-y', '@z', '-7', 'plain']
+        hostile.write_lots(self.path('sums.geojson'), [{'nr': each} for each in ids])
+        for words, wanted in (([], ids), (['--safe'], ["'=1+1", "'+x", "'-y", "'@z", '-7', 'plain'])):
+            done = self.read('sums.geojson', '--id', 'nr', '--table', 'table.csv', *words)
+            self.assertEqual('may take for formulas, since they begin with =, +, - or @: 4' in done.told, not words)
+            with open(self.path('table.csv'), encoding='utf-8', newline='') as table:
+                self.assertEqual([row['id'] for row in csv.DictReader(table)], wanted)
+
+    def test_answers_control_no_terminal(self):
+        script, replies = self.replayed('evil', '\x1b[2Jclass lots polygon\nclass lots\x9b polygon\n')
+        done = self.tool('answers', script, replies, '--whole')
+        self.assertEqual((done.status, done.told), (1, ''))
+        self.assertIn('1: \\x1b[2Jclass lots polygon\n', done.out)
+        self.assertEqual(done.out, ''.join(printable(line) + '\n' for line in done.out.split('\n')[:-1]))
 
     def test_what_is_told_controls_no_terminal(self):
         ids = hostile.values(200, 2)
@@ -151,6 +168,27 @@ class Files(HostileCase):
                              'http://127.0.0.1:9/x.geojson', 'WFS:http://127.0.0.1:9', 'MYSQL:x', '<OGRVRTDataSource/>', '{"type": "Point"}', 'VRT:x'):
                     self.could_not(self.read(name), 'from-ogr: ')
 
+    def test_tables_that_are_other_files(self):
+        """Tables and views of the file itself are read. A view over a virtual table that is another file is not, and no trigger runs."""
+        self.geopackage('lots.gpkg', [{'nr': 'A'}, {'nr': 'B'}])
+        hostile.add_plain_view(self.path('lots.gpkg'))
+        with open(self.path('other.csv'), 'w', encoding='utf-8') as out:
+            out.write('nr,x\nSECRET,1\n')
+        hostile.add_virtual_tables(self.path('lots.gpkg'), self.path('other.csv'))
+        with open(self.path('lots.gpkg'), 'rb') as file:
+            before = file.read()
+        for way in WAYS:
+            with self.way(way):
+                for layer in ('view_by_ogr', 'view_by_text'):
+                    done = self.read('lots.gpkg', '--layer', layer, '--id', 'nr')
+                    self.assertEqual((done.status, 'Traceback' in done.told, 'by import add' in done.out), (2, False, False), done.told)
+                for layer in ('lots', 'seen'):
+                    done = self.read('lots.gpkg', '--layer', layer, '--id', 'nr')
+                    self.assertEqual((done.status, done.out.count('by import add ' + layer)), (0, 2), done.told)
+        with open(self.path('lots.gpkg'), 'rb') as file:
+            self.assertEqual(file.read(), before)
+        self.assertEqual(sorted(name for name in os.listdir(self.folder) if name.startswith('lots')), ['lots.gpkg'])
+
     def test_a_view_that_never_ends(self):
         hostile.add_endless_view(self.path(self.geopackage('lots.gpkg', [{'nr': 'A'}])))
         for way in WAYS:
@@ -214,8 +252,17 @@ class Frames(HostileCase):
         self.assertEqual(done.status, 2)
         self.assertTrue(done.told.endswith("from-ogr: [Errno 2] No such file or directory: 'none/table.csv'\n"), done.told)
 
+    def test_what_is_not_there(self):
+        """Status 2 and one sentence, whichever tool; 1 means something else."""
+        for words in (['answers', 'no', 'no'], ['report', 'no', 'no'], ['to-gis', 'no', 'no', 'out'], ['changes', 'no', 'no', 'no', 'new'], ['lapsed', 'no', 'no'],
+                      ['marks', 'no', 'no', 'no'], ['draw', 'true', 'no', 'out'], ['draw', '--map', 'true', 'no', 'out'], ['tiles', 'merge', 'no'],
+                      ['towns', 'no', '--', 'no']):
+            self.could_not(self.tool(*words), words[0] + ': ')
+        self.assertEqual(self.tool('towns').status, 2)
+
     def test_help(self):
-        for words in (['from-ogr'], ['tiles'], ['tiles', 'split'], ['tiles', 'merge'], ['changes'], ['lapsed']):
+        for words in (['from-ogr'], ['tiles'], ['tiles', 'split'], ['tiles', 'merge'], ['changes'], ['lapsed'], ['marks'], ['night'], ['report'], ['to-gis'],
+                      ['draw'], ['answers'], ['towns']):
             done = self.tool(*words, '--help')
             self.assertEqual((done.status, done.told), (0, ''))
             self.assertGreater(len(done.out), 60)

@@ -149,6 +149,23 @@ class Belonging(Case):
         self.refused('tiles/001.topo is tile 1 of 4, and not 1 of 3: these are not all tiles of one split, or more')
         self.assertEqual(self.tool('to-gis', 'tiles', 'out').status, 2)
 
+    def test_ids_of_a_table(self):
+        """The table of the whole names the features of each tile, whichever handles they have there."""
+        shutil.rmtree(self.path('tiles'))
+        self.assertEqual(self.split('--tiles', '4', '--id', 'nr', '--table', 'table.csv').status, 0)
+        self.replay_all('001', '002', '003', '004')
+        done = self.tool('tiles', 'merge', 'tiles', '--table', 'table.csv')
+        lines = done.out.splitlines()
+        self.assertEqual((done.status, lines[0], lines[1].split(' cells')[0]), (0, '# lots "N1", lots "N2"', 'error 1 1 2'))
+        self.assertEqual(sum(line.startswith('# ') for line in lines), 11)
+        with open(self.path('table.csv'), encoding='utf-8') as table:
+            named = table.read().replace(',N', ',lot ')
+        with open(self.path('named.csv'), 'w', encoding='utf-8') as out:
+            out.write(named)
+        self.assertEqual(self.tool('to-gis', 'tiles', 'errors.gpkg', '--table', 'named.csv').status, 0)
+        rows = self.rows('errors.gpkg', 'SELECT subject_id, other_id FROM error_polygons ORDER BY subject')
+        self.assertEqual([tuple(row.values()) for row in rows], [('lot %d' % n, 'lot %d' % (n + 1)) for n in range(1, 12)])
+
     def test_a_tile_twice(self):
         self.replay_all('001', '002', '003', '004')
         with open(self.path('tiles/003.topo'), encoding='utf-8') as script:

@@ -68,6 +68,7 @@ class Units:
     def __init__(self, grid: Grid):
         self.grid = grid
         self.converter = Converter(grid)
+        self.converter.may_cut = False
         self.digits = decimals_of(grid.resolution)
         steps = [origin / grid.resolution for origin in (grid.x, grid.y)]
         if any(step.denominator != 1 for step in steps):
