@@ -7,7 +7,7 @@
 -- may_create row F f at  the feature is a subject of the rule, which asks for a point so
 -- HasHandle n            where n is the next handle, there is one behind it
 -- HasCreated             what holds of the features after the plan
-use Rattle.std.specs.Prelude.{Bool, true, false, ◌&&◌, ◌≡◌, ◌≢◌, ℕ, ◌+◌, ◌≤◌, List, [], ◌∷◌, Option, Some, None}
+use Rattle.std.specs.Prelude.{Bool, false, ◌&&◌, ◌≡◌, ◌≢◌, ℕ, ◌+◌, ◌≤◌, List, [], ◌∷◌, Option, Some, None}
 use Rattle.plane_terms.specs.Point.{Place, Point, IsAt}
 use Rattle.plane_terms.specs.Shape.{point_shape}
 use Rattle.rule_words.specs.declared.rule_kind.RuleKind.{RuleKind}
@@ -17,7 +17,6 @@ use Rattle.topology_terms.specs.Together.{of_side, ends}
 use Rattle.topology_terms.specs.Tests.{is_inside_at, has_end_at}
 use Rattle.topology_terms.specs.Plans.{none_inside, none_at, is_point_at}
 use Rattle.topology_terms.specs.Broken.{Row, BrokenAt, BrokenWhole}
-use Rattle.topology_terms.specs.Project.{Project, rule_at}
 use Rattle.fix_terms.specs.Plans.{Edit}
 use Rattle.fix_terms.specs.declared.edit.Edit.TheVariants.{Add}
 

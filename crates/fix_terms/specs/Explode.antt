@@ -6,16 +6,15 @@
 -- may_explode f        it is a line of two or more parts
 -- HasHandles n f       where n is the next handle, there are handles for its further parts
 -- HasExploded          what holds of the features after the plan
-use Rattle.std.specs.Prelude.{◌≡◌, ◌≢◌, ℕ, nat_lt, ◌+◌, ◌≤◌, Bool, true, false, ◌&&◌, List, [], ◌∷◌, length, map, flat_map, Some, None}
+use Rattle.std.specs.Prelude.{◌≡◌, ◌≢◌, ℕ, nat_lt, ◌+◌, ◌≤◌, Bool, ◌&&◌, List, [], ◌∷◌, length, map, flat_map, Some}
 use Rattle.plane_terms.specs.Lists.{Every}
 use Rattle.plane_terms.specs.Point.{Place}
-use Rattle.plane_terms.specs.Shape.{Shape, IsRing, segments_of}
+use Rattle.plane_terms.specs.Shape.{Shape, segments_of}
 use Rattle.plane_terms.specs.declared.kind.Kind.TheVariants as kind
 use Rattle.rule_words.specs.declared.rule_kind.RuleKind.TheVariants as rule
 use Rattle.topology_terms.specs.Feature.{Feature, feature_at, sides}
 use Rattle.topology_terms.specs.Broken.{Row, BrokenWhole}
 use Rattle.topology_terms.specs.Causes.{same_kind}
-use Rattle.topology_terms.specs.Project.{Project}
 use Rattle.fix_terms.specs.Plans.{handles_of, shapes_of}
 use Rattle.fix_terms.specs.Plans.{Edit}
 use Rattle.fix_terms.specs.declared.edit.Edit.TheVariants.{Put, Add}

@@ -8,13 +8,11 @@
 -- may_move from to F         the two places differ, and a feature has a vertex at the first
 -- moved_feature from to f    the feature moved, if it has a vertex at `from`, else as it is
 -- HasMoved                   what holds of the features after the plan
-use Rattle.std.specs.Prelude.{Bool, true, false, ◌&&◌, not, ◌≡◌, ℕ, List, [], ◌∷◌, map, filter, Some, if◌then◌else◌}
+use Rattle.std.specs.Prelude.{Bool, false, ◌&&◌, not, ◌≡◌, ℕ, List, [], ◌∷◌, map, filter, Some, if◌then◌else◌}
 use Rattle.std.specs.Option.{option_map}
 use Rattle.std.specs.List.{list_any}
-use Rattle.plane_terms.specs.Lists.{Every}
 use Rattle.plane_terms.specs.Point.{Place, same_place}
 use Rattle.plane_terms.specs.Shape.{Shape, shape_of, vertices_of}
-use Rattle.plane_terms.specs.ShapeFaults.{IsFlawless}
 use Rattle.topology_terms.specs.Feature.{Feature, feature_at}
 use Rattle.fix_terms.specs.Plans.{Edit}
 use Rattle.fix_terms.specs.declared.edit.Edit.TheVariants.{Put}

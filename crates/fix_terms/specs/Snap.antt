@@ -13,7 +13,6 @@ use Rattle.std.specs.Prelude.{Bool, true, false, ◌&&◌, not, ◌≡◌, ◌�
 use Rattle.std.specs.List.{list_any}
 use Rattle.plane_terms.specs.Point.{Place, Point, IsAt}
 use Rattle.plane_terms.specs.Shape.{Shape, shape_of, rings_of}
-use Rattle.plane_terms.specs.ShapeFaults.{IsFlawless}
 use Rattle.plane_terms.specs.declared.kind.Kind.TheVariants as kind
 use Rattle.rule_words.specs.declared.rule_kind.RuleKind.{RuleKind}
 use Rattle.rule_words.specs.declared.rule_kind.RuleKind.TheVariants as rule
@@ -21,7 +20,6 @@ use Rattle.topology_terms.specs.Feature.{Feature, feature_at, is_on_side}
 use Rattle.topology_terms.specs.Together.{of_side, ends}
 use Rattle.topology_terms.specs.Plans.{is_dangle, has_side_at}
 use Rattle.topology_terms.specs.Broken.{Row, BrokenAt}
-use Rattle.topology_terms.specs.Project.{Project, rule_at}
 use Rattle.fix_terms.specs.Plans.{Edit}
 use Rattle.fix_terms.specs.declared.edit.Edit.TheVariants.{Put}
 
