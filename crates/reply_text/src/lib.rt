@@ -2,6 +2,7 @@
 #![tactic(auto)]
 
 mod cells;
+mod corners;
 mod dirt;
 mod errors;
 mod features;

@@ -3,6 +3,7 @@ ghost use Rattle.reply_text.specs.Replies.{refusal_of, said_of};
 ghost use Rattle.wkt_text.specs.Appended.{Appends};
 
 use crate::cells::push_cell_list;
+use crate::corners::push_corner_list;
 use crate::dirt::push_dirty_list;
 use crate::errors::push_error_list;
 use crate::features::push_feature_list;
@@ -10,9 +11,10 @@ use crate::numbers::{push_number, push_text};
 use crate::refusal::{Refusal, push_refusal};
 use crate::rules::push_rule_list;
 use grid_plane::NoMemory;
+use corner_terms::CellCorner;
 use topo_core::{KindRules, Summary, Topology};
 
-/// What a line is answered. A listing lists the topology that it is said of.
+/// What a line is answered. A listing lists the topology that it is said of, or corners that it holds.
 #[derive(Drop)]
 pub enum Reply {
     /// The line is skipped.
@@ -35,6 +37,8 @@ pub enum Reply {
     FeatureList,
     /// The rules in force.
     RuleList,
+    /// These corners of the cells of an error.
+    CornerList(Vec<CellCorner>),
 }
 
 pub fn push_given(out: &mut Vec<u8>, number: u32) -> Result<(), NoMemory>
@@ -68,7 +72,7 @@ pub fn push_refused(out: &mut Vec<u8>, refusal: &Refusal) -> Result<(), NoMemory
     Ok(())
 }
 
-/// Appends the text of a reply, each line with one LF at its end; a listing lists this topology. `NoMemory` comes where memory
+/// Appends the text of a reply, each line with one LF at its end; a listing of a topology lists this one. `NoMemory` comes where memory
 /// runs out: a front of the text is appended then, and the old text stays.
 pub fn push_reply<R: KindRules>(
     out: &mut Vec<u8>,
@@ -88,5 +92,6 @@ pub fn push_reply<R: KindRules>(
         Reply::CellList => push_cell_list(out, topology.errors()),
         Reply::FeatureList => push_feature_list(out, topology.store()),
         Reply::RuleList => push_rule_list(out, topology.store(), topology.rules()),
+        Reply::CornerList(corners) => push_corner_list(out, corners),
     }
 }

@@ -47,3 +47,8 @@ returns-in-RuleList g c =
     ∙ (ap (λ (cs : List Class). flat_map (rule_line cs) p.rules ++ total_line (length p.rules)) (sym c.store-in-RuleList.ensures.classes)
     ∙ ap (λ (rs : List InForce). flat_map (rule_line c.store-in-RuleList.result.now.classes) rs ++ total_line (length rs))
     (sym c.rules.ensures)))) c.push_rule_list.ensures
+
+pub returns-in-CornerList : goal.returns-in-CornerList
+returns-in-CornerList g c =
+    let p = c.args.topology.now in
+    as_text c.push_corner_list.result _ _ _ _ (ap (λ (r : Reply). reply_text (said_of p r)) c.in-CornerList.is) c.push_corner_list.ensures
