@@ -1,5 +1,5 @@
 -- A fraction in lowest terms is the only one of its value, and so cells have one list of corners.
-use Rattle.std.proofs.Common.{◌≡◌, ◌↔◌, ◌⊎◌, inl, inr, ℕ, zero, suc, ◌+◌, ◌*◌, ◌<◌, ◌≤◌, ◌-◌, ℤ, pos, negsuc, neg_ℤ, ◌+ℤ◌, ◌-ℤ◌, ◌*ℤ◌, ◌≤ℤ◌, ◌<ℤ◌, List, [], ◌∷◌, ◌++◌, refl, sym, ap, ◌∙◌, subst, arith, unsigned_abs}
+use Rattle.std.proofs.Common.{◌≡◌, ◌⊎◌, inl, inr, ℕ, zero, suc, ◌+◌, ◌*◌, ◌<◌, ◌≤◌, ◌-◌, ℤ, pos, negsuc, neg_ℤ, ◌+ℤ◌, ◌-ℤ◌, ◌*ℤ◌, ◌<ℤ◌, List, [], ◌∷◌, ◌++◌, refl, sym, ap, ◌∙◌, subst, arith}
 use Prim.Native.Nat.{◌∣◌}
 use Rattle.std.proofs.lemmas.Int.{ints}
 use native.Mathlib.Nat.{dvd-sub_iff_left}
@@ -8,9 +8,8 @@ use Rattle.number_laws.proofs.Ring.{num, neg, ◌⊕◌, ◌⊖◌, ◌⊗◌, s
 use Rattle.number_laws.proofs.Order.{zero_unscaled, over_unscaled, natural}
 use Rattle.plane_terms.specs.Lists.{Every, EveryPair, SomeOf}
 use Rattle.plane_terms.specs.Point.{Point}
-use Rattle.plane_terms.specs.Cell.{Cell, HasPoint}
-use Rattle.plane_terms.specs.Corners.{IsCorner}
-use Rattle.corner_terms.specs.CornerLists.{IsLowestPair, IsInLowest, LiesAt, IsLess, IsBefore, IsTold, AreTold, AreOfCell, AreOfCells}
+use Rattle.plane_terms.specs.Cell.{Cell}
+use Rattle.corner_terms.specs.CornerLists.{IsLowestPair, IsInLowest, LiesAt, IsBefore, IsTold, AreTold, AreOfCell, AreOfCells}
 use Rattle.corner_terms.specs.declared.cell_corner.Fraction.{Fraction}
 use Rattle.corner_terms.specs.declared.cell_corner.CellCorner.{CellCorner}
 use Rattle.cell_corners.proofs.Ascents.{both_same}

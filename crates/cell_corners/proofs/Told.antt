@@ -1,12 +1,12 @@
 -- The corners of a cell, as they are told: the same points in the same order.
-use Rattle.std.proofs.Common.{◌≡◌, ◌↔◌, ◌⊎◌, inl, inr, ℕ, zero, suc, ◌+◌, ◌<◌, ℤ, pos, ◌*ℤ◌, ◌≤ℤ◌, ◌<ℤ◌, List, [], ◌∷◌, ◌++◌, take, length, refl, sym, ap, ◌∙◌, subst, arith, append_assoc, append-nil, add-one, Option, Some, None}
+use Rattle.std.proofs.Common.{◌≡◌, ◌↔◌, inl, inr, ℕ, zero, suc, ◌+◌, ◌<◌, ℤ, pos, ◌*ℤ◌, ◌≤ℤ◌, ◌<ℤ◌, List, [], ◌∷◌, ◌++◌, take, refl, sym, ap, ◌∙◌, subst, arith, append_assoc, append-nil, add-one, Some}
 use Rattle.std.specs.Prelude.{slice_get}
 use Rattle.std.proofs.lemmas.Int.{ints}
 use Rattle.plane_terms.specs.Lists.{Every, EveryPair, SomeOf, Paired}
 use Rattle.plane_terms.specs.Point.{Point}
-use Rattle.plane_terms.specs.Cell.{Cell, HasPoint}
+use Rattle.plane_terms.specs.Cell.{Cell}
 use Rattle.plane_terms.specs.Corners.{IsCorner}
-use Rattle.corner_terms.specs.CornerLists.{IsInLowest, LiesAt, IsLess, IsBefore, IsTold, AreTold, AreOfCell, AreOfCells}
+use Rattle.corner_terms.specs.CornerLists.{LiesAt, IsLess, IsBefore, IsTold, AreTold, AreOfCell, AreOfCells}
 use Rattle.corner_terms.specs.declared.cell_corner.Fraction.{Fraction}
 use Rattle.corner_terms.specs.declared.cell_corner.CellCorner.{CellCorner}
 use Rattle.cell_corners.specs.declared.corner.Corner.{Corner}

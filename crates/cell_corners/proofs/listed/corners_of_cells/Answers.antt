@@ -1,5 +1,4 @@
 use Rattle.std.proofs.Common.{◌+◌, add-one, subst, sym, arith, ℕ, List, take, ◌≡◌}
-use Rattle.plane_terms.specs.Cell.{Cell}
 use Rattle.corner_terms.specs.CornerLists.{AreOfCell, AreOfCells}
 use Rattle.corner_terms.specs.declared.cell_corner.CellCorner.{CellCorner}
 use Rattle.cell_corners.proofs.Told.{cells_more}
