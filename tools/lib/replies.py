@@ -241,6 +241,8 @@ class Ending:
         if words[0] in LISTINGS:
             self.listings[words[0]] = Listing(answer.reply[:-1], answer.number, self.changes, dict(self.rules))
             return
+        if words[0] == 'corners':
+            return
         self.changes += 1
         if words[0] == 'class':
             self.classes[words[1]] = words[2]
