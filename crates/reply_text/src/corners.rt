@@ -7,12 +7,12 @@ use grid_plane::NoMemory;
 use corner_terms::{CellCorner, Fraction};
 
 // A numerator, and the denominator behind it.
-fn push_quotient(out: &mut Vec<u8>, f: Fraction) -> Result<(), NoMemory>
-    ensures { Appends result out.old.items out.new.items (quotient_text f) }
+fn push_quotient(out: &mut Vec<u8>, n: i128, d: u128) -> Result<(), NoMemory>
+    ensures { Appends result out.old.items out.new.items (quotient_text (record { n = n; d = d })) }
 {
-    push_number(out, f.n)?;
+    push_number(out, n)?;
     push_text(out, b"/")?;
-    push_number(out, f.d)?;
+    push_number(out, d)?;
     Ok(())
 }
 
@@ -23,7 +23,7 @@ fn push_fraction(out: &mut Vec<u8>, f: Fraction) -> Result<(), NoMemory>
     if f.d == 1 {
         return push_number(out, f.n);
     }
-    push_quotient(out, f)
+    push_quotient(out, f.n, f.d)
 }
 
 fn push_corner_line(out: &mut Vec<u8>, corner: &CellCorner) -> Result<(), NoMemory>

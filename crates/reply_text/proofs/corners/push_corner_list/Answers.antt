@@ -1,7 +1,6 @@
-use Rattle.std.proofs.Common.{ap, refl}
-use Rattle.script_terms.specs.Reply.{total_line}
+use Rattle.std.proofs.Common.{refl}
 use Rattle.wkt_text.proofs.Pushing.{failed}
-use Rattle.reply_text.proofs.Fronts.{first_cut, last_cut, next_cut}
+use Rattle.reply_text.proofs.Fronts.{first_cut, next_cut}
 use Rattle.reply_text.proofs.corners.push_corner_list.Goals as goal
 
 pub returns-in_err-push_corner_lines : goal.returns-in_err-push_corner_lines
@@ -12,5 +11,4 @@ returns-in_err-push_corner_lines c =
 pub returns-in_err-push_total : goal.returns-in_err-push_total
 returns-in_err-push_total c =
     failed c.from_residual-in_err-push_total.result _ _ _ _ c.from_residual-in_err-push_total.ensures.0 refl
-    (next_cut _ _ _ _ _ _ refl c.in_ok-push_corner_lines.ensures
-    (last_cut _ _ _ _ (ap total_line c.len.ensures) c.in_err-push_total.ensures))
+    (next_cut _ _ _ _ _ _ refl c.in_ok-push_corner_lines.ensures c.in_err-push_total.ensures)

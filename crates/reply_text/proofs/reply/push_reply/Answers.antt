@@ -5,7 +5,8 @@ use Rattle.topology_terms.specs.Entry.{Entry}
 use Rattle.topology_terms.specs.Feature.{Class, Feature}
 use Rattle.topology_terms.specs.Project.{InForce}
 use Rattle.project_text.specs.Pushed.{dirty_text, feature_text}
-use Rattle.script_terms.specs.Reply.{reply_text, total_line}
+use Rattle.corner_terms.specs.declared.cell_corner.CellCorner.{CellCorner}
+use Rattle.script_terms.specs.Reply.{reply_text, corner_line, total_line}
 use Rattle.wkt_text.proofs.Pushing.{as_text}
 use Rattle.reply_text.specs.Lines.{entry_line, entry_lines, rule_line}
 use Rattle.reply_text.specs.Replies.{said_of}
@@ -51,4 +52,5 @@ returns-in-RuleList g c =
 pub returns-in-CornerList : goal.returns-in-CornerList
 returns-in-CornerList g c =
     let p = c.args.topology.now in
-    as_text c.push_corner_list.result _ _ _ _ (ap (λ (r : Reply). reply_text (said_of p r)) c.in-CornerList.is) c.push_corner_list.ensures
+    as_text c.push_corner_list.result _ _ _ _ (ap (λ (r : Reply). reply_text (said_of p r)) c.in-CornerList.is
+    ∙ ap (λ (ks : List CellCorner). flat_map corner_line ks ++ total_line (length ks)) (sym c.deref.ensures.value)) c.push_corner_list.ensures
