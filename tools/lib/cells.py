@@ -81,6 +81,8 @@ def closures_of(error: Error) -> list[list[Point]]:
     """The corners of each cell of an error; of its frame where the listing has no cells."""
     if not error.cells:
         return [rectangle(error.frame)]
+    if error.closures is not None:
+        return [corners for corners in error.closures if corners]
     return [corners for corners in (corners_of(error.frame, cell) for cell in error.cells) if corners]
 
 
@@ -142,5 +144,5 @@ def cover_of(closures: list[list[Point]]) -> Cover:
 
 def cover_of_error(error: Error) -> Cover:
     """What the cells of an error cover, or its frame where the listing has none."""
-    found = bounds_of(error) if error.cells else None
+    found = bounds_of(error) if error.cells and error.closures is None else None
     return cover_of(closures_of(error)) if found is None else Cover([], *parts_on_lines(found))

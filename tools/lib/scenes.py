@@ -6,6 +6,7 @@ import re
 import subprocess
 from typing import NamedTuple
 
+from .asked import with_closures
 from .cells import Cover, cover_of_error
 from .gaps import WORD, Ground, ground_of
 from .grid import REACH, Place
@@ -104,11 +105,12 @@ def ending_after(asked: bytes, replies: bytes) -> Ending:
     return ending
 
 
-def scene_of(program: list[str], script: bytes, names: Names = NO_NAMES) -> Scene:
-    """What the script leaves behind."""
+def scene_of(program: list[str], script: bytes, names: Names = NO_NAMES, asks: bool = False) -> Scene:
+    """What the script leaves behind; the program is asked for the corners of cells, too, where they are not to be computed."""
     ending = ending_after(*replies_to(program, script))
     features = [drawn_of(line) for line in ending.listings['features'].lines]
-    errors = [Marked(error, cover_of_error(error)) for error in each_error(ending.listings['cells'].lines)]
+    listed = list(each_error(ending.listings['cells'].lines))
+    errors = [Marked(error, cover_of_error(error)) for error in (with_closures(program, script, listed) if asks else listed)]
     dirt = [tuple(map(int, line.split()[1:])) for line in ending.listings['dirty'].lines]
     return Scene(features, errors, dirt, ending, names)
 

@@ -1,5 +1,5 @@
 pub mod Counts
-pub mod Corners
+pub mod ErrorCorners
 pub mod KeptLists
 pub mod Sessions
 pub mod Noting

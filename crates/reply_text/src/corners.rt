@@ -7,12 +7,12 @@ use grid_plane::NoMemory;
 use text_out::{push_byte, push_digits, push_end, push_text};
 
 // A numerator, and the denominator behind it.
-fn push_quotient(out: &mut Vec<u8>, f: Fraction) -> Result<(), NoMemory>
-    ensures { OnOk result (out.new.items ≡ out.old.items ++ quotient_text f) }
+fn push_quotient(out: &mut Vec<u8>, n: i128, d: u128) -> Result<(), NoMemory>
+    ensures { OnOk result (out.new.items ≡ out.old.items ++ quotient_text (record { n = n; d = d })) }
 {
-    push_digits(out, f.n)?;
+    push_digits(out, n)?;
     push_byte(out, b'/')?;
-    push_digits(out, f.d)
+    push_digits(out, d)
 }
 
 // A whole number, or a numerator and a denominator.
@@ -22,7 +22,7 @@ fn push_fraction(out: &mut Vec<u8>, f: Fraction) -> Result<(), NoMemory>
     if f.d == 1 {
         return push_digits(out, f.n);
     }
-    push_quotient(out, f)
+    push_quotient(out, f.n, f.d)
 }
 
 fn push_corner_line(out: &mut Vec<u8>, corner: &CellCorner) -> Result<(), NoMemory>
