@@ -10,7 +10,7 @@ from .texts import KINDS
 FORMS = {'class': 'class NAME KIND', 'rule': 'rule WORD ORIGIN', 'droprule': 'droprule R', 'begin': 'begin EDITOR',
          'end': 'end EDITOR', 'discard': 'discard EDITOR', 'by': 'by EDITOR add CLASS WKT', 'validate': 'validate X0 Y0 X1 Y1',
          'dirty': 'dirty', 'errors': 'errors', 'cells': 'cells', 'features': 'features', 'rules': 'rules',
-         'mark': 'mark R SUBJECT OTHER', 'unmark': 'unmark R SUBJECT OTHER'}
+         'mark': 'mark R SUBJECT OTHER', 'unmark': 'unmark R SUBJECT OTHER', 'corners': 'corners R SUBJECT OTHER'}
 DEEDS = {'add': 'by EDITOR add CLASS WKT', 'change': 'by EDITOR change H WKT', 'delete': 'by EDITOR delete H',
          'retype': 'by EDITOR retype H S', 'undo': 'by EDITOR undo', 'redo': 'by EDITOR redo'}
 
@@ -18,21 +18,21 @@ DEEDS = {'add': 'by EDITOR add CLASS WKT', 'change': 'by EDITOR change H WKT', '
 OF_SHAPES = 'E14 E15 E16 E17 E18 '
 CODES = {'class': 'E03 E04', 'rule': 'E05 E06 E07 E08', 'droprule': 'E09', 'begin': 'E10 E11', 'end': 'E12', 'discard': 'E12',
          'add': OF_SHAPES + 'E12 E05 E13 E21', 'change': OF_SHAPES + 'E12 E19 E20 E13', 'delete': 'E12 E19 E20', 'retype': 'E12 E19 E20',
-         'undo': 'E12 E22', 'redo': 'E12 E23', 'validate': 'E15 E24', 'mark': 'E25 E26', 'unmark': 'E25 E26'}
+         'undo': 'E12 E22', 'redo': 'E12 E23', 'validate': 'E15 E24', 'mark': 'E25 E26', 'unmark': 'E25 E26', 'corners': 'E25'}
 DETAILS = {'E14': 'N', 'E15': 'N', 'E16': 'N', 'E17': 'N', 'E18': '(?:few N|many N|cross N N|along N N)', 'E20': 'NAME'}
 
 # The replies by the word of the line: where it has none here, `ok`. The lines of a listing, without its total.
 DONE = {'class': 'ok N', 'rule': 'ok N', 'add': 'ok N', 'validate': 'ok judged N errors N dirty N'}
 ERROR = '(?:error|exception) N N N (?:cells|whole) I I I I'
 LISTED = {'dirty': 'dirty I I I I', 'errors': ERROR, 'cells': ERROR + '|cell HALF(?:, HALF)*', 'features': 'feature N CLASS SHAPE .+',
-          'rules': 'rule N WORD ORIGIN(?: DEST)?'}
+          'rules': 'rule N WORD ORIGIN(?: DEST)?', 'corners': 'corner N FRACTION FRACTION'}
 
 NUMBER, INTEGER, NAME = '[0-9]+', '-?[0-9]+', '[A-Za-z][A-Za-z0-9_]*'
 SUBTYPE = '0*(?:25[0-5]|2[0-4][0-9]|1[0-9][0-9]|[0-9][0-9]?)'
 SIDE = '%s(?::%s)?' % (NAME, SUBTYPE)
 PIECES = {'N': NUMBER, 'R': NUMBER, 'H': NUMBER, 'SUBJECT': NUMBER, 'OTHER': NUMBER, 'S': SUBTYPE, 'CLASS': SIDE, 'ORIGIN': SIDE, 'DEST': SIDE, 'I': INTEGER, 'X0': INTEGER, 'Y0': INTEGER,
           'X1': INTEGER, 'Y1': INTEGER, 'KIND': '(?:point|line|polygon)', 'WORD': '(?:%s)' % '|'.join(KINDS_OF), 'WKT': '.+',
-          'SHAPE': '(?:%s)' % '|'.join(KINDS), 'HALF': ' '.join([INTEGER] * 3) + ' (?:>=|>|=)'}
+          'SHAPE': '(?:%s)' % '|'.join(KINDS), 'HALF': ' '.join([INTEGER] * 3) + ' (?:>=|>|=)', 'FRACTION': INTEGER + '(?:/[0-9]+)?'}
 
 
 class Fit(NamedTuple):
@@ -73,6 +73,8 @@ def can_answer(line: str, reply: list[str]) -> bool:
     fit = FITS.get(''.join(words[2:3] if words[:1] == ['by'] else words[:1]))
     if fit is None or not fit.line.fullmatch(line):
         return False
+    if len(reply) == 1 and fit.refused.fullmatch(reply[0]):
+        return True
     if fit.listed.pattern:
         return is_listing(fit, reply)
-    return len(reply) == 1 and bool(fit.done.fullmatch(reply[0]) or fit.refused.fullmatch(reply[0]))
+    return len(reply) == 1 and bool(fit.done.fullmatch(reply[0]))

@@ -4,6 +4,7 @@ from __future__ import annotations
 import json
 import re
 from dataclasses import dataclass, field
+from fractions import Fraction
 from functools import lru_cache
 from typing import BinaryIO, Iterable, Iterator, NamedTuple, Optional
 
@@ -35,7 +36,8 @@ class Answer(NamedTuple):
 
 
 class Error(NamedTuple):
-    """An error as a listing tells it, with its cells, where the listing has them."""
+    """An error as a listing tells it, with its cells, where the listing has them; and the corners of each where the program was asked for them, of
+    a polygon counter-clockwise."""
 
     mark: str
     rule: int
@@ -44,6 +46,7 @@ class Error(NamedTuple):
     extent: str
     frame: Frame
     cells: list[list[Half]]
+    closures: Optional[list[list[tuple[Fraction, Fraction]]]] = None
 
 
 class Rule(NamedTuple):
@@ -244,6 +247,8 @@ class Ending:
             self.listed(answer.reply[:-1])
         if words[0] in LISTINGS:
             self.listings[words[0]] = Listing(answer.reply[:-1], answer.number, self.changes, dict(self.rules))
+            return
+        if words[0] == 'corners':
             return
         self.changes += 1
         if words[0] == 'class':

@@ -7,6 +7,7 @@ import subprocess
 import threading
 from typing import BinaryIO, Iterator, NamedTuple, Optional
 
+from .asked import with_closures
 from .cells import Cover, cover_and_stops
 from .gaps import WORD, Ground, ground_of
 from .grid import REACH, Place
@@ -153,12 +154,21 @@ def drained(lines: list[str]) -> Iterator[str]:
         yield lines.pop()
 
 
-def scene_of(program: list[str], script: str, names: Names = NO_NAMES) -> Scene:
-    """What the script leaves behind."""
+def errors_of(program: list[str], script: str, listed: Iterator[Error], asks: bool) -> Iterator[Error]:
+    """The errors of a listing; where the program is asked, with the corners of their cells."""
+    if not asks:
+        return listed
+    with open(script, 'rb') as lines:
+        return with_closures(program, lines.read(), list(listed))
+
+
+def scene_of(program: list[str], script: str, names: Names = NO_NAMES, asks: bool = False) -> Scene:
+    """What the script leaves behind; the program is asked for the corners of cells, too, where they are not to be computed."""
     with replies_to(program, script) as replies:
         ending = ending_after(script, replies)
     features = list(map(drawn_of, drained(ending.listings['features'].lines)))
-    errors = [Marked(error, *cover_and_stops(error)) for error in each_error(drained(ending.listings['cells'].lines))]
+    listed = each_error(drained(ending.listings['cells'].lines))
+    errors = [Marked(error, *cover_and_stops(error)) for error in errors_of(program, script, listed, asks)]
     dirt = [tuple(map(int, line.split()[1:])) for line in ending.listings['dirty'].lines]
     return Scene(features, errors, dirt, ending, names)
 

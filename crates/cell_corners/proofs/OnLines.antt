@@ -12,7 +12,7 @@ use Rattle.cell_corners.specs.Listed.{value_on, corner_at, turn}
 use Rattle.cell_corners.specs.Held.{HoldsOn, EndsAt, IsEndOn, IsLineOf}
 use Rattle.cell_corners.proofs.Bounds.{turned_value, crosses, crosses_first, crosses_second}
 use Rattle.plane_terms.specs.declared.op.Op.TheVariants.{Zero}
-use Rattle.number_laws.proofs.Ring.{num, neg, ◌⊕◌, ◌⊖◌, ◌⊗◌, same_by}
+use Rattle.number_laws.proofs.Ring.{num, ◌⊕◌, ◌⊖◌, ◌⊗◌, same_by}
 use Rattle.number_laws.proofs.Order.{product_over, square_least, zero_unscaled}
 
 pub closed_is : (c : Cell) (p : Point) → Every (HoldsOn (corner_at p)) c ↔ InCell (weak_of c) p

@@ -1,5 +1,4 @@
 pub mod Listed
 pub mod Held
 pub mod Lists
-pub mod Text
 pub mod Fractions

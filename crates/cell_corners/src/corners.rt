@@ -6,7 +6,7 @@ ghost use Rattle.plane_terms.specs.declared.op.Op.TheVariants.{Zero};
 ghost use Rattle.plane_terms.specs.Point.{Point};
 ghost use Rattle.plane_terms.specs.Cell.{InCell, weak_of};
 ghost use Rattle.plane_terms.specs.Corners.{MeetAt, IsCorner};
-ghost use Rattle.cell_corners.specs.Listed.{Stands, AreAscending, IsLowest, corner_at};
+ghost use Rattle.cell_corners.specs.Listed.{IsFit, Stands, AreAscending, IsLowest, corner_at};
 ghost use Rattle.cell_corners.specs.Held.{IsEndOn, IsLineOf};
 ghost use Rattle.cell_corners.specs.Lists.{AreListed};
 
@@ -15,7 +15,7 @@ use crate::ends::beginning;
 use crate::listing::put;
 use crate::lowest::reduced;
 use crate::meeting::all_hold_on;
-use convex_cell::Cell;
+use convex_cell::BorrowedCell;
 use grid_plane::{Half, NoMemory, Op};
 use std::alloc::Global;
 use std::marker::Model;
@@ -28,17 +28,20 @@ pub struct Corners {
 
 impl Model for Corners {
     ghost use Rattle.std.specs.Prelude.{List};
+    ghost use Rattle.cell_corners.specs.Lists.{AreListed};
     ghost use Rattle.cell_corners.specs.declared.corner.Corner.{Corner};
 
     ghost Value = { List Corner };
 
     ghost view = { λ c. c.corners.items };
+
+    ghost invariant = { λ c. AreListed c.corners.items };
 }
 
 impl Corners {
     /// The corners of the cell, by abscissa and then by ordinate, each once: where the lines of two of its half-planes meet in its
     /// closure. A cell that has no point has those of its weakened half-planes.
-    pub fn of(alloc: Global, cell: &Cell) -> Result<Corners, NoMemory>
+    pub fn of(alloc: Global, cell: &BorrowedCell<'_>) -> Result<Corners, NoMemory>
         ensures exact { IfOk result (λ found. (p : Point) → IsCorner cell.now p ↔ Stands found p) }
         ensures ascending { IfOk result AreAscending }
         ensures lowest { IfOk result (λ found. Every IsLowest found) }
@@ -57,7 +60,8 @@ impl Corners {
     /// The corner of this number, from 0.
     pub fn corner(&self, i: usize) -> Corner
         requires { i < length self.now }
-        ensures { slice_get self.now i ≡ Some result }
+        ensures value { slice_get self.now i ≡ Some result }
+        ensures fits { IsFit result }
     {
         self.corners[i]
     }

@@ -1,4 +1,5 @@
 pub mod Counts
+pub mod ErrorCorners
 pub mod KeptLists
 pub mod Sessions
 pub mod Noting

@@ -3,6 +3,8 @@ use Rattle.std.proofs.Common.{◌≡◌, ◌⊎◌, inl, inr, ℕ, ◌<◌, Bool
 use Rattle.std.specs.Prelude.{unwrap_or}
 use Rattle.plane_terms.specs.Rectangle.{Rectangle}
 use Rattle.plane_terms.specs.Cell.{Cell}
+use Rattle.corner_terms.specs.CornerLists.{AreOfCells}
+use Rattle.cell_corners.proofs.OneList.{one_list}
 use Rattle.topology_terms.specs.Broken.{Row}
 use Rattle.topology_terms.specs.Changes.{IsFeatureSet, IsEdit, IsRuleAdded, IsRuleDropped, IsUnchanged, IsMarked, SameButMark, KeepsMark, add_envelope}
 use Rattle.topology_terms.specs.Counts.{judged_of}
@@ -21,14 +23,14 @@ use Rattle.sound_laws.proofs.Lists.{unmark, unmark_option, same_entries, entry_k
 use Rattle.sound_laws.proofs.Edits.{same_or_not}
 use Rattle.sound_laws.proofs.RuleLists.{same_rules}
 use Rattle.sound_laws.proofs.Settling.{alike_same}
-use Rattle.line_terms.specs.Commands.{Command, Blank, Class, Rule, DropRule, Begin, End, Discard, Add, Change, Delete, Retype, Undo, Redo, Validate, Mark, Unmark, Dirty, Errors, Cells, Features, Rules}
+use Rattle.line_terms.specs.Commands.{Command, Blank, Class, Rule, DropRule, Begin, End, Discard, Add, Change, Delete, Retype, Undo, Redo, Validate, Mark, Unmark, Dirty, Errors, Cells, Features, Rules, Corners}
 use Rattle.script_terms.specs.Refusal.{Refusal}
-use Rattle.script_terms.specs.Reply.{Reply, Number, Judged}
+use Rattle.script_terms.specs.Reply.{Reply, Number, Judged, CornerList}
 use Rattle.script_terms.specs.State.{State}
 use Rattle.script_terms.proofs.Restoring.{taken_at}
 use Rattle.script_terms.proofs.Runs.{answers_by}
 use Rattle.script_terms.specs.Refusing.{refusal_of}
-use Rattle.script_terms.specs.Answer.{Answers, IsDone, LeavesNoted, IsUndone, IsRedone, IsDiscarded, AreTakenBack, added_step}
+use Rattle.script_terms.specs.Answer.{Answers, IsDone, LeavesNoted, IsUndone, IsRedone, IsDiscarded, AreTakenBack, added_step, IsCornerList}
 use Rattle.plane_terms.proofs.Truths.{same_by_truth, there_or_not}
 use Rattle.session_terms.proofs.Chains.{end_same, head_same}
 use Rattle.plane_terms.proofs.ListLemmas.{those_one}
@@ -383,6 +385,12 @@ discard_same editor s t u v w i j =
       entries = m.entries ∙ sym n.entries;
     })) (i.sessions ∙ sym j.sessions)
 
+-- the cells of the error have one list of corners
+one_corner_list : (p : Project) (r a b : ℕ) (reply said : Reply) → IsCornerList p r a b reply → IsCornerList p r a b said → reply ≡ said
+one_corner_list p r a b reply said (e, ks, at, are, is) (f, ls, here, have, says) =
+    let same : e ≡ f = some_same (entry_at p.entries r a b) e f at here in
+    is ∙ (ap CornerList (one_list 1 f.cells ks ls (subst (λ (x : Entry). AreOfCells 1 x.cells ks) same are) have) ∙ sym says)
+
 judged_same : (a b c x y z : ℕ) → a ≡ x → b ≡ y → c ≡ z → Judged a b c ≡ Judged x y z
 judged_same a b c x y z i j k = rw (i, j, k) refl
 
@@ -460,6 +468,7 @@ one_done C s t u Errors reply said v w d e = (d.0 ∙ sym e.0, kept_same s t u d
 one_done C s t u Cells reply said v w d e = (d.0 ∙ sym e.0, kept_same s t u d.1 e.1)
 one_done C s t u Features reply said v w d e = (d.0 ∙ sym e.0, kept_same s t u d.1 e.1)
 one_done C s t u Rules reply said v w d e = (d.0 ∙ sym e.0, kept_same s t u d.1 e.1)
+one_done C s t u (Corners r a b) reply said v w d e = (one_corner_list s.project r a b reply said d.0 e.0, kept_same s t u d.1 e.1)
 
 pub one_answer : CutsRight poster → (s t u : State) (c : Command) (reply said : Reply) → IsOrdered t.project → IsOrdered u.project
     → Answers s c reply t → Answers s c said u → Same reply t said u

@@ -72,6 +72,13 @@ impl World {
             Command::Cells => Ok(Reply::CellList),
             Command::Features => Ok(Reply::FeatureList),
             Command::Rules => Ok(Reply::RuleList),
+            Command::Corners(rule, subject, other) => {
+                self.answer_corners(Key {
+                    rule,
+                    subject,
+                    other,
+                })
+            }
         }
     }
 }

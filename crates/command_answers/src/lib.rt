@@ -3,6 +3,7 @@
 
 mod answer;
 mod classes;
+mod corners;
 mod editors;
 mod edits;
 mod marks;

@@ -21,6 +21,7 @@ pub struct World {
     pub(crate) topology: Topology<PosterRules>,
     pub(crate) sessions: Sessions,
     pub(crate) work: Work,
+    pub(crate) alloc: Global,
 }
 
 impl Model for World {
@@ -52,6 +53,7 @@ impl World {
             topology,
             sessions: Sessions::new(alloc),
             work: Work::new(),
+            alloc,
         }
     }
 

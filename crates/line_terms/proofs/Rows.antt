@@ -1,11 +1,11 @@
 -- Lines that are written out, and their forms.
-use Rattle.std.proofs.Common.{◌≡◌, ℕ, pos, List, [], ◌∷◌, refl, inl, inr, arith, Option, Some, None}
+use Rattle.std.proofs.Common.{ℕ, pos, List, [], refl, inl, inr, arith, Option, Some, None}
 use Rattle.std.specs.Prelude.{codes}
 use Rattle.plane_terms.specs.declared.kind.Kind.TheVariants as shapes
 use Rattle.text_terms.specs.Numbers.{IsNumeral, IsSigned, IsWithinText}
 use Rattle.rule_words.specs.declared.rule_kind.RuleKind.TheVariants as rule
 use Rattle.plane_terms.specs.Rectangle.{rect_of}
-use Rattle.line_terms.specs.Commands.{Sided, Blank, Class, Rule, Add, Delete, Retype, Validate, All, Numbers, Rules}
+use Rattle.line_terms.specs.Commands.{Sided, Blank, Class, Rule, Add, Delete, Retype, Validate, All, Numbers, Rules, Corners}
 use Rattle.line_terms.specs.Forms.{HasForm}
 
 skipped : HasForm (codes " # class wells point") Blank
@@ -77,3 +77,13 @@ window_line = (refl, (zero_is, (far_is, (zero_is, (zero_is, refl)))))
 
 listing_line : HasForm (codes "rules") Rules
 listing_line = (refl, refl)
+
+-- a whole error has no partner, and its line a 0
+one : IsWithinText 1 65535 (codes "1") 1
+one = record { numeral = record { some = λ e. cc; digits = refl; value = refl }; at_least = omega arith; at_most = omega arith }
+
+alone : IsWithinText 0 4294967295 (codes "0") 0
+alone = record { numeral = record { some = λ e. cc; digits = refl; value = refl }; at_least = omega arith; at_most = omega arith }
+
+corners_line : HasForm (codes "corners 1 007 0") (Corners 1 7 0)
+corners_line = (refl, (one, (seven, (alone, refl))))

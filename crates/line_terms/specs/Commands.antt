@@ -42,6 +42,7 @@ pub data CommandOf (S W : Type 0) : Type 0 where
   Cells : CommandOf S W
   Features : CommandOf S W
   Rules : CommandOf S W
+  Corners : ℕ → ℕ → ℕ → CommandOf S W
 
 abbrev pub Command : Type 0
 Command = CommandOf Shape Rectangle

@@ -31,3 +31,4 @@ said_of p reply.ErrorList = replies.ErrorList p
 said_of p reply.CellList = replies.CellList p
 said_of p reply.FeatureList = replies.FeatureList p
 said_of p reply.RuleList = replies.RuleList p
+said_of p (reply.CornerList ks) = replies.CornerList ks.items

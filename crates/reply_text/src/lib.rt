@@ -1,6 +1,7 @@
 // The texts of replies: each line in ASCII, with one LF at its end, appended to a text.
 #![tactic(auto)]
 
+mod corners;
 mod errors;
 mod listings;
 mod numbers;

@@ -2,15 +2,17 @@ ghost use Rattle.std.specs.Prelude.{◌≡◌, ◌++◌, OnOk};
 ghost use Rattle.script_terms.specs.Reply.{Number, Judged, Refused, reply_text};
 ghost use Rattle.reply_text.specs.Replies.{refusal_of, said_of};
 
+use crate::corners::push_corner_list;
 use crate::listings::{
     push_cell_list, push_dirty_list, push_error_list, push_feature_list, push_rule_list,
 };
 use crate::refusal::{Refusal, push_refusal};
 use grid_plane::NoMemory;
+use corner_terms::CellCorner;
 use text_out::{push_digits, push_end, push_text};
 use topo_core::{KindRules, Summary, Topology};
 
-/// What a line is answered. A listing lists the topology that it is said of.
+/// What a line is answered. A listing lists the topology that it is said of, or corners that it holds.
 #[derive(Drop)]
 pub enum Reply {
     /// The line is skipped.
@@ -33,6 +35,8 @@ pub enum Reply {
     FeatureList,
     /// The rules in force.
     RuleList,
+    /// These corners of the cells of an error.
+    CornerList(Vec<CellCorner>),
 }
 
 pub fn push_given(out: &mut Vec<u8>, number: u32) -> Result<(), NoMemory>
@@ -63,7 +67,8 @@ pub fn push_refused(out: &mut Vec<u8>, refusal: &Refusal) -> Result<(), NoMemory
     push_end(out)
 }
 
-/// Appends the text of a reply, each line with one LF at its end; a listing lists this topology. `NoMemory` comes where memory runs out.
+/// Appends the text of a reply, each line with one LF at its end; a listing of a topology lists this one. `NoMemory` comes where memory
+/// runs out.
 pub fn push_reply<R: KindRules>(
     out: &mut Vec<u8>,
     topology: &Topology<R>,
@@ -82,5 +87,6 @@ pub fn push_reply<R: KindRules>(
         Reply::CellList => push_cell_list(out, topology.errors()),
         Reply::FeatureList => push_feature_list(out, topology.store()),
         Reply::RuleList => push_rule_list(out, topology.store(), topology.rules()),
+        Reply::CornerList(corners) => push_corner_list(out, corners),
     }
 }

@@ -1,5 +1,5 @@
 -- Worked rows: replies and refusals, computed from the definitions.
-use Rattle.std.proofs.Common.{◌≡◌, ℕ, ℤ, pos, false, Option, List, [], ◌∷◌, ◌++◌, Some, None, refl}
+use Rattle.std.proofs.Common.{◌≡◌, ℕ, ℤ, pos, negsuc, false, Option, List, [], ◌∷◌, ◌++◌, Some, None, refl}
 use Rattle.std.specs.Prelude.{codes}
 use Rattle.std.specs.Fmt.{digits}
 use Rattle.plane_terms.specs.Point.{Place}
@@ -13,11 +13,13 @@ use Rattle.topology_terms.specs.Entry.{entry_at}
 use Rattle.topology_terms.specs.Feature.{Side, no_side, feature_of as feature, feature_at}
 use Rattle.topology_terms.specs.declared.cause.Cause.TheVariants.{ClassTaken, NoClass, Unfit, RuleThere, NoRule, WrongKind, NoFeature, NoError, AlreadySo}
 use Rattle.topology_terms.specs.Project.{Project, rule_at}
+use Rattle.corner_terms.specs.declared.cell_corner.Fraction.{Fraction}
+use Rattle.corner_terms.specs.declared.cell_corner.CellCorner.{CellCorner}
 use Rattle.plane_terms.specs.declared.shape_fault.ShapeFault.TheVariants as fault
 use Rattle.line_terms.specs.declared.line_refusal.LineRefusal.TheVariants as line
-use Rattle.line_terms.specs.Commands.{Sided, Class, Rule, DropRule, Begin, Add, Change as AChange, Delete, Retype, Undo, Mark, Unmark, Rules}
+use Rattle.line_terms.specs.Commands.{Sided, Class, Rule, DropRule, Begin, Add, Change as AChange, Delete, Retype, Undo, Mark, Unmark, Rules, Corners}
 use Rattle.script_terms.specs.Refusal.{Line, SessionOpen, NoSession, NothingToUndo, Change}
-use Rattle.script_terms.specs.Reply.{Judged, Refused, CellList, DirtyList, ErrorList, FeatureList, RuleList, reply_text}
+use Rattle.script_terms.specs.Reply.{Judged, Refused, CellList, DirtyList, ErrorList, FeatureList, RuleList, CornerList, reply_text}
 use Rattle.script_terms.specs.State.{State}
 use Rattle.script_terms.specs.Refusing.{refusal_of}
 use Rattle.script_terms.specs.Report.{report_of}
@@ -182,6 +184,42 @@ absent_before_so = refl
 
 already_text : reply_text (Refused (Change AlreadySo)) ≡ codes "refused E26" ++ 10 ∷ []
 already_text = refl
+
+-- ---- corners
+corners_there : refusal_of open_ann (Corners 1 1 2) ≡ None
+unfolding entry_at
+corners_there = refl
+
+corners_turned : refusal_of open_ann (Corners 1 2 1) ≡ Some (Change NoError)
+unfolding entry_at
+corners_turned = refl
+
+corners_whole : refusal_of open_ann (Corners 1 1 0) ≡ Some (Change NoError)
+unfolding entry_at
+corners_whole = refl
+
+abbrev corner : ℕ → Fraction → Fraction → CellCorner
+corner k x y = record { cell = k; x = x; y = y }
+
+abbrev whole : ℤ → Fraction
+whole n = record { n = n; d = 1 }
+
+abbrev over : ℤ → ℕ → Fraction
+over n d = record { n = n; d = d }
+
+corners_of_square : reply_text (CornerList (corner 1 (whole (pos 5)) (whole (pos 5)) ∷ corner 1 (whole (pos 5)) (whole (pos 10)) ∷ [])) ≡
+    codes "corner 1 5 5" ++ 10 ∷ codes "corner 1 5 10" ++ 10 ∷ codes "total 2" ++ 10 ∷ []
+unfolding digits
+corners_of_square = refl
+
+corners_of_roads : reply_text (CornerList (corner 1 (over (pos 5) 3) (over (pos 5) 3) ∷ corner 2 (over (negsuc 6) 2) (whole (pos 0)) ∷ [])) ≡
+    codes "corner 1 5/3 5/3" ++ 10 ∷ codes "corner 2 -7/2 0" ++ 10 ∷ codes "total 2" ++ 10 ∷ []
+unfolding digits
+corners_of_roads = refl
+
+no_corners : reply_text (CornerList []) ≡ codes "total 0" ++ 10 ∷ []
+unfolding digits
+no_corners = refl
 
 -- ---- the rules in force, and the report
 rules : reply_text (RuleList wells) ≡ codes "rule 1 point_must_be_disjoint wells" ++ 10 ∷ codes "total 1" ++ 10 ∷ []

@@ -8,7 +8,7 @@ use Rattle.topology_terms.specs.Project.{IsOrdered}
 use Rattle.topology_terms.specs.Session.{Session, holder}
 use Rattle.session_terms.specs.Steps.{AreAllApart, IsAlone}
 use Rattle.session_terms.proofs.Apart.{free_alone, held_alone}
-use Rattle.line_terms.specs.Commands.{Command, Blank, Class, Rule, DropRule, Begin, End, Discard, Add, Change, Delete, Retype, Undo, Redo, Validate, Mark, Unmark, Dirty, Errors, Cells, Features, Rules}
+use Rattle.line_terms.specs.Commands.{Command, Blank, Class, Rule, DropRule, Begin, End, Discard, Add, Change, Delete, Retype, Undo, Redo, Validate, Mark, Unmark, Dirty, Errors, Cells, Features, Rules, Corners}
 use Rattle.topology_terms.specs.Causes.{when, first_of, delete_cause}
 use Rattle.topology_terms.specs.Changes.{reshaped, retyped}
 use Rattle.topology_terms.specs.Lookups.{class_number}
@@ -101,6 +101,7 @@ done_keeps old Errors reply new k ord n d = equal_keeps old new k d.1
 done_keeps old Cells reply new k ord n d = equal_keeps old new k d.1
 done_keeps old Features reply new k ord n d = equal_keeps old new k d.1
 done_keeps old Rules reply new k ord n d = equal_keeps old new k d.1
+done_keeps old (Corners r h g) reply new k ord n d = equal_keeps old new k d.1
 
 -- a command that is answered
 abbrev pub answers_by : Option Refusal → State → Command → Reply → State → Type 0

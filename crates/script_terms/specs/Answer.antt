@@ -10,6 +10,7 @@
 --                         undone one is done again
 -- AreTakenBack ts p q     these steps are undone, the last one first
 -- IsDiscarded             the done steps of the editor's session are taken back, and it is gone
+-- IsCornerList p r a b reply     the reply lists the corners of the cells of the error of this key, which are numbered from 1
 -- Tries p w j             a validation of the window w tries j pairs: of a rule in force and a selected feature that it judges
 --
 -- A line that names no subtype adds a feature of the subtype 0. A change keeps the subtype of its feature, and a new subtype its shape.
@@ -17,9 +18,12 @@
 -- Source: editing and validation of a geodatabase topology (Esri).
 use Rattle.std.specs.Prelude.{◌≡◌, ℕ, ◌+◌, true, false, List, [], ◌∷◌, length, Option, Some, None, unwrap_or, MatchOption}
 use Rattle.plane_terms.specs.Lists.{IsThose}
+use Rattle.corner_terms.specs.CornerLists.{AreOfCells}
+use Rattle.corner_terms.specs.declared.cell_corner.CellCorner.{CellCorner}
 use Rattle.plane_terms.specs.Rectangle.{Rectangle}
 use Rattle.plane_terms.specs.Shape.{Shape}
 use Rattle.topology_terms.specs.Feature.{Feature, feature_of, feature_at}
+use Rattle.topology_terms.specs.Entry.{Entry, entry_at}
 use Rattle.topology_terms.specs.Poster.{poster}
 use Rattle.topology_terms.specs.Project.{Project}
 use Rattle.topology_terms.specs.Lookups.{class_number}
@@ -28,8 +32,8 @@ use Rattle.topology_terms.specs.Changes.{IsClassAdded, IsFeatureAdded, IsFeature
 use Rattle.topology_terms.specs.Settled.{IsValidatedBy}
 use Rattle.topology_terms.specs.Counts.{judged_of}
 use Rattle.session_terms.specs.Steps.{IsUndoneTo, with_session, with_opened, without}
-use Rattle.line_terms.specs.Commands.{Command, Blank, Class as AClass, Rule, DropRule, Begin, End, Discard, Add, Change, Delete, Retype, Undo, Redo, Validate, Mark, Unmark, Dirty, Errors, Cells, Features, Rules}
-use Rattle.script_terms.specs.Reply.{Reply, Nothing, Done, Number, Judged, Refused, DirtyList, ErrorList, CellList, FeatureList, RuleList}
+use Rattle.line_terms.specs.Commands.{Command, Blank, Class as AClass, Rule, DropRule, Begin, End, Discard, Add, Change, Delete, Retype, Undo, Redo, Validate, Mark, Unmark, Dirty, Errors, Cells, Features, Rules, Corners}
+use Rattle.script_terms.specs.Reply.{Reply, Nothing, Done, Number, Judged, Refused, DirtyList, ErrorList, CellList, FeatureList, RuleList, CornerList}
 use Rattle.script_terms.specs.State.{State}
 use Rattle.script_terms.specs.Refusing.{row_of, refusal_of}
 
@@ -78,6 +82,10 @@ pub record IsDiscarded (editor : List ℕ) (old new : State) : Type 0 where
 abbrev pub Tries : Project → Rectangle → ℕ → Type 0
 Tries p w j = (chosen : List Feature) × IsThose (λ (f : Feature). IsSelected p w f.handle) p.features chosen × (j ≡ judged_of p.rules chosen)
 
+abbrev pub IsCornerList : Project → ℕ → ℕ → ℕ → Reply → Type 0
+IsCornerList p r a b reply = (e : Entry) × (ks : List CellCorner) × (entry_at p.entries r a b ≡ Some e) × AreOfCells 1 e.cells ks
+    × (reply ≡ CornerList ks)
+
 abbrev pub IsDone : State → Command → Reply → State → Type 0
 IsDone old Blank reply new = (reply ≡ Nothing) × (new ≡ old)
 IsDone old (AClass name k) reply new = (reply ≡ Number (length old.project.classes + 1)) × Leaves (IsClassAdded name k) old new
@@ -108,6 +116,7 @@ IsDone old Errors reply new = (reply ≡ ErrorList old.project) × (new ≡ old)
 IsDone old Cells reply new = (reply ≡ CellList old.project) × (new ≡ old)
 IsDone old Features reply new = (reply ≡ FeatureList old.project) × (new ≡ old)
 IsDone old Rules reply new = (reply ≡ RuleList old.project) × (new ≡ old)
+IsDone old (Corners r a b) reply new = IsCornerList old.project r a b reply × (new ≡ old)
 
 -- done, or refused with the state as it was
 abbrev pub Answers : State → Command → Reply → State → Type 0

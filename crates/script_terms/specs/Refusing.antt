@@ -5,9 +5,10 @@
 -- is_nowhere p dest       the line names a second class that is not there
 -- changes c               the refusal of a change that has this cause
 -- held_by name editor     the refusal of an edit of a handle that the session of this name holds, where the editor is another
+-- no_error es r a b       the refusal of what asks for the error of this key, where there is none
 -- steps_of done s editor  those steps of the editor's session; none where it has no session
 -- refusal_of s c          the first cause, in the order of the list, for which the command is refused; None where it is done. A line that
---                         is skipped, a validation and a listing are never refused
+--                         is skipped, a validation and a listing of the project are never refused
 --
 -- A feature that is added has a handle that no session holds.
 -- Source: editing and validation of a geodatabase topology (Esri); causes and their order own.
@@ -19,10 +20,11 @@ use Rattle.topology_terms.specs.Feature.{Side}
 use Rattle.topology_terms.specs.Project.{Project}
 use Rattle.topology_terms.specs.Session.{EditStep, Session, session_of, holder}
 use Rattle.topology_terms.specs.Lookups.{class_number}
+use Rattle.topology_terms.specs.Entry.{Entry, entry_at}
 use Rattle.topology_terms.specs.Causes.{when, first_of, class_cause, add_cause, change_cause, delete_cause, rule_cause, drop_cause, mark_cause}
 use Rattle.topology_terms.specs.declared.cause.Cause.{Cause}
 use Rattle.topology_terms.specs.declared.cause.Cause.TheVariants as cause
-use Rattle.line_terms.specs.Commands.{Sided, Command, Class as AClass, Rule, DropRule, Begin, End, Discard, Add, Change as AChange, Delete, Retype, Undo, Redo, Mark, Unmark}
+use Rattle.line_terms.specs.Commands.{Sided, Command, Class as AClass, Rule, DropRule, Begin, End, Discard, Add, Change as AChange, Delete, Retype, Undo, Redo, Mark, Unmark, Corners}
 use Rattle.script_terms.specs.Refusal.{Refusal, SessionOpen, SessionsFull, NoSession, HeldBy, NothingToUndo, NothingToRedo, Change}
 use Rattle.script_terms.specs.State.{State, is_open}
 
@@ -49,6 +51,9 @@ held_by name editor = option_and_then (λ (n : List ℕ). when (not (bytes_eq n 
 -- the steps of the editor's session, those that are done or those undone
 abbrev pub steps_of : (Session → List EditStep) → State → List ℕ → List EditStep
 steps_of steps s editor = option_map_or steps (session_of s.sessions editor) []
+
+abbrev pub no_error : List Entry → ℕ → ℕ → ℕ → Option Refusal
+no_error es r a b = when (is_none (entry_at es r a b)) (Change cause.NoError)
 
 abbrev pub refusal_of : State → Command → Option Refusal
 refusal_of s (AClass name k) = changes (class_cause s.project.classes name)
@@ -77,4 +82,5 @@ refusal_of s (Redo editor) = first_of (
     when (not (is_open s editor)) NoSession ∷ when (length (steps_of (λ (x : Session). x.undone) s editor) == 0) NothingToRedo ∷ [])
 refusal_of s (Mark r a b) = changes (mark_cause s.project.entries r a b true)
 refusal_of s (Unmark r a b) = changes (mark_cause s.project.entries r a b false)
+refusal_of s (Corners r a b) = no_error s.project.entries r a b
 refusal_of s other = None

@@ -78,13 +78,15 @@ no_mark line mark unmark f g p = absurd cc
 pub no_listing : (line : List ℕ)
     → (HasForm line form.Dirty → ⊥) → (HasForm line form.Errors → ⊥) → (HasForm line form.Cells → ⊥) → (HasForm line form.Features → ⊥)
     → (HasForm line form.Rules → ⊥)
+    → ((r a b : ℕ) → IsLine line (Word (codes "corners") ∷ rule_number r ∷ handle a ∷ partner b ∷ []) → ⊥)
     → NoneOf Listings line
-no_listing line dirty errors cells features rules form.Dirty g p = dirty p
-no_listing line dirty errors cells features rules form.Errors g p = errors p
-no_listing line dirty errors cells features rules form.Cells g p = cells p
-no_listing line dirty errors cells features rules form.Features g p = features p
-no_listing line dirty errors cells features rules form.Rules g p = rules p
-no_listing line dirty errors cells features rules f g p = absurd cc
+no_listing line dirty errors cells features rules corners form.Dirty g p = dirty p
+no_listing line dirty errors cells features rules corners form.Errors g p = errors p
+no_listing line dirty errors cells features rules corners form.Cells g p = cells p
+no_listing line dirty errors cells features rules corners form.Features g p = features p
+no_listing line dirty errors cells features rules corners form.Rules g p = rules p
+no_listing line dirty errors cells features rules corners (form.Corners r a b) g p = corners r a b p
+no_listing line dirty errors cells features rules corners f g p = absurd cc
 
 pub no_words : (line : List ℕ) → NoneOf Edits line → NoneOf Validations line
     → NoneOf Listings line × NoneOf Classes line × NoneOf Sessions line × NoneOf Marks line

@@ -64,6 +64,7 @@ said t v form.Errors = form.Errors
 said t v form.Cells = form.Cells
 said t v form.Features = form.Features
 said t v form.Rules = form.Rules
+said t v (form.Corners r a b) = form.Corners r a b
 
 said_there : (line t : List ℕ) (v : Window) (c : Command) → IsLine line (pieces (λ _. Rest t) (λ _. written v) c)
     → HasForm line (said t v c)

@@ -57,6 +57,7 @@ tag form.Errors = 17
 tag form.Cells = 18
 tag form.Features = 19
 tag form.Rules = 20
+tag (form.Corners r a b) = 21
 
 abbrev edit_tag : List ℕ → ℕ
 edit_tag word =
@@ -71,7 +72,8 @@ listing_tag word =
     if bytes_eq word (codes "dirty") then 16 else
     (if bytes_eq word (codes "errors") then 17 else
     (if bytes_eq word (codes "cells") then 18 else
-    (if bytes_eq word (codes "features") then 19 else 20)))
+    (if bytes_eq word (codes "features") then 19 else
+    (if bytes_eq word (codes "rules") then 20 else 21))))
 
 abbrev tag_of : List ℕ → List ℕ → ℕ
 tag_of word third =
@@ -124,6 +126,7 @@ tagged s w line form.Errors p = by_word line (codes "errors") p.0
 tagged s w line form.Cells p = by_word line (codes "cells") p.0
 tagged s w line form.Features p = by_word line (codes "features") p.0
 tagged s w line form.Rules p = by_word line (codes "rules") p.0
+tagged s w line (form.Corners r a b) p = by_word line (codes "corners") p.0
 
 -- ---- and each form has its values from the line
 one_second : (takes : Bool) (text : List ℕ) (d e : Option Sided) → IsLine text (second_class takes d)
@@ -201,6 +204,11 @@ one_of s t v w M N O P shapes windows line form.Errors form.Errors p q m n e = r
 one_of s t v w M N O P shapes windows line form.Cells form.Cells p q m n e = refl
 one_of s t v w M N O P shapes windows line form.Features form.Features p q m n e = refl
 one_of s t v w M N O P shapes windows line form.Rules form.Rules p q m n e = refl
+one_of s t v w M N O P shapes windows line (form.Corners r a b) (form.Corners x y z) p q m n e =
+    let rule = one_number (second line) 1 65535 r x p.1.0 q.1.0 in
+    let subject = one_number (third line) 1 4294967295 a y p.1.1.0 q.1.1.0 in
+    let other = one_number (fourth line) 0 4294967295 b z p.1.1.1.0 q.1.1.1.0 in
+    cc
 one_of s t v w M N O P shapes windows line c d p q m n e = absurd (omega (arith, e))
 
 one_rect : (text : List ℕ) (q r : Rectangle) → IsLine text (written (Numbers q)) → IsLine text (written (Numbers r)) → q ≡ r

@@ -1,6 +1,5 @@
 -- Fields that name a class, or a subtype of one.
 use Rattle.std.proofs.Common.{ℕ, ◌≡◌, true, false, List, ◌∷◌, ◌++◌, refl, sym, ap, ◌∙◌, subst, Option, Some, None}
-use Rattle.std.specs.Prelude.{IsTrue}
 use Rattle.text_terms.specs.Fields.{is_name}
 use Rattle.text_terms.specs.Numbers.{IsWithinText}
 use Rattle.text_fields.proofs.Colons.{no_colon, name_no_colon, colon_found, one_cut}

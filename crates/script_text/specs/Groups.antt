@@ -40,6 +40,7 @@ group_of command.Errors = Listings
 group_of command.Cells = Listings
 group_of command.Features = Listings
 group_of command.Rules = Listings
+group_of (command.Corners r a b) = Listings
 
 abbrev pub NoneOf : Group → List ℕ → Type 0
 NoneOf g line = (f : Form) → group_of f ≡ g → HasForm line f → ⊥

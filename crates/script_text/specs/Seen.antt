@@ -35,3 +35,4 @@ command_of command.Errors = commands.Errors
 command_of command.Cells = commands.Cells
 command_of command.Features = commands.Features
 command_of command.Rules = commands.Rules
+command_of (command.Corners rule subject other) = commands.Corners rule subject (number_of other)

@@ -64,4 +64,6 @@ pub enum Command {
     Features,
     /// `rules`
     Rules,
+    /// `corners R H H2`; where H2 is 0, there is no partner.
+    Corners(u16, u32, Option<NonZeroU32>),
 }

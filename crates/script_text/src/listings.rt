@@ -4,6 +4,7 @@ ghost use Rattle.script_text.specs.Groups.{NoneOf, IsBare, Listings};
 ghost use Rattle.script_text.specs.Seen.{command_of};
 
 use crate::command::Command;
+use crate::marks::key_behind;
 use text_fields::is_only;
 
 /// The command of a line that lists.
@@ -25,6 +26,9 @@ pub fn read_listings(line: &[u8]) -> Option<Command>
     }
     if is_only(line, b"rules") {
         return Some(Command::Rules);
+    }
+    if let Some((rule, subject, other)) = key_behind(line, b"corners") {
+        return Some(Command::Corners(rule, subject, other));
     }
     None
 }

@@ -9,8 +9,8 @@ use crate::fields::{next_handle, next_number, next_rule};
 use std::num::NonZeroU32;
 use text_fields::{behind_word, is_over};
 
-// The rule, the subject and the partner behind this word, of a line that has just these.
-fn key_behind(line: &[u8], word: &[u8]) -> Option<(u16, u32, Option<NonZeroU32>)>
+/// The rule, the subject and the partner behind this word, of a line that has just these.
+pub(crate) fn key_behind(line: &[u8], word: &[u8]) -> Option<(u16, u32, Option<NonZeroU32>)>
     ensures { MatchOption result ((r a b : ℕ) → IsLine line.now (form.Word word.now ∷ rule_number r ∷ handle a ∷ partner b ∷ []) → ⊥)
         (λ x. IsLine line.now (form.Word word.now ∷ rule_number x.0 ∷ handle x.1 ∷ partner (number_of x.2) ∷ [])) }
 {

@@ -6,6 +6,8 @@ mod cells;
 #[cfg(test)]
 mod columns;
 #[cfg(test)]
+mod corners;
+#[cfg(test)]
 mod dirt;
 #[cfg(test)]
 mod given;

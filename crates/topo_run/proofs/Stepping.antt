@@ -3,7 +3,7 @@ use Rattle.std.proofs.Common.{◌≡◌, ℕ, Bool, List, ◌++◌, refl, ◌∙
 use Rattle.topology_terms.specs.Project.{Project, IsOrdered}
 use Rattle.topology_terms.specs.Settled.{IsSettled}
 use Rattle.topology_terms.specs.Sound.{IsSound}
-use Rattle.line_terms.specs.Commands.{Command, Blank, Class, Rule, DropRule, Begin, End, Discard, Add, Change, Retype, Delete, Undo, Redo, Validate, Mark, Unmark, Dirty, Errors, Cells, Features, Rules}
+use Rattle.line_terms.specs.Commands.{Command, Blank, Class, Rule, DropRule, Begin, End, Discard, Add, Change, Retype, Delete, Undo, Redo, Validate, Mark, Unmark, Dirty, Errors, Cells, Features, Rules, Corners}
 use Rattle.line_terms.specs.Lines.{IsCommandLine, IsLineFault}
 use Rattle.script_text.specs.Faults.{IsFault}
 use Rattle.script_text.specs.declared.fault.LineFault.{LineFault}
@@ -46,6 +46,7 @@ said_judged p reply.ErrorList = refl
 said_judged p reply.CellList = refl
 said_judged p reply.FeatureList = refl
 said_judged p reply.RuleList = refl
+said_judged p (reply.CornerList ks) = refl
 
 none_tried : (o : Option Refusal) (s t : State) (c : Command) (r : replies.Reply) → (IsDone s c r t → judged_said r ≡ 0) → answers_by o s c r t
     → judged_said r ≡ 0
@@ -75,6 +76,7 @@ tried s t Errors r h = none_tried (refusal_of s Errors) s t Errors r (λ d. ap j
 tried s t Cells r h = none_tried (refusal_of s Cells) s t Cells r (λ d. ap judged_said d.0) h
 tried s t Features r h = none_tried (refusal_of s Features) s t Features r (λ d. ap judged_said d.0) h
 tried s t Rules r h = none_tried (refusal_of s Rules) s t Rules r (λ d. ap judged_said d.0) h
+tried s t (Corners n a b) r h = none_tried (refusal_of s (Corners n a b)) s t (Corners n a b) r (λ d. ap judged_said d.0.4) h
 
 -- ---- what a state keeps of the one before
 pub keeps_by : (s t : State) → (IsSound s.project → IsSound t.project) → (IsSettled s.project → IsSettled t.project)

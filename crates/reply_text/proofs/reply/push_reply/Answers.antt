@@ -5,7 +5,8 @@ use Rattle.topology_terms.specs.Entry.{Entry}
 use Rattle.topology_terms.specs.Feature.{Class, Feature}
 use Rattle.topology_terms.specs.Project.{InForce}
 use Rattle.project_text.specs.Pushed.{dirty_text, error_text, error_texts, feature_text, rule_text}
-use Rattle.script_terms.specs.Reply.{reply_text, total_line}
+use Rattle.corner_terms.specs.declared.cell_corner.CellCorner.{CellCorner}
+use Rattle.script_terms.specs.Reply.{reply_text, corner_line, total_line}
 use Rattle.text_out.proofs.Pushing.{as_text}
 use Rattle.reply_text.specs.Replies.{said_of}
 use Rattle.reply_text.specs.declared.reply.Reply.{Reply}
@@ -46,3 +47,9 @@ returns-in-RuleList g c =
     ∙ (ap (λ (cs : List Class). flat_map (rule_text cs) p.rules ++ total_line (length p.rules)) (sym c.store-in-RuleList.ensures.classes)
     ∙ ap (λ (rs : List InForce). flat_map (rule_text c.store-in-RuleList.result.now.classes) rs ++ total_line (length rs))
     (sym c.rules.ensures)))) c.push_rule_list.ensures
+
+pub returns-in-CornerList : goal.returns-in-CornerList
+returns-in-CornerList g c =
+    let p = c.args.topology.now in
+    as_text c.push_corner_list.result _ _ _ _ (ap (λ (r : Reply). reply_text (said_of p r)) c.in-CornerList.is
+    ∙ ap (λ (ks : List CellCorner). flat_map corner_line ks ++ total_line (length ks)) (sym c.deref.ensures)) c.push_corner_list.ensures

@@ -1,0 +1,24 @@
+ghost use Rattle.std.specs.Prelude.{◌≡◌, IfOk};
+ghost use Rattle.line_terms.specs.Commands.{Corners};
+ghost use Rattle.script_terms.specs.Answer.{Answers};
+ghost use Rattle.reply_text.specs.Replies.{said_of};
+
+use crate::world::World;
+use cell_corners::corners_of_cells;
+use grid_plane::NoMemory;
+use reply_text::{Refusal, Reply};
+use topo_core::Key;
+use topology_terms::Cause;
+
+impl World {
+    /// `corners R H H2`
+    pub(crate) fn answer_corners(&self, key: Key) -> Result<Reply, NoMemory>
+        ensures { IfOk result (λ r. Answers self.now (Corners key.rule key.subject key.other) (said_of self.now.project r) self.now) }
+    {
+        let Some(entry) = self.topology.errors().find(key) else {
+            return Ok(Reply::Refused(Refusal::Change(Cause::NoError)));
+        };
+        let corners = corners_of_cells(self.alloc, entry.cells())?;
+        Ok(Reply::CornerList(corners))
+    }
+}
