@@ -56,10 +56,10 @@ def nearest(word: str, words: Iterable[str]) -> str:
 
 def of_kind(word: str, kind: str) -> str:
     """The rule for classes of this kind that says the same as this one, or nearly, as a question after a sentence; nothing where none does."""
-    _, _, rest = word.partition('_')
     own = [each for each, (of, other) in KINDS_OF.items() if of == kind and (other is None) == (KINDS_OF[word][1] is None)]
-    near = [each for each in own if each == '%s_%s' % (kind, rest)] or difflib.get_close_matches('%s_%s' % (kind, rest), own, 1, 0.6)
-    return '; did you mean `%s`?' % near[0] if near else ''
+    said = {each.partition('_must_')[2]: each for each in own if '_must_' in each}
+    near = difflib.get_close_matches(word.partition('_must_')[2], said, 1, 0.6)
+    return '; did you mean `%s`?' % said[near[0]] if near else ''
 
 
 def check_subtype(side: str) -> None:

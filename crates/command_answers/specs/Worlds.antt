@@ -3,8 +3,10 @@
 -- state_of p ss     the project p with the sessions ss, as they are seen
 -- AllMay p ss       each kept step may stand at its handle
 -- IsRoomAlone name old new     the sessions are as they were, or but for room in the one of this name
+-- is_discard c      the command c takes back the steps of a session
 -- IsWorld p ss      no handle has steps in two sessions, and the steps fit one another and what stands
-use Rattle.std.specs.Prelude.{◌≡◌, ◌⊎◌, ℕ, List}
+use Rattle.std.specs.Prelude.{◌≡◌, ◌⊎◌, ℕ, Bool, true, false, List}
+use Rattle.line_terms.specs.Commands.{Command, Discard}
 use Rattle.plane_terms.specs.Lists.{Every}
 use Rattle.topology_terms.specs.Feature.{feature_at}
 use Rattle.topology_terms.specs.Project.{Project}
@@ -27,3 +29,7 @@ pub record IsWorld (p : Project) (ss : List KeptSession) : Type 0 where
 
 abbrev pub IsRoomAlone : List ℕ → List KeptSession → List KeptSession → Type 0
 IsRoomAlone name old new = (new ≡ old) ⊎ IsRoomMade name old new
+
+abbrev pub is_discard : Command → Bool
+is_discard (Discard _) = true
+is_discard _ = false

@@ -1,9 +1,10 @@
-ghost use Rattle.std.specs.Prelude.{◌≡◌, IfOk};
+ghost use Rattle.std.specs.Prelude.{◌≡◌, false, IfOk, OnErr};
 ghost use Rattle.topology_terms.specs.Project.{IsOrdered};
 ghost use Rattle.topology_terms.specs.Settled.{IsSettled};
 ghost use Rattle.topology_terms.specs.Sound.{IsSound};
 ghost use Rattle.line_terms.specs.Commands as commands;
 ghost use Rattle.script_text.specs.Seen.{command_of};
+ghost use Rattle.command_answers.specs.Worlds.{is_discard};
 ghost use Rattle.script_terms.specs.Answer.{Answers};
 ghost use Rattle.script_terms.specs.Reply as replies;
 ghost use Rattle.script_terms.specs.State.{State};
@@ -27,11 +28,13 @@ pub fn one_answer_law()
 
 impl World {
     /// Does what the command asks for, and answers what the reply says; a listing lists the state as it is then. If memory
-    /// runs out, a sound state is sound still, and a settled one settled; of the rest no clause speaks.
+    /// runs out, nothing has changed, but in a discard: there the last steps may be undone, and a sound state is sound still,
+    /// and a settled one settled.
     pub fn answer(&mut self, command: Command) -> Result<Reply, NoMemory>
         ensures answers { IfOk result (λ r. Answers self.old (command_of command) (said_of self.new.project r) self.new) }
         ensures sound { IsSound self.old.project → IsSound self.new.project }
         ensures settled { IsSettled self.old.project → IsSettled self.new.project }
+        ensures kept { OnErr result (is_discard (command_of command) ≡ false → self.new ≡ self.old) }
     {
         match command {
             Command::Blank => Ok(Reply::Nothing),

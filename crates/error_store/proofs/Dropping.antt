@@ -30,10 +30,10 @@ others_left n es k a b d = filter_same by_key keys (is_other n) es (k, a, b)
     (ne_eqb e.rule n (λ s. d (sym (has_parts e k a b t).0 ∙ s)))) es)
 
 -- ---- runs
-no_other : (n : ℕ) (es : List Entry) → Every (λ (e : Entry). is_under n e ≡ true) es → Every (λ (e : Entry). is_other n e ≡ false) es
+pub no_other : (n : ℕ) (es : List Entry) → Every (λ (e : Entry). is_under n e ≡ true) es → Every (λ (e : Entry). is_other n e ≡ false) es
 no_other n es u = every_map (λ (e : Entry). is_under n e ≡ true) (λ (e : Entry). is_other n e ≡ false) (λ e t. ap not t) es u
 
-all_other : (n : ℕ) (es : List Entry) → Every (λ (e : Entry). is_under n e ≡ false) es → Every (λ (e : Entry). is_other n e ≡ true) es
+pub all_other : (n : ℕ) (es : List Entry) → Every (λ (e : Entry). is_under n e ≡ false) es → Every (λ (e : Entry). is_other n e ≡ true) es
 all_other n es u = every_map (λ (e : Entry). is_under n e ≡ false) (λ (e : Entry). is_other n e ≡ true) (λ e t. ap not t) es u
 
 -- a run of the rule goes, and one of another stays

@@ -14,5 +14,6 @@ mod Marking
 mod Noted
 pub mod Pairs
 mod Remarking
+mod Sharing
 mod Staying
 mod Walking

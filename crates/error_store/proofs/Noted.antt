@@ -61,19 +61,20 @@ none_under n p es d o = every_map (IsOf p.rule p.subject) (λ (e : Entry). is_un
 frames_append : (p : Entry → Bool) (es fs : List Entry) → frames_if p (es ++ fs) ≡ frames_if p es ++ frames_if p fs
 frames_append p es fs = ap (map framed_of) (filter-append p es fs) ∙ map-append framed_of (filter p es) (filter p fs)
 
-pub under_own : (n : ℕ) (q : Run) (rs : List Run) (ps all : List Placed) → q.0.rule ≡ n → Every (IsOf q.0.rule q.0.subject) q.1.items
-    → ps ++ frames_if (is_under n) (entries_in (values_of (q ∷ rs))) ≡ all
-    → (ps ++ map framed_of q.1.items) ++ frames_if (is_under n) (entries_in (values_of rs)) ≡ all
-under_own n q rs ps all r o h =
+-- a run whose errors pass, and one of which none does
+pub run_passes : (p : Entry → Bool) (q : Run) (rs : List Run) (ps all : List Placed) → Every (λ (e : Entry). p e ≡ true) q.1.items
+    → ps ++ frames_if p (entries_in (values_of (q ∷ rs))) ≡ all
+    → (ps ++ map framed_of q.1.items) ++ frames_if p (entries_in (values_of rs)) ≡ all
+run_passes p q rs ps all u h =
     let rest = entries_in (values_of rs) in
-    append_assoc ps (map framed_of q.1.items) (frames_if (is_under n) rest)
-    ∙ (ap (λ qs. ps ++ qs) (sym (frames_append (is_under n) q.1.items rest
-    ∙ ap (λ es. map framed_of es ++ frames_if (is_under n) rest) (filter_whole (is_under n) q.1.items (all_under n q.0 q.1.items r o)))) ∙ h)
+    append_assoc ps (map framed_of q.1.items) (frames_if p rest)
+    ∙ (ap (λ qs. ps ++ qs) (sym (frames_append p q.1.items rest
+    ∙ ap (λ es. map framed_of es ++ frames_if p rest) (filter_whole p q.1.items u))) ∙ h)
 
-pub under_other : (n : ℕ) (q : Run) (rs : List Run) (ps all : List Placed) → q.0.rule ≢ n → Every (IsOf q.0.rule q.0.subject) q.1.items
-    → ps ++ frames_if (is_under n) (entries_in (values_of (q ∷ rs))) ≡ all
-    → ps ++ frames_if (is_under n) (entries_in (values_of rs)) ≡ all
-under_other n q rs ps all d o h =
+pub run_fails : (p : Entry → Bool) (q : Run) (rs : List Run) (ps all : List Placed) → Every (λ (e : Entry). p e ≡ false) q.1.items
+    → ps ++ frames_if p (entries_in (values_of (q ∷ rs))) ≡ all
+    → ps ++ frames_if p (entries_in (values_of rs)) ≡ all
+run_fails p q rs ps all u h =
     let rest = entries_in (values_of rs) in
-    ap (λ qs. ps ++ qs) (sym (frames_append (is_under n) q.1.items rest
-    ∙ ap (λ es. map framed_of es ++ frames_if (is_under n) rest) (filter_nothing (is_under n) q.1.items (none_under n q.0 q.1.items d o)))) ∙ h
+    ap (λ qs. ps ++ qs) (sym (frames_append p q.1.items rest
+    ∙ ap (λ es. map framed_of es ++ frames_if p rest) (filter_nothing p q.1.items u))) ∙ h

@@ -1,24 +1,25 @@
 -- Where each frame in the index is an error's, this stays so when errors go and others come.
-use Rattle.std.proofs.Common.{◌≡◌, ◌⊎◌, inl, inr, ℕ, Bool, true, false, not, cond, ◌==◌, List, [], ◌∷◌, Option, Some, None, arith, refl, sym, ◌∙◌, ap, subst, Contains}
+use Rattle.std.proofs.Common.{◌≡◌, ◌⊎◌, ◌↔◌, map, inl, inr, ℕ, Bool, true, false, not, cond, ◌==◌, List, [], ◌∷◌, Option, Some, None, arith, refl, sym, ◌∙◌, ap, subst, Contains}
 use Rattle.std.specs.List.{filter}
 use Rattle.std.proofs.lemmas.Bool.{cases_Bool}
 use Rattle.plane_terms.specs.Lists.{SomeOf}
+use Rattle.plane_terms.proofs.ListLemmas.{every_filter}
 use Rattle.topology_terms.specs.Entry.{Entry, by_key, entry_at, IsAscending}
 use Rattle.sound_laws.proofs.Keyed.{some_found, found_some}
 use Rattle.sound_laws.proofs.Lists.{keys, every_found, entry_key}
 use Rattle.validation_laws.specs.Replaced.{AreRemarked, IsReplaced, IsNewOf, AreFresh}
 use Rattle.grid_index.specs.declared.placed.Placed.{Placed}
 use Rattle.error_store.specs.Runs.{is_of}
-use Rattle.error_store.specs.Frames.{framed_of, frames_if, IsFrame, AreFrames}
+use Rattle.error_store.specs.Frames.{framed_of, frames_if, IsFrame, AreFramed, AreFrames, LosesRule}
 use Rattle.error_store.proofs.Dropping.{is_other}
-use Rattle.error_store.proofs.Framing.{these_frames, frame_of_these}
+use Rattle.error_store.proofs.Framing.{these_frames, frame_of_these, framed_kept, frames_stand}
 use Rattle.error_store.proofs.Leaving.{within, among, selected_or_not}
 
-abbrev IsAt : Placed → Entry → Type 0
+abbrev pub IsAt : Placed → Entry → Type 0
 IsAt q e = framed_of e ≡ q
 
 -- the frame of one that passes is noted, and the one stays where those that pass are kept
-some_passed : (P : Entry → Type 0) (p : Entry → Bool) (es : List Entry) → SomeOf (λ (e : Entry). P e × (p e ≡ true)) es
+pub some_passed : (P : Entry → Type 0) (p : Entry → Bool) (es : List Entry) → SomeOf (λ (e : Entry). P e × (p e ≡ true)) es
     → SomeOf P (filter p es)
 some_passed P p [] s = s
 some_passed P p (x ∷ es) s = elim s [
@@ -81,6 +82,36 @@ frames_replaced selected old fresh new gone ps qs rs u v w h same only left befo
       | inr s ↦ came selected old fresh new q v w h s
     ]
 
+-- a frame that comes and stood before is that of one that goes
+its_subject : (selected : List ℕ) (fresh : List Entry) (q : Placed) → AreFresh selected fresh → IsFrame fresh q → Contains selected q.handle
+its_subject selected [] q v s = absurd s
+its_subject selected (x ∷ es) q v s = elim s [
+  | inl e ↦ subst (Contains selected) (ap (λ (p : Placed). p.handle) e) v.0.chosen
+  | inr k ↦ its_subject selected es q v.1 k
+]
+
+of_chosen : (selected : List ℕ) (es : List Entry) (q : Placed) → Contains selected q.handle → IsFrame es q
+    → SomeOf (λ (e : Entry). IsAt q e × (is_of selected e ≡ true)) es
+of_chosen selected [] q c s = absurd s
+of_chosen selected (x ∷ es) q c s = elim s [
+  | inl e ↦ inl (e, among selected x.subject (subst (Contains selected) (sym (ap (λ (p : Placed). p.handle) e)) c))
+  | inr k ↦ inr (of_chosen selected es q c k)
+]
+
+pub came_of_gone : (selected : List ℕ) (old fresh : List Entry) (gone ps : List Placed) → AreFresh selected fresh
+    → gone ≡ frames_if (is_of selected) old → AreFrames ps old → (q : Placed) → IsFrame fresh q → Contains ps q → Contains gone q
+came_of_gone selected old fresh gone ps v same only q s c = subst (λ ps. Contains ps q) (sym same) (noted (is_of selected) old q
+    (of_chosen selected old q (its_subject selected fresh q v s) (only q c)))
+
+pub those_standing : (selected : List ℕ) (old fresh : List Entry) (gone came ps : List Placed) (S : Placed → Type 0) → AreFresh selected fresh
+    → gone ≡ frames_if (is_of selected) old → came ≡ map framed_of fresh → AreFramed ps old → AreFrames ps old
+    → ((q : Placed) → Contains came q → S q ↔ Contains gone q) → (q : Placed) → Contains came q → S q ↔ Contains ps q
+those_standing selected old fresh gone came ps S v same these framed only h q m =
+    let k = h q m in (
+      λ s. frames_stand ps (is_of selected) old framed q (subst (λ xs. Contains xs q) same (k.0 s)),
+      λ c. k.1 (came_of_gone selected old fresh gone ps v same only q (frame_of_these fresh q (subst (λ xs. Contains xs q) these m)) c),
+    )
+
 -- where no error goes and none comes all stay as they are
 pub nothing_replaced : (selected : List ℕ) (old fresh : List Entry) → frames_if (is_of selected) old ≡ [] → fresh ≡ []
     → IsReplaced selected old fresh old
@@ -140,13 +171,18 @@ stays_or_goes n q (x ∷ es) s = elim s [
   | inr k ↦ elim (stays_or_goes n q es k) [ inl h ↦ inl (inr h) | inr h ↦ inr (inr h) ]
 ]
 
-pub frames_dropped : (n : ℕ) (old new : List Entry) (gone ps rs : List Placed) → new ≡ filter (is_other n) old
-    → gone ≡ frames_if (λ (e : Entry). e.rule == n) old
-    → ((q : Placed) → Contains rs q → Contains ps q × (Contains gone q → IsFrame new q))
+pub framed_left : (n : ℕ) (old new : List Entry) (ps rs : List Placed) → new ≡ filter (is_other n) old → LosesRule n old ps rs
+    → AreFramed ps old → AreFramed rs new
+framed_left n old new ps rs is left f =
+    let stay = filter (is_other n) old in
+    subst (AreFramed rs) (sym is) (framed_kept ps rs stay (IsFrame stay) (λ q s. s) (λ q c s. (left q).1 (c, λ g. s))
+    (every_filter (λ (e : Entry). Contains ps (framed_of e)) (is_other n) old f))
+
+pub frames_dropped : (n : ℕ) (old new : List Entry) (ps rs : List Placed) → new ≡ filter (is_other n) old → LosesRule n old ps rs
     → AreFrames ps old → AreFrames rs new
-frames_dropped n old new gone ps rs is same left before q c =
-    let l = left q c in
-    elim (stays_or_goes n q old (before q l.0)) [
-      | inl h ↦ subst (λ es. IsFrame es q) (sym is) (some_passed (IsAt q) (is_other n) old h)
-      | inr h ↦ l.1 (subst (λ ps. Contains ps q) (sym same) (noted (λ (e : Entry). e.rule == n) old q h))
-    ]
+frames_dropped n old new ps rs is left before q c =
+    let l = (left q).0 c in
+    subst (λ es. IsFrame es q) (sym is) (elim (stays_or_goes n q old (before q l.0)) [
+      | inl h ↦ some_passed (IsAt q) (is_other n) old h
+      | inr h ↦ l.1 (noted (λ (e : Entry). e.rule == n) old q h)
+    ])

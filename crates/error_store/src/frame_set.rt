@@ -35,6 +35,13 @@ fn key_at(place: &Placed) -> FrameKey
     }
 }
 
+/// Whether both are one frame of one handle.
+pub(crate) fn is_same(p: &Placed, q: &Placed) -> bool
+    ensures { IsTrue result ↔ (p.now ≡ q.now) }
+{
+    key_at(p) == key_at(q)
+}
+
 impl FrameSet {
     /// These frames. Takes steps by the logarithm of their number for each.
     pub(crate) fn of(alloc: Global, frames: &[Placed]) -> Result<FrameSet, NoMemory>
@@ -45,6 +52,20 @@ impl FrameSet {
             keys.insert(key_at(frame))?;
         }
         Ok(FrameSet { keys })
+    }
+
+    /// These frames, to be asked about those others alone. Where there are none of those, none of these is noted.
+    pub(crate) fn of_asked(
+        alloc: Global,
+        frames: &[Placed],
+        asked: &[Placed],
+    ) -> Result<FrameSet, NoMemory>
+        ensures { IfOk result (λ set. (q : placed.Placed) → Contains asked.now q → HasPlace set q ↔ Contains frames.now q) }
+    {
+        if asked.is_empty() {
+            return FrameSet::of(alloc, &[]);
+        }
+        FrameSet::of(alloc, frames)
     }
 
     /// Whether it has this frame. Takes steps by the logarithm of their number.

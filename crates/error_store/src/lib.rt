@@ -14,6 +14,7 @@ mod list;
 mod marks;
 mod pair;
 mod replace;
+mod rule_frames;
 mod runs;
 mod walk;
 

@@ -1,15 +1,12 @@
-use Rattle.std.proofs.Common.{◌∙◌, inl, length, subst, sym}
-use Rattle.std.proofs.lemmas.Bool.{eqb-true}
-use Rattle.std.proofs.lemmas.List.{nil_from_length}
-use Rattle.error_store.specs.Frames.{AreFramed}
+use Rattle.error_store.specs.FrameSets.{HasPlace}
+use Rattle.grid_index.specs.Near.{HoldsSame}
+use Rattle.error_store.proofs.Framing.{back_same, err_of}
 use Rattle.error_store.proofs.frames.put_frames.Goals as goal
 
-pub returns-then-is_empty-clause-there : goal.returns-then-is_empty-clause-there
-returns-then-is_empty-clause-there c = subst (AreFramed c.args.index.now)
-    (sym (nil_from_length c.args.fresh.now (eqb-true (length c.args.fresh.now) 0 (sym c.is_empty.ensures ∙ c.if-is_empty.true)))) tt
+pub returns-then-is_err-clause-only : goal.returns-then-is_err-clause-only
+returns-then-is_err-clause-only c = λ q k. c.put_missing-put.ensures.only q (c.drop_frames.ensures.left q k).0
 
-pub returns-then-is_empty-clause-only : goal.returns-then-is_empty-clause-only
-returns-then-is_empty-clause-only c = λ q k. inl k
-
-pub put_missing-requires : goal.put_missing-requires
-put_missing-requires c = λ q s. c.requires q ((c.in_ok-standing.ensures q).0 s)
+pub returns-then-is_err-clause-err : goal.returns-then-is_err-clause-err
+returns-then-is_err-clause-err c = err_of c.put_missing-put.result (HoldsSame c.args.index.now c.drop_frames.new.index)
+    (back_same c.args.index.now c.put_missing-put.new.index c.drop_frames.new.index c.args.frames.now (HasPlace c.args.standing.now) c.requires
+    c.put_missing-put.ensures.kept c.put_missing-put.ensures.only c.drop_frames.ensures.left c.drop_frames.ensures.kept)

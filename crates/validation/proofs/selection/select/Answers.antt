@@ -33,7 +33,7 @@ returns-clause-chosen g c = λ p ef ed ee a.
     let second : ArePicked (λ (e : Entry). MeetsPart p.dirt w e.frame) (λ (e : Entry). e.subject) p.entries early late =
     rw ee (picked_as _ (λ (e : Entry). MeetsPart p.dirt w e.frame) (λ (e : Entry). e.subject) c.args.errors.now early
     late (λ e. meets e.frame) (picked_among (λ (e : Entry). MeetsDirt c.in_ok-dirty.dirty e.frame) c.in_ok-framed.framed.items c.args.errors.now
-    early late (frames_near c.frames.result.now c.args.errors.now c.in_ok-dirty.dirty c.in_ok-framed.framed.items c.frames.ensures
+    early late (frames_near c.frames.result.now c.args.errors.now c.in_ok-dirty.dirty c.in_ok-framed.framed.items c.frames.ensures.framed
     c.in_ok-framed.ensures.near) (rw (c.deref-3.ensures.value, c.in_ok-runs.ensures, c.deref-2.ensures.value) at c.in_ok-add_subjects.ensures))) in
     let chosen = selected_picked p w early late (rw ef c.order_law.ensures.features) (rw ee c.order_law-2.ensures) first second a in
     let once = c.in_ok-once_each.ensures.same a in
