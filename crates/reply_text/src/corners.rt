@@ -3,8 +3,8 @@ ghost use Rattle.script_terms.specs.Reply.{quotient_text, fraction_text, corner_
 ghost use Rattle.wkt_text.specs.Appended.{Appends};
 
 use crate::numbers::{push_number, push_text, push_total};
-use grid_plane::NoMemory;
 use corner_terms::{CellCorner, Fraction};
+use grid_plane::NoMemory;
 
 // A numerator, and the denominator behind it.
 fn push_quotient(out: &mut Vec<u8>, n: i128, d: u128) -> Result<(), NoMemory>

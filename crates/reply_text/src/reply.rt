@@ -10,8 +10,8 @@ use crate::features::push_feature_list;
 use crate::numbers::{push_number, push_text};
 use crate::refusal::{Refusal, push_refusal};
 use crate::rules::push_rule_list;
-use grid_plane::NoMemory;
 use corner_terms::CellCorner;
+use grid_plane::NoMemory;
 use topo_core::{KindRules, Summary, Topology};
 
 /// What a line is answered. A listing lists the topology that it is said of, or corners that it holds.
