@@ -6,8 +6,11 @@ import re
 import shlex
 from fractions import Fraction
 
-from lib.asked import asked_closures, ring_of
-from lib.replies import ReplyError
+from lib.asked import asked_closures, ring_of, with_closures
+from lib.cells import Cover, closures_of, cover_of_error
+from lib.outlines import Outline
+from lib.replies import Error, ReplyError, each_error
+from lib.scenes import ending_after, replies_to
 from working import PROGRAM, TOOLS, Case
 
 ROADS = ['class roads line', 'rule line_must_not_intersect roads', 'begin a', 'by a add roads LINESTRING (0 0, 10 10)',
@@ -16,17 +19,32 @@ FIGURES = os.path.join(os.path.dirname(TOOLS), 'docs', 'figures', '*.script')
 RING = re.compile(r'd="M([^"MZ]*) Z"')
 
 
-def from_least(ring: str) -> str:
-    """A closed path from its least point on."""
-    points = ring.split(' L')
-    at = points.index(min(points))
-    return ' L'.join(points[at:] + points[:at])
+def from_least(ring: list) -> list:
+    """A ring from its least point on."""
+    at = ring.index(min(ring))
+    return ring[at:] + ring[:at]
+
+
+def cover_from_least(error: Error) -> Cover:
+    """What the cells of an error cover, each ring from its least point on."""
+    cover = cover_of_error(error)
+    return cover._replace(polygons=[Outline(from_least(shell), list(map(from_least, holes))) for shell, holes in cover.polygons])
+
+
+def layer_in(path: str) -> list[dict]:
+    """The features of a layer, each ring from its least point on."""
+    with open(path, encoding='utf-8') as layer:
+        features = json.load(layer)['features']
+    for feature in features:
+        if feature['geometry']['type'] == 'MultiPolygon':
+            feature['geometry']['coordinates'] = [[from_least(ring[:-1]) for ring in part] for part in feature['geometry']['coordinates']]
+    return features
 
 
 def drawn_in(path: str) -> list[str]:
     """The lines of a drawing in an order of their own, each ring from its least point on."""
     with open(path, encoding='utf-8') as drawing:
-        return sorted(RING.sub(lambda ring: 'd="M%s Z"' % from_least(ring[1]), line) for line in drawing)
+        return sorted(RING.sub(lambda ring: 'd="M%s Z"' % ' L'.join(from_least(ring[1].split(' L'))), line) for line in drawing)
 
 
 class Asked(Case):
@@ -46,32 +64,32 @@ class Asked(Case):
         self.assertEqual(ring_of([(0, 0), (3, 1)]), [(0, 0), (3, 1)])
 
     def test_figures(self) -> None:
-        for script in sorted(glob.glob(FIGURES)):
-            with self.subTest(os.path.basename(script)):
-                self.assertEqual(self.drawn(script, '--ask'), self.drawn(script))
+        """Of each figure what the cells of each error cover, cell by cell and all together."""
+        for path in sorted(glob.glob(FIGURES)):
+            with open(path, 'rb') as lines:
+                script = lines.read()
+            errors = list(each_error(ending_after(*replies_to(PROGRAM, script)).listings['cells'].lines))
+            if any(error.cells for error in errors):
+                with self.subTest(os.path.basename(path)):
+                    for own, asked in zip(errors, with_closures(PROGRAM, script, errors)):
+                        self.assertEqual([from_least(corners) for corners in closures_of(asked)], [from_least(corners) for corners in closures_of(own)])
+                        self.assertEqual(cover_from_least(asked), cover_from_least(own))
 
-    def test_maps(self) -> None:
-        for name in ('tutorial-1', 'report', 'polygon_must_not_have_gaps-broken'):
-            script = FIGURES.replace('*', name)
-            with self.subTest(name):
-                self.assertEqual(self.drawn(script, '--map', '--ask'), self.drawn(script, '--map'))
-                self.assertEqual(self.drawn(script, '--html', '--ask'), self.drawn(script, '--html'))
+    def test_drawings(self) -> None:
+        script = FIGURES.replace('*', 'report')
+        self.assertEqual(self.drawn(script, '--ask'), self.drawn(script))
+        for kind in ('--map', '--html'):
+            self.assertEqual(len(self.drawn(script, kind, '--ask')), len(self.drawn(script, kind)))
 
     def test_layers(self) -> None:
-        for script in sorted(glob.glob(FIGURES)):
-            with open(script, encoding='utf-8') as lines:
-                asked, replies = self.replayed('s', lines.read().rstrip('\n') + '\nrules\ncells\ndirty\n')
-            with self.subTest(os.path.basename(script)):
-                for words in ([], ['--cells']):
-                    self.assertEqual(self.layers(asked, replies, *words, '--ask', shlex.join(PROGRAM)), self.layers(asked, replies, *words))
+        with open(FIGURES.replace('*', 'report'), encoding='utf-8') as lines:
+            asked, replies = self.replayed('s', lines.read().rstrip('\n') + '\nrules\ncells\ndirty\n')
+        for words in ([], ['--cells']):
+            self.assertEqual(self.layers(asked, replies, *words, '--ask', shlex.join(PROGRAM)), self.layers(asked, replies, *words))
 
     def layers(self, script: str, replies: str, *words: str) -> dict:
-        self.tool('to-gis', script, replies, 'out', *words)
-        found = {}
-        for path in sorted(glob.glob(self.path('out/*.geojson'))):
-            with open(path, encoding='utf-8') as layer:
-                found[os.path.basename(path)] = json.load(layer)
-        return found
+        self.assertEqual(self.tool('to-gis', script, replies, 'out', *words).status, 0)
+        return {os.path.basename(path): layer_in(path) for path in sorted(glob.glob(self.path('out/*.geojson')))}
 
     def test_where_the_listing_stands(self) -> None:
         """The corners are those of the errors that are listed, though the script goes on."""

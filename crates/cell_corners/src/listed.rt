@@ -9,8 +9,8 @@ use crate::corner::Corner;
 use crate::corners::Corners;
 use crate::lowest::reduced;
 use convex_cell::{BorrowedCell, Cells};
-use grid_plane::NoMemory;
 use corner_terms::{CellCorner, Fraction};
+use grid_plane::NoMemory;
 use std::alloc::Global;
 
 /// The coordinate x / w in lowest terms.
@@ -38,11 +38,7 @@ fn told(cell: usize, corner: Corner) -> CellCorner
 }
 
 /// Adds the corners, as those of the cell of this number.
-fn push_told(
-    found: &mut Vec<CellCorner>,
-    cell: usize,
-    corners: &Corners,
-) -> Result<(), NoMemory>
+fn push_told(found: &mut Vec<CellCorner>, cell: usize, corners: &Corners) -> Result<(), NoMemory>
     ensures { OnOk result ((more : List told.CellCorner) × (found.new.items ≡ found.old.items ++ more) × Paired (IsToldAs cell) corners.now more) }
 {
     for i in 0..corners.len() {

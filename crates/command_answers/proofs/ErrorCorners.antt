@@ -1,5 +1,5 @@
 -- The corners of an error: what is answered where there is one of the key, and where there is none.
-use Rattle.std.proofs.Common.{◌≡◌, ℕ, List, Option, Some, None, refl}
+use Rattle.std.proofs.Common.{◌≡◌, ℕ, List, Some, None, refl}
 use Rattle.corner_terms.specs.CornerLists.{AreOfCells}
 use Rattle.corner_terms.specs.declared.cell_corner.CellCorner.{CellCorner}
 use Rattle.topology_terms.specs.Entry.{Entry, entry_at}

@@ -12,6 +12,7 @@ use topology_terms::Cause;
 
 impl World {
     /// `corners R H H2`
+    #[tactic(auto, using(crate::proofs::ErrorCorners::corners_listed, crate::proofs::ErrorCorners::corners_refused))]
     pub(crate) fn answer_corners(&self, key: Key) -> Result<Reply, NoMemory>
         ensures { IfOk result (λ r. Answers self.now (Corners key.rule key.subject key.other) (said_of self.now.project r) self.now) }
     {

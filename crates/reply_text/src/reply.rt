@@ -7,8 +7,8 @@ use crate::listings::{
     push_cell_list, push_dirty_list, push_error_list, push_feature_list, push_rule_list,
 };
 use crate::refusal::{Refusal, push_refusal};
-use grid_plane::NoMemory;
 use corner_terms::CellCorner;
+use grid_plane::NoMemory;
 use text_out::{push_digits, push_end, push_text};
 use topo_core::{KindRules, Summary, Topology};
 

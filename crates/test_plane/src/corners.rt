@@ -14,8 +14,16 @@ const CELLS: [&[Row]; 8] = [
     &[(1, 0, 0, Op::Over), (-1, 0, 5, Op::Over)],
     &[(1, 2, -3, Op::Zero)],
     &[(1, 0, 7, Op::Zero), (0, 3, -2, Op::Zero)],
-    &[(1, 0, 0, Op::Over), (0, 1, 0, Op::Over), (-1, -1, -1, Op::Over)],
-    &[(0, 1, 0, Op::Zero), (1, 0, 1, Op::AtLeast), (-2, 0, 3, Op::Over)],
+    &[
+        (1, 0, 0, Op::Over),
+        (0, 1, 0, Op::Over),
+        (-1, -1, -1, Op::Over),
+    ],
+    &[
+        (0, 1, 0, Op::Zero),
+        (1, 0, 1, Op::AtLeast),
+        (-2, 0, 3, Op::Over),
+    ],
     &[
         (3, 1, 0, Op::AtLeast),
         (-3, 2, 0, Op::AtLeast),
