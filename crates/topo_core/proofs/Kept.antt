@@ -59,7 +59,7 @@ asked_by w p r ps m n parts e placed live h = record {
 }
 
 -- ---- an edit
-given_later : (m n a b : ℕ) (e : Entry) → m ≤ n → IsErrorOf m a b e → IsErrorOf n a b e
+pub given_later : (m n a b : ℕ) (e : Entry) → m ≤ n → IsErrorOf m a b e → IsErrorOf n a b e
 given_later m n a b e later x =
     let given = x.given in
     let partner = x.partner in

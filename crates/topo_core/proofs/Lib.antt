@@ -12,3 +12,4 @@ mod Indexing
 mod Saved
 mod Fresh
 mod Records
+mod Raising

@@ -210,4 +210,14 @@ impl<R: KindRules> Topology<R> {
             errors: self.entries.try_copy(self.alloc)?,
         })
     }
+
+    /// An equal topology, judged by the same rules. An `Err` means out of memory.
+    pub fn try_copy(&self) -> Result<Topology<R>, NoMemory>
+    where
+        R: Copy + Drop,
+        ensures { IfOk result (λ t. t ≡ self.now) }
+    {
+        let saved = self.to_data()?;
+        Topology::from_data(self.alloc, self.judging, saved)
+    }
 }

@@ -310,6 +310,18 @@ impl<R: KindRules> Topology<R> {
         kept.ok_or(ChangeFault::NoFeature)
     }
 
+    /// Raises the next handle to one that is no lower; all else stays. Takes no memory.
+    pub fn raise_next(&mut self, next: u32)
+        requires { self.old.next ≤ next }
+        ensures raised { self.new ≡ record self.old { next = next } }
+        ensures sound { IsSoundUnder R.meaning self.old → IsSoundUnder R.meaning self.new }
+        ensures settled { IsSettledUnder R.meaning self.old → IsSettledUnder R.meaning self.new }
+        ensures ordered { IsOrdered self.new }
+    {
+        self.store.set_next(next);
+        store_law(&self.store);
+    }
+
     /// Validates the window: every rule in force judges each live feature of its subjects that the window and the dirt select,
     /// the errors of the selected subjects give way to what is found, and the window is cut out of the dirt.
     pub fn validate(&mut self, window: Rect, work: &mut Work) -> Result<Summary, NoMemory>

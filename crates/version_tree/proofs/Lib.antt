@@ -1,0 +1,9 @@
+mod Picked
+mod Live
+mod Setting
+mod Keeping
+mod Becoming
+mod Merges
+mod Least
+mod Posts
+mod Calls

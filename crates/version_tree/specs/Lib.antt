@@ -1,0 +1,6 @@
+pub mod Apart
+pub mod Differs
+pub mod Lists
+pub mod Merges
+pub mod OverTrees
+pub mod Trees
