@@ -8,13 +8,13 @@ use Rattle.topology_terms.specs.Meaning.{Meaning}
 use Rattle.topology_terms.specs.Project.{Project}
 use Rattle.version_terms.specs.declared.place.Place.{Place}
 use Rattle.version_terms.specs.declared.place.Place.TheVariants.{Current, Other}
-use Rattle.version_terms.specs.Versions.{Version, Tree, IsTree, IsAlike, IsAt, default_name, all_of, place_of, version_at, version_of, with_at, root_of}
+use Rattle.version_terms.specs.Versions.{Version, Tree, has_base, IsTree, IsAlike, IsAt, default_name, all_of, place_of, version_at, version_of, with_at, root_of}
 use Rattle.version_terms.specs.VersionChanges.{BecomesAt, IsPosted, IsPostedTo, LeavesProject, IsPartOf, raised, raised_version, based, greatest_next}
 use Rattle.version_tree.specs.declared.fault.TreeFault.{TreeFault}
 use Rattle.version_tree.specs.declared.fault.TreeFault.TheVariants as fault
 use Rattle.version_tree.specs.Lists.{ChangesAt, Keeps, Moves}
 use Rattle.version_tree.specs.Merges.{Posting, Stopping, HasFreshBase, IsUnfit}
-use Rattle.version_tree.specs.Trees.{IsPostedInPart, IsPostFault, has_base}
+use Rattle.version_tree.specs.Trees.{IsPostedInPart, IsPostFault}
 use Rattle.version_tree.proofs.Keeping.{every_get, greatest_current, length_set}
 use Rattle.version_tree.proofs.Becoming.{Each, IsRaised, current_becomes, other_becomes, other_keeps, becomes_each, at_alike}
 use Rattle.version_tree.proofs.Merges.{still_alike, place_same, both_become, becomes_by, features_in, features_at, raised_nexts, raised_sets}

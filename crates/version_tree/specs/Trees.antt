@@ -3,12 +3,12 @@
 -- AreSound M t, AreSettled M t     so is each version
 -- IsCreateFault, IsGoFault, IsReconcileFault, IsPostFault     why a call was refused
 -- IsInPart, IsPostedInPart  a reconcile, a post that ran out of memory: some handles were set, ascending, and the bases stay
-use Rattle.std.specs.Prelude.{◌≡◌, ◌≢◌, ℕ, List, length, Bool, false, Option, Some, None, is_some}
+use Rattle.std.specs.Prelude.{◌≡◌, ◌≢◌, ℕ, List, length, false, Some, None}
 use Rattle.plane_terms.specs.Lists.{Every}
 use Rattle.topology_terms.specs.Meaning.{Meaning}
 use Rattle.topology_terms.specs.Settled.{IsSettledUnder}
 use Rattle.topology_terms.specs.Sound.{IsSoundUnder}
-use Rattle.version_terms.specs.Versions.{Version, Tree, default_name, all_of, place_of, version_of, root_of}
+use Rattle.version_terms.specs.Versions.{Version, Tree, has_base, default_name, all_of, place_of, version_of, root_of}
 use Rattle.version_terms.specs.VersionChanges.{Becomes, LeavesProject, IsPartOf, raised_version, greatest_next}
 use Rattle.version_tree.specs.Apart.{IsFirstApart}
 use Rattle.version_tree.specs.declared.fault.TreeFault.{TreeFault}
@@ -34,11 +34,6 @@ IsGoFault name t other = ⊥
 abbrev pub IsInPart : List ℕ → Tree → Tree → Type 0
 IsInPart name old new =
     Becomes name (λ v w. LeavesProject (IsPartOf (root_of old).features) (raised_version (greatest_next (all_of old)) v) w) old new
-
--- no version of this name, or one without a base
-abbrev pub has_base : Option Version → Bool
-has_base None = false
-has_base (Some v) = is_some v.base
 
 abbrev pub IsReconcileFault : List ℕ → Tree → Tree → TreeFault → Type 0
 IsReconcileFault name old new fault.NoVersion = (has_base (version_of old name) ≡ false) × (new ≡ old)
