@@ -1,3 +1,6 @@
+pub mod Same
+pub mod Sets
+pub mod Merging
 mod Picked
 mod Live
 mod Setting
