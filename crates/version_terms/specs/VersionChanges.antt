@@ -13,7 +13,9 @@
 -- IsCreated, IsGone, IsReconciled, IsPosted    what `version`, `in`, `reconcile` and `post` leave
 -- IsAside old new        the name and the base of the current version stay, and so do the others
 -- IsFresh B D            the base is what `default` has, so the version may be posted
-use Rattle.std.specs.Prelude.{◌≡◌, ◌≢◌, ◌↔◌, ℕ, List, [], ◌∷◌, ◌++◌, length, Some, None, Contains, slice_set, max}
+-- IsFirstApart F G o     the least handle at which the features differ, or none
+-- IsStale name h t       the base of the version and `default` differ, at the handle h first, so it is not posted
+use Rattle.std.specs.Prelude.{◌≡◌, ◌≢◌, ◌↔◌, ℕ, ◌<◌, List, [], ◌∷◌, ◌++◌, length, Option, Some, None, Contains, slice_set, max}
 use Rattle.std.specs.List.Sorted.{IsStrictlyIncreasing}
 use Rattle.topology_terms.specs.Feature.{Feature, feature_at}
 use Rattle.topology_terms.specs.Project.{Project}
@@ -125,6 +127,18 @@ based D v = record v { base = Some D }
 -- the base is what `default` has, at each handle
 abbrev pub IsFresh : List Feature → List Feature → Type 0
 IsFresh B D = (h : ℕ) → feature_at B h ≡ feature_at D h
+
+abbrev pub IsFirstApart : List Feature → List Feature → Option ℕ → Type 0
+IsFirstApart F G None = (k : ℕ) → feature_at F k ≡ feature_at G k
+IsFirstApart F G (Some h) = (feature_at F h ≢ feature_at G h) × ((k : ℕ) → k < h → feature_at F k ≡ feature_at G k)
+
+-- the base of the version and `default` differ, at this handle first
+pub record IsStale (name : List ℕ) (h : ℕ) (t : Tree) : Type 0 where
+  pub version : Version
+  pub there : version_of t name ≡ Some version
+  pub had : List Feature
+  pub base : version.base ≡ Some had
+  pub first : IsFirstApart had (root_of t).features (Some h)
 
 pub record IsPosted (name : List ℕ) (n : ℕ) (old new : Tree) : Type 0 where
   pub version : Version

@@ -9,4 +9,4 @@ mod Becoming
 mod Merges
 mod Least
 mod Posts
-mod Calls
+mod Going

@@ -10,7 +10,7 @@ use Rattle.topology_terms.specs.Meaning.{Meaning}
 use Rattle.version_terms.specs.declared.place.Place.{Place}
 use Rattle.version_terms.specs.Versions.{Version, Tree, version_at, root_of}
 use Rattle.version_terms.specs.VersionChanges.{IsReconciledTo, IsPostedTo, IsPartOf, IsFresh, LeavesProject}
-use Rattle.version_tree.specs.Apart.{IsFirstApart}
+use Rattle.version_terms.specs.VersionChanges.{IsFirstApart}
 use Rattle.version_tree.specs.Lists.{Moves}
 use Rattle.version_tree.specs.declared.version.Merged.{Merged}
 use Rattle.version_tree.specs.declared.fault.TreeFault.{TreeFault}

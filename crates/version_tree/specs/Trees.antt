@@ -9,8 +9,7 @@ use Rattle.topology_terms.specs.Meaning.{Meaning}
 use Rattle.topology_terms.specs.Settled.{IsSettledUnder}
 use Rattle.topology_terms.specs.Sound.{IsSoundUnder}
 use Rattle.version_terms.specs.Versions.{Version, Tree, has_base, default_name, all_of, place_of, version_of, root_of}
-use Rattle.version_terms.specs.VersionChanges.{Becomes, LeavesProject, IsPartOf, raised_version, greatest_next}
-use Rattle.version_tree.specs.Apart.{IsFirstApart}
+use Rattle.version_terms.specs.VersionChanges.{Becomes, LeavesProject, IsPartOf, IsStale, raised_version, greatest_next}
 use Rattle.version_tree.specs.declared.fault.TreeFault.{TreeFault}
 use Rattle.version_tree.specs.declared.fault.TreeFault.TheVariants as fault
 
@@ -39,14 +38,6 @@ abbrev pub IsReconcileFault : List ℕ → Tree → Tree → TreeFault → Type 
 IsReconcileFault name old new fault.NoVersion = (has_base (version_of old name) ≡ false) × (new ≡ old)
 IsReconcileFault name old new fault.NoMemory = IsInPart name old new
 IsReconcileFault name old new other = ⊥
-
--- the base of the version and `default` differ, at this handle first
-pub record IsStale (name : List ℕ) (h : ℕ) (t : Tree) : Type 0 where
-  pub version : Version
-  pub there : version_of t name ≡ Some version
-  pub had : List Feature
-  pub base : version.base ≡ Some had
-  pub first : IsFirstApart had (root_of t).features (Some h)
 
 pub record IsPostedInPart (name : List ℕ) (old new : Tree) : Type 0 where
   pub version : Version
