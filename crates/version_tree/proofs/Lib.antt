@@ -9,4 +9,3 @@ mod Becoming
 mod Merges
 mod Least
 mod Posts
-mod Going

@@ -178,6 +178,14 @@ root_features P i t u f b =
     ∙ (ap (λ o. features_in (option_and_then (version_at (with_at t i b.is)) o)) (place_same t i b.was b.is default_name b.there y.0)
     ∙ features_at t i b.was b.is b.there y.1 (place_of t default_name))
 
+-- ---- the version that is posted has after the raise the features that it had before
+pub raised_features : (M : Meaning) (n : ℕ) (i : Place) (t u : Tree) (j : Place) (v w : Version) → BecomesAt i (IsRaised M n) t u
+    → version_at t j ≡ Some v → version_at u j ≡ Some w → w.project.features ≡ v.project.features
+unfolding features_in
+raised_features M n i t u j v w b g h =
+    ap features_in (sym h) ∙ (ap (λ (x : Tree). features_in (version_at x j)) b.tree
+    ∙ (features_at t i b.was b.is b.there (ap (λ (x : Version). x.project.features) b.changed.0) (Some j) ∙ ap features_in g))
+
 -- ---- the version at a place, by what the place is
 pub at_place : (t s : Tree) (i j : Place) (v : Version) → t ≡ s → i ≡ j → version_at t j ≡ Some v → version_at s i ≡ Some v
 at_place t s i j v e f g = subst (λ (x : Tree). version_at x i ≡ Some v) e (subst (λ (k : Place). version_at t k ≡ Some v) (sym f) g)

@@ -17,7 +17,7 @@ use Rattle.version_tree.specs.Merges.{Posting, Stopping, HasFreshBase, IsUnfit}
 use Rattle.version_tree.specs.Trees.{IsPostedInPart, IsPostFault}
 use Rattle.version_tree.proofs.Keeping.{every_get, greatest_current, length_set}
 use Rattle.version_tree.proofs.Becoming.{Each, IsRaised, current_becomes, other_becomes, other_keeps, becomes_each, at_alike}
-use Rattle.version_tree.proofs.Merges.{still_alike, place_same, both_become, becomes_by, features_in, features_at, raised_nexts, raised_sets}
+use Rattle.version_tree.proofs.Merges.{still_alike, place_same, both_become, becomes_by, raised_sets}
 
 -- ---- at an index
 pub posted_in : {E : Type 0} (M : Meaning) (F : List Feature) (r : Result ℕ E) (xs : List Version) (k : ℕ) (v w : Version)
@@ -76,14 +76,6 @@ at_with t (Other n) w (Other k) h = (let e = length_set t.others n w in rw e h)
 
 pub at_becomes : (P : Version → Version → Type 0) (i : Place) (t u : Tree) (j : Place) → BecomesAt i P t u → IsAt t j → IsAt u j
 at_becomes P i t u j b h = subst (λ (x : Tree). IsAt x j) (sym b.tree) (at_with t i b.is j h)
-
--- ---- the version that is posted has after the raise the features that it had before
-pub raised_features : (M : Meaning) (n : ℕ) (i : Place) (t u : Tree) (j : Place) (v w : Version) → BecomesAt i (IsRaised M n) t u
-    → version_at t j ≡ Some v → version_at u j ≡ Some w → w.project.features ≡ v.project.features
-unfolding features_in
-raised_features M n i t u j v w b g h =
-    ap features_in (sym h) ∙ (ap (λ (x : Tree). features_in (version_at x j)) b.tree
-    ∙ (features_at t i b.was b.is b.there (ap (λ (x : Version). x.project.features) b.changed.0) (Some j) ∙ ap features_in g))
 
 -- ---- it is given to `default`
 pub same_classes : (t : Tree) (i j : Place) (v w : Version) → IsTree t → version_at t i ≡ Some v → version_at t j ≡ Some w

@@ -26,9 +26,9 @@ const VERSION_LIMIT: usize = 8;
 /// The versions of a topology: the current one, and the others. All have the same classes and rules.
 #[derive(Drop)]
 pub struct Tree<R> {
-    pub(crate) alloc: Global,
-    pub(crate) current: Version<R>,
-    pub(crate) others: Vec<Version<R>>,
+    alloc: Global,
+    current: Version<R>,
+    others: Vec<Version<R>>,
 }
 
 impl<R> Model for Tree<R> {

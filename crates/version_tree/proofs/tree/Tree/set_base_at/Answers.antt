@@ -1,4 +1,4 @@
-use Rattle.std.proofs.Common.{subst, sym}
+use Rattle.std.proofs.Common.{◌≡◌, subst, sym}
 use Rattle.version_terms.specs.Versions.{Version, Tree}
 use Rattle.version_terms.specs.VersionChanges.{BecomesAt, based}
 use Rattle.version_terms.specs.declared.place.Place.{Place}
