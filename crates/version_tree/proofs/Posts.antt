@@ -1,15 +1,14 @@
 -- A post is one of the tree.
-use Rattle.std.proofs.Common.{◌≡◌, ◌<◌, ℕ, List, Option, Some, None, Result, Ok, Err, Bool, false, refl, sym, ◌∙◌, ap, subst, length, arith}
-use Rattle.std.specs.Prelude.{slice_get, slice_set, is_some}
-use Rattle.std.specs.Result.{IfOk, IfErr, OnErr, MatchResult}
-use Rattle.plane_terms.specs.Lists.{Every}
+use Rattle.std.proofs.Common.{◌≡◌, ℕ, List, Option, Some, None, Result, Ok, Err, false, refl, sym, ◌∙◌, ap, subst}
+use Rattle.std.specs.Prelude.{slice_get, slice_set}
+use Rattle.std.specs.Result.{IfOk, OnErr, MatchResult}
 use Rattle.topology_terms.specs.Feature.{Feature}
 use Rattle.topology_terms.specs.Meaning.{Meaning}
 use Rattle.topology_terms.specs.Project.{Project}
 use Rattle.version_terms.specs.declared.place.Place.{Place}
 use Rattle.version_terms.specs.declared.place.Place.TheVariants.{Current, Other}
-use Rattle.version_terms.specs.Versions.{Version, Tree, has_base, IsTree, IsAlike, IsAt, default_name, all_of, place_of, version_at, version_of, with_at, root_of}
-use Rattle.version_terms.specs.VersionChanges.{BecomesAt, IsPosted, IsPostedTo, LeavesProject, IsPartOf, raised, raised_version, based, greatest_next}
+use Rattle.version_terms.specs.Versions.{Version, Tree, has_base, IsTree, IsAlike, IsAt, default_name, all_of, place_of, version_at, with_at}
+use Rattle.version_terms.specs.VersionChanges.{BecomesAt, IsPosted, IsPostedTo, LeavesProject, IsPartOf, raised_version, based, greatest_next}
 use Rattle.version_tree.specs.declared.fault.TreeFault.{TreeFault}
 use Rattle.version_tree.specs.declared.fault.TreeFault.TheVariants as fault
 use Rattle.version_tree.specs.Lists.{ChangesAt, Keeps, Moves}

@@ -1,15 +1,14 @@
-use Rattle.std.proofs.Common.{◌≡◌, ◌∙◌, Option, ap, refl, subst, sym}
+use Rattle.std.proofs.Common.{◌∙◌, Option, ap, refl, subst, sym}
 use Rattle.std.specs.Option.{IfSome}
 use Rattle.topology_terms.specs.Project.{Project}
 use Rattle.topology_terms.specs.Settled.{IsSettledUnder}
 use Rattle.topology_terms.specs.Sound.{IsSoundUnder}
 use Rattle.version_terms.specs.declared.place.Place.{Place}
-use Rattle.version_terms.specs.Versions.{Version, IsAt}
-use Rattle.version_tree.specs.Merges.{Posting}
+use Rattle.version_terms.specs.Versions.{IsAt}
 use Rattle.version_tree.specs.Trees.{IsPostFault}
-use Rattle.version_tree.proofs.Becoming.{IsRaised, at_alike}
+use Rattle.version_tree.proofs.Becoming.{at_alike}
 use Rattle.version_tree.proofs.Merges.{raised_each, raised_features, raised_nexts, told_fault}
-use Rattle.version_tree.proofs.Posts.{at_becomes, same_classes, posted_each, based_each, unfit_fault, posted_whole, raised_post, stopped_post}
+use Rattle.version_tree.proofs.Posts.{at_becomes, same_classes, posted_each, based_each, posted_whole, raised_post, stopped_post}
 use Rattle.version_tree.proofs.tree.Tree.post.Goals as goal
 
 pub version-requires : goal.version-requires
@@ -33,7 +32,8 @@ become_at-requires-clause-given g c = λ v e.
 
 pub set_base_at-requires : goal.set_base_at-requires
 set_base_at-requires g c = at_becomes _ c.root_place-root.result c.raise_at.new.self c.become_at.new.self c.in-Some.place c.in_ok-posted.ensures
-    (version-requires g c)
+    (at_becomes _ c.root_place-root.result c.args.self.now c.raise_at.new.self c.in-Some.place c.raise_at.ensures
+    (subst (λ (o : Option Place). IfSome o (IsAt c.args.self.now)) c.in-Some.is c.place_of.ensures.at))
 
 pub returns-clause-ok : goal.returns-clause-ok
 returns-clause-ok g c =

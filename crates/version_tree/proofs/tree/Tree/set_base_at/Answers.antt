@@ -1,5 +1,5 @@
 use Rattle.std.proofs.Common.{◌≡◌, subst, sym}
-use Rattle.version_terms.specs.Versions.{Version, Tree}
+use Rattle.version_terms.specs.Versions.{Tree}
 use Rattle.version_terms.specs.VersionChanges.{BecomesAt, based}
 use Rattle.version_terms.specs.declared.place.Place.{Place}
 use Rattle.version_tree.proofs.Becoming.{current_becomes, other_becomes}
