@@ -1,13 +1,14 @@
 #!/usr/bin/env python3
 """Measures the way from a GeoPackage of parcels to a GeoPackage of their errors, step by step, and whether planted faults are found.
 
-usage: bench/pipeline.py [--sizes N,N,..] [--program WORDS] [--grid R] [--tiles N] [--postgis]
+usage: bench/pipeline.py [--sizes N,N,..] [--program WORDS] [--grid R] [--tiles N] [--peers NAME,..] [--others]
 
   --sizes N,..     about how many parcels: 10000,100000 where it is left out; 1000000 goes in tiles
   --program WORDS  the program that replays, in place of the one that ./topo builds
   --grid R         the resolution in metres (0.001)
   --tiles N        goes by so many tiles at each size; without it only sizes whose script is too large for one run do, by 16
-  --postgis        the same by a PostgreSQL with PostGIS that is begun for it and ended with it, where it is installed
+  --peers NAME,..  the same by PostGIS, Shapely, GRASS, as far as they are installed; `all` takes the three. PostgreSQL is begun for it
+  --others         also what the other tools take: a report, the merged errors of tiles, and of one run the page of `draw`
 
 A parcel has 8 to 40 vertices; its sides wind, and neighbours share them. Of each thousand parcels one reaches into the next, one stands back
 from it, and one was entered twice. The rules are that parcels must not overlap and must not have gaps. A fault is found if there is an error of
@@ -17,33 +18,28 @@ memory is the peak of its largest process. `in` is the source, `out` the layers 
 from __future__ import annotations
 
 import argparse
-import csv
 import glob
 import json
 import math
 import os
-import pwd
 import random
 import shlex
-import shutil
 import subprocess
 import sys
 import tempfile
-from typing import IO, Iterator, NamedTuple, Optional
+from typing import Iterator, NamedTuple
 
 sys.dont_write_bytecode = True
+from peers import PEERS
+from steps import GAPS, OVERLAPS, Found, Place, Step, found_by_topo, measured, print_steps
+
 ROOT = os.path.dirname(os.path.dirname(os.path.abspath(__file__)))
 TOOLS = os.path.join(ROOT, 'tools')
 EAST, NORTH, WIDE, HIGH = 3499000.0, 5412000.0, 24, 25
-OVERLAPS, GAPS = 'polygon_must_not_overlap', 'polygon_must_not_have_gaps'
 REACHES, STANDS_BACK, TWICE = 107, 507, 757
 DEPTH = 3
 # So many parcels make a script that is too large for one run.
 TOO_MANY = 700000
-POSTGRES = 'postgres'
-FRAME = 'ST_MinX(geom), ST_MinY(geom), ST_MaxX(geom), ST_MaxY(geom)'
-
-Place = tuple[float, float]
 
 
 class Faults(NamedTuple):
@@ -51,21 +47,6 @@ class Faults(NamedTuple):
 
     pairs: set[tuple[str, str]]
     places: list[Place]
-
-
-class Found(NamedTuple):
-    """What was found: pairs of parcels, and the rectangles round gaps."""
-
-    pairs: set[tuple[str, str]]
-    frames: list[tuple[float, float, float, float]]
-
-
-class Step(NamedTuple):
-    """What a step took: its name, processor seconds, and the peak of memory in MiB."""
-
-    name: str
-    seconds: float
-    memory: float
 
 
 class Parcels:
@@ -118,17 +99,6 @@ def write_source(parcels: Parcels, path: str) -> None:
     os.remove(path + '.geojsonl')
 
 
-def measured(name: str, words: list[str], source: Optional[IO] = None, out: Optional[IO] = None) -> Step:
-    """Runs a step; a status that is not 0 ends the measurement."""
-    process = subprocess.Popen(words, stdin=source or subprocess.DEVNULL, stdout=out or subprocess.DEVNULL, stderr=subprocess.PIPE)
-    told = process.stderr.read().decode('utf-8', 'replace')
-    _, status, used = os.wait4(process.pid, 0)
-    process.returncode = os.waitstatus_to_exitcode(status)
-    if process.returncode:
-        sys.exit('pipeline: %s ended with %d: %s' % (' '.join(words)[:200], process.returncode, told[-1000:]))
-    return Step(name, used.ru_utime + used.ru_stime, used.ru_maxrss / 1024)
-
-
 def tool(name: str) -> str:
     return os.path.join(TOOLS, name)
 
@@ -156,120 +126,77 @@ def in_tiles(folder: str, program: list[str], grid: str, tiles: int) -> Iterator
     source, into, out = (os.path.join(folder, name) for name in ('in.gpkg', 'tiles', 'out.gpkg'))
     yield measured('tiles split, %d' % tiles, [tool('tiles'), 'split', *reading_words(source, grid), '--tiles', str(tiles), '--into', into])
     steps = [replayed(program, script) for script in sorted(glob.glob(os.path.join(into, '*.topo')))]
-    yield Step('replays', sum(step.seconds for step in steps), max(step.memory for step in steps))
+    yield Step('replays, one at a time', sum(step.seconds for step in steps), max(step.memory for step in steps), sum(step.clock for step in steps))
     yield measured('to-gis', [tool('to-gis'), into, out])
 
 
-def asked(path: str, text: str) -> list[list[str]]:
-    """The rows that a query by SQLite finds in a source."""
-    words = ['ogr2ogr', '-f', 'CSV', '/vsistdout/', path, '-dialect', 'SQLite', '-sql', text]
-    return list(csv.reader(subprocess.run(words, capture_output=True, check=True).stdout.decode().splitlines()))[1:]
+def near(place: Place, frame: tuple[float, float, float, float]) -> bool:
+    return frame[0] - 1 <= place[0] <= frame[2] + 1 and frame[1] - 1 <= place[1] <= frame[3] + 1
 
 
-def found_in(path: str) -> Found:
-    """What the layers of errors say: an overlap is a polygon, and the border of a gap a line."""
-    pairs = asked(path, "SELECT subject_id, other_id FROM error_polygons WHERE word = '%s'" % OVERLAPS)
-    frames = asked(path, "SELECT %s FROM error_lines WHERE word = '%s'" % (FRAME, GAPS))
-    return Found({(a, b) for a, b in pairs}, [tuple(map(float, frame)) for frame in frames])
+def counts(faults: Faults, found: Found) -> tuple[int, int]:
+    """How many of the planted overlaps and gaps were found."""
+    frames: dict[tuple[int, int], list] = {}
+    for frame in found.frames:
+        for x in range(int(frame[0]) // WIDE - 1, int(frame[2]) // WIDE + 2):
+            for y in range(int(frame[1]) // WIDE - 1, int(frame[3]) // WIDE + 2):
+                frames.setdefault((x, y), []).append(frame)
+    pairs = sum(pair in found.pairs or pair[::-1] in found.pairs for pair in faults.pairs)
+    return pairs, sum(any(near(place, frame) for frame in frames.get((int(place[0]) // WIDE, int(place[1]) // WIDE), ())) for place in faults.places)
+
+
+def has_all(faults: Faults, found: Found) -> bool:
+    return counts(faults, found) == (len(faults.pairs), len(faults.places))
 
 
 def told(faults: Faults, found: Found) -> str:
     """How many of the faults were found."""
-    pairs = sum(pair in found.pairs or pair[::-1] in found.pairs for pair in faults.pairs)
-    near = lambda place, frame: frame[0] - 1 <= place[0] <= frame[2] + 1 and frame[1] - 1 <= place[1] <= frame[3] + 1
-    places = sum(any(near(place, frame) for frame in found.frames) for place in faults.places)
+    pairs, places = counts(faults, found)
     return 'overlaps %d of %d planted, gaps %d of %d; all in all %d and %d' % (
         pairs, len(faults.pairs), places, len(faults.places), len(found.pairs), len(found.frames))
 
 
-# ---- PostGIS
-
-OVERLAPS_SQL = '''create table found_overlaps as select a.parcel as subject_id, b.parcel as other_id, st_intersection(a.geom, b.geom) as geom
-from parcels a join parcels b on a.fid < b.fid and a.geom && b.geom and st_relate(a.geom, b.geom, 'T********')'''
-GAPS_SQL = '''create table found_gaps as with whole as (select st_union(geom) as geom from parcels),
-rings as (select (st_dumprings((st_dump(geom)).geom)).* from whole)
-select geom from rings where path[1] > 0'''
-
-
-def postgis_folder() -> Optional[str]:
-    """The folder of PostgreSQL's programs; none where PostGIS is not installed."""
-    found = sorted(glob.glob('/usr/lib/postgresql/*/bin/postgres'))
-    return os.path.dirname(found[-1]) if found and glob.glob('/usr/share/postgresql/*/extension/postgis.control') else None
+def beside(folder: str, program: list[str], tiles: int) -> tuple[list[Step], str]:
+    """What the other tools take with the same script or tiles and their replies, and how large the page is."""
+    of = os.path.join(folder, 'tiles') if tiles else os.path.join(folder, 'all.topo')
+    replies = [] if tiles else [os.path.join(folder, 'all.replies')]
+    steps = [measured('report', [tool('report'), of, *replies])]
+    if tiles:
+        return steps + [measured('tiles merge', [tool('tiles'), 'merge', of])], 'by %d tiles' % tiles
+    page = os.path.join(folder, 'page.html')
+    steps.append(measured('draw --html, with its replay', [tool('draw'), '--html', shlex.join(program), of, page]))
+    return steps, 'the page has %.1f MB' % (os.path.getsize(page) / 1e6)
 
 
-def as_postgres() -> None:
-    """A server does not run as root."""
-    if os.getuid() == 0:
-        user = pwd.getpwnam(POSTGRES)
-        os.setgid(user.pw_gid)
-        os.setuid(user.pw_uid)
-
-
-def postgis(folder: str) -> tuple[list[Step], Found]:
-    """The steps of a way by PostGIS: in, one question for each rule, out. The time of the server's processes comes with its end."""
-    programs, data = postgis_folder(), os.path.join(folder, 'data')
-    os.mkdir(data)
-    if os.getuid() == 0:
-        shutil.chown(data, POSTGRES)
-        os.chmod(folder, 0o755)
-    subprocess.run([os.path.join(programs, 'initdb'), '-D', data, '-A', 'trust', '-U', 'topo'], check=True, stdout=subprocess.DEVNULL, preexec_fn=as_postgres)
-    words = [os.path.join(programs, 'postgres'), '-D', data, '-k', data, '-c', 'listen_addresses=', '-c', 'max_parallel_workers_per_gather=0',
-             '-c', 'shared_buffers=512MB', '-c', 'work_mem=256MB', '-c', 'fsync=off', '-c', 'autovacuum=off']
-    server = subprocess.Popen(words, stderr=subprocess.DEVNULL, preexec_fn=as_postgres)
-    try:
-        steps = list(asked_of_postgis(folder, programs, 'host=%s user=topo dbname=topo' % data))
-    finally:
-        server.terminate()
-        _, _, used = os.wait4(server.pid, 0)
-        server.returncode = 0
-    steps.append(Step('the server', used.ru_utime + used.ru_stime, used.ru_maxrss / 1024))
-    return steps, found_by_postgis(os.path.join(folder, 'peer.gpkg'))
-
-
-def asked_of_postgis(folder: str, programs: str, connection: str) -> Iterator[Step]:
-    ask = lambda name, text, of=connection: measured(name, [os.path.join(programs, 'psql'), '-X', '-q', '-v', 'ON_ERROR_STOP=1', of, '-c', text])
-    for _ in range(100):
-        if subprocess.run([os.path.join(programs, 'pg_isready'), '-q', '-d', connection.replace('=topo dbname=topo', '=topo dbname=postgres')]).returncode == 0:
-            break
-        subprocess.run(['sleep', '0.1'])
-    ask('made', 'create database topo', connection.replace('dbname=topo', 'dbname=postgres'))
-    ask('made', 'create extension postgis')
-    source, out = os.path.join(folder, 'in.gpkg'), os.path.join(folder, 'peer.gpkg')
-    yield measured('ogr2ogr in', ['ogr2ogr', '-f', 'PostgreSQL', 'PG:' + connection, source, '-lco', 'FID=fid', '-lco', 'GEOMETRY_NAME=geom',
-                                  '--config', 'PG_USE_COPY', 'YES'])
-    yield ask('overlaps', OVERLAPS_SQL)
-    yield ask('gaps', GAPS_SQL)
-    yield measured('ogr2ogr out', ['ogr2ogr', '-f', 'GPKG', out, 'PG:' + connection, 'found_overlaps', 'found_gaps'])
-
-
-def found_by_postgis(path: str) -> Found:
-    frames = asked(path, 'SELECT %s FROM found_gaps' % FRAME)
-    return Found({(a, b) for a, b in asked(path, 'SELECT subject_id, other_id FROM found_overlaps')}, [tuple(map(float, frame)) for frame in frames])
-
-
-# ---- all
-
-def print_steps(name: str, steps: list[Step], found: str) -> None:
-    print('%s\n' % name + '| Step | Processor seconds | Peak, MiB |\n|---|---:|---:|')
-    for step in steps + [Step('all', sum(step.seconds for step in steps), max(step.memory for step in steps))]:
-        print('| %s | %.1f | %.0f |' % step)
-    print(found + '\n', flush=True)
+def beside_by_peers(folder: str, wanted: list[str], name: str, faults: Faults) -> None:
+    """The tables of those who are wanted and installed."""
+    for peer in PEERS:
+        if peer.name.lower() not in wanted and 'all' not in wanted:
+            continue
+        if peer.missing():
+            print('%s is left out without %s\n' % (peer.name, peer.missing()), flush=True)
+            continue
+        steps, found = peer.way(folder)
+        print_steps('%s, %s' % (name, peer.name), steps, told(faults, found))
+        for path in glob.glob(os.path.join(folder, 'peer.gpkg*')):
+            os.remove(path)
 
 
 def measure(size: int, words: argparse.Namespace) -> bool:
     """The tables of a size; whether all faults were found."""
     parcels = Parcels(round(size ** 0.5))
+    name = '%s parcels' % format(parcels.rows ** 2, ',')
     with tempfile.TemporaryDirectory() as folder:
         write_source(parcels, os.path.join(folder, 'in.gpkg'))
         tiles = words.tiles or (16 if size > TOO_MANY else 0)
         steps = list(in_tiles(folder, words.program, words.grid, tiles) if tiles else whole(folder, words.program, words.grid))
-        found = found_in(os.path.join(folder, 'out.gpkg'))
-        print_steps('%s parcels' % format(parcels.rows ** 2, ','), steps, told(parcels.faults, found))
-        if words.postgis and postgis_folder():
-            steps, by_peer = postgis(folder)
-            print_steps('%s parcels, PostGIS' % format(parcels.rows ** 2, ','), steps, told(parcels.faults, by_peer))
-    near = told(parcels.faults, found)
-    return near.startswith('overlaps %d of %d planted, gaps %d of %d;' % ((len(parcels.faults.pairs),) * 2 + (len(parcels.faults.places),) * 2))
+        found = found_by_topo(os.path.join(folder, 'out.gpkg'))
+        print_steps(name, steps, told(parcels.faults, found))
+        if words.others:
+            more, said = beside(folder, words.program, tiles)
+            print_steps(name + ', other tools', more, said, has_sum=False)
+        beside_by_peers(folder, words.peers.lower().split(','), name, parcels.faults)
+    return has_all(parcels.faults, found)
 
 
 def main() -> int:
@@ -278,7 +205,8 @@ def main() -> int:
     parser.add_argument('--program', help=argparse.SUPPRESS)
     parser.add_argument('--grid', default='0.001', help=argparse.SUPPRESS)
     parser.add_argument('--tiles', type=int, default=0, help=argparse.SUPPRESS)
-    parser.add_argument('--postgis', action='store_true', help=argparse.SUPPRESS)
+    parser.add_argument('--peers', default='', help=argparse.SUPPRESS)
+    parser.add_argument('--others', action='store_true', help=argparse.SUPPRESS)
     words = parser.parse_args()
     words.program = shlex.split(words.program) if words.program else [os.path.join(ROOT, 'topo')]
     return 0 if all([measure(int(size), words) for size in words.sizes.split(',')]) else 1

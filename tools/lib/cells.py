@@ -7,7 +7,7 @@ from typing import NamedTuple, Optional
 
 from .outlines import Outline, Point, doubled_area, line_key, outlines_of, turn
 from .replies import Error, Frame, Half
-from .spans import Segment, beside, bounds_of, ends_of, equation_of, parts_on_lines
+from .spans import Segment, beside, bounds_of, ends_of, equation_of, parts_on_lines, stops_in
 
 # A box that meets more squares is compared with all.
 MOST_SQUARES = 1024
@@ -181,7 +181,15 @@ def cover_of(closures: list[list[Point]]) -> Cover:
     return Cover(outlines_of(areas), lines, alone)
 
 
+def cover_and_stops(error: Error) -> tuple[Cover, set[Point]]:
+    """What the cells of an error cover, or its frame where the listing has none; and the ends of all cells if each lies on a line, also
+    where two of them on one line meet."""
+    found = bounds_of(error) if error.cells else None
+    if found is None:
+        return cover_of(closures_of(error)), set()
+    return Cover([], *parts_on_lines(found)), stops_in(found)
+
+
 def cover_of_error(error: Error) -> Cover:
     """What the cells of an error cover, or its frame where the listing has none."""
-    found = bounds_of(error) if error.cells else None
-    return cover_of(closures_of(error)) if found is None else Cover([], *parts_on_lines(found))
+    return cover_and_stops(error)[0]

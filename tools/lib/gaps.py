@@ -11,7 +11,7 @@ from fractions import Fraction
 from typing import Iterable, NamedTuple
 
 from .outlines import Outline, Point, Ring, doubled_area, rings_of, turn, way_on
-from .spans import Segment
+from .spans import ROOM, Segment, may_be_straight, may_hold, near
 
 WORD = 'polygon_must_not_have_gaps'
 MOST_STRIPS = 4096
@@ -43,10 +43,23 @@ class Ground(NamedTuple):
 
 # ---- the border as a graph
 
+class Kept(Fraction):
+    """A fraction that keeps its hash, which takes longer than all else that is done with it."""
+
+    __slots__ = ('_known',)
+
+    def __hash__(self) -> int:
+        try:
+            return self._known
+        except AttributeError:
+            self._known = super().__hash__()
+            return self._known
+
+
 def eased(point: Point) -> Point:
     """The same point, in whole numbers where it lies on the grid, as nearly all do: these are compared much faster."""
     x, y = point
-    return (x.numerator if x.denominator == 1 else x), (y.numerator if y.denominator == 1 else y)
+    return (x.numerator if x.denominator == 1 else Kept(x)), (y.numerator if y.denominator == 1 else Kept(y))
 
 
 def squares(low: Point, high: Point, size: float) -> Iterable[Square]:
@@ -73,13 +86,15 @@ def split(sides: dict[Segment, set[int]], points: set[Point]) -> dict[Segment, l
     """The pieces of each side, cut where another one ends, or where a point lies on it."""
     size = size_for(sides)
     places: dict[Square, set[Point]] = {}
-    for point in points.union(*sides):
+    known = {point: near(point) for point in points.union(*sides)}
+    for point in known:
         for square in squares(point, point, size):
             places.setdefault(square, set()).add(point)
     out: dict[Segment, list[Segment]] = {}
     for p, q in sides:
-        near = set().union(*(places.get(square, ()) for square in squares(*box_of((p, q)), size)))
-        stops = [p, *sorted(point for point in near if p < point < q and turn(p, q, point) == 0), q]
+        beside = set().union(*(places.get(square, ()) for square in squares(*box_of((p, q)), size)))
+        ends = near(p), near(q)
+        stops = [p, *sorted(point for point in beside if may_hold(*ends, known[point]) and p < point < q and turn(p, q, point) == 0), q]
         out[p, q] = list(zip(stops, stops[1:]))
     return out
 
@@ -119,6 +134,16 @@ def pieces_of(ways: dict[Point, list[Point]]) -> list[list[Point]]:
 
 # ---- its faces
 
+def goes_left(ring: Ring) -> bool:
+    """Whether a ring goes counter-clockwise. Fractions are asked only where double precision cannot tell: a sum of many has long numbers."""
+    x0, y0 = near(ring[0])
+    steps = [(x - x0, y - y0) for x, y in map(near, ring)]
+    doubled = math.fsum(x * v - y * u for (x, y), (u, v) in zip(steps, steps[1:]))
+    far = max(abs(number) for step in steps for number in step) + max(1.0, abs(x0), abs(y0)) * ROOM
+    room = len(ring) * far * (far + max(abs(x0), abs(y0))) * ROOM
+    return doubled > 0 if abs(doubled) > room else doubled_area(ring) > 0
+
+
 class Faces:
     """The walks round the faces of a graph in which from each point an even number of ways lead on, each with its face at its left."""
 
@@ -131,7 +156,7 @@ class Faces:
                 for q in ways[p]:
                     if (p, q) not in self.of_way:
                         self.walk((p, q))
-        self.is_bounded = [doubled_area(walk) > 0 for walk in self.walks]
+        self.is_bounded = list(map(goes_left, self.walks))
 
     def walk(self, way: Way) -> None:
         ring: Ring = []
@@ -218,8 +243,9 @@ class Map:
 
 def straightened(ring: Ring, ways: dict[Point, list[Point]]) -> Ring:
     """A ring without the points at which nothing turns and no other way passes."""
-    around = zip(ring[-1:] + ring[:-1], ring, ring[1:] + ring[:1])
-    return [q for p, q, r in around if len(ways[q]) > 2 or turn(p, q, r) != 0]
+    known = list(map(near, ring))
+    around = zip(ring[-1:] + ring[:-1], ring, ring[1:] + ring[:1], known[-1:] + known[:-1], known, known[1:] + known[:1])
+    return [q for p, q, r, *ends in around if len(ways[q]) > 2 or not may_be_straight(*ends) or turn(p, q, r) != 0]
 
 
 def side_of(way: Way) -> Segment:

@@ -7,12 +7,14 @@ import re
 from base64 import b64encode
 from fractions import Fraction
 from html import escape
-from typing import Iterable, Iterator, NamedTuple
+from operator import sub
+from typing import Iterable, Iterator, NamedTuple, Optional
 
 from .gaps import Gap
 from .grid import Grid
 from .mapping import GREY, OF_CLASS, OF_RULE, colour, rule_text
 from .outlines import Point
+from .replies import Frame
 from .rules import title_of
 from .scenes import Drawn, Marked, Scene, box_of
 from .spans import Segment
@@ -58,22 +60,46 @@ def bytes_of(number: int) -> bytes:
     return bytes(out)
 
 
-def packed(features: list[Drawn], names: list[str]) -> str:
+# The bytes of the numbers from -NEAR up to NEAR, each at its own place: a list has its last ones at -1, -2 and so on.
+NEAR = 1 << 14
+BYTES = [bytes_of(number) for number in [*range(NEAR), *range(-NEAR, 0)]]
+
+
+def bytes_of_all(numbers: list[int]) -> bytes:
+    if not numbers or -NEAR <= min(numbers) and max(numbers) < NEAR:
+        return b''.join(map(BYTES.__getitem__, numbers))
+    return b''.join([BYTES[number] if -NEAR <= number < NEAR else bytes_of(number) for number in numbers])
+
+
+def packed(features: list[Drawn], names: list[str]) -> tuple[str, Optional[Frame]]:
     """The features in base64: of each the class, the number of its lists, and of each list the number of its places and the way from place to
-    place."""
-    small = {number: bytes_of(number) for number in range(-4096, 4096)}
-    put = lambda number: small.get(number) or bytes_of(number)
-    out, x, y = bytearray(), 0, 0
+    place; and the least rectangle that holds them all."""
+    out, last = bytearray(), [0, 0]
+    xs: list[int] = []
+    ys: list[int] = []
     index = {name: number for number, name in enumerate(names)}
     for feature in features:
-        out += put(index[feature.of_class]) + put(len(feature.lists))
-        for each in feature.lists:
-            places = each[:-1] if feature.kind == 'polygon' else each
-            out += put(len(places))
-            for u, v in places:
-                out += put(u - x) + put(v - y)
-                x, y = u, v
-    return b64encode(bytes(out)).decode()
+        lists = feature.numbers
+        out += bytes_of_all([index[feature.of_class], len(lists)])
+        for numbers in lists:
+            if feature.kind == 'polygon':
+                del numbers[-2:]
+            out += bytes_of_all([len(numbers) // 2]) + bytes_of_all(list(map(sub, numbers, last + numbers)))
+            last = numbers[-2:]
+            xs += min(numbers[::2]), max(numbers[::2])
+            ys += min(numbers[1::2]), max(numbers[1::2])
+    return b64encode(out).decode(), (min(xs), min(ys), max(xs), max(ys)) if xs else None
+
+
+def runs_of(numbers: Iterable[int]) -> list[int]:
+    """Numbers in ascending order as runs: the first of each, and how many follow one another from there."""
+    out: list[int] = []
+    for number in numbers:
+        if out and number == out[-2] + out[-1]:
+            out[-1] += 1
+        else:
+            out += [number, 1]
+    return out
 
 
 # ---- errors and gaps
@@ -136,19 +162,25 @@ class Pages:
         """All that the page draws."""
         scene, classes = self.scene, self.scene.ending.classes
         names = list(classes)
+        features, frame = packed(scene.features, names)
         return {'classes': [{'name': name, 'kind': kind, 'colour': colour(names, name, OF_CLASS)} for name, kind in classes.items()],
                 'groups': [group._asdict() for group in self.groups], 'grey': GREY,
-                'handles': [feature.handle for feature in scene.features],
+                'handles': runs_of(feature.handle for feature in scene.features),
                 'names': [scene.name_of(feature.handle) for feature in scene.features],
-                'features': packed(scene.features, names), 'items': list(self.items()), 'errors': len(scene.errors), 'dirt': scene.dirt,
-                'box': box_of(scene), 'grid': [float(self.grid.resolution), float(self.grid.x), float(self.grid.y)],
+                'features': features, 'items': list(self.items()), 'errors': len(scene.errors), 'dirt': scene.dirt,
+                'box': box_of(scene, [frame] if frame else []), 'grid': [float(self.grid.resolution), float(self.grid.x), float(self.grid.y)],
                 'unit': 'm' if 'UNIT["met' in self.grid.crs else 'units', 'refused': scene.ending.refused, 'digits': max(0, len(str(self.grid.resolution.denominator)) - 1)}
 
 
-def html_of(scene: Scene, title: str) -> str:
-    """The page; `<` in its data is written so that no text of theirs can end them."""
+def html_of(scene: Scene, title: str) -> Iterator[str]:
+    """The page, in pieces; `<` in its data is written so that no text of theirs can end them."""
     with open(TEMPLATE, encoding='utf-8') as template:
         text = template.read()
-    data = json.dumps(Pages(scene).data(), ensure_ascii=False, separators=(',', ':')).replace('<', '\\u003c')
     head, tail = text.replace('TITLE', escape(NO_TITLE.sub('\ufffd', title))).rsplit('DATA', 1)
-    return head + data + tail
+    data = Pages(scene).data()
+    scene.features.clear()
+    yield head
+    for number, (name, value) in enumerate(data.items()):
+        told = json.dumps(value, ensure_ascii=False, separators=(',', ':')).replace('<', '\\u003c')
+        yield from ('{"' if number == 0 else ',"', name, '":', told)
+    yield '}' + tail

@@ -1,19 +1,21 @@
 """What stands at the end of a script, for a map: features, errors, dirt, and where each comes from."""
 from __future__ import annotations
 
-import io
+import contextlib
 import re
 import subprocess
-from typing import NamedTuple
+import threading
+from typing import BinaryIO, Iterator, NamedTuple, Optional
 
-from .cells import Cover, cover_of_error
+from .cells import Cover, cover_and_stops
 from .gaps import WORD, Ground, ground_of
 from .grid import REACH, Place
 from .names import NO_NAMES, Names
 from .outlines import Point
 from .replies import Ending, Error, Frame, ReplyError, answers_of, each_error, named_by
-from .spans import Segment, stops_of
+from .spans import Segment
 
+LISTS = re.compile(r'\(([-0-9 ,]+)\)')
 KINDS = {'POINT': 'point', 'LINESTRING': 'line', 'MULTILINESTRING': 'line', 'POLYGON': 'polygon', 'MULTIPOLYGON': 'polygon'}
 
 
@@ -22,25 +24,35 @@ LISTED = 3
 
 
 class Drawn(NamedTuple):
-    """A feature: its lists of places are rings that end where they begin, parts of a line, or one place."""
+    """A feature, with the text of its shape: numbers take ten times the room of their text, so they are read when they are asked for."""
 
     handle: int
     of_class: str
     kind: str
-    lists: list[list[Place]]
+    text: str
     subtype: int = 0
 
     @property
+    def numbers(self) -> list[list[int]]:
+        """Its lists of places, each as x, y, x, y and so on: rings that end where they begin, parts of a line, or one place."""
+        return [list(map(int, each.replace(',', '').split())) for each in LISTS.findall(self.text)]
+
+    @property
+    def lists(self) -> list[list[Place]]:
+        return [list(zip(each[::2], each[1::2])) for each in self.numbers]
+
+    @property
     def frame(self) -> Frame:
-        xs, ys = zip(*(place for each in self.lists for place in each))
+        xs, ys = ([number for each in self.numbers for number in each[at::2]] for at in (0, 1))
         return min(xs), min(ys), max(xs), max(ys)
 
 
 class Marked(NamedTuple):
-    """An error with what its cells cover, or its frame where it is of a whole feature."""
+    """An error with what its cells cover, or its frame where it is of a whole feature; and the ends of its cells that lie on lines."""
 
     error: Error
     cover: Cover
+    stops: set[Point]
 
     @property
     def rings(self) -> list[list[Point]]:
@@ -69,7 +81,7 @@ def ground_by(errors: list[Marked]) -> Ground:
     borders: dict[Segment, set[int]] = {}
     points: set[Point] = set()
     for marked in errors:
-        points.update(stops_of(marked.error))
+        points.update(marked.stops)
         for side in marked.cover.lines:
             borders.setdefault(side, set()).add(marked.error.subject)
     return ground_of(borders, points)
@@ -77,24 +89,54 @@ def ground_by(errors: list[Marked]) -> Ground:
 
 def drawn_of(line: str) -> Drawn:
     _, handle, side, word, text = line.split(' ', 4)
-    lists = re.findall(r'\(([-0-9 ,]+)\)', text)
     of_class, subtype = named_by(side)
-    return Drawn(int(handle), of_class, KINDS[word], [[tuple(map(int, place.split())) for place in each.split(',')] for each in lists], subtype)
+    return Drawn(int(handle), of_class, KINDS[word], text, subtype)
 
 
-def replies_to(program: list[str], script: bytes) -> tuple[bytes, bytes]:
-    """What is asked, a script and behind its lines the three listings, and the replies. A ReplyError where it is no script."""
+def checked(script: bytes) -> bytes:
+    """The same bytes. A ReplyError where they can be of no script."""
     if b'\0' in script:
         raise ReplyError('this is no script: it has bytes that no script has')
-    asked = script.rstrip(b'\n') + b'\nfeatures\ncells\ndirty\n'
-    return asked, subprocess.run(program + ['replay'], input=asked, stdout=subprocess.PIPE).stdout
+    return script
 
 
-def ending_after(asked: bytes, replies: bytes) -> Ending:
+def asked_of(script: str) -> Iterator[bytes]:
+    """What is asked: the lines of a script, and behind them the three listings."""
+    last = b'\n'
+    with open(script, 'rb') as lines:
+        for line in lines:
+            yield (last := line)
+    yield from [b'\n'] * (not last.endswith(b'\n')) + [b'features\n', b'cells\n', b'dirty\n']
+
+
+def feed(script: str, pipe: BinaryIO) -> None:
+    """Hands all that is asked to the program. It may end before; then its replies say so."""
+    with contextlib.suppress(BrokenPipeError), pipe:
+        pipe.writelines(asked_of(script))
+
+
+@contextlib.contextmanager
+def replies_to(program: list[str], script: str) -> Iterator[BinaryIO]:
+    """The replies to a script and behind its lines the three listings, as they come. A ReplyError where it is no script."""
+    with open(script, 'rb') as pieces:
+        for piece in iter(lambda: pieces.read(1 << 20), b''):
+            checked(piece)
+    with subprocess.Popen(program + ['replay'], stdin=subprocess.PIPE, stdout=subprocess.PIPE) as process:
+        feeder = threading.Thread(target=feed, args=(script, process.stdin), daemon=True)
+        feeder.start()
+        try:
+            yield process.stdout
+        finally:
+            process.stdout.close()
+            process.wait()
+            feeder.join()
+
+
+def ending_after(script: str, replies: BinaryIO) -> Ending:
     """What stands at the end. A ReplyError where no line could be done, or where there is none: a drawing of nothing would look as if all
     were well."""
     ending, last = Ending(), 0
-    for answer in answers_of(io.BytesIO(asked), io.BytesIO(replies)):
+    for answer in answers_of(asked_of(script), replies):
         ending.take(answer)
         last += bool(answer.reply)
     if last == LISTED:
@@ -104,23 +146,35 @@ def ending_after(asked: bytes, replies: bytes) -> Ending:
     return ending
 
 
-def scene_of(program: list[str], script: bytes, names: Names = NO_NAMES) -> Scene:
+def drained(lines: list[str]) -> Iterator[str]:
+    """Lines in their order, each of which is given up when it has been taken."""
+    lines.reverse()
+    while lines:
+        yield lines.pop()
+
+
+def scene_of(program: list[str], script: str, names: Names = NO_NAMES) -> Scene:
     """What the script leaves behind."""
-    ending = ending_after(*replies_to(program, script))
-    features = [drawn_of(line) for line in ending.listings['features'].lines]
-    errors = [Marked(error, cover_of_error(error)) for error in each_error(ending.listings['cells'].lines)]
+    with replies_to(program, script) as replies:
+        ending = ending_after(script, replies)
+    features = list(map(drawn_of, drained(ending.listings['features'].lines)))
+    errors = [Marked(error, *cover_and_stops(error)) for error in each_error(drained(ending.listings['cells'].lines))]
     dirt = [tuple(map(int, line.split()[1:])) for line in ending.listings['dirty'].lines]
     return Scene(features, errors, dirt, ending, names)
 
 
-def box_of(scene: Scene) -> Frame:
-    """The least rectangle that holds the features and the errors, and the dirt that does not reach the border of the grid."""
-    frames = [feature.frame for feature in scene.features] + [marked.error.frame for marked in scene.errors]
-    frames += [frame for frame in scene.dirt if max(map(abs, frame)) < REACH]
-    if not frames:
-        return -REACH, -REACH, REACH, REACH
+def around(frames: list[Frame]) -> Frame:
+    """The least rectangle that holds these, of which there is one at least."""
     x0, y0, x1, y1 = zip(*frames)
     return min(x0), min(y0), max(x1), max(y1)
+
+
+def box_of(scene: Scene, of_features: Optional[list[Frame]] = None) -> Frame:
+    """The least rectangle that holds the features and the errors, and the dirt that does not reach the border of the grid. The frames of the
+    features may be known already, or one round them."""
+    frames = [feature.frame for feature in scene.features] if of_features is None else list(of_features)
+    frames += [marked.error.frame for marked in scene.errors] + [frame for frame in scene.dirt if max(map(abs, frame)) < REACH]
+    return around(frames) if frames else (-REACH, -REACH, REACH, REACH)
 
 
 def meet(a: Frame, b: Frame) -> bool:

@@ -14,6 +14,7 @@ import psycopg2
 
 from beside import SETUP, Case, Client, until
 from postgres import Server, has_extension
+from working import PROGRAM
 
 
 # How often the service or topo is killed under load.
@@ -349,6 +350,29 @@ class Failures(Case):
         self.server.start()
         service.said('judged after')
         self.user = self.client()
+        self.assertEqual(self.pairs(), [(3, 4)])
+
+    def test_a_database_that_says_no(self):
+        """Without a right no service begins; if one loses a right, it tries again until it has it."""
+        self.user.rows('drop role if exists clerk; create role clerk login')
+        self.addCleanup(self.server.sql, 'drop role if exists clerk', 'postgres')
+        self.addCleanup(self.user.rows, 'drop owned by clerk cascade')
+        dsn = self.server.dsn(self.name, 'clerk')
+        done = self.tool('setup', dsn, *SETUP)
+        self.assertEqual((done.returncode, self.user.one("select to_regnamespace('topo')::text")), (2, None))
+        self.assertIn('permission denied for', done.stderr)
+        self.user.rows('grant create on database %s to clerk; alter table parcels owner to clerk; alter table wells owner to clerk' % self.name)
+        self.assertEqual(self.tool('setup', dsn, *SETUP).returncode, 0)
+        self.user.rows('revoke select on parcels from clerk')
+        done = self.tool('run', dsn, '--program', PROGRAM[0])
+        self.assertEqual((done.returncode, done.stderr), (2, 'topo-postgis: permission denied for table parcels\n'))
+        self.user.rows('grant select on parcels to clerk')
+        service = self.start(dsn)
+        self.user.rows('revoke delete on topo.change from clerk')
+        self.move(self.user, 3, 0.5)
+        service.said('permission denied for table change; it begins anew in 1 s')
+        self.user.rows('grant delete on topo.change to clerk')
+        service.said('judged after')
         self.assertEqual(self.pairs(), [(3, 4)])
 
     def test_a_restored_copy(self):

@@ -221,14 +221,19 @@ def beside_tables(window: Window, picture: str) -> None:
         server.close()
 
 
+def connect(window: Window, server, name: str, user: str) -> None:
+    """Makes a connection that QGIS knows, and presses Connect."""
+    for key, value in (('host', server.folder), ('port', '5432'), ('database', 'gis'), ('username', user), ('saveUsername', 'true')):
+        QgsSettings().setValue('PostgreSQL/connections/%s/%s' % (name, key), value)
+    window.dock.choice.insertItem(0, name)
+    window.dock.choice.setCurrentIndex(0)
+    window.press('Connect')
+
+
 def in_tables(window: Window, server, client, service, picture: str) -> None:
     dock = window.dock
     uri = "dbname='gis' host=%s user='postgres' sslmode=disable" % server.folder
-    for name, value in (('host', server.folder), ('port', '5432'), ('database', 'gis'), ('username', 'postgres'), ('saveUsername', 'true')):
-        QgsSettings().setValue('PostgreSQL/connections/registry/' + name, value)
-    dock.choice.insertItem(0, 'registry')
-    dock.choice.setCurrentIndex(0)
-    window.press('Connect')
+    connect(window, server, 'registry', 'postgres')
     assert dock.source, dock.state.text()
     parcels = background(uri + ' key=\'id\' srid=25832 type=Polygon table="public"."parcels" (geom)', 'parcels', 'postgres')
     window.show_layers(parcels)
@@ -255,6 +260,8 @@ def in_tables(window: Window, server, client, service, picture: str) -> None:
     window.canvas.setExtent(QgsRectangle(5e5, 57e5, 5e5 + 1, 57e5 + 1))
     window.click_row('Errors', 0)
     assert zoomed(window, 0)
+    says_no(window, client, server)
+    waits(window, client)
     broken(window, service, server)
 
 
@@ -300,6 +307,33 @@ def pictured(window: Window, parcels: QgsVectorLayer, picture: str) -> None:
     assert share_of(window.canvas, '#c8102e') > 0.001, 'no red'
     assert share_of(window.canvas, '#a87900') > 0.001, 'no dirt'
     assert window.face.window.grab().save(picture)
+
+
+def says_no(window: Window, client, server) -> None:
+    """What the database refuses stands in the line below the buttons, and nothing is marked."""
+    dock, registry = window.dock, window.dock.source
+    client.rows('create role guest login')
+    connect(window, server, 'guest', 'guest')
+    assert dock.source is registry and 'permission denied for schema topo' in dock.state.text(), dock.state.text()
+    client.rows('grant usage on schema topo to guest; grant select on all tables in schema topo to guest')
+    window.press('Connect')
+    assert dock.source is not registry, dock.state.text()
+    window.click_row('Errors', 0)
+    window.press('Error again')
+    assert 'permission denied for' in dock.state.text(), dock.state.text()
+    dock.choice.setCurrentText('registry')
+    window.press('Connect')
+    assert dock.state.text().startswith('2 errors, 0 exceptions'), dock.state.text()
+
+
+def waits(window: Window, client) -> None:
+    """A column that the service follows gets another name: the dock says what it waits for, and what was shown stays."""
+    shown = window.texts('Errors')
+    client.rows('alter table parcels rename geom to shape')
+    until(lambda: 'it waits: class parcels: parcels has no column geom any more' in window.dock.state.text(), 'what the service waits for')
+    assert window.texts('Errors') == shown
+    client.rows('alter table parcels rename shape to geom')
+    until(lambda: 'it waits' not in window.dock.state.text(), 'a service that goes on')
 
 
 def broken(window: Window, service, server) -> None:

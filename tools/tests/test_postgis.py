@@ -12,6 +12,7 @@ from lib.postgis.judge import Edit, Judge, Rule
 from lib.postgis.units import number_of, Units
 from lib.rules import KINDS_OF
 from lib.scripts import LeftOut
+from postgres import has_extension
 from working import PROGRAM
 
 HERE = os.path.dirname(os.path.abspath(__file__))
@@ -25,6 +26,13 @@ def missing() -> str:
         return PYTHON
     asked = 'import sys; sys.path.insert(0, %r); import postgres; print(", ".join(postgres.missing()))' % HERE
     return subprocess.run([PYTHON, '-c', asked], capture_output=True, text=True).stdout.strip()
+
+
+def missing_parts() -> list[tuple[str, str]]:
+    """The parts that are skipped here, and what is missing for them."""
+    if missing():
+        return [('test_postgis', missing())]
+    return [] if has_extension('plpython3u') else [('the refusal of commits in test_postgis', 'plpython3u (package postgresql-plpython3-15)')]
 
 
 class Beside(unittest.TestCase):

@@ -1,5 +1,6 @@
-"""The plugin for QGIS, tried in a window without a screen by the system's Python; and by qgis_process, as QGIS finds it."""
+"""The plugin for QGIS: in a window without a screen by the system's Python, by qgis_process, and in the whole QGIS on a screen of Xvfb."""
 import os
+import shutil
 import subprocess
 
 from test_postgis import PYTHON, missing as missing_of_postgis
@@ -17,6 +18,19 @@ def missing() -> str:
     return missing_of_postgis()
 
 
+def missing_of_desktop() -> str:
+    """What the whole QGIS needs beside that."""
+    found = [name for name in ('xvfb-run', 'xauth') if not shutil.which(name, path='/usr/bin')]
+    return missing() or ('%s (packages xvfb and xauth)' % ' and '.join(found) if found else '')
+
+
+def missing_parts() -> list[tuple[str, str]]:
+    """The parts that are skipped here, and what is missing for them."""
+    if missing():
+        return [('test_qgis', missing())]
+    return [('the whole desktop of test_qgis', missing_of_desktop())] if missing_of_desktop() else []
+
+
 class Plugin(Case):
     def setUp(self) -> None:
         super().setUp()
@@ -24,7 +38,16 @@ class Plugin(Case):
             self.skipTest('without %s' % missing())
 
     def test_dock_and_algorithms(self):
-        done = subprocess.run([PYTHON, os.path.join(HERE, 'qgis_cases.py'), self.folder, *os.environ.get('PICTURE', '').split()], stdout=subprocess.PIPE,
+        self.by_python('qgis_cases.py', 'PICTURE')
+
+    def test_the_whole_desktop(self):
+        if missing_of_desktop():
+            self.skipTest('without %s' % missing_of_desktop())
+        self.by_python('qgis_desktop.py', 'PICTURE_OF_DESKTOP')
+
+    def by_python(self, cases: str, picture: str) -> None:
+        """Runs cases by the system's Python; their picture goes where a variable says."""
+        done = subprocess.run([PYTHON, os.path.join(HERE, cases), self.folder, *os.environ.get(picture, '').split()], stdout=subprocess.PIPE,
                               stderr=subprocess.STDOUT, text=True, timeout=LONG, env=dict(os.environ, TOPO='\n'.join(PROGRAM)))
         self.assertEqual(done.returncode, 0, done.stdout)
 

@@ -20,10 +20,13 @@ import time
 import types
 import unittest
 
+from lib.serve.journal import Journal
 from lib.serve.records import NO_SEAL, Block, Damaged, GroupReader, Kept, Torn, group_text, head_text
 from lib.serve.replay import MOST
 from lib.serve.rights import Rights, Verdict, WrongRights, fields
-from lib.serve.service import RESERVE, Item, Service
+from lib.serve.service import RESERVE, Item, Service, Settings
+from lib.serve.snapshots import Snapshots
+from lib.serve.store import Store
 from serving import Desk, Office, SecureDesk, Serving, free_port, own_user, rights_text
 from working import PROGRAM, TOOLS, Case
 
@@ -254,6 +257,23 @@ class LongRuns(unittest.TestCase):
                      Item(None, '-', b'end ann', Verdict.KEPT)]
             Service.check_room(types.SimpleNamespace(live=types.SimpleNamespace(sent=sent)), group)
             self.assertEqual([item.answer and item.answer() for item in group], want)
+
+    def test_sessions_are_ended_only_if_one_was_open_all_the_time(self):
+        """A run that grew while a project was saved is no reason to end anybody's session."""
+        settings = Settings(run_bytes=1000)
+        for sent, open_bytes, saving, want in ((2000, 1000, None, True), (9000, 999, None, False), (1999, 1500, None, False), (2000, 1000, 'a task', False)):
+            run = types.SimpleNamespace(live=types.SimpleNamespace(sent=sent), open_bytes=open_bytes, saving=saving, settings=settings, retry_at=0.0)
+            self.assertIs(Service.is_too_long(run), want)
+
+    def test_saving_leaves_what_the_journal_makes_meanwhile(self):
+        with tempfile.TemporaryDirectory() as folder:
+            store = Store(folder)
+            store.take()
+            self.addCleanup(store.release)
+            for name in 'journal', '1-1.project':
+                store.write(name, b'half')
+            Snapshots(store, Journal(store), []).clear()
+            self.assertEqual(os.listdir(store.work), ['journal'])
 
 
 class Records(unittest.TestCase):

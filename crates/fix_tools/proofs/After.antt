@@ -5,9 +5,9 @@ use Rattle.topology_terms.specs.Feature.{Feature, feature_of}
 use Rattle.topology_terms.specs.Changes.{reshaped}
 use Rattle.session_terms.specs.Kept.{set_at}
 use Rattle.sound_laws.proofs.FeatureLists.{same_handle, own_handle}
-use Rattle.fix_tools.specs.declared.plan.Edit.{Edit}
-use Rattle.fix_tools.specs.declared.plan.Edit.TheVariants.{Put, Add}
-use Rattle.fix_tools.specs.Plans.{after_plan, handles_of}
+use Rattle.fix_terms.specs.Plans.{Edit}
+use Rattle.fix_terms.specs.declared.edit.Edit.TheVariants.{Put, Add}
+use Rattle.fix_terms.specs.Plans.{after_plan, handles_of}
 
 pub off : (k h : ℕ) → k ≢ h → (k == h) ≡ false
 off k h n = by (k == h) refl

@@ -5,9 +5,9 @@ use Rattle.topology_terms.specs.Project.{Project, IsOrdered}
 use Rattle.topology_terms.specs.Changes.{reshaped}
 use Rattle.session_terms.specs.Kept.{set_at}
 use Rattle.sound_laws.proofs.FeatureLists.{same_handle, own_handle}
-use Rattle.fix_tools.specs.declared.plan.Edit.{Edit}
-use Rattle.fix_tools.specs.declared.plan.Edit.TheVariants.{Put, Add}
-use Rattle.fix_tools.specs.Plans.{after_plan, AreDone, IsAfter}
+use Rattle.fix_terms.specs.Plans.{Edit}
+use Rattle.fix_terms.specs.declared.edit.Edit.TheVariants.{Put, Add}
+use Rattle.fix_terms.specs.Plans.{after_plan, AreDone, IsAfter}
 use Rattle.fix_tools.proofs.After.{set_off, set_here}
 
 -- the same look-up at each handle

@@ -13,10 +13,10 @@ use Rattle.topology_terms.specs.Feature.{Feature, feature_of, feature_at, sides}
 use Rattle.topology_terms.specs.Changes.{reshaped}
 use Rattle.topology_terms.specs.Broken.{Row, BrokenWhole, broken_whole}
 use Rattle.session_terms.specs.Kept.{set_at}
-use Rattle.fix_tools.specs.declared.plan.Edit.{Edit}
-use Rattle.fix_tools.specs.declared.plan.Edit.TheVariants.{Add}
-use Rattle.fix_tools.specs.Plans.{after_plan, handles_of, shapes_of, IsAfter}
-use Rattle.fix_tools.specs.Explode.{line_of, exploded_by, exploded, HasExploded}
+use Rattle.fix_terms.specs.Plans.{Edit}
+use Rattle.fix_terms.specs.declared.edit.Edit.TheVariants.{Add}
+use Rattle.fix_terms.specs.Plans.{after_plan, handles_of, shapes_of, IsAfter}
+use Rattle.fix_terms.specs.Explode.{line_of, exploded_by, exploded, HasExploded}
 use Rattle.fix_tools.proofs.After.{set_off, set_here, others_after}
 
 abbrev Part : Type 0

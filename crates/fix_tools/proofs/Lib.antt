@@ -13,5 +13,6 @@ pub mod MovePlans
 pub mod Moving
 pub mod LineEnds
 pub mod Snapped
+pub mod Possible
 pub mod Snapping
 pub mod Creating

@@ -15,7 +15,7 @@ use Rattle.cell_laws.proofs.OnLine.{on_lo, on_hi}
 use Rattle.cell_laws.proofs.AtPlaces.{turn_on, same_is, is_same}
 use Rattle.column_laws.proofs.Parity.{in_order, out_of_order}
 use Rattle.rule_laws.proofs.Tests.{holds_by, at_test, place_from}
-use Rattle.fix_tools.specs.Snap.{with_last, with_end, snapped_shape}
+use Rattle.fix_terms.specs.Snap.{with_last, with_end, snapped_shape}
 
 -- ---- equal neighbours that go leave the ends
 record Starts (p : Place) (ps : List Place) : Type 0 where

@@ -10,8 +10,8 @@ use Rattle.topology_terms.specs.Feature.{Feature, feature_at}
 use Rattle.topology_terms.specs.Causes.{same_kind}
 use Rattle.std.specs.Prelude.{true, false, nat_lt, ◌&&◌}
 use Rattle.std.proofs.lemmas.Bool.Decides.{nat_tests}
-use Rattle.fix_tools.specs.declared.plan.Edit.{Edit}
-use Rattle.fix_tools.specs.declared.plan.Edit.TheVariants.{Put, Add}
+use Rattle.fix_terms.specs.Plans.{Edit}
+use Rattle.fix_terms.specs.declared.edit.Edit.TheVariants.{Put, Add}
 use Rattle.std.specs.List.{flat_map}
 use Rattle.plane_terms.specs.Lists.{Every}
 use Rattle.plane_terms.specs.Point.{Place}
@@ -20,7 +20,8 @@ use Rattle.plane_terms.specs.ShapeFaults.{IsFault, IsFew, LacksRings, IsFirstOf,
 use Rattle.plane_terms.specs.declared.shape_fault.ShapeFault.{ShapeFault}
 use Rattle.plane_terms.specs.declared.shape_fault.ShapeFault.TheVariants.{TooFew, TooMany, Cross, Along, NoMemory}
 use Rattle.plane_terms.specs.declared.kind.Kind.TheVariants as kind
-use Rattle.fix_tools.specs.Explode.{line_of, exploded_by, exploded, may_explode, added_parts, IsLinePart}
+use Rattle.fix_terms.specs.Explode.{line_of, exploded_by, exploded, may_explode}
+use Rattle.fix_tools.specs.Explode.{added_parts, IsLinePart}
 
 -- vertices that differ are kept
 pub kept : (ring : List Place) → NextDiffer ring → without_repeats ring ≡ ring

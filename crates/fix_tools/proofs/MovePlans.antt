@@ -12,12 +12,13 @@ use Rattle.topology_terms.specs.Feature.{Feature}
 use Rattle.cell_laws.proofs.Lists.{all_append}
 use Rattle.feature_store.specs.declared.slot.Slot.{Slot}
 use Rattle.feature_store.specs.Slots.{feature_in, filled}
-use Rattle.fix_tools.specs.declared.plan.Edit.{Edit}
-use Rattle.fix_tools.specs.declared.plan.Edit.TheVariants.{Put, Add}
+use Rattle.fix_terms.specs.Plans.{Edit}
+use Rattle.fix_terms.specs.declared.edit.Edit.TheVariants.{Put, Add}
 use Rattle.fix_tools.specs.declared.fault.FixFault.{FixFault}
 use Rattle.fix_tools.specs.declared.fault.FixFault.TheVariants.{NoRule, NoFeature, Nothing, Bad, Spent, NoMemory}
-use Rattle.fix_tools.specs.Plans.{handles_of, shapes_of, IsFirstFault, IsBadPlan}
-use Rattle.fix_tools.specs.Move.{moves, moved_shape, has_vertex, touching, may_move, IsMoveStop, IsMoveFault}
+use Rattle.fix_terms.specs.Plans.{handles_of, shapes_of, IsFirstFault, IsBadPlan}
+use Rattle.fix_terms.specs.Move.{moves, moved_shape, has_vertex, touching, may_move}
+use Rattle.fix_tools.specs.Move.{IsMoveStop, IsMoveFault}
 use Rattle.fix_tools.proofs.Slots.{joined, filled_more, filled_split}
 
 moves_append : (from to : Place) (fs gs : List Feature) → moves from to (fs ++ gs) ≡ moves from to fs ++ moves from to gs

@@ -9,7 +9,7 @@ use Rattle.plane_terms.specs.declared.kind.Kind.{Kind}
 use Rattle.plane_terms.specs.declared.kind.Kind.TheVariants as kind
 use Rattle.shape.specs.Given.{Ring, rings_in, lines_in, polygons_in, all_rings, all_vertices, IsCountable}
 use Rattle.shape.proofs.Made.{line_parts as made_parts}
-use Rattle.fix_tools.specs.Move.{moved_place, moved_rings, moved_parts, moved_shape}
+use Rattle.fix_terms.specs.Move.{moved_place, moved_rings, moved_parts, moved_shape}
 use Rattle.fix_tools.proofs.LineParts.{map_more}
 
 pub map_map : {A B C : Type 0} (f : B → C) (g : A → B) (xs : List A) → map f (map g xs) ≡ map (λ x. f (g x)) xs

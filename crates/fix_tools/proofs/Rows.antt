@@ -13,12 +13,12 @@ use Rattle.topology_terms.specs.Feature.{Feature, feature_of}
 use Rattle.topology_terms.specs.Together.{of_side}
 use Rattle.topology_terms.specs.Plans.{is_dangle, own_ends}
 use Rattle.topology_terms.specs.Broken.{Row}
-use Rattle.fix_tools.specs.declared.plan.Edit.TheVariants.{Put, Add}
-use Rattle.fix_tools.specs.Plans.{handles_of}
-use Rattle.fix_tools.specs.Explode.{exploded, may_explode}
-use Rattle.fix_tools.specs.Move.{moves, may_move, moved_shape}
-use Rattle.fix_tools.specs.Snap.{snapped, may_snap}
-use Rattle.fix_tools.specs.Create.{created, may_create}
+use Rattle.fix_terms.specs.declared.edit.Edit.TheVariants.{Put, Add}
+use Rattle.fix_terms.specs.Plans.{handles_of}
+use Rattle.fix_terms.specs.Explode.{exploded, may_explode}
+use Rattle.fix_terms.specs.Move.{moves, may_move, moved_shape}
+use Rattle.fix_terms.specs.Snap.{snapped, may_snap}
+use Rattle.fix_terms.specs.Create.{created, may_create}
 
 abbrev at : ℕ → ℕ → Place
 at x y = record { x = pos x; y = pos y }

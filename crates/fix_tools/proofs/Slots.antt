@@ -10,7 +10,7 @@ use Rattle.topology_terms.specs.Feature.{Feature, IsAscending}
 use Rattle.cell_laws.proofs.Lists.{all_append}
 use Rattle.feature_store.specs.declared.slot.Slot.{Slot}
 use Rattle.feature_store.specs.Slots.{feature_in, filled}
-use Rattle.fix_tools.specs.Move.{touching, has_vertex}
+use Rattle.fix_terms.specs.Move.{touching, has_vertex}
 
 pub joined : {A : Type 0} (us vs ws : List A) → (us ++ vs) ++ ws ≡ us ++ (vs ++ ws)
 joined us vs ws = simp append_assoc

@@ -10,7 +10,7 @@ use Rattle.shape.proofs.Filled.{line_rings}
 use Rattle.shape.proofs.Made.{line_parts as made_parts}
 use Rattle.shape.proofs.Ends.{ends_counted}
 use Rattle.fix_tools.specs.Explode.{IsLinePart}
-use Rattle.fix_tools.specs.Snap.{with_first, with_last, with_end, snapped_shape}
+use Rattle.fix_terms.specs.Snap.{with_first, with_last, with_end, snapped_shape}
 use Rattle.fix_tools.proofs.LineParts.{map_more, parts_are}
 use Rattle.fix_tools.proofs.LineEnds.{ends_are}
 use Rattle.fix_tools.proofs.MovedParts.{rings_few}

@@ -27,9 +27,9 @@ use Rattle.rule_laws.proofs.Nears.{side_test, side_from}
 use Rattle.rule_laws.proofs.Tests.{place_from, place_test}
 use Rattle.rule_laws.proofs.Counted.{count_test}
 use Rattle.rule_laws.proofs.Uncovered.{every_flat}
-use Rattle.fix_tools.specs.Plans.{IsAfter}
-use Rattle.fix_tools.specs.Snap.{snapped, snapped_shape, is_for_dangles, dangles_at, holds_other, may_snap, HasSnapped}
-use Rattle.fix_tools.specs.declared.plan.Edit.{Edit}
+use Rattle.fix_terms.specs.Plans.{IsAfter}
+use Rattle.fix_terms.specs.Snap.{snapped, snapped_shape, is_for_dangles, dangles_at, holds_other, may_snap, HasSnapped}
+use Rattle.fix_terms.specs.Plans.{Edit}
 use Rattle.fix_tools.proofs.After.{set_off, set_here}
 use Rattle.fix_tools.proofs.LineEnds.{replaced, snapped_ends, kind_of_ends, count_replaced, replaced_there, end_there, counted_at, held_counted, ends_held}
 
@@ -212,7 +212,7 @@ every_some : (P : Feature → Type 0) (gs : List Feature) (g : Feature) → Ever
 every_some P [] g u s = absurd s
 every_some P (x ∷ xs) g u s = elim s [ inl e ↦ subst P e u.0 | inr q ↦ every_some P xs g u.1 q ]
 
-found_at : (F : List Feature) → IsAscending F → Every (λ (g : Feature). feature_at F g.handle ≡ Some g) F
+pub found_at : (F : List Feature) → IsAscending F → Every (λ (g : Feature). feature_at F g.handle ≡ Some g) F
 found_at F a =
     each_live (λ (g : Feature). feature_at F g.handle ≡ Some g) F a
     (λ h g l. subst (λ (k : ℕ). feature_at F k ≡ Some g) (sym (handle_of F h g l)) l)
@@ -412,3 +412,6 @@ snap_holds row found F V f subject h i to n es G r l live v may made valid a u a
   where
     some_row : Some found ≡ Some row → found ≡ row
     some_row e = cc
+
+pub snapped_line : (row : Row) (F : List Feature) (f : Feature) (i : ℕ) (to : Place) → may_snap row F f i to ≡ true → f.shape.kind ≡ kind.Line
+snapped_line row F f i to t = let p = parts_of row F f i to t in kind_of_ends f.shape i p.end.e p.end.end

@@ -1,40 +1,20 @@
--- Each part of a line as a feature of its own.
+-- What the call answers that takes a line apart.
 --
--- line_of part         the line of this one part
--- exploded_by f parts  the plan for these parts: the first in place of the feature, and a feature of its class and subtype for each other
--- exploded f           that of its own parts
--- may_explode f        it is a line of two or more parts
+-- IsLinePart vs        what each part of a line is
+-- added_parts f rings  an addition of each of these parts, of the feature's class and subtype
 -- IsExploded p h       the plan is that of the live feature h, and there are handles for it
 -- IsExplodeFault p h   why there is no such plan
--- HasExploded          what holds of the features after the plan
-use Rattle.std.specs.Prelude.{◌≡◌, ◌≢◌, ℕ, nat_lt, ◌+◌, ◌≤◌, Bool, true, false, ◌&&◌, List, [], ◌∷◌, length, map, flat_map, Some, None}
-use Rattle.plane_terms.specs.Lists.{Every}
+use Rattle.std.specs.Prelude.{◌≡◌, ℕ, ◌≤◌, true, false, List, [], ◌∷◌, length, map, Some, None}
 use Rattle.plane_terms.specs.Point.{Place}
-use Rattle.plane_terms.specs.Shape.{Shape, IsRing, segments_of}
+use Rattle.plane_terms.specs.Shape.{IsRing}
 use Rattle.plane_terms.specs.declared.kind.Kind.TheVariants as kind
-use Rattle.rule_words.specs.declared.rule_kind.RuleKind.TheVariants as rule
-use Rattle.topology_terms.specs.Feature.{Feature, feature_at, sides}
-use Rattle.topology_terms.specs.Broken.{Row, BrokenWhole}
-use Rattle.topology_terms.specs.Causes.{same_kind}
+use Rattle.topology_terms.specs.Feature.{Feature, feature_at}
 use Rattle.topology_terms.specs.Project.{Project}
-use Rattle.fix_tools.specs.Plans.{handles_of, shapes_of}
+use Rattle.fix_terms.specs.Explode.{line_of, exploded, may_explode, HasHandles}
 use Rattle.fix_tools.specs.declared.fault.FixFault.{FixFault}
 use Rattle.fix_tools.specs.declared.fault.FixFault.TheVariants.{NoRule, NoFeature, Nothing, Bad, Spent, NoMemory}
-use Rattle.fix_tools.specs.declared.plan.Edit.{Edit}
-use Rattle.fix_tools.specs.declared.plan.Edit.TheVariants.{Put, Add}
-
-abbrev pub line_of : List (List Place) → Shape
-line_of part = record { kind = kind.Line; parts = part ∷ [] }
-
-abbrev pub exploded_by : Feature → List (List (List Place)) → List Edit
-exploded_by f [] = []
-exploded_by f (part ∷ parts) = Put f.handle (line_of part) ∷ map {A = List (List Place)} (λ part. Add f.class f.subtype (line_of part)) parts
-
-abbrev pub exploded : Feature → List Edit
-exploded f = exploded_by f f.shape.parts
-
-abbrev pub may_explode : Feature → Bool
-may_explode f = same_kind f.shape.kind kind.Line && nat_lt 1 (length f.shape.parts)
+use Rattle.fix_terms.specs.Plans.{Edit}
+use Rattle.fix_terms.specs.declared.edit.Edit.TheVariants.{Add}
 
 -- what each part of a line is
 pub record IsLinePart (vertices : List Place) : Type 0 where
@@ -43,10 +23,6 @@ pub record IsLinePart (vertices : List Place) : Type 0 where
 
 abbrev pub added_parts : Feature → List (List Place) → List Edit
 added_parts f rings = map {A = List Place} (λ ring. Add f.class f.subtype (line_of (ring ∷ []))) rings
-
--- the next handle and the further parts are not too many
-abbrev pub HasHandles : ℕ → Feature → Type 0
-HasHandles n f = n + length f.shape.parts ≤ 4294967296
 
 pub record IsExploded (p : Project) (h : ℕ) (es : List Edit) : Type 0 where
   pub f : Feature
@@ -62,9 +38,3 @@ IsExplodeFault p h Nothing = (f : Feature) × (feature_at p.features h ≡ Some 
 IsExplodeFault p h (Bad fault) = ⊥
 IsExplodeFault p h Spent = (f : Feature) × (feature_at p.features h ≡ Some f) × (may_explode f ≡ true) × ¬ (HasHandles p.next f)
 IsExplodeFault p h NoMemory = Unit {0}
-
--- no feature of the plan has several parts, their segments in order are the old ones, and no other feature changes
-pub record HasExploded (F : List Feature) (n h : ℕ) (plan : List Edit) (G : List Feature) : Type 0 where
-  pub single : (row : Row) → row.kind ≡ rule.LineMustBeSinglePart → Every (λ k. ¬ (BrokenWhole row G k)) (handles_of plan n)
-  pub segments : (f : Feature) → feature_at F h ≡ Some f → flat_map segments_of (shapes_of plan) ≡ sides f
-  pub others : (k : ℕ) → Every (λ j. k ≢ j) (handles_of plan n) → feature_at G k ≡ feature_at F k

@@ -1,4 +1,3 @@
-pub mod Plans
 pub mod Explode
 pub mod Move
 pub mod Snap

@@ -2,15 +2,17 @@ ghost use Rattle.std.specs.Prelude.{◌≡◌, ◌≤◌, ◌<◌, ◌+◌, ◌+
 ghost use Rattle.plane_terms.specs.Lists.{Every};
 ghost use Rattle.topology_terms.specs.Feature as terms;
 ghost use Rattle.shape.specs.Given.{rings_in};
-ghost use Rattle.fix_tools.specs.Plans.{IsAfter};
-ghost use Rattle.fix_tools.specs.declared.plan.Edit.TheVariants.{Add};
-ghost use Rattle.fix_tools.specs.Explode.{line_of, exploded_by, IsLinePart, added_parts, IsExploded, IsExplodeFault, HasExploded};
+ghost use Rattle.fix_terms.specs.Plans.{IsAfter, IsPossible};
+ghost use Rattle.fix_terms.specs.declared.edit.Edit.TheVariants.{Add};
+ghost use Rattle.fix_terms.specs.Explode.{line_of, exploded_by, HasExploded};
+ghost use Rattle.fix_tools.specs.Explode.{IsLinePart, added_parts, IsExploded, IsExplodeFault};
 
 use crate::fault::FixFault;
 use crate::parts::line_of_part;
-use crate::plan::{Edit, Plan};
+use crate::plan::Plan;
+use fix_terms::Edit;
 use grid_plane::{GridPoint, NoMemory};
-use shape::Feature;
+use shape::{Feature, Shape};
 use std::alloc::Global;
 use std::collections::VecDeque;
 use topo_core::{KindRules, Topology};
@@ -19,7 +21,7 @@ use topo_core::{KindRules, Topology};
 const FEWEST: usize = 2;
 
 // An addition of this part of the feature, of its class and subtype.
-fn part_added(alloc: Global, feature: &Feature, part: &[GridPoint]) -> Result<Edit, NoMemory>
+fn part_added(alloc: Global, feature: &Feature, part: &[GridPoint]) -> Result<Edit<Shape>, NoMemory>
     requires { IsLinePart part.now }
     ensures { IfOk result (λ edit. edit ≡ Add feature.now.class feature.now.subtype (line_of (part.now ∷ []))) }
 {
@@ -32,7 +34,7 @@ fn part_added(alloc: Global, feature: &Feature, part: &[GridPoint]) -> Result<Ed
 
 // Puts an addition of each of these parts of the feature last.
 fn push_parts(
-    edits: &mut VecDeque<Edit>,
+    edits: &mut VecDeque<Edit<Shape>>,
     alloc: Global,
     feature: &Feature,
     parts: &[Vec<GridPoint>],
@@ -70,6 +72,7 @@ pub fn explode<R: KindRules>(
 ) -> Result<Plan, FixFault>
     ensures plan { IfOk result (IsExploded topology.now handle) }
     ensures refused { IfErr result (IsExplodeFault topology.now handle) }
+    ensures possible { IfOk result (λ plan. IsPossible plan topology.now) }
     ensures fixed { IfOk result (λ plan. (G : List terms.Feature) → IsAfter plan topology.now.features topology.now.next G → HasExploded topology.now.features topology.now.next handle plan G) }
 {
     topology.topology_law();

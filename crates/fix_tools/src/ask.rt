@@ -7,7 +7,7 @@ ghost use Rattle.topology_terms.specs.Feature as terms;
 ghost use Rattle.topology_terms.specs.Project.{AreAscending, rule_at};
 ghost use Rattle.topology_terms.specs.Together.{of_side};
 ghost use Rattle.topology_terms.specs.Plans.{none_inside, is_round, has_side_at};
-ghost use Rattle.fix_tools.specs.Snap.{holds_other};
+ghost use Rattle.fix_terms.specs.Snap.{holds_other};
 
 use feature_store::Slot;
 use grid_plane::{GridPoint, NoMemory};

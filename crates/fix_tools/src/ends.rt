@@ -4,7 +4,7 @@ ghost use Rattle.plane_terms.specs.Shape.{ends_of, IsShape};
 ghost use Rattle.plane_terms.specs.ShapeFaults.{IsFault, IsFlawless};
 ghost use Rattle.plane_terms.specs.declared.kind.Kind.TheVariants as kind;
 ghost use Rattle.shape.specs.Given.{rings_in};
-ghost use Rattle.fix_tools.specs.Snap.{with_first, with_last, with_end, snapped_shape};
+ghost use Rattle.fix_terms.specs.Snap.{with_first, with_last, with_end, snapped_shape};
 
 use grid_plane::{GridPoint, NoMemory};
 use plane_terms::ShapeFault;

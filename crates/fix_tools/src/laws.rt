@@ -4,8 +4,8 @@ ghost use Rattle.topology_terms.specs.Project.{Project, IsOrdered};
 ghost use Rattle.topology_terms.specs.Feature as terms;
 ghost use Rattle.topology_terms.specs.Feature.{feature_at};
 ghost use Rattle.topology_terms.specs.Broken.{Row, BrokenAt, BrokenWhole};
-ghost use Rattle.fix_tools.specs.Plans.{IsAfter, AreDone};
-ghost use Rattle.fix_tools.specs.declared.plan.Edit.{Edit};
+ghost use Rattle.fix_terms.specs.Plans.{IsAfter, AreDone};
+ghost use Rattle.fix_terms.specs.Plans.{Edit};
 
 /// The law of plans: edits that are done one after another, as changes of a topology, leave the features that the plan says.
 pub fn done_law()

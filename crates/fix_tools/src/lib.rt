@@ -16,9 +16,10 @@ mod touch;
 
 pub use apart::explode;
 pub use fault::FixFault;
+pub use fix_terms::Edit;
 pub use laws::{deletion_law, done_law};
 pub use moves::{move_all, touched};
-pub use plan::{Edit, Plan};
+pub use plan::Plan;
 pub use points::create;
 pub use snaps::snap;
 pub use touch::has_vertex;

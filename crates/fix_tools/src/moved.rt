@@ -2,7 +2,7 @@ ghost use Rattle.std.specs.Prelude.{◌≡◌, map, IfOk, IfErr};
 ghost use Rattle.plane_terms.specs.Point.{same_place};
 ghost use Rattle.plane_terms.specs.ShapeFaults.{IsFault, IsFlawless};
 ghost use Rattle.shape.specs.Given.{rings_in, polygons_in};
-ghost use Rattle.fix_tools.specs.Move.{moved_place, moved_rings, moved_parts, moved_shape};
+ghost use Rattle.fix_terms.specs.Move.{moved_place, moved_rings, moved_parts, moved_shape};
 
 use grid_plane::{GridPoint, NoMemory};
 use plane_terms::{Kind, ShapeFault};

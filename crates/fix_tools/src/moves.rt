@@ -6,24 +6,26 @@ ghost use Rattle.plane_terms.specs.ShapeFaults.{IsFlawless};
 ghost use Rattle.feature_store.specs.Slots.{feature_in, filled};
 ghost use Rattle.topology_terms.specs.Feature as terms;
 ghost use Rattle.topology_terms.specs.Feature.{IsAscending};
-ghost use Rattle.fix_tools.specs.Plans.{IsAfter, handles_of, shapes_of};
-ghost use Rattle.fix_tools.specs.Move.{moves, touching, HasMoved, IsMoveStop, IsMoveFault, IsMovePlan};
+ghost use Rattle.fix_terms.specs.Plans.{IsAfter, IsPossible, handles_of, shapes_of};
+ghost use Rattle.fix_terms.specs.Move.{moves, touching, HasMoved};
+ghost use Rattle.fix_tools.specs.Move.{IsMoveStop, IsMoveFault, IsMovePlan};
 
 use crate::fault::FixFault;
 use crate::moved::{is_at, shape_moved};
-use crate::plan::{Edit, Plan};
+use crate::plan::Plan;
 use crate::touch::has_vertex;
 use feature_store::Slot;
+use fix_terms::Edit;
 use grid_plane::{GridPoint, Handles, NoMemory};
 use plane_terms::ShapeFault;
-use shape::Feature;
+use shape::{Feature, Shape};
 use std::alloc::Global;
 use std::collections::VecDeque;
 use topo_core::{KindRules, Topology};
 
 // Puts the feature, moved, if it has a vertex at the place.
 fn push_moved(
-    edits: &mut VecDeque<Edit>,
+    edits: &mut VecDeque<Edit<Shape>>,
     alloc: Global,
     feature: &Feature,
     from: GridPoint,
@@ -51,7 +53,7 @@ fn push_moved(
 }
 
 fn push_slot(
-    edits: &mut VecDeque<Edit>,
+    edits: &mut VecDeque<Edit<Shape>>,
     alloc: Global,
     slot: &Slot,
     from: GridPoint,
@@ -69,7 +71,7 @@ fn push_slot(
 
 // Stops at the first that is refused.
 fn push_slots(
-    edits: &mut VecDeque<Edit>,
+    edits: &mut VecDeque<Edit<Shape>>,
     alloc: Global,
     slots: &[Slot],
     from: GridPoint,
@@ -97,6 +99,7 @@ pub fn move_all<R: KindRules>(
 ) -> Result<Plan, FixFault>
     ensures plan { IfOk result (IsMovePlan from to topology.now.features) }
     ensures refused { IfErr result (IsMoveFault from to topology.now.features) }
+    ensures possible { IfOk result (λ plan. IsPossible plan topology.now) }
     ensures fixed { IfOk result (λ plan. (G : List terms.Feature) → IsAfter plan topology.now.features topology.now.next G → HasMoved from to topology.now.features G) }
 {
     topology.topology_law();

@@ -3,12 +3,14 @@ ghost use Rattle.topology_terms.specs.Feature as terms;
 ghost use Rattle.topology_terms.specs.Feature.{feature_at};
 ghost use Rattle.topology_terms.specs.Broken.{Row};
 ghost use Rattle.topology_terms.specs.Project.{rule_at};
-ghost use Rattle.fix_tools.specs.Plans.{IsAfter};
-ghost use Rattle.fix_tools.specs.Create.{created, may_create, subtype_of, IsCreated, IsCreateFault, HasCreated};
+ghost use Rattle.fix_terms.specs.Plans.{IsAfter};
+ghost use Rattle.fix_terms.specs.Create.{created, may_create, subtype_of, HasCreated};
+ghost use Rattle.fix_tools.specs.Create.{IsCreated, IsCreateFault};
 
 use crate::ask::{none_inside, rule_of, view_of};
 use crate::fault::FixFault;
-use crate::plan::{Edit, Plan};
+use crate::plan::Plan;
+use fix_terms::Edit;
 use grid_plane::{GridPoint, NoMemory};
 use rule_core::{RuleRow, Side, View, has_end_at};
 use rule_loops::{AtPlace, InsideThere, PointThere, none_there};

@@ -7,14 +7,16 @@ ghost use Rattle.topology_terms.specs.Feature.{feature_at};
 ghost use Rattle.topology_terms.specs.Broken.{Row};
 ghost use Rattle.topology_terms.specs.Project.{rule_at};
 ghost use Rattle.topology_terms.specs.Together.{of_side};
-ghost use Rattle.fix_tools.specs.declared.plan.Edit.TheVariants.{Put};
-ghost use Rattle.fix_tools.specs.Plans.{IsAfter};
-ghost use Rattle.fix_tools.specs.Snap.{snapped, snapped_shape, dangles_at, may_snap, IsSnapped, IsSnapFault, IsSnapStop, HasSnapped};
+ghost use Rattle.fix_terms.specs.declared.edit.Edit.TheVariants.{Put};
+ghost use Rattle.fix_terms.specs.Plans.{IsAfter, IsPossible};
+ghost use Rattle.fix_terms.specs.Snap.{snapped, snapped_shape, dangles_at, may_snap, HasSnapped};
+ghost use Rattle.fix_tools.specs.Snap.{IsSnapped, IsSnapFault, IsSnapStop};
 
 use crate::ask::{holds_other, rule_of, view_of};
 use crate::ends::shape_with_end;
 use crate::fault::FixFault;
-use crate::plan::{Edit, Plan};
+use crate::plan::Plan;
+use fix_terms::Edit;
 use grid_plane::{GridPoint, NoMemory};
 use plane_terms::ShapeFault;
 use rule_core::{RuleRow, Side, View};
@@ -84,6 +86,7 @@ pub fn snap<R: KindRules>(
 ) -> Result<Plan, FixFault>
     ensures plan { IfOk result (IsSnapped topology.now rule handle end to) }
     ensures refused { IfErr result (IsSnapFault topology.now rule handle end to) }
+    ensures possible { IfOk result (λ plan. IsPossible plan topology.now) }
     ensures fixed { IfOk result (λ plan. (row : Row) (f : terms.Feature) → rule_at topology.now.rules rule ≡ Some row → feature_at topology.now.features handle ≡ Some f → (G : List terms.Feature) → IsAfter plan topology.now.features topology.now.next G → HasSnapped row f end to topology.now.features G) }
 {
     topology.topology_law();

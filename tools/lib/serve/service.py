@@ -88,6 +88,7 @@ class Service:
         self.answering: Optional[asyncio.Task] = None
         self.new_file = self.is_closing = self.is_keeping = False
         self.retry_at = 0.0
+        self.open_bytes = 0
         self.troubles: dict[str, str] = {}
         self.longest = {'listing': 0.0, 'sync': 0.0}
         self.failed: asyncio.Future = asyncio.get_running_loop().create_future()
@@ -121,6 +122,7 @@ class Service:
     def took(self, name: str, line: bytes, reply: bytes) -> None:
         """A kept line has its reply."""
         self.ledger.take(name, line, reply)
+        self.open_bytes = 0 if self.ledger.is_quiet() else self.open_bytes + len(line) + 1
         self.sum_ended(self.sums.add(reply))
 
     def sum_ended(self, block: Optional[Block]) -> None:
@@ -352,14 +354,19 @@ class Service:
             self.tell(text)
         self.troubles[of] = text
 
+    def is_too_long(self) -> bool:
+        """Whether the run has become long, and some session was open all the time for so long that no project could be saved."""
+        most = self.settings.run_bytes
+        return self.live.sent >= 2 * most and self.open_bytes >= most and self.saving is None and time.monotonic() >= self.retry_at
+
     async def tick(self) -> None:
-        """Ends sessions without a line for long, and all of them where the run has become long."""
+        """Ends sessions without a line for long, and all of them where the run has become long and none of them ends by itself."""
         while True:
             await asyncio.sleep(1.0)
             editors: list[bytes] = []
             if self.settings.idle:
                 editors = self.ledger.idle_since(time.monotonic() - self.settings.idle)
-            if self.live.sent >= 2 * self.settings.run_bytes and self.saving is None and time.monotonic() >= self.retry_at:
+            if self.is_too_long():
                 editors = list(self.ledger.sessions)
             if editors:
                 self.tell('ends the sessions of %s' % b', '.join(editors).decode())

@@ -9,7 +9,7 @@ from ..outputs import synced
 from .journal import Journal
 from .records import Block
 from .replay import Ended, Replay
-from .store import Last, Pair, Store, move, sum_of_file
+from .store import PROJECT, Last, Pair, Store, move, sum_of_file
 from .sums import Sums
 
 # A project is saved where all of the script was read: no line was refused, or some were.
@@ -45,14 +45,18 @@ class Snapshots:
 
     async def make(self, old: Pair, line: int, names: dict[str, Last], known: list[Block]) -> Pair:
         """The pair after this line, after which no session was open; an OSError or Unsaved where the disk is full."""
-        await in_thread(self.store.clear_work)
+        await in_thread(self.clear)
         kept = self.journal.kept_between(old.line, line)
         path = await self.write(self.store.project_path(old), kept, Sums(old.line, known))
         await in_thread(synced, path)
-        pair = Pair(line, '%012d.project' % line, await in_thread(sum_of_file, path), names)
+        pair = Pair(line, '%012d%s' % (line, PROJECT), await in_thread(sum_of_file, path), names)
         await in_thread(self.place, path, pair)
         await in_thread(self.name, pair)
         return pair
+
+    def clear(self) -> None:
+        """Removes a project that is not whole. The journal may be making a file of its own beside it at this moment: that stays."""
+        self.store.clear_work(PROJECT)
 
     async def tidy(self, pair: Pair) -> None:
         """Moves away what this pair does without."""
@@ -62,7 +66,7 @@ class Snapshots:
     async def write(self, project: str, kept: Iterator, sums: Sums) -> str:
         """Says the kept lines to a second process, which saves what they leave behind; the path of that."""
         self.turn += 1
-        path = os.path.join(self.store.work, '%d-%d.project' % (os.getpid(), self.turn))
+        path = os.path.join(self.store.work, '%d-%d%s' % (os.getpid(), self.turn, PROJECT))
         replay = await Replay.start(self.program, project, path)
         replay.calm()
         try:

@@ -10,8 +10,9 @@ from typing import NamedTuple
 from ..outputs import synced
 from .records import Damaged
 
+PROJECT = '.project'
 # The project that a service began with; it stays, since the archive begins with it.
-FIRST = '%012d.project' % 0
+FIRST = '%012d%s' % (0, PROJECT)
 FOLDERS = 'journal', 'archive', 'projects', 'work'
 
 
@@ -116,7 +117,8 @@ class Store:
         for name in set(os.listdir(self.projects)) - {pair.project, FIRST}:
             os.unlink(os.path.join(self.projects, name))
 
-    def clear_work(self) -> None:
-        """Removes what an earlier service left half done."""
+    def clear_work(self, ending: str = '') -> None:
+        """Removes what was left half done: all of it, or the files of this ending."""
         for name in os.listdir(self.work):
-            os.unlink(os.path.join(self.work, name))
+            if name.endswith(ending):
+                os.unlink(os.path.join(self.work, name))

@@ -19,6 +19,10 @@ GROUP = 'topo'
 ROOM, WORD_WIDTH, COLUMN_WIDTH = 5, 150, 94
 
 
+def counted(number: int, what: str) -> str:
+    return '%d %s%s' % (number, what, '' if number == 1 else 's')
+
+
 class ErrorDock(QDockWidget):
     def __init__(self, canvas: QgsMapCanvas, parent: Optional[QWidget] = None):
         super().__init__('topo errors', parent)
@@ -149,7 +153,7 @@ class ErrorDock(QDockWidget):
             self.models['Left out'].show(source.plain_rows('refused', ['class', 'key', 'why']))
         rows = self.models['Errors'].rows
         marked = sum(row.is_exception for row in rows)
-        counts = '%d errors, %d exceptions, %d dirty areas' % (len(rows) - marked, marked, len(self.models['Dirty'].rows))
+        counts = ', '.join([counted(len(rows) - marked, 'error'), counted(marked, 'exception'), counted(len(self.models['Dirty'].rows), 'dirty area')])
         self.state.setText(counts + ('; ' + self.said if self.said else ''))
 
     def chosen(self) -> list[Row]:

@@ -186,9 +186,9 @@ class Written(Source):
 def connection_of(name: str) -> QgsAbstractDatabaseProviderConnection:
     """A connection that QGIS knows by this name."""
     metadata = QgsProviderRegistry.instance().providerMetadata('postgres')
-    if name not in metadata.connections():
+    if name not in metadata.connections(False):            # read anew: it may be younger than the window
         raise SourceError('QGIS has no connection %s' % name)
-    return metadata.findConnection(name)
+    return metadata.findConnection(name, False)
 
 
 def connection_names() -> list[str]:

@@ -1,8 +1,8 @@
 use Rattle.std.proofs.Common.{◌∙◌, ◌++◌, ◌∷◌, [], List, ap}
 use Rattle.plane_terms.specs.Point.{Place}
-use Rattle.fix_tools.specs.declared.plan.Edit.{Edit}
-use Rattle.fix_tools.specs.declared.plan.Edit.TheVariants.{Put}
-use Rattle.fix_tools.specs.Explode.{line_of}
+use Rattle.fix_terms.specs.Plans.{Edit}
+use Rattle.fix_terms.specs.declared.edit.Edit.TheVariants.{Put}
+use Rattle.fix_terms.specs.Explode.{line_of}
 use Rattle.fix_tools.proofs.LineParts.{plan_made, tail_of}
 use Rattle.fix_tools.proofs.apart.parts_plan.Goals as goal
 

@@ -2,8 +2,9 @@ use Rattle.std.proofs.Common.{◌≡◌, ◌++◌, ◌∙◌, [], ◌∷◌, Lis
 use Rattle.std.proofs.lemmas.List.{take_all}
 use Rattle.plane_terms.specs.Point.{Place}
 use Rattle.shape.specs.Given.{Ring, rings_in}
-use Rattle.fix_tools.specs.declared.plan.Edit.TheVariants.{Add}
-use Rattle.fix_tools.specs.Explode.{line_of, added_parts, IsLinePart}
+use Rattle.fix_terms.specs.declared.edit.Edit.TheVariants.{Add}
+use Rattle.fix_terms.specs.Explode.{line_of}
+use Rattle.fix_tools.specs.Explode.{added_parts, IsLinePart}
 use Rattle.fix_tools.proofs.LineParts.{every_item, added_more}
 use Rattle.fix_tools.proofs.apart.push_parts.Goals as goal
 

@@ -1,7 +1,7 @@
 use Rattle.std.proofs.Common.{◌≤◌, ◌/◌, List, length, sym, subst, arith, ◌∙◌, ap}
 use Rattle.plane_terms.specs.Point.{Place}
 use Rattle.shape.specs.Given.{Ring}
-use Rattle.fix_tools.specs.Snap.{with_first, with_last}
+use Rattle.fix_terms.specs.Snap.{with_first, with_last}
 use Rattle.fix_tools.proofs.LineParts.{every_item}
 use Rattle.fix_tools.proofs.Snapped.{parts_made}
 use Rattle.fix_tools.proofs.ends.parts_with_end.Goals as goal

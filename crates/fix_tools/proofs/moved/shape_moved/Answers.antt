@@ -3,7 +3,7 @@ use Rattle.plane_terms.specs.Point.{Place}
 use Rattle.plane_terms.specs.Shape.{Shape}
 use Rattle.plane_terms.specs.ShapeFaults.{IsFault, IsFlawless}
 use Rattle.shape.specs.Given.{lines_in, polygons_in}
-use Rattle.fix_tools.specs.Move.{moved_parts}
+use Rattle.fix_terms.specs.Move.{moved_parts}
 use Rattle.fix_tools.proofs.MovedParts.{line_moved, line_given, moved_countable}
 use Rattle.fix_tools.proofs.moved.shape_moved.Goals as goal
 

@@ -4,10 +4,13 @@ use Rattle.plane_terms.specs.Point.{same_place}
 use Rattle.plane_terms.specs.ShapeFaults.{IsFlawless}
 use Rattle.topology_terms.specs.Feature.{Feature}
 use Rattle.feature_store.specs.Slots.{filled}
-use Rattle.fix_tools.specs.declared.plan.Edit.{Edit}
-use Rattle.fix_tools.specs.Plans.{IsAfter, shapes_of}
-use Rattle.fix_tools.specs.Move.{moves, IsMoveFault}
+use Rattle.fix_terms.specs.Plans.{Edit, IsPossible}
+use Rattle.fix_terms.specs.Plans.{IsAfter, shapes_of}
+use Rattle.fix_terms.specs.Move.{moves}
+use Rattle.fix_tools.specs.Move.{IsMoveFault}
 use Rattle.fix_tools.proofs.Moving.{move_fixes}
+use Rattle.fix_tools.proofs.Possible.{moves_possible, live_kinds}
+use Rattle.fix_tools.proofs.Snapping.{found_at}
 use Rattle.fix_tools.proofs.MovePlans.{plan_is, none_of, stop_fault, nothing_moves, something_moves, onto_itself}
 use Rattle.fix_tools.proofs.moves.move_all.Goals as goal
 
@@ -42,6 +45,16 @@ returns-clause-plan g c =
       flawless = subst (λ (ds : List Edit). Every IsFlawless (shapes_of ds)) (sym plan)
           (subst (λ (fs : List Feature). Every IsFlawless (shapes_of (moves c.args.from c.args.to fs))) all c.in_default.ensures.flawless);
     }
+
+pub returns-clause-possible : goal.returns-clause-possible
+returns-clause-possible g c =
+    let p = c.args.topology.now in
+    let F = p.features in
+    let plan : c.push_slots.new.edits.items ≡ moves c.args.from c.args.to F =
+    plan_is c.args.from c.args.to (filled c.slots.result.now) F c.new-edits.result.items c.push_slots.new.edits.items c.new-edits.ensures.items
+    c.in_default.ensures.ok (c.slots.ensures ∙ c.features-features.ensures.value ∙ c.store.ensures.features) in
+    subst (λ (es : List Edit). IsPossible es p) (sym plan)
+    (moves_possible c.args.from c.args.to F p (live_kinds p F (found_at F c.topology_law.ensures.store.ascending)))
 
 pub returns-clause-fixed : goal.returns-clause-fixed
 returns-clause-fixed g c = λ G a.

@@ -4,8 +4,8 @@ use Rattle.plane_terms.specs.Lists.{Every}
 use Rattle.plane_terms.specs.ShapeFaults.{IsFlawless}
 use Rattle.feature_store.specs.declared.slot.Slot.{Slot}
 use Rattle.feature_store.specs.Slots.{filled}
-use Rattle.fix_tools.specs.Plans.{shapes_of}
-use Rattle.fix_tools.specs.Move.{moves}
+use Rattle.fix_terms.specs.Plans.{shapes_of}
+use Rattle.fix_terms.specs.Move.{moves}
 use Rattle.fix_tools.proofs.MovePlans.{edits_more, flawless_more, stop_slot}
 use Rattle.fix_tools.proofs.moves.push_slots.Goals as goal
 

@@ -2,8 +2,8 @@ use Rattle.std.proofs.Common.{◌≡◌, ◌++◌, take}
 use Rattle.plane_terms.specs.Lists.{Every}
 use Rattle.plane_terms.specs.ShapeFaults.{IsFlawless}
 use Rattle.feature_store.specs.Slots.{filled}
-use Rattle.fix_tools.specs.Plans.{shapes_of}
-use Rattle.fix_tools.specs.Move.{moves}
+use Rattle.fix_terms.specs.Plans.{shapes_of}
+use Rattle.fix_terms.specs.Move.{moves}
 use Rattle.fix_tools.proofs.moves.push_slots.Given as goal
 
 abbrev pub invariant-loop-slot : goal.invariant-loop-slot

@@ -1,6 +1,6 @@
 use Rattle.std.proofs.Common.{List, map, ◌∙◌, ap}
 use Rattle.topology_terms.specs.Feature.{Feature}
-use Rattle.fix_tools.specs.Move.{touching}
+use Rattle.fix_terms.specs.Move.{touching}
 use Rattle.fix_tools.proofs.MovePlans.{put_handles}
 use Rattle.fix_tools.proofs.moves.touched.Goals as goal
 

@@ -3,7 +3,7 @@ use Rattle.std.proofs.lemmas.List.{take_all}
 use Rattle.topology_terms.specs.Feature.{Feature}
 use Rattle.feature_store.specs.declared.slot.Slot.{Slot}
 use Rattle.feature_store.specs.Slots.{filled}
-use Rattle.fix_tools.specs.Move.{touching}
+use Rattle.fix_terms.specs.Move.{touching}
 use Rattle.fix_tools.proofs.Slots.{all_below, handles_below}
 use Rattle.fix_tools.proofs.MovePlans.{touched_more}
 use Rattle.fix_tools.proofs.moves.touched_in.Goals as goal

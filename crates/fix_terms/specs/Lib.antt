@@ -1,0 +1,5 @@
+pub mod Plans
+pub mod Explode
+pub mod Move
+pub mod Snap
+pub mod Create
