@@ -4,3 +4,4 @@ pub mod Checking
 pub mod Reporting
 pub mod Replaying
 pub mod Saving
+pub mod Passed

@@ -1,5 +1,5 @@
 -- The verdict on the line of a feature, from what its shape's text reads as.
-use Rattle.std.proofs.Common.{ℕ, ◌≡◌, ◌-◌, Bool, true, false, if◌then◌else◌, List, [], ◌∷◌, Option, Some, None, Result, Ok, Err, refl, sym, ap, subst, ◌∙◌}
+use Rattle.std.proofs.Common.{ℕ, ◌≡◌, ◌-◌, Bool, true, false, if◌then◌else◌, List, ◌∷◌, Some, None, Result, Ok, Err, refl, sym, ap, subst, ◌∙◌}
 use Rattle.std.specs.Prelude.{IfSome, codes, bytes_eq}
 use Rattle.std.proofs.lemmas.Slice.Eq.{bytes_eq-Decides}
 use Rattle.plane_terms.specs.Shape.{Shape}

@@ -1,9 +1,8 @@
 -- A text is read as a project exactly where it is the text of that project, in one of the two formats.
-use Rattle.std.proofs.Common.{ℕ, ◌≡◌, ◌⊎◌, inl, inr, Bool, true, false, List, [], ◌∷◌, ◌++◌, refl, sym, ap, subst, ◌∙◌, arith}
-use Rattle.std.specs.Prelude.{codes, flat_map}
+use Rattle.std.proofs.Common.{ℕ, ◌≡◌, ◌⊎◌, inl, inr, Bool, true, false, List, ◌∷◌, ◌++◌, refl, sym, ap, subst, ◌∙◌, arith}
 use Rattle.topology_terms.specs.Project.{Project}
 use Rattle.project_terms.specs.Records.{IsRecord, IsPlain}
-use Rattle.project_terms.specs.Written.{title, lines_of, line_text, text_of, project_text as written}
+use Rattle.project_terms.specs.Written.{title, line_text, text_of, project_text as written}
 use Rattle.project_terms.specs.Texts.{IsProjectText, IsRead}
 use Rattle.project_text.proofs.Spelled.{format, title_fields}
 use Rattle.project_text.proofs.Staged.{ArePlain}

@@ -31,13 +31,13 @@ use Rattle.project_terms.specs.Texts.{AreRead, IsVerdict, IsReading, IsRead}
 use Rattle.project_text.proofs.Ends.{every_end, pairs_end, none_pass, ascending_end}
 use Rattle.project_text.proofs.Spelled.{class_said, cell_said}
 use Rattle.project_text.proofs.SideLines.{IsSecond, rule_said, feature_said}
-use Rattle.project_text.proofs.Named.{natural_said, kind_there, side_named, bound_is, subtype_is, IsRowOf, row_said}
+use Rattle.project_text.proofs.Named.{natural_said, kind_there, side_named, bound_is, subtype_is, row_said}
 use Rattle.project_text.proofs.Halves.{is_valid}
 use Rattle.project_text.proofs.Rects.{rectangle_there}
 use Rattle.project_text.proofs.LineCases.{line_by, at_ok, judged_ok, said_ok, if_ok}
 use Rattle.project_text.proofs.Sound.{open_next}
 use Rattle.project_text.proofs.Sound as sound
-use Rattle.project_text.proofs.Staged.{may_stand, opened, restaged, AreClasses, AreRules, ArePlain, none_plain, IsStarted, HasCells, AreFilled, AreErrors, head_of, IsKept, no_rules, no_features, no_errors, start_kept}
+use Rattle.project_text.proofs.Staged.{may_stand, opened, restaged, AreClasses, AreRules, none_plain, IsStarted, HasCells, AreFilled, AreErrors, head_of, IsKept, no_rules, no_features, no_errors, start_kept}
 
 -- ---- lines that say nothing else
 said_kept : (s : Stage) (d : Draft) → IsKept d → is_open s d ≡ true → rank s ≢ 2 → IsKept (record d { stage = s })

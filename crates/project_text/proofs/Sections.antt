@@ -14,9 +14,10 @@ use Rattle.topology_terms.specs.Entry.{Entry}
 use Rattle.topology_terms.specs.Project.{Project, InForce}
 use Rattle.topology_terms.specs.Lookups.{class_at}
 use Rattle.project_terms.specs.Lines.{joined}
-use Rattle.project_terms.specs.Written.{sided, sided_in, written_subtype, rect_fields, cell_fields, mark_word, extent_word, line_text, title, next_line, class_line, rule_line, feature_line, dirty_line, error_line, cell_line, error_lines, last_line, project_text}
+use Rattle.project_terms.specs.Written.{sided_in, written_subtype, rect_fields, cell_fields, mark_word, extent_word, line_text, title, next_line, class_line, rule_line, feature_line, dirty_line, error_line, cell_line, error_lines, last_line, project_text}
 use Rattle.project_text.proofs.Spelled.{title_fields}
-use Rattle.project_text.specs.Pushed.{side_text, rect_text, half_text, sign_text, halves_text, class_text, rule_text, feature_text, dirty_text, error_text, cell_text, error_texts, head_text, sections_text}
+use Rattle.text_out.specs.Fields.{rect_text}
+use Rattle.project_text.specs.Pushed.{side_text, half_text, sign_text, halves_text, class_text, rule_text, feature_text, dirty_text, error_text, cell_text, error_texts, head_text, sections_text}
 
 -- ---- fields behind spaces
 
@@ -117,7 +118,7 @@ pub error_all : (e : Entry) → flat_map line_text (error_lines e) ≡ error_tex
 error_all e = ap (λ t. t ++ flat_map line_text (map {A = Cell} cell_line e.cells)) (error_same e)
     ∙ ap (λ t. error_text e ++ t) (lines_same {A = Cell} cell_line cell_text cell_same e.cells)
 
-errors_same : (es : List Entry) (ls : List (List (List ℕ))) → flat_map line_text (flat_map error_lines es ++ ls) ≡ flat_map error_texts
+pub errors_same : (es : List Entry) (ls : List (List (List ℕ))) → flat_map line_text (flat_map error_lines es ++ ls) ≡ flat_map error_texts
     es ++ flat_map line_text ls
 errors_same [] ls = refl
 errors_same (e ∷ es) ls =

@@ -5,7 +5,6 @@
 -- with_subtype name s          the side that is written of a name and a subtype
 use Rattle.std.proofs.Common.{ℕ, ℤ, pos, ◌≡◌, ◌≤◌, ◌==◌, Bool, true, false, not, List, [], ◌∷◌, ◌++◌, Option, Some, None, if◌then◌else◌, refl, sym, ap, subst, ◌∙◌, arith, eqb-true}
 use Rattle.std.specs.Prelude.{IfSome, decimal}
-use Rattle.std.specs.List.{list_all}
 use Rattle.std.specs.Option.{option_map}
 use Rattle.std.proofs.lemmas.Option.{same_Some}
 use Rattle.std.proofs.lemmas.Bool.{and_parts}
@@ -13,11 +12,11 @@ use Rattle.std.proofs.lemmas.Bool.Decides.{nat_tests}
 use Rattle.std.proofs.lemmas.List.Folds.{list_all-append}
 use Rattle.text_terms.specs.Fields.{is_name}
 use Rattle.text_fields.proofs.Colons.{no_colon, name_no_colon}
-use Rattle.project_terms.specs.Lines.{number, before_colon, behind_colon, natural}
+use Rattle.project_terms.specs.Lines.{number, before_colon, behind_colon}
 use Rattle.project_terms.specs.Written.{sided, written_subtype}
-use Rattle.project_terms.specs.Verdicts.{SideForm, bind, bound_form, side_form, is_0, own_form, bound_in, subtype_in}
+use Rattle.project_terms.specs.Verdicts.{SideForm, bind, bound_form, side_form, is_0, own_form}
 use Rattle.project_text.specs.Reading.{plain_side, bound_side}
-use Rattle.project_text.proofs.Numerals.{natural_read, number_written}
+use Rattle.project_text.proofs.Numerals.{natural_read}
 use Rattle.project_text.proofs.Spelled.{bound, mapped, tested}
 use Rattle.project_text.proofs.Bytes.{IsPlain, is_plain, plain_decimal, plain_name}
 

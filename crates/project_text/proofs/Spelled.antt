@@ -5,7 +5,6 @@ use Rattle.std.specs.List.{list_all}
 use Rattle.std.specs.Option.{option_map}
 use Rattle.std.specs.Fmt.{signed_decimal, digits}
 use Rattle.std.proofs.lemmas.Option.{same_Some}
-use Rattle.std.proofs.lemmas.Slice.Eq.{bytes_eq-Decides}
 use Rattle.std.proofs.lemmas.Bool.{and_parts}
 use Rattle.plane_terms.specs.Rectangle.{Rectangle, rect_of as rectangle}
 use Rattle.plane_terms.specs.HalfPlane.{HalfPlane}
@@ -20,7 +19,7 @@ use Rattle.rule_words.specs.Table.{word_of, first_of_word, all_rules}
 use Rattle.rule_words.proofs.OneWord.{has_word}
 use Rattle.line_terms.specs.Forms.{kind_word}
 use Rattle.topology_terms.specs.Feature.{Class}
-use Rattle.project_terms.specs.Lines.{number, joined}
+use Rattle.project_terms.specs.Lines.{number}
 use Rattle.project_terms.specs.Drafts.{is_half}
 use Rattle.project_terms.specs.Verdicts.{ErrorForm, HalfForm, bind, title_of, is_none, number_of, kind_of_word, class_of, rect_of, extent_of, error_of, op_of, half_of, halves_behind, cell_of}
 use Rattle.project_terms.specs.Written.{title, cell_fields, extent_word}

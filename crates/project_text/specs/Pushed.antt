@@ -1,7 +1,6 @@
 -- The lines of a project's text as they are appended, each grouped from the right.
 --
--- rect_text, side_text, key_text      the numbers of a rectangle, the name of a class where there is one and the subtype behind it, the key
---                                     of an error: each behind a space
+-- side_text c s            the name of a class behind a space, and behind a colon the subtype; nothing where there is no class
 -- half_text h m            the numbers and the sign of a half-plane, each behind a space, with a comma at the end if more follow
 -- class_text, rule_text, feature_text, dirty_text, error_text, cell_text     one line each; of a class that is not there, nothing
 -- error_texts e            the line of an error, and behind it those of its cells
@@ -19,10 +18,8 @@ use Rattle.topology_terms.specs.Feature.{Class, Feature}
 use Rattle.topology_terms.specs.Entry.{Entry}
 use Rattle.topology_terms.specs.Project.{Project, InForce}
 use Rattle.topology_terms.specs.Lookups.{class_at}
+use Rattle.text_out.specs.Fields.{rect_text, key_text}
 use Rattle.project_terms.specs.Written.{op_word, mark_word, extent_word, sided, written_subtype}
-
-abbrev pub rect_text : Rectangle → List ℕ
-rect_text r = 32 ∷ signed_decimal r.x0 ⧺ 32 ∷ signed_decimal r.y0 ⧺ 32 ∷ signed_decimal r.x1 ⧺ 32 ∷ signed_decimal r.y1
 
 abbrev pub side_text : Option Class → Option ℕ → List ℕ
 side_text None s = []
@@ -57,11 +54,8 @@ feature_text cs f = codes "feature" ⧺ 32 ∷ decimal f.handle ⧺ side_text (c
 abbrev pub dirty_text : Rectangle → List ℕ
 dirty_text r = codes "dirty" ⧺ rect_text r ⧺ 10 ∷ []
 
-abbrev pub key_text : Entry → List ℕ
-key_text e = 32 ∷ decimal e.rule ⧺ 32 ∷ decimal e.subject ⧺ 32 ∷ decimal e.other
-
 abbrev pub error_text : Entry → List ℕ
-error_text e = mark_word e.marked ⧺ key_text e ⧺ 32 ∷ extent_word e.whole ⧺ rect_text e.frame ⧺ 10 ∷ []
+error_text e = mark_word e.marked ⧺ key_text e.rule e.subject e.other ⧺ 32 ∷ extent_word e.whole ⧺ rect_text e.frame ⧺ 10 ∷ []
 
 abbrev pub cell_text : Cell → List ℕ
 cell_text c = codes "cell" ⧺ halves_text c ⧺ 10 ∷ []

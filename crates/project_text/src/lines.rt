@@ -1,18 +1,19 @@
-ghost use Rattle.std.specs.Prelude.{◌≡◌, ◌++◌, ◌∷◌, Some, OnOk};
+ghost use Rattle.std.specs.Prelude.{◌≡◌, ◌++◌, Some, OnOk};
 ghost use Rattle.line_terms.specs.Forms.{kind_word};
-ghost use Rattle.topology_terms.specs.Extents.{is_whole};
 ghost use Rattle.topology_terms.specs.Lookups.{class_at};
-ghost use Rattle.project_terms.specs.Written.{mark_word, extent_word, sided, written_subtype};
-ghost use Rattle.project_text.specs.Pushed.{rect_text, side_text, sign_text, half_text, halves_text, class_text, rule_text, feature_text, dirty_text, key_text, error_text, cell_text};
+ghost use Rattle.project_terms.specs.Written.{written_subtype};
+ghost use Rattle.project_text.specs.Pushed.{side_text, half_text, halves_text, class_text, rule_text, feature_text, dirty_text, error_text, cell_text};
 
-use crate::push::{push_digits, push_end, push_field, push_number, push_text};
 use convex_cell::BorrowedCell;
 use error_store::Entry;
 use feature_store::Store;
-use grid_plane::{Half, NoMemory, Op, Rect};
+use grid_plane::{Half, NoMemory, Rect};
 use rule_core::{InForce, Side};
 use shape::{Feature, Kind};
-use topology_terms::Extent;
+use text_out::{
+    extent_word, mark_word, push_byte, push_end, push_field, push_half, push_key, push_number,
+    push_rect, push_sided, push_text,
+};
 use wkt_text::write_wkt;
 
 fn kind_bytes(kind: Kind) -> &'static [u8]
@@ -25,58 +26,8 @@ fn kind_bytes(kind: Kind) -> &'static [u8]
     }
 }
 
-fn sign_bytes(op: Op, more: bool) -> &'static [u8]
-    ensures { result.now ≡ sign_text op more }
-{
-    match (op, more) {
-        (Op::Over, false) => b">",
-        (Op::AtLeast, false) => b">=",
-        (Op::Zero, false) => b"=",
-        (Op::Over, true) => b">,",
-        (Op::AtLeast, true) => b">=,",
-        (Op::Zero, true) => b"=,",
-    }
-}
-
-fn mark_bytes(marked: bool) -> &'static [u8]
-    ensures { result.now ≡ mark_word marked }
-{
-    if marked { b"exception" } else { b"error" }
-}
-
-fn extent_bytes(extent: Extent) -> &'static [u8]
-    ensures { result.now ≡ extent_word (is_whole extent) }
-{
-    match extent {
-        Extent::Whole => b"whole",
-        Extent::Cells => b"cells",
-    }
-}
-
-fn push_rect(out: &mut Vec<u8>, r: &Rect) -> Result<(), NoMemory>
-    ensures { OnOk result (out.new.items ≡ out.old.items ++ rect_text r.now) }
-{
-    push_number(out, r.x0())?;
-    push_number(out, r.y0())?;
-    push_number(out, r.x1())?;
-    push_number(out, r.y1())
-}
-
-// A name behind a space, and behind a colon the subtype, where there is one.
-fn push_sided(out: &mut Vec<u8>, name: &[u8], subtype: Option<u8>) -> Result<(), NoMemory>
-    ensures { OnOk result (out.new.items ≡ out.old.items ++ 32 ∷ sided name.now subtype) }
-{
-    push_field(out, name)?;
-    match subtype {
-        Some(subtype) => {
-            push_text(out, b":")?;
-            push_digits(out, subtype)
-        }
-        None => Ok(()),
-    }
-}
-
-// The same of the class of this number; nothing where there is none.
+// A space and the name of the class of this number, and behind a colon the subtype, where there is one; nothing where there is no such
+// class.
 fn push_class(
     out: &mut Vec<u8>,
     store: &Store,
@@ -97,8 +48,8 @@ fn push_side(out: &mut Vec<u8>, store: &Store, side: &Side) -> Result<(), NoMemo
     push_class(out, store, side.class, side.subtype)
 }
 
-/// The subtype of a feature as it is written: none where it is 0.
-pub fn written_subtype(subtype: u8) -> Option<u8>
+// The subtype of a feature as it is written: none where it is 0.
+fn written_subtype(subtype: u8) -> Option<u8>
     ensures { result ≡ written_subtype subtype }
 {
     if subtype == 0 { None } else { Some(subtype) }
@@ -161,42 +112,31 @@ pub fn push_dirty_line(out: &mut Vec<u8>, r: &Rect) -> Result<(), NoMemory>
     push_end(out)
 }
 
-// Rule, subject and partner.
-fn push_key(out: &mut Vec<u8>, entry: &Entry) -> Result<(), NoMemory>
-    ensures { OnOk result (out.new.items ≡ out.old.items ++ key_text entry.now) }
-{
-    let key = entry.key();
-    push_number(out, key.rule)?;
-    push_number(out, key.subject)?;
-    push_number(out, key.partner_number())
-}
-
 /// Appends the line of an error, without those of its cells.
 pub fn push_error_line(out: &mut Vec<u8>, entry: &Entry) -> Result<(), NoMemory>
     ensures { OnOk result (out.new.items ≡ out.old.items ++ error_text entry.now) }
 {
-    push_text(out, mark_bytes(entry.marked()))?;
-    push_key(out, entry)?;
-    push_field(out, extent_bytes(entry.extent()))?;
+    let key = entry.key();
+    push_text(out, mark_word(entry.marked()))?;
+    push_key(out, key.rule, key.subject, key.partner_number())?;
+    push_field(out, extent_word(entry.extent()))?;
     push_rect(out, &entry.frame())?;
     push_end(out)
 }
 
 // The half-plane, with a comma behind it if more follow.
-fn push_half(out: &mut Vec<u8>, half: &Half, more: bool) -> Result<(), NoMemory>
+fn push_next_half(out: &mut Vec<u8>, half: &Half, more: bool) -> Result<(), NoMemory>
     ensures { OnOk result (out.new.items ≡ out.old.items ++ half_text half.now more) }
 {
-    push_number(out, half.a())?;
-    push_number(out, half.b())?;
-    push_number(out, half.c())?;
-    push_field(out, sign_bytes(half.op(), more))
+    push_half(out, half)?;
+    if more { push_byte(out, b',') } else { Ok(()) }
 }
 
 fn push_halves(out: &mut Vec<u8>, cell: &BorrowedCell<'_>) -> Result<(), NoMemory>
     ensures { OnOk result (out.new.items ≡ out.old.items ++ halves_text cell.now) }
 {
     for i in 0..cell.len() {
-        push_half(out, &cell.half(i), i + 1 < cell.len())?;
+        push_next_half(out, &cell.half(i), i + 1 < cell.len())?;
     }
     Ok(())
 }

@@ -11,7 +11,6 @@ use crate::lines::{
     push_cell_line, push_class_line, push_dirty_line, push_error_line, push_feature_line,
     push_rule_line,
 };
-use crate::push::{push_end, push_number, push_text};
 use convex_cell::Cells;
 use dirty_area::{Block, Dirt};
 use error_store::{Entry, Errors};
@@ -19,6 +18,7 @@ use feature_store::{Slot, Store};
 use grid_plane::{NoMemory, Rect};
 use rule_core::InForce;
 use std::alloc::Global;
+use text_out::{push_end, push_number, push_text};
 
 fn push_head(out: &mut Vec<u8>, next: u32) -> Result<(), NoMemory>
     ensures { OnOk result (out.new.items ≡ out.old.items ++ head_text next) }
@@ -37,7 +37,8 @@ fn push_classes(out: &mut Vec<u8>, store: &Store) -> Result<(), NoMemory>
     Ok(())
 }
 
-fn push_rules(out: &mut Vec<u8>, store: &Store, rules: &[InForce]) -> Result<(), NoMemory>
+/// Appends the line of each rule in force, in the order of their numbers. The classes are the store's.
+pub fn push_rules(out: &mut Vec<u8>, store: &Store, rules: &[InForce]) -> Result<(), NoMemory>
     ensures { OnOk result (out.new.items ≡ out.old.items ++ flat_map (rule_text store.now.classes) rules.now) }
 {
     for rule in rules {
@@ -46,7 +47,8 @@ fn push_rules(out: &mut Vec<u8>, store: &Store, rules: &[InForce]) -> Result<(),
     Ok(())
 }
 
-fn push_features(out: &mut Vec<u8>, store: &Store) -> Result<(), NoMemory>
+/// Appends the line of each live feature, in the order of their handles.
+pub fn push_features(out: &mut Vec<u8>, store: &Store) -> Result<(), NoMemory>
     ensures { OnOk result (out.new.items ≡ out.old.items ++ flat_map (feature_text store.now.classes) store.now.features) }
 {
     push_listed(out, store, store.features().slots())
@@ -79,8 +81,8 @@ fn push_dirt(out: &mut Vec<u8>, rects: &[Rect]) -> Result<(), NoMemory>
     Ok(())
 }
 
-// The lines of the dirty rectangles, one block after another.
-fn push_blocks(out: &mut Vec<u8>, blocks: &[Block]) -> Result<(), NoMemory>
+/// Appends the line of each dirty rectangle, one block after another.
+pub fn push_blocks(out: &mut Vec<u8>, blocks: &[Block]) -> Result<(), NoMemory>
     ensures { OnOk result (out.new.items ≡ out.old.items ++ flat_map dirty_text (all_rects blocks.now)) }
 {
     for block in blocks {
@@ -115,7 +117,8 @@ fn push_run(out: &mut Vec<u8>, entries: &[Entry]) -> Result<(), NoMemory>
     Ok(())
 }
 
-fn push_errors(out: &mut Vec<u8>, errors: &Errors) -> Result<(), NoMemory>
+/// Appends the lines of each error, in the order of their keys: its own, and behind it those of its cells.
+pub fn push_errors(out: &mut Vec<u8>, errors: &Errors) -> Result<(), NoMemory>
     ensures { OnOk result (out.new.items ≡ out.old.items ++ flat_map error_texts errors.now) }
 {
     for run in errors.by_pair().values() {

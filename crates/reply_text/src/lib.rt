@@ -1,14 +1,11 @@
 // The texts of replies: each line in ASCII, with one LF at its end, appended to a text.
 #![tactic(auto)]
 
-mod cells;
-mod dirt;
 mod errors;
-mod features;
+mod listings;
 mod numbers;
 mod refusal;
 mod reply;
-mod rules;
 
 pub use refusal::Refusal;
 pub use reply::{Reply, push_reply};

@@ -1,12 +1,12 @@
+ghost use Rattle.std.specs.Prelude.{◌≡◌, ◌++◌, OnOk};
 ghost use Rattle.script_terms.specs.Refusal.{HeldBy, refusal_text, cause_code, line_refusal_text, shape_fault_text, with_number, with_pair};
 ghost use Rattle.line_terms.specs.declared.line_refusal.LineRefusal.TheVariants.{Invalid};
 ghost use Rattle.reply_text.specs.Replies.{refusal_of};
-ghost use Rattle.wkt_text.specs.Appended.{Appends};
 
-use crate::numbers::{push_number, push_text};
 use grid_plane::{Name, NoMemory};
 use line_terms::LineRefusal;
 use plane_terms::ShapeFault;
+use text_out::{push_number, push_text};
 use topology_terms::Cause;
 
 /// Why a line is refused.
@@ -31,28 +31,23 @@ pub enum Refusal {
 }
 
 fn push_with_number(out: &mut Vec<u8>, word: &[u8], number: u32) -> Result<(), NoMemory>
-    ensures { Appends result out.old.items out.new.items (with_number word.now number) }
+    ensures { OnOk result (out.new.items ≡ out.old.items ++ with_number word.now number) }
 {
     push_text(out, word)?;
-    push_text(out, b" ")?;
-    push_number(out, number)?;
-    Ok(())
+    push_number(out, number)
 }
 
 fn push_with_pair(out: &mut Vec<u8>, word: &[u8], i: u32, j: u32) -> Result<(), NoMemory>
-    ensures { Appends result out.old.items out.new.items (with_pair word.now i j) }
+    ensures { OnOk result (out.new.items ≡ out.old.items ++ with_pair word.now i j) }
 {
     push_text(out, word)?;
-    push_text(out, b" ")?;
     push_number(out, i)?;
-    push_text(out, b" ")?;
-    push_number(out, j)?;
-    Ok(())
+    push_number(out, j)
 }
 
 // What is wrong with a shape; out of memory is no line's fault.
 fn push_shape_fault(out: &mut Vec<u8>, fault: ShapeFault) -> Result<(), NoMemory>
-    ensures { Appends result out.old.items out.new.items (shape_fault_text fault) }
+    ensures { OnOk result (out.new.items ≡ out.old.items ++ shape_fault_text fault) }
 {
     match fault {
         ShapeFault::TooFew { part } => push_with_number(out, b"few", part),
@@ -64,15 +59,14 @@ fn push_shape_fault(out: &mut Vec<u8>, fault: ShapeFault) -> Result<(), NoMemory
 }
 
 fn push_invalid(out: &mut Vec<u8>, fault: ShapeFault) -> Result<(), NoMemory>
-    ensures { Appends result out.old.items out.new.items (line_refusal_text (Invalid fault)) }
+    ensures { OnOk result (out.new.items ≡ out.old.items ++ line_refusal_text (Invalid fault)) }
 {
     push_text(out, b"E18 ")?;
-    push_shape_fault(out, fault)?;
-    Ok(())
+    push_shape_fault(out, fault)
 }
 
 fn push_line_refusal(out: &mut Vec<u8>, refusal: LineRefusal) -> Result<(), NoMemory>
-    ensures { Appends result out.old.items out.new.items (line_refusal_text refusal) }
+    ensures { OnOk result (out.new.items ≡ out.old.items ++ line_refusal_text refusal) }
 {
     match refusal {
         LineRefusal::NotALine => push_text(out, b"E01"),
@@ -87,7 +81,7 @@ fn push_line_refusal(out: &mut Vec<u8>, refusal: LineRefusal) -> Result<(), NoMe
 }
 
 fn push_cause(out: &mut Vec<u8>, cause: Cause) -> Result<(), NoMemory>
-    ensures { Appends result out.old.items out.new.items (cause_code cause) }
+    ensures { OnOk result (out.new.items ≡ out.old.items ++ cause_code cause) }
 {
     match cause {
         Cause::ClassTaken => push_text(out, b"E03"),
@@ -106,16 +100,15 @@ fn push_cause(out: &mut Vec<u8>, cause: Cause) -> Result<(), NoMemory>
 }
 
 fn push_held_by(out: &mut Vec<u8>, name: &Name) -> Result<(), NoMemory>
-    ensures { Appends result out.old.items out.new.items (refusal_text (HeldBy name.now)) }
+    ensures { OnOk result (out.new.items ≡ out.old.items ++ refusal_text (HeldBy name.now)) }
 {
     push_text(out, b"E20 ")?;
-    push_text(out, name.bytes())?;
-    Ok(())
+    push_text(out, name.bytes())
 }
 
 /// Appends the code of the refusal and what stands behind it: the place of a number, the parts of a shape, the name of an editor.
 pub fn push_refusal(out: &mut Vec<u8>, refusal: &Refusal) -> Result<(), NoMemory>
-    ensures { Appends result out.old.items out.new.items (refusal_text (refusal_of refusal.now)) }
+    ensures { OnOk result (out.new.items ≡ out.old.items ++ refusal_text (refusal_of refusal.now)) }
 {
     match refusal {
         Refusal::Line(refusal) => push_line_refusal(out, *refusal),

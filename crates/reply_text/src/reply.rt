@@ -1,15 +1,13 @@
+ghost use Rattle.std.specs.Prelude.{◌≡◌, ◌++◌, OnOk};
 ghost use Rattle.script_terms.specs.Reply.{Number, Judged, Refused, reply_text};
 ghost use Rattle.reply_text.specs.Replies.{refusal_of, said_of};
-ghost use Rattle.wkt_text.specs.Appended.{Appends};
 
-use crate::cells::push_cell_list;
-use crate::dirt::push_dirty_list;
-use crate::errors::push_error_list;
-use crate::features::push_feature_list;
-use crate::numbers::{push_number, push_text};
+use crate::listings::{
+    push_cell_list, push_dirty_list, push_error_list, push_feature_list, push_rule_list,
+};
 use crate::refusal::{Refusal, push_refusal};
-use crate::rules::push_rule_list;
 use grid_plane::NoMemory;
+use text_out::{push_digits, push_end, push_text};
 use topo_core::{KindRules, Summary, Topology};
 
 /// What a line is answered. A listing lists the topology that it is said of.
@@ -38,44 +36,40 @@ pub enum Reply {
 }
 
 pub fn push_given(out: &mut Vec<u8>, number: u32) -> Result<(), NoMemory>
-    ensures { Appends result out.old.items out.new.items (reply_text (Number number)) }
+    ensures { OnOk result (out.new.items ≡ out.old.items ++ reply_text (Number number)) }
 {
     push_text(out, b"ok ")?;
-    push_number(out, number)?;
-    push_text(out, b"\n")?;
-    Ok(())
+    push_digits(out, number)?;
+    push_end(out)
 }
 
 pub fn push_judged(out: &mut Vec<u8>, summary: Summary) -> Result<(), NoMemory>
-    ensures { Appends result out.old.items out.new.items (reply_text (Judged summary.judged summary.errors summary.dirty)) }
+    ensures { OnOk result (out.new.items ≡ out.old.items ++ reply_text (Judged summary.judged summary.errors summary.dirty)) }
 {
     push_text(out, b"ok judged ")?;
-    push_number(out, summary.judged)?;
+    push_digits(out, summary.judged)?;
     push_text(out, b" errors ")?;
-    push_number(out, summary.errors)?;
+    push_digits(out, summary.errors)?;
     push_text(out, b" dirty ")?;
-    push_number(out, summary.dirty)?;
-    push_text(out, b"\n")?;
-    Ok(())
+    push_digits(out, summary.dirty)?;
+    push_end(out)
 }
 
 pub fn push_refused(out: &mut Vec<u8>, refusal: &Refusal) -> Result<(), NoMemory>
-    ensures { Appends result out.old.items out.new.items (reply_text (Refused (refusal_of refusal.now))) }
+    ensures { OnOk result (out.new.items ≡ out.old.items ++ reply_text (Refused (refusal_of refusal.now))) }
 {
     push_text(out, b"refused ")?;
     push_refusal(out, refusal)?;
-    push_text(out, b"\n")?;
-    Ok(())
+    push_end(out)
 }
 
-/// Appends the text of a reply, each line with one LF at its end; a listing lists this topology. `NoMemory` comes where memory
-/// runs out: a front of the text is appended then, and the old text stays.
+/// Appends the text of a reply, each line with one LF at its end; a listing lists this topology. `NoMemory` comes where memory runs out.
 pub fn push_reply<R: KindRules>(
     out: &mut Vec<u8>,
     topology: &Topology<R>,
     reply: &Reply,
 ) -> Result<(), NoMemory>
-    ensures { Appends result out.old.items out.new.items (reply_text (said_of topology.now reply.now)) }
+    ensures { OnOk result (out.new.items ≡ out.old.items ++ reply_text (said_of topology.now reply.now)) }
 {
     match reply {
         Reply::Nothing => Ok(()),

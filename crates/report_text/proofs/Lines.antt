@@ -10,7 +10,7 @@ use Rattle.csv.proofs.WriteFacts.{appends-more}
 use Rattle.topology_terms.specs.Entry.{Entry}
 use Rattle.topology_terms.specs.Project.{InForce, rule_at}
 use Rattle.script_terms.specs.Report.{report_fields}
-use Rattle.wkt_text.proofs.Said.{said_more}
+use Rattle.text_out.proofs.Pushing.{said_more}
 use Rattle.report_text.specs.Tables.{IsPlain, IsPlainRow, line_of, header_fields, frame_fields}
 use Rattle.report_text.proofs.Plain.{plain_decimal, plain_signed, plain_word, plain_extent, plain_mark}
 

@@ -1,9 +1,9 @@
 -- Which fields need no quotes: numbers, and the words of the report.
-use Rattle.std.proofs.Common.{◌≡◌, ℕ, ◌<◌, ◌≤◌, ◌+◌, ◌%◌, ◌/◌, zero, suc, Bool, true, false, arith, List, [], ◌∷◌, refl, ◌∙◌, ℤ, pos, negsuc, Option, Some, None}
-use Rattle.std.specs.Prelude.{decimal, codes, if◌then◌else◌, ◌||◌, ◌==◌, nat_lt}
+use Rattle.std.proofs.Common.{◌≡◌, ℕ, ◌≤◌, ◌+◌, suc, Bool, true, false, arith, List, ◌∷◌, refl, ℤ, pos, negsuc, Option, Some, None}
+use Rattle.std.specs.Prelude.{decimal, if◌then◌else◌, nat_lt}
 use Rattle.std.specs.Fmt.{digit_glyph, signed_decimal}
 use Rattle.std.proofs.lemmas.Bool.Decides.{nat_tests}
-use Rattle.csv.specs.Writing.{default_writer, needs_byte, needs_quotes}
+use Rattle.csv.specs.Writing.{default_writer, needs_byte}
 use Rattle.text_terms.proofs.Decimals.{decimal_has}
 use Rattle.rule_words.specs.Table.{word_of}
 use Rattle.rule_words.specs.declared.rule_kind.RuleKind.{RuleKind}

@@ -6,7 +6,7 @@
 -- header_fields        the names of the fields of a report
 -- key_fields, frame_fields     the first four fields of an error, and its last four
 -- IsReady w            the writer is set up as by default, with a line feed behind each record, and stands between records
-use Rattle.std.specs.Prelude.{◌≡◌, ◌≤◌, ℕ, Bool, false, List, [], ◌∷◌, ◌++◌, length, codes, decimal}
+use Rattle.std.specs.Prelude.{◌≡◌, ◌≤◌, ℕ, false, List, [], ◌∷◌, ◌++◌, length, codes, decimal}
 use Rattle.std.specs.List.{join_with_byte}
 use Rattle.std.specs.Fmt.{signed_decimal}
 use Rattle.plane_terms.specs.Lists.{Every}

@@ -1,6 +1,5 @@
 ghost use Rattle.std.specs.Prelude.{◌≡◌, ◌++◌, ◌∷◌, [], OnOk};
-ghost use Rattle.topology_terms.specs.Extents.{is_whole};
-ghost use Rattle.script_terms.specs.Report.{rule_word, extent_word, mark_word, report_fields};
+ghost use Rattle.script_terms.specs.Report.{rule_word, report_fields};
 ghost use Rattle.csv.specs.Records.{fields_of, partial_of};
 ghost use Rattle.report_text.specs.Tables.{key_fields, frame_fields};
 
@@ -9,7 +8,7 @@ use error_store::Entry;
 use grid_plane::{NoMemory, Rect};
 use itoa::{Buffer, Integer};
 use rule_core::InForce;
-use topology_terms::Extent;
+use text_out::{extent_word, mark_word};
 
 fn push_field(row: &mut ByteRecord, field: &[u8]) -> Result<(), NoMemory>
     requires { partial_of row.old ≡ [] }
@@ -40,21 +39,6 @@ fn word_of_rule(rules: &[InForce], number: u16) -> &'static str
         }
     }
     ""
-}
-
-fn extent_of(extent: Extent) -> &'static [u8]
-    ensures { result.now ≡ extent_word (is_whole extent) }
-{
-    match extent {
-        Extent::Whole => b"whole",
-        Extent::Cells => b"cells",
-    }
-}
-
-fn mark_of(marked: bool) -> &'static [u8]
-    ensures { result.now ≡ mark_word marked }
-{
-    if marked { b"exception" } else { b"error" }
 }
 
 // Rule, word, subject and partner.
@@ -88,7 +72,7 @@ pub fn set_entry(row: &mut ByteRecord, rules: &[InForce], entry: &Entry) -> Resu
 {
     row.clear();
     push_key(row, rules, entry)?;
-    push_field(row, extent_of(entry.extent()))?;
-    push_field(row, mark_of(entry.marked()))?;
+    push_field(row, extent_word(entry.extent()))?;
+    push_field(row, mark_word(entry.marked()))?;
     push_frame(row, &entry.frame())
 }

@@ -1,7 +1,5 @@
-ghost use Rattle.std.specs.Prelude.{◌≡◌, ◌≢◌, ◌≤◌, ◌⊎◌, ℕ, List, map, string_bytes, codes};
+ghost use Rattle.std.specs.Prelude.{◌≡◌, ◌≢◌, ◌≤◌, ◌⊎◌, ℕ, List, codes};
 ghost use Rattle.outside_terms.specs.Shelves.{KeepsHeld};
-ghost use Rattle.outside_terms.specs.Statuses.{code_of};
-ghost use Rattle.outside_terms.specs.declared.status.Status.{Status};
 ghost use Rattle.script_terms.specs.Ends.{EndsAs, EndsAsUsage, IsComplete, IsReplay};
 ghost use Rattle.town_terms.specs.Ends.{EndsAsTown, IsTownComplete};
 ghost use Rattle.town_terms.specs.Request.{IsTownRequest};
@@ -12,6 +10,7 @@ ghost use Rattle.opening_terms.specs.Reporting.{EndsAsReport, IsReportComplete};
 ghost use Rattle.opening_terms.specs.Replaying.{EndsAsReplayOf, IsReplayOfComplete};
 ghost use Rattle.opening_terms.specs.Saving.{EndsAsReplayTo, IsReplayToComplete};
 ghost use Rattle.topo_run.specs.Asked.{IsFit, EndsAsAsked, UnlessReplay, UnlessNamed, UnlessSaved};
+ghost use Rattle.opening_terms.specs.Passed.{bytes_of, passed, visited, HasStatus, IfNoTarget, IfNoReplayed, IfNoProject};
 ghost use Rattle.topo_run.specs.Unopened.{IfUnopened};
 
 use crate::check::check;
@@ -31,7 +30,7 @@ pub const USAGE: &str =
     "usage: topo replay [PROJECT [TARGET]] | check PROJECT | report PROJECT | town SEED N\n";
 
 fn say_usage<K: Sink>(sink: &mut K) -> Status
-    ensures usage { EndsAsUsage (record { old = K.written sink.old; new = K.written sink.new; before = K.faults sink.old; now = K.faults sink.new }) result }
+    ensures usage { EndsAsUsage (passed K.written K.faults sink.old sink.new) result }
     ensures later { K.faults sink.old ≤ K.faults sink.new }
 {
     say(sink, USAGE.as_bytes(), Status::Usage)
@@ -48,9 +47,9 @@ fn act<S: Source, K: Sink, H: Shelf>(
 ) -> Status
     requires { IsFit words }
     ensures ends { EndsAsAsked words.entry
-        (record { old = S.left source.old; new = S.left source.new; before = S.faults source.old; now = S.faults source.new })
-        (record { old = H.held shelf.old; new = H.held shelf.new; before = H.faults shelf.old; now = H.faults shelf.new })
-        (record { old = K.written sink.old; new = K.written sink.new; before = K.faults sink.old; now = K.faults sink.new })
+        (passed S.left S.faults source.old source.new)
+        (visited H.held H.faults shelf.old shelf.new)
+        (passed K.written K.faults sink.old sink.new)
         result }
     ensures unread { UnlessReplay words.entry (source.new ≡ source.old) }
     ensures untouched { UnlessNamed words.entry (shelf.new ≡ shelf.old) }
@@ -97,69 +96,55 @@ pub fn run<S: Source, K: Sink, H: Shelf>(
     sink: &mut K,
     shelf: &mut H,
 ) -> u8
-    ensures replay { IsReplay words.now.items → (s : Status) × (result ≡ code_of s) × EndsAs
-        (record { old = S.left source.old; new = S.left source.new; before = S.faults source.old; now = S.faults source.new })
-        (record { old = K.written sink.old; new = K.written sink.new; before = K.faults sink.old; now = K.faults sink.new })
-        s }
-    ensures complete { IsReplay words.now.items → IsComplete
-        (record { old = S.left source.old; new = S.left source.new; before = S.faults source.old; now = S.faults source.new })
-        (record { old = K.written sink.old; new = K.written sink.new; before = K.faults sink.old; now = K.faults sink.new })
-        result }
-    ensures town { (seed n : ℕ) → IsTownRequest (map (λ w. string_bytes w) words.now.items) seed n → (s : Status) × (result ≡ code_of s) × EndsAsTown seed n
-        (record { old = K.written sink.old; new = K.written sink.new; before = K.faults sink.old; now = K.faults sink.new }) s }
-    ensures town_complete { (seed n : ℕ) → IsTownRequest (map (λ w. string_bytes w) words.now.items) seed n → IsTownComplete seed n
-        (record { old = K.written sink.old; new = K.written sink.new; before = K.faults sink.old; now = K.faults sink.new }) result }
-    ensures replay_of { (project : List ℕ) → IsReplayOf (map (λ w. string_bytes w) words.now.items) project → (s : Status) × (result ≡ code_of s) × EndsAsReplayOf project
-        (record { old = S.left source.old; new = S.left source.new; before = S.faults source.old; now = S.faults source.new })
-        (record { old = H.held shelf.old; new = H.held shelf.new; before = H.faults shelf.old; now = H.faults shelf.new })
-        (record { old = K.written sink.old; new = K.written sink.new; before = K.faults sink.old; now = K.faults sink.new }) s }
-    ensures replay_of_complete { (project : List ℕ) → IsReplayOf (map (λ w. string_bytes w) words.now.items) project → IsReplayOfComplete project
-        (record { old = S.left source.old; new = S.left source.new; before = S.faults source.old; now = S.faults source.new })
-        (record { old = H.held shelf.old; new = H.held shelf.new; before = H.faults shelf.old; now = H.faults shelf.new })
-        (record { old = K.written sink.old; new = K.written sink.new; before = K.faults sink.old; now = K.faults sink.new }) result }
-    ensures replay_of_opening { (project : List ℕ) → IsReplayOf (map (λ w. string_bytes w) words.now.items) project → project ≢ codes "-" → IsOpeningComplete project
-        (record { old = H.held shelf.old; new = H.held shelf.new; before = H.faults shelf.old; now = H.faults shelf.new })
-        (record { old = K.written sink.old; new = K.written sink.new; before = K.faults sink.old; now = K.faults sink.new }) result }
-    ensures replay_to { (project target : List ℕ) → IsReplayTo (map (λ w. string_bytes w) words.now.items) project target → (s : Status) × (result ≡ code_of s) × EndsAsReplayTo project target
-        (record { old = S.left source.old; new = S.left source.new; before = S.faults source.old; now = S.faults source.new })
-        (record { old = H.held shelf.old; new = H.held shelf.new; before = H.faults shelf.old; now = H.faults shelf.new })
-        (record { old = K.written sink.old; new = K.written sink.new; before = K.faults sink.old; now = K.faults sink.new }) s }
-    ensures replay_to_complete { (project target : List ℕ) → IsReplayTo (map (λ w. string_bytes w) words.now.items) project target → IsReplayToComplete project target
-        (record { old = S.left source.old; new = S.left source.new; before = S.faults source.old; now = S.faults source.new })
-        (record { old = H.held shelf.old; new = H.held shelf.new; before = H.faults shelf.old; now = H.faults shelf.new })
-        (record { old = K.written sink.old; new = K.written sink.new; before = K.faults sink.old; now = K.faults sink.new }) result }
-    ensures replay_to_opening { (project target : List ℕ) → IsReplayTo (map (λ w. string_bytes w) words.now.items) project target → project ≢ codes "-" → IsOpeningComplete project
-        (record { old = H.held shelf.old; new = H.held shelf.new; before = H.faults shelf.old; now = H.faults shelf.new })
-        (record { old = K.written sink.old; new = K.written sink.new; before = K.faults sink.old; now = K.faults sink.new }) result }
-    ensures check { (project : List ℕ) → IsCheckOf (map (λ w. string_bytes w) words.now.items) project → (s : Status) × (result ≡ code_of s) × EndsAsCheck project
-        (record { old = H.held shelf.old; new = H.held shelf.new; before = H.faults shelf.old; now = H.faults shelf.new })
-        (record { old = K.written sink.old; new = K.written sink.new; before = K.faults sink.old; now = K.faults sink.new }) s }
-    ensures check_complete { (project : List ℕ) → IsCheckOf (map (λ w. string_bytes w) words.now.items) project → IsCheckComplete project
-        (record { old = H.held shelf.old; new = H.held shelf.new; before = H.faults shelf.old; now = H.faults shelf.new })
-        (record { old = K.written sink.old; new = K.written sink.new; before = K.faults sink.old; now = K.faults sink.new }) result }
-    ensures check_opening { (project : List ℕ) → IsCheckOf (map (λ w. string_bytes w) words.now.items) project → IsOpeningComplete project
-        (record { old = H.held shelf.old; new = H.held shelf.new; before = H.faults shelf.old; now = H.faults shelf.new })
-        (record { old = K.written sink.old; new = K.written sink.new; before = K.faults sink.old; now = K.faults sink.new }) result }
-    ensures report { (project : List ℕ) → IsReportOf (map (λ w. string_bytes w) words.now.items) project → (s : Status) × (result ≡ code_of s) × EndsAsReport project
-        (record { old = H.held shelf.old; new = H.held shelf.new; before = H.faults shelf.old; now = H.faults shelf.new })
-        (record { old = K.written sink.old; new = K.written sink.new; before = K.faults sink.old; now = K.faults sink.new }) s }
-    ensures report_complete { (project : List ℕ) → IsReportOf (map (λ w. string_bytes w) words.now.items) project → IsReportComplete project
-        (record { old = H.held shelf.old; new = H.held shelf.new; before = H.faults shelf.old; now = H.faults shelf.new })
-        (record { old = K.written sink.old; new = K.written sink.new; before = K.faults sink.old; now = K.faults sink.new }) result }
-    ensures report_opening { (project : List ℕ) → IsReportOf (map (λ w. string_bytes w) words.now.items) project → IsOpeningComplete project
-        (record { old = H.held shelf.old; new = H.held shelf.new; before = H.faults shelf.old; now = H.faults shelf.new })
-        (record { old = K.written sink.old; new = K.written sink.new; before = K.faults sink.old; now = K.faults sink.new }) result }
-    ensures usage { ¬ (IsReplay words.now.items) → ((project : List ℕ) → ¬ (IsReplayOf (map (λ w. string_bytes w) words.now.items) project)) → ((project target : List ℕ) → ¬ (IsReplayTo (map (λ w. string_bytes w) words.now.items) project target)) → ((project : List ℕ) → ¬ (IsCheckOf (map (λ w. string_bytes w) words.now.items) project))
-        → ((project : List ℕ) → ¬ (IsReportOf (map (λ w. string_bytes w) words.now.items) project)) → ((seed n : ℕ) → ¬ (IsTownRequest (map (λ w. string_bytes w) words.now.items) seed n))
-        → (s : Status) × (result ≡ code_of s) × EndsAsUsage
-        (record { old = K.written sink.old; new = K.written sink.new; before = K.faults sink.old; now = K.faults sink.new }) s }
-    ensures unread { ¬ (IsReplay words.now.items) → ((project : List ℕ) → ¬ (IsReplayOf (map (λ w. string_bytes w) words.now.items) project)) → ((project target : List ℕ) → ¬ (IsReplayTo (map (λ w. string_bytes w) words.now.items) project target)) → source.new ≡ source.old }
+    ensures replay { IsReplay words.now.items
+        → HasStatus result (EndsAs (passed S.left S.faults source.old source.new) (passed K.written K.faults sink.old sink.new)) }
+    ensures complete { IsReplay words.now.items
+        → IsComplete (passed S.left S.faults source.old source.new) (passed K.written K.faults sink.old sink.new) result }
+    ensures town { (seed n : ℕ) → IsTownRequest (bytes_of words.now.items) seed n
+        → HasStatus result (EndsAsTown seed n (passed K.written K.faults sink.old sink.new)) }
+    ensures town_complete { (seed n : ℕ) → IsTownRequest (bytes_of words.now.items) seed n
+        → IsTownComplete seed n (passed K.written K.faults sink.old sink.new) result }
+    ensures replay_of { (project : List ℕ) → IsReplayOf (bytes_of words.now.items) project
+        → HasStatus result (EndsAsReplayOf project (passed S.left S.faults source.old source.new)
+        (visited H.held H.faults shelf.old shelf.new) (passed K.written K.faults sink.old sink.new)) }
+    ensures replay_of_complete { (project : List ℕ) → IsReplayOf (bytes_of words.now.items) project
+        → IsReplayOfComplete project (passed S.left S.faults source.old source.new)
+        (visited H.held H.faults shelf.old shelf.new) (passed K.written K.faults sink.old sink.new) result }
+    ensures replay_of_opening { (project : List ℕ) → IsReplayOf (bytes_of words.now.items) project → project ≢ codes "-"
+        → IsOpeningComplete project (visited H.held H.faults shelf.old shelf.new) (passed K.written K.faults sink.old sink.new) result }
+    ensures replay_to { (project target : List ℕ) → IsReplayTo (bytes_of words.now.items) project target
+        → HasStatus result (EndsAsReplayTo project target (passed S.left S.faults source.old source.new)
+        (visited H.held H.faults shelf.old shelf.new) (passed K.written K.faults sink.old sink.new)) }
+    ensures replay_to_complete { (project target : List ℕ) → IsReplayTo (bytes_of words.now.items) project target
+        → IsReplayToComplete project target (passed S.left S.faults source.old source.new)
+        (visited H.held H.faults shelf.old shelf.new) (passed K.written K.faults sink.old sink.new) result }
+    ensures replay_to_opening { (project target : List ℕ) → IsReplayTo (bytes_of words.now.items) project target → project ≢ codes "-"
+        → IsOpeningComplete project (visited H.held H.faults shelf.old shelf.new) (passed K.written K.faults sink.old sink.new) result }
+    ensures check { (project : List ℕ) → IsCheckOf (bytes_of words.now.items) project
+        → HasStatus result (EndsAsCheck project (visited H.held H.faults shelf.old shelf.new) (passed K.written K.faults sink.old sink.new)) }
+    ensures check_complete { (project : List ℕ) → IsCheckOf (bytes_of words.now.items) project
+        → IsCheckComplete project (visited H.held H.faults shelf.old shelf.new) (passed K.written K.faults sink.old sink.new) result }
+    ensures check_opening { (project : List ℕ) → IsCheckOf (bytes_of words.now.items) project
+        → IsOpeningComplete project (visited H.held H.faults shelf.old shelf.new) (passed K.written K.faults sink.old sink.new) result }
+    ensures report { (project : List ℕ) → IsReportOf (bytes_of words.now.items) project
+        → HasStatus result (EndsAsReport project (visited H.held H.faults shelf.old shelf.new) (passed K.written K.faults sink.old sink.new)) }
+    ensures report_complete { (project : List ℕ) → IsReportOf (bytes_of words.now.items) project
+        → IsReportComplete project (visited H.held H.faults shelf.old shelf.new) (passed K.written K.faults sink.old sink.new) result }
+    ensures report_opening { (project : List ℕ) → IsReportOf (bytes_of words.now.items) project
+        → IsOpeningComplete project (visited H.held H.faults shelf.old shelf.new) (passed K.written K.faults sink.old sink.new) result }
+    ensures usage { ¬ (IsReplay words.now.items)
+        → ((project : List ℕ) → ¬ (IsReplayOf (bytes_of words.now.items) project))
+        → ((project target : List ℕ) → ¬ (IsReplayTo (bytes_of words.now.items) project target))
+        → ((project : List ℕ) → ¬ (IsCheckOf (bytes_of words.now.items) project))
+        → ((project : List ℕ) → ¬ (IsReportOf (bytes_of words.now.items) project))
+        → ((seed n : ℕ) → ¬ (IsTownRequest (bytes_of words.now.items) seed n))
+        → HasStatus result (EndsAsUsage (passed K.written K.faults sink.old sink.new)) }
+    ensures unread { ¬ (IsReplay words.now.items) → IfNoReplayed (bytes_of words.now.items) (source.new ≡ source.old) }
     ensures unopened { (result ≡ 6) ⊎ ((result ≡ 7) ⊎ (result ≡ 11)) → source.new ≡ source.old }
     ensures counts { (S.faults source.old ≤ S.faults source.new) × (K.faults sink.old ≤ K.faults sink.new) }
     ensures shelf_count { H.faults shelf.old ≤ H.faults shelf.new }
-    ensures shelf { ((project : List ℕ) → ¬ (IsReplayOf (map (λ w. string_bytes w) words.now.items) project)) → ((project target : List ℕ) → ¬ (IsReplayTo (map (λ w. string_bytes w) words.now.items) project target)) → ((project : List ℕ) → ¬ (IsCheckOf (map (λ w. string_bytes w) words.now.items) project))
-        → ((project : List ℕ) → ¬ (IsReportOf (map (λ w. string_bytes w) words.now.items) project)) → shelf.new ≡ shelf.old }
-    ensures kept { ((project target : List ℕ) → ¬ (IsReplayTo (map (λ w. string_bytes w) words.now.items) project target)) → KeepsHeld (H.held shelf.old) (H.held shelf.new) }
+    ensures shelf { IfNoProject (bytes_of words.now.items) (shelf.new ≡ shelf.old) }
+    ensures kept { IfNoTarget (bytes_of words.now.items) (KeepsHeld (H.held shelf.old) (H.held shelf.new)) }
 {
     code_of(act(alloc, words_of(words), source, sink, shelf))
 }

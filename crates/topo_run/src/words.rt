@@ -1,6 +1,7 @@
-ghost use Rattle.std.specs.Prelude.{◌≡◌, ◌≢◌, ◌↔◌, ℕ, List, [], ◌∷◌, map, IsTrue, MatchOption, string_bytes, codes};
+ghost use Rattle.std.specs.Prelude.{◌≡◌, ◌≢◌, ◌↔◌, ℕ, List, [], ◌∷◌, IsTrue, MatchOption, string_bytes, codes};
 ghost use Rattle.script_terms.specs.Ends.{IsReplay};
 ghost use Rattle.topo_run.specs.Asked.{IsAskedBy};
+ghost use Rattle.opening_terms.specs.Passed.{bytes_of};
 
 use town_maker::{TownRequest, town_request};
 
@@ -39,8 +40,8 @@ fn is_replay(words: &Vec<String>) -> bool
 // The second of two words of which the first is this one, where it is not empty.
 fn named_by<'a>(words: &'a Vec<String>, form: &str) -> Option<&'a str>
     ensures { MatchOption result
-        ((name : List ℕ) → map (λ w. string_bytes w) words.now.items ≡ form.now ∷ name ∷ [] → name ≢ [] → ⊥)
-        (λ name. (map (λ w. string_bytes w) words.now.items ≡ form.now ∷ name.now ∷ []) × (name.now ≢ [])) }
+        ((name : List ℕ) → bytes_of words.now.items ≡ form.now ∷ name ∷ [] → name ≢ [] → ⊥)
+        (λ name. (bytes_of words.now.items ≡ form.now ∷ name.now ∷ []) × (name.now ≢ [])) }
 {
     if words.len() != 2 || !is_word(&words[0], form) || words[1].is_empty() {
         return None;
@@ -51,8 +52,8 @@ fn named_by<'a>(words: &'a Vec<String>, form: &str) -> Option<&'a str>
 // The second and third of three words of which the first is `replay`, where they are not empty.
 fn saved_by(words: &Vec<String>) -> Option<(&str, &str)>
     ensures { MatchOption result
-        ((name target : List ℕ) → map (λ w. string_bytes w) words.now.items ≡ codes "replay" ∷ name ∷ target ∷ [] → name ≢ [] → target ≢ [] → ⊥)
-        (λ both. (map (λ w. string_bytes w) words.now.items ≡ codes "replay" ∷ both.0.now ∷ both.1.now ∷ []) × (both.0.now ≢ []) × (both.1.now ≢ [])) }
+        ((name target : List ℕ) → bytes_of words.now.items ≡ codes "replay" ∷ name ∷ target ∷ [] → name ≢ [] → target ≢ [] → ⊥)
+        (λ both. (bytes_of words.now.items ≡ codes "replay" ∷ both.0.now ∷ both.1.now ∷ []) × (both.0.now ≢ []) × (both.1.now ≢ [])) }
 {
     if words.len() != 3 || !is_word(&words[0], "replay") {
         return None;
@@ -65,7 +66,7 @@ fn saved_by(words: &Vec<String>) -> Option<(&str, &str)>
 
 /// What these words, those after the program's name, ask for.
 pub fn words_of(words: &Vec<String>) -> Words<'_>
-    ensures { IsAskedBy (map (λ w. string_bytes w) words.now.items) result }
+    ensures { IsAskedBy (bytes_of words.now.items) result }
 {
     if is_replay(words) {
         return Words::Replay;

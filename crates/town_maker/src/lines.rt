@@ -1,42 +1,24 @@
-ghost use Rattle.std.specs.Prelude.{◌≡◌, ◌≤◌, ◌++◌, codes, decimal, OnOk};
+ghost use Rattle.std.specs.Prelude.{◌≡◌, ◌≤◌, ◌++◌, codes, OnOk};
 ghost use Rattle.plane_terms.specs.Shape.{point_shape};
 ghost use Rattle.wkt_terms.specs.Shapes.{shape_text};
 ghost use Rattle.wkt_terms.specs.Written.{place_text};
 ghost use Rattle.town_terms.specs.Town.{place, parcel, address, road, added, parcel_line};
 
 use grid_plane::NoMemory;
-use itoa::Buffer;
-
-/// Appends these bytes.
-pub fn push_text(out: &mut Vec<u8>, text: &[u8]) -> Result<(), NoMemory>
-    ensures { OnOk result (out.new.items ≡ out.old.items ++ text.now) }
-{
-    out.extend_from_slice(text)?;
-    Ok(())
-}
-
-/// Appends the number as a decimal.
-pub fn push_number(out: &mut Vec<u8>, number: u64) -> Result<(), NoMemory>
-    ensures { OnOk result (out.new.items ≡ out.old.items ++ decimal number) }
-{
-    let mut buffer = Buffer::new();
-    push_text(out, buffer.format(number).as_bytes())
-}
+use text_out::{push_byte, push_comma, push_end, push_pair, push_text};
 
 // The two coordinates, with a space between them.
 fn push_place(out: &mut Vec<u8>, x: u64, y: u64) -> Result<(), NoMemory>
     ensures { OnOk result (out.new.items ≡ out.old.items ++ place_text (place x y)) }
 {
-    push_number(out, x)?;
-    push_text(out, b" ")?;
-    push_number(out, y)
+    push_pair(out, x, y)
 }
 
 // A place behind a comma.
 fn push_next_place(out: &mut Vec<u8>, x: u64, y: u64) -> Result<(), NoMemory>
     ensures { OnOk result (out.new.items ≡ out.old.items ++ (codes ", " ++ place_text (place x y))) }
 {
-    push_text(out, b", ")?;
+    push_comma(out)?;
     push_place(out, x, y)
 }
 
@@ -63,7 +45,7 @@ fn push_point(out: &mut Vec<u8>, x: u64, y: u64) -> Result<(), NoMemory>
 {
     push_text(out, b"POINT (")?;
     push_place(out, x, y)?;
-    push_text(out, b")")
+    push_byte(out, b')')
 }
 
 // The written form of the line along the foot of this row.
@@ -78,7 +60,7 @@ fn push_street(out: &mut Vec<u8>, columns: u64, w: u64, row: u64) -> Result<(), 
     push_place(out, 0, y)?;
     push_next_place(out, 1 + w % (100 * columns - 1), y)?;
     push_next_place(out, 100 * columns, y)?;
-    push_text(out, b")")
+    push_byte(out, b')')
 }
 
 /// Appends the line that adds the parcel of this row and column.
@@ -89,7 +71,7 @@ pub fn push_parcel(out: &mut Vec<u8>, row: u64, column: u64) -> Result<(), NoMem
 {
     push_text(out, b"by maker add parcels ")?;
     push_square(out, row, column)?;
-    push_text(out, b"\n")
+    push_end(out)
 }
 
 /// Appends the line that adds an address inside the parcel of this row and column, by two words.
@@ -106,7 +88,7 @@ pub fn push_address(
 {
     push_text(out, b"by maker add addresses ")?;
     push_point(out, 100 * column + 1 + u % 99, 100 * row + 1 + v % 99)?;
-    push_text(out, b"\n")
+    push_end(out)
 }
 
 /// Appends the line that adds the road along the foot of this row, of so many columns, by a word.
@@ -118,5 +100,5 @@ pub fn push_road(out: &mut Vec<u8>, columns: u64, w: u64, row: u64) -> Result<()
 {
     push_text(out, b"by maker add roads ")?;
     push_street(out, columns, w, row)?;
-    push_text(out, b"\n")
+    push_end(out)
 }

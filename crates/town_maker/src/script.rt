@@ -2,11 +2,11 @@ ghost use Rattle.std.specs.Prelude.{◌≡◌, ◌≤◌, ◌++◌, IfOk, OnOk};
 ghost use Rattle.text_terms.specs.Wkt.{◌⧺◌};
 ghost use Rattle.town_terms.specs.Town.{each_below, head_text, validate_all, late_line, window_line, town_text};
 
-use crate::lines::{push_number, push_text};
 use crate::rows::{push_late_addresses, push_rows};
 use crate::town::Town;
 use grid_plane::NoMemory;
 use std::alloc::Global;
+use text_out::{push_end, push_pair, push_text};
 
 const CLASSES: &[u8] = b"\
 class parcels polygon
@@ -37,10 +37,8 @@ fn push_window(out: &mut Vec<u8>, rows: u64) -> Result<(), NoMemory>
     ensures { OnOk result (out.new.items ≡ out.old.items ++ window_line rows) }
 {
     push_text(out, b"validate 0 0 ")?;
-    push_number(out, 100 * rows)?;
-    push_text(out, b" ")?;
-    push_number(out, 100 * (rows / 2))?;
-    push_text(out, b"\n")
+    push_pair(out, 100 * rows, 100 * (rows / 2))?;
+    push_end(out)
 }
 
 // The first validation, the addresses that come late, the second validation.

@@ -2,9 +2,8 @@ ghost use Rattle.std.specs.Prelude.{◌≡◌, ◌++◌, codes, sum, OnOk};
 ghost use Rattle.town_terms.specs.Summary.{count_line, summary_text};
 ghost use Rattle.town_maker.specs.Counted.{counts_of};
 
-use crate::lines::{push_number, push_text};
 use grid_plane::NoMemory;
-use itoa::Buffer;
+use text_out::{push_end, push_number, push_text};
 
 /// What is counted at the end of a town's run.
 #[derive(Clone, Copy)]
@@ -36,19 +35,17 @@ fn push_count(out: &mut Vec<u8>, word: &[u8], count: u64) -> Result<(), NoMemory
     ensures { OnOk result (out.new.items ≡ out.old.items ++ count_line word.now count) }
 {
     push_text(out, word)?;
-    push_text(out, b" ")?;
     push_number(out, count)?;
-    push_text(out, b"\n")
+    push_end(out)
 }
 
 // The line of the sum of texts.
 fn push_byte_sum(out: &mut Vec<u8>, total: u128) -> Result<(), NoMemory>
     ensures { OnOk result (out.new.items ≡ out.old.items ++ count_line (codes "text") total) }
 {
-    let mut buffer = Buffer::new();
-    push_text(out, b"text ")?;
-    push_text(out, buffer.format(total).as_bytes())?;
-    push_text(out, b"\n")
+    push_text(out, b"text")?;
+    push_number(out, total)?;
+    push_end(out)
 }
 
 // The lines on errors, dirt and texts.

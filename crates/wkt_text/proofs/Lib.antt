@@ -7,8 +7,6 @@ pub mod Writing
 pub mod Again
 pub mod Geometries
 pub mod Places
-pub mod Pushing
-pub mod Said
-pub mod Values
+pub mod Items
 pub mod OneShapeFault
 pub mod OneFault

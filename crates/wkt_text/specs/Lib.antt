@@ -1,4 +1,3 @@
-pub mod Appended
 pub mod Closed
 pub mod Faults
 pub mod Meanings

@@ -1,4 +1,4 @@
-use Rattle.std.proofs.Common.{◌≡◌, sym, ap, ◌∙◌}
+use Rattle.std.proofs.Common.{sym, ap, ◌∙◌}
 use Rattle.project_terms.specs.Verdicts.{side_form}
 use Rattle.project_text.proofs.Sides.{whole_side, cut_side, no_cut_side}
 use Rattle.project_text.proofs.forms.side_form.Goals as goal

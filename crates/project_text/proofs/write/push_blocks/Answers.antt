@@ -5,7 +5,7 @@ use Rattle.std.proofs.lemmas.Option.{slice_get_read}
 use Rattle.dirty_area.specs.Blocks.{Block}
 use Rattle.dirty_area.proofs.Joins.{said_joined}
 use Rattle.project_text.specs.Pushed.{dirty_text}
-use Rattle.wkt_text.proofs.Said.{said_more}
+use Rattle.text_out.proofs.Pushing.{said_more}
 use Rattle.project_text.proofs.write.push_blocks.Goals as goal
 
 pub loop-block-preserved : goal.loop-block-preserved

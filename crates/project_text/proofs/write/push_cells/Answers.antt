@@ -1,6 +1,6 @@
 use Rattle.plane_terms.specs.Cell.{Cell}
 use Rattle.project_text.specs.Pushed.{cell_text}
-use Rattle.wkt_text.proofs.Said.{said_more}
+use Rattle.text_out.proofs.Pushing.{said_more}
 use Rattle.project_text.proofs.write.push_cells.Goals as goal
 
 pub loop-i-preserved : goal.loop-i-preserved

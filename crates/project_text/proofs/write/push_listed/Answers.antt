@@ -7,7 +7,7 @@ use Rattle.feature_store.specs.declared.slot.Slot.{Slot}
 use Rattle.feature_store.specs.Slots.{feature_in}
 use Rattle.feature_store.proofs.Filling.{flat_map_filled}
 use Rattle.project_text.specs.Pushed.{feature_text}
-use Rattle.wkt_text.proofs.Said.{said_more}
+use Rattle.text_out.proofs.Pushing.{said_more}
 use Rattle.project_text.proofs.write.push_listed.Goals as goal
 
 pub loop-slot-preserved : goal.loop-slot-preserved

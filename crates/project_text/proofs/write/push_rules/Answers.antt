@@ -1,7 +1,7 @@
 use Rattle.std.proofs.Common.{refl}
 use Rattle.std.proofs.lemmas.Option.{slice_get_read}
 use Rattle.project_text.specs.Pushed.{rule_text}
-use Rattle.wkt_text.proofs.Said.{said_more}
+use Rattle.text_out.proofs.Pushing.{said_more}
 use Rattle.project_text.proofs.write.push_rules.Goals as goal
 
 pub loop-rule-preserved : goal.loop-rule-preserved

@@ -1,7 +1,7 @@
 use Rattle.std.proofs.Common.{◌≡◌, ◌++◌, take}
 use Rattle.std.specs.Prelude.{flat_map}
-use Rattle.reply_text.specs.Lines.{entry_line}
+use Rattle.project_text.specs.Pushed.{error_text}
 use Rattle.reply_text.proofs.errors.push_run_lines.Given as goal
 
 abbrev pub invariant-loop-entry : goal.invariant-loop-entry
-invariant-loop-entry l = l.out.items ≡ l.initial.out.items ++ flat_map entry_line (take l.entry-index l.entries)
+invariant-loop-entry l = l.out.items ≡ l.initial.out.items ++ flat_map error_text (take l.entry-index l.entries)

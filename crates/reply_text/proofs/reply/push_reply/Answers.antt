@@ -4,10 +4,9 @@ use Rattle.plane_terms.specs.Rectangle.{Rectangle}
 use Rattle.topology_terms.specs.Entry.{Entry}
 use Rattle.topology_terms.specs.Feature.{Class, Feature}
 use Rattle.topology_terms.specs.Project.{InForce}
-use Rattle.project_text.specs.Pushed.{dirty_text, feature_text}
+use Rattle.project_text.specs.Pushed.{dirty_text, error_text, error_texts, feature_text, rule_text}
 use Rattle.script_terms.specs.Reply.{reply_text, total_line}
-use Rattle.wkt_text.proofs.Pushing.{as_text}
-use Rattle.reply_text.specs.Lines.{entry_line, entry_lines, rule_line}
+use Rattle.text_out.proofs.Pushing.{as_text}
 use Rattle.reply_text.specs.Replies.{said_of}
 use Rattle.reply_text.specs.declared.reply.Reply.{Reply}
 use Rattle.reply_text.proofs.Same.{dirt_listed, errors_listed, cells_listed, features_listed, rules_listed}
@@ -23,13 +22,13 @@ pub returns-in-ErrorList : goal.returns-in-ErrorList
 returns-in-ErrorList g c =
     let p = c.args.topology.now in
     as_text c.push_error_list.result _ _ _ _ (ap (λ (r : Reply). reply_text (said_of p r)) c.in-ErrorList.is ∙ (errors_listed p
-    ∙ ap (λ (es : List Entry). flat_map entry_line es ++ total_line (length es)) (sym c.errors.ensures))) c.push_error_list.ensures
+    ∙ ap (λ (es : List Entry). flat_map error_text es ++ total_line (length es)) (sym c.errors.ensures))) c.push_error_list.ensures
 
 pub returns-in-CellList : goal.returns-in-CellList
 returns-in-CellList g c =
     let p = c.args.topology.now in
     as_text c.push_cell_list.result _ _ _ _ (ap (λ (r : Reply). reply_text (said_of p r)) c.in-CellList.is ∙ (cells_listed p
-    ∙ ap (λ (es : List Entry). flat_map entry_lines es ++ total_line (length es)) (sym c.errors-in-CellList.ensures)))
+    ∙ ap (λ (es : List Entry). flat_map error_texts es ++ total_line (length es)) (sym c.errors-in-CellList.ensures)))
     c.push_cell_list.ensures
 
 pub returns-in-FeatureList : goal.returns-in-FeatureList
@@ -44,6 +43,6 @@ pub returns-in-RuleList : goal.returns-in-RuleList
 returns-in-RuleList g c =
     let p = c.args.topology.now in
     as_text c.push_rule_list.result _ _ _ _ (ap (λ (r : Reply). reply_text (said_of p r)) c.in-RuleList.is ∙ (rules_listed p
-    ∙ (ap (λ (cs : List Class). flat_map (rule_line cs) p.rules ++ total_line (length p.rules)) (sym c.store-in-RuleList.ensures.classes)
-    ∙ ap (λ (rs : List InForce). flat_map (rule_line c.store-in-RuleList.result.now.classes) rs ++ total_line (length rs))
+    ∙ (ap (λ (cs : List Class). flat_map (rule_text cs) p.rules ++ total_line (length p.rules)) (sym c.store-in-RuleList.ensures.classes)
+    ∙ ap (λ (rs : List InForce). flat_map (rule_text c.store-in-RuleList.result.now.classes) rs ++ total_line (length rs))
     (sym c.rules.ensures)))) c.push_rule_list.ensures

@@ -1,6 +1,6 @@
 use Rattle.std.proofs.Common.{arith}
 use Rattle.std.proofs.lemmas.Grind.{common_steps}
-use Rattle.wkt_text.proofs.Values.{as_number}
+use Rattle.text_out.proofs.Values.{as_number}
 use Rattle.report_text.proofs.fields.push_frame.Goals as goal
 
 pub returns-clause-fields : goal.returns-clause-fields

@@ -1,5 +1,5 @@
-use Rattle.town_maker.proofs.Pieces.{in_three}
+use Rattle.text_out.proofs.Pushing.{in_three}
 use Rattle.town_maker.proofs.lines.push_address.Goals as goal
 
 pub returns : goal.returns
-returns c = in_three _ _ _ _ _ _ _ _ c.in_ok-push_text.ensures c.in_ok-push_point.ensures c.push_text-2.ensures
+returns c = in_three _ _ _ _ _ _ _ _ c.in_ok-push_text.ensures c.in_ok-push_point.ensures c.push_end.ensures

@@ -1,4 +1,4 @@
-use Rattle.town_maker.proofs.Pieces.{in_three}
+use Rattle.text_out.proofs.Pushing.{in_three}
 use Rattle.town_maker.proofs.script.push_validations.Goals as goal
 
 pub returns : goal.returns

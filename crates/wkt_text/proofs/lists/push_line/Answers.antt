@@ -1,4 +1,5 @@
-use Rattle.wkt_text.proofs.Pushing.{one_line, more_lines, as_text}
+use Rattle.text_out.proofs.Pushing.{as_text}
+use Rattle.wkt_text.proofs.Items.{one_line, more_lines}
 use Rattle.wkt_text.proofs.lists.push_line.Goals as goal
 
 pub returns-then-parts-eq1 : goal.returns-then-parts-eq1

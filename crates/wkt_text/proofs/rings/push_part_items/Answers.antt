@@ -1,24 +1,11 @@
 use Rattle.std.proofs.Common.{ap}
 use Rattle.shape.specs.Given.{rings_in as lists_of}
 use Rattle.wkt_text.specs.Closed.{rings_text}
-use Rattle.wkt_text.proofs.Pushing.{cut, then_cut, failed, listed_by, both}
+use Rattle.text_out.proofs.Pushing.{in_two}
+use Rattle.wkt_text.proofs.Items.{listed_by}
 use Rattle.wkt_text.proofs.rings.push_part_items.Goals as goal
 
-pub returns-in_err-push_rings-in-len1-up : goal.returns-in_err-push_rings-in-len1-up
-returns-in_err-push_rings-in-len1-up c =
-    failed c.from_residual.result _ _ _ _ c.from_residual.ensures.0
-    (listed_by rings_text (λ part. lists_of part.items) c.args.parts.now c.first-item.result _ c.in-len1-up.len_at_least c.first-item.is
-    (ap (λ r. lists_of r) c.deref.ensures.value)) (cut _ _ _ _ c.in_err-push_rings-in-len1-up.ensures)
-
-pub returns-in_err-push_more_parts-in-len1-up : goal.returns-in_err-push_more_parts-in-len1-up
-returns-in_err-push_more_parts-in-len1-up c =
-    failed c.from_residual-in_err-push_more_parts-in-len1-up.result _ _ _ _ c.from_residual-in_err-push_more_parts-in-len1-up.ensures.0
-    (listed_by rings_text (λ part. lists_of part.items) c.args.parts.now c.first-item.result _ c.in-len1-up.len_at_least c.first-item.is
-    (ap (λ r. lists_of r) c.deref.ensures.value))
-    (then_cut _ _ _ _ _ c.in_ok-push_rings-in-len1-up.ensures (c.in_err-push_more_parts-in-len1-up.ensures))
-
-pub returns-in_ok-push_more_parts-in-len1-up : goal.returns-in_ok-push_more_parts-in-len1-up
-returns-in_ok-push_more_parts-in-len1-up c =
-    both _ _ _ _ _ _ c.in_ok-push_rings-in-len1-up.ensures c.in_ok-push_more_parts-in-len1-up.ensures
-    (listed_by rings_text (λ part. lists_of part.items) c.args.parts.now c.first-item.result _ c.in-len1-up.len_at_least c.first-item.is
-    (ap (λ r. lists_of r) c.deref.ensures.value))
+pub returns-in_ok-push_rings-in-len1-up : goal.returns-in_ok-push_rings-in-len1-up
+returns-in_ok-push_rings-in-len1-up c =
+    in_two c.push_more_parts.result _ _ _ _ _ _ c.in_ok-push_rings-in-len1-up.ensures c.push_more_parts.ensures
+    (listed_by rings_text (λ part. lists_of part.items) c.args.parts.now c.first-item.result _ c.in-len1-up.len_at_least c.first-item.is (ap (λ r. lists_of r) c.deref.ensures.value))

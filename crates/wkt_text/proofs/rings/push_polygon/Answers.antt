@@ -1,4 +1,5 @@
-use Rattle.wkt_text.proofs.Pushing.{one_polygon, more_polygons, as_text}
+use Rattle.text_out.proofs.Pushing.{as_text}
+use Rattle.wkt_text.proofs.Items.{one_polygon, more_polygons}
 use Rattle.wkt_text.proofs.rings.push_polygon.Goals as goal
 
 pub returns-then-parts-eq1 : goal.returns-then-parts-eq1

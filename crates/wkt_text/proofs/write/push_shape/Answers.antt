@@ -1,4 +1,4 @@
-use Rattle.wkt_text.proofs.Pushing.{as_text}
+use Rattle.text_out.proofs.Pushing.{as_text}
 use Rattle.wkt_text.proofs.Writing.{line_text}
 use Rattle.wkt_text.proofs.write.push_shape.Goals as goal
 

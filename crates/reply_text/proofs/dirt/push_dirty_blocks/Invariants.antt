@@ -1,8 +1,0 @@
-use Rattle.std.proofs.Common.{◌≡◌, ◌++◌, take}
-use Rattle.std.specs.Prelude.{flat_map}
-use Rattle.dirty_area.specs.Blocks.{Block}
-use Rattle.project_text.specs.Pushed.{dirty_text}
-use Rattle.reply_text.proofs.dirt.push_dirty_blocks.Given as goal
-
-abbrev pub invariant-loop-block : goal.invariant-loop-block
-invariant-loop-block l = l.out.items ≡ l.initial.out.items ++ flat_map (λ (b : Block). flat_map dirty_text b.items) (take l.block-index l.blocks)
