@@ -52,4 +52,4 @@ pub returns-in-CornerList : goal.returns-in-CornerList
 returns-in-CornerList g c =
     let p = c.args.topology.now in
     as_text c.push_corner_list.result _ _ _ _ (ap (λ (r : Reply). reply_text (said_of p r)) c.in-CornerList.is
-    ∙ ap (λ (ks : List CellCorner). flat_map corner_line ks ++ total_line (length ks)) (sym c.deref.ensures)) c.push_corner_list.ensures
+    ∙ ap (λ (ks : List CellCorner). flat_map corner_line ks ++ total_line (length ks)) (sym c.deref.ensures.value)) c.push_corner_list.ensures
