@@ -11,7 +11,7 @@
 -- IsPostedTo F n p q     the project of `default` has the features F, n of them changed
 -- Becomes name P old new the version of this name changes by P, and no other; BecomesAt: that at a place
 -- IsCreated, IsGone, IsReconciled, IsPosted    what `version`, `in`, `reconcile` and `post` leave
--- IsAside old new        the name and the base of the current version stay, and so do the others; it waits for the calls of the current version
+-- IsAside old new        the name and the base of the current version stay, and so do the others; waits for the calls of a version
 -- IsFresh B D            the base is what `default` has, so the version may be posted
 -- IsFirstApart F G o     the least handle at which the features differ, or none
 -- IsStale name h t       the base of the version and `default` differ, at the handle h first, so it is not posted
