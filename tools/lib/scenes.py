@@ -147,6 +147,11 @@ def ending_after(script: str, replies: BinaryIO) -> Ending:
     return ending
 
 
+def bytes_of(script: str) -> bytes:
+    with open(script, 'rb') as lines:
+        return lines.read()
+
+
 def drained(lines: list[str]) -> Iterator[str]:
     """Lines in their order, each of which is given up when it has been taken."""
     lines.reverse()
@@ -156,10 +161,7 @@ def drained(lines: list[str]) -> Iterator[str]:
 
 def errors_of(program: list[str], script: str, listed: Iterator[Error], asks: bool) -> Iterator[Error]:
     """The errors of a listing; where the program is asked, with the corners of their cells."""
-    if not asks:
-        return listed
-    with open(script, 'rb') as lines:
-        return with_closures(program, lines.read(), list(listed))
+    return with_closures(program, bytes_of(script), list(listed)) if asks else listed
 
 
 def scene_of(program: list[str], script: str, names: Names = NO_NAMES, asks: bool = False) -> Scene:

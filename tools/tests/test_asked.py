@@ -10,7 +10,7 @@ from lib.asked import asked_closures, ring_of, with_closures
 from lib.cells import Cover, closures_of, cover_of_error
 from lib.outlines import Outline
 from lib.replies import Error, ReplyError, each_error
-from lib.scenes import ending_after, replies_to
+from lib.scenes import bytes_of, ending_after, replies_to
 from working import PROGRAM, TOOLS, Case
 
 ROADS = ['class roads line', 'rule line_must_not_intersect roads', 'begin a', 'by a add roads LINESTRING (0 0, 10 10)',
@@ -66,12 +66,11 @@ class Asked(Case):
     def test_figures(self) -> None:
         """Of each figure what the cells of each error cover, cell by cell and all together."""
         for path in sorted(glob.glob(FIGURES)):
-            with open(path, 'rb') as lines:
-                script = lines.read()
-            errors = list(each_error(ending_after(*replies_to(PROGRAM, script)).listings['cells'].lines))
+            with replies_to(PROGRAM, path) as replies:
+                errors = list(each_error(ending_after(path, replies).listings['cells'].lines))
             if any(error.cells for error in errors):
                 with self.subTest(os.path.basename(path)):
-                    for own, asked in zip(errors, with_closures(PROGRAM, script, errors)):
+                    for own, asked in zip(errors, with_closures(PROGRAM, bytes_of(path), errors)):
                         self.assertEqual([from_least(corners) for corners in closures_of(asked)], [from_least(corners) for corners in closures_of(own)])
                         self.assertEqual(cover_from_least(asked), cover_from_least(own))
 
