@@ -187,14 +187,14 @@ def cover_and_stops(error: Error) -> tuple[Cover, set[Point]]:
     """What the cells of an error cover, or its frame where the listing has none; and the ends of all cells if each lies on a line, also
     where two of them on one line meet."""
     if error.closures is not None:
-        return cover_of(error.closures), ends_of(error.closures)
+        return cover_of(error.closures), stops_of(error.closures)
     found = bounds_of(error) if error.cells else None
     if found is None:
         return cover_of(closures_of(error)), set()
     return Cover([], *parts_on_lines(found)), stops_in(found)
 
 
-def ends_of(closures: list[list[Point]]) -> set[Point]:
+def stops_of(closures: list[list[Point]]) -> set[Point]:
     """The corners of cells of which each lies on a line; none where one does not."""
     return set() if any(len(corners) > 2 for corners in closures) else {corner for corners in closures for corner in corners}
 
