@@ -1,4 +1,4 @@
-// The corners of cells that no rule makes, found by hand, and of a cell of many half-planes.
+// The corners of cells that no rule makes, found by hand.
 use cell_corners::corners_of_cells;
 use convex_cell::Cells;
 use corner_terms::{CellCorner, Fraction};
@@ -70,19 +70,5 @@ fn open_cells_lines_and_fractions(rt: HostRuntime) -> Result<(), Fail> {
     for (is, row) in found.iter().zip(CORNERS) {
         assert_eq!(rt; *is, corner(row));
     }
-    Ok(())
-}
-
-// Each of a thousand half-planes touches the cell, along a side or at an end of it.
-#[test]
-fn many_sides(rt: HostRuntime) -> Result<(), Fail> {
-    let alloc = rt.alloc();
-    let mut cells = Cells::new(alloc);
-    let mut halves = Vec::new(alloc);
-    for i in -500..500i64 {
-        halves.push(Half::of(-2 * i, 1, i * i, Op::AtLeast).ok_or("no half-plane")?)?;
-    }
-    cells.push_halves(&halves)?;
-    assert_eq!(rt; corners_of_cells(alloc, &cells)?.len(), 999);
     Ok(())
 }
