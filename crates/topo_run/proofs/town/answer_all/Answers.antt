@@ -7,7 +7,7 @@ pub loop-line-init : goal.loop-line-init
 loop-line-init c = told_begins empty_state c.args.world.now _ c.requires (keeps_by c.args.world.now c.args.world.now (λ k. k) (λ k. k)
     c.headline_law.ensures.sound c.headline_law.ensures.invariant)
 
-pub loop-line-preserved : goal.loop-line-preserved
-loop-line-preserved c =
+pub loop-line-preserved-in_ok-reply : goal.loop-line-preserved-in_ok-reply
+loop-line-preserved-in_ok-reply c =
     told_more c.in_ok-reply.reply c.loop-line.invariant c.in-Some.ensures.0 c.in_ok-reply.ensures c.with-told.ensures.judged
     (c.with-told.ensures.refused c.reply_to.new.world.project)
