@@ -2,6 +2,7 @@
 cannot be done ends with status 2 and one sentence."""
 import contextlib
 import csv
+import io
 import os
 import shutil
 import unittest
@@ -11,7 +12,7 @@ from unittest import mock
 import hostile
 from lib.frame import printable
 from lib.interpreter import READER
-from lib.lines import LineError, ScriptWriter, feature_remark, name_of, number_of
+from lib.lines import LineError, ScriptWriter, feature_remark, name_of, number_of, told
 from lib.replies import source_of
 from working import TOOLS, Case, Done
 
@@ -277,8 +278,27 @@ class Lines(unittest.TestCase):
             with self.assertRaises(LineError):
                 ScriptWriter(out, 9).write('0123456789')
 
+    def test_a_name_is_one_line_of_a_remark(self):
+        """Names of files, layers, fields and drivers go into remarks in this way."""
+        names = hostile.values(COUNT, 5)
+        out = io.BytesIO()
+        ScriptWriter(out).write_all('# source %s' % told(name) for name in names)
+        lines = out.getvalue().decode().split('\n')
+        self.assertEqual((len(lines), lines[-1]), (len(names) + 1, ''))
+        self.assertTrue(all(line.startswith('# source ') for line in lines[:-1]))
+
+    def test_what_is_more_than_a_line_is_never_written(self):
+        """Whatever a tool hands over, it is written as one line or refused, and nothing of it stands then."""
+        for value in hostile.values(COUNT, 7):
+            out = io.BytesIO()
+            with contextlib.suppress(LineError):
+                ScriptWriter(out).write(value)
+                self.assertEqual(out.getvalue(), value.encode() + b'\n')
+            self.assertIn(out.getvalue().count(b'\n'), (0, 1))
+
     def test_numbers_and_names(self):
-        for text in hostile.values(2000) + ['', '1 ', ' 1', '+1', '1_0', '٣', '01', '1' * 40]:
+        """Marks, handles and rules of tables go into lines as numbers, and classes as names."""
+        for text in hostile.values(max(COUNT, 2000)) + ['', '1 ', ' 1', '+1', '1_0', '٣', '01', '1' * 40]:
             if text not in ('0', '00'):
                 for check in (number_of, name_of):
                     if check is number_of or not text.replace('_', 'a').isalnum() or not text.isascii():
