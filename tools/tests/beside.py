@@ -132,6 +132,12 @@ class Case(unittest.TestCase):
     def pairs(self) -> list[tuple]:
         return self.user.rows('select subject_id::int, other_id::int from topo.error where rule = 1 order by 1, 2')
 
+    def two_errors(self) -> None:
+        """Two parcels are moved, each onto the next one, and their errors are there."""
+        self.move(self.user, 3, 0.5)
+        self.move(self.user, 7, 0.5)
+        until(lambda: len(self.pairs()) == 2, 'two errors')
+
     def settled(self) -> None:
         """Until nothing waits for the service."""
         until(lambda: self.user.rows('select 1 from topo.status where waiting = 0 and not exists (select from topo.wish)'), 'nothing waits')

@@ -257,9 +257,7 @@ class Marks(Case):
     def test_a_mark_lapses_that_changed_while_nobody_looked(self):
         self.set_up()
         service = self.start()
-        self.move(self.user, 3, 0.5)
-        self.move(self.user, 7, 0.5)
-        until(lambda: len(self.pairs()) == 2, 'two errors')
+        self.two_errors()
         self.user.rows("update topo.error set mark = 'exception'")
         until(lambda: len(self.marked()) == 2, 'two marks')
         service.end()
@@ -378,9 +376,7 @@ class Failures(Case):
     def test_a_restored_copy(self):
         self.set_up()
         service = self.start()
-        self.move(self.user, 3, 0.5)
-        self.move(self.user, 7, 0.5)
-        until(lambda: len(self.pairs()) == 2, 'two errors')
+        self.two_errors()
         self.user.rows("update topo.error set mark = 'exception', note = 'so it is' where subject_id = '7'")
         until(lambda: self.user.rows('select 1 from topo.exception'), 'an exception')
         service.end()
@@ -484,9 +480,7 @@ class Gate(Case):
     def test_old_errors_and_marks_are_no_hindrance(self):
         self.set_up('--gate', '-')
         service = self.start()
-        self.move(self.user, 3, 0.5)
-        self.move(self.user, 7, 0.5)
-        until(lambda: len(self.pairs()) == 2, 'two errors')
+        self.two_errors()
         self.user.rows("update topo.error set mark = 'exception' where subject_id = '7'")
         until(lambda: self.user.rows('select 1 from topo.exception'), 'an exception')
         self.set_up('--gate', os.path.join(self.server.folder, 'gate'))

@@ -215,12 +215,16 @@ class Sources(Case):
 
 
 class Unfit(Case):
+    def made_of(self, name: str, rows: str, kind: str = 'GEOMETRY') -> None:
+        """A GeoPackage of this name, of rows of a number and a geometry as text."""
+        with open(self.path(name + '.csv'), 'w') as out:
+            out.write('nr,WKT\n' + rows)
+        self.run_words(['ogr2ogr', '-nlt', kind, '-oo', 'GEOM_POSSIBLE_NAMES=WKT', name + '.gpkg', name + '.csv'])
+
     def test_what_cannot_come_is_named(self):
-        with open(self.path('mixed.csv'), 'w') as out:
-            out.write('nr,WKT\n1,"POLYGON Z ((0 0 1, 4 0 1, 4 4 1, 0 0 1))"\n2,"CURVEPOLYGON (CIRCULARSTRING (0 0, 4 0, 4 4, 0 4, 0 0))"\n'
-                      '3,"POLYGON EMPTY"\n4,"LINESTRING (0 0, 1 1)"\n5,"POLYGON ((0 0, 10 10, 10 0, 0 10, 0 0))"\n'
-                      '6,"POLYGON ((0 0, 0.1 0, 0 0.1, 0 0))"\n7,"POLYGON ((0 0, 4 0, 4 4, 0 4, 0 0))"\n8,"GEOMETRYCOLLECTION (POINT (1 2))"\n')
-        self.run_words(['ogr2ogr', '-nlt', 'GEOMETRY', '-oo', 'GEOM_POSSIBLE_NAMES=WKT', 'mixed.gpkg', 'mixed.csv'])
+        self.made_of('mixed', '1,"POLYGON Z ((0 0 1, 4 0 1, 4 4 1, 0 0 1))"\n2,"CURVEPOLYGON (CIRCULARSTRING (0 0, 4 0, 4 4, 0 4, 0 0))"\n'
+                     '3,"POLYGON EMPTY"\n4,"LINESTRING (0 0, 1 1)"\n5,"POLYGON ((0 0, 10 10, 10 0, 0 10, 0 0))"\n'
+                     '6,"POLYGON ((0 0, 0.1 0, 0 0.1, 0 0))"\n7,"POLYGON ((0 0, 4 0, 4 4, 0 4, 0 0))"\n8,"GEOMETRYCOLLECTION (POINT (1 2))"\n')
         done = self.tool('from-ogr', 'mixed.gpkg', '--grid', '1', '--id', 'nr', '--table', 'table.csv')
         self.assertEqual(done.status, 1)
         for said in ('mixed 2 (2): left out: CURVEPOLYGON may hold curves', 'mixed 3 (3): left out: it is empty',
@@ -235,11 +239,9 @@ class Unfit(Case):
 
     def test_curves_as_lines(self):
         """Two lots with an arc between them that goes the one way round in one and the other way in the other neither overlap nor leave a gap."""
-        with open(self.path('curves.csv'), 'w') as out:
-            out.write('nr,WKT\n1,"CURVEPOLYGON (COMPOUNDCURVE (CIRCULARSTRING (20 0, 25 5, 20 10), (20 10, 0 10, 0 0, 20 0)))"\n'
-                      '2,"MULTISURFACE (CURVEPOLYGON (COMPOUNDCURVE (CIRCULARSTRING (20 10, 25 5, 20 0), (20 0, 60 0, 60 10, 20 10))))"\n'
-                      '3,"CURVEPOLYGON (CIRCULARSTRING (100 0, 140 0, 100 0))"\n')
-        self.run_words(['ogr2ogr', '-nlt', 'GEOMETRY', '-oo', 'GEOM_POSSIBLE_NAMES=WKT', 'curves.gpkg', 'curves.csv'])
+        self.made_of('curves', '1,"CURVEPOLYGON (COMPOUNDCURVE (CIRCULARSTRING (20 0, 25 5, 20 10), (20 10, 0 10, 0 0, 20 0)))"\n'
+                     '2,"MULTISURFACE (CURVEPOLYGON (COMPOUNDCURVE (CIRCULARSTRING (20 10, 25 5, 20 0), (20 0, 60 0, 60 10, 20 10))))"\n'
+                     '3,"CURVEPOLYGON (CIRCULARSTRING (100 0, 140 0, 100 0))"\n')
         words = ['curves.gpkg', '--grid', '0.001', '--rule', 'polygon_must_not_overlap', 'curves', '--rule', 'polygon_must_not_have_gaps', 'curves']
         scripts = []
         for reader in ('programs', 'bindings'):
@@ -265,13 +267,11 @@ class Unfit(Case):
             self.assertLessEqual(max(circle.radius - math.dist(circle.centre, each) for each in middles), most * (1 + 1e-9) + 1e-9 * circle.radius)
 
     def test_a_layer_of_curves_alone_and_one_without_geometries(self):
-        with open(self.path('curves.csv'), 'w') as out:
-            out.write('nr,WKT\n1,"CURVEPOLYGON (CIRCULARSTRING (0 0, 4 0, 4 4, 0 4, 0 0))"\n')
-        self.run_words(['ogr2ogr', '-nlt', 'CURVEPOLYGON', '-oo', 'GEOM_POSSIBLE_NAMES=WKT', 'c.gpkg', 'curves.csv'])
+        self.made_of('curves', '1,"CURVEPOLYGON (CIRCULARSTRING (0 0, 4 0, 4 4, 0 4, 0 0))"\n', 'CURVEPOLYGON')
         with open(self.path('names.csv'), 'w') as out:
             out.write('nr,name\n1,a\n')
-        self.run_words(['ogr2ogr', '-update', 'c.gpkg', 'names.csv'])
-        done = self.tool('from-ogr', 'c.gpkg', '--grid', '1')
+        self.run_words(['ogr2ogr', '-update', 'curves.gpkg', 'names.csv'])
+        done = self.tool('from-ogr', 'curves.gpkg', '--grid', '1')
         self.assertEqual(done.status, 1)
         self.assertIn('curves 1: left out: CURVEPOLYGON may hold curves', done.told)
         self.assertIn('layer names: passed over, since it has no geometries', done.told)
