@@ -1,0 +1,2 @@
+// With rules from outside a meaning keeps its laws: lemmas alone.
+#![tactic(auto)]
