@@ -9,6 +9,9 @@ usage: bench/all.py [--baseline WORDS] [--commands NAME,..] [--turns N] [--secon
 Run it on an idle machine, in a clean clone. The output is Markdown, as it stands in docs/measured.md. The status is 1 where a
 command failed; those whose timing program is not built are named and left out.
 """
+from __future__ import annotations
+
+import argparse
 import datetime
 import os
 import shlex
@@ -25,32 +28,32 @@ TIMING = {'shapes.py': 'bench_shapes', 'columns.py': 'bench_columns', 'cells.py'
 WITHOUT_BASELINE = {'cells.py'}
 
 
-def line_with(path, word):
+def line_with(path: str, word: str) -> str:
     """What stands behind the colon in the first line of this file that begins with the word."""
     with open(path) as lines:
         return next((line.split(':', 1)[1].strip() for line in lines if line.startswith(word)), 'unknown')
 
 
-def heading():
+def heading() -> str:
     commit = subprocess.run(['git', '-C', ROOT, 'describe', '--always', '--dirty'], capture_output=True, text=True).stdout.strip()
     memory = int(line_with('/proc/meminfo', 'MemTotal').split()[0]) / 1024 ** 2
-    machine = '%d processors, %s, %.0f GiB' % (os.cpu_count(), line_with('/proc/cpuinfo', 'model name'), memory)
+    machine = '%d processors, %s, %.0f GiB' % (os.cpu_count() or 1, line_with('/proc/cpuinfo', 'model name'), memory)
     busy = 'load %.1f when it began' % os.getloadavg()[0]
     return '%s, %s, %s; commit %s' % (datetime.date.today(), machine, busy, commit)
 
 
-def is_built(command):
+def is_built(command: str) -> bool:
     return command not in TIMING or os.path.isfile(timing_path(TIMING[command]))
 
 
-def words_for(command, given):
+def words_for(command: str, given: argparse.Namespace) -> list[str]:
     """What is handed on to a command; those with a timing program of their own take a baseline at most."""
     names = [] if command in WITHOUT_BASELINE else ['baseline'] if command in TIMING else ['baseline', 'turns', 'seconds', 'program']
     words = [word for name in names if getattr(given, name) for word in ('--' + name, str(getattr(given, name)))]
     return words + ['--instructions'] * (given.instructions and command not in TIMING)
 
 
-def run(command, given):
+def run(command: str, given: argparse.Namespace) -> bool:
     """Prints the table of a command, and answers whether it went well."""
     words = words_for(command, given)
     shown = ['bench/' + command] + (['--baseline ..'] if '--baseline' in words else []) + [word for word in words if word == '--instructions']
@@ -61,7 +64,7 @@ def run(command, given):
     return subprocess.run([os.path.join(HERE, command)] + words).returncode == 0
 
 
-def main():
+def main() -> int:
     parser = parser_of(__doc__)
     parser.add_argument('--commands', default=','.join(COMMANDS))
     given = parser.parse_args()

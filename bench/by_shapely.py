@@ -1,7 +1,10 @@
 #!/usr/bin/python3
 """Finds overlaps and gaps of parcels by Shapely: by_shapely.py IN.gpkg OUT.gpkg. What bench/pipeline.py measures beside topo."""
+from __future__ import annotations
+
 import sys
 import warnings
+from typing import Any, Iterable
 
 import numpy
 import shapely
@@ -16,7 +19,7 @@ gdal.UseExceptions()
 warnings.simplefilter('ignore')
 
 
-def read(path):
+def read(path: str) -> tuple[list[str], list[Any]]:
     """The names of the parcels, and their shapes."""
     names, texts, source = [], [], ogr.Open(path)
     for batch in source.GetLayer(0).GetArrowStreamAsNumPy(options=['USE_MASKED_ARRAYS=NO']):
@@ -26,7 +29,7 @@ def read(path):
     return names, list(shapely.from_wkb(texts)) if IS_NEW else [wkb.loads(bytes(text)) for text in texts]
 
 
-def overlaps(shapes):
+def overlaps(shapes: list[Any]) -> list[tuple[int, int, Any]]:
     """The numbers of two shapes whose insides meet, and what they share."""
     tree = STRtree(shapes)
     if IS_NEW:
@@ -39,20 +42,20 @@ def overlaps(shapes):
             if i < j and shape.relate_pattern(shapes[j], INTERIORS_MEET)]
 
 
-def gaps(shapes):
+def gaps(shapes: list[Any]) -> list[Any]:
     """The rings of what all cover together that are not its shells."""
     whole = unary_union(shapes)
     return [ring for part in getattr(whole, 'geoms', [whole]) for ring in part.interiors]
 
 
-def layer_of(target, name, fields, crs):
+def layer_of(target: Any, name: str, fields: Iterable[str], crs: Any) -> Any:
     layer = target.CreateLayer(name, crs, ogr.wkbUnknown, ['GEOMETRY_NAME=geom'])
     for field in fields:
         layer.CreateField(ogr.FieldDefn(field, ogr.OFTString))
     return layer
 
 
-def put(layer, shape, texts=()):
+def put(layer: Any, shape: Any, texts: Iterable[str] = ()) -> None:
     feature = ogr.Feature(layer.GetLayerDefn())
     feature.SetGeometryDirectly(ogr.CreateGeometryFromWkb(shape.wkb))
     for number, text in enumerate(texts):
@@ -60,7 +63,7 @@ def put(layer, shape, texts=()):
     layer.CreateFeature(feature)
 
 
-def main():
+def main() -> None:
     source, out = sys.argv[1:]
     names, shapes = read(source)
     opened, target = ogr.Open(source), ogr.GetDriverByName('GPKG').CreateDataSource(out)

@@ -6,6 +6,8 @@
 Random cells have half-planes of every direction round the origin, of which a few exclude each other; nearly empty ones are polygons
 whose sides all pass within two units of the origin, so that no two sides alone exclude each other.
 """
+from __future__ import annotations
+
 import argparse
 import math
 import os
@@ -16,15 +18,16 @@ import time
 
 from programs import HERE, timing_program
 
+Cell = list[tuple[int, int, int, int]]
 SIZES = (4, 8, 12, 16, 32)
 CELLS = 400
 
 
-def random_cell(r, n):
+def random_cell(r: random.Random, n: int) -> Cell:
     return [(r.randint(-900, 900) or 1, r.randint(-900, 900), r.randint(-20000, 60000), r.choice((0, 0, 1))) for _ in range(n)]
 
 
-def nearly_empty(r, n):
+def nearly_empty(r: random.Random, n: int) -> Cell:
     out = []
     turn = r.random()
     for i in range(n):
@@ -34,22 +37,22 @@ def nearly_empty(r, n):
     return out
 
 
-def text_of(cells):
+def text_of(cells: list[Cell]) -> str:
     return ''.join(' '.join('%d %d %d %d' % h for h in c) + '\n' for c in cells)
 
 
-def seconds(command, times, text):
-    best, answer = None, None
+def seconds(command: list[str], times: int, text: str) -> tuple[float, str]:
+    best, answer = math.inf, ''
     for _ in range(3):
         start = time.perf_counter()
         done = subprocess.run(command + [str(times)], input=text, capture_output=True, text=True, check=True)
         spent = time.perf_counter() - start
-        best = spent if best is None else min(best, spent)
+        best = min(best, spent)
         answer = done.stdout.strip()
     return best, answer
 
 
-def main():
+def main() -> None:
     parser = argparse.ArgumentParser()
     parser.add_argument('--times', type=int, default=400)
     times = parser.parse_args().times

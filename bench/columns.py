@@ -10,6 +10,8 @@ Beside another program of the same words and texts, where one is given, two ques
 the inside of a rectangle round the polygon carved by the cells outside. The other program is asked by a script with the rule
 that one class covers another, validated; the same script without that line is taken off its time, and not off its memory.
 """
+from __future__ import annotations
+
 import argparse
 import os
 import subprocess
@@ -17,7 +19,7 @@ import sys
 import tempfile
 
 from polygons import comb, ring, spiral, zigzag
-from programs import make_measured, program_of, timing_program
+from programs import Ring, make_measured, program_of, timing_program
 
 SCRIPT = """class zones polygon
 class covers polygon
@@ -26,18 +28,18 @@ begin ann
 """
 
 
-def frame_of(vertices):
+def frame_of(vertices: Ring) -> Ring:
     xs, ys = [x for x, _ in vertices], [y for _, y in vertices]
     x0, y0, x1, y1 = min(xs) - 1, min(ys) - 1, max(xs) + 1, max(ys) + 1
     return [(x0, y0), (x1, y0), (x1, y1), (x0, y1)]
 
 
-def segments_of(vertices):
+def segments_of(vertices: Ring) -> str:
     ends = vertices[1:] + vertices[:1]
     return ''.join('%d %d %d %d\n' % (a + b) for a, b in zip(vertices, ends))
 
 
-def added(name, vertices):
+def added(name: str, vertices: Ring) -> str:
     places = ', '.join('%d %d' % place for place in vertices + vertices[:1])
     return 'by ann add %s POLYGON ((%s))\n' % (name, places)
 
@@ -45,11 +47,11 @@ def added(name, vertices):
 class Meter:
     """Runs programs three times each, and takes the least time in s and the least peak of memory in MiB."""
 
-    def __init__(self, folder, program):
+    def __init__(self, folder: str, program: str) -> None:
         self.tool, self.report, self.program = os.path.join(folder, 'measured'), os.path.join(folder, 'report'), program
         make_measured(folder)
 
-    def run(self, words, text):
+    def run(self, words: list[str], text: str) -> tuple[float, float, str]:
         runs = []
         for _ in range(3):
             done = subprocess.run([self.tool, self.report, '300'] + words, input=text, capture_output=True, text=True)
@@ -60,17 +62,17 @@ class Meter:
             runs.append((microseconds / 1e6, kilobytes / 1024))
         return min(r[0] for r in runs), min(r[1] for r in runs), done.stdout
 
-    def made(self, wanted, text):
+    def made(self, wanted: str, text: str) -> tuple[float, float, int]:
         seconds, memory, told = self.run([self.program, '1', wanted], text)
         return seconds, memory, int(told.split()[2])
 
-    def validated(self, words, lines):
+    def validated(self, words: list[str], lines: str) -> tuple[float, float]:
         without = self.run(words, SCRIPT + lines)[0]
         seconds, memory, _ = self.run(words, SCRIPT + lines + 'validate all\n')
         return seconds - without, memory
 
 
-def row(meter, baseline, name, vertices):
+def row(meter: Meter, baseline: list[str], name: str, vertices: Ring) -> None:
     segments, frame = segments_of(vertices), frame_of(vertices)
     figures = [name, str(len(vertices))]
     for wanted, text in (('inside', segments), ('outside', segments), ('carved', segments_of(frame) + segments)):
@@ -81,7 +83,7 @@ def row(meter, baseline, name, vertices):
     print('| ' + ' | '.join(figures) + ' |', flush=True)
 
 
-def main():
+def main() -> None:
     parser = argparse.ArgumentParser()
     parser.add_argument('--sizes', default='100,500,2000')
     parser.add_argument('--baseline', type=program_of)

@@ -11,17 +11,21 @@ The lake has 2,000 vertices and lies over 1,024 parcels, as in bench/borders.py;
 `corners` for each of its errors, less the time of the same script without them, and one for the peak of memory with them. The name of a row tells how many
 corners are listed.
 """
+from __future__ import annotations
+
+import argparse
 import subprocess
 import sys
+from typing import Callable, Iterator
 
 from borders import ONE, TWO, parcels, shore, turned
 from polygons import zigzag
-from programs import added, beyond, line, measure_lines, parser_of, print_table
+from programs import Table, added, beyond, line, measure_lines, parser_of, print_table
 
 ROADS = ['class roads line', 'class rails line', 'rule line_must_be_covered_by_feature_class_of roads rails', 'begin ann']
 
 
-def maps(part):
+def maps(part: int) -> Iterator[tuple[str, list[str]]]:
     """The name of each map, and the lines that found it."""
     side = max(2, 32 // part)
     yield 'lake over parcels', TWO + added('waters', [shore(2000 // part)]) + added('areas', parcels(side, side, 1800, 1200, 600, 800))
@@ -31,12 +35,12 @@ def maps(part):
     yield 'crossing zigzags', ONE + added('areas', [zigzag(2000 // part)] + turned([zigzag(2000 // part)]))
 
 
-def replies(program, lines):
+def replies(program: list[str], lines: list[str]) -> list[str]:
     return subprocess.run(program + ['replay'], input='\n'.join(lines) + '\n', stdout=subprocess.PIPE, text=True).stdout.splitlines()
 
 
-def print_rows(part, given):
-    def rows(table, folder, programs):
+def print_rows(part: int, given: argparse.Namespace) -> Callable[[Table, str, list[list[str]]], None]:
+    def rows(table: Table, folder: str, programs: list[list[str]]) -> None:
         for name, founding in maps(part):
             lines = founding + ['validate all']
             keys = [' '.join(reply.split()[1:4]) for reply in replies(programs[0], lines + ['errors']) if reply.startswith('error ')]
@@ -49,7 +53,7 @@ def print_rows(part, given):
     return rows
 
 
-def main():
+def main() -> int:
     parser = parser_of(__doc__)
     parser.add_argument('--part', type=int, default=1)
     given = parser.parse_args()

@@ -12,9 +12,12 @@ lines: one ends there, one changes each of the features, one deletes each, in no
 change and of a deletion is what these take beyond the first. A fourth script has the same lines as the first as remarks, so
 that no feature is made; the memory of a feature is what the first takes beyond that.
 """
+from __future__ import annotations
+
+import argparse
 import sys
 
-from programs import beyond, measure_lines, point, polygon, print_kinds, spread
+from programs import Table, beyond, measure_lines, point, polygon, print_kinds, spread
 
 OCTAGON = [(2, 0), (4, 0), (6, 2), (6, 4), (4, 6), (2, 6), (0, 4), (0, 2)]
 HEADS = {
@@ -24,7 +27,7 @@ HEADS = {
 CLASSES = {'points': 'wells', 'polygons': 'lots'}
 
 
-def shape_of(kind, number, shift):
+def shape_of(kind: str, number: int, shift: int) -> str:
     """The shape of this number on a lattice, moved to the right."""
     x, y = number % 1000 * 7 - 3500 + shift, number // 1000 * 7 - 350
     if kind == 'points':
@@ -32,20 +35,20 @@ def shape_of(kind, number, shift):
     return polygon([(x + dx, y + dy) for dx, dy in OCTAGON])
 
 
-def added(kind, count):
+def added(kind: str, count: int) -> list[str]:
     return ['by ann add %s %s' % (CLASSES[kind], shape_of(kind, number, 0)) for number in spread(count, count)]
 
 
-def changed(kind, count):
+def changed(kind: str, count: int) -> list[str]:
     places = spread(count, count)
     return ['by ann change %d %s' % (i + 1, shape_of(kind, places[i], 1)) for i in spread(count, count)]
 
 
-def deleted(count):
+def deleted(count: int) -> list[str]:
     return ['by ann delete %d' % (i + 1) for i in spread(count, count)]
 
 
-def print_kind(table, folder, kind, programs, given):
+def print_kind(table: Table, folder: str, kind: str, programs: list[list[str]], given: argparse.Namespace) -> None:
     """The four rows of a kind of shape."""
     count = given.count
     head, adds = HEADS[kind], added(kind, count)
@@ -61,7 +64,7 @@ def print_kind(table, folder, kind, programs, given):
     table.row(name + ': memory of each', 'bytes', [none, all_added], bytes_of)
 
 
-def main():
+def main() -> int:
     add_words = lambda parser: parser.add_argument('--count', type=int, default=100000)
     return print_kinds(__doc__, 'features', HEADS, print_kind, add_words)
 

@@ -10,12 +10,16 @@ A series is a map of several sizes. Each figure is what a script takes beyond on
 steps: edits with their windows, errors that come and go, windows in much dirt, undos, vertices of a border. The last column says how
 many times the figure of the size before it is, and how many times that size. Needs valgrind, which counts the instructions.
 """
+from __future__ import annotations
+
 import shutil
 import subprocess
 import sys
 import tempfile
+from functools import partial
+from typing import Callable, Iterator, Optional
 
-from borders import ONE, jagged, turned, winding
+from borders import ONE, TURNINGS, Making, Turning, jagged, winding
 from coverings import gaps
 from features import HEADS
 from features import added as added_features
@@ -23,7 +27,7 @@ from late import HEADS as LATE_HEADS
 from late import early_and_late, windows
 from moved import moved
 from roads import RULES, long_line
-from programs import added, edits, instructions, parser_of, polygon, programs_of
+from programs import Ring, added, edits, instructions, parser_of, polygon, programs_of
 from together import steps_of
 from town import HEAD, Town, founding
 
@@ -32,10 +36,10 @@ EDITS, UNDOS, WINDOWS, FIRST = 500, 1000, 100, 10
 DOUBLED = [248, 496, 992, 1984]
 
 
-def instructions_of(words, lines):
+def instructions_of(words: list[str], lines: list[str]) -> int:
     """How many instructions the program takes for a script of these lines."""
-    with tempfile.TemporaryFile('w+') as script:
-        script.writelines(line + '\n' for line in lines)
+    with tempfile.TemporaryFile() as script:
+        script.writelines(line.encode() + b'\n' for line in lines)
         script.seek(0)
         ended, count = instructions(words + ['replay'], script, subprocess.DEVNULL)
     if ended != 0:
@@ -43,26 +47,26 @@ def instructions_of(words, lines):
     return count
 
 
-def town(rows):
+def town(rows: int) -> tuple[list[str], list[str], int]:
     """The town of bench/town.py, validated, and small edits."""
     made = Town(rows)
     editing = edits(made.parcels(), EDITS)
     return HEAD + founding(made) + ['validate all'], editing, EDITS
 
 
-def points(count):
+def points(count: int) -> tuple[list[str], list[str], int]:
     """The points of bench/moved.py, validated, and small moves."""
     return HEADS['points'] + added_features('points', count) + ['validate all'], moved(count, EDITS), EDITS
 
 
-def deleted(count):
+def deleted(count: int) -> tuple[list[str], list[str], int]:
     """Points, validated, and some of them deleted, each brought back by an undo at once."""
     numbers = range(1, count + 1, count // EDITS)[:EDITS]
     back = [line for number in numbers for line in ('by ann delete %d' % number, 'by ann undo')]
     return HEADS['points'] + added_features('points', count) + ['validate all'], back, len(back)
 
 
-def errors(count):
+def errors(count: int) -> tuple[list[str], list[str], int]:
     """Wells off the one road, each of them an error, and the first of them moved on to the road and off it again."""
     head = ['class wells point', 'class roads line', 'rule point_must_be_covered_by_line wells roads', 'begin ann']
     ends = ['by ann add wells POINT (-4000000 0)', 'by ann add roads LINESTRING (-4000000 1, -4000000 2)']
@@ -71,11 +75,11 @@ def errors(count):
     return head + ends[:1] + added_features('points', count - 1) + ends[1:] + ['validate all'], moves, EDITS
 
 
-def square(x, y, side):
+def square(x: int, y: int, side: int) -> str:
     return polygon([(x, y), (x + side, y), (x + side, y + side), (x, y + side)])
 
 
-def zone(count):
+def zone(count: int) -> tuple[list[str], list[str], int]:
     """Lots in one zone of their class, each an error of it, and some of them moved by a unit; the zone is judged again each time."""
     places = [(10 + 60 * (i % 60), 10 + 60 * (i // 60)) for i in range(count)]
     lots = ['by ann add lots ' + square(x, y, 20) for x, y in places]
@@ -84,27 +88,27 @@ def zone(count):
     return HEADS['polygons'] + ['by ann add lots ' + square(0, 0, 4000)] + lots + ['validate all'], moves, len(moves) // 2
 
 
-def zigzag(count):
+def zigzag(count: int) -> tuple[list[str], list[str], int]:
     """A line of so many vertices under both rules on lines by themselves, and its validation."""
     head = ['class roads line', 'rule line_must_not_self_intersect roads', 'rule line_must_not_self_overlap roads', 'begin ann']
     line = ', '.join('%d %d' % (2 * i, i % 2 * 50) for i in range(count))
     return head + ['by ann add roads LINESTRING (%s)' % line], ['validate all'], count
 
 
-def node(count):
+def node(count: int) -> tuple[list[str], list[str], int]:
     """Lines that all begin in one place, under both rules on ends that meet, and their validation."""
     head = ['class roads line', 'rule line_must_not_have_dangles roads', 'rule line_must_not_have_pseudo_nodes roads', 'begin ann']
     lines = ['by ann add roads LINESTRING (0 0, %d %d)' % (1000 - i, i + 1) for i in range(count)]
     return head + lines, ['validate all'], count
 
 
-def under_line(count):
+def under_line(count: int) -> tuple[list[str], list[str], int]:
     """The long line of bench/roads.py over so many short ones, under the rule of dangles, and edits of the short ones."""
     founded, editing = long_line(RULES['dangles'], count // 1000)
     return founded + ['validate all'], editing[:2 * EDITS], EDITS
 
 
-def late(kind, count):
+def late(kind: str, count: int) -> tuple[list[str], list[str], int]:
     """The late features of bench/late.py, and small windows. The first of these stand in both scripts: before them the system's
     lists of free memory are long, and with a few windows more it puts them in order once, at the end."""
     early, more, numbers = early_and_late(kind, count)
@@ -112,31 +116,35 @@ def late(kind, count):
     return LATE_HEADS[kind] + early + ['validate all'] + more + small[:FIRST], small[FIRST:], WINDOWS
 
 
-def enlarged(count):
+def enlarged(count: int) -> tuple[list[str], list[str], int]:
     """Lots that are all dirty, and some of them made wider without a validation: what becomes dirty comes round what was."""
     places = [(100 * (i % 200), 100 * (i // 200)) for i in range(count)]
     wider = ['by ann change %d %s' % (i + 1, square(x - 1, y - 1, 22)) for i, (x, y) in enumerate(places[:EDITS])]
     return HEADS['polygons'] + ['by ann add lots ' + square(x, y, 20) for x, y in places], wider, EDITS
 
 
-def session(count):
+def session(count: int) -> tuple[list[str], list[str], int]:
     """The session of bench/together.py, and the last steps undone and done again."""
     back = ['by bob undo'] * UNDOS + ['by bob redo'] * UNDOS
     return HEADS['points'] + added_features('points', count) + ['end ann'] + steps_of(count), back, len(back)
 
 
-def border(make, count):
+def turned_map(make: Making, turn: Turning, count: int) -> list[Ring]:
+    return turn(make(count))
+
+
+def border(make: Callable[[int], list[Ring]], count: int) -> tuple[list[str], list[str], int]:
     """Two neighbours of bench/borders.py, and their validation."""
     return ONE + added('areas', make(count)), ['validate all'], count
 
 
-def gap_edits(make, count):
+def gap_edits(make: Callable[[int], list[Ring]], count: int) -> tuple[list[str], list[str], int]:
     """The same neighbours under the rule of gaps, and edits."""
     founded, editing = gaps(make(count), 20)
     return founded + ['validate all'], editing, 20 * count
 
 
-def all_series():
+def all_series() -> Iterator[tuple[str, list[int], Callable[[int], tuple[list[str], list[str], int]]]]:
     """The name of each series, its unit, its sizes, and what makes the two parts of the script and says how many steps the second has."""
     yield 'an edit in a town of N parcels', [900, 3600, 10000, 90000], lambda size: town(round(size ** 0.5))
     yield 'a point moved, of N', [10000, 100000, 1000000], points
@@ -144,30 +152,30 @@ def all_series():
     yield 'an error that comes or goes, of N', [1000, 10000, 100000], errors
     yield 'an edit in a zone that N lots overlap', [500, 1000, 2000], zone
     for kind in LATE_HEADS:
-        yield 'a window in N dirty %s' % kind, [3000, 10000, 30000], lambda size, kind=kind: late(kind, size)
+        yield 'a window in N dirty %s' % kind, [3000, 10000, 30000], partial(late, kind)
     yield 'a lot made wider, of N dirty ones', [1000, 10000, 30000], enlarged
     yield 'an undo or a redo, of N steps', [1000, 10000, 100000], session
     yield 'a vertex of a zigzag of N, compared with itself', [500, 1000, 2000], zigzag
     yield 'a line of N that meet in one place', [100, 200, 400], node
     yield 'an edit on a line that N others touch or cross, dangles', [1000, 2000, 4000, 8000], under_line
     for name, make in (('jagged', jagged), ('winding', winding)):
-        for way, turn in (('north', list), ('turned', turned)):
-            map_of = lambda count, make=make, turn=turn: turn(make(count))
-            yield 'a vertex of a %s border of N, %s' % (name, way), DOUBLED, lambda size, map_of=map_of: border(map_of, size)
+        for way, turn in zip(('north', 'turned'), TURNINGS):
+            map_of = partial(turned_map, make, turn)
+            yield 'a vertex of a %s border of N, %s' % (name, way), DOUBLED, partial(border, map_of)
             if make is jagged:
                 title = 'the same in an edit under the rule of gaps, of a jagged border of N, %s' % way
-                yield title, DOUBLED, lambda size, map_of=map_of: gap_edits(map_of, size)
+                yield title, DOUBLED, partial(gap_edits, map_of)
 
 
-def step_of(words, made):
+def step_of(words: list[str], made: tuple[list[str], list[str], int]) -> float:
     """The instructions that a step of the second part takes."""
     before, more, steps = made
     return (instructions_of(words, before + more) - instructions_of(words, before)) / steps
 
 
-def print_series(name, sizes, make, programs):
+def print_series(name: str, sizes: list[int], make: Callable[[int], tuple[list[str], list[str], int]], programs: list[list[str]]) -> None:
     """A row for each size."""
-    last = None
+    last: Optional[tuple[int, float]] = None
     for size in sizes:
         values = [step_of(words, make(size)) for words in programs]
         cells = [name.replace('N', format(size, ','), 1)] + [format(round(value), ',') for value in values]
@@ -178,7 +186,7 @@ def print_series(name, sizes, make, programs):
         last = size, values[0]
 
 
-def main():
+def main() -> int:
     parser = parser_of(__doc__)
     parser.add_argument('--lines', nargs='+', default=[''])
     given = parser.parse_args()
@@ -190,6 +198,7 @@ def main():
     for name, sizes, make in all_series():
         if name.startswith(tuple(given.lines)):
             print_series(name, sizes, make, programs)
+    return 0
 
 
 if __name__ == '__main__':

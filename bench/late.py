@@ -12,9 +12,12 @@ parcels in rows above. Then the whole grid is validated, or in its place small w
 each of which finds a few of them; and the dirty rectangles are listed. Each figure is what a script takes beyond one that ends
 earlier.
 """
+from __future__ import annotations
+
+import argparse
 import sys
 
-from programs import add_kinds, added, beyond, measure_lines, point, polygon, print_sizes, spread
+from programs import Place, Table, Taking, add_kinds, added, beyond, measure_lines, point, polygon, print_sizes, spread
 
 SIDE, WIDTH = 200, 7
 LISTINGS = 20
@@ -26,21 +29,21 @@ HEADS = {
 }
 
 
-def place_of(number):
+def place_of(number: int) -> Place:
     """The place of this number on a lattice of so many columns."""
     return number % SIDE * WIDTH - 700, number // SIDE * WIDTH - 700
 
 
-def points(numbers, shift):
+def points(numbers: list[int], shift: int) -> list[str]:
     return added('wells', [(x + shift, y + shift) for x, y in map(place_of, numbers)], point)
 
 
-def parcels(numbers):
+def parcels(numbers: list[int]) -> list[str]:
     square = lambda x, y: [(x, y), (x + WIDTH, y), (x + WIDTH, y + WIDTH), (x, y + WIDTH)]
     return added('lots', [square(*place_of(number)) for number in numbers], polygon)
 
 
-def early_and_late(kind, count):
+def early_and_late(kind: str, count: int) -> tuple[list[str], list[str], list[int]]:
     """The lines that add so many features of a kind, and those that add as many later, of which the windows find a few."""
     numbers = spread(count, count)
     if kind == 'points':
@@ -49,13 +52,13 @@ def early_and_late(kind, count):
     return parcels(numbers), parcels(above), above
 
 
-def windows(numbers):
+def windows(numbers: list[int]) -> list[str]:
     """A window round each of these places of the lattice and some beside it."""
     places = [place_of(number) for number in numbers]
     return ['validate %d %d %d %d' % (x - 10, y - 10, x + 10, y + 10) for x, y in places]
 
 
-def print_kind(table, take, kind, count):
+def print_kind(table: Table, take: Taking, kind: str, count: int) -> None:
     """The four rows of a number of late features of a kind."""
     early, late, numbers = early_and_late(kind, count)
     early = HEADS[kind] + early + ['validate all']
@@ -69,12 +72,12 @@ def print_kind(table, take, kind, count):
     table.row(name + ', dirty rectangles listed: time', 'ms', [after, listed], beyond(listed, after, 1e3 / LISTINGS))
 
 
-def print_size(table, folder, count, programs, given):
+def print_size(table: Table, folder: str, count: int, programs: list[list[str]], given: argparse.Namespace) -> None:
     for kind in given.kinds:
         print_kind(table, lambda lines: measure_lines(folder, lines, programs, given), kind, count)
 
 
-def main():
+def main() -> int:
     add_words = lambda parser: add_kinds(parser, HEADS)
     return print_sizes(__doc__, 'late features', '--sizes', '3000,10000,30000', print_size, add_words)
 

@@ -8,10 +8,13 @@ usage: bench/long_scripts.py [--baseline WORDS] [--sizes N,N,..] [--turns N] [--
 
 The script validates windows, lists features, errors, cells and dirt, and has remarks; it changes nothing, so that the project stays small.
 """
+from __future__ import annotations
+
+import argparse
 import os
 import sys
 
-from programs import beyond, measure_piped, measure_saved, measure_words, print_sizes
+from programs import Table, beyond, measure_piped, measure_saved, measure_words, print_sizes
 from town import HEAD, Town, founding
 
 ROWS = 5
@@ -21,7 +24,7 @@ REMARK = '# ' + 'x' * 997 + '\n'
 LISTINGS = ['features', 'errors', 'cells', 'dirty']
 
 
-def block_of(number):
+def block_of(number: int) -> bytes:
     """The lines of one block of the script, as bytes: windows here and there, the listings, and remarks that fill it."""
     lines = []
     for i in range(WINDOWS):
@@ -34,7 +37,7 @@ def block_of(number):
     return (text + '#' * (BLOCK - len(text) - 1) + '\n').encode()
 
 
-def write_script(mebibytes):
+def write_script(mebibytes: int) -> None:
     """Writes a script of so many MiB to standard output, or as much of it as is read."""
     blocks = [block_of(number) for number in range(16)]
     try:
@@ -45,7 +48,7 @@ def write_script(mebibytes):
         os.dup2(os.open(os.devnull, os.O_WRONLY), sys.stdout.fileno())
 
 
-def print_rows(table, folder, mebibytes, programs, given):
+def print_rows(table: Table, folder: str, mebibytes: int, programs: list[list[str]], given: argparse.Namespace) -> None:
     """The rows of the table on a script of this size."""
     project = measure_saved(folder, 'small', HEAD + founding(Town(ROWS)) + ['validate all'], ['replay', '-'], programs, given)[0].target
     opened = measure_words(folder, ['replay', project], programs, given)
@@ -56,9 +59,10 @@ def print_rows(table, folder, mebibytes, programs, given):
     table.row(name + ': memory', 'MiB', [long], lambda i: long[i].kilobytes / 1024)
 
 
-def main():
+def main() -> int:
     if sys.argv[1:2] == ['--write']:
-        return write_script(int(sys.argv[2]))
+        write_script(int(sys.argv[2]))
+        return 0
     return print_sizes(__doc__, 'script', '--sizes', '16,256', print_rows)
 
 

@@ -9,16 +9,19 @@ The aims are ratios to the baseline: of time 1.5, and 2.0 for a lake and for cov
 gaps. Below the table stands how many lines have a ratio, how many of them miss, and how many have none, since a run was stopped or a figure
 is below the noise. The tables of shapes, columns and cells have no aims.
 """
+from __future__ import annotations
+
 import argparse
 import re
 import sys
+from typing import Iterable, Iterator, Optional
 
 WITHOUT_AIMS = {'shapes.py', 'columns.py', 'cells.py'}
 # The columns that have a ratio, and whether it is one of memory; None: as the line's name says.
 RATIOS = {'ratio': None, 'ratio of times': False, 'ratio of memory': True}
 
 
-def aim_of(command, name, is_memory):
+def aim_of(command: str, name: str, is_memory: bool) -> float:
     """The greatest ratio that such a line may have."""
     if command == 'coverings.py':
         return 1.5 if is_memory else 2.0
@@ -27,7 +30,7 @@ def aim_of(command, name, is_memory):
     return 2.0 if name.startswith('lake') else 1.5
 
 
-def rows_of(lines):
+def rows_of(lines: Iterable[str]) -> Iterator[tuple[str, dict[str, str], str]]:
     """The rows of all tables: the command, and each cell by the head of its column."""
     command, head = None, None
     for line in lines:
@@ -42,7 +45,7 @@ def rows_of(lines):
                 yield command, dict(zip(head, cells)), head[0]
 
 
-def ratios_of(command, row, first):
+def ratios_of(command: str, row: dict[str, str], first: str) -> Iterator[tuple[str, bool, Optional[float]]]:
     """The ratios of a row: the line's name, whether it is one of memory, and the ratio, None where there is none."""
     for column, of_memory in RATIOS.items():
         if column in row:
@@ -54,7 +57,7 @@ def ratios_of(command, row, first):
             yield name, is_memory, float(text) if re.fullmatch(r'[0-9.]+', text) else None
 
 
-def all_ratios(lines):
+def all_ratios(lines: Iterable[str]) -> Iterator[tuple[str, str, bool, Optional[float]]]:
     """Each ratio of all tables that have aims: the command, the line's name, whether it is one of memory, and the ratio."""
     for command, row, first in rows_of(lines):
         if command not in WITHOUT_AIMS:
@@ -62,7 +65,7 @@ def all_ratios(lines):
                 yield command, name, is_memory, ratio
 
 
-def counted_in(path):
+def counted_in(path: Optional[str]) -> dict[tuple[str, str], float]:
     """The ratios of counted instructions, by command and line."""
     if not path:
         return {}
@@ -70,11 +73,12 @@ def counted_in(path):
         return {(command, name): ratio for command, name, is_memory, ratio in all_ratios(lines) if ratio is not None}
 
 
-def main():
+def main() -> int:
     parser = argparse.ArgumentParser(usage=__doc__.split('\n\n')[1][7:])
     parser.add_argument('--counted')
     counted = counted_in(parser.parse_args().counted)
-    missed, judged, without = {}, 0, 0
+    missed: dict[tuple[str, float, bool], list[str]] = {}
+    judged = without = 0
     for command, name, is_memory, ratio in all_ratios(sys.stdin):
         aim = aim_of(command, name, is_memory)
         if ratio is None:
@@ -87,7 +91,7 @@ def main():
     print('| Of bench/ | Line, and its ratio%s | Aim |\n|---|---|---|' % (' (of counted instructions)' if counted else ''))
     for (command, aim, is_memory), lines in missed.items():
         print('| `%s` | %s | %s%.1f |' % (command, '; '.join(lines), 'memory ' if is_memory else '', aim))
-    print('\n%d lines have a ratio, %d miss; %d have none' % (judged, sum(map(len, missed.values())), without))
+    print('\n%d lines have a ratio, %d miss; %d have none' % (judged, sum(len(lines) for lines in missed.values()), without))
     return 0
 
 

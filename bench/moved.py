@@ -10,14 +10,17 @@ usage: bench/moved.py [--baseline WORDS] [--sizes N,N,..] [--edits N] [--turns N
 The points are those of bench/run.py, at places apart, and all validated. The time of an edit should not grow with their number:
 the window is always as small.
 """
+from __future__ import annotations
+
+import argparse
 import sys
 
 from features import HEADS, added
-from programs import beyond, measure_lines, print_sizes, spread
+from programs import Table, beyond, measure_lines, print_sizes, spread
 from run import place_of
 
 
-def moved(count, times):
+def moved(count: int, times: int) -> list[str]:
     """So many changes of points over the whole lattice, each with a validation of the window round its place."""
     numbers, lines = spread(count, count), []
     for i in spread(count, min(times, count)):
@@ -26,7 +29,7 @@ def moved(count, times):
     return lines
 
 
-def print_row(table, folder, count, programs, given):
+def print_row(table: Table, folder: str, count: int, programs: list[list[str]], given: argparse.Namespace) -> None:
     take = lambda lines: measure_lines(folder, lines, programs, given)
     whole, editing = HEADS['points'] + added('points', count) + ['validate all'], moved(count, given.edits)
     before, after = take(whole), take(whole + editing)
@@ -34,7 +37,7 @@ def print_row(table, folder, count, programs, given):
     table.row(name, 'µs', [before, after], beyond(after, before, 2e6 / len(editing)))
 
 
-def main():
+def main() -> int:
     add_words = lambda parser: parser.add_argument('--edits', type=int, default=20000)
     return print_sizes(__doc__, 'points', '--sizes', '10000,100000,1000000', print_row, add_words)
 

@@ -31,7 +31,7 @@ from typing import Iterator, NamedTuple
 
 sys.dont_write_bytecode = True
 from peers import PEERS
-from steps import GAPS, OVERLAPS, Found, Place, Step, found_by_topo, measured, print_steps
+from steps import GAPS, OVERLAPS, Found, Frame, Place, Step, found_by_topo, measured, print_steps
 
 ROOT = os.path.dirname(os.path.dirname(os.path.abspath(__file__)))
 TOOLS = os.path.join(ROOT, 'tools')
@@ -52,7 +52,7 @@ class Faults(NamedTuple):
 class Parcels:
     """Parcels on a lattice of so many rows and columns. Corners lie off their places, sides wind, and both are shared."""
 
-    def __init__(self, rows: int):
+    def __init__(self, rows: int) -> None:
         self.rows, self.lot = rows, random.Random(rows)
         self.corners = {(i, j): self.corner(i, j) for i in range(rows + 1) for j in range(rows + 1)}
         self.across = {(i, j): self.side(self.corners[i, j], self.corners[i + 1, j]) for i in range(rows) for j in range(rows + 1)}
@@ -130,13 +130,13 @@ def in_tiles(folder: str, program: list[str], grid: str, tiles: int) -> Iterator
     yield measured('to-gis', [tool('to-gis'), into, out])
 
 
-def near(place: Place, frame: tuple[float, float, float, float]) -> bool:
+def near(place: Place, frame: Frame) -> bool:
     return frame[0] - 1 <= place[0] <= frame[2] + 1 and frame[1] - 1 <= place[1] <= frame[3] + 1
 
 
 def counts(faults: Faults, found: Found) -> tuple[int, int]:
     """How many of the planted overlaps and gaps were found."""
-    frames: dict[tuple[int, int], list] = {}
+    frames: dict[tuple[int, int], list[Frame]] = {}
     for frame in found.frames:
         for x in range(int(frame[0]) // WIDE - 1, int(frame[2]) // WIDE + 2):
             for y in range(int(frame[1]) // WIDE - 1, int(frame[3]) // WIDE + 2):

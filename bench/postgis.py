@@ -15,6 +15,8 @@ It starts a server of its own in a temporary folder, with the settings that a ne
 Three rules are in force. The time runs from the moment at which a client sends COMMIT to the moment at which the service has committed
 the errors. The lines that it prints are rows of the table in docs/postgis.md.
 """
+from __future__ import annotations
+
 import argparse
 import io
 import os
@@ -93,7 +95,7 @@ def fill(dsn: str, count: int, share: float) -> int:
 class Client(threading.Thread):
     """Moves vertices of parcels, each in a transaction of its own."""
 
-    def __init__(self, number: int, dsn: str, parcels: int, commits: int, pause: float, times: Times):
+    def __init__(self, number: int, dsn: str, parcels: int, commits: int, pause: float, times: Times) -> None:
         super().__init__()
         self.lot, self.db = random.Random(number), psycopg2.connect(dsn)
         self.parcels, self.commits, self.pause, self.times = parcels, commits, pause, times
@@ -103,7 +105,7 @@ class Client(threading.Thread):
             time.sleep(self.lot.uniform(0, 2 * self.pause))
             with self.db.cursor() as cursor:
                 cursor.execute(EDIT, (self.lot.uniform(-0.5, 0.5), self.lot.uniform(-0.5, 0.5), self.lot.randint(1, self.parcels)))
-                number = cursor.fetchone()[0]
+                [(number,)] = cursor.fetchall()
             self.commit(number, time.time())
 
     def commit(self, number: str, sent: float) -> None:
@@ -119,7 +121,7 @@ def start(dsn: str, program: str, log: str) -> tuple[subprocess.Popen, float]:
     """A service that has begun, and how long that took."""
     since = time.time()
     service = subprocess.Popen([*BOUND, 'TERM', sys.executable, os.path.join(ROOT, 'tools', 'postgis'), 'run', dsn, '--program', program, '--log', log], stderr=subprocess.PIPE, text=True)
-    said = service.stderr.readline()
+    said = service.stderr.readline() if service.stderr else ''
     if 'judged after' not in said:
         sys.exit('the service does not begin: ' + said)
     return service, time.time() - since

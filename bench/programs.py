@@ -1,4 +1,6 @@
 """Programs that are measured over scripts: the built one, and another beside it where one is named."""
+from __future__ import annotations
+
 import argparse
 import contextlib
 import hashlib
@@ -11,6 +13,9 @@ import shutil
 import subprocess
 import sys
 import tempfile
+from typing import IO, Any, Callable, ContextManager, Iterable, Iterator, Optional, Sequence, TypeVar, Union
+
+from polygons import Place, Ring
 
 HERE = os.path.dirname(os.path.abspath(__file__))
 ROOT = os.path.dirname(HERE)
@@ -21,6 +26,9 @@ MEMORY_UNITS = {'MiB', 'bytes'}
 # Two runs of one script differ by as much: a difference of two runs that is a smaller part of the longer one says nothing.
 NOISE = 0.03
 
+# A row asks it for the figure of each program, by its place.
+Figure = Callable[[int], float]
+
 
 class Measure:
     """The least time and memory of a program's runs on one script, and how it ended and what it wrote.
@@ -30,42 +38,44 @@ class Measure:
 
     counts = False
 
-    def __init__(self, words):
+    def __init__(self, words: list[str]) -> None:
         self.words = words
-        self.spent = 0
+        self.spent = 0.0
         self.seconds = self.kilobytes = math.inf
-        self.status = self.digest = None
+        self.has_run, self.status, self.digest = False, 0, b''
 
-    def take(self, folder, limit):
+    def take(self, folder: str, limit: int) -> None:
         """One run over the script in the folder; none where an earlier one was long, or was stopped at the limit, in s."""
-        if self.status is not None and (self.status < 0 or self.seconds > LONG):
+        if self.has_run and (self.status < 0 or self.seconds > LONG):
             return
         written = os.path.join(folder, 'written')
         with self.source(folder) as source, open(written, 'wb') as out:
             run = self.counted if self.counts else self.measured
             self.status, microseconds, kilobytes = run(folder, limit, source, out)
+        self.has_run = True
         self.spent += microseconds / 1e6
         self.seconds = min(self.seconds, microseconds / 1e6)
         self.kilobytes = min(self.kilobytes, kilobytes)
         self.digest = self.digest_of(written)
 
-    def measured(self, folder, limit, source, out):
+    def measured(self, folder: str, limit: int, source: IO[bytes], out: IO[bytes]) -> tuple[int, float, float]:
         """One run: how it ended, its time in microseconds, and its memory in kilobytes."""
         report = os.path.join(folder, 'report')
         subprocess.run([os.path.join(folder, 'measured'), report, str(limit)] + self.words, stdin=source, stdout=out, check=True)
         with open(report) as told:
-            return map(int, told.read().split())
+            status, microseconds, kilobytes = map(int, told.read().split())
+        return status, microseconds, kilobytes
 
-    def counted(self, folder, limit, source, out):
+    def counted(self, folder: str, limit: int, source: IO[bytes], out: IO[bytes]) -> tuple[int, float, float]:
         """The same of a run whose instructions are counted."""
         ended, count = instructions(self.words, source, out)
         return ended, count / 1e3, 0
 
-    def source(self, folder):
+    def source(self, folder: str) -> ContextManager[IO[bytes]]:
         """What a run reads: the script in the folder."""
         return open(os.path.join(folder, 'script'), 'rb')
 
-    def digest_of(self, written):
+    def digest_of(self, written: str) -> bytes:
         """What stands for the output of a run in a comparison."""
         return digest_of_file(written)
 
@@ -73,11 +83,11 @@ class Measure:
 class SavingMeasure(Measure):
     """The same of runs that save a project: its text is a part of the output."""
 
-    def __init__(self, words, target):
+    def __init__(self, words: list[str], target: str) -> None:
         super().__init__(words + [target])
         self.target = target
 
-    def digest_of(self, written):
+    def digest_of(self, written: str) -> bytes:
         saved = digest_of_file(self.target) if os.path.exists(self.target) else b''
         return super().digest_of(written) + saved
 
@@ -85,35 +95,44 @@ class SavingMeasure(Measure):
 class PipedMeasure(Measure):
     """The same of runs that read what another program, called with these words, writes into a pipe."""
 
-    def __init__(self, words, maker):
+    def __init__(self, words: list[str], maker: list[str]) -> None:
         super().__init__(words)
         self.maker = maker
 
     @contextlib.contextmanager
-    def source(self, folder):
+    def source(self, folder: str) -> Iterator[IO[bytes]]:
         with subprocess.Popen(self.maker, stdout=subprocess.PIPE) as maker:
+            assert maker.stdout
             yield maker.stdout
 
 
-def instructions(words, source, out):
+Measures = Sequence[Measure]
+M = TypeVar('M', bound=Measure)
+# Measures the lines of a script.
+Taking = Callable[[list[str]], list[Measure]]
+# The names of maps, with what makes each.
+Maps = Callable[[], Iterable[tuple[str, Any]]]
+
+
+def instructions(words: list[str], source: IO[bytes], out: Union[int, IO[bytes]]) -> tuple[int, int]:
     """How a program ends that reads the source, and how many instructions it takes, as valgrind counts them."""
     counting = ['valgrind', '--tool=callgrind', '--callgrind-out-file=/dev/null'] + words
     run = subprocess.run(counting, stdin=source, stdout=out, stderr=subprocess.PIPE, text=True)
-    return run.returncode, int(re.search(r'Collected *: *(\d+)', run.stderr)[1])
+    return run.returncode, int(re.findall(r'Collected *: *(\d+)', run.stderr)[0])
 
 
-def digest_of_file(path):
+def digest_of_file(path: str) -> bytes:
     with open(path, 'rb') as file:
         return hashlib.sha256(file.read()).digest()
 
 
-def program_of(text):
+def program_of(text: str) -> list[str]:
     """The words of a program, the first of them its full path."""
     words = shlex.split(text)
     return [os.path.abspath(shutil.which(words[0]) or words[0])] + words[1:]
 
 
-def programs_of(given):
+def programs_of(given: argparse.Namespace) -> list[list[str]]:
     """The words of the measured program, and of the baseline where one is given."""
     Measure.counts = given.instructions
     if given.instructions and not shutil.which('valgrind'):
@@ -126,9 +145,9 @@ def programs_of(given):
     return [own] + ([program_of(given.baseline)] if given.baseline else [])
 
 
-def parser_of(usage):
+def parser_of(usage: Optional[str]) -> argparse.ArgumentParser:
     """A parser of the words that each of these commands takes; the command may add its own."""
-    parser = argparse.ArgumentParser(usage=usage.split('\n\n')[1][7:])
+    parser = argparse.ArgumentParser(usage=(usage or '').split('\n\n')[1][7:])
     parser.add_argument('--baseline')
     parser.add_argument('--program')
     parser.add_argument('--turns', type=int, default=3)
@@ -137,10 +156,10 @@ def parser_of(usage):
     return parser
 
 
-def add_kinds(parser, kinds):
+def add_kinds(parser: argparse.ArgumentParser, kinds: Iterable[str]) -> None:
     """The word `--kinds`: some of these, with commas between them, and all of them where it is left out."""
 
-    def chosen(text):
+    def chosen(text: str) -> list[str]:
         if not set(text.split(',')) <= set(kinds):
             raise argparse.ArgumentTypeError('the kinds are ' + ', '.join(kinds))
         return text.split(',')
@@ -148,12 +167,12 @@ def add_kinds(parser, kinds):
     parser.add_argument('--kinds', type=chosen, default=list(kinds))
 
 
-def timing_path(name):
+def timing_path(name: str) -> str:
     """Where the timing program of this crate stands once it is built."""
     return os.path.join(ROOT, 'crates', name, 'out', name)
 
 
-def timing_program(name):
+def timing_program(name: str) -> str:
     """The timing program of this crate; the command ends where it is not built."""
     path = timing_path(name)
     if not os.path.isfile(path):
@@ -161,13 +180,13 @@ def timing_program(name):
     return path
 
 
-def make_measured(folder):
+def make_measured(folder: str) -> None:
     """Puts into the folder the program that runs another and tells what it used."""
     measured = os.path.join(folder, 'measured')
     subprocess.run(['cc', '-O2', '-o', measured, os.path.join(HERE, 'measured.c')], check=True)
 
 
-def take_turns(measures, folder, given):
+def take_turns(measures: list[M], folder: str, given: argparse.Namespace) -> list[M]:
     """Lets these take turns on the script in the folder, more than were asked for where runs are short, and answers them."""
     if given.instructions:
         for measure in measures:
@@ -181,51 +200,51 @@ def take_turns(measures, folder, given):
     return measures
 
 
-def measure_script(folder, programs, given, more=('replay',)):
+def measure_script(folder: str, programs: list[list[str]], given: argparse.Namespace, more: Iterable[str] = ('replay',)) -> list[Measure]:
     """Lets the programs, called with more words, take turns on the script in the folder; one measure for each."""
     return take_turns([Measure(words + list(more)) for words in programs], folder, given)
 
 
-def write_lines(folder, lines):
+def write_lines(folder: str, lines: list[str]) -> None:
     """Makes these lines the script in the folder."""
     with open(os.path.join(folder, 'script'), 'w') as out:
         out.writelines(line + '\n' for line in lines)
 
 
-def measure_lines(folder, lines, programs, given):
+def measure_lines(folder: str, lines: list[str], programs: list[list[str]], given: argparse.Namespace) -> list[Measure]:
     """The same on a script of these lines."""
     write_lines(folder, lines)
     return measure_script(folder, programs, given)
 
 
-def measure_saved(folder, name, lines, more, programs, given):
+def measure_saved(folder: str, name: str, lines: list[str], more: Iterable[str], programs: list[list[str]], given: argparse.Namespace) -> list[SavingMeasure]:
     """The same of programs that are called with more words and save a project, each under this name with its number behind it."""
     write_lines(folder, lines)
     targets = [os.path.join(folder, '%s-%d' % (name, number)) for number in range(len(programs))]
     return take_turns([SavingMeasure(words + list(more), target) for words, target in zip(programs, targets)], folder, given)
 
 
-def measure_piped(folder, maker, more, programs, given):
+def measure_piped(folder: str, maker: list[str], more: Iterable[str], programs: list[list[str]], given: argparse.Namespace) -> list[PipedMeasure]:
     """The same of programs that are called with more words and read what another program writes, which is called with the words `maker`."""
     return take_turns([PipedMeasure(words + list(more), maker) for words in programs], folder, given)
 
 
-def measure_words(folder, words, programs, given):
+def measure_words(folder: str, words: list[str], programs: list[list[str]], given: argparse.Namespace) -> list[Measure]:
     """The same of programs that are called with these words, over an empty script."""
     with open(os.path.join(folder, 'script'), 'w'):
         return measure_script(folder, programs, given, words)
 
 
-def has_ended(measures):
+def has_ended(measures: Measures) -> bool:
     return all(measure.status >= 0 for measure in measures)
 
 
-def are_same(measures):
+def are_same(measures: Measures) -> bool:
     """Whether the programs wrote the same and ended alike."""
     return len({(measure.status, measure.digest) for measure in measures}) == 1
 
 
-def stride_of(count):
+def stride_of(count: int) -> int:
     """A step that visits all numbers below `count`, in no plain order."""
     stride = int(count * 0.618) | 1
     while math.gcd(stride, count) != 1:
@@ -233,30 +252,30 @@ def stride_of(count):
     return stride
 
 
-def spread(count, some):
+def spread(count: int, some: int) -> list[int]:
     """So many of the numbers below `count`, each once, over the whole range and in no plain order."""
     stride = stride_of(count)
     return [i * stride % count for i in range(some)]
 
 
-def point(place):
+def point(place: Place) -> str:
     return 'POINT (%d %d)' % place
 
 
-def polygon(ring):
+def polygon(ring: Ring) -> str:
     return 'POLYGON ((%s))' % ', '.join('%d %d' % place for place in ring + ring[:1])
 
 
-def line(places):
+def line(places: Iterable[Place]) -> str:
     return 'LINESTRING (%s)' % ', '.join('%d %d' % place for place in places)
 
 
-def added(name, shapes, text=polygon):
+def added(name: str, shapes: Iterable[Any], text: Callable[[Any], str] = polygon) -> list[str]:
     """The lines that add these shapes to the class."""
     return ['by ann add %s %s' % (name, text(shape)) for shape in shapes]
 
 
-def edits(shapes, times, text=polygon):
+def edits(shapes: Sequence[Any], times: int, text: Callable[[Any], str] = polygon) -> list[str]:
     """So many edits of these shapes, the first of which has the handle 1: each moves a vertex, and validates a window round its shape."""
     lot, lines = random.Random(times), []
     for number in spread(len(shapes), min(times, len(shapes))) * -(-times // len(shapes)):
@@ -268,10 +287,10 @@ def edits(shapes, times, text=polygon):
     return lines[:2 * times]
 
 
-def beyond(after, before, factor):
+def beyond(after: Measures, before: Measures, factor: float) -> Figure:
     """What a script takes beyond one that ends earlier, in s times the factor, of each program by its place; 0 where it is noise."""
 
-    def figure_of(i):
+    def figure_of(i: int) -> float:
         more = after[i].seconds - before[i].seconds
         return more * factor if Measure.counts or more > NOISE * after[i].seconds else 0
 
@@ -281,7 +300,7 @@ def beyond(after, before, factor):
 class Table:
     """A table of figures: what the program takes, what the baseline takes, the ratio, and whether their outputs are equal."""
 
-    def __init__(self, first, has_other):
+    def __init__(self, first: str, has_other: bool) -> None:
         self.has_other = has_other
         self.good = True
         names = [first, 'of the program']
@@ -289,7 +308,7 @@ class Table:
             names += ['of the baseline', 'ratio', 'equal output']
         print('| ' + ' | '.join(names) + ' |\n|' + '---|' * len(names), flush=True)
 
-    def row(self, name, unit, measures, figure_of):
+    def row(self, name: str, unit: str, measures: Sequence[Measures], figure_of: Figure) -> None:
         """A row: `figure_of` is asked for the figure of each program, by its place; `measures` hold the runs of all scripts.
         There is none of memory where instructions are counted."""
         if Measure.counts and unit in MEMORY_UNITS:
@@ -309,19 +328,19 @@ class Table:
         print('| ' + ' | '.join(cells) + ' |', flush=True)
 
 
-def print_validated(table, name, take, founding, editing, before):
+def print_validated(table: Table, name: str, take: Taking, founding: list[str], editing: list[str], before: Measures) -> list[Measure]:
     """The rows of a map: validated whole, and then after each of its edits. Answers the measures of the whole validation.
 
     `take` measures the lines of a script; `before` has the measures of those that found the map.
     """
-    validated, edited = [take(founding + ['validate all'] + lines) for lines in ([], editing)]
+    validated, edited = take(founding + ['validate all']), take(founding + ['validate all'] + editing)
     table.row(name + ', validated whole: time', 'ms', [before, validated], beyond(validated, before, 1e3))
     table.row(name + ', validated whole: memory', 'MiB', [validated], lambda i: validated[i].kilobytes / 1024)
     table.row(name + ', an edit with its window', 'µs', [validated, edited], beyond(edited, validated, 2e6 / len(editing)))
     return validated
 
 
-def print_table(title, given, print_rows):
+def print_table(title: str, given: argparse.Namespace, print_rows: Callable[[Table, str, list[list[str]]], None]) -> int:
     """A table, whose rows `print_rows` prints of the programs, with a folder for their scripts. Answers the status."""
     programs = programs_of(given)
     table = Table(title, len(programs) == 2)
@@ -331,13 +350,13 @@ def print_table(title, given, print_rows):
     return 0 if table.good else 1
 
 
-def print_maps(usage, maps, print_one):
+def print_maps(usage: Optional[str], maps: Maps, print_one: Callable[[Table, str, Taking, Any], None]) -> int:
     """The whole of a command that has maps by their names: reads its words, and has each map print its rows. Answers the status."""
     parser = parser_of(usage)
     parser.add_argument('--lines', nargs='+', default=[''])
     given = parser.parse_args()
 
-    def print_rows(table, folder, programs):
+    def print_rows(table: Table, folder: str, programs: list[list[str]]) -> None:
         take = lambda lines: measure_lines(folder, lines, programs, given)
         for name, make in maps():
             if name.startswith(tuple(given.lines)):
@@ -346,38 +365,38 @@ def print_maps(usage, maps, print_one):
     return print_table('map', given, print_rows)
 
 
-def print_edited_maps(usage, maps):
+def print_edited_maps(usage: Optional[str], maps: Maps) -> int:
     """The same where each map makes the lines that found it, and its edits: validated whole, and then after each edit."""
 
-    def print_map(table, name, take, make):
+    def print_map(table: Table, name: str, take: Taking, make: Callable[[], tuple[list[str], list[str]]]) -> None:
         founding, editing = make()
         print_validated(table, name, take, founding, editing, take(founding))
 
     return print_maps(usage, maps, print_map)
 
 
-def print_sizes(usage, title, option, sizes, print_one, add_words=lambda parser: None):
+def print_sizes(usage: Optional[str], title: str, option: str, sizes: str, print_one: Callable[[Table, str, int, list[list[str]], argparse.Namespace], None], add_words: Callable[[argparse.ArgumentParser], object] = lambda parser: None) -> int:
     """The whole of a command that takes sizes: reads its words, and has each size print its rows. Answers the status."""
     parser = parser_of(usage)
     parser.add_argument(option, dest='sizes', default=sizes)
     add_words(parser)
     given = parser.parse_args()
 
-    def print_rows(table, folder, programs):
+    def print_rows(table: Table, folder: str, programs: list[list[str]]) -> None:
         for size in map(int, given.sizes.split(',')):
             print_one(table, folder, size, programs, given)
 
     return print_table(title, given, print_rows)
 
 
-def print_kinds(usage, title, kinds, print_one, add_words=lambda parser: None):
+def print_kinds(usage: Optional[str], title: str, kinds: Iterable[str], print_one: Callable[[Table, str, str, list[list[str]], argparse.Namespace], None], add_words: Callable[[argparse.ArgumentParser], object] = lambda parser: None) -> int:
     """The whole of a command that takes kinds: reads its words, and has each kind print its rows. Answers the status."""
     parser = parser_of(usage)
     add_words(parser)
     add_kinds(parser, list(kinds))
     given = parser.parse_args()
 
-    def print_rows(table, folder, programs):
+    def print_rows(table: Table, folder: str, programs: list[list[str]]) -> None:
         for kind in given.kinds:
             print_one(table, folder, kind, programs, given)
 

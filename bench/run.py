@@ -20,22 +20,26 @@ Both programs take turns on each input. Time is processor time, user and system 
 memory; the system tells both when the process has ended (measured.c). The outputs and the statuses of the two must be
 equal: where they are not, the row says so and the status is 1.
 """
+from __future__ import annotations
+
+import argparse
 import os
 import sys
 import tempfile
+from typing import Iterator, Optional
 
-from programs import add_kinds, are_same, make_measured, measure_script, parser_of, programs_of, stride_of
+from programs import Measure, Place, add_kinds, are_same, make_measured, measure_script, parser_of, programs_of, stride_of
 
 KINDS = ['apart', 'shared', 'windows', 'tiles', 'small-tiles']
 ROWS_OF_WINDOWS = {'windows': 10, 'tiles': 50, 'small-tiles': 100}
 
 
-def place_of(number):
+def place_of(number: int) -> Place:
     """The place of this number: on a lattice, half of it left of the origin."""
     return number % 1000 * 7 - 3500, number // 1000 * 7 - 350
 
 
-def points(count, kind):
+def points(count: int, kind: str) -> Iterator[Place]:
     stride = stride_of(count)
     for i in range(count):
         if kind != 'apart' and i % 10 == 9:
@@ -43,7 +47,7 @@ def points(count, kind):
         yield place_of(i * stride % count)
 
 
-def windows(count, rows):
+def windows(count: int, rows: int) -> Iterator[tuple[int, int, int, int]]:
     """So many rows of as many windows that cover the lattice of so many points; each shares its sides with those beside it."""
     wide, high = 7000 // rows, -(-7 * (count // 1000 + 1) // rows)
     for row in range(rows):
@@ -52,13 +56,13 @@ def windows(count, rows):
             yield x, y, x + wide, y + high
 
 
-def validations(count, kind):
+def validations(count: int, kind: str) -> list[str]:
     if kind not in ROWS_OF_WINDOWS:
         return ['validate all']
     return ['validate %d %d %d %d' % window for window in windows(count, ROWS_OF_WINDOWS[kind])]
 
 
-def write_script(path, count, kind):
+def write_script(path: str, count: int, kind: str) -> None:
     with open(path, 'w') as out:
         out.write('class wells point\nrule point_must_be_disjoint wells\nbegin ann\n')
         for x, y in points(count, kind):
@@ -66,47 +70,47 @@ def write_script(path, count, kind):
         out.write('\n'.join(validations(count, kind)) + '\ncells\ndirty\n')
 
 
-def figures(measure):
+def figures(measure: Measure) -> list[str]:
     if measure.status < 0:
         return ['stopped', 'stopped']
     return ['%.3f' % measure.seconds, '%.1f' % (measure.kilobytes / 1024)]
 
 
-def ratios(own, other):
+def ratios(own: Measure, other: Measure) -> list[str]:
     if min(own.status, other.status) < 0:
         return ['', '']
     return ['%.2f' % (own.seconds / max(other.seconds, 0.001)), '%.2f' % (own.kilobytes / max(other.kilobytes, 1))]
 
 
-def row(name, own, other):
+def row(name: str, own: Measure, other: Optional[Measure]) -> str:
     cells = [name] + figures(own)
     if other:
         cells += figures(other) + ratios(own, other) + ['yes' if are_same([own, other]) else 'NO']
     return '| ' + ' | '.join(cells) + ' |'
 
 
-def head(has_other):
+def head(has_other: bool) -> str:
     names = ['input', 'time in s', 'memory in MiB']
     if has_other:
         names += ['baseline: time in s', 'baseline: memory in MiB', 'ratio of times', 'ratio of memory', 'equal output']
     return '| ' + ' | '.join(names) + ' |\n|' + '---|' * len(names)
 
 
-def measure_input(folder, count, kind, programs, given):
+def measure_input(folder: str, count: int, kind: str, programs: list[list[str]], given: argparse.Namespace) -> tuple[Measure, Optional[Measure]]:
     """Lets the programs take turns on one input."""
     write_script(os.path.join(folder, 'script'), count, kind)
     measures = measure_script(folder, programs, given)
     return measures[0], measures[1] if len(measures) == 2 else None
 
 
-def given_words():
+def given_words() -> argparse.Namespace:
     parser = parser_of(__doc__)
     parser.add_argument('--sizes', default='1000,10000,100000')
     add_kinds(parser, KINDS)
     return parser.parse_args()
 
 
-def main():
+def main() -> int:
     given = given_words()
     programs = programs_of(given)
     good = True

@@ -14,6 +14,8 @@ one before. Each hundred edits it ends its session and begins another. In the la
 from before its line is sent until it is there; of a batch, until its last reply is there. Memory is resident: of the service, and of the
 program behind it, after a tenth of the lines and at the end. The machine bears editors and service at once.
 """
+from __future__ import annotations
+
 import argparse
 import asyncio
 import json
@@ -23,6 +25,10 @@ import subprocess
 import sys
 import tempfile
 import time
+from typing import TYPE_CHECKING, Iterator
+
+if TYPE_CHECKING:
+    from serving import Desk, Office, Serving
 
 HERE = os.path.dirname(os.path.abspath(__file__))
 ROOT = os.path.dirname(HERE)
@@ -33,7 +39,7 @@ LOTS, SESSION, BATCH = 200, 100, 100
 RECOVERED = 100000
 
 
-def lot(number, turn):
+def lot(number: int, turn: int) -> str:
     """A lot of an editor: it goes to and fro over its neighbour's side, so that errors come and go."""
     x, y = number % 20 * 10, number // 20 * 10
     shift = turn % 3
@@ -41,12 +47,12 @@ def lot(number, turn):
         x + shift, y, x + 9 + shift, y, x + 9 + shift, y + 9, x + shift, y + 9, x + shift, y)
 
 
-def window(number):
+def window(number: int) -> str:
     x, y = number % 20 * 10, number // 20 * 10
     return 'validate %d %d %d %d' % (x - 1, y - 1, x + 12, y + 10)
 
 
-def edits_of(name, handles, first, last):
+def edits_of(name: str, handles: list[tuple[str, int]], first: int, last: int) -> Iterator[str]:
     """The edits of these numbers, each with its window; `handles` are the lots of the editor."""
     for edit in range(first, last):
         at = edit % LOTS
@@ -54,7 +60,7 @@ def edits_of(name, handles, first, last):
         yield window(handles[at][1])
 
 
-def lines_of(name, handles, edits):
+def lines_of(name: str, handles: list[tuple[str, int]], edits: int) -> Iterator[str]:
     """So many edits, in sessions."""
     for first in range(0, edits, SESSION):
         yield from ['begin ' + name, *edits_of(name, handles, first, min(first + SESSION, edits)), 'end ' + name]
@@ -63,16 +69,16 @@ def lines_of(name, handles, edits):
 class Worker:
     """One editor in a process of editors."""
 
-    def __init__(self, name, office, port):
+    def __init__(self, name: str, office: Office, port: int) -> None:
         self.name, self.office, self.port = name, office, port
-        self.times = []
+        self.times: list[float] = []
 
-    async def connect(self):
+    async def connect(self) -> None:
         self.reader, self.writer = await asyncio.open_connection('127.0.0.1', self.port, ssl=self.office.context(self.name))
 
-    async def replies(self, count):
+    async def replies(self, count: int) -> list[bytes]:
         """The last lines of so many replies."""
-        found = []
+        found: list[bytes] = []
         while len(found) < count:
             line = await self.reader.readline()
             if not line:
@@ -81,7 +87,7 @@ class Worker:
                 found.append(line)
         return found
 
-    async def prepare(self, number):
+    async def prepare(self, number: int) -> None:
         """Adds the lots of this editor, in rows of their own."""
         lots = range(number * LOTS, (number + 1) * LOTS)
         lines = ['begin ' + self.name, *['by %s add lots %s' % (self.name, lot(each, 0)) for each in lots], 'end ' + self.name]
@@ -89,7 +95,7 @@ class Worker:
         told = await self.replies(len(lines))
         self.handles = [(reply.split()[1].decode(), each) for reply, each in zip(told[1:-1], lots)]
 
-    async def work(self, edits):
+    async def work(self, edits: int) -> None:
         for line in lines_of(self.name, self.handles, edits):
             start = time.perf_counter()
             self.writer.write(line.encode() + b'\n')
@@ -98,7 +104,7 @@ class Worker:
             if not reply[0].startswith(b'ok'):
                 sys.exit('%s: %s' % (line, reply[0].decode()))
 
-    async def pour(self, lines):
+    async def pour(self, lines: int) -> None:
         """Sends so many lines in batches, each of which is a session."""
         edits = (BATCH - 2) // 2
         for number in range(lines // BATCH):
@@ -111,7 +117,7 @@ class Worker:
                 sys.exit('a line of a batch was refused')
 
 
-async def workers_main(office, port, first, count, edits, lines):
+async def workers_main(office: Office, port: int, first: int, count: int, edits: int, lines: int) -> None:
     """A process of editors: it says when all are ready, works when it is told to, and says what each reply took."""
     workers = [Worker('e%d' % (first + i), office, port) for i in range(count)]
     for i, worker in enumerate(workers):
@@ -124,13 +130,13 @@ async def workers_main(office, port, first, count, edits, lines):
     print(json.dumps([start, time.time(), [each for worker in workers for each in worker.times]]), flush=True)
 
 
-def memory_of(pid):
+def memory_of(pid: int) -> float:
     """Resident memory in MiB."""
     with open('/proc/%d/status' % pid) as file:
         return next(int(line.split()[1]) for line in file if line.startswith('VmRSS')) / 1024
 
 
-def memories(serving):
+def memories(serving: Serving) -> list[float]:
     """Of the service, and of the newest program behind it."""
     pid = serving.process.pid
     with open('/proc/%d/task/%d/children' % (pid, pid)) as file:
@@ -138,23 +144,28 @@ def memories(serving):
     return [memory_of(pid), max((memory_of(int(child)) for child in children), default=0)]
 
 
-def start_workers(office, port, editors, edits, lines):
+def said_by(worker: subprocess.Popen[str]) -> str:
+    """The next line of a process of editors."""
+    return worker.stdout.readline() if worker.stdout else ''
+
+
+def start_workers(office: Office, port: int, editors: int, edits: int, lines: int) -> list[subprocess.Popen[str]]:
     started = []
     for first in range(0, editors, OF_PROCESS):
         count = min(OF_PROCESS, editors - first)
         words = [sys.executable, __file__, '--worker', office.folder, *map(str, (port, first, count, edits, lines // editors))]
         started.append(subprocess.Popen(words, stdin=subprocess.PIPE, stdout=subprocess.PIPE, text=True))
     for each in started:
-        if each.stdout.readline() != 'ready\n':
+        if said_by(each) != 'ready\n':
             sys.exit('the editors do not come in')
     return started
 
 
-def part(times, share):
+def part(times: list[float], share: float) -> float:
     return times[min(len(times) - 1, int(len(times) * share))] * 1000
 
 
-def measure(folder, office, editors, edits, lines, program):
+def measure(folder: str, office: Office, editors: int, edits: int, lines: int, program: list[str]) -> list[str]:
     """A row of the table."""
     from serving import Desk, Serving, free_port, own_user, rights_text
     port = free_port()
@@ -169,6 +180,7 @@ def measure(folder, office, editors, edits, lines, program):
         workers = start_workers(office, port, editors, edits, lines)
         total = lines or editors * (2 * edits + 2 * -(-edits // SESSION))
         for each in workers:
+            assert each.stdin
             each.stdin.write('\n')
             each.stdin.flush()
         early = None
@@ -177,7 +189,7 @@ def measure(folder, office, editors, edits, lines, program):
                 early = memories(serving)
             time.sleep(0.2)
         late = memories(serving)
-        told = [json.loads(each.stdout.readline()) for each in workers]
+        told = [json.loads(said_by(each)) for each in workers]
         taken = max(end for _, end, _ in told) - min(start for start, _, _ in told)
         times = sorted(each for _, _, times in told for each in times)
         cells = ['%.0f' % (total / taken), *['%.1f' % part(times, share) for share in (0.5, 0.99, 0.9999)], '%.1f' % (times[-1] * 1000)]
@@ -188,7 +200,7 @@ def measure(folder, office, editors, edits, lines, program):
         serving.stop()
 
 
-def measure_recovery(folder, office, program):
+def measure_recovery(folder: str, office: Office, program: list[str]) -> float:
     """How long a killed service takes until it is ready again, with so many lines in its journal."""
     from serving import Desk, Serving, free_port, own_user, rights_text
     port = free_port()
@@ -208,15 +220,15 @@ def measure_recovery(folder, office, program):
         serving.end()
 
 
-def ready(process):
+def ready(process: subprocess.Popen[str]) -> bool:
     return bool(select.select([process.stdout], [], [], 0)[0])
 
 
-def line_of(desk):
+def line_of(desk: Desk) -> int:
     return int(desk.ask('status')[0].split()[1])
 
 
-def sync_time(folder):
+def sync_time(folder: str) -> float:
     """How long the folder takes to sync a short line, in ms: the median of 100."""
     path, times = os.path.join(folder, 'sync'), []
     with open(path, 'ab') as out:
@@ -230,7 +242,7 @@ def sync_time(folder):
     return sorted(times)[50] * 1000
 
 
-def given_words():
+def given_words() -> argparse.Namespace:
     parser = argparse.ArgumentParser(description=__doc__, formatter_class=argparse.RawDescriptionHelpFormatter)
     parser.add_argument('--editors', default='1,4,16')
     parser.add_argument('--edits', type=int, default=0)
@@ -240,7 +252,7 @@ def given_words():
     return parser.parse_args()
 
 
-def main():
+def main() -> int:
     sys.path[:0] = [os.path.join(ROOT, 'tools', 'tests'), os.path.join(ROOT, 'tools')]
     from serving import Office
     if sys.argv[1:2] == ['--worker']:
@@ -251,7 +263,7 @@ def main():
     given = given_words()
     most = max(map(int, given.editors.split(',')))
     with tempfile.TemporaryDirectory(dir=given.folder) as folder:
-        print('%d processors, load %.1f when it began; a sync takes %.2f ms here\n' % (os.cpu_count(), os.getloadavg()[0], sync_time(folder)))
+        print('%d processors, load %.1f when it began; a sync takes %.2f ms here\n' % (os.cpu_count() or 1, os.getloadavg()[0], sync_time(folder)))
         print('| editors | lines a second | a reply in ms: half | 99 % | 99.99 % | all | service in MiB: early, late | program in MiB | saved |')
         print('|' + '---|' * 9, flush=True)
         office = Office(os.path.join(folder, 'office'), ['e%d' % i for i in range(most)])

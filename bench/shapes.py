@@ -11,6 +11,8 @@ The polygon is made once and then many times over, and the difference counts: pr
 program of the same words and texts, a script with many `add` lines of the polygon is timed in the same way, minus one with a
 single line; so its time holds the reading of the text too.
 """
+from __future__ import annotations
+
 import argparse
 import math
 import os
@@ -19,28 +21,28 @@ import sys
 import tempfile
 
 from polygons import comb, ring, spiral
-from programs import make_measured, program_of, timing_program
+from programs import Place, Ring, make_measured, program_of, timing_program
 
 TURNS = 3
 
 
-def on_circle(radius, turn):
+def on_circle(radius: int, turn: float) -> Place:
     return int(radius * math.cos(2 * math.pi * turn)), int(radius * math.sin(2 * math.pi * turn))
 
 
-def star(n):
+def star(n: int) -> Ring:
     spikes = [on_circle(4000000 if i % 2 == 0 or i > n - 5 else 2000000, i / n) for i in range(n)]
     return spikes[:-2] + [spikes[-1], spikes[-2]]
 
 
-def rosette(n):
+def rosette(n: int) -> Ring:
     step = n // 2 - 1
     while math.gcd(step, n) != 1:
         step -= 1
     return [on_circle(4000000, i * step / n) for i in range(n)]
 
 
-def timed(folder, words, text):
+def timed(folder: str, words: list[str], text: str) -> tuple[float, str]:
     """The least processor time in s of some runs, and what was written."""
     report, best = os.path.join(folder, 'report'), math.inf
     for _ in range(TURNS):
@@ -53,14 +55,14 @@ def timed(folder, words, text):
     return best, done.stdout
 
 
-def own_time(folder, program, vertices, times):
+def own_time(folder: str, program: str, vertices: Ring, times: int) -> tuple[float, str]:
     text = ''.join('%d %d\n' % v for v in vertices)
     once, _ = timed(folder, [program, '1'], text)
     many, said = timed(folder, [program, str(times + 1)], text)
     return (many - once) / times, said.split(', ', 1)[1].strip()
 
 
-def baseline_time(folder, words, vertices, times):
+def baseline_time(folder: str, words: list[str], vertices: Ring, times: int) -> tuple[float, str]:
     listed = ', '.join('%d %d' % v for v in vertices + vertices[:1])
     head = 'class lots polygon\nbegin ann\n'
     line = 'by ann add lots POLYGON ((%s))\n' % listed
@@ -69,7 +71,7 @@ def baseline_time(folder, words, vertices, times):
     return (many - once) / times, said.splitlines()[-1]
 
 
-def main():
+def main() -> None:
     parser = argparse.ArgumentParser()
     parser.add_argument('--sizes', default='100,500,2000')
     parser.add_argument('--times', type=int, default=50)

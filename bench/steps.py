@@ -5,19 +5,20 @@ import csv
 import os
 import subprocess
 import sys
-from typing import IO, Iterable, NamedTuple, Optional
+from typing import IO, Any, Iterable, NamedTuple, Optional
 
 OVERLAPS, GAPS = 'polygon_must_not_overlap', 'polygon_must_not_have_gaps'
 FRAME = 'ST_MinX(geom), ST_MinY(geom), ST_MaxX(geom), ST_MaxY(geom)'
 
 Place = tuple[float, float]
+Frame = tuple[float, float, float, float]
 
 
 class Found(NamedTuple):
     """What was found: pairs of parcels, and the rectangles round gaps."""
 
     pairs: set[tuple[str, str]]
-    frames: list[tuple[float, float, float, float]]
+    frames: list[Frame]
 
 
 class Step(NamedTuple):
@@ -29,10 +30,11 @@ class Step(NamedTuple):
     clock: float = 0.0
 
 
-def measured(name: str, words: list[str], source: Optional[IO] = None, out: Optional[IO] = None, **more) -> Step:
+def measured(name: str, words: list[str], source: Optional[IO] = None, out: Optional[IO] = None, **more: Any) -> Step:
     """Runs a step; a status that is not 0 ends the measurement."""
     since = os.times().elapsed
-    process = subprocess.Popen(words, stdin=source or subprocess.DEVNULL, stdout=out or subprocess.DEVNULL, stderr=subprocess.PIPE, **more)
+    process: subprocess.Popen[bytes] = subprocess.Popen(words, stdin=source or subprocess.DEVNULL, stdout=out or subprocess.DEVNULL, stderr=subprocess.PIPE, **more)
+    assert process.stderr
     told = process.stderr.read().decode('utf-8', 'replace')
     _, status, used = os.wait4(process.pid, 0)
     process.returncode = os.waitstatus_to_exitcode(status)
@@ -47,8 +49,8 @@ def asked(path: str, text: str) -> list[list[str]]:
     return list(csv.reader(subprocess.run(words, capture_output=True, check=True).stdout.decode().splitlines()))[1:]
 
 
-def frames_of(rows: Iterable[list[str]]) -> list[tuple[float, float, float, float]]:
-    return [tuple(map(float, row)) for row in rows]
+def frames_of(rows: Iterable[list[str]]) -> list[Frame]:
+    return [(float(x0), float(y0), float(x1), float(y1)) for x0, y0, x1, y1 in rows]
 
 
 def found_by_topo(path: str) -> Found:

@@ -12,10 +12,13 @@ the steps are remarks, one ends after the steps, one undoes the last of them and
 the second takes beyond the first, from 10,000 steps on; the time of an undo or a redo what the third takes beyond the second. Neither
 should grow with the steps.
 """
+from __future__ import annotations
+
+import argparse
 import sys
 
 from features import HEADS, added
-from programs import beyond, measure_lines, print_sizes
+from programs import Table, beyond, measure_lines, print_sizes
 from run import place_of
 
 ROUNDS = 200
@@ -23,13 +26,13 @@ ROUNDS = 200
 FEWEST = 10000
 
 
-def steps_of(count):
+def steps_of(count: int) -> list[str]:
     """A session in which each of so many points moves by one unit."""
     places = (place_of(i) for i in range(count))
     return ['begin bob'] + ['by bob change %d POINT (%d %d)' % (i + 1, x + 1, y) for i, (x, y) in enumerate(places)]
 
 
-def print_row(table, folder, count, programs, given):
+def print_row(table: Table, folder: str, count: int, programs: list[list[str]], given: argparse.Namespace) -> None:
     take = lambda lines: measure_lines(folder, lines, programs, given)
     points, steps = HEADS['points'] + added('points', count) + ['end ann'], steps_of(count)
     times = min(given.undone, count)
@@ -41,7 +44,7 @@ def print_row(table, folder, count, programs, given):
     table.row('%s steps: time of an undo or a redo' % format(count, ','), 'µs', [before, after], beyond(after, before, 1e6 / len(back)))
 
 
-def main():
+def main() -> int:
     add_words = lambda parser: parser.add_argument('--undone', type=int, default=1000)
     return print_sizes(__doc__, 'steps', '--steps', '1000,10000,100000', print_row, add_words)
 

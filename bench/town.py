@@ -13,10 +13,13 @@ corner of its own that reaches into the next, so that the two overlap. One easem
 in the street; each fourth of them reaches into the parcel. Two rules are in force: parcels must not overlap, and must not
 overlap with easements. An edit moves a corner of one parcel alone, and the window round that parcel is validated.
 """
+from __future__ import annotations
+
+import argparse
 import random
 import sys
 
-from programs import added, beyond, edits, measure_lines, print_sizes, print_validated
+from programs import Place, Ring, Table, added, beyond, edits, measure_lines, print_sizes, print_validated
 
 HEAD = ['class parcels polygon', 'class easements polygon', 'rule polygon_must_not_overlap parcels',
         'rule polygon_must_not_overlap_with parcels easements', 'begin ann']
@@ -28,7 +31,7 @@ LISTED = 450000
 class Town:
     """A town of so many rows of as many parcels; the corners of a row stand on its two lines, front and back."""
 
-    def __init__(self, rows):
+    def __init__(self, rows: int) -> None:
         self.rows = rows
         lot = random.Random(rows)
         self.jitter = {}
@@ -36,35 +39,35 @@ class Town:
             for place in range(2 * rows + 1):
                 self.jitter[line, place] = lot.randint(-6, 6), lot.randint(-6, 6)
 
-    def line(self, row, is_upper):
+    def line(self, row: int, is_upper: int) -> int:
         """The number of the lower or the upper line of a row: the two rows of a block share the one between them."""
         block, second = divmod(row, 2)
         return 3 * block + second + is_upper
 
-    def corner(self, line, place):
+    def corner(self, line: int, place: int) -> Place:
         """The corner at this half place of a line; what lies at an odd half place is the vertex between two corners."""
         block, of_block = divmod(line, 3)
         y = block * (2 * DEPTH + STREET) + of_block * DEPTH
         dx, dy = self.jitter[line % (2 * self.rows), place]
         return place * WIDTH // 2 + dx, y + dy
 
-    def ring(self, row, column):
+    def ring(self, row: int, column: int) -> Ring:
         """The vertices of a parcel: three below and three above."""
         lower, upper = self.line(row, 0), self.line(row, 1)
         first = 2 * column
         return [self.corner(lower, first + k) for k in range(3)] + [self.corner(upper, first + k) for k in (2, 1, 0)]
 
-    def parcel(self, number):
+    def parcel(self, number: int) -> Ring:
         row, column = divmod(number, self.rows)
         ring = self.ring(row, column)
         if number % 20 == 7:
             ring[2] = ring[2][0] + 15, ring[2][1] + 10
         return ring
 
-    def parcels(self):
+    def parcels(self) -> list[Ring]:
         return [self.parcel(number) for number in range(self.rows ** 2)]
 
-    def easement(self, number):
+    def easement(self, number: int) -> Ring:
         """A strip along the front of this parcel, on the street's side of it."""
         row, column = divmod(number, self.rows)
         is_upper = row % 2
@@ -75,13 +78,13 @@ class Town:
         return [(x + 10, low), (x + 90, low), (x + 90, high), (x + 10, high)]
 
 
-def founding(town):
+def founding(town: Town) -> list[str]:
     """The lines that add the parcels, from handle 1 on in the order of their numbers, and the easements."""
     easements = [town.easement(number) for number in range(0, town.rows ** 2, 5)]
     return added('parcels', town.parcels()) + added('easements', easements)
 
 
-def print_rows(table, folder, rows, programs, given):
+def print_rows(table: Table, folder: str, rows: int, programs: list[list[str]], given: argparse.Namespace) -> None:
     """The rows of the table on a town of so many rows."""
     town = Town(rows)
     take = lambda lines: measure_lines(folder, HEAD + lines, programs, given)
@@ -95,7 +98,7 @@ def print_rows(table, folder, rows, programs, given):
     table.row(name + ', all errors listed: time', 'ms', [validated, listed], beyond(listed, validated, 1e3 / listings))
 
 
-def main():
+def main() -> int:
     add_words = lambda parser: parser.add_argument('--edits', type=int, default=5000)
     return print_sizes(__doc__, 'town', '--rows', '30,60,100,300', print_rows, add_words)
 

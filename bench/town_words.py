@@ -10,10 +10,13 @@ usage: bench/town_words.py [--baseline WORDS] [--rows N,N,..] [--seed N] [--turn
 docs/town.md says what the town is. A town of N rows has 2 * N * N + N features under five rules. The words take 60 rows at most. A
 larger town is replayed from its script, as `tools/towns --script SEED N` writes it, with the lines `features` and `cells` behind it.
 """
+from __future__ import annotations
+
+import argparse
 import os
 import sys
 
-from programs import ROOT, measure_lines, measure_words, print_sizes
+from programs import ROOT, Measure, Table, measure_lines, measure_words, print_sizes
 
 sys.path.append(os.path.join(ROOT, 'tools'))
 
@@ -22,7 +25,7 @@ from lib.town import script  # noqa: E402
 MOST_ROWS = 60
 
 
-def measured(folder, rows, programs, given):
+def measured(folder: str, rows: int, programs: list[list[str]], given: argparse.Namespace) -> tuple[str, list[Measure]]:
     """The name of a town of so many rows, and its runs."""
     words = ['town', given.seed, str(rows)]
     if rows <= MOST_ROWS:
@@ -31,13 +34,13 @@ def measured(folder, rows, programs, given):
     return ' '.join(words) + ', from its script', measure_lines(folder, lines, programs, given)
 
 
-def print_rows(table, folder, rows, programs, given):
+def print_rows(table: Table, folder: str, rows: int, programs: list[list[str]], given: argparse.Namespace) -> None:
     name, runs = measured(folder, rows, programs, given)
     table.row(name + ': time', 'ms', [runs], lambda i: runs[i].seconds * 1e3)
     table.row(name + ': memory', 'MiB', [runs], lambda i: runs[i].kilobytes / 1024)
 
 
-def main():
+def main() -> int:
     add_words = lambda parser: parser.add_argument('--seed', default='7')
     return print_sizes(__doc__, 'town', '--rows', '30,60,100,300', print_rows, add_words)
 
