@@ -13,11 +13,14 @@ A function is public where its crate's root file hands it out: by a `pub use`, o
 handed out so; of a program, where it is `pub`. So is a type's method of a trait that some crate hands out. One that has no clauses of
 its own has the trait's.
 """
+from __future__ import annotations
+
 import collections
 import glob
 import os
 import re
 import sys
+from typing import Callable, Iterator, NamedTuple, Optional
 
 from lib.crates import dependencies
 
@@ -29,10 +32,26 @@ ITEM = re.compile(r'^(?P<indent> *)(?:(?P<public>pub) )?(?:const )?(?:unsafe )?(
                   r'|trait (?P<declared>\w+)|fn (?P<function>\w+))', re.M)
 CLAUSE = re.compile(r'^ *ensures\*? *(\w*) *\{', re.M)
 
-Function = collections.namedtuple('Function', 'crate module owner trait name clauses is_declared body')
+# A crate, the way to a function in it, and a clause.
+Aim = tuple[str, list[str], str]
+
+
+class Function(NamedTuple):
+    """A public function: where it stands, its clauses, whether a trait declares it, and its body."""
+
+    crate: str
+    module: list[str]
+    owner: Optional[str]
+    trait: Optional[str]
+    name: str
+    clauses: list[str]
+    is_declared: bool
+    body: str
+
+
 
 # Why no wrong body is aimed at a clause: the first of these that holds of its function and its name.
-WHYS = [
+WHYS: list[tuple[str, Callable[[Function, str], object]]] = [
     ('of a comparison program or of the tests', lambda f, clause: re.match('plain_|test_|bench_', f.crate)),
     ('a law: its body is empty or only calls others, so that no other body means anything', lambda f, clause: f.name.endswith('_law')),
     ('of a trait: its bodies are those of the types that have it', lambda f, clause: f.is_declared),
@@ -54,12 +73,12 @@ WHYS = [
 ]
 
 
-def text_of(path):
+def text_of(path: str) -> str:
     with open(path, encoding='utf-8') as file:
         return file.read()
 
 
-def handed_out(crate):
+def handed_out(crate: str) -> set[str]:
     """The names that a crate's root file hands out; of a program, which has no callers, all that are `pub`."""
     folder = os.path.join(CRATES, crate, 'src')
     root, names = os.path.join(folder, 'lib.rt'), set()
@@ -71,7 +90,7 @@ def handed_out(crate):
     return names
 
 
-def head_of(text, start):
+def head_of(text: str, start: int) -> str:
     """What stands before the body of the function that begins here: its name, parameters and clauses."""
     depth = 0
     for i in range(start, len(text)):
@@ -85,7 +104,7 @@ def head_of(text, start):
     return text[start:]
 
 
-def body_of(text, start):
+def body_of(text: str, start: int) -> str:
     """The body that begins here, with its braces; nothing where there is none."""
     depth = 0
     for i in range(start, len(text)):
@@ -95,7 +114,7 @@ def body_of(text, start):
     return ''
 
 
-def handed_out_traits():
+def handed_out_traits() -> set[str]:
     """The traits that some crate hands out."""
     traits = set()
     for crate in dependencies():
@@ -104,7 +123,7 @@ def handed_out_traits():
     return traits
 
 
-def functions_of(crate, traits):
+def functions_of(crate: str, traits: set[str]) -> Iterator[Function]:
     """The public functions of a crate with the clauses that each has written on it."""
     names = handed_out(crate)
     for path in sorted(glob.glob(os.path.join(CRATES, crate, 'src', '**', '*.rt'), recursive=True)):
@@ -127,7 +146,7 @@ def functions_of(crate, traits):
             yield Function(crate, module, *of, item['function'], clauses, inner and is_trait, body)
 
 
-def all_functions():
+def all_functions() -> list[Function]:
     """The public functions of all crates with their clauses, those of the trait where a method has none."""
     traits = handed_out_traits()
     found = [function for crate in dependencies() for function in functions_of(crate, traits)]
@@ -135,7 +154,7 @@ def all_functions():
     return [f._replace(clauses=f.clauses or of_traits.get((f.trait, f.name), [])) for f in found]
 
 
-def edits():
+def edits() -> Iterator[tuple[str, Optional[Aim]]]:
     """Each wrong body, by its path from the root, with what it is aimed at, or None."""
     for path in sorted(glob.glob(os.path.join(CRATES, '*', 'must-fail', '*.edit'))):
         first = text_of(path).split('\n')[0]
@@ -143,7 +162,7 @@ def edits():
         yield os.path.relpath(path, ROOT), aim and (aim[1], aim[2].split('::')[1:], aim[3])
 
 
-def is_aimed(aim, function):
+def is_aimed(aim: Aim, function: Function) -> bool:
     """Whether what an edit names is this function."""
     crate, path, _ = aim
     rest = path[:-1]
@@ -153,11 +172,11 @@ def is_aimed(aim, function):
     return crate == function.crate and path[-1] == function.name and rest in of
 
 
-def shown(function):
+def shown(function: Function) -> str:
     return '::'.join(word for word in (function.crate, function.owner, function.name) if word)
 
 
-def wrong_aims():
+def wrong_aims() -> Iterator[str]:
     """A line for each wrong body that is aimed at no clause of a public function."""
     functions = all_functions()
     for path, aim in edits():
@@ -167,7 +186,7 @@ def wrong_aims():
             yield '%s: no public function %s::%s has a clause %s' % (path, aim[0], '::'.join(aim[1]), aim[2])
 
 
-def wrong_texts():
+def wrong_texts() -> Iterator[str]:
     """A line for each wrong body that cannot be put in: its old text does not stand there once."""
     for path, _ in edits():
         crate, source, text, old = os.path.join(ROOT, os.path.dirname(os.path.dirname(path))), None, '', None
@@ -184,7 +203,7 @@ def wrong_texts():
                 text = text.replace(old, rest)
 
 
-def counts():
+def counts() -> Iterator[tuple[Function, str, int]]:
     """Each public clause with the number of wrong bodies that are aimed at it."""
     aims = [aim for _, aim in edits() if aim]
     for function in all_functions():
@@ -192,7 +211,7 @@ def counts():
             yield function, clause, sum(is_aimed(aim, function) and aim[2] == clause for aim in aims)
 
 
-def without():
+def without() -> dict[str, dict[str, list[str]]]:
     """The clauses that no wrong body is aimed at, by why."""
     aimed = {(function.crate, function.owner, function.name) for function, _, count in counts() if count}
     rows = {why: collections.defaultdict(list) for why, _ in WHYS}
@@ -224,14 +243,16 @@ def lines_by_crate(functions: dict[str, list[str]]) -> list[str]:
     return ['| %s | %s |' % (crate, '; '.join(texts)) for crate, texts in crates.items()]
 
 
-def main():
+def main() -> int:
     if sys.argv[1:] == ['--without']:
-        return print_without()
+        print_without()
+        return 0
     chosen = set(sys.argv[1:])
     for function, clause, count in counts():
         if not chosen or function.crate in chosen:
             print('%3d %s, %s' % (count, shown(function), clause))
+    return 0
 
 
 if __name__ == '__main__':
-    main()
+    sys.exit(main())
