@@ -159,7 +159,7 @@ def edits() -> Iterator[tuple[str, Optional[Aim]]]:
     for path in sorted(glob.glob(os.path.join(CRATES, '*', 'must-fail', '*.edit'))):
         first = text_of(path).split('\n')[0]
         aim = HEAD.match(first)
-        yield os.path.relpath(path, ROOT), aim and (aim[1], aim[2].split('::')[1:], aim[3])
+        yield os.path.relpath(path, ROOT), (aim[1], aim[2].split('::')[1:], aim[3]) if aim else None
 
 
 def is_aimed(aim: Aim, function: Function) -> bool:
@@ -214,7 +214,7 @@ def counts() -> Iterator[tuple[Function, str, int]]:
 def without() -> dict[str, dict[str, list[str]]]:
     """The clauses that no wrong body is aimed at, by why."""
     aimed = {(function.crate, function.owner, function.name) for function, _, count in counts() if count}
-    rows = {why: collections.defaultdict(list) for why, _ in WHYS}
+    rows: dict[str, dict[str, list[str]]] = {why: collections.defaultdict(list) for why, _ in WHYS}
     for function, clause, count in counts():
         if not count:
             why = next(why for why, holds in WHYS if holds(function, clause))

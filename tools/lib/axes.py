@@ -33,7 +33,7 @@ def digits_of(*numbers: Fraction) -> Optional[int]:
 class Axis:
     """Lines of the grid at origin + resolution * i. Where `digits` is a number, both are whole numbers of 10^-digits, `first` and `step`."""
 
-    def __init__(self, resolution: Fraction, origin: Fraction):
+    def __init__(self, resolution: Fraction, origin: Fraction) -> None:
         self.resolution, self.origin = resolution, origin
         self.digits = digits_of(resolution, origin)
         self.scale = 10 ** (self.digits or 0)

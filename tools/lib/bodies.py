@@ -7,10 +7,10 @@ from itertools import pairwise
 from typing import Iterable, Iterator
 
 from .grid import Place
-from .outlines import Point, turn
+from .outlines import Number, Point, turn
 from .scenes import Drawn
 
-Side = tuple[Place, Place]
+Side = tuple[Point, Point]
 TINY = Fraction(1, 10 ** 9)
 
 
@@ -63,7 +63,7 @@ class Body:
         return self.is_inside(p) or self.is_on(p)
 
 
-def height(side: Side, x: Fraction) -> Fraction:
+def height(side: Side, x: Number) -> Number:
     """The ordinate at which a side that is not upright has this abscissa."""
     (ax, ay), (bx, by) = side
     return ay + Fraction(by - ay, bx - ax) * (x - ax)
@@ -96,17 +96,22 @@ def in_faces(sides: list[Side]) -> Iterator[Point]:
     vertices = {place[0] for side in sides for place in side}
     for x in sorted(vertices | {Fraction(a + b, 2) for a, b in pairwise(stops)}):
         reached = [side for side in sides if side[0][0] != side[1][0] and min(side[0][0], side[1][0]) <= x <= max(side[0][0], side[1][0])]
-        heights = sorted({height(side, x) for side in reached})
+        heights: list[Number] = sorted({height(side, x) for side in reached})
         if heights:
-            yield from ((x, y) for y in [heights[0] - 1] + heights + [Fraction(a + b, 2) for a, b in pairwise(heights)] + [heights[-1] + 1])
+            yield from ((x, y) for y in [heights[0] - 1, *heights, *(Fraction(a + b, 2) for a, b in pairwise(heights)), heights[-1] + 1])
 
 
-def directions(p: Point, sides: Iterable[Side]) -> list[tuple[Fraction, Fraction]]:
+def way_to(p: Point, q: Point) -> Point:
+    """The direction of a point from another, its two parts without their signs 1 together."""
+    dx, dy = Fraction(q[0] - p[0]), Fraction(q[1] - p[1])
+    return dx / (abs(dx) + abs(dy)), dy / (abs(dx) + abs(dy))
+
+
+def directions(p: Point, sides: Iterable[Side]) -> list[Point]:
     """Directions from a point on some sides into each of the sectors between them."""
-    ways = {(Fraction(dx, abs(dx) + abs(dy)), Fraction(dy, abs(dx) + abs(dy))) for side in sides if holds(side, p)
-            for dx, dy in ((q[0] - p[0], q[1] - p[1]) for q in side) if dx or dy}
+    ways = {way_to(p, q) for side in sides if holds(side, p) for q in side if q != p}
     turned = sorted(ways, key=lambda way: (1 - way[0] if way[1] >= 0 else 3 + way[0]))
-    sectors = []
+    sectors: list[Point] = []
     for a, b in zip(turned, turned[1:] + turned[:1]):
         side = a[0] * b[1] - a[1] * b[0]
         sectors.append((a[0] + b[0], a[1] + b[1]) if side > 0 else (-a[1], a[0]))

@@ -97,7 +97,7 @@ def span_in(segment: Segment, polygon: list[Point]) -> Span:
         if u < 0 and v < 0:
             return Fraction(1), Fraction(0)
         if u < 0 or v < 0:
-            t = u / (u - v)
+            t = Fraction(u) / (u - v)
             low, high = (max(low, t), high) if u < 0 else (low, min(high, t))
     return low, high
 
@@ -111,7 +111,7 @@ def whole_box(points: list[Point]) -> Frame:
 class Near:
     """Polygons by squares of the plane, to find those that may meet some points or what is between them."""
 
-    def __init__(self, polygons: list[list[Point]]):
+    def __init__(self, polygons: list[list[Point]]) -> None:
         self.polygons, self.boxes = polygons, list(map(whole_box, polygons))
         spans = [max(x1 - x0, y1 - y0) for x0, y0, x1, y1 in self.boxes]
         self.size = max(1, sum(spans) // max(1, len(spans)))

@@ -69,7 +69,7 @@ def points_of(numbers: array) -> list[Point]:
 class CurveReader(Reader):
     """Reads geometries with curves; a struct.error where the bytes are none."""
 
-    def __init__(self, data: bytes, most: float):
+    def __init__(self, data: bytes, most: float) -> None:
         super().__init__(data)
         self.most, self.has_more = most, False
 
@@ -94,7 +94,8 @@ class CurveReader(Reader):
             raise struct.error('an arc without its end')
         found = points[:1]
         for number in range(0, len(points) - 2, 2):
-            found += arc(*points[number:number + 3], self.most)
+            p, q, r = points[number:number + 3]
+            found += arc(p, q, r, self.most)
         return found
 
     def surface(self) -> list[list[Point]]:
@@ -106,7 +107,7 @@ class CurveReader(Reader):
             raise struct.error('a surface of another kind')
         return [self.curve() for _ in range(self.count(order, 5))]
 
-    def parts(self) -> tuple[str, list[list[list[Point]]]]:
+    def word_and_parts(self) -> tuple[str, list[list[list[Point]]]]:
         """The word of lines or polygons, and the lists of each part."""
         start = self.at
         order, code, _ = self.next_head()
@@ -122,7 +123,7 @@ def linear_of(data: bytes, most: float) -> Optional[Geometry]:
     have too many vertices."""
     reader = CurveReader(data, most)
     try:
-        word, parts = reader.parts()
+        word, parts = reader.word_and_parts()
     except struct.error:
         return None
     found = [[array('d', [number for point in each for number in point]) for each in part if each] for part in parts]

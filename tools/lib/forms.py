@@ -38,15 +38,19 @@ PIECES = {'N': NUMBER, 'R': NUMBER, 'H': NUMBER, 'SUBJECT': NUMBER, 'OTHER': NUM
 class Fit(NamedTuple):
     """What fits a word: the lines that have a form with it, the reply to one that is done, its refusals, the lines of its listing."""
 
-    line: re.Pattern
-    done: re.Pattern
-    refused: re.Pattern
-    listed: re.Pattern
+    line: re.Pattern[str]
+    done: re.Pattern[str]
+    refused: re.Pattern[str]
+    listed: re.Pattern[str]
 
 
-def pattern(form: str) -> re.Pattern:
+def piece(word: re.Match[str]) -> str:
+    return PIECES.get(word[0], NAME)
+
+
+def pattern(form: str) -> re.Pattern[str]:
     """The texts of a form, in which each word in capitals stands for its piece: for a name, where PIECES has none."""
-    return re.compile(re.sub(r'\b[A-Z]+[01]?\b', lambda word: PIECES.get(word[0], NAME), form))
+    return re.compile(re.sub(r'\b[A-Z]+[01]?\b', piece, form))
 
 
 def fit_of(word: str) -> Fit:

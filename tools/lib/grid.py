@@ -16,7 +16,9 @@ import math
 from dataclasses import dataclass
 from decimal import Decimal
 from fractions import Fraction
-from typing import Iterable, Optional
+from typing import Iterable, Optional, Sequence
+
+from .outlines import Number
 
 REACH = 4194304
 # How far from the origin of the whole a coordinate of tiles may be.
@@ -75,7 +77,7 @@ class Grid:
         near = math.floor(ideal + Fraction(1, 2))
         return near, abs(ideal - near) * self.resolution
 
-    def source_of(self, x: Fraction, y: Fraction) -> tuple[Fraction, Fraction]:
+    def source_of(self, x: Number, y: Number) -> tuple[Fraction, Fraction]:
         """A point of the grid's plane in the source's coordinates, exactly."""
         return self.x + self.resolution * x, self.y + self.resolution * y
 
@@ -85,7 +87,7 @@ class Grid:
 
     def whole_offset(self, remarks: Iterable[str]) -> Place:
         """The origin of a tile's grid in units of that of the whole, which its remark lines say."""
-        said = next((line.split()[3:] for line in remarks if line.startswith('# grid whole ')), [])
+        said = next((line for line in remarks if line.startswith('# grid whole ')), '').split()[3:]
         x, y = map(exact, said) if said else (self.x, self.y)
         dx, dy = (self.x - x) / self.resolution, (self.y - y) / self.resolution
         if dx.denominator != 1 or dy.denominator != 1:
@@ -112,7 +114,7 @@ def grid_of(remarks: Iterable[str]) -> Optional[Grid]:
     return Grid(exact(said['resolution']), exact(x), exact(y), said.get('crs', ''))
 
 
-def rounded(number: Fraction, step: Fraction) -> Fraction:
+def rounded(number: Number, step: Fraction) -> Fraction:
     """The nearest multiple of the step."""
     return math.floor(number / step + Fraction(1, 2)) * step
 
@@ -137,6 +139,11 @@ def chosen_grid(resolution: Fraction, extent: Extent, crs: str) -> Grid:
         sizes = float(x1 - x0), float(y1 - y0), decimal_text(resolution), decimal_text(2 * REACH * resolution)
         raise GridError('the extent is %.10g wide and %.10g high, and a grid of %s holds %s each way: take a coarser one, or split '
                         'the source with tools/tiles' % sizes) from None
+
+
+def origin_of(words: Optional[Sequence[str]]) -> Optional[tuple[Fraction, Fraction]]:
+    """Where unit (0, 0) lies, as the words of --origin say; none where it is not given."""
+    return (exact(words[0]), exact(words[1])) if words else None
 
 
 def whole_grid(resolution: Fraction, origin: Optional[tuple[Fraction, Fraction]], extent: Extent, crs: str) -> Grid:

@@ -22,7 +22,7 @@ NODES = [0, 2, 4, 8]
 NAMES = ['ann', 'bob', 'Zed', 'cat', 'dan', 'eve', 'fay', 'gus']
 
 
-def ring(places: Sequence[Place]) -> str:
+def ring(places: Ring) -> str:
     return '(%s)' % ', '.join('%d %d' % p for p in places + places[:1])
 
 
@@ -124,7 +124,7 @@ def way(rng: random.Random) -> Ring:
     return rng.choice([along, along, along, link, link, loop, back, winding])(rng)
 
 
-def path(places: Sequence[Place]) -> str:
+def path(places: Ring) -> str:
     return '(%s)' % ', '.join('%d %d' % p for p in places)
 
 

@@ -159,7 +159,7 @@ class Report:
     """What became of each feature: a row each in the table, the first of each kind and the totals on standard error; the classes of which a
     feature was cut."""
 
-    def __init__(self, table: Optional[TextIO], of: int, columns: list[str] = [], is_safe: bool = False):
+    def __init__(self, table: Optional[TextIO], of: int, columns: list[str] = [], is_safe: bool = False) -> None:
         self.rows = Table(table, COLUMNS + columns, is_safe=is_safe) if table else None
         self.of, self.read, self.added, self.left_out, self.moved = of, 0, 0, 0, 0
         self.most = Fraction(0)

@@ -3,10 +3,11 @@ from __future__ import annotations
 
 import json
 import re
-from json.encoder import encode_basestring
 from typing import BinaryIO, Iterable
 
 EDITOR = 'import'
+# A name as it stands in a remark, in quotation marks.
+QUOTED = json.JSONEncoder(ensure_ascii=False).encode
 MOST_BYTES = 268435456
 MOST_SUBTYPE = 255
 LISTINGS = ['validate all', 'cells', 'dirty']
@@ -60,7 +61,7 @@ def told(name: str) -> str:
 
 def feature_remark(fid: int, id: str) -> str:
     """The remark line above a feature's own, by which its number and its id in the source are found again."""
-    return '# fid %d id %s' % (fid, encode_basestring(id)) if id else '# fid %d' % fid
+    return '# fid %d id %s' % (fid, QUOTED(id)) if id else '# fid %d' % fid
 
 
 def add_line(of_class: str, shape: str) -> str:
@@ -70,7 +71,7 @@ def add_line(of_class: str, shape: str) -> str:
 class ScriptWriter:
     """Writes lines of a script, up to the most bytes that a run takes."""
 
-    def __init__(self, out: BinaryIO, most: int = MOST_BYTES):
+    def __init__(self, out: BinaryIO, most: int = MOST_BYTES) -> None:
         self.out, self.most, self.bytes = out, most, 0
 
     def write(self, *lines: str) -> None:

@@ -49,7 +49,8 @@ def lines_of(cell: str) -> list[str]:
 def listings(text: str) -> Iterator[tuple[list[str], list[str]]]:
     """The scripts of a page with their replies, each as two lists of lines."""
     lines = text.split('\n')
-    script, replies = [], []
+    script: list[str] = []
+    replies: list[str] = []
     for start in [i for i, line in enumerate(lines) if line in (FIRST, NEXT)]:
         if lines[start] == FIRST:
             script, replies = [], []

@@ -7,8 +7,9 @@ from typing import Optional
 from xml.sax.saxutils import escape
 
 from .grid import Place
-from .replies import Frame
-from .scenes import Drawn, Marked, Scene, box_of, meet
+from .outlines import Point
+from .replies import Frame, meet
+from .scenes import Drawn, Marked, Scene, box_of
 
 WIDTH, LEGEND, MARGIN, LEAST, ROOM = 1000, 370, 14, 7, 1500
 OF_CLASS = ['#2f5f9e', '#3c7a4b', '#8a5a2b', '#5b4a9e', '#2a8a8a', '#7a6a2a', '#6b6b6b', '#9e4a7a']
@@ -24,7 +25,7 @@ Box = tuple[float, float, float, float]
 class Sheet:
     """The map's text, where a place stands on it, and which parts of it have a label already."""
 
-    def __init__(self, window: Frame):
+    def __init__(self, window: Frame) -> None:
         self.window = window
         x0, y0, x1, y1 = window
         self.scale = WIDTH / max(x1 - x0, y1 - y0, 1)
@@ -32,7 +33,7 @@ class Sheet:
         self.lines: list[str] = []
         self.taken: dict[Place, list[Box]] = {}
 
-    def at(self, point) -> tuple[float, float]:
+    def at(self, point: Point) -> tuple[float, float]:
         return (float(point[0]) - self.window[0]) * self.scale + MARGIN, (self.window[3] - float(point[1])) * self.scale + MARGIN
 
     def data(self, lists: list, closed: bool) -> str:
@@ -150,8 +151,9 @@ def legend_of(scene: Scene, features: list[Drawn], errors: list[Marked], dirt: l
 def svg_of(scene: Scene, window: Optional[Frame]) -> str:
     """The map of a window, or of all."""
     sheet = Sheet(window or box_of(scene))
-    features, errors, dirt = [[each for each in of if meet(frame_of(each), sheet.window)] for of, frame_of in
-                              ((scene.features, lambda f: f.frame), (scene.errors, lambda m: m.error.frame), (scene.dirt, lambda d: d))]
+    features = [each for each in scene.features if meet(each.frame, sheet.window)]
+    errors = [each for each in scene.errors if meet(each.error.frame, sheet.window)]
+    dirt = [each for each in scene.dirt if meet(each, sheet.window)]
     names, rules = list(scene.ending.classes), sorted(scene.ending.rules)
     sheet.put('<g clip-path="url(#window)">')
     for frame in dirt:

@@ -5,7 +5,7 @@ from typing import Iterable, NamedTuple, TextIO
 
 from .grid import Grid, decimal_text
 from .reports import NONE, Found, Key
-from .replies import Frame
+from .replies import Frame, meet
 from .tables import Table
 
 COLUMNS = ['news', 'rule', 'word', 'class', 'id', 'other_class', 'other_id', 'mark', 'x0', 'y0', 'x1', 'y1']
@@ -54,10 +54,6 @@ def write_news(out: TextIO, news: Iterable[News], grid: Grid) -> None:
         x0, y0, x1, y1 = error.frame
         corners = [decimal_text(number) for corner in ((x0, y0), (x1, y1)) for number in grid.source_of(*corner)]
         table.write([sort, key.rule, error.word, *key.subject, *key.other, error.mark, *corners])
-
-
-def meet(a: Frame, b: Frame) -> bool:
-    return a[0] <= b[2] and b[0] <= a[2] and a[1] <= b[3] and b[1] <= a[3]
 
 
 def beside(left: LeftOut, errors: dict[Key, Found]) -> list[str]:

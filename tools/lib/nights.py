@@ -31,7 +31,7 @@ def locked(folder: str) -> Iterator[None]:
 class Nights:
     """The nights of a folder. What is made stands beside them until it is whole and on the disk; then one rename makes it current."""
 
-    def __init__(self, folder: str):
+    def __init__(self, folder: str) -> None:
         self.folder = folder
 
     def path(self, *names: str) -> str:

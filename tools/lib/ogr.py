@@ -38,7 +38,7 @@ class Layer(NamedTuple):
     number: int
     name: str
     type: str
-    count: int
+    count: int  # type: ignore[assignment]  # a tuple has a method of that name
     extent: Optional[Extent]
     crs: str
     fields: list[str]

@@ -2,9 +2,11 @@
 from __future__ import annotations
 
 from fractions import Fraction
-from typing import Iterator, NamedTuple
+from typing import Iterator, NamedTuple, Sequence, Union
 
-Point = tuple[Fraction, Fraction]
+# Whole where it can be: such are computed with fastest.
+Number = Union[int, Fraction]
+Point = tuple[Number, Number]
 Ring = list[Point]
 
 
@@ -15,14 +17,14 @@ class Outline(NamedTuple):
     holes: list[Ring]
 
 
-def turn(p: Point, q: Point, r: Point) -> Fraction:
+def turn(p: Point, q: Point, r: Point) -> Number:
     """Over 0 where r lies left of the way from p to q, 0 where it lies on their line."""
     return (q[0] - p[0]) * (r[1] - p[1]) - (q[1] - p[1]) * (r[0] - p[0])
 
 
-def doubled_area(ring: Ring) -> Fraction:
+def doubled_area(ring: Sequence[Point]) -> Fraction:
     """Twice the area, under 0 where the ring goes clockwise."""
-    return sum((p[0] * q[1] - q[0] * p[1] for p, q in zip(ring, ring[1:] + ring[:1])), Fraction(0))
+    return sum((p[0] * q[1] - q[0] * p[1] for p, q in zip(ring, [*ring[1:], *ring[:1]])), Fraction(0))
 
 
 def line_key(p: Point, q: Point) -> tuple:

@@ -6,10 +6,18 @@ import io
 import os
 import secrets
 import stat
-from typing import BinaryIO, Iterator, TextIO
+import sys
+from typing import BinaryIO, Iterator, Optional, TextIO, cast
 
 # The files that have no name of their own yet.
 BEGUN: set[str] = set()
+
+
+def in_utf_8(newline: Optional[str] = None) -> TextIO:
+    """Standard output, which then writes UTF-8, and a question mark for what no text can have."""
+    out = cast(io.TextIOWrapper, sys.stdout)
+    out.reconfigure(encoding='utf-8', errors='replace', newline=newline)
+    return out
 
 
 def is_plain(path: str) -> bool:

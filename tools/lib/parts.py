@@ -32,7 +32,7 @@ class CutPart(NamedTuple):
     """A part by its number from 1, of how many, and the cuts at its border, in grid units; of a line the ends of a cut are equal."""
 
     number: int
-    count: int
+    count: int  # type: ignore[assignment]  # a tuple has a method of that name
     cuts: tuple[Segment, ...] = ()
 
     def text(self) -> str:

@@ -4,12 +4,12 @@ from __future__ import annotations
 import json
 import re
 from dataclasses import dataclass, field
-from fractions import Fraction
 from functools import lru_cache
-from typing import BinaryIO, Iterable, Iterator, NamedTuple, Optional
+from typing import IO, BinaryIO, Iterable, Iterator, NamedTuple, Optional
 
 from .forms import can_answer
 from .grid import Grid, grid_of
+from .outlines import Point
 from .texts import KINDS
 
 MOST_BYTES = 1048576
@@ -46,7 +46,7 @@ class Error(NamedTuple):
     extent: str
     frame: Frame
     cells: list[list[Half]]
-    closures: Optional[list[list[tuple[Fraction, Fraction]]]] = None
+    closures: Optional[list[list[Point]]] = None
 
 
 class Rule(NamedTuple):
@@ -92,7 +92,7 @@ def is_skipped(line: bytes) -> bool:
     return len(text) <= MOST_BYTES and (not fields or fields.startswith(b'#'))
 
 
-def reply_of(replies: BinaryIO) -> list[str]:
+def reply_of(replies: IO[bytes]) -> list[str]:
     """The next reply: its one line, or a listing with its total; only a beginning of it where the replies end earlier."""
     lines = []
     for line in replies:
@@ -145,17 +145,28 @@ def half_of(text: str) -> Half:
     return int(a), int(b), int(c), op
 
 
+def meet(a: tuple[float, float, float, float], b: tuple[float, float, float, float]) -> bool:
+    """Whether two rectangles have a point in common."""
+    return a[0] <= b[2] and b[0] <= a[2] and a[1] <= b[3] and b[1] <= a[3]
+
+
+def frame_of(words: Iterable[str]) -> Frame:
+    """The rectangle whose four numbers these words are."""
+    x0, y0, x1, y1 = map(int, words)
+    return x0, y0, x1, y1
+
+
 def error_of(line: str) -> Error:
     """The error of a line of a listing, without cells yet."""
     mark, rule, subject, other, extent, *frame = line.split()
-    return Error(mark, int(rule), int(subject), int(other), extent, tuple(map(int, frame)), [])
+    return Error(mark, int(rule), int(subject), int(other), extent, frame_of(frame), [])
 
 
 def each_error(lines: Iterable[str]) -> Iterator[Error]:
     """The errors of a listing, without its total, one at a time."""
-    error = None
+    error: Optional[Error] = None
     for line in lines:
-        if line.startswith('cell '):
+        if error and line.startswith('cell '):
             error.cells.append([half_of(half) for half in line[5:].split(', ')])
             continue
         if error:

@@ -69,8 +69,8 @@ def names_of(table: str) -> dict[int, Name]:
 
 
 def found_in(row: Record) -> Found:
-    frame = tuple(number_of(row[side]) for side in ('x0', 'y0', 'x1', 'y1'))
-    return Found(row['kind'], number_of(row['subject']), number_of(row['other']), row['extent'], row['mark'], frame)
+    x0, y0, x1, y1 = (number_of(row[side]) for side in ('x0', 'y0', 'x1', 'y1'))
+    return Found(row['kind'], number_of(row['subject']), number_of(row['other']), row['extent'], row['mark'], (x0, y0, x1, y1))
 
 
 def errors_in(report: str, names: dict[int, Name]) -> dict[Key, Found]:

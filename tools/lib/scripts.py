@@ -17,6 +17,7 @@ from .curves import TooFine, linear_of
 from .cutting import Uncuttable, pieces_of
 from .grid import FAR, REACH, Grid, decimal_text
 from .ogr import KINDS, Layer, words_of
+from .outlines import Point
 from .parts import CutPart
 from .shapes import MOST_VERTICES, Flat, List, Shape, fault_of, flat_of, has_clash, kept, segments_of, sides_of
 from .wkb import Geometry, geometry_of, vertex_text, word_of
@@ -74,7 +75,7 @@ def kind_of_layer(layer: Layer) -> Optional[str]:
 class Converter:
     """Makes shapes on a grid of the geometries of features."""
 
-    def __init__(self, grid: Grid, is_bounded: bool = True, linearize: float = 0):
+    def __init__(self, grid: Grid, is_bounded: bool = True, linearize: float = 0) -> None:
         self.grid = grid
         # How far lines may be from the curves that they stand for; 0 where curves are left out.
         self.linearize = linearize
@@ -93,7 +94,7 @@ class Converter:
         except LeftOut as why:
             return why
 
-    def point_text(self, place: tuple[Fraction, Fraction]) -> str:
+    def point_text(self, place: Point) -> str:
         """A point of the plane, for reading."""
         return '%.10g %.10g' % tuple(map(float, self.grid.source_of(*place)))
 

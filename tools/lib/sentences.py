@@ -92,7 +92,7 @@ def is_dangle(m: Map, a: Body, p: Point) -> bool:
 
 
 def is_pseudo_node(m: Map, a: Body, p: Point) -> bool:
-    return p in a.ends and sum(b.ends.count(p) for b in m.own) == 2 and segments_at(m, p) == 2
+    return p in a.ends and sum(end == p for b in m.own for end in b.ends) == 2 and segments_at(m, p) == 2
 
 
 def is_bare_end(m: Map, a: Body, p: Point) -> bool:

@@ -4,14 +4,12 @@ from __future__ import annotations
 from fractions import Fraction
 from functools import lru_cache
 from math import gcd
-from typing import NamedTuple, Optional, Union
+from typing import Iterable, NamedTuple, Optional
 
-from .outlines import Point, turn
+from .outlines import Number, Point, turn
 from .replies import Error, Frame, Half
 
 Segment = tuple[Point, Point]
-# A number along a line, whole where it can be: such are compared fastest.
-Number = Union[int, Fraction]
 # Two bounds along a line, each as a whole number and what divides it, which is over 0.
 Bounds = tuple[int, int, int, int]
 Span = tuple[Number, Number]
@@ -121,7 +119,7 @@ def stops_in(found: dict[Line, set[Bounds]]) -> set[Point]:
     return {line.point(end) for line, bounds in found.items() for each in bounds for end in span_of(each)}
 
 
-def merged(spans: list[Span]) -> list[Span]:
+def merged(spans: Iterable[Span]) -> list[Span]:
     """The same numbers in as few spans as there can be, in their order."""
     out: list[Span] = []
     for low, high in sorted(spans):

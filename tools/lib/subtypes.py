@@ -63,7 +63,7 @@ def numbered(values: set[str], name: str, earlier: dict[str, int]) -> Optional[d
 class Subtypes:
     """The fields that have the subtypes of classes, by their names, and the numbers of their words."""
 
-    def __init__(self, classes: list['Class'], fields: dict[str, str], earlier: Numbers):
+    def __init__(self, classes: list['Class'], fields: dict[str, str], earlier: Numbers) -> None:
         self.fields = fields
         self.numbers: Numbers = {}
         for name, field in fields.items():

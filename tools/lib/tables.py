@@ -25,7 +25,7 @@ class Table:
     """Writes rows under these columns. A cell with an LF or CR is put in quotes. Cells that a spreadsheet may take for formulas are counted,
     and with `is_safe` a `'` is put before them."""
 
-    def __init__(self, out: TextIO, columns: list[str], delimiter: str = ',', is_safe: bool = False):
+    def __init__(self, out: TextIO, columns: list[str], delimiter: str = ',', is_safe: bool = False) -> None:
         self.plain = csv.writer(out, lineterminator='\n', delimiter=delimiter)
         self.quoting = csv.writer(out, lineterminator='\n', delimiter=delimiter, quoting=csv.QUOTE_ALL)
         self.is_safe, self.formulas = is_safe, 0

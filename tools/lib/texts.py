@@ -2,7 +2,7 @@
 from __future__ import annotations
 
 import re
-from typing import NamedTuple, Optional
+from typing import Callable, NamedTuple, Optional
 
 DEPTHS = {'POINT': 1, 'LINESTRING': 1, 'MULTILINESTRING': 2, 'POLYGON': 2, 'MULTIPOLYGON': 3}
 KINDS = {'POINT': 'point', 'LINESTRING': 'line', 'MULTILINESTRING': 'line', 'POLYGON': 'polygon', 'MULTIPOLYGON': 'polygon'}
@@ -17,7 +17,7 @@ class Token(NamedTuple):
 class Misfit(Exception):
     """The first token that does not fit, and what may stand there."""
 
-    def __init__(self, token: Token, wanted: str):
+    def __init__(self, token: Token, wanted: str) -> None:
         super().__init__(wanted)
         self.token = token
         self.wanted = wanted
@@ -32,11 +32,11 @@ def tokens_of(text: str) -> list[Token]:
 class Reader:
     """Reads a text by the grammar from the left, up to the first misfit."""
 
-    def __init__(self, text: str):
+    def __init__(self, text: str) -> None:
         self.tokens = tokens_of(text)
         self.at = 0
 
-    def take(self, wanted: str, fits) -> str:
+    def take(self, wanted: str, fits: Callable[[str], object]) -> str:
         token = self.tokens[self.at]
         if not fits(token.text):
             raise Misfit(token, wanted)
@@ -80,7 +80,7 @@ def lists_of(text: str) -> list[list[str]]:
 
 def sides_of(text: str) -> list[tuple[str, str]]:
     """The segments of a polygon's text as topo counts them, each as its two positions."""
-    sides = []
+    sides: list[tuple[str, str]] = []
     for positions in lists_of(text):
         kept = [p for i, p in enumerate(positions) if i == 0 or p != positions[i - 1]]
         while len(kept) > 1 and kept[-1] == kept[0]:

@@ -9,6 +9,7 @@ from typing import Iterable, Iterator, NamedTuple, Optional
 from .grid import REACH, GridError, Place
 from .intake import Arrival
 from .lines import MOST_BYTES, add_line, feature_remark
+from .replies import meet
 from .shapes import Counts, form_of
 
 Envelope = tuple[int, int, int, int]
@@ -93,10 +94,6 @@ class Features:
         return self.remarks[number].decode(), self.lines_of[self.form_of[number]] % tuple(numbers)
 
 
-def meet(a: Envelope, b: Envelope) -> bool:
-    return a[0] <= b[2] and b[0] <= a[2] and a[1] <= b[3] and b[1] <= a[3]
-
-
 def shared_out(features: Features, numbers: list[int], count: int) -> Iterator[list[int]]:
     """The features in so many groups that differ little in size, by halving what is longer of width and height."""
     if count == 1:
@@ -114,9 +111,9 @@ def shared_out(features: Features, numbers: list[int], count: int) -> Iterator[l
 class Squares:
     """The features of groups by the squares of the plane that their envelopes meet; those that meet too many stand apart."""
 
-    def __init__(self, features: Features, groups: list[list[int]]):
+    def __init__(self, features: Features, groups: list[list[int]]) -> None:
         self.features = features
-        extents = sum(map(sum, features.sides[2:])) - sum(map(sum, features.sides[:2]))
+        extents = sum(sum(side) for side in features.sides[2:]) - sum(sum(side) for side in features.sides[:2])
         self.size = max(1, extents // max(1, len(features)))
         self.group_of = array('l', bytes(array('l').itemsize * len(features)))
         self.wide: list[int] = []

@@ -84,12 +84,13 @@ def plain_load_of(data: bytes, kind: str) -> Optional[Load]:
 class VectorAxis:
     """Finds lines of an axis for many numbers at once."""
 
-    def __init__(self, axis: Axis):
+    def __init__(self, axis: Axis) -> None:
         self.axis = axis
         self.is_able = axis.digits is not None and max(abs(axis.first), axis.step) * 10 ** FINER < MOST_WHOLE
 
     def lines(self, numbers: np.ndarray) -> Found:
-        units, moves, rest = np.zeros(len(numbers), np.int64), [], np.arange(len(numbers))
+        units, rest = np.zeros(len(numbers), np.int64), np.arange(len(numbers))
+        moves: list[Moves] = []
         for digits in range(self.axis.digits, min(self.axis.digits + FINER, MOST_DIGITS) + 1):
             scale = 10.0 ** digits
             whole = np.rint(numbers[rest] * scale)
@@ -144,9 +145,9 @@ def add_moves(moved: dict[int, Fraction], found: Found, owners: np.ndarray, numb
     known, most = most_of(of, found.about)
     near = found.about >= most[np.searchsorted(known, of)] - NEAR
     for owner, number in zip(of[near].tolist(), numbers[found.long[near]].tolist()):
-        _, by, digits = axis.line_of(number)
-        if by:
-            moved[owner] = max(moved.get(owner, Fraction(0)), Fraction(by, 10 ** digits))
+        _, far, finer = axis.line_of(number)
+        if far:
+            moved[owner] = max(moved.get(owner, Fraction(0)), Fraction(far, 10 ** finer))
 
 
 class Sides(NamedTuple):
@@ -207,7 +208,7 @@ def clash(sides: Sides, i: np.ndarray, j: np.ndarray) -> np.ndarray:
 class VectorConverter(Converter):
     """Makes shapes of many features at once."""
 
-    def __init__(self, grid: Grid, is_bounded: bool = True, linearize: float = 0):
+    def __init__(self, grid: Grid, is_bounded: bool = True, linearize: float = 0) -> None:
         super().__init__(grid, is_bounded, linearize)
         self.axes = VectorAxis(self.x), VectorAxis(self.y)
 

@@ -33,7 +33,7 @@ class Geometry(NamedTuple):
 class Reader:
     """Reads a geometry from its bytes; struct.error where they end too early."""
 
-    def __init__(self, data: bytes):
+    def __init__(self, data: bytes) -> None:
         self.data, self.at = data, 0
 
     def head(self) -> tuple[str, int, int]:

@@ -6,7 +6,7 @@ import shutil
 import socket
 import subprocess
 import time
-from typing import Optional
+from typing import Callable, Optional
 
 LONG = 120
 CONFIGURATION = '''ClusterName=topo
@@ -84,7 +84,7 @@ class Batch:
         with open(self.path(name + '.said'), 'ab') as said:
             self.running.append(subprocess.Popen([found(name), *words], stdout=said, stderr=said, stdin=subprocess.DEVNULL, env=self.environment))
 
-    def until(self, is_so, what: str) -> None:
+    def until(self, is_so: Callable[[], bool], what: str) -> None:
         end = time.monotonic() + LONG
         while not is_so():
             if time.monotonic() > end or any(each.poll() is not None for each in self.running):

@@ -37,7 +37,7 @@ def until(is_so: Callable[[], object], what: str) -> object:
 class Service:
     """A running topo-postgis; what it says comes line by line."""
 
-    def __init__(self, dsn: str):
+    def __init__(self, dsn: str) -> None:
         self.process = subprocess.Popen([*BOUND, 'TERM', sys.executable, os.path.join(TOOLS, 'postgis'), 'run', dsn, '--program', PROGRAM[0]],
                                         stderr=subprocess.PIPE, text=True)
         self.lines: queue.Queue = queue.Queue()
@@ -75,7 +75,7 @@ class Service:
 class Client:
     """A user's connection."""
 
-    def __init__(self, dsn: str, is_at_once: bool = True):
+    def __init__(self, dsn: str, is_at_once: bool = True) -> None:
         self.db = psycopg2.connect(dsn)
         self.db.autocommit = is_at_once
 

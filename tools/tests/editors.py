@@ -76,7 +76,7 @@ class Editor:
     async def talk(self, lines: list[str]) -> list[str]:
         """Sends lines, and waits for all their replies; the last line of each."""
         self.writer.write(''.join(line + '\n' for line in lines).encode())
-        found = []
+        found: list[str] = []
         while len(found) < len(lines):
             line = (await self.reader.readline()).decode()
             if not line.endswith('\n'):

@@ -11,6 +11,7 @@ import unittest
 sys.path[:0] = [os.path.dirname(os.path.abspath(__file__)), os.path.dirname(os.path.dirname(os.path.abspath(__file__)))]
 
 import psycopg2
+import psycopg2.errors
 
 from beside import SETUP, Case, Client, until
 from postgres import Server, has_extension
@@ -35,7 +36,7 @@ class SetUp(Case):
         self.assertEqual((done.returncode, done.stdout), (2, ''))
         return done.stderr
 
-    def test_what_cannot_be_is_told_and_nothing_is_done(self):
+    def test_what_cannot_be_is_told_and_nothing_is_done(self) -> None:
         self.user.rows('create table heap (nr int, geom geometry(Polygon, 25832)); create table far (nr int primary key, geom geometry(Point, 4326))')
         for words, text in ((['--table', 'parcels'], 'the first set-up needs --grid'),
                             (['--grid', '0', '--table', 'parcels'], 'the grid has to be over 0'),
@@ -49,7 +50,7 @@ class SetUp(Case):
             self.assertIn(text, self.refused(*words))
         self.assertIsNone(self.user.one("select to_regnamespace('topo')::text"))
 
-    def test_set_up_grows_and_is_taken_away(self):
+    def test_set_up_grows_and_is_taken_away(self) -> None:
         told = self.set_up('--grid', '0.001', '--table', 'parcels')
         self.assertEqual(told, 'the origin is 500100 5700000\nparcels is the class parcels of polygons, known by id\n')
         service = self.start()
@@ -66,7 +67,7 @@ class SetUp(Case):
         self.move(self.user, 3, 0.5)
         self.assertIsNone(self.user.one("select to_regnamespace('topo')::text"))
 
-    def test_a_class_gets_another_table(self):
+    def test_a_class_gets_another_table(self) -> None:
         self.set_up()
         service = self.start()
         self.user.rows('create table lots (nr int primary key, geom geometry(Polygon, 25832)); insert into lots select id, geom from parcels')
@@ -82,7 +83,7 @@ class SetUp(Case):
         service.said('judged after')
         self.assertEqual(self.pairs(), [(7, 8)])
 
-    def test_a_role_sees_and_marks_and_no_more(self):
+    def test_a_role_sees_and_marks_and_no_more(self) -> None:
         self.user.rows("drop role if exists ann; create role ann login; grant update, select on parcels to ann")
         self.addCleanup(self.server.sql, 'drop role if exists ann', 'postgres')
         self.addCleanup(self.user.rows, 'drop owned by ann')
@@ -106,7 +107,7 @@ class SetUp(Case):
 
 
 class Followed(Case):
-    def test_errors_of_each_commit(self):
+    def test_errors_of_each_commit(self) -> None:
         self.set_up()
         self.start()
         self.move(self.user, 3, 0.5)
@@ -121,7 +122,7 @@ class Followed(Case):
         until(lambda: len(self.errors()) == 1, 'one error')
         self.assertEqual(self.user.one('select id from topo.error'), kept)
 
-    def test_a_transaction_counts_as_it_ends(self):
+    def test_a_transaction_counts_as_it_ends(self) -> None:
         self.set_up()
         self.start()
         other = self.client(False)
@@ -133,7 +134,7 @@ class Followed(Case):
         other.db.commit()
         until(lambda: self.pairs() == [(4, 8)], 'the errors of the whole transaction')
 
-    def test_rows_that_cannot_be_read_are_told_and_left_out(self):
+    def test_rows_that_cannot_be_read_are_told_and_left_out(self) -> None:
         self.set_up()
         self.start()
         self.move(self.user, 3, 0.5)
@@ -151,7 +152,7 @@ class Followed(Case):
         self.settled()
         self.assertEqual(self.user.rows(asked), told[3:])
 
-    def test_curves_and_heights(self):
+    def test_curves_and_heights(self) -> None:
         self.user.rows('alter table parcels alter geom type geometry(GeometryZ, 25832) using st_force3d(geom)')
         self.user.rows("insert into parcels values (20, 'SRID=25832;CURVEPOLYGONZ(COMPOUNDCURVEZ(CIRCULARSTRINGZ(500000 5700000 1,500001 5700001 1,500002 5700000 1),"
                        "(500002 5700000 1,500000 5700000 1)))')")
@@ -163,7 +164,7 @@ class Followed(Case):
 
 
 class Order(Case):
-    def test_who_begins_first_and_ends_last_is_not_lost(self):
+    def test_who_begins_first_and_ends_last_is_not_lost(self) -> None:
         """A reader that keeps the greatest number of a change, or of a transaction, would lose the first one."""
         self.set_up()
         self.start()
@@ -175,7 +176,7 @@ class Order(Case):
         one.db.commit()
         until(lambda: self.pairs() == [(3, 4), (7, 8)], 'the first transaction')
 
-    def test_in_one_batch_each_row_is_as_it_was_committed(self):
+    def test_in_one_batch_each_row_is_as_it_was_committed(self) -> None:
         """The transaction that began later changed and ended; then the earlier one got the row: it comes last."""
         self.set_up()
         one, two = self.client(False), self.client(False)
@@ -197,7 +198,7 @@ class Order(Case):
         self.start()
         self.assertEqual(self.user.rows("select subject_id, st_xmax(polygons)::text from topo.error where subject_id = '3'"), [('3', '500081.5')])
 
-    def test_order_of_a_running_service(self):
+    def test_order_of_a_running_service(self) -> None:
         """The same while the service runs, stopped so that both stand in one batch."""
         self.set_up()
         service = self.start()
@@ -216,7 +217,7 @@ class Marks(Case):
     def marked(self) -> list[tuple]:
         return self.user.rows("select subject_id, note from topo.error where mark = 'exception'")
 
-    def test_a_mark_outlives_a_kill_and_lapses_with_its_error(self):
+    def test_a_mark_outlives_a_kill_and_lapses_with_its_error(self) -> None:
         self.set_up()
         service = self.start()
         self.move(self.user, 3, 0.5)
@@ -242,7 +243,7 @@ class Marks(Case):
         self.assertEqual(self.user.rows('select * from topo.exception'), [])
         service.end()
 
-    def test_a_mark_counts_for_the_error_that_was_seen(self):
+    def test_a_mark_counts_for_the_error_that_was_seen(self) -> None:
         self.set_up()
         service = self.start()
         self.move(self.user, 3, 0.5)
@@ -254,7 +255,7 @@ class Marks(Case):
         self.settled()
         self.assertEqual((len(self.pairs()), self.marked()), (1, []))
 
-    def test_a_mark_lapses_that_changed_while_nobody_looked(self):
+    def test_a_mark_lapses_that_changed_while_nobody_looked(self) -> None:
         self.set_up()
         service = self.start()
         self.two_errors()
@@ -268,7 +269,7 @@ class Marks(Case):
 
 
 class Failures(Case):
-    def test_kills_under_load(self):
+    def test_kills_under_load(self) -> None:
         """The service and topo are killed at random; at the end the errors are those of a start, and those that PostGIS finds."""
         self.user.rows('insert into parcels select 100 + i * 20 + j, st_makeenvelope(500000 + i * 20, 5700100 + j * 20, 500020 + i * 20, 5700120 + j * 20, 25832) '
                        'from generate_series(0, 19) i, generate_series(0, 19) j')
@@ -312,7 +313,7 @@ class Failures(Case):
             time.sleep(lot.uniform(0, 0.02))
         client.db.close()
 
-    def test_what_nobody_judged_is_told_and_taken_later(self):
+    def test_what_nobody_judged_is_told_and_taken_later(self) -> None:
         self.set_up()
         service = self.start()
         self.assertEqual(self.tool('status', self.dsn).returncode, 0)
@@ -327,13 +328,13 @@ class Failures(Case):
         self.start()
         self.assertEqual((self.pairs(), self.user.rows('select * from topo.waiting')), ([(3, 4)], []))
 
-    def test_one_service_alone(self):
+    def test_one_service_alone(self) -> None:
         self.set_up()
         self.start()
         done = self.tool('run', self.dsn)
         self.assertEqual((done.returncode, done.stderr), (2, 'topo-postgis: another service runs beside this database\n'))
 
-    def test_a_link_that_breaks(self):
+    def test_a_link_that_breaks(self) -> None:
         self.set_up()
         service = self.start()
         self.user.rows('select pg_terminate_backend(pid) from pg_stat_activity where datname = current_database() and pid <> pg_backend_pid()')
@@ -350,7 +351,7 @@ class Failures(Case):
         self.user = self.client()
         self.assertEqual(self.pairs(), [(3, 4)])
 
-    def test_a_database_that_says_no(self):
+    def test_a_database_that_says_no(self) -> None:
         """Without a right no service begins; if one loses a right, it tries again until it has it."""
         self.user.rows('drop role if exists clerk; create role clerk login')
         self.addCleanup(self.server.sql, 'drop role if exists clerk', 'postgres')
@@ -373,7 +374,7 @@ class Failures(Case):
         service.said('judged after')
         self.assertEqual(self.pairs(), [(3, 4)])
 
-    def test_a_restored_copy(self):
+    def test_a_restored_copy(self) -> None:
         self.set_up()
         service = self.start()
         self.two_errors()
@@ -394,7 +395,7 @@ class Failures(Case):
         until(lambda: len(self.errors(copy)) == 4, 'the copy is followed')
         self.assertEqual(len(self.errors()), 3)
 
-    def test_columns_and_triggers_that_change(self):
+    def test_columns_and_triggers_that_change(self) -> None:
         self.set_up()
         service = self.start()
         self.user.rows('alter table parcels add remark text; update parcels set remark = %s', 'x')
@@ -423,7 +424,7 @@ class Failures(Case):
 
 
 class Windows(Case):
-    def test_dirt_is_shown_until_somebody_asks(self):
+    def test_dirt_is_shown_until_somebody_asks(self) -> None:
         self.set_up(*SETUP, '--validate', 'asked')
         self.start()
         self.move(self.user, 3, 0.5)
@@ -443,7 +444,7 @@ class Windows(Case):
         self.settled()
         self.assertEqual(self.user.rows(dirt), [])
 
-    def test_who_holds_what(self):
+    def test_who_holds_what(self) -> None:
         self.set_up()
         other = self.client(False)
         other.rows("set application_name = 'a map'")
@@ -462,7 +463,7 @@ class Gate(Case):
         super().setUp()
         self.set_up(*SETUP, '--gate', os.path.join(self.server.folder, 'gate'))
 
-    def test_a_commit_with_new_errors_is_refused(self):
+    def test_a_commit_with_new_errors_is_refused(self) -> None:
         self.start()
         with self.assertRaisesRegex(psycopg2.errors.CheckViolation, 'polygon_must_not_overlap of parcels 3 and parcels 4'):
             self.move(self.user, 3, 0.5)
@@ -477,7 +478,7 @@ class Gate(Case):
         self.settled()
         self.assertEqual(self.errors(), [])
 
-    def test_old_errors_and_marks_are_no_hindrance(self):
+    def test_old_errors_and_marks_are_no_hindrance(self) -> None:
         self.set_up('--gate', '-')
         service = self.start()
         self.two_errors()
@@ -493,7 +494,7 @@ class Gate(Case):
         self.move(self.user, 7, -0.5)
         until(lambda: self.pairs() == [(3, 4)], 'mended')
 
-    def test_without_a_service_no_commit_goes_through(self):
+    def test_without_a_service_no_commit_goes_through(self) -> None:
         with self.assertRaisesRegex(psycopg2.OperationalError, 'topo does not answer'):
             self.move(self.user, 10, 5)
         self.set_up('--gate', '-')

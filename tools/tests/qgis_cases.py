@@ -5,12 +5,15 @@ usage: qgis_cases.py FOLDER [PICTURE]      FOLDER is empty; PICTURE takes what t
 
 It ends with os._exit: a QGIS that ends as it should crashes once it has had a canvas.
 """
+from __future__ import annotations
+
 import os
 import signal
 import subprocess
 import sys
 import time
 import traceback
+from typing import TYPE_CHECKING, Any, Callable
 
 os.environ['QT_QPA_PLATFORM'] = 'offscreen'
 HERE = os.path.dirname(os.path.abspath(__file__))
@@ -26,7 +29,11 @@ from qgis.gui import QgsMapCanvas
 from qgis.PyQt.QtCore import QEventLoop, Qt, QTimer
 from qgis.PyQt.QtGui import QColor
 from qgis.PyQt.QtTest import QTest
-from qgis.PyQt.QtWidgets import QMainWindow, QPushButton
+from qgis.PyQt.QtWidgets import QDockWidget, QMainWindow, QPushButton
+
+if TYPE_CHECKING:
+    from beside import Client, Service
+    from postgres import Server
 
 LONG = 60
 PROGRAM = os.environ['TOPO'].split('\n')[0]
@@ -46,10 +53,10 @@ class Face:
     def mainWindow(self) -> QMainWindow:
         return self.window
 
-    def addDockWidget(self, area, dock) -> None:
+    def addDockWidget(self, area: int, dock: QDockWidget) -> None:
         self.window.addDockWidget(area, dock)
 
-    def removeDockWidget(self, dock) -> None:
+    def removeDockWidget(self, dock: QDockWidget) -> None:
         self.window.removeDockWidget(dock)
 
 
@@ -60,7 +67,7 @@ def turn(milliseconds: int) -> None:
     loop.exec_()
 
 
-def until(is_so, what: str) -> None:
+def until(is_so: Callable[[], object], what: str) -> None:
     end = time.monotonic() + LONG
     while not is_so():
         if time.monotonic() > end:
@@ -136,7 +143,7 @@ def algorithms() -> None:
     made = subprocess.run([os.path.join(os.path.dirname(TOOLS), 'examples', 'make_parcels'), os.path.join(FOLDER, 'parcels.gpkg')])
     assert made.returncode == 0
     parcels = QgsVectorLayer(os.path.join(FOLDER, 'parcels.gpkg'), 'parcels', 'ogr')
-    asked = {'LAYERS': [parcels], 'GRID': '0.001', 'RULES': 'polygon_must_not_overlap parcels', 'ID': 'parcel', 'TOPO': folder_of_topo()}
+    asked: dict[str, Any] = {'LAYERS': [parcels], 'GRID': '0.001', 'RULES': 'polygon_must_not_overlap parcels', 'ID': 'parcel', 'TOPO': folder_of_topo()}
     out = lambda name: os.path.join(FOLDER, name)
     processing.run('topo:check', {**asked, 'OUTPUT': out('errors.gpkg')})
     assert count(out('errors.gpkg')) == 3, count(out('errors.gpkg'))
@@ -161,7 +168,7 @@ def count(path: str) -> int:
     return QgsVectorLayer(path + '|layername=error_polygons', 'errors', 'ogr').featureCount()
 
 
-def wrong(processing, name: str, parameters: dict, text: str) -> None:
+def wrong(processing: Any, name: str, parameters: dict, text: str) -> None:
     """An algorithm ends with these words."""
     from qgis.core import QgsProcessingException
     try:
@@ -221,7 +228,7 @@ def beside_tables(window: Window, picture: str) -> None:
         server.close()
 
 
-def connect(window: Window, server, name: str, user: str) -> None:
+def connect(window: Window, server: Server, name: str, user: str) -> None:
     """Makes a connection that QGIS knows, and presses Connect."""
     for key, value in (('host', server.folder), ('port', '5432'), ('database', 'gis'), ('username', user), ('saveUsername', 'true')):
         QgsSettings().setValue('PostgreSQL/connections/%s/%s' % (name, key), value)
@@ -230,7 +237,7 @@ def connect(window: Window, server, name: str, user: str) -> None:
     window.press('Connect')
 
 
-def in_tables(window: Window, server, client, service, picture: str) -> None:
+def in_tables(window: Window, server: Server, client: Client, service: Service, picture: str) -> None:
     dock = window.dock
     uri = "dbname='gis' host=%s user='postgres' sslmode=disable" % server.folder
     connect(window, server, 'registry', 'postgres')
@@ -265,7 +272,7 @@ def in_tables(window: Window, server, client, service, picture: str) -> None:
     broken(window, service, server)
 
 
-def held(window: Window, server) -> None:
+def held(window: Window, server: Server) -> None:
     from beside import Client
     other = Client(server.dsn(), False)
     other.rows("set application_name = 'a map'")
@@ -279,7 +286,7 @@ def held(window: Window, server) -> None:
     assert window.texts('Held') == []
 
 
-def marks(window: Window, client) -> None:
+def marks(window: Window, client: Client) -> None:
     row = next(number for number, texts in enumerate(window.texts('Errors')) if texts[0] == 'point_must_be_disjoint')
     window.click_row('Errors', row)
     window.dock.mark('exception', "the well's shaft")
@@ -287,7 +294,7 @@ def marks(window: Window, client) -> None:
     assert client.rows('select subject, note from topo.exception') == [('a', "the well's shaft")]
 
 
-def by_a_layer(window: Window, client) -> None:
+def by_a_layer(window: Window, client: Client) -> None:
     """The column mark is edited as any other attribute of a layer."""
     layer = window.dock.source.errors['points']
     feature = next(layer.getFeatures())
@@ -309,7 +316,7 @@ def pictured(window: Window, parcels: QgsVectorLayer, picture: str) -> None:
     assert window.face.window.grab().save(picture)
 
 
-def says_no(window: Window, client, server) -> None:
+def says_no(window: Window, client: Client, server: Server) -> None:
     """What the database refuses stands in the line below the buttons, and nothing is marked."""
     dock, registry = window.dock, window.dock.source
     client.rows('create role guest login')
@@ -326,7 +333,7 @@ def says_no(window: Window, client, server) -> None:
     assert dock.state.text().startswith('2 errors, 0 exceptions'), dock.state.text()
 
 
-def waits(window: Window, client) -> None:
+def waits(window: Window, client: Client) -> None:
     """A column that the service follows gets another name: the dock says what it waits for, and what was shown stays."""
     shown = window.texts('Errors')
     client.rows('alter table parcels rename geom to shape')
@@ -336,7 +343,7 @@ def waits(window: Window, client) -> None:
     until(lambda: 'it waits' not in window.dock.state.text(), 'a service that goes on')
 
 
-def broken(window: Window, service, server) -> None:
+def broken(window: Window, service: Service, server: Server) -> None:
     """Without a service, and without a database: it is said, and what was shown stays."""
     service.end()
     window.dock.look()

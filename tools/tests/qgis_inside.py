@@ -2,9 +2,12 @@
 
 QGIS runs it at its start by --code. It writes to the file SAID what went wrong, and ends QGIS at once: its own end asks whether to save.
 """
+from __future__ import annotations
+
 import os
 import time
 import traceback
+from typing import Any, Callable
 
 from qgis.core import QgsApplication, QgsProject, QgsRectangle, QgsVectorLayer
 from qgis.PyQt.QtCore import QEventLoop, Qt, QTimer
@@ -24,18 +27,18 @@ def turn(milliseconds: int) -> None:
     loop.exec_()
 
 
-def until(is_so, what: str) -> None:
+def until(is_so: Callable[[], object], what: str) -> None:
     end = time.monotonic() + SECONDS
     while not is_so():
         assert time.monotonic() < end, 'not so: ' + what
         turn(100)
 
 
-def texts(dock, name: str) -> list:
+def texts(dock: Any, name: str) -> list:
     return [row.texts for row in dock.models[name].rows]
 
 
-def press(dock, text: str) -> None:
+def press(dock: Any, text: str) -> None:
     button = next(button for button in dock.findChildren(QPushButton) if button.text() == text)
     assert button.isVisible(), text
     QTest.mouseClick(button, Qt.LeftButton)
@@ -51,7 +54,7 @@ def show_parcels() -> None:
     QgsProject.instance().setCrs(layer.crs())
 
 
-def go_to(dock, row: int) -> None:
+def go_to(dock: Any, row: int) -> None:
     view = dock.views['Errors']
     QTest.mouseClick(view.viewport(), Qt.LeftButton, Qt.NoModifier, view.visualRect(view.model().index(row, 0)).center())
 

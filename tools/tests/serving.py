@@ -9,7 +9,7 @@ import ssl
 import subprocess
 import sys
 import time
-from typing import Optional
+from typing import Callable, Optional
 
 from lib.replies import ENDS
 from lib.serve.command import all_groups
@@ -89,7 +89,7 @@ class Serving:
         with open(self.path('rights'), 'w', encoding='utf-8') as out:
             out.write(text)
 
-    def start(self, *fault: str, before=None) -> 'Serving':
+    def start(self, *fault: str, before: Optional[Callable[[], object]] = None) -> 'Serving':
         """Starts it, and waits until it is ready or has ended; with words of a fault, it kills itself there."""
         command = [os.path.join(HERE, 'faulty_serve'), *fault] if fault else [os.path.join(TOOLS, 'serve')]
         with open(self.told_path, 'ab') as told:

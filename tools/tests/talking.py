@@ -8,7 +8,7 @@ import subprocess
 import termios
 import threading
 from contextlib import contextmanager
-from typing import Iterator
+from typing import IO, Iterator
 
 # No reply takes this long, in seconds.
 LONG = 60
@@ -46,7 +46,7 @@ def watched(process: subprocess.Popen) -> Iterator[subprocess.Popen]:
                 close_quietly(pipe)
 
 
-def close_quietly(pipe) -> None:
+def close_quietly(pipe: IO[bytes]) -> None:
     """Closes it, also where what is left in its buffer has no reader any more."""
     try:
         pipe.close()

@@ -1,9 +1,12 @@
 """tools/answers: each line with its reply, and of each refusal a sentence that fits it."""
+from __future__ import annotations
+
 import os
 import random
 import unittest
 from importlib.machinery import SourceFileLoader
 from importlib.util import module_from_spec, spec_from_loader
+from types import ModuleType
 
 from lib.refusals import form_fault, sentence_of
 from lib.replies import Answer, Ending
@@ -46,7 +49,7 @@ SAID = {
 UNBUILT = ('mark ', 'unmark ', 'rules', 'rule ')
 
 
-def check_docs():
+def check_docs() -> ModuleType:
     """The tool as a module."""
     loader = SourceFileLoader('check_docs', os.path.join(TOOLS, 'check_docs'))
     module = module_from_spec(spec_from_loader('check_docs', loader))
@@ -55,7 +58,7 @@ def check_docs():
 
 
 class Sentences(Case):
-    def test_what_was_wrong_and_what_was_meant(self):
+    def test_what_was_wrong_and_what_was_meant(self) -> None:
         script, replies = self.replayed('s', by_lines(*HEAD, *SAID))
         done = self.tool('answers', script, replies, '--refused')
         told = done.out.splitlines()
@@ -63,12 +66,12 @@ class Sentences(Case):
         self.assertEqual(told[0::3], ['%d: %s' % line for line in enumerate(SAID, len(HEAD) + 1)])
         self.assertEqual([line.strip() for line in told[2::3]], list(SAID.values()))
 
-    def test_all_lines_with_their_replies(self):
+    def test_all_lines_with_their_replies(self) -> None:
         script, replies = self.replayed('s', '# two\n\nclass wells point\r\nrule point_must_be_disjoint wells\nerrors\n')
         done = self.tool('answers', script, replies)
         self.assertEqual((done.status, done.out), (0, '3: class wells point\n    ok 1\n4: rule point_must_be_disjoint wells\n    ok 1\n5: errors\n    total 0\n'))
 
-    def test_each_refusal_of_the_page_has_its_sentence(self):
+    def test_each_refusal_of_the_page_has_its_sentence(self) -> None:
         docs, count = check_docs(), 0
         with open(os.path.join(os.path.dirname(TOOLS), 'docs', 'refusals.md'), encoding='utf-8') as page:
             pages = [script for script, _ in docs.listings(page.read())]
@@ -88,7 +91,7 @@ class Mutations(Case):
         at = lot.randrange(len(line) + 1)
         return lot.choice([line[:at] + line[at + 1:], line[:at] + lot.choice('aA1 -.,()_x') + line[at:], line[:at], line[:at] + lot.choice('zZ09(), ') + line[at + 1:]])
 
-    def test_a_line_has_its_form_where_the_program_says_so(self):
+    def test_a_line_has_its_form_where_the_program_says_so(self) -> None:
         """Of mutated lines: what keeps one from having a form is found exactly where the program says E01."""
         lot, lines = random.Random(5), []
         seeds = [line for line in SAID if 'MULTIPOINT' not in line] + ['validate all', 'dirty', 'by ann change 1 POINT (3 4)', 'droprule 3']
@@ -109,7 +112,7 @@ class Mutations(Case):
 
 
 class Words(unittest.TestCase):
-    def test_the_words_of_the_rules(self):
+    def test_the_words_of_the_rules(self) -> None:
         with open(os.path.join(os.path.dirname(TOOLS), 'crates', 'rule_words', 'specs', 'Table.antt'), encoding='utf-8') as table:
             text = table.read()
         self.assertEqual(text.count('= codes "'), len(KINDS_OF))

@@ -83,7 +83,7 @@ class Asked(Case):
     def test_layers(self) -> None:
         with open(FIGURES.replace('*', 'report'), encoding='utf-8') as lines:
             asked, replies = self.replayed('s', lines.read().rstrip('\n') + '\nrules\ncells\ndirty\n')
-        for words in ([], ['--cells']):
+        for words in (), ('--cells',):
             self.assertEqual(self.layers(asked, replies, *words, '--ask', shlex.join(PROGRAM)), self.layers(asked, replies, *words))
 
     def layers(self, script: str, replies: str, *words: str) -> dict:

@@ -1,10 +1,12 @@
 """tools/changes: a project follows its source, keeps handles and exceptions, and is then what the source makes; what is refused."""
+from __future__ import annotations
+
 import csv
 import random
 import shutil
 import unittest
 
-from working import PROGRAM, Case, by_lines, rectangle
+from working import PROGRAM, Case, Done, by_lines, rectangle
 
 HEADER = 'layer,fid,id,class,handle,moved,note'
 PROJECT = by_lines('topology 1', 'next 3', 'class lots polygon', 'feature 1 lots POLYGON ((0 0, 9 0, 0 9, 0 0))',
@@ -26,11 +28,11 @@ class Changes(Case):
             with open(self.path(name.replace('_', '.')), 'w', encoding='utf-8') as out:
                 out.write(text)
 
-    def changes(self, new: str, project: str = PROJECT, table: str = TABLE):
+    def changes(self, new: str, project: str = PROJECT, table: str = TABLE) -> Done:
         self.write(a_project=project, a_csv=table, new_topo=new)
         return self.tool('changes', 'a.project', 'a.csv', 'new.topo', 'next.csv')
 
-    def test_the_lines(self):
+    def test_the_lines(self) -> None:
         done = self.changes(script('C', 'A', A='POLYGON ((0 0, 8 0, 0 9, 0 0))').replace('"C"', '"C \\"1\\""').replace('49 0', '49 1'))
         lines = ['by import delete 2', 'by import change 1 POLYGON ((0 0, 8 0, 0 9, 0 0))', '# fid 7 id "C \\"1\\""',
                  'by import add lots POLYGON ((40 0, 49 1, 40 9, 40 0))']
@@ -40,12 +42,12 @@ class Changes(Case):
         with open(self.path('next.csv'), encoding='utf-8') as table:
             self.assertEqual(table.read(), by_lines(HEADER, ',7,"C ""1""",lots,3,,', ',7,A,lots,1,,'))
 
-    def test_what_is_in_the_project_alone_stays(self):
+    def test_what_is_in_the_project_alone_stays(self) -> None:
         done = self.changes(script('B'), table=by_lines(HEADER, 'lots,2,B,lots,2,,', 'lots,3,C,lots,3,,', 'lots,4,D,,,,left out: it is empty'))
         self.assertEqual((done.status, done.told), (0, '1 the same, 0 changed, 0 added, 0 deleted; 1 in the project alone\n'))
         self.assertEqual(done.out.splitlines()[3], 'validate all')
 
-    def test_a_class_without_a_feature_now_is_told(self):
+    def test_a_class_without_a_feature_now_is_told(self) -> None:
         both = PROJECT.replace('class lots polygon\n', 'class lots polygon\nclass lakes polygon\n').replace('2 lots', '2 lakes')
         done = self.changes(script('A'), both, TABLE.replace('B,lots', 'B,lakes'))
         self.assertEqual((done.status, done.told), (1, 'the source has no feature of class lakes, so all of them are deleted: are the sources and '
@@ -53,7 +55,7 @@ class Changes(Case):
                                                        'project alone\n'))
         self.assertIn('by import delete 2', done.out)
 
-    def test_what_is_refused(self):
+    def test_what_is_refused(self) -> None:
         for words, said in (((script('A', 'A'),), 'new.topo: two features of class lots have the id A'),
                             ((script('A', ''),), 'new.topo: a feature of class lots has no id'),
                             ((script('A', of_class='lakes'),), 'new.topo: the project has no class lakes'),
@@ -64,7 +66,7 @@ class Changes(Case):
             self.assertEqual(tuple(self.changes(*words)), (2, '', 'changes: %s\n' % said))
 
     @unittest.skipUnless(shutil.which('ogr2ogr'), 'ogr2ogr is not installed (package gdal-bin)')
-    def test_a_map_from_night_to_night(self):
+    def test_a_map_from_night_to_night(self) -> None:
         """The project of a source that changes five times has its features by their ids, and its errors, as a new script would; and a mark
         goes where one of its two lots does, or their overlap changes."""
         lot, places = random.Random(3), {'N%d' % i: (3 * (i % 9), 3 * (i // 9), 4, 3) for i in range(1, 80)}
@@ -105,13 +107,13 @@ class Changes(Case):
         replayed = self.run_words(PROGRAM + ['replay', 'a.project', 'b.project'], done.out.encode())
         self.assertEqual(replayed.status, 0, replayed.out)
         self.run_words(PROGRAM + ['replay', '-', 'c.project'], new.encode())
-        errors, anew = self.errors_by_id('b.project', 'next.csv'), self.errors_by_id('c.project', 'ids.csv')
-        self.assertEqual(errors.keys(), anew.keys())
-        self.assertEqual([key for key in errors if errors[key] == 'exception'], [key for key in errors if before.get(key) == 'exception'])
-        self.assertIn('error', errors.values())
-        for old, now in (('b.project', 'a.project'), ('next.csv', 'a.csv')):
+        now, anew = self.errors_by_id('b.project', 'next.csv'), self.errors_by_id('c.project', 'ids.csv')
+        self.assertEqual(now.keys(), anew.keys())
+        self.assertEqual([key for key in now if now[key] == 'exception'], [key for key in now if before.get(key) == 'exception'])
+        self.assertIn('error', now.values())
+        for old, new_name in (('b.project', 'a.project'), ('next.csv', 'a.csv')):
             with open(self.path(old), encoding='utf-8') as text:
-                self.write(**{now.replace('.', '_'): text.read()})
+                self.write(**{new_name.replace('.', '_'): text.read()})
 
     def errors_by_id(self, project: str, table: str) -> dict[tuple, str]:
         """The marks of errors by the ids of both lots, without order, and the frame."""

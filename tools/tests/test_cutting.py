@@ -3,6 +3,7 @@ import csv
 import math
 import random
 import unittest
+from fractions import Fraction
 from unittest import mock
 
 from lib import cutting
@@ -38,8 +39,9 @@ def rings_in(shape: Shape) -> list:
     return [ring for part in shape.parts for ring in part]
 
 
-def area(shape: Shape) -> int:
-    return sum(abs(doubled_area(ring)) * (1 if number == 0 else -1) for part in shape.parts for number, ring in enumerate(part))
+def area(shape: Shape) -> Fraction:
+    areas = [-abs(doubled_area(ring)) if number else abs(doubled_area(ring)) for part in shape.parts for number, ring in enumerate(part)]
+    return sum(areas, Fraction(0))
 
 
 @mock.patch.object(cutting, 'MOST_VERTICES', FEW)

@@ -61,7 +61,7 @@ class Maps(Case):
         with open(self.path(out), encoding='utf-8') as text:
             return text.read()
 
-    def test_a_map_of_ten_thousand(self):
+    def test_a_map_of_ten_thousand(self) -> None:
         text = self.drawn('--map', 'm.svg', 10000)
         page = tree.fromstring(text)
         groups = {group.get('id'): group for group in page.iter(SVG + 'g')}
@@ -72,7 +72,7 @@ class Maps(Case):
         self.assertLess(len(text), 3_000_000)
         self.assertEqual(sum(word.startswith('no ') for word in words), 0, 'there is no room for a label')
 
-    def test_a_window_with_labels(self):
+    def test_a_window_with_labels(self) -> None:
         page = tree.fromstring(self.drawn('--map', 'w.svg', 1000, '100', '100', '300', '200'))
         words = [each.text for each in page.iter(SVG + 'text')]
         self.assertIn('no 607', words)
@@ -80,7 +80,7 @@ class Maps(Case):
         self.assertIn('from 100 100', words)
 
     @unittest.skipUnless(BROWSER, 'no Chromium is installed')
-    def test_a_page_in_a_browser(self):
+    def test_a_page_in_a_browser(self) -> None:
         text = self.drawn('--html', 'p.html', 1000)
         self.assertNotRegex(text, r'(src|href)="?http')
         self.assertEqual(self.seen('p.html'), '1050 features, 100 errors, 1 dirty')
@@ -93,14 +93,14 @@ class Maps(Case):
             self.assertEqual(self.seen('clicked.html'), wanted)
 
     @unittest.skipUnless(BROWSER, 'no Chromium is installed')
-    def test_the_list_follows_what_is_ticked(self):
+    def test_the_list_follows_what_is_ticked(self) -> None:
         self.drawn('--html', 'p.html', 1000)
         self.assertEqual(self.said('p.html', 'listed'), '100')
         self.assertEqual(self.said(self.with_script('p.html', "document.querySelector('#groups input').click()"), 'listed'), '0')
         self.assertEqual(self.said(self.with_script('p.html', "byId('find').value = 'no 13 with'; search()"), 'listed'), '1')
 
     @unittest.skipUnless(BROWSER, 'no Chromium is installed')
-    def test_a_large_page_opens_and_is_drawn_soon(self):
+    def test_a_large_page_opens_and_is_drawn_soon(self) -> None:
         """PAGE=40000 is the size that docs/your-data.md speaks of; here it is a tenth."""
         count = int(os.environ.get('PAGE', '4000'))
         text = self.page_of(count, count * 3 // 4)
@@ -147,10 +147,11 @@ class Refused(Case):
         done = self.tool('draw', *words, shlex.join(PROGRAM), 's.topo', 'out')
         return done.status, done.told
 
-    def test_what_is_no_script(self):
+    def test_what_is_no_script(self) -> None:
         with open(self.path('out'), 'w', encoding='utf-8') as out:
             out.write('older')
-        for words in ([], ['--map'], ['--html']):
+        ways: list[list[str]] = [[], ['--map'], ['--html']]
+        for words in ways:
             for script, said in ((b'SQLite format 3\0\x10\0', 'this is no script: it has bytes that no script has'),
                                  (b'name,area\nlots,5\n', 'this is no script: none of its lines could be done'), (b'# nothing\n', 'the script has no lines')):
                 self.assertEqual(self.draw(script, *words), (2, 'draw: %s\n' % said))
@@ -158,7 +159,7 @@ class Refused(Case):
         with open(self.path('out'), encoding='utf-8') as out:
             self.assertEqual(out.read(), 'older')
 
-    def test_texts_of_every_kind_are_well_formed(self):
+    def test_texts_of_every_kind_are_well_formed(self) -> None:
         ids = ''.join(map(chr, [*range(1, 9), 11, 12, *range(14, 32), 60, 38, 34, 39, 0x7f, 0x85, 0x2028, 0xfffe, 0xffff, 0x1f600]))
         script = by_lines('class wells point', 'begin a', '# fid 1 id %s' % json.dumps(ids + '</script>'), 'by a add wells POINT (0 0)',
                           'by a add wells POINT (90 90)')

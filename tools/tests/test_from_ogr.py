@@ -19,7 +19,7 @@ LOTS = [rectangle(X, Y, 3499260.137, 5412310.025), rectangle(3499260.137, Y, 349
 
 
 class Sources(Case):
-    def test_three_formats_make_one_script(self):
+    def test_three_formats_make_one_script(self) -> None:
         scripts = []
         for name, driver in (('a.gpkg', 'GPKG'), ('a.shp', 'ESRI Shapefile'), ('a.geojson', 'GeoJSON')):
             source = self.source(name, LOTS, '-f', driver, layer='a')
@@ -31,7 +31,7 @@ class Sources(Case):
         self.assertEqual(list(map(len, scripts[0])), [4, 4, 8])
         self.assertTrue(scripts[0] == scripts[1] == scripts[2])
 
-    def test_the_way_back_is_exact(self):
+    def test_the_way_back_is_exact(self) -> None:
         for resolution in ('0.001', '0.01'):
             source = self.source('b%s.gpkg' % resolution, LOTS)
             done = self.tool('from-ogr', source, '--grid', resolution)
@@ -42,7 +42,7 @@ class Sources(Case):
             self.assertEqual(list(map(decimal_text, back)), ['3499250.137', '5412300.021'] if resolution == '0.001' else ['3499250.14', '5412300.02'])
             self.assertIn('ID["EPSG",31467]', grid.crs)
 
-    def test_an_origin_that_is_given(self):
+    def test_an_origin_that_is_given(self) -> None:
         source = self.source('c.gpkg', LOTS[:1])
         done = self.tool('from-ogr', source, '--grid', '0.01', '--origin', '3499000', '5412000')
         self.assertIn('POLYGON ((25014 30002, 26014 30002, 26014 31003, 25014 31003, 25014 30002))', done.out)
@@ -50,14 +50,14 @@ class Sources(Case):
         self.assertEqual(far.status, 1)
         self.assertIn('lots 1: left out: its vertex 3499250.1370000001 5412300.0209999997 is beyond the reach of the grid', far.told)
 
-    def test_a_source_in_degrees(self):
+    def test_a_source_in_degrees(self) -> None:
         self.source('degrees.gpkg', [rectangle(9, 50, 9.01, 50.01)], '-a_srs', 'EPSG:4326')
         done = self.tool('from-ogr', 'degrees.gpkg', '--grid', '0.001')
         self.assertEqual((done.status, done.out), (2, ''))
         self.assertIn('from-ogr: the coordinates are degrees, so one unit of this grid is about 111 m from south to north', done.told)
         self.assertEqual(self.tool('from-ogr', 'degrees.gpkg', '--grid', '0.00001', '--degrees').status, 0)
 
-    def test_the_odd_coordinate_system_is_named(self):
+    def test_the_odd_coordinate_system_is_named(self) -> None:
         for number in range(6):
             self.source('six.gpkg', LOTS[:1], *(['-update'] if number else []), *(['-a_srs', 'EPSG:25832'] if number == 3 else []),
                         layer='layer%d' % number)
@@ -66,7 +66,7 @@ class Sources(Case):
         self.assertIn('from-ogr: layer layer3 has the coordinate system ETRS89 / UTM zone 32N, and the other 5 have DHDN / 3-degree Gauss-Kruger '
                       'zone 3: bring them into one', done.told)
 
-    def test_a_class_of_several_layers_and_files(self):
+    def test_a_class_of_several_layers_and_files(self) -> None:
         self.source('north.gpkg', LOTS[:1], layer='lots')
         self.source('south.gpkg', LOTS[1:2], layer='lots')
         self.source('south.gpkg', LOTS[2:], '-update', layer='commons')
@@ -82,14 +82,14 @@ class Sources(Case):
         mixed = self.tool('from-ogr', *words, '--layer', 'lots=parcels', '--layer', 'wells=parcels')
         self.assertEqual((mixed.status, mixed.told), (2, 'from-ogr: layer wells has points, and the class parcels polygons of layer lots\n'))
 
-    def test_a_rule_of_the_wrong_kind(self):
+    def test_a_rule_of_the_wrong_kind(self) -> None:
         self.source('roads.gpkg', [{'type': 'LineString', 'coordinates': [[X, Y], [X + 9, Y]]}], layer='roads')
         done = self.tool('from-ogr', 'roads.gpkg', '--grid', '0.01', '--rule', 'polygon_must_not_overlap', 'roads')
         self.assertEqual((done.status, done.told), (2, 'from-ogr: the rule polygon_must_not_overlap takes a class of polygons, and `roads` is of '
                                                        'lines; did you mean `line_must_not_overlap`?\n'))
         self.assertIn('no --rule is given', self.tool('from-ogr', 'roads.gpkg', '--grid', '0.01').told)
 
-    def test_subtypes(self):
+    def test_subtypes(self) -> None:
         """Numbers are the subtypes; words get numbers, which they keep; rules name either."""
         self.source('kinds.gpkg', [rectangle(x, 0, x + 11, 10) for x in range(0, 40, 10)], layer='lots')
         for column, values in (('code', "'N1' THEN 3 WHEN 'N2' THEN 255 WHEN 'N3' THEN 0"), ('use', "'N1' THEN 'farm' WHEN 'N2' THEN 'built' WHEN 'N3' THEN 'farm'")):
@@ -118,13 +118,13 @@ class Sources(Case):
         with open(self.path(name), encoding='utf-8', newline='') as table:
             return list(csv.DictReader(table))
 
-    def test_an_extent_that_does_not_fit(self):
+    def test_an_extent_that_does_not_fit(self) -> None:
         source = self.source('d.gpkg', [rectangle(0, 0, 1, 1), rectangle(9000, 0, 9001, 1)])
         done = self.tool('from-ogr', source, '--grid', '0.001')
         self.assertEqual((done.status, done.out), (2, ''))
         self.assertIn('tools/tiles', done.told)
 
-    def test_layers_and_rules(self):
+    def test_layers_and_rules(self) -> None:
         self.source('e.gpkg', LOTS, layer='lots')
         self.source('e.gpkg', LOTS[:1], '-update', layer='Gebäude 2')
         done = self.tool('from-ogr', 'e.gpkg', '--grid', '0.01', '--rule', 'polygon_must_not_overlap_with', 'lots', 'Gebaeude_2')
@@ -143,13 +143,13 @@ class Sources(Case):
         none = self.tool('from-ogr', 'e.gpkg', '--grid', '0.01', '--layer', 'streets')
         self.assertEqual((none.status, none.told), (2, "from-ogr: no layer 'streets'; there are lots, Gebäude 2\n"))
 
-    def test_ids_of_a_field(self):
+    def test_ids_of_a_field(self) -> None:
         source = self.source('i.gpkg', LOTS[:1])
         self.assertIn('\n# fid 1 id "N1"\n', self.tool('from-ogr', source, '--grid', '0.01', '--id', 'nr').out)
         done = self.tool('from-ogr', source, '--grid', '0.01', '--id', 'nrr')
         self.assertEqual((done.status, done.out, done.told), (2, '', 'from-ogr: there is no field `nrr`; did you mean `nr`?\n'))
 
-    def test_columns_of_other_fields(self):
+    def test_columns_of_other_fields(self) -> None:
         self.source('c.gpkg', LOTS, layer='lots')
         for asked in ('ALTER TABLE lots ADD COLUMN owner TEXT', "UPDATE lots SET owner = 'Ann' || fid || ',\n' WHERE fid < 3"):
             self.assertEqual(self.run_words(['ogrinfo', '-q', 'c.gpkg', '-sql', asked]).status, 0)
@@ -171,7 +171,7 @@ class Sources(Case):
         wrong = self.tool('from-ogr', 'c.gpkg', '--grid', '0.01', '--field', 'ownr')
         self.assertEqual((wrong.status, wrong.told), (2, 'from-ogr: there is no field `ownr`; did you mean `owner`?\n'))
 
-    def test_an_outline(self):
+    def test_an_outline(self) -> None:
         """What a layer outlines and a class leaves uncovered is an error, with its area."""
         self.source('town.gpkg', [rectangle(0, 0, 30, 10)], layer='town')
         self.source('town.gpkg', [rectangle(0, 0, 10, 10), rectangle(12, 0, 30, 10)], '-update', layer='lots')
@@ -184,7 +184,7 @@ class Sources(Case):
         wrong = self.tool('from-ogr', 'town.gpkg', '--grid', '0.1', '--outline', 'town', 'lot')
         self.assertEqual((wrong.status, wrong.told[-53:]), (2, 'from-ogr: there is no class `lot`; did you mean `lots`?\n'[-53:]))
 
-    def test_ids_of_a_field_of_each_layer(self):
+    def test_ids_of_a_field_of_each_layer(self) -> None:
         self.source('j.gpkg', LOTS[:2], layer='lots')
         self.source('j.gpkg', LOTS[:1], '-update', '-sql', 'SELECT nr AS house FROM "old houses"', layer='old houses')
         remarks = lambda *words: [line for line in self.tool('from-ogr', *words, '--grid', '0.01').out.splitlines() if line.startswith('# fid')]
@@ -194,7 +194,7 @@ class Sources(Case):
         self.assertEqual(remarks('j.gpkg', '--id', 'old houses', 'house'), ['# fid 1', '# fid 2', both[2]])
         self.assertEqual(remarks('j.gpkg', '--id', 'nr'), both[:2] + ['# fid 1'])
 
-    def test_a_source_behind_an_id(self):
+    def test_a_source_behind_an_id(self) -> None:
         self.source('k.gpkg', LOTS[:1])
         for words in (['nr', 'k.gpkg'], ['lots', 'nr', 'k.gpkg'], ['nr', 'k.gpkg', '--id', 'lots', 'nr']):
             self.assertIn('\n# fid 1 id "N1"\n', self.tool('from-ogr', '--grid', '0.01', '--id', *words).out)
@@ -203,8 +203,8 @@ class Sources(Case):
                             (['lots', 'nrr', 'k.gpkg'], 'from-ogr: there is no field `nrr`; did you mean `nr`?\n')):
             done = self.tool('from-ogr', '--grid', '0.01', '--id', *words)
             self.assertEqual((done.status, done.out, done.told), (2, '', said))
-        for words in (['--id', 'nr'], []):
-            self.assertIn('required: source', self.tool('from-ogr', '--grid', '0.01', *words).told)
+        for ids in ('--id', 'nr'), ():
+            self.assertIn('required: source', self.tool('from-ogr', '--grid', '0.01', *ids).told)
 
     def frame(self, script: str) -> str:
         """The frame of the first feature."""
@@ -221,7 +221,7 @@ class Unfit(Case):
             out.write('nr,WKT\n' + rows)
         self.run_words(['ogr2ogr', '-nlt', kind, '-oo', 'GEOM_POSSIBLE_NAMES=WKT', name + '.gpkg', name + '.csv'])
 
-    def test_what_cannot_come_is_named(self):
+    def test_what_cannot_come_is_named(self) -> None:
         self.made_of('mixed', '1,"POLYGON Z ((0 0 1, 4 0 1, 4 4 1, 0 0 1))"\n2,"CURVEPOLYGON (CIRCULARSTRING (0 0, 4 0, 4 4, 0 4, 0 0))"\n'
                      '3,"POLYGON EMPTY"\n4,"LINESTRING (0 0, 1 1)"\n5,"POLYGON ((0 0, 10 10, 10 0, 0 10, 0 0))"\n'
                      '6,"POLYGON ((0 0, 0.1 0, 0 0.1, 0 0))"\n7,"POLYGON ((0 0, 4 0, 4 4, 0 4, 0 0))"\n8,"GEOMETRYCOLLECTION (POINT (1 2))"\n')
@@ -237,7 +237,7 @@ class Unfit(Case):
             self.assertEqual([(row['fid'], row['handle']) for row in csv.DictReader(table)],
                              [('1', '1'), ('2', ''), ('3', ''), ('4', ''), ('5', ''), ('6', ''), ('7', '2'), ('8', '')])
 
-    def test_curves_as_lines(self):
+    def test_curves_as_lines(self) -> None:
         """Two lots with an arc between them that goes the one way round in one and the other way in the other neither overlap nor leave a gap."""
         self.made_of('curves', '1,"CURVEPOLYGON (COMPOUNDCURVE (CIRCULARSTRING (20 0, 25 5, 20 10), (20 10, 0 10, 0 0, 20 0)))"\n'
                      '2,"MULTISURFACE (CURVEPOLYGON (COMPOUNDCURVE (CIRCULARSTRING (20 10, 25 5, 20 0), (20 0, 60 0, 60 10, 20 10))))"\n'
@@ -255,7 +255,7 @@ class Unfit(Case):
         self.assertIn('too many vertices', self.tool('from-ogr', *words, '--linearize', '1e-12').told)
         self.assertEqual(self.tool('from-ogr', *words, '--linearize', '0').status, 2)
 
-    def test_arcs_are_near_and_the_same_both_ways(self):
+    def test_arcs_are_near_and_the_same_both_ways(self) -> None:
         lot = random.Random(5)
         for _ in range(200):
             p, q, r = ((lot.uniform(0, 100), lot.uniform(0, 100)) for _ in range(3))
@@ -266,7 +266,7 @@ class Unfit(Case):
             middles = [((a[0] + b[0]) / 2, (a[1] + b[1]) / 2) for a, b in zip(points, points[1:])]
             self.assertLessEqual(max(circle.radius - math.dist(circle.centre, each) for each in middles), most * (1 + 1e-9) + 1e-9 * circle.radius)
 
-    def test_a_layer_of_curves_alone_and_one_without_geometries(self):
+    def test_a_layer_of_curves_alone_and_one_without_geometries(self) -> None:
         self.made_of('curves', '1,"CURVEPOLYGON (CIRCULARSTRING (0 0, 4 0, 4 4, 0 4, 0 0))"\n', 'CURVEPOLYGON')
         with open(self.path('names.csv'), 'w') as out:
             out.write('nr,name\n1,a\n')
@@ -277,7 +277,7 @@ class Unfit(Case):
         self.assertIn('layer names: passed over, since it has no geometries', done.told)
         self.assertNotIn('# grid crs', done.out)
 
-    def test_points_are_split_and_counted(self):
+    def test_points_are_split_and_counted(self) -> None:
         source = self.source('p.gpkg', [{'type': 'MultiPoint', 'coordinates': [[1, 2], [3, 4]]}, {'type': 'Point', 'coordinates': [5, 6]}],
                              '-nlt', 'GEOMETRY', layer='wells')
         done = self.tool('from-ogr', source, '--grid', '1', '--origin', '0', '0')
@@ -285,7 +285,7 @@ class Unfit(Case):
         self.assertEqual(done.out.splitlines()[-6:], ['# fid 1', 'by import add wells POINT (1 2)', '# fid 1', 'by import add wells POINT (3 4)',
                                                       '# fid 2', 'by import add wells POINT (5 6)'])
 
-    def test_more_than_2000_vertices(self):
+    def test_more_than_2000_vertices(self) -> None:
         ring = [(x, 0) for x in range(0, 1001)] + [(x, 5) for x in range(1000, -1, -1)]
         self.source('m.gpkg', [polygon(ring)])
         done = self.tool('from-ogr', 'm.gpkg', '--grid', '1')
@@ -294,7 +294,7 @@ class Unfit(Case):
         self.assertEqual(done.status, 1)
         self.assertIn('it has 2002 vertices, and a shape has 2,000 at most', done.told)
 
-    def test_faults_are_those_of_the_program(self):
+    def test_faults_are_those_of_the_program(self) -> None:
         lot, shapes = random.Random(7), []
         for _ in range(600):
             rings = [kept([(lot.randint(0, 6), lot.randint(0, 6)) for _ in range(lot.randint(3, 6))], True) for _ in range(lot.choice((1, 1, 2)))]
@@ -307,12 +307,12 @@ class Unfit(Case):
 
 
 class Grids(unittest.TestCase):
-    def test_nearest_lines(self):
+    def test_nearest_lines(self) -> None:
         grid = Grid(Fraction('0.01'), Fraction(100), Fraction(0))
         for text, near in (('100.005', 1), ('100.0049', 0), ('99.995', 0), ('99.9949', -1)):
             self.assertEqual(grid.units(Fraction(text), grid.x)[0], near)
 
-    def test_round_origins_that_fit(self):
+    def test_round_origins_that_fit(self) -> None:
         wide = (Fraction(0), Fraction(0), Fraction(8388), Fraction(10))
         grid = chosen_grid(Fraction('0.001'), wide, '')
         self.assertLessEqual(max(grid.units(wide[2], grid.x)[0], -grid.units(wide[0], grid.x)[0]), 4194304)

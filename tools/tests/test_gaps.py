@@ -46,7 +46,7 @@ class Grounds(unittest.TestCase):
     def ground(self, covered: dict[Square, int]) -> Ground:
         return ground_of(*border_of(covered))
 
-    def test_by_flooding(self):
+    def test_by_flooding(self) -> None:
         """Lots of squares by lot, which touch each other's corners and have islands in their gaps."""
         lot, count = random.Random(3), 0
         for _ in range(150):
@@ -58,14 +58,14 @@ class Grounds(unittest.TestCase):
             count += len(ground.gaps)
         self.assertGreater(count, 200)
 
-    def test_an_island_in_a_gap_and_who_is_beside(self):
+    def test_an_island_in_a_gap_and_who_is_beside(self) -> None:
         covered = {(x, y): 1 if y < 2 else 2 for x in range(7) for y in range(7) if not (1 <= x <= 5 and 1 <= y <= 5)}
         covered[3, 3] = 3
         ground = self.ground(covered)
         self.assertEqual([(gap.area, len(gap.outline.holes), gap.beside) for gap in ground.gaps], [(24, 1, {1, 2, 3})])
         self.assertEqual([(len(ring), beside) for ring, beside in ground.perimeters], [(4, {1, 2})])
 
-    def test_two_maps_and_a_border_that_is_not_closed(self):
+    def test_two_maps_and_a_border_that_is_not_closed(self) -> None:
         sides, points = border_of({(0, 0): 1, (5, 5): 2})
         self.assertEqual(len(ground_of(sides, points).perimeters), 2)
         sides.pop(next(iter(sides)))
@@ -78,7 +78,7 @@ class Layers(Case):
     LOTS = ['0 0, 30 0, 30 10, 0 10, 0 0', '0 10, 10 10, 10 20, 0 20, 0 10', '20 10, 30 10, 30 20, 20 20, 20 10', '0 20, 30 20, 30 30, 0 30, 0 20']
     HEAD = ['# grid resolution 0.5', '# grid origin 100 200', 'class lots polygon', 'rule polygon_must_not_have_gaps lots', 'begin a']
 
-    def test_a_gap_and_the_perimeter(self):
+    def test_a_gap_and_the_perimeter(self) -> None:
         lots = [line for number, ring in enumerate(self.LOTS) for line in ('# fid %d id "L%d"' % (number, number), 'by a add lots POLYGON ((%s))' % ring)]
         done = self.tool('to-gis', *self.replayed('s', by_lines(*self.HEAD, *lots, 'validate all', 'mark 1 1 0', 'cells', 'dirty')), 'out.gpkg')
         self.assertEqual(done.told, '4 errors in 0 polygons, 4 lines, 0 points; 0 dirty areas\n1 gap beside the perimeter of 1 ring\n')
@@ -86,7 +86,7 @@ class Layers(Case):
                          [{'rule': 1, 'class': 'lots', 'number': 1, 'area': 25, 'features': 4, 'ids': 'L0, L1, L2, L3', 'a': 25}])
         self.assertEqual(self.rows('out.gpkg', 'SELECT length, features FROM perimeter'), [{'length': 60, 'features': 4}])
 
-    def test_tiles_have_the_gaps_of_the_whole(self):
+    def test_tiles_have_the_gaps_of_the_whole(self) -> None:
         self.source('town.gpkg', [{'type': 'Polygon', 'coordinates': [[[*map(float, place.split())] for place in ring.split(', ')]]} for ring in self.LOTS])
         words = ['town.gpkg', '--grid', '0.5', '--rule', 'polygon_must_not_have_gaps', 'lots']
         self.assertEqual(self.tool('tiles', 'split', *words, '--tiles', '2', '--into', 'tiles').status, 0)

@@ -58,7 +58,7 @@ def lines_without_remarks(script: str) -> list[str]:
 
 @GDAL
 class Values(HostileCase):
-    def test_ids_write_no_line_and_no_row(self):
+    def test_ids_write_no_line_and_no_row(self) -> None:
         """The lines are those of the same lots with plain ids, and each id is read back from its remark and from the table."""
         ids = hostile.values(COUNT)
         hostile.write_lots(self.path('evil.geojson'), [{'nr': each} for each in ids])
@@ -75,23 +75,24 @@ class Values(HostileCase):
                     rows = [(row['id'], row['nr'], row['handle']) for row in csv.DictReader(table)]
                 self.assertEqual(rows, [(each, each, str(i)) for i, each in enumerate(ids, 1)])
 
-    def test_cells_that_are_no_formulas(self):
+    def test_cells_that_are_no_formulas(self) -> None:
         ids = ['=1+1', '+x', '-y', '@z', '-7', 'plain']
         hostile.write_lots(self.path('sums.geojson'), [{'nr': each} for each in ids])
-        for words, wanted in (([], ids), (['--safe'], ["'=1+1", "'+x", "'-y", "'@z", '-7', 'plain'])):
+        tables: list[tuple[list[str], list[str]]] = [([], ids), (['--safe'], ["'=1+1", "'+x", "'-y", "'@z", '-7', 'plain'])]
+        for words, wanted in tables:
             done = self.read('sums.geojson', '--id', 'nr', '--table', 'table.csv', *words)
             self.assertEqual('may take for formulas, since they begin with =, +, - or @: 4' in done.told, not words)
             with open(self.path('table.csv'), encoding='utf-8', newline='') as table:
                 self.assertEqual([row['id'] for row in csv.DictReader(table)], wanted)
 
-    def test_answers_control_no_terminal(self):
+    def test_answers_control_no_terminal(self) -> None:
         script, replies = self.replayed('evil', '\x1b[2Jclass lots polygon\nclass lots\x9b polygon\n')
         done = self.tool('answers', script, replies, '--whole')
         self.assertEqual((done.status, done.told), (1, ''))
         self.assertIn('1: \\x1b[2Jclass lots polygon\n', done.out)
         self.assertEqual(done.out, ''.join(printable(line) + '\n' for line in done.out.split('\n')[:-1]))
 
-    def test_what_is_told_controls_no_terminal(self):
+    def test_what_is_told_controls_no_terminal(self) -> None:
         ids = hostile.values(200, 2)
         hostile.write_lots(self.path('evil.geojson'), [{'nr': each} for each in ids])
         for way in WAYS:
@@ -100,7 +101,7 @@ class Values(HostileCase):
                 self.assertEqual((done.status, done.told.count('\n')), (1, len(ids) + 2))
                 self.assertEqual(done.told, ''.join(printable(line) + '\n' for line in done.told.split('\n')[:-1]))
 
-    def test_a_text_named_fid_is_no_number(self):
+    def test_a_text_named_fid_is_no_number(self) -> None:
         source = self.geopackage('evil.gpkg', [{'evil': '2\ndroprule 1\n#', 'nr': 'A'}, {'evil': 'x', 'nr': 'B'}], '-lco', 'FID=number')
         hostile.name_column(self.path(source), 'evil', 'FID')
         for way in WAYS:
@@ -115,7 +116,7 @@ class Values(HostileCase):
                     self.assertNotIn('droprule', script.read())
                 shutil.rmtree(self.path('tiles'))
 
-    def test_names_of_files_layers_and_fields(self):
+    def test_names_of_files_layers_and_fields(self) -> None:
         """A name is in a remark as it is or in quotes, and never a line of its own."""
         rows = [{'Feature Count': '7', 'Extent': '(nan, 1)', 'nr': 'A'}]
         hostile.write_lots(self.path('plain.geojson'), rows, 'lots')
@@ -137,7 +138,7 @@ class Values(HostileCase):
                     else:
                         self.assertEqual((done.status, len(lines_without_remarks(done.out))), (0, 4), done.told)
 
-    def test_marks(self):
+    def test_marks(self) -> None:
         head = 'rule,kind,subject,other,extent,mark,x0,y0,x1,y1\n'
         for number, value in enumerate(hostile.values(20)):
             for name, mark in (('before.csv', 'exception'), ('after.csv', 'error')):
@@ -152,7 +153,7 @@ class Values(HostileCase):
 
 @GDAL
 class Files(HostileCase):
-    def test_a_source_is_the_file_that_it_says(self):
+    def test_a_source_is_the_file_that_it_says(self) -> None:
         self.geopackage('lots.gpkg', [{'nr': 'A'}])
         with open(self.path('vrt.gpkg'), 'w', encoding='utf-8') as out:
             out.write('<OGRVRTDataSource><OGRVRTLayer name="lots"><SrcDataSource>%s</SrcDataSource></OGRVRTLayer></OGRVRTDataSource>' % self.path('lots.gpkg'))
@@ -169,7 +170,7 @@ class Files(HostileCase):
                              'http://127.0.0.1:9/x.geojson', 'WFS:http://127.0.0.1:9', 'MYSQL:x', '<OGRVRTDataSource/>', '{"type": "Point"}', 'VRT:x'):
                     self.could_not(self.read(name), 'from-ogr: ')
 
-    def test_tables_that_are_other_files(self):
+    def test_tables_that_are_other_files(self) -> None:
         """Tables and views of the file itself are read. A view over a virtual table that is another file is not, and no trigger runs."""
         self.geopackage('lots.gpkg', [{'nr': 'A'}, {'nr': 'B'}])
         hostile.add_plain_view(self.path('lots.gpkg'))
@@ -190,13 +191,13 @@ class Files(HostileCase):
             self.assertEqual(file.read(), before)
         self.assertEqual(sorted(name for name in os.listdir(self.folder) if name.startswith('lots')), ['lots.gpkg'])
 
-    def test_a_view_that_never_ends(self):
+    def test_a_view_that_never_ends(self) -> None:
         hostile.add_endless_view(self.path(self.geopackage('lots.gpkg', [{'nr': 'A'}])))
         for way in WAYS:
             with self.way(way):
                 self.could_not(self.read('lots.gpkg', '--timeout', '2', '--layer', 'endless'), 'from-ogr: the source gave nothing for 2 seconds (--timeout)')
 
-    def test_an_extent_without_end(self):
+    def test_an_extent_without_end(self) -> None:
         hostile.write_infinite_extent(self.path(self.geopackage('lots.gpkg', [{'nr': 'A'}])))
         for way in WAYS:
             with self.way(way):
@@ -205,12 +206,12 @@ class Files(HostileCase):
                 self.assertEqual(done.status, 2)
                 self.assertIn('from-ogr: layer lots: its extent is no number, so say --origin', done.told)
 
-    def test_numbers_of_a_million_digits(self):
+    def test_numbers_of_a_million_digits(self) -> None:
         self.geopackage('lots.gpkg', [{'nr': 'A'}])
         for grid in ('1e1000000', '1e-1000000', '1e999999999999', '9' * 100000, 'nan', 'inf', '-1', '0', ''):
             self.could_not(self.tool('from-ogr', 'lots.gpkg', '--grid=' + grid), 'from-ogr: ')
 
-    def test_numbers_of_a_source(self):
+    def test_numbers_of_a_source(self) -> None:
         """What is no number or far away is left out, with its text."""
         with open(self.path('far.csv'), 'w', encoding='utf-8') as out:
             out.write('nr,WKT\n1,"POLYGON ((0 0, 1e308 0, 4 4, 0 0))"\n2,"POLYGON ((0 0, 9 0, 9 9, 0 0))"\n3,"POLYGON ((0 0, nan 0, 4 4, 0 0))"\n'
@@ -224,7 +225,7 @@ class Files(HostileCase):
                     self.assertIn('1 added', done.told)
                 shutil.rmtree(self.path('tiles'))
 
-    def test_a_failure_leaves_what_was_there(self):
+    def test_a_failure_leaves_what_was_there(self) -> None:
         self.geopackage('lots.gpkg', [{'nr': 'A'}])
         with open(self.path('table.csv'), 'w', encoding='utf-8') as out:
             out.write('kept\n')
@@ -242,7 +243,7 @@ class Files(HostileCase):
 
 @GDAL
 class Frames(HostileCase):
-    def test_standard_output_that_takes_nothing(self):
+    def test_standard_output_that_takes_nothing(self) -> None:
         self.geopackage('lots.gpkg', [{'nr': 'A'}])
         words = ' '.join([os.path.join(TOOLS, 'from-ogr'), 'lots.gpkg', '--grid', '1', '--origin', '0', '0', '--table', 'table.csv'])
         for where, said in (('> /dev/full', 'No space left'), ('>&-', 'standard output is closed')):
@@ -253,7 +254,7 @@ class Frames(HostileCase):
         self.assertEqual(done.status, 2)
         self.assertTrue(done.told.endswith("from-ogr: [Errno 2] No such file or directory: 'none/table.csv'\n"), done.told)
 
-    def test_what_is_not_there(self):
+    def test_what_is_not_there(self) -> None:
         """Status 2 and one sentence, whichever tool; 1 means something else."""
         for words in (['answers', 'no', 'no'], ['report', 'no', 'no'], ['to-gis', 'no', 'no', 'out'], ['changes', 'no', 'no', 'no', 'new'], ['lapsed', 'no', 'no'],
                       ['marks', 'no', 'no', 'no'], ['draw', 'true', 'no', 'out'], ['draw', '--map', 'true', 'no', 'out'], ['tiles', 'merge', 'no'],
@@ -261,7 +262,7 @@ class Frames(HostileCase):
             self.could_not(self.tool(*words), words[0] + ': ')
         self.assertEqual(self.tool('towns').status, 2)
 
-    def test_help(self):
+    def test_help(self) -> None:
         for words in (['from-ogr'], ['tiles'], ['tiles', 'split'], ['tiles', 'merge'], ['changes'], ['lapsed'], ['marks'], ['night'], ['report'], ['to-gis'],
                       ['draw'], ['answers'], ['towns']):
             done = self.tool(*words, '--help')
@@ -270,7 +271,7 @@ class Frames(HostileCase):
 
 
 class Lines(unittest.TestCase):
-    def test_a_part_is_one_line(self):
+    def test_a_part_is_one_line(self) -> None:
         with open(os.devnull, 'wb') as out:
             for part in ('a\nb', 'a\r', '\udcff'):
                 with self.assertRaises(LineError):
@@ -278,7 +279,7 @@ class Lines(unittest.TestCase):
             with self.assertRaises(LineError):
                 ScriptWriter(out, 9).write('0123456789')
 
-    def test_a_name_is_one_line_of_a_remark(self):
+    def test_a_name_is_one_line_of_a_remark(self) -> None:
         """Names of files, layers, fields and drivers go into remarks in this way."""
         names = hostile.values(COUNT, 5)
         out = io.BytesIO()
@@ -287,7 +288,7 @@ class Lines(unittest.TestCase):
         self.assertEqual((len(lines), lines[-1]), (len(names) + 1, ''))
         self.assertTrue(all(line.startswith('# source ') for line in lines[:-1]))
 
-    def test_what_is_more_than_a_line_is_never_written(self):
+    def test_what_is_more_than_a_line_is_never_written(self) -> None:
         """Whatever a tool hands over, it is written as one line or refused, and nothing of it stands then."""
         for value in hostile.values(COUNT, 7):
             out = io.BytesIO()
@@ -296,7 +297,7 @@ class Lines(unittest.TestCase):
                 self.assertEqual(out.getvalue(), value.encode() + b'\n')
             self.assertIn(out.getvalue().count(b'\n'), (0, 1))
 
-    def test_numbers_and_names(self):
+    def test_numbers_and_names(self) -> None:
         """Marks, handles and rules of tables go into lines as numbers, and classes as names."""
         for text in hostile.values(max(COUNT, 2000)) + ['', '1 ', ' 1', '+1', '1_0', '٣', '01', '1' * 40]:
             if text not in ('0', '00'):
@@ -306,7 +307,7 @@ class Lines(unittest.TestCase):
                             check(text)
         self.assertEqual((number_of('-17'), number_of('0'), name_of('a_1')), (-17, 0, 'a_1'))
 
-    def test_remarks_are_read_back(self):
+    def test_remarks_are_read_back(self) -> None:
         for number, value in enumerate(hostile.values(COUNT, 3)):
             remark = feature_remark(number, value)
             self.assertNotRegex(remark, '[\n\r]')
@@ -314,7 +315,7 @@ class Lines(unittest.TestCase):
 
 
 class Changes(Case):
-    def test_a_table_as_both_names_is_kept(self):
+    def test_a_table_as_both_names_is_kept(self) -> None:
         with open(self.path('a.project'), 'w', encoding='utf-8') as out:
             out.write('topology 1\nnext 2\nclass lots polygon\nfeature 1 lots POLYGON ((0 0, 9 0, 0 9, 0 0))\nend\n')
         before = 'layer,fid,id,class,handle,moved,note\nlots,1,A,lots,1,,\n'
@@ -329,7 +330,7 @@ class Changes(Case):
         with open(self.path('a.csv'), encoding='utf-8') as table:
             self.assertEqual(table.read(), before)
 
-    def test_texts_that_are_none(self):
+    def test_texts_that_are_none(self) -> None:
         good = {'a.project': b'topology 1\nnext 1\nend\n', 'a.csv': b'layer,fid,id,class,handle,moved,note\n', 'new.topo': b'class lots polygon\n'}
         for name, text in (('a.project', b'topology 1\nnext x\n'), ('a.project', b'topology 1\nnext\n'), ('a.project', b'topology 1\nclass a\xff polygon\n'),
                            ('a.project', b'topology 1\nfeature\n'), ('a.csv', good['a.csv'] + b'a,b\n'), ('a.csv', good['a.csv'] + b'l,1,\xff,c,1,,\n'),

@@ -24,25 +24,25 @@ class Lapsed(Case):
         with open(self.path(name + '.csv'), 'w', encoding='utf-8') as out:
             out.write(text)
 
-    def test_what_lapses(self):
+    def test_what_lapses(self) -> None:
         self.reports()
         expected = by_lines(HEADER + ',why', '1,polygon_must_not_overlap,1,2,cells,error,8,0,9,8,its frame was 8 0 9 9',
                             '1,polygon_must_not_overlap,2,3,cells,gone,18,0,19,9,there is no such error any more')
         self.assertEqual(tuple(self.tool('lapsed', 'a.csv', 'b.csv')), (0, expected, ''))
         self.assertEqual(tuple(self.tool('lapsed', 'a.csv', 'b.csv', '--marks')), (0, 'mark 1 1 2\n', ''))
 
-    def test_the_marks_are_taken(self):
+    def test_the_marks_are_taken(self) -> None:
         self.reports()
         lines = self.tool('lapsed', 'a.csv', 'b.csv', '--marks').out
         self.run_words(PROGRAM + ['replay', 'b.project', 'c.project'], lines.encode())
         self.keep('c', self.run_words(PROGRAM + ['report', 'c.project']).out)
         self.assertNotIn('error,', self.tool('lapsed', 'a.csv', 'c.csv').out)
 
-    def test_nothing_lapses(self):
+    def test_nothing_lapses(self) -> None:
         self.reports()
         self.assertEqual(tuple(self.tool('lapsed', 'a.csv', 'a.csv')), (0, HEADER + ',why\n', ''))
 
-    def test_why(self):
+    def test_why(self) -> None:
         was = '1,polygon_must_not_overlap,%d,%d,cells,exception,0,0,1,1'
         self.keep('a', by_lines(HEADER, was % (1, 2), was % (3, 4), was % (5, 6), was % (7, 8)))
         now = was.replace('exception', 'error')
@@ -56,7 +56,7 @@ class Lapsed(Case):
                           'its frame was 0 0 1 1; features beside it were edited, or a rule',
                           'there is no such error any more; its subject was deleted, its partner was deleted'])
 
-    def test_what_is_refused(self):
+    def test_what_is_refused(self) -> None:
         record = '1,polygon_must_not_overlap,1,2,cells,exception,0,0,1,1'
         self.keep('a', by_lines(HEADER, record))
         self.keep('b', by_lines(HEADER, record.replace('overlap', 'have_gaps')))

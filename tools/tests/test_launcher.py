@@ -155,9 +155,8 @@ class Answers(Launched):
 
     def test_no_kit(self) -> None:
         os.remove(self.at('bin/rt'))
-        with_none = {'PATH': '/usr/bin:/bin'}
         for words in (('replay',), ('--prove',)):
-            done = self.topo(*words, **with_none)
+            done = self.topo(*words, PATH='/usr/bin:/bin')
             self.assertEqual((done.status, done.out), (127, ''))
             self.assertIn('README.md says how to get topo without it', done.told)
 

@@ -34,7 +34,7 @@ class Marks(Case):
         self.keep('marked.csv', by_lines(HEAD, *rows))
         return self.tool('marks', report, 'ids.csv', 'marked.csv', *words)
 
-    def test_by_ids_and_by_handles(self):
+    def test_by_ids_and_by_handles(self) -> None:
         done = self.marks('1;lots;70;A;lots;71;B;exception', '1;lots;2;B;lots:3;3;C;', '1;lots:3;3;C;lots;4;;yes')
         self.assertEqual(tuple(done), (0, 'mark 1 1 2\nmark 1 3 4\n', ''))
         self.replay_into('a.project', 'b.project', done.out)
@@ -42,7 +42,7 @@ class Marks(Case):
         self.assertEqual(tuple(again), (0, '', ''))
         self.assertEqual(self.marks('1;lots;3;C;lots;4;;error', words=('--unmark',), report='b.csv').out, 'unmark 1 3 4\n')
 
-    def test_what_has_changed_since(self):
+    def test_what_has_changed_since(self) -> None:
         self.replay_into('a.project', 'c.project', by_lines('begin import', 'by import change 1 POLYGON ((0 0, 10 0, 10 9, 0 9, 0 0))', 'by import delete 4',
                                                             'validate all'))
         done = self.marks('1;lots;1;A;lots;2;B;x', '1;lots;2;B;lots;3;C;x', '1;lots;3;C;lots;4;;x', words=('--seen', 'a.csv'), report='c.csv')
@@ -50,7 +50,7 @@ class Marks(Case):
         self.assertEqual(done.told.splitlines(), ['rule 1, lots A with lots B: the error is another one now, so it is not marked',
                                                   'rule 1, lots C with lots #4: there is no such error now'])
 
-    def test_layers_and_another_column(self):
+    def test_layers_and_another_column(self) -> None:
         with sqlite3.connect(self.path('e.gpkg')) as package:
             package.execute('CREATE TABLE gpkg_contents (table_name TEXT)')
             package.execute("INSERT INTO gpkg_contents VALUES ('error_polygons'), ('dirty')")
@@ -63,7 +63,7 @@ class Marks(Case):
         self.assertEqual(tuple(self.tool('marks', 'a.csv', 'ids.csv', 'e.gpkg', '--column', 'decision')), (0, 'mark 1 2 3\n', ''))
         self.assertEqual(tuple(self.tool('marks', 'a.csv', 'ids.csv', 'e.gpkg')), (0, '', ''))
 
-    def test_what_is_refused(self):
+    def test_what_is_refused(self) -> None:
         for rows, words, said in ((('1;lots;1;A;lots;2;B;perhaps',), (), 'marked.csv: row 1 says `perhaps` in mark; it may say exception, yes, true, x, 1, error, '
                                                                          'no, false, 0'),
                                   (('1;lots;1;A;lots;2;B;x', '1;lots;1;A;lots;2;B;no'), (), 'marked.csv: two rows say both of the error of rule 1 at lots A'),
@@ -86,7 +86,7 @@ def turned(lot: random.Random, places: list) -> list:
 
 
 class Canonical(unittest.TestCase):
-    def test_rings_parts_and_lines(self):
+    def test_rings_parts_and_lines(self) -> None:
         lot = random.Random(5)
         for _ in range(300):
             parts = [[[(lot.randint(0, 9), lot.randint(0, 9)) for _ in range(lot.randint(3, 9))] for _ in range(lot.randint(1, 3))] for _ in range(lot.randint(2, 3))]
@@ -98,7 +98,7 @@ class Canonical(unittest.TestCase):
             parts[0][0][1] = x + 20, y
             self.assertFalse(is_same(text, 'MULTIPOLYGON (%s)' % ', '.join('(%s)' % ', '.join(map(ring_text, part)) for part in parts)))
 
-    def test_what_is_another_shape(self):
+    def test_what_is_another_shape(self) -> None:
         self.assertTrue(is_same('LINESTRING (0 0, 5 1, 9 0)', 'LINESTRING (9 0, 5 1, 0 0)'))
         self.assertTrue(is_same('MULTILINESTRING ((0 0, 1 1), (2 2, 3 3))', 'MULTILINESTRING ((3 3, 2 2), (0 0, 1 1))'))
         for one, other in (('LINESTRING (0 0, 5 1, 9 0)', 'LINESTRING (5 1, 0 0, 9 0)'), ('POINT (1 2)', 'POINT (2 1)'),

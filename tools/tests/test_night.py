@@ -78,7 +78,7 @@ class Night(Case):
         layers.commit()
         layers.close()
 
-    def test_from_night_to_night(self):
+    def test_from_night_to_night(self) -> None:
         shapes = self.first()
         self.mark()
         self.lots(**{name: turned(shape) for name, shape in shapes.items()})
@@ -93,7 +93,7 @@ class Night(Case):
         self.assertEqual(self.said('--keep', '2')[0], 0)
         self.assertEqual(len(os.listdir(self.path('town/nights'))), 2)
 
-    def test_a_mark_of_what_has_changed_is_told(self):
+    def test_a_mark_of_what_has_changed_is_told(self) -> None:
         shapes = self.first()
         self.mark('decision')
         self.lots(**{**shapes, 'A': rectangle(0, 0, 12, 10)})
@@ -101,7 +101,7 @@ class Night(Case):
         self.assertEqual((status, lines[:2]), (1, ['marked: 0', '    not marked: rule 1, lots A with lots B: the error is another one now, so it is '
                                                                  'not marked']))
 
-    def test_subtypes(self):
+    def test_subtypes(self) -> None:
         """A lot that gets another use is retyped, and the words come back in the layers."""
         features = {'A': ('farm', rectangle(0, 0, 11, 10)), 'B': ('built', rectangle(10, 0, 20, 10))}
         def lots() -> None:
@@ -125,7 +125,7 @@ class Night(Case):
         self.assertIn('by import retype 1 3\n', text)
         self.assertIn('# grid subtype lots 3 "acre"\n', text)
 
-    def test_left_out(self):
+    def test_left_out(self) -> None:
         shapes = self.first()
         crossed = {'type': 'Polygon', 'coordinates': [[[10, 0], [20, 10], [20, 0], [10, 10], [10, 0]]]}
         self.lots(A=shapes['A'], B=crossed, C=rectangle(10, 0, 30, 10))
@@ -135,7 +135,7 @@ class Night(Case):
         self.lots(A=rectangle(0, 0, 10, 10), B=crossed, C=rectangle(10, 0, 30, 10))
         self.assertEqual(self.night().status, 3)
 
-    def test_what_fails_leaves_the_last_night(self):
+    def test_what_fails_leaves_the_last_night(self) -> None:
         self.first()
         current = os.readlink(self.path('town/current'))
         for words, said in (((*WORDS[:1], '2'), '--grid was "1" in the first night'), (('--marks', 'none.gpkg'), 'there is no file none.gpkg')):
@@ -153,11 +153,8 @@ class Night(Case):
 
     def pair(self) -> tuple[str, str]:
         """The project and the table of the last whole night."""
-        found = []
-        for name in ('project', 'table.csv'):
-            with open(self.path('town/current/' + name), encoding='utf-8') as file:
-                found.append(file.read())
-        return tuple(found)
+        with open(self.path('town/current/project'), encoding='utf-8') as project, open(self.path('town/current/table.csv'), encoding='utf-8') as table:
+            return project.read(), table.read()
 
     def killed(self, step: int) -> bool:
         """Whether a night was killed at this step, and did not come to its end before."""
@@ -167,7 +164,7 @@ class Night(Case):
             self.assertIn('is current', done.stderr.decode())
         return done.returncode == -signal.SIGKILL
 
-    def test_killed_at_any_step(self):
+    def test_killed_at_any_step(self) -> None:
         """Each night is cut off at a later step; the next one takes up what it left. The pair is always that of one night."""
         shapes = self.first()
         old = self.pair()

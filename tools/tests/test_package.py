@@ -80,7 +80,7 @@ class Installed(Case):
                 self.assertNotIn('@DOCDIR@', file.read())
         self.assertEqual(self.run_words([serve, 'town', '--script']).status, 1)
 
-    def test_installed_and_taken_away(self):
+    def test_installed_and_taken_away(self) -> None:
         root = self.path('root')
         self.make('install', 'PREFIX=/usr', 'DESTDIR=' + root)
         self.used(root)
@@ -92,7 +92,7 @@ class Installed(Case):
         self.assertEqual([name for _, _, names in os.walk(root) for name in names], [])
 
     @unittest.skipUnless(shutil.which('dpkg-deb'), 'dpkg-deb is not installed')
-    def test_a_debian_package(self):
+    def test_a_debian_package(self) -> None:
         done = self.run_words([os.path.join(TOOLS, 'package'), built(), '.'])
         self.assertEqual(done.status, 0, done.told)
         package = done.out.strip()
@@ -106,7 +106,7 @@ class Installed(Case):
             self.assertTrue(os.path.exists(self.path('root/usr/share/doc/topo/' + name)))
 
     @unittest.skipUnless(shutil.which('dpkg-deb'), 'dpkg-deb is not installed')
-    def test_the_same_package_whatever_the_umask_is(self):
+    def test_the_same_package_whatever_the_umask_is(self) -> None:
         made = []
         for umask in (0o077, 0):
             words = [os.path.join(TOOLS, 'package'), built(), self.path('made')]
@@ -118,13 +118,13 @@ class Installed(Case):
         self.assertEqual(made[0], made[1])
 
     @unittest.skipUnless(shutil.which('dpkg-deb') and shutil.which('lintian'), 'lintian is not installed')
-    def test_lintian_has_nothing_to_say(self):
+    def test_lintian_has_nothing_to_say(self) -> None:
         package = self.run_words([os.path.join(TOOLS, 'package'), built(), '.']).out.strip()
         done = self.run_words(['lintian', '--allow-root', '--fail-on', 'error,warning', package])
         self.assertEqual((done.status, done.out, done.told), (0, '', ''))
 
     @unittest.skipUnless(shutil.which('man'), 'man is not installed')
-    def test_the_manual_page(self):
+    def test_the_manual_page(self) -> None:
         done = self.run_words(['man', '--warnings', '-l', os.path.join(ROOT, 'packaging', 'topo.1')])
         self.assertEqual((done.status, done.told), (0, ''))
         for head in ('NAME', 'SYNOPSIS', 'ARGUMENTS', 'SCRIPT LINES', 'REPLIES', 'EXIT STATUS', 'FILES', 'EXAMPLES', 'SEE ALSO'):

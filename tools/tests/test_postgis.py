@@ -36,7 +36,7 @@ def missing_parts() -> list[tuple[str, str]]:
 
 
 class Beside(unittest.TestCase):
-    def test_beside_a_server(self):
+    def test_beside_a_server(self) -> None:
         if missing():
             self.skipTest('without %s' % missing())
         done = subprocess.run([PYTHON, os.path.join(HERE, 'postgis_cases.py')], stdout=subprocess.PIPE, stderr=subprocess.STDOUT, text=True,
@@ -82,7 +82,7 @@ class Lens(unittest.TestCase):
             found[place] = Edit(place, lot.random() < 0.2, random_shape(lot, CLASSES[of_class]))
         return list(found.values())
 
-    def test_random_edits(self):
+    def test_random_edits(self) -> None:
         lot, foreseen = random.Random(11), 0
         judge = Judge(PROGRAM, Grid(Fraction(1), Fraction(0), Fraction(0)), CLASSES, every_rule())
         self.addCleanup(judge.close)
@@ -107,7 +107,7 @@ class Lens(unittest.TestCase):
 
 
 class Numbers(unittest.TestCase):
-    def test_units_are_those_of_the_grid(self):
+    def test_units_are_those_of_the_grid(self) -> None:
         lot = random.Random(5)
         for resolution, origin in (('0.001', '500000'), ('1', '-3'), ('0.25', '0.5'), ('0.1', '0.05'), ('0.0001', '12.5')):
             grid = Grid(Fraction(resolution), Fraction(origin), Fraction(origin))
@@ -116,7 +116,7 @@ class Numbers(unittest.TestCase):
                 text = repr(round(lot.uniform(-9, 9), lot.randint(0, 6))).replace('.0', '') if lot.random() < 0.9 else '%de-%d' % (lot.randint(1, 9), lot.randint(5, 20))
                 self.assertEqual(units.number(text, 0), grid.units(number_of(text), grid.x)[0], text)
 
-    def test_texts(self):
+    def test_texts(self) -> None:
         units = Units(Grid(Fraction(1, 10), Fraction(0), Fraction(0)))
         self.assertEqual(units.line('POLYGON((0 0,1.5 0,1.5 1.25,0 0),(0.1 0.1,0.2 0.1,0.2 0.2,0.1 0.1))', 'polygon'),
                          'POLYGON((0 0,15 0,15 13,0 0),(1 1,2 1,2 2,1 1))')

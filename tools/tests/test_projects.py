@@ -149,7 +149,8 @@ def damages() -> Iterator[Damage]:
     """The cases of the file, in order."""
     with open(os.path.join(PROJECTS, 'damages.cases'), encoding='utf-8') as cases:
         lines = cases.read().splitlines()
-    project, title, block = '', '', []
+    project = title = ''
+    block: list[str] = []
     for line in lines:
         if line.startswith('# project '):
             project = line[len('# project '):].split(':')[0]
@@ -198,7 +199,7 @@ class Kept(Case):
 
 
 class Checks(Kept):
-    def test_damages_by_hand(self):
+    def test_damages_by_hand(self) -> None:
         self.assertEqual({damage.project for damage in damages()}, set(NAMES))
         for damage in damages():
             with self.subTest(project=damage.project, title=damage.title):
@@ -206,7 +207,7 @@ class Checks(Kept):
                 status = 0 if damage.said == 'sound' else 9
                 self.assertEqual(self.topo('check', name), (status, damage.said + '\n', ''))
 
-    def test_the_projects_are_sound_and_open_as_they_are(self):
+    def test_the_projects_are_sound_and_open_as_they_are(self) -> None:
         for project in NAMES:
             with self.subTest(project=project):
                 name = self.keep('a.project', text_of(project))
@@ -214,7 +215,7 @@ class Checks(Kept):
                 self.assertEqual(self.topo('replay', name, 'b.project'), (0, '', ''))
                 self.assertEqual(self.kept('b.project'), text_of(project))
 
-    def test_what_is_validated_again_is_sound(self):
+    def test_what_is_validated_again_is_sound(self) -> None:
         """The rectangle of the whole grid in place of the dirt, and one validation, make each damaged project sound."""
         whole = 'dirty -4194304 -4194304 4194304 4194304\n'
         for damage in damages():
@@ -226,7 +227,7 @@ class Checks(Kept):
 
 
 class Refused(Kept):
-    def test_texts_that_are_no_project(self):
+    def test_texts_that_are_no_project(self) -> None:
         for text, said in REFUSED.items():
             name = self.keep('a.project', text.replace('/', '\n'))
             for words in (('check', name), ('report', name), ('replay', name), ('replay', name, 'b.project')):
@@ -239,18 +240,18 @@ class Refused(Kept):
             name = self.keep('a.project', by_lines(title, *lines.split('/'), 'end'))
             self.assertIn(self.topo('check', name).out, (said + '\n', 'project refused %s\n' % said))
 
-    def test_limits_of_a_text(self):
+    def test_limits_of_a_text(self) -> None:
         for text, said in LIMITS.items():
             self.checked('topology 1', text, said)
             self.checked('topology 2', text, said)
 
-    def test_subtypes_of_a_text(self):
+    def test_subtypes_of_a_text(self) -> None:
         for text, said in TYPED.items():
             lines = 'next 2/class a point/' + text
             self.checked('topology 2', lines, said)
             self.checked('topology 1', lines, 'line 4 form')
 
-    def test_format_1_is_opened_and_saved_in_format_2(self):
+    def test_format_1_is_opened_and_saved_in_format_2(self) -> None:
         older = SAVED.replace('topology 2', 'topology 1')
         name = self.keep('old', older)
         self.assertEqual(self.topo('check', name), (0, 'sound\n', ''))
@@ -259,7 +260,7 @@ class Refused(Kept):
         self.assertEqual(self.kept('new'), SAVED)
         self.assertEqual(self.kept('old'), older)
 
-    def test_subtypes_are_saved_and_opened(self):
+    def test_subtypes_are_saved_and_opened(self) -> None:
         script = LOTS + by_lines('rule polygon_must_not_overlap_with lots:0 lots:7', 'by ann retype 2 7', 'validate all')
         self.assertEqual(self.topo('replay', '-', 'town', script=script).status, 0)
         text = self.kept('town')
@@ -272,7 +273,7 @@ class Refused(Kept):
         name = self.keep('old', text.replace('topology 2', 'topology 1'))
         self.assertEqual(self.topo('check', name), (6, 'project refused line 5 form\n', ''))
 
-    def test_each_part_that_stops_early_is_short(self):
+    def test_each_part_that_stops_early_is_short(self) -> None:
         for project, text in [('saved', SAVED)] + [(project, text_of(project)) for project in NAMES]:
             for end in range(len(text)):
                 name = self.keep('a.project', text[:end])
@@ -281,12 +282,12 @@ class Refused(Kept):
 
 
 class Words(Kept):
-    def test_a_saved_cell_without_a_point_is_read(self):
+    def test_a_saved_cell_without_a_point_is_read(self) -> None:
         name = self.keep('town', re.sub('^cell .*$', 'cell 1 0 0 >, -1 0 0 >', SAVED, flags=re.M))
         self.assertEqual(self.topo('check', name), (9, 'unsound 1 1\n', ''))
         self.assertEqual(self.topo('replay', name, script='cells\n').out.splitlines()[1], 'cell 1 0 0 >, -1 0 0 >')
 
-    def test_save_check_report_and_reopen(self):
+    def test_save_check_report_and_reopen(self) -> None:
         self.assertEqual(self.topo('replay', '-', 'town', script=LOTS).status, 0)
         self.assertEqual(self.kept('town'), SAVED)
         self.assertEqual(self.topo('check', 'town'), (0, 'sound\n', ''))
@@ -297,7 +298,7 @@ class Words(Kept):
         self.assertEqual(opened.split('dirty 0\n')[1], at_once.split('dirty 0\n')[1])
         self.assertEqual(self.kept('town'), SAVED)
 
-    def test_what_is_kept_beside_the_features(self):
+    def test_what_is_kept_beside_the_features(self) -> None:
         """Handles, dirt and marks are kept; sessions are not."""
         script = LOTS + by_lines('mark 1 1 2', 'by ann add lots POLYGON ((90 0, 91 0, 91 1, 90 0))', 'by ann delete 3')
         self.assertEqual(self.topo('replay', '-', 'town', script=script).status, 0)
@@ -307,13 +308,13 @@ class Words(Kept):
         self.assertEqual((done.status, done.out.splitlines()), (1, replies))
         self.assertIn('next 5\n', self.kept('next'))
 
-    def test_the_last_handle(self):
+    def test_the_last_handle(self) -> None:
         name = self.keep('town', by_lines('topology 1', 'next 4294967294', 'class wells point', 'end'))
         add = 'by ann add wells POINT (0 0)'
         done = self.topo('replay', name, script=by_lines('begin ann', add, add, 'by ann undo', add))
         self.assertEqual((done.status, done.out.splitlines()), (1, ['ok', 'ok 4294967294', 'refused E21', 'ok', 'refused E21']))
 
-    def test_dash_is_the_empty_project_of_replay_alone(self):
+    def test_dash_is_the_empty_project_of_replay_alone(self) -> None:
         self.assertEqual(self.topo('replay', '-', '-', script=LOTS).status, 0)
         self.assertEqual(self.kept('-'), SAVED)
         self.assertEqual(self.topo('check', '-'), (0, 'sound\n', ''))
@@ -321,7 +322,7 @@ class Words(Kept):
         self.assertEqual(self.topo('replay', '-', script='errors\n'), (0, 'total 0\n', ''))
         self.assertEqual(self.topo('replay', './-', script='features\n').out.splitlines()[-1], 'total 2')
 
-    def test_statuses_of_names(self):
+    def test_statuses_of_names(self) -> None:
         os.mkdir(self.path('folder'))
         for word in 'replay', 'check', 'report':
             self.assertEqual(self.topo(word, 'none', script=LOTS), (11, '', ''), word)
@@ -330,7 +331,7 @@ class Words(Kept):
         for target in 'folder', 'none/town':
             self.assertEqual(self.topo('replay', '-', target, script=LOTS), (8, replies, ''), target)
 
-    def test_without_a_target_and_with_faults_nothing_is_saved(self):
+    def test_without_a_target_and_with_faults_nothing_is_saved(self) -> None:
         self.keep('town', SAVED)
         self.assertEqual(self.topo('replay', 'town', script='droprule 1\n').status, 0)
         self.assertEqual(self.topo('replay', 'none', 'town', script='droprule 1\n').status, 11)
@@ -340,7 +341,7 @@ class Words(Kept):
         self.assertEqual(done.out, '4\n')
         self.assertEqual(self.kept('town'), SAVED)
 
-    def test_the_arguments_of_no_form(self):
+    def test_the_arguments_of_no_form(self) -> None:
         for words in 'replay ', 'replay - ', 'replay a b c', 'check', 'check a b', 'report', 'report a b':
             done = self.topo(*words.split(' '), script=LOTS)
             self.assertEqual((done.status, done.out[:12]), (2, 'usage: topo '), words)
@@ -355,7 +356,7 @@ class Tools(Kept):
         script = self.keep('s.topo', by_lines(*lines))
         return script, self.keep('s.replies', self.topo('replay', 'wells.project', script=by_lines(*lines)).out)
 
-    def test_the_table_of_errors_is_that_of_the_program(self):
+    def test_the_table_of_errors_is_that_of_the_program(self) -> None:
         table = self.tool('report', *self.begun('rules', 'errors'))
         self.assertEqual((table.status, table.told), (0, ''))
         self.assertEqual(table.out, self.topo('report', 'wells.project').out)
@@ -365,7 +366,7 @@ class Tools(Kept):
         told = self.tool('answers', *self.begun(*lines), '--refused').out.splitlines()
         return [line.strip() for line in told[2::3]]
 
-    def test_refusals_told_with_and_without_a_listing(self):
+    def test_refusals_told_with_and_without_a_listing(self) -> None:
         add, change, rule = 'by ann add lots POINT (0 0)', 'by ann change 1 POINT (0 0)', 'rule point_must_be_disjoint lots'
         shape, fit = 'the shape is a point, and ', 'the rule takes a class of points, and '
         self.assertEqual(self.told('begin ann', add, change, rule),
@@ -373,7 +374,7 @@ class Tools(Kept):
         self.assertEqual(self.told('features', 'begin ann', add, change, rule),
                          [shape + 'the class `lots` is of polygons', shape + 'the class `lots` is of polygons', fit + '`lots` is of polygons'])
 
-    def test_a_page_of_a_project(self):
+    def test_a_page_of_a_project(self) -> None:
         program = shlex.join(['sh', '-c', shlex.join(PROGRAM) + ' replay wells.project'])
         done = self.tool('draw', '--html', program, self.begun('rules')[0], 'wells.html')
         self.assertEqual((done.status, done.told), (0, ''))

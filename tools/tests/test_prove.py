@@ -36,8 +36,8 @@ with open(os.environ['NOTES'], 'a') as notes:
 class Proves(Case):
     def setUp(self) -> None:
         super().setUp()
-        for part in ('prove', 'lib'):
-            (shutil.copytree if part == 'lib' else shutil.copy2)(os.path.join(TOOLS, part), self.made('tools', part))
+        shutil.copy2(os.path.join(TOOLS, 'prove'), self.made('tools', 'prove'))
+        shutil.copytree(os.path.join(TOOLS, 'lib'), self.made('tools', 'lib'))
         for name in PROVED + ['topo']:
             self.write(name, 'crates', name, 'src', 'lib.rt')
         self.write(LIST, 'crates.txt')

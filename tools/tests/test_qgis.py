@@ -37,10 +37,10 @@ class Plugin(Case):
         if missing():
             self.skipTest('without %s' % missing())
 
-    def test_dock_and_algorithms(self):
+    def test_dock_and_algorithms(self) -> None:
         self.by_python('qgis_cases.py', 'PICTURE')
 
-    def test_the_whole_desktop(self):
+    def test_the_whole_desktop(self) -> None:
         if missing_of_desktop():
             self.skipTest('without %s' % missing_of_desktop())
         self.by_python('qgis_desktop.py', 'PICTURE_OF_DESKTOP')
@@ -51,7 +51,7 @@ class Plugin(Case):
                               stderr=subprocess.STDOUT, text=True, timeout=LONG, env=dict(os.environ, TOPO='\n'.join(PROGRAM)))
         self.assertEqual(done.returncode, 0, done.stdout)
 
-    def test_as_qgis_finds_it(self):
+    def test_as_qgis_finds_it(self) -> None:
         """The algorithms of an installed plugin, from a shell."""
         home, plugins = self.path('home'), self.path('home/.local/share/QGIS/QGIS3/profiles/default/python/plugins')
         os.makedirs(plugins)

@@ -62,7 +62,8 @@ class Days(Case):
     def mark(self, errors: Errors) -> None:
         """An officer marks errors in the layers of the last night, and saves them as a table for the next one."""
         with sqlite3.connect(self.path('town/current/errors.gpkg')) as layers, open(self.path('marked.csv'), 'w', encoding='utf-8', newline='') as out:
-            table, head = csv.writer(out, delimiter=';'), []
+            table = csv.writer(out, delimiter=';')
+            head: list[str] = []
             for layer in ('error_polygons', 'error_lines', 'error_points'):
                 cursor = layers.execute('SELECT rule, word, class, subject, subject_id, other_class, other, other_id FROM ' + layer)
                 if not head:
@@ -75,7 +76,7 @@ class Days(Case):
     def counts(self, done: Done) -> str:
         return next(line for line in done.out.splitlines() if line.startswith('errors: '))
 
-    def test_four_days(self):
+    def test_four_days(self) -> None:
         words = [word for rule in RULES for word in ('--rule', *rule)]
         done = self.night(1, '--grid', '0.01', '--id', 'id', '--subtype', 'parcels', 'use', *words)
         first = MENDED | LATER | AT_GAP | {SLIVER} | perimeter()

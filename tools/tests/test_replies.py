@@ -41,16 +41,17 @@ def read(script: bytes, replies: bytes) -> str:
 
 
 class Tools(Case):
-    def test_each_says_so_in_a_line(self):
+    def test_each_says_so_in_a_line(self) -> None:
         self.replayed('lots', LOTS)
         self.replayed('wells', WELLS)
         said = 'line 2 cannot have the reply `ok 1`: the replies are not those of this script\n'
-        for tool, words in (('report', []), ('answers', ['--refused']), ('to-gis', ['out'])):
+        calls: list[tuple[str, list[str]]] = [('report', []), ('answers', ['--refused']), ('to-gis', ['out'])]
+        for tool, words in calls:
             done = self.tool(tool, 'lots.topo', 'wells.replies', *words)
             self.assertEqual((done.status, done.out, done.told), (2, '', '%s: %s' % (tool, said)))
         self.assertFalse(os.path.exists(self.path('out')))
 
-    def test_a_refusal_at_a_place_that_the_line_does_not_have(self):
+    def test_a_refusal_at_a_place_that_the_line_does_not_have(self) -> None:
         for name, text in (('s.topo', LOTS), ('s.replies', by_lines('ok 1', 'ok', 'refused E18 cross 4 7', 'total 0'))):
             with open(self.path(name), 'w', encoding='utf-8') as out:
                 out.write(text)
@@ -58,7 +59,7 @@ class Tools(Case):
         self.assertEqual((done.status, done.told), (2, 'answers: line 3 cannot have the reply `refused E18 cross 4 7`: '
                                                        'the replies are not those of this script\n'))
 
-    def test_all_replies_with_all_scripts(self):
+    def test_all_replies_with_all_scripts(self) -> None:
         """Each script is read to the end with its own replies; with those of another, nothing but a ReplyError comes, nearly always."""
         texts = [script.encode() for script in scripts() if len(script) < 100000]
         said = [('\n'.join(self.replay(text.decode())) + '\n').encode() for text in texts]
@@ -76,21 +77,21 @@ class Subtypes(unittest.TestCase):
                        'feature 2 lots:3 POLYGON ((0 0, 9 0, 0 9, 0 0))', 'total 2', 'rule 1 polygon_must_not_overlap_with lots:2 lots:3', 'total 1',
                        'error 1 1 2 cells 0 0 9 9', 'total 1')
 
-    def test_features_and_sides(self):
+    def test_features_and_sides(self) -> None:
         ending = Ending()
         for answer in answers_of(io.BytesIO(self.SCRIPT.encode()), io.BytesIO(self.REPLIES.encode())):
             ending.take(answer)
         self.assertEqual([origin.side for origin in ending.origins.values()], ['lots:2', 'lots:3'])
         self.assertEqual((ending.origins[1].id, ending.rules[1].classes, ending.classes), ('A', {'lots'}, {'lots': 'polygon'}))
 
-    def test_what_a_line_can_have(self):
+    def test_what_a_line_can_have(self) -> None:
         for line, reply, is_fit in (('by ann retype 2 255', 'ok', True), ('by ann retype 2 256', 'ok', False), ('by ann add lots:300 POINT (0 0)', 'ok 1', False),
                                     ('by ann retype 2', 'ok', False), ('class lots:2 polygon', 'ok 1', False), ('by ann retype 9 1', 'refused E19', True)):
             self.assertEqual(can_answer(line, [reply]), is_fit, line)
 
 
 class Forms(unittest.TestCase):
-    def test_what_a_line_can_have(self):
+    def test_what_a_line_can_have(self) -> None:
         error, cell = 'error 1 2 0 cells 0 0 1 1', 'cell 1 0 -3 =, 0 1 -4 >='
         for line, reply in ((' by\tann  delete 3 ', ['ok']), ('errors', [error, 'total 1']), ('cells', [error, cell, cell, 'total 1']),
                             ('by ann add wells POINT (1)', ['refused E01']), ('validate 5 0 4 0', ['refused E24']),
@@ -102,7 +103,7 @@ class Forms(unittest.TestCase):
                             ('frobnicate', ['ok']), ('by', ['ok']), ('class a point', ['refused E09']), ('dirty', ['refused E12'])):
             self.assertFalse(can_answer(line, reply), line)
 
-    def test_remarks_of_your_own(self):
+    def test_remarks_of_your_own(self) -> None:
         script = b'# subject of the talk\n# fid of all\n# fid 1 id lots\n# neighbour\nclass a point\n'
         self.assertEqual(read(script, b'ok 1\n'), '')
 

@@ -64,23 +64,23 @@ class Tables(Case):
         self.assertEqual((done.status, done.told), (0, said))
         return done.out
 
-    def test_an_example(self):
+    def test_an_example(self) -> None:
         first = roads().split('\nerrors\n')[0]
         self.assertEqual(self.report(first + '\nmark 2 1 0\nmark 6 4 0\nerrors\n'), ROADS)
         self.assertEqual(self.report(roads()), MENDED)
 
-    def test_exceptions_far_places_and_numbers_given_twice(self):
+    def test_exceptions_far_places_and_numbers_given_twice(self) -> None:
         self.assertEqual(self.report(by_lines(*LOTS)), OVERLAP)
         self.assertEqual(self.report(by_lines(*LOTS, *ANEW)), WITHOUT)
 
-    def test_a_kind_is_that_of_the_listing(self):
+    def test_a_kind_is_that_of_the_listing(self) -> None:
         said = 'report: the errors are those of line 12; lines after it may have changed them\n'
         self.assertEqual(self.report(by_lines(*LOTS, *ANEW[:2]), said), OVERLAP)
 
-    def test_no_errors(self):
+    def test_no_errors(self) -> None:
         self.assertEqual(self.report('class lots polygon\nerrors\n'), HEADER)
 
-    def test_replies_from_standard_input(self):
+    def test_replies_from_standard_input(self) -> None:
         script, _ = self.replayed('s', by_lines(*LOTS))
         replies = self.run_words(PROGRAM + ['replay'], by_lines(*LOTS).encode()).out
         self.assertEqual(self.run_words([os.path.join(TOOLS, 'report'), script, '-'], replies.encode()).out, OVERLAP)
@@ -100,29 +100,29 @@ class Wide(Case):
         done = self.tool('report', *self.replayed('s', by_lines(*TOWN)), *words)
         return done.status, done.out.splitlines(), done.told
 
-    def test_ids_places_and_sizes(self):
+    def test_ids_places_and_sizes(self) -> None:
         self.assertEqual(self.report('--wide'), (0, [WIDE, OF_CELLS + '7,A,,,103.5,200,104.5,202,2,'], ''))
 
-    def test_a_table_of_from_ogr_and_one_of_your_own(self):
+    def test_a_table_of_from_ogr_and_one_of_your_own(self) -> None:
         table = 'layer,fid,id,class,handle,moved,note\nlots,8,B,lots,2,,\nlots,9,C,lots,,,it is empty\n'
         self.assertEqual(self.report('--table', 'names.csv', table=table), (0, [WIDE, OF_CELLS + '7,A,8,B,103.5,200,104.5,202,2,'], ''))
         head, row = self.report('--table', 'names.csv', '--semicolon', table='handle;owner\n2;"Dorn; Abt"\n')[1]
         self.assertEqual((head.split(';')[-2:], row[-14:]), (['subject_owner', 'other_owner'], ';2;;;"Dorn; Abt"'[-14:]))
 
-    def test_cells_that_a_spreadsheet_takes_for_formulas(self):
+    def test_cells_that_a_spreadsheet_takes_for_formulas(self) -> None:
         said = "report: fields that a spreadsheet may take for formulas, since they begin with =, +, - or @: 1; --safe puts a ' before them\n"
         table = 'handle,id,height\n2,=cmd(),-1.5\n'
         for words, id, told in ((['--table', 'names.csv'], '=cmd()', said), (['--table', 'names.csv', '--safe'], "'=cmd()", '')):
             self.assertEqual(self.report(*words, table=table), (0, [WIDE + ',subject_height,other_height',
                              OF_CELLS + '7,A,,%s,103.5,200,104.5,202,2,,,-1.5' % id], told))
 
-    def test_tables_that_are_none(self):
+    def test_tables_that_are_none(self) -> None:
         for table, said in (('a,b\n1,2\n', 'names.csv has no column `handle`: it is not the table of from-ogr --table'),
                             ('handle,id\n1,A\n1,B\n', 'names.csv: the handle 1 is there twice'), ('handle,id\nx,A\n', 'names.csv: x is no handle'),
                             ('handle,id\n1\n', 'names.csv: row 1 has not as many cells as there are columns')):
             self.assertEqual(self.report('--table', 'names.csv', table=table), (2, [], 'report: %s\n' % said))
 
-    def test_refused_lines_are_told(self):
+    def test_refused_lines_are_told(self) -> None:
         script, replies = self.replayed('s', by_lines(*TOWN[:-2], 'by ann add lots POLYGON ((0 0, 9 9, 9 0, 0 9, 0 0))', 'validate all', 'cells', 'dirty'))
         done = self.tool('report', script, replies)
         self.assertEqual((done.status, len(done.out.splitlines()), done.told), (1, 2, 'report: %s: refused lines: 1\n' % script))
@@ -138,30 +138,30 @@ class Replies(Case):
         done = self.tool('report', 's.topo', 's.replies')
         return done.status, done.out, done.told
 
-    def test_words_from_a_listing_of_rules(self):
+    def test_words_from_a_listing_of_rules(self) -> None:
         replies = 'rule 3 line_must_be_single_part roads\ntotal 1\nerror 3 4 0 whole 12 4 20 4\ntotal 1\n'
         self.assertEqual(self.report('rules\nerrors\n', replies), (0, HEADER + '3,line_must_be_single_part,4,0,whole,error,12,4,20,4\n', ''))
         said = 'report: line 1 lists an error of rule 3, and no line before it says the word of that rule\n'
         self.assertEqual(self.report('errors\n', ''.join(replies.splitlines(True)[2:])), (2, '', said))
 
-    def test_no_listing_and_other_replies(self):
+    def test_no_listing_and_other_replies(self) -> None:
         self.assertEqual(self.report('class a point\n', 'ok 1\n'), (2, '', 'report: the script lists no errors: end it with the line `errors`\n'))
         self.assertEqual(self.report('class a point\nerrors\n', 'ok 1\n'), (2, '', 'report: line 2 has no reply: the replay ended before it\n'))
         self.assertEqual(self.report('errors\n', 'total 0\nok 1\n'), (2, '', 'report: there are more replies than lines\n'))
 
-    def test_replies_that_break_off(self):
+    def test_replies_that_break_off(self) -> None:
         said = 'report: the reply to line 2 is not whole: the replay ended within it\n'
         self.assertEqual(self.report('class a point\nerrors\n', 'ok 1\nerror 1 2 0 cells 0 0 1 1\n'), (2, '', said))
         said = 'report: line 1 has no reply: the replay ended before it\n'
         self.assertEqual(self.report('errors\n', 'total 0'), (2, '', said))
 
-    def test_a_project_that_was_refused(self):
+    def test_a_project_that_was_refused(self) -> None:
         said = 'report: the project was not opened, so no line has a reply: project refused line 7 form\n'
         self.assertEqual(self.report('errors\n', 'project refused line 7 form\n'), (2, '', said))
 
 
 class Definition(unittest.TestCase):
-    def test_the_header_is_that_of_the_definition(self):
+    def test_the_header_is_that_of_the_definition(self) -> None:
         with open(os.path.join(ROOT, 'crates', 'script_terms', 'specs', 'Report.antt'), encoding='utf-8') as definition:
             self.assertIn('report_header = codes "%s" ++ 10 ∷ []\n' % HEADER.strip(), definition.read())
 

@@ -19,12 +19,13 @@ import threading
 import time
 import types
 import unittest
+from typing import Optional, cast
 
 from lib.serve.journal import Journal
 from lib.serve.records import NO_SEAL, Block, Damaged, GroupReader, Kept, Torn, group_text, head_text
 from lib.serve.replay import MOST
 from lib.serve.rights import Rights, Verdict, WrongRights, fields
-from lib.serve.service import RESERVE, Item, Service, Settings
+from lib.serve.service import RESERVE, Item, Receiver, Service, Settings
 from lib.serve.snapshots import Snapshots
 from lib.serve.store import Store
 from serving import Desk, Office, SecureDesk, Serving, free_port, own_user, rights_text
@@ -48,12 +49,12 @@ class Served(Case):
         self.folder = tempfile.mkdtemp(dir='/dev/shm' if os.path.isdir('/dev/shm') else None)
         self.addCleanup(shutil.rmtree, self.folder)
 
-    def serve(self, *words: str, rights: str = RIGHTS, program=None, start: bool = True) -> Serving:
+    def serve(self, *words: str, rights: str = RIGHTS, program: Optional[list[str]] = None, start: bool = True) -> Serving:
         serving = Serving(self.folder, rights, *words, program=program)
         self.addCleanup(serving.end)
         return serving.start() if start else serving
 
-    def desk(self, serving: Serving, uid=None) -> Desk:
+    def desk(self, serving: Serving, uid: Optional[int] = None) -> Desk:
         desk = Desk(serving, uid)
         self.addCleanup(desk.close)
         return desk
@@ -70,12 +71,12 @@ class Served(Case):
 
 class NothingLost(Served):
     @unittest.skipUnless(shutil.which('openssl'), 'openssl is not installed')
-    def test_killed_under_sixteen_editors(self):
+    def test_killed_under_sixteen_editors(self) -> None:
         done = self.run_words([sys.executable, os.path.join(HERE, 'kill_service'), '--kills', '5', '--folder', self.folder, *PROGRAM])
         self.assertEqual((done.status, done.told), (0, ''), done.out)
         self.assertIn('0 wrong', done.out)
 
-    def test_killed_at_each_place(self):
+    def test_killed_at_each_place(self) -> None:
         """A line is synced, or a project is saved anew, and the service is killed there: it stands where it stood."""
         serving = self.serve('--save-each', '8', start=False)
         lines = list(WELLS) + ['by ann add wells POINT (%d 4)' % x for x in range(7)] + ['end ann', 'begin ann']
@@ -98,7 +99,7 @@ class NothingLost(Served):
                 self.assertEqual(serving.stop(), 0)
         self.assertLessEqual(len(os.listdir(os.path.join(serving.town, 'projects'))), 2)
 
-    def test_a_full_disk(self):
+    def test_a_full_disk(self) -> None:
         """Lines are refused while no room is left, nothing is lost, and it goes on."""
         limit = 20000
         serving = self.serve(start=False).start(before=lambda: resource.setrlimit(resource.RLIMIT_FSIZE, (limit, resource.RLIM_INFINITY)))
@@ -119,13 +120,13 @@ class NothingLost(Served):
         self.assertIn(b'no line is kept', serving.told())
 
     @unittest.skipUnless(IS_ROOT, 'only root can mount a small disk')
-    def test_a_small_disk_that_is_full(self):
+    def test_a_small_disk_that_is_full(self) -> None:
         """The same on a file system of its own, where a project cannot be saved either."""
         place = self.path('disk')
         os.mkdir(place)
         if subprocess.run(['mount', '-t', 'tmpfs', '-o', 'size=200k', 'tmpfs', place], capture_output=True).returncode:
             self.skipTest('nothing can be mounted here')
-        self.addCleanup(subprocess.run, ['umount', '-l', place])
+        self.addCleanup(lambda: subprocess.run(['umount', '-l', place]))
         serving = Serving(place, RIGHTS, '--save-each', '2000')
         self.addCleanup(serving.end)
         serving.told_path = self.path('told')
@@ -144,7 +145,7 @@ class NothingLost(Served):
         self.assertEqual(desk.ask('features')[-1], 'total %d' % (count + 1))
         self.same_as_replay(serving, desk)
 
-    def test_a_disk_that_reports_an_error(self):
+    def test_a_disk_that_reports_an_error(self) -> None:
         """The service stops, since nobody knows what the disk has; what was answered stands."""
         serving = self.serve(start=False)
         desk = self.desk(serving.start('broken', '4'))
@@ -154,7 +155,7 @@ class NothingLost(Served):
         self.assertIn(b'Input/output error', serving.told())
         self.assertEqual(self.desk(serving.start()).ask('last'), ['ok 3 3 ok'])
 
-    def test_a_torn_end_is_dropped_and_told(self):
+    def test_a_torn_end_is_dropped_and_told(self) -> None:
         serving = self.serve()
         self.ask(self.desk(serving), *WELLS)
         serving.end()
@@ -177,7 +178,7 @@ class NothingLost(Served):
         with open(path, 'wb') as out:
             out.write(text)
 
-    def test_a_damaged_journal_stops_the_service(self):
+    def test_a_damaged_journal_stops_the_service(self) -> None:
         serving = self.serve()
         self.ask(self.desk(serving), *WELLS, 'by ann add wells POINT (1 1)', 'by ann add wells POINT (2 2)')
         serving.end()
@@ -186,7 +187,7 @@ class NothingLost(Served):
         self.damaged(serving, b'topo journal 1 after 0', b'topo journal 1 after 9', b'does not follow')
         self.assertEqual(serving.start().process.poll(), None)
 
-    def test_another_project_stops_the_service(self):
+    def test_another_project_stops_the_service(self) -> None:
         serving = self.serve()
         serving.end()
         with open(os.path.join(serving.town, 'projects', '000000000000.project'), 'ab') as out:
@@ -194,7 +195,7 @@ class NothingLost(Served):
         self.assertEqual(serving.start().wait(), 3)
         self.assertIn(b'is not the project that was saved', serving.told())
 
-    def test_a_program_that_replies_otherwise_stops_the_service(self):
+    def test_a_program_that_replies_otherwise_stops_the_service(self) -> None:
         serving = self.serve()
         desk = self.desk(serving)
         self.ask(desk, *WELLS)
@@ -212,7 +213,7 @@ class NothingLost(Served):
         self.assertEqual(serving.start().wait(), 3)
         self.assertIn(b'the replies to lines 1 to 1000 are not those that were given', serving.told())
 
-    def test_saved_anew_while_editing(self):
+    def test_saved_anew_while_editing(self) -> None:
         """Each project that is saved, and each run that is begun anew, replies as the first would."""
         serving = self.serve('--save-each', '50', '--run-bytes', '5000')
         desk = self.desk(serving)
@@ -230,7 +231,7 @@ class NothingLost(Served):
         self.same_as_replay(serving, self.desk(serving.start()))
         self.assertGreater(len(os.listdir(os.path.join(serving.town, 'archive'))), 1)
 
-    def test_sessions_that_never_end_are_ended(self):
+    def test_sessions_that_never_end_are_ended(self) -> None:
         """Where a run becomes long, or a session has no line for long, the service ends it by a line of its own."""
         serving = self.serve('--run-bytes', '2000', '--idle', '1')
         desk = self.desk(serving)
@@ -250,22 +251,23 @@ class NothingLost(Served):
 
 
 class LongRuns(unittest.TestCase):
-    def test_what_does_not_fit_into_the_run_is_refused(self):
+    def test_what_does_not_fit_into_the_run_is_refused(self) -> None:
         """All of a group or nothing of it, but what the service itself says."""
         for sent, want in ((MOST - RESERVE - 20, [None, None, None]), (MOST - RESERVE - 19, [b'refused later\n', b'refused later\n', None])):
-            group = [Item(object(), 'ann', b'by ann un', Verdict.KEPT), Item(object(), 'ann', b'by ann re', Verdict.KEPT),
+            somebody = cast(Receiver, object())
+            group = [Item(somebody, 'ann', b'by ann un', Verdict.KEPT), Item(somebody, 'ann', b'by ann re', Verdict.KEPT),
                      Item(None, '-', b'end ann', Verdict.KEPT)]
-            Service.check_room(types.SimpleNamespace(live=types.SimpleNamespace(sent=sent)), group)
+            Service.check_room(cast(Service, types.SimpleNamespace(live=types.SimpleNamespace(sent=sent))), group)
             self.assertEqual([item.answer and item.answer() for item in group], want)
 
-    def test_sessions_are_ended_only_if_one_was_open_all_the_time(self):
+    def test_sessions_are_ended_only_if_one_was_open_all_the_time(self) -> None:
         """A run that grew while a project was saved is no reason to end anybody's session."""
         settings = Settings(run_bytes=1000)
         for sent, open_bytes, saving, want in ((2000, 1000, None, True), (9000, 999, None, False), (1999, 1500, None, False), (2000, 1000, 'a task', False)):
             run = types.SimpleNamespace(live=types.SimpleNamespace(sent=sent), open_bytes=open_bytes, saving=saving, settings=settings, retry_at=0.0)
-            self.assertIs(Service.is_too_long(run), want)
+            self.assertIs(Service.is_too_long(cast(Service, run)), want)
 
-    def test_saving_leaves_what_the_journal_makes_meanwhile(self):
+    def test_saving_leaves_what_the_journal_makes_meanwhile(self) -> None:
         with tempfile.TemporaryDirectory() as folder:
             store = Store(folder)
             store.take()
@@ -297,14 +299,14 @@ class Records(unittest.TestCase):
             return count, type(error)
         return count, None
 
-    def test_cut_at_each_byte(self):
+    def test_cut_at_each_byte(self) -> None:
         ends = [len(self.head), len(self.head) + len(self.groups[0]), len(self.text)]
         for size in range(len(self.text) + 1):
             whole = sum(end <= size for end in ends[1:])
             want = (0, Damaged) if size < ends[0] else (whole, None if size in ends else Torn)
             self.assertEqual(self.read(self.text[:size]), want, size)
 
-    def test_each_byte_changed(self):
+    def test_each_byte_changed(self) -> None:
         for at in range(len(self.head), len(self.text)):
             for byte in 0, ord('s'), ord('\n'), self.text[at] ^ 1:
                 if byte != self.text[at]:
@@ -312,7 +314,7 @@ class Records(unittest.TestCase):
                     count, end = self.read(changed)
                     self.assertIs(end, Damaged, (at, byte, count))
 
-    def test_blocks_that_were_never_written(self):
+    def test_blocks_that_were_never_written(self) -> None:
         torn = self.text + b'l 4 now ann' + bytes(600) + b'\ns 4 ' + b'0' * 32 + b'\n'
         self.assertEqual(self.read(torn), (2, Torn))
 
@@ -331,14 +333,14 @@ class StrangeClients(Served):
         self.assertEqual(self.good.ask('by ann change 1 POINT (1 1)')[0][:2], 're')
         self.assertLess(time.monotonic() - start, SOON)
 
-    def test_a_line_of_two_mebibytes(self):
+    def test_a_line_of_two_mebibytes(self) -> None:
         strange = self.desk(self.serving)
         strange.send(b'#' * (2 << 20))
         self.assertEqual((strange.reply(), strange.reply()), (['refused E02'], []))
         self.is_well()
         self.assertIn(b'ann is let go: E02', self.serving.told())
 
-    def test_the_longest_line(self):
+    def test_the_longest_line(self) -> None:
         strange = self.desk(self.serving)
         strange.send(b'validate ' + b'x' * (1048576 - 9) + b'\r\n')
         self.assertEqual(strange.reply(), ['refused E01'])
@@ -346,7 +348,7 @@ class StrangeClients(Served):
         self.assertEqual(strange.reply(), ['refused E02'])
         self.assertEqual(strange.reply(), [])
 
-    def test_half_a_line_and_never_more(self):
+    def test_half_a_line_and_never_more(self) -> None:
         strange, trickling = self.desk(self.serving), self.desk(self.serving)
         strange.send(b'by ann delete 1')
         start = time.monotonic()
@@ -362,7 +364,7 @@ class StrangeClients(Served):
         self.assertEqual(leaving.reply(), [])
         self.assertEqual(self.good.ask('features'), ['total 0'])
 
-    def test_silent_clients_and_too_many(self):
+    def test_silent_clients_and_too_many(self) -> None:
         inside = [self.desk(self.serving) for _ in range(11)]
         for desk in inside:
             self.assertEqual(desk.ask('errors'), ['total 0'])
@@ -372,7 +374,7 @@ class StrangeClients(Served):
         time.sleep(0.2)
         self.assertEqual(self.desk(self.serving).ask('errors'), ['total 0'])
 
-    def test_ten_thousand_connections(self):
+    def test_ten_thousand_connections(self) -> None:
         """As many at once as the system lets this test have, up to ten thousand."""
         soft, hard = resource.getrlimit(resource.RLIMIT_NOFILE)
         count = 10000 if hard == resource.RLIM_INFINITY else min(10000, hard - 200)
@@ -395,7 +397,7 @@ class StrangeClients(Served):
         with open('/proc/%d/status' % self.serving.process.pid, encoding='utf-8') as file:
             return int(re.search(r'VmRSS:\s+(\d+)', file.read())[1])
 
-    def test_a_client_that_reads_nothing(self):
+    def test_a_client_that_reads_nothing(self) -> None:
         self.ask(self.good, *['by ann add wells POINT (%d 9)' % x for x in range(500)])
         before = self.memory()
         strange = self.desk(self.serving)
@@ -410,14 +412,14 @@ class StrangeClients(Served):
         self.assertIn(b'ann reads nothing: let go', self.serving.told())
         self.assertLess(self.memory() - before, 20000)
 
-    def test_odd_bytes(self):
+    def test_odd_bytes(self) -> None:
         strange = self.desk(self.serving)
         for text, want in ((b'by ann delete \0\n', 'refused E01'), (b'by \xff\xfe add\n', 'refused forbidden'), (b'\0\n', 'refused E01'),
                            (b'\r\n# remark\n \t\nerrors\r\n', 'total 0'), (b'by  ann\tdelete  9 \n', 'refused E19')):
             strange.send(text)
             self.assertEqual(strange.reply(), [want], text)
 
-    def test_a_listing_holds_up_edits_no_longer_than_it_takes(self):
+    def test_a_listing_holds_up_edits_no_longer_than_it_takes(self) -> None:
         self.good.send(b''.join(b'by ann add wells POINT (%d %d)\n' % (i % 100, i // 100) for i in range(1000)))
         for _ in range(1000):
             self.good.reply()
@@ -441,7 +443,7 @@ class StrangeClients(Served):
 
 
 class Batches(Served):
-    def test_no_line_parts_a_batch(self):
+    def test_no_line_parts_a_batch(self) -> None:
         rights = rights_text(ann='user=%s editor=ann steward=yes' % own_user())
         serving = self.serve(rights=rights)
         self.ask(self.desk(serving), *WELLS)
@@ -462,7 +464,7 @@ class Batches(Served):
         lines = serving.script()[3:]
         self.assertEqual((len(lines), [lines[i:i + 3] for i in range(0, 450, 3)]), (450, [[line] * 3 for line in lines[::3]]))
 
-    def test_what_is_no_batch(self):
+    def test_what_is_no_batch(self) -> None:
         serving = self.serve('--line-seconds', '0.5')
         for text in (b'batch\n', b'batch 0\n', b'batch 1001\n', b'batch x\n', b'batch 2 2\n'):
             desk = self.desk(serving)
@@ -475,7 +477,7 @@ class Batches(Served):
 
 
 class WhoMay(Served):
-    def test_the_lines_of_another(self):
+    def test_the_lines_of_another(self) -> None:
         """What a client may say, by the rights; no refused line reaches the journal."""
         serving = self.serve(rights=rights_text(bob='user=%s editor=bob' % own_user()))
         desk = self.desk(serving)
@@ -486,13 +488,13 @@ class WhoMay(Served):
         self.assertEqual(self.ask(desk, 'begin bob', 'by bob undo', 'validate all', 'errors', 'end bob'),
                          ['ok', 'refused E22', 'ok judged 0 errors 0 dirty 0', 'total 0', 'ok'])
 
-    def test_who_only_looks(self):
+    def test_who_only_looks(self) -> None:
         serving = self.serve(rights=rights_text(eve='user=%s' % own_user()))
         self.assertEqual(self.ask(self.desk(serving), 'begin eve', 'by eve undo', 'features', 'validate all'),
                          ['refused forbidden', 'refused forbidden', 'total 0', 'ok judged 0 errors 0 dirty 0'])
 
     @unittest.skipUnless(IS_ROOT, 'only root can be another user')
-    def test_the_socket_of_another_user(self):
+    def test_the_socket_of_another_user(self) -> None:
         serving = self.serve('--mode', '666', rights=rights_text(ann='user=%s editor=ann' % own_user(), bob='user=12345 editor=bob'))
         os.chmod(self.folder, 0o755)
         self.assertEqual(self.desk(serving, OTHER_USER).reply(), ['refused forbidden'])
@@ -500,19 +502,19 @@ class WhoMay(Served):
         self.assertEqual(self.ask(self.desk(serving), 'begin ann', 'begin bob'), ['ok', 'refused forbidden'])
         self.assertIn(b'user 65534 is not in the file of rights', serving.told())
 
-    def test_a_user_who_is_not_in_the_file(self):
+    def test_a_user_who_is_not_in_the_file(self) -> None:
         serving = self.serve(rights=rights_text(ann='user=nobody-here editor=ann'))
         self.assertEqual(self.desk(serving).reply(), ['refused forbidden'])
 
     @unittest.skipUnless(IS_ROOT, 'only root can be another user')
-    def test_the_mode_of_the_socket(self):
+    def test_the_mode_of_the_socket(self) -> None:
         serving = self.serve('--mode', '600')
         os.chmod(self.folder, 0o755)
         with self.assertRaises(PermissionError):
             Desk(serving, OTHER_USER)
 
     @unittest.skipUnless(shutil.which('openssl'), 'openssl is not installed')
-    def test_certificates(self):
+    def test_certificates(self) -> None:
         office, other, port = Office(self.path('office'), ['ann', 'bob', 'carl']), Office(self.path('other'), ['ann']), free_port()
         serving = self.serve(*office.words(port), rights=rights_text(ann='certificate=ann editor=ann', bob='certificate=bob editor=bob'))
         desk = SecureDesk(office, port, 'ann')
@@ -531,7 +533,7 @@ class WhoMay(Served):
         self.no_secret(serving, office)
 
     @unittest.skipUnless(shutil.which('openssl'), 'openssl is not installed')
-    def test_the_desk_of_the_examples(self):
+    def test_the_desk_of_the_examples(self) -> None:
         office, port = Office(self.path('office'), ['bob']), free_port()
         serving = self.serve(*office.words(port), rights=RIGHTS + rights_text(bob='certificate=bob editor=bob'))
         desk = os.path.join(os.path.dirname(TOOLS), 'examples', 'desk')
@@ -541,7 +543,7 @@ class WhoMay(Served):
         done = self.run_words([desk, '127.0.0.1:%d' % port, *files], b'begin bob\nby bob add wells POINT (1 1)\n')
         self.assertEqual((done.out, done.told), ('ok\nok 1\n', ''))
 
-    def secure_reply(self, of: Office, port: int, name, office: Office):
+    def secure_reply(self, of: Office, port: int, name: Optional[str], office: Office) -> Optional[bytes]:
         """The reply to one who comes with a certificate of this name and authority; none where there is none."""
         context = of.context(name)
         context.load_verify_locations(office.path('authority.pem'))
@@ -565,7 +567,7 @@ class WhoMay(Served):
                     for line in file.read().splitlines()[1:-1]:
                         self.assertFalse(any(line in text for text in texts))
 
-    def test_rights_that_are_read_again(self):
+    def test_rights_that_are_read_again(self) -> None:
         serving = self.serve()
         desk = self.desk(serving)
         self.ask(desk, *WELLS)
@@ -578,7 +580,7 @@ class WhoMay(Served):
         self.assertEqual(desk.reply(), [])
         self.assertEqual(self.ask(self.desk(serving), 'by ann undo', 'begin bob'), ['refused forbidden', 'ok'])
 
-    def test_files_of_rights(self):
+    def test_files_of_rights(self) -> None:
         for text, want in (('[a b]', 'no name of a client'), ('[a]\neditor=1x', 'no name of an editor'), ('[a]\nrights=all', 'no key `rights`'),
                            ('[a]\nmark=perhaps', 'Not a boolean'), ('[a]\n[a]', 'already exists'), ('a=b', 'no section headers'),
                            ('[a]\neditor=x\n[b]\neditor=x', 'same editor'), ('[a]\nuser=x\n[b]\nuser=x', 'same user')):
@@ -592,14 +594,14 @@ class WhoMay(Served):
         os.write(file, text.encode())
         return file
 
-    def test_fields(self):
+    def test_fields(self) -> None:
         self.assertEqual(fields(b' by\t ann  add\r', 2), [b'by', b'ann'])
         self.assertEqual(fields(b'by', 2), [b'by'])
         self.assertEqual(fields(b'end ann\r', 3), [b'end', b'ann'])
 
 
 class Started(Served):
-    def test_one_service_a_folder(self):
+    def test_one_service_a_folder(self) -> None:
         first = self.serve()
         second = Serving(self.folder, RIGHTS)
         second.told_path = self.path('told of the second')
@@ -609,19 +611,19 @@ class Started(Served):
         self.assertIn(b'another service has', second.told())
         self.assertEqual(self.desk(first).ask('errors'), ['total 0'])
 
-    def test_begun_with_a_project(self):
+    def test_begun_with_a_project(self) -> None:
         self.run_words(PROGRAM + ['replay', '-', 'saved'], b'class wells point\nbegin ann\nby ann add wells POINT (3 4)\n')
         serving = self.serve('--from', self.path('saved'))
         self.assertEqual(self.desk(serving).ask('features'), ['feature 1 wells POINT (3 4)', 'total 1'])
 
-    def test_all_that_was_kept(self):
+    def test_all_that_was_kept(self) -> None:
         serving = self.serve()
         self.ask(self.desk(serving), *WELLS, 'by ann undo', 'errors')
         self.assertEqual(self.tool('serve', serving.town, '--script').out.splitlines(), [*WELLS, 'by ann undo'])
         told = self.tool('serve', serving.town, '--log').out.splitlines()
         self.assertRegex(told[3], r'^4 20\d\d-\d\d-\d\dT\d\d:\d\d:\d\d\.\d{3}Z ann by ann undo$')
 
-    def test_stopped_while_lines_are_on_their_way(self):
+    def test_stopped_while_lines_are_on_their_way(self) -> None:
         serving = self.serve()
         desk = self.desk(serving)
         self.ask(desk, *WELLS)
@@ -633,17 +635,17 @@ class Started(Served):
             answered += 1
         self.assertEqual(self.desk(serving.start()).ask('last'), ['ok %d %d ok %d' % (answered + 3, answered + 3, answered)])
 
-    def test_wrong_words(self):
-        for words in (['town'], ['town', '--rights', 'r', '--listen', 'localhost:1'], ['town', '--rights', 'r', '--key', 'k'], []):
+    def test_wrong_words(self) -> None:
+        for words in ('town',), ('town', '--rights', 'r', '--listen', 'localhost:1'), ('town', '--rights', 'r', '--key', 'k'), ():
             self.assertEqual(self.tool('serve', *words).status, 2)
         self.assertEqual(self.tool('serve', 'town', '--rights', 'missing').status, 1)
         with open(self.path('rights'), 'w', encoding='utf-8') as out:
             out.write(RIGHTS)
-        words = ['serve', 'town', '--rights', 'rights', '--program', shlex.join(PROGRAM)]
-        self.assertIn('nowhere to listen', self.tool(*words).told)
-        self.assertIn('status 11', self.tool('serve', 'new', *words[2:], '--socket', 's', '--from', 'missing').told)
+        rest = ['--rights', 'rights', '--program', shlex.join(PROGRAM)]
+        self.assertIn('nowhere to listen', self.tool('serve', 'town', *rest).told)
+        self.assertIn('status 11', self.tool('serve', 'new', *rest, '--socket', 's', '--from', 'missing').told)
 
-    def test_one_service_a_socket(self):
+    def test_one_service_a_socket(self) -> None:
         first = self.serve()
         second = Serving(self.path('second'), RIGHTS)
         self.addCleanup(second.end)
@@ -651,7 +653,7 @@ class Started(Served):
         self.assertEqual(second.start().wait(), 1)
         self.assertEqual(self.desk(first).ask('errors'), ['total 0'])
 
-    def test_started_by_systemd(self):
+    def test_started_by_systemd(self) -> None:
         """A socket that was opened before, and a word when it is ready."""
         told = socket.socket(socket.AF_UNIX, socket.SOCK_DGRAM)
         self.addCleanup(told.close)

@@ -1,4 +1,6 @@
 """tools/tiles: the merged errors of 16 tiles of a town are those of one run over all, under all rules."""
+from __future__ import annotations
+
 import os
 import shlex
 import shutil
@@ -9,7 +11,7 @@ from concurrent.futures import ThreadPoolExecutor
 import town_source
 from lib.replies import errors_of
 from lib.rules import KINDS_OF
-from working import PROGRAM, TOOLS, Case, by_lines, rectangle
+from working import PROGRAM, TOOLS, Case, Done, by_lines, rectangle
 
 CLASSES = {'polygon': ('parcels', 'easements'), 'line': ('streets', 'kerbs'), 'point': ('wells', 'taps')}
 TILES = 16
@@ -31,7 +33,7 @@ class Tiles(Case):
         with open(path + 'topo', 'rb') as script, open(path + 'replies', 'wb') as replies:
             return subprocess.run(PROGRAM + ['replay'], stdin=script, stdout=replies).returncode
 
-    def test_a_town_in_tiles_and_whole(self):
+    def test_a_town_in_tiles_and_whole(self) -> None:
         rules = self.built_rules()
         self.assertGreaterEqual(len(rules), 3)
         rows = int(os.environ.get('TOWN_ROWS', 60))
@@ -60,7 +62,7 @@ class Tiles(Case):
 
 
 class Ends(Case):
-    def test_beyond_the_reach(self):
+    def test_beyond_the_reach(self) -> None:
         """Lots 20 km apart at a millimetre, two of which overlap at each end."""
         lots = [rectangle(x, 0, x + 10, 10) for x in (0, 5, 20000, 20009)]
         self.source('far.gpkg', lots)
@@ -81,7 +83,7 @@ class Ends(Case):
         self.assertEqual([tuple(row.values()) for row in rows], [(1, 2, 5, 10), (3, 4, 20009, 20010)])
 
     @unittest.skipUnless(shutil.which('snakemake'), 'snakemake is not installed')
-    def test_the_snakefile(self):
+    def test_the_snakefile(self) -> None:
         crossed = {'type': 'Polygon', 'coordinates': [[[90, 0], [99, 9], [99, 0], [90, 9], [90, 0]]]}
         self.source('four lots.gpkg', [rectangle(x, 0, x + 11, 10) for x in range(0, 40, 10)] + [crossed], layer='my lots')
         root = os.path.dirname(TOOLS)
@@ -103,7 +105,7 @@ class Ends(Case):
 class Belonging(Case):
     """Tiles and replies that belong together, and others."""
 
-    def split(self, *words: str):
+    def split(self, *words: str) -> Done:
         return self.tool('tiles', 'split', 'row.gpkg', '--grid', '1', '--rule', 'polygon_must_not_overlap', 'lots', '--into', 'tiles', *words)
 
     def setUp(self) -> None:
@@ -123,7 +125,7 @@ class Belonging(Case):
             done = self.tool(tool, *words)
             self.assertEqual((done.status, done.out, done.told), (2, '', '%s: %s\n' % (tool, said)))
 
-    def test_a_folder_that_has_tiles_is_refused(self):
+    def test_a_folder_that_has_tiles_is_refused(self) -> None:
         before = sorted(os.listdir(self.path('tiles')))
         said = 'tiles: tiles has tiles or replies already, such as tiles/001.topo: remove them, or name another folder\n'
         self.assertEqual(tuple(self.split('--tiles', '2')), (2, '', said))
@@ -132,14 +134,14 @@ class Belonging(Case):
             os.rename(self.path('tiles/' + name), self.path('tiles/%s.replies' % name[:3]))
         self.assertEqual(tuple(self.split('--tiles', '2')), (2, '', said.replace('.topo', '.replies')))
 
-    def test_a_split_that_fails_leaves_no_tile(self):
+    def test_a_split_that_fails_leaves_no_tile(self) -> None:
         self.source('far.gpkg', [rectangle(x, 0, x + 10, 10) for x in (0, 20, 40, 10000000)])
         done = self.tool('tiles', 'split', 'far.gpkg', '--grid', '1', '--tiles', '2', '--into', 'others')
         self.assertEqual(done.status, 2)
         self.assertIn('others/001.topo: 2 subjects', done.told)
         self.assertEqual(os.listdir(self.path('others')), [])
 
-    def test_all_tiles_of_one_split(self):
+    def test_all_tiles_of_one_split(self) -> None:
         self.replay_all('001', '002', '003', '004')
         merged, table = self.tool('tiles', 'merge', 'tiles'), self.tool('report', 'tiles')
         self.assertEqual((merged.status, merged.out.splitlines()[-1]), (0, 'total 11'))
@@ -149,7 +151,7 @@ class Belonging(Case):
         self.refused('tiles/001.topo is tile 1 of 4, and not 1 of 3: these are not all tiles of one split, or more')
         self.assertEqual(self.tool('to-gis', 'tiles', 'out').status, 2)
 
-    def test_ids_of_a_table(self):
+    def test_ids_of_a_table(self) -> None:
         """The table of the whole names the features of each tile, whichever handles they have there."""
         shutil.rmtree(self.path('tiles'))
         self.assertEqual(self.split('--tiles', '4', '--id', 'nr', '--table', 'table.csv').status, 0)
@@ -166,14 +168,14 @@ class Belonging(Case):
         rows = self.rows('errors.gpkg', 'SELECT subject_id, other_id FROM error_polygons ORDER BY subject')
         self.assertEqual([tuple(row.values()) for row in rows], [('lot %d' % n, 'lot %d' % (n + 1)) for n in range(1, 12)])
 
-    def test_a_tile_twice(self):
+    def test_a_tile_twice(self) -> None:
         self.replay_all('001', '002', '003', '004')
         with open(self.path('tiles/003.topo'), encoding='utf-8') as script:
             text = script.read().replace('# neighbour', '# subject')
         self.replayed('tiles/003', text)
         self.refused('two tiles in tiles have the error 1 6 7: a feature is the subject of one alone')
 
-    def test_replies_of_another_tile(self):
+    def test_replies_of_another_tile(self) -> None:
         self.replay_all('001', '002', '003', '004')
         shutil.copy(self.path('tiles/002.replies'), self.path('tiles/001.replies'))
         self.refused('tiles/001.topo: line 22 cannot have the reply `ok 5`: the replies are not those of this script')
@@ -190,7 +192,7 @@ class Belonging(Case):
             self.replay_all('001')
             self.assertIn('cannot be one of this script', self.tool('report', 'tiles').told)
 
-    def test_without_replies_and_without_tiles(self):
+    def test_without_replies_and_without_tiles(self) -> None:
         self.refused('tiles/001.topo has no replies: there is no file tiles/001.replies')
         shutil.rmtree(self.path('tiles'))
         os.mkdir(self.path('tiles'))
@@ -198,7 +200,7 @@ class Belonging(Case):
         self.replayed('tiles/001', 'class lots polygon\ncells\n')
         self.refused('tiles/001.topo is no tile of tools/tiles')
 
-    def test_a_refused_line(self):
+    def test_a_refused_line(self) -> None:
         with open(self.path('tiles/001.topo'), 'a', encoding='utf-8') as script:
             script.write('frobnicate\n')
         self.replay_all('001', '002', '003', '004')

@@ -1,14 +1,17 @@
 """tools/to-gis: exact corners, dissolved cells that are valid, dirt, ids of the source, thin slivers, and both formats."""
+from __future__ import annotations
+
 import json
 import os
 import random
 import unittest
 from fractions import Fraction
+from typing import Any, Iterable
 
 from lib.cells import corners_of, cover_of, cover_of_error
 from lib.maps import Rounding, are_valid, geometries_of
 from lib.grid import Grid
-from lib.outlines import doubled_area, outlines_of
+from lib.outlines import Point, doubled_area, outlines_of
 from lib.replies import Error, Half, half_of
 from working import TOOLS, Case, by_lines, rectangle
 
@@ -16,7 +19,7 @@ UNIT = Grid(Fraction(1), Fraction(0), Fraction(0))
 
 
 class Layers(Case):
-    def test_three_faults_of_a_thousand_parcels(self):
+    def test_three_faults_of_a_thousand_parcels(self) -> None:
         done = self.run_words([os.path.join(os.path.dirname(TOOLS), 'examples', 'make_parcels'), 'town.gpkg'])
         self.assertEqual(done.status, 0, done.told)
         script = self.tool('from-ogr', 'town.gpkg', '--grid', '0.001', '--id', 'parcel', '--rule', 'polygon_must_not_overlap', 'parcels')
@@ -32,7 +35,7 @@ class Layers(Case):
         for row, of_both in zip(rows, common):
             self.assertAlmostEqual(row['a'], of_both['a'], 5)
 
-    def test_ids_of_a_field_of_each_layer(self):
+    def test_ids_of_a_field_of_each_layer(self) -> None:
         self.source('two.gpkg', [rectangle(0, 0, 9, 9)], layer='lots')
         self.source('two.gpkg', [rectangle(20, 0, 29, 9), rectangle(5, 0, 12, 9)], '-update', '-sql', 'SELECT nr AS name FROM lakes', layer='lakes')
         words = ['two.gpkg', '--grid', '1', '--rule', 'polygon_must_not_overlap_with', 'lots', 'lakes', '--id', 'lots', 'nr', '--id', 'lakes', 'name']
@@ -46,7 +49,7 @@ class Layers(Case):
         self.assertEqual(self.tool('to-gis', 'tiles', 'tiled.gpkg').status, 0)
         self.assertEqual([tuple(row.values()) for row in self.rows('tiled.gpkg', asked)], [('lots', 'N1', 'lakes', 'N2')])
 
-    def errors(self, *lines: str, words=()) -> dict:
+    def errors(self, *lines: str, words: Iterable[str] = ()) -> dict:
         """The layers of a script with two classes of lots, as GeoJSON, by name."""
         script = by_lines('# grid resolution 0.01', '# grid origin 100 200', 'class lots polygon', 'class wells point',
                           'rule polygon_must_not_overlap lots', 'rule point_must_be_disjoint wells', 'begin a', *lines)
@@ -58,14 +61,14 @@ class Layers(Case):
                 found[name] = json.load(file)['features']
         return found
 
-    def test_a_corner_off_the_grid_is_rounded_once(self):
+    def test_a_corner_off_the_grid_is_rounded_once(self) -> None:
         found = self.errors('by a add lots POLYGON ((0 0, 2 1, 0 2, 0 0))', 'by a add lots POLYGON ((0 1, 2 0, 2 3, 0 1))', 'validate all', 'cells')
         ring = found['error_polygons'][0]['geometry']['coordinates'][0][0]
-        exact = [(Fraction(100) + Fraction(x) / 100, Fraction(200) + Fraction(y) / 100) for x, y in
-                 ((0, 1), (1, Fraction(1, 2)), (2, 1), (Fraction(2, 3), Fraction(5, 3)))]
+        places: list[Point] = [(0, 1), (1, Fraction(1, 2)), (2, 1), (Fraction(2, 3), Fraction(5, 3))]
+        exact = [(Fraction(100) + Fraction(x) / 100, Fraction(200) + Fraction(y) / 100) for x, y in places]
         self.assertEqual(sorted(map(tuple, ring[1:])), sorted((float(x), float(y)) for x, y in exact))
 
-    def test_points_dirt_and_cells(self):
+    def test_points_dirt_and_cells(self) -> None:
         lines = ['by a add wells POINT (3 4)', 'by a add wells POINT (3 4)', 'by a add lots POLYGON ((0 0, 8 0, 8 4, 4 8, 0 8, 0 0))',
                  'by a add lots POLYGON ((2 2, 9 2, 9 6, 2 6, 2 2))', 'validate all', 'by a change 1 POINT (50 50)', 'by a delete 4', 'cells', 'dirty']
         found = self.errors(*lines)
@@ -75,11 +78,11 @@ class Layers(Case):
         by_cell = self.errors(*lines, words=['--cells'])
         self.assertEqual([len(by_cell[name]) for name in ('error_polygons', 'error_lines', 'error_points')], [2, 1, 1])
 
-    def test_errors_without_cells_are_frames(self):
+    def test_errors_without_cells_are_frames(self) -> None:
         found = self.errors('by a add wells POINT (3 4)', 'by a add wells POINT (3 4)', 'validate all', 'errors')
         self.assertEqual([each['properties']['drawn'] for each in found['error_points']], ['frame'])
 
-    def test_where_no_errors_are_listed_nothing_is_made(self):
+    def test_where_no_errors_are_listed_nothing_is_made(self) -> None:
         for lines in (['class lots polygon'], ['class lots polygon', 'dirty']):
             script, replies = self.replayed('s', by_lines(*lines))
             for out in ('out', 'out.gpkg'):
@@ -88,19 +91,19 @@ class Layers(Case):
                                  (2, 'to-gis: %s lists no errors: end it with the lines `cells` and `dirty`' % script))
                 self.assertFalse(os.path.exists(self.path(out)))
 
-    def test_ids_of_a_table_and_sizes(self):
+    def test_ids_of_a_table_and_sizes(self) -> None:
         script, replies = self.replayed('s', by_lines('# grid resolution 0.5', '# grid origin 0 0', 'class lots polygon', 'rule polygon_must_not_overlap lots', 'begin a',
                                                       '# fid 7 id "A"', 'by a add lots POLYGON ((0 0, 9 0, 9 9, 0 9, 0 0))',
                                                       'by a add lots POLYGON ((7 0, 12 0, 12 4, 7 4, 7 0))', 'validate all', 'cells', 'dirty'))
-        with open(self.path('names.csv'), 'w', encoding='utf-8') as out:
-            out.write('handle,fid,id,owner\n2,8,B,Dorn\n')
+        with open(self.path('names.csv'), 'w', encoding='utf-8') as names:
+            names.write('handle,fid,id,owner\n2,8,B,Dorn\n')
         for out in ('out.gpkg', 'out/error_polygons.geojson'):
             self.assertEqual(self.tool('to-gis', script, replies, out.split('/')[0], '--table', 'names.csv').status, 0)
             asked = 'SELECT subject_fid, subject_id, other_fid, other_id, subject_owner, other_owner, area FROM error_polygons'
             self.assertEqual(self.rows(out, asked), [{'subject_fid': 7, 'subject_id': 'A', 'other_fid': 8, 'other_id': 'B', 'subject_owner': None,
                                                       'other_owner': 'Dorn', 'area': 2}])
 
-    def test_an_older_output_stays_where_nothing_can_be_made(self):
+    def test_an_older_output_stays_where_nothing_can_be_made(self) -> None:
         good, bad = self.replayed('good', 'class lots polygon\nerrors\ndirty\n'), self.replayed('bad', 'class lots polygon\ndirty\n')
         for out in ('out/error_lines.geojson', 'out.gpkg'):
             self.assertEqual(self.tool('to-gis', *good, out.split('/')[0]).status, 0)
@@ -111,7 +114,7 @@ class Layers(Case):
                 self.assertEqual(file.read(), before)
             self.assertEqual([name for name in os.listdir(self.folder) if name.startswith('.')], [])
 
-    def test_replies_of_another_script(self):
+    def test_replies_of_another_script(self) -> None:
         script, replies = self.replayed('s', 'class lots polygon\nclass more polygon\n')
         with open(script, 'a', encoding='utf-8') as out:
             out.write('cells\n')
@@ -120,9 +123,10 @@ class Layers(Case):
 
 
 class Overlaps(Case):
-    def test_overlaps_by_lot_are_valid_and_keep_their_areas(self):
+    def test_overlaps_by_lot_are_valid_and_keep_their_areas(self) -> None:
         """Polygons on a small grid, with holes and pinches, against the areas of GEOS."""
-        lot, rows, lines = random.Random(11), [], ['class lots polygon', 'rule polygon_must_not_overlap lots', 'begin a']
+        rows: list[Any] = []
+        lot, lines = random.Random(11), ['class lots polygon', 'rule polygon_must_not_overlap lots', 'begin a']
         for _ in range(250):
             rings = [[(lot.randint(0, 7), lot.randint(0, 7)) for _ in range(lot.randint(3, 7))] for _ in range(lot.choice((1, 2)))]
             lines.append('by a add lots POLYGON (%s)' % ', '.join('(%s)' % ', '.join('%d %d' % p for p in ring + ring[:1]) for ring in rings))
@@ -156,7 +160,7 @@ class Lines(unittest.TestCase):
                  for _ in range(lot.randint(1, 6))]
         return Error('error', 1, 1, 2, 'cells', (number() - 4, number() - 4, number() + 4, number() + 4), [lot.sample(cell, len(cell)) for cell in cells])
 
-    def test_cells_on_lines_cover_what_they_cover_in_the_plane(self):
+    def test_cells_on_lines_cover_what_they_cover_in_the_plane(self) -> None:
         lot, kinds = random.Random(5), [0, 0]
         for _ in range(1500):
             error = self.error(lot)
@@ -168,20 +172,22 @@ class Lines(unittest.TestCase):
 
 
 class Outlines(unittest.TestCase):
-    def test_what_holds_and_pinches(self):
-        square = lambda x, y: [(Fraction(a), Fraction(b)) for a, b in ((x, y), (x + 1, y), (x + 1, y + 1), (x, y + 1))]
+    def test_what_holds_and_pinches(self) -> None:
+        def square(x: int, y: int) -> list[Point]:
+            return [(Fraction(a), Fraction(b)) for a, b in ((x, y), (x + 1, y), (x + 1, y + 1), (x, y + 1))]
+
         ring = [square(x, y) for x in range(3) for y in range(3) if (x, y) != (1, 1)]
         self.assertEqual([len(of.holes) for of in outlines_of(ring)], [1])
         self.assertEqual([len(of.holes) for of in outlines_of([square(0, 0), square(1, 1)])], [0, 0])
-        area = sum(doubled_area(of.shell) + sum(map(doubled_area, of.holes)) for of in outlines_of(ring[1:]))
+        area = sum(doubled_area(side) for of in outlines_of(ring[1:]) for side in [of.shell, *of.holes])
         self.assertEqual(area, 14)
 
-    def test_a_wall_beside_a_column_and_one_within(self):
+    def test_a_wall_beside_a_column_and_one_within(self) -> None:
         texts = '1 0 0 >, -1 0 4 >, 0 1 0 >, 0 -1 4 >', '1 0 -4 =, 0 1 0 >, 0 -1 6 >', '1 0 -2 =, 0 1 0 >, 0 -1 4 >', '1 0 -4 =, 0 1 -5 ='
         cover = cover_of([corners_of((0, 0, 9, 9), cell_of(text)) for text in texts])
         self.assertEqual([len(cover.polygons), cover.lines, cover.points], [1, [((4, 4), (4, 6))], []])
 
-    def test_a_sliver_too_thin_for_double_precision(self):
+    def test_a_sliver_too_thin_for_double_precision(self) -> None:
         far = Grid(Fraction(1), Fraction(2) ** 52, Fraction(2) ** 52)
         thin = Error('error', 1, 1, 2, 'cells', (0, 0, 9, 1), [cell_of('1 0 0 >, -1 0 9 >, 0 1 0 >, 0 -3 1 >')])
         found, as_asked = geometries_of(thin, Rounding(far), False)

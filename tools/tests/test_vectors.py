@@ -41,7 +41,7 @@ def exactly(number: float, step: Fraction, origin: Fraction) -> tuple[int, Fract
 
 
 class Numbers(unittest.TestCase):
-    def test_lines_of_the_grid(self):
+    def test_lines_of_the_grid(self) -> None:
         lot = random.Random(5)
         for step, origin in ((Fraction(step), Fraction(origin)) for step in STEPS for origin in ORIGINS):
             axis = Axis(step, origin)
@@ -55,7 +55,7 @@ class Numbers(unittest.TestCase):
                     self.assertEqual(axis.lines([number]), ([line], moved))
 
     @unittest.skipIf(np is None, 'numpy is not installed')
-    def test_lines_of_many_numbers(self):
+    def test_lines_of_many_numbers(self) -> None:
         lot = random.Random(6)
         for step, origin in ((Fraction(step), Fraction(origin)) for step in STEPS for origin in ORIGINS):
             axis = Axis(step, origin)
@@ -75,7 +75,8 @@ class Numbers(unittest.TestCase):
 class Clashes(unittest.TestCase):
     def rings(self) -> list[list[list[tuple[int, int]]]]:
         """Small polygons of one ring or two, with touches, crossings and folds."""
-        lot, found = random.Random(3), []
+        lot = random.Random(3)
+        found: list[list[list[tuple[int, int]]]] = []
         while len(found) < 20 * ROUNDS:
             size = lot.choice([3, 4, 6, 20])
             rings = [[(lot.randint(0, size), lot.randint(0, size)) for _ in range(lot.randint(3, 9))] for _ in range(lot.choice([1, 1, 2]))]
@@ -83,14 +84,14 @@ class Clashes(unittest.TestCase):
                 found.append(rings)
         return found
 
-    def test_sides_that_clash(self):
+    def test_sides_that_clash(self) -> None:
         polygons = self.rings()
         expected = [first_clash(segments_of([rings])) is not None for rings in polygons]
         self.assertEqual([has_clash([side for ring in rings for side in sides_of(ring + ring[:1])]) for rings in polygons], expected)
         self.assertGreater(min(expected.count(True), expected.count(False)), len(expected) // 10)
 
     @unittest.skipIf(np is None, 'numpy is not installed')
-    def test_sides_of_many_polygons(self):
+    def test_sides_of_many_polygons(self) -> None:
         polygons = self.rings()
         closed = [(number, ring + ring[:1]) for number, rings in enumerate(polygons) for ring in rings]
         x, y = (np.array([place[axis] for _, ring in closed for place in ring]) for axis in (0, 1))
@@ -102,7 +103,7 @@ class Clashes(unittest.TestCase):
 
 
 class Bytes(unittest.TestCase):
-    def test_bytes_that_are_no_geometry(self):
+    def test_bytes_that_are_no_geometry(self) -> None:
         """Any bytes are a geometry or none: no other fault, and no wait."""
         lot = random.Random(8)
         good = bytes.fromhex('0106000000010000000103000000010000000400000000000000000000000000000000000000000000000000f03f00000000000000000000000000'
@@ -158,7 +159,7 @@ class Ways(Case):
             told = re.sub(r'^[0-9,]+ of [0-9,]+ features\n', '', done.told, flags=re.M)
             return done.status, done.out, told, table.read()
 
-    def test_both_ways_give_the_same_bytes(self):
+    def test_both_ways_give_the_same_bytes(self) -> None:
         self.write_shapes()
         fields = ['text', 'whole', 'real', 'day', 'time']
         for number, (source, grid) in enumerate((source, grid) for source in ('shapes.gpkg', 'shapes.sqlite') for grid in ('0.001', '0.25', '3')):
@@ -172,7 +173,7 @@ class Ways(Case):
         with open(self.path(name), encoding='utf-8') as text:
             return text.read()
 
-    def test_tiles_by_both_ways(self):
+    def test_tiles_by_both_ways(self) -> None:
         self.write_shapes()
         texts = []
         for way in ('bindings', 'programs'):

@@ -5,7 +5,7 @@ import json
 import os
 import subprocess
 import sys
-from typing import Iterator
+from typing import Iterator, Sequence
 
 ROOT = os.path.dirname(os.path.dirname(os.path.dirname(os.path.abspath(__file__))))
 sys.path.append(os.path.join(ROOT, 'bench'))
@@ -33,7 +33,7 @@ def streets(town: Town) -> Iterator[list]:
         yield [town.corner(line, 2 * column + half) for half in range(0, 11)]
 
 
-def moved(shape):
+def moved(shape: Sequence) -> list:
     """A list of places, or of such lists, in metres of the source."""
     if isinstance(shape[0], int):
         return [(EAST + shape[0]) / 100, (NORTH + shape[1]) / 100]

@@ -7,7 +7,7 @@ import shutil
 import subprocess
 import tempfile
 import unittest
-from typing import NamedTuple
+from typing import NamedTuple, Sequence
 
 TOOLS = os.path.dirname(os.path.dirname(os.path.abspath(__file__)))
 PROGRAM = os.environ.get('TOPO', os.path.join(os.path.dirname(TOOLS), '.build', 'topo')).split('\n')
@@ -64,8 +64,8 @@ class Case(unittest.TestCase):
         return [json.loads(line)['properties'] for line in done.out.splitlines()]
 
 
-def polygon(*rings: list[tuple[float, float]]) -> dict:
-    return {'type': 'Polygon', 'coordinates': [[list(p) for p in ring + ring[:1]] for ring in rings]}
+def polygon(*rings: Sequence[tuple[float, float]]) -> dict:
+    return {'type': 'Polygon', 'coordinates': [[list(p) for p in [*ring, *ring[:1]]] for ring in rings]}
 
 
 def rectangle(x0: float, y0: float, x1: float, y1: float) -> dict:

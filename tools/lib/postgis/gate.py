@@ -15,7 +15,7 @@ class Guest:
     """A commit that asks: it sends its changes in one line, and gets what stands against them in one. If it goes away its commit has
     failed, which is no fault of the service."""
 
-    def __init__(self, link: socket.socket):
+    def __init__(self, link: socket.socket) -> None:
         self.link = link
         self.link.settimeout(PATIENCE)
         self.file = link.makefile('rw', encoding='utf-8')
@@ -39,7 +39,7 @@ class Guest:
 class Door:
     """A socket in the file system."""
 
-    def __init__(self, path: str):
+    def __init__(self, path: str) -> None:
         self.path = path
         if os.path.exists(path):
             os.remove(path)

@@ -6,7 +6,7 @@ from dataclasses import dataclass, field
 from typing import Iterable, NamedTuple, Optional
 
 from ..grid import REACH, Grid
-from ..replies import Frame
+from ..replies import Frame, frame_of
 from ..scripts import LeftOut, class_name
 from .blocks import Block, Difference, Key, blocks_of, difference_of, joined
 from .lens import Lens
@@ -99,7 +99,7 @@ class Errors:
 class Judge:
     """A run of topo with the classes and the rules of the tables, and a lens beside it."""
 
-    def __init__(self, program: list[str], grid: Grid, kinds: dict[str, str], rules: list[Rule]):
+    def __init__(self, program: list[str], grid: Grid, kinds: dict[str, str], rules: list[Rule]) -> None:
         self.run, self.units, self.kinds = Run(program), Units(grid), kinds
         self.rules: dict[int, Rule] = dict(enumerate(rules, 1))
         self.handles: dict[Place, int] = {}
@@ -200,7 +200,7 @@ class Judge:
     def dirty(self) -> list[Frame]:
         """The dirty areas, in grid units."""
         lines = self.run.listing('dirty').decode('ascii').splitlines()
-        return [tuple(map(int, line.split()[1:])) for line in lines]
+        return [frame_of(line.split()[1:]) for line in lines]
 
     def validate(self, window: str = 'all') -> None:
         """Judges what is dirty, all of it or in a window."""

@@ -16,7 +16,7 @@ MOST_BYTES = 200 << 20
 class Lens:
     """A run that is given some features, and forgets them."""
 
-    def __init__(self, program: list[str], head: list[str]):
+    def __init__(self, program: list[str], head: list[str]) -> None:
         self.program, self.head = program, head
         self.run = self.begun()
 

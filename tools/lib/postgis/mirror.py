@@ -4,7 +4,7 @@ from __future__ import annotations
 import re
 from typing import Iterable, NamedTuple, Optional
 
-from ..replies import Frame
+from ..replies import Frame, meet
 
 NUMBER = re.compile(r'-?\d+')
 # An envelope that meets more squares stands apart.
@@ -22,10 +22,6 @@ def envelope_of(text: str) -> Frame:
     numbers = list(map(int, NUMBER.findall(text))) or [0, 0]
     xs, ys = numbers[::2], numbers[1::2]
     return min(xs), min(ys), max(xs), max(ys)
-
-
-def meet(a: Frame, b: Frame) -> bool:
-    return a[0] <= b[2] and b[0] <= a[2] and a[1] <= b[3] and b[1] <= a[3]
 
 
 class Mirror:

@@ -19,7 +19,7 @@ class Ended(Exception):
 class Run:
     """A run of `topo replay`; `sent` counts the bytes of its lines."""
 
-    def __init__(self, program: list[str]):
+    def __init__(self, program: list[str]) -> None:
         self.process = subprocess.Popen(program + ['replay'], stdin=subprocess.PIPE, stdout=subprocess.PIPE, bufsize=0)
         self.rest = b''
         self.sent = 0

@@ -11,7 +11,8 @@ import time
 from typing import Iterable, NamedTuple, Optional, TextIO
 
 import psycopg2
-import psycopg2.extensions
+import psycopg2.errors
+from psycopg2.extensions import cursor as Cursor
 
 from ..grid import exact
 from .gate import Door
@@ -62,7 +63,7 @@ def transactions_of(rows: Iterable[tuple]) -> list[Transaction]:
 class Service:
     """One topo beside one database."""
 
-    def __init__(self, dsn: str, program: list[str], log: Optional[TextIO] = None):
+    def __init__(self, dsn: str, program: list[str], log: Optional[TextIO] = None) -> None:
         self.program, self.log = program, log
         self.db, self.ear = psycopg2.connect(dsn), psycopg2.connect(dsn)
         self.db.set_session(isolation_level='REPEATABLE READ')
@@ -111,7 +112,7 @@ class Service:
         say('%s features, %s left out, %s errors; judged after %.1f s' % (
             format(len(self.judge.handles), ','), format(len(outcome.refused), ','), format(len(self.tables.ids), ','), time.monotonic() - since))
 
-    def write_errors_anew(self, cursor) -> None:
+    def write_errors_anew(self, cursor: Cursor) -> None:
         """Sets the marks of errors that have the same cells as when they were marked, and writes all errors."""
         found, same, lapsed = self.judge.whole(), [], []
         exceptions = self.tables.exceptions(cursor)
@@ -125,7 +126,7 @@ class Service:
         self.tables.lapse(cursor, lapsed)
         self.tables.write_anew(cursor, [self.judge.errors.by_key[block.key] for block in found.come], self.judge)
 
-    def is_faulty(self, cursor) -> bool:
+    def is_faulty(self, cursor: Cursor) -> bool:
         """Whether tables cannot be followed as they are. Then it is said, in the tables too, and what stands there stays."""
         faults = faults_of(cursor)
         if not faults:
@@ -144,7 +145,7 @@ class Service:
 
     # ---- what comes after
 
-    def check(self, cursor) -> None:
+    def check(self, cursor: Cursor) -> None:
         """Raises Anew where what is followed is not what it was, or the run of topo has taken all that it may."""
         if signature_of(cursor) != self.signature:
             raise Anew('the tables or the rules have changed')
@@ -178,7 +179,7 @@ class Service:
             self.judge.missed = 0
         return len(transactions) + len(wishes)
 
-    def edit(self, cursor, transactions: list[Transaction]) -> None:
+    def edit(self, cursor: Cursor, transactions: list[Transaction]) -> None:
         outcome = Outcome()
         for transaction in transactions:
             outcome.add(self.judge.session(transaction.who, transaction.edits.values()))
@@ -195,7 +196,7 @@ class Service:
             xs, ys = ([grid.units(exact(text), origin)[0] for text in of] for of, origin in (((x0, x1), grid.x), ((y0, y1), grid.y)))
             self.judge.validate_window((min(xs), min(ys), max(xs), max(ys)))
 
-    def mark(self, cursor, wishes: list[tuple]) -> None:
+    def mark(self, cursor: Cursor, wishes: list[tuple]) -> None:
         """Marks errors, and takes marks away; what has changed since somebody saw it is another error, and stays as it is."""
         keys = {number: key for key, number in self.tables.ids.items()} if wishes else {}
         for word, number, note, who in wishes:
@@ -245,7 +246,7 @@ class Keeper:
     """Keeps a service: whenever the link, the run of topo or a transaction fails, a new one begins, after a pause that grows while none
     does."""
 
-    def __init__(self, dsn: str, program: list[str], log: Optional[TextIO] = None):
+    def __init__(self, dsn: str, program: list[str], log: Optional[TextIO] = None) -> None:
         self.dsn, self.program, self.log = dsn, program, log
         self.pause, self.has_begun = FIRST_PAUSE, False
 

@@ -4,9 +4,10 @@ from __future__ import annotations
 import os
 from dataclasses import dataclass, field
 from fractions import Fraction
-from typing import NamedTuple, Optional
+from typing import Any, NamedTuple, Optional
 
 import psycopg2
+from psycopg2.extensions import connection as Connection, cursor as Cursor
 
 from ..grid import Grid, chosen_grid, decimal_text, exact
 from ..ogr import KINDS
@@ -48,18 +49,18 @@ class Asked:
     socket: Optional[str] = None
 
 
-def one(cursor, text: str, of: tuple = ()):
+def one(cursor: Cursor, text: str, of: tuple = ()) -> Any:
     """The first value of the first row; none where there is no row."""
     cursor.execute(text, of)
     row = cursor.fetchone()
     return row and row[0]
 
 
-def schema_of(cursor, extension: str) -> Optional[str]:
+def schema_of(cursor: Cursor, extension: str) -> Optional[str]:
     return one(cursor, 'select quote_ident(n.nspname) from pg_extension e join pg_namespace n on n.oid = e.extnamespace where extname = %s', (extension,))
 
 
-def key_of(cursor, relation: str, asked: str) -> str:
+def key_of(cursor: Cursor, relation: str, asked: str) -> str:
     """The column by which users know a row: unique, the one that is asked for, or the primary key."""
     cursor.execute('select a.attname, i.indisprimary from pg_index i join pg_attribute a on a.attrelid = i.indrelid and a.attnum = i.indkey[0] '
                    'where i.indrelid = %s::regclass and i.indisunique and i.indnkeyatts = 1 and i.indpred is null order by not i.indisprimary', (relation,))
@@ -70,7 +71,7 @@ def key_of(cursor, relation: str, asked: str) -> str:
     return found[0]
 
 
-def geometry_of(cursor, relation: str, asked: str) -> tuple[str, str, int]:
+def geometry_of(cursor: Cursor, relation: str, asked: str) -> tuple[str, str, int]:
     """The column of the geometries, the kind of its features, the number of its coordinate system."""
     cursor.execute("select attname, postgis_typmod_type(atttypmod), postgis_typmod_srid(atttypmod) from pg_attribute "
                    "where attrelid = %s::regclass and atttypid = 'geometry'::regtype and not attisdropped and (%s in ('', attname)) order by attnum",
@@ -88,7 +89,7 @@ def geometry_of(cursor, relation: str, asked: str) -> tuple[str, str, int]:
     return name, KINDS[word], srid
 
 
-def table_of(cursor, words: list[str]) -> Table:
+def table_of(cursor: Cursor, words: list[str]) -> Table:
     """A table by the words TABLE [CLASS [KEY [GEOMETRY]]]."""
     name, of_class, key, geometry = (words + [''] * 3)[:4]
     relation = one(cursor, 'select to_regclass(%s)::text', (name,))
@@ -101,7 +102,7 @@ def table_of(cursor, words: list[str]) -> Table:
     return Table(relation, of_class, kind, key_of(cursor, relation, key), column, srid)
 
 
-def grid_of(cursor, asked: Asked, tables: list[Table]) -> Grid:
+def grid_of(cursor: Cursor, asked: Asked, tables: list[Table]) -> Grid:
     """The grid of the first set-up: with the origin that is given, or one in the middle of the extent."""
     if not asked.grid or not tables:
         raise SetupError('the first set-up needs --grid and a --table')
@@ -109,11 +110,12 @@ def grid_of(cursor, asked: Asked, tables: list[Table]) -> Grid:
     if resolution <= 0:
         raise SetupError('the grid has to be over 0')
     if asked.origin:
-        return Grid(resolution, *map(exact, asked.origin))
+        x, y = map(exact, asked.origin)
+        return Grid(resolution, x, y)
     every = ' union all '.join('select %s from %s' % (quoted(of.geometry), of.relation) for of in tables)
     cursor.execute('select st_xmin(e), st_ymin(e), st_xmax(e), st_ymax(e) from (select st_extent(g) as e from (%s) s(g)) t' % every)
-    extent = [Fraction(repr(number or 0.0)) for number in cursor.fetchone()]
-    return chosen_grid(resolution, tuple(extent), '')
+    x0, y0, x1, y1 = (Fraction(repr(number or 0.0)) for number in cursor.fetchone())
+    return chosen_grid(resolution, (x0, y0, x1, y1), '')
 
 
 def script(name: str, srid: int, postgis: str, rowlocks: str = '') -> str:
@@ -122,7 +124,7 @@ def script(name: str, srid: int, postgis: str, rowlocks: str = '') -> str:
         return file.read().replace('@SRID@', str(srid)).replace('@POSTGIS@', postgis).replace('@ROWLOCKS@', rowlocks)
 
 
-def create(cursor, asked: Asked, tables: list[Table], postgis: str) -> list[str]:
+def create(cursor: Cursor, asked: Asked, tables: list[Table], postgis: str) -> list[str]:
     """Makes the schema; what cannot be had is told."""
     grid, srid = grid_of(cursor, asked, tables), tables[0].srid
     cursor.execute(script('schema.sql', srid, postgis))
@@ -139,7 +141,7 @@ def create(cursor, asked: Asked, tables: list[Table], postgis: str) -> list[str]
     return told
 
 
-def follow(cursor, tables: list[Table]) -> None:
+def follow(cursor: Cursor, tables: list[Table]) -> None:
     srid = one(cursor, 'select srid from topo.setting')
     for table in tables:
         if table.srid != srid:
@@ -147,11 +149,11 @@ def follow(cursor, tables: list[Table]) -> None:
         cursor.execute('call topo.watch(%s::regclass, %s, %s, %s, %s)', (table.relation, table.of_class, table.kind, table.key, table.geometry))
 
 
-def put_rules(cursor, asked: Asked) -> None:
+def put_rules(cursor: Cursor, asked: Asked) -> None:
     """Puts rules in force, and takes others out of it; none may be left that speaks of a class that is none."""
     cursor.execute('delete from topo.rule where number = any(%s)', (asked.dropped,))
     cursor.execute('select class, kind from topo.source')
-    kinds = dict(cursor.fetchall())
+    kinds: dict[str, str] = {of_class: kind for of_class, kind in cursor.fetchall()}
     for words in asked.rules:
         _, word, of_class, *other = rule_line(words, kinds).split()
         cursor.execute('insert into topo.rule select coalesce(max(number), 0) + 1, %s, %s, %s from topo.rule on conflict do nothing',
@@ -161,7 +163,7 @@ def put_rules(cursor, asked: Asked) -> None:
         raise SetupError('the rule %d, %s, would have lost its class: --drop-rule %d' % (number, word, number))
 
 
-def put_gate(cursor, socket: str, srid: int, postgis: str) -> None:
+def put_gate(cursor: Cursor, socket: str, srid: int, postgis: str) -> None:
     """Lets commits ask at a socket, or no longer where it is empty."""
     cursor.execute('update topo.setting set socket = %s', (socket or None,))
     if socket:
@@ -170,7 +172,7 @@ def put_gate(cursor, socket: str, srid: int, postgis: str) -> None:
         cursor.execute('drop trigger if exists topo_gate on topo.change')
 
 
-def grant(cursor, roles: list[str]) -> None:
+def grant(cursor: Cursor, roles: list[str]) -> None:
     """Lets roles see the tables, mark errors and ask for validations."""
     for role in map(quoted, roles):
         held = ['held'] if one(cursor, "select to_regclass('topo.held')") else []
@@ -179,7 +181,7 @@ def grant(cursor, roles: list[str]) -> None:
         cursor.execute('grant update (mark, note) on topo.error to %s' % role)
 
 
-def set_up(db, asked: Asked) -> list[str]:
+def set_up(db: Connection, asked: Asked) -> list[str]:
     """Does all that is asked for, in one transaction, or nothing; lines that tell of it."""
     with db, db.cursor() as cursor:
         postgis = schema_of(cursor, 'postgis')
@@ -201,7 +203,7 @@ def set_up(db, asked: Asked) -> list[str]:
         return told + ['%s is the class %s of %ss, known by %s' % (of.relation, of.of_class, of.kind, of.key) for of in tables]
 
 
-def remove(db) -> None:
+def remove(db: Connection) -> None:
     """Takes the schema and the triggers away; the users' tables stay as they are."""
     with db, db.cursor() as cursor:
         cursor.execute('drop schema if exists topo cascade')

@@ -3,6 +3,8 @@ from __future__ import annotations
 
 from typing import Iterator, NamedTuple
 
+from psycopg2.extensions import cursor as Cursor
+
 from ..grid import Grid, exact
 from .judge import Edit, Rule
 
@@ -32,7 +34,7 @@ class Setting(NamedTuple):
         return {source.of_class: source.kind for source in self.sources}
 
 
-def setting_of(cursor) -> Setting:
+def setting_of(cursor: Cursor) -> Setting:
     """The setting as the cursor's transaction sees it."""
     cursor.execute('select grid, x, y, srid, validates, coalesce(socket, %s) from topo.setting', ('',))
     resolution, x, y, srid, validates, socket = cursor.fetchone()
@@ -43,12 +45,12 @@ def setting_of(cursor) -> Setting:
     return Setting(Grid(exact(resolution), exact(x), exact(y)), srid, validates, socket, sources, rules)
 
 
-def signature_of(cursor) -> str:
+def signature_of(cursor: Cursor) -> str:
     cursor.execute('select topo.signature()')
     return cursor.fetchone()[0]
 
 
-def faults_of(cursor) -> list[str]:
+def faults_of(cursor: Cursor) -> list[str]:
     """Why tables cannot be followed as they are."""
     cursor.execute('select * from topo.faults()')
     return [text for text, in cursor]
@@ -58,7 +60,7 @@ def quoted(name: str) -> str:
     return '"%s"' % name.replace('"', '""')
 
 
-def rows_of(cursor, source: Source) -> Iterator[Edit]:
+def rows_of(cursor: Cursor, source: Source) -> Iterator[Edit]:
     """The rows of a table, in the order in which they were first taken; new ones behind the others, by their keys."""
     key, geometry = quoted(source.key), quoted(source.geometry)
     cursor.execute('select t.%s::text, st_astext(st_force2d(t.%s)) from %s t left join topo.feature f on f.class = %%s and f.key = t.%s::text '

@@ -4,6 +4,7 @@ from __future__ import annotations
 import io
 from typing import Iterable, Optional
 
+from psycopg2.extensions import cursor as Cursor
 from psycopg2.extras import execute_values
 
 from ..cells import rectangle
@@ -27,7 +28,7 @@ def name_of(rule: Rule, subject: Place, other: Place) -> Name:
 class Tables:
     """Writes what has changed, by the cursor of the batch's transaction."""
 
-    def __init__(self, grid: Grid, srid: int):
+    def __init__(self, grid: Grid, srid: int) -> None:
         self.rounding, self.srid = Rounding(grid), srid
         self.ids: dict[Key, int] = {}                      # of the errors that stand
         self.next_id = self.next_number = 1
@@ -48,7 +49,7 @@ class Tables:
         rule, subject, other = judge.rule_and_places(block.key)
         return (number, rule.number, rule.word, *subject, *other, block.text.split(' ', 1)[0], block.mark, note, block.text, *self.places(block))
 
-    def insert(self, cursor, blocks: Iterable[Block], judge: Judge) -> None:
+    def insert(self, cursor: Cursor, blocks: Iterable[Block], judge: Judge) -> None:
         """Adds errors, each under a new number."""
         rows = []
         for block in blocks:
@@ -58,11 +59,11 @@ class Tables:
         place = 'st_geomfromtext(%%s, %d)' % self.srid
         execute_values(cursor, 'insert into topo.found values %s', rows, '(%s)' % ', '.join(['%s'] * 11 + [place] * 3))
 
-    def delete(self, cursor, numbers: list[int]) -> None:
+    def delete(self, cursor: Cursor, numbers: list[int]) -> None:
         if numbers:
             cursor.execute('delete from topo.found where id = any(%s)', (numbers,))
 
-    def write(self, cursor, found: Difference, judge: Judge) -> None:
+    def write(self, cursor: Cursor, found: Difference, judge: Judge) -> None:
         """The errors that came, went, or have another mark; marks that went with their errors lapse."""
         self.delete(cursor, [self.ids.pop(block.key) for block in found.gone])
         self.insert(cursor, found.come, judge)
@@ -73,11 +74,11 @@ class Tables:
 
     # ---- exceptions
 
-    def lapse(self, cursor, names: Iterable[Name]) -> None:
+    def lapse(self, cursor: Cursor, names: Iterable[Name]) -> None:
         for name in names:
             cursor.execute('update topo.exception set lapsed = clock_timestamp() where lapsed is null and ' + SAME, name)
 
-    def except_error(self, cursor, number: int, who: str, note: str) -> None:
+    def except_error(self, cursor: Cursor, number: int, who: str, note: str) -> None:
         """Writes an exception down, by the number of its error; one of the same name that stood or lapsed goes."""
         cursor.execute('delete from topo.exception e using topo.found f where f.id = %s and ' + OF_ERROR, (number,))
         cursor.execute('update topo.found set note = %s where id = %s', (note, number))
@@ -85,18 +86,18 @@ class Tables:
                        'select rule, word, class, subject, other_class, other, %s, %s, listing, '
                        'st_collect(array_remove(array[polygons::geometry, lines, points], null)) from topo.found where id = %s', (who, note, number))
 
-    def drop_exception(self, cursor, number: int) -> None:
+    def drop_exception(self, cursor: Cursor, number: int) -> None:
         cursor.execute('delete from topo.exception e using topo.found f where f.id = %s and ' + OF_ERROR, (number,))
         cursor.execute("update topo.found set note = '' where id = %s", (number,))
 
-    def exceptions(self, cursor) -> list[tuple[Name, str]]:
+    def exceptions(self, cursor: Cursor) -> list[tuple[Name, str]]:
         """The exceptions that stand, with the listings of their errors."""
         cursor.execute('select rule, class, subject, other_class, other, listing from topo.exception where lapsed is null')
-        return [(tuple(row[:5]), row[5]) for row in cursor]
+        return [((rule, of_class, subject, other_class, other), listing) for rule, of_class, subject, other_class, other, listing in cursor]
 
     # ---- rows that are features, and those that are none
 
-    def write_rows(self, cursor, outcome: Outcome, handles: dict[Place, int]) -> None:
+    def write_rows(self, cursor: Cursor, outcome: Outcome, handles: dict[Place, int]) -> None:
         """What became of rows in a batch, in which a row may have come and gone; the features have these handles after it."""
         gone = list(dict.fromkeys(outcome.gone))
         come = sorted({place for place in outcome.come if place in handles}, key=handles.__getitem__)
@@ -105,7 +106,7 @@ class Tables:
         self.number(cursor, come)
         self.refuse(cursor, outcome.touched, {refusal.place: refusal for refusal in outcome.refused if refusal.place not in handles})
 
-    def number(self, cursor, places: list[Place]) -> None:
+    def number(self, cursor: Cursor, places: list[Place]) -> None:
         """Numbers features in the order of their handles."""
         lines = []
         for number, (of_class, key) in enumerate(places, self.next_number):
@@ -114,7 +115,7 @@ class Tables:
         if lines:
             cursor.copy_expert('copy topo.feature from stdin', io.StringIO(''.join(lines)))
 
-    def refuse(self, cursor, touched: list[Place], refused: dict[Place, Refusal]) -> None:
+    def refuse(self, cursor: Cursor, touched: list[Place], refused: dict[Place, Refusal]) -> None:
         """Writes what is left out; what was and has been touched since is not any more."""
         old = [place for place in dict.fromkeys(touched) if place in self.refused]
         if old:
@@ -125,7 +126,7 @@ class Tables:
 
     # ---- dirt, and how it stands
 
-    def write_dirt(self, cursor, dirt: list[Frame]) -> None:
+    def write_dirt(self, cursor: Cursor, dirt: list[Frame]) -> None:
         if dirt == self.dirt:
             return
         self.dirt = dirt
@@ -133,18 +134,18 @@ class Tables:
         cursor.execute('delete from topo.dirty')
         execute_values(cursor, 'insert into topo.dirty values %s', rows, '(%%s, st_geomfromtext(%%s, %d))' % self.srid)
 
-    def write_state(self, cursor, features: int) -> None:
+    def write_state(self, cursor: Cursor, features: int) -> None:
         cursor.execute("update topo.state set at = transaction_timestamp(), features = %s, errors = %s, note = ''", (features, len(self.ids)))
         cursor.execute("notify qgis, 'topo'")              # the one channel to which layers of QGIS listen
 
     # ---- a start
 
-    def read_numbers(self, cursor) -> None:
+    def read_numbers(self, cursor: Cursor) -> None:
         """Takes up the numbers where an earlier run left them."""
         cursor.execute('select coalesce((select max(id) from topo.found), 0) + 1, coalesce((select max(number) from topo.feature), 0) + 1')
         self.next_id, self.next_number = cursor.fetchone()
 
-    def write_anew(self, cursor, blocks: list[Block], judge: Judge) -> None:
+    def write_anew(self, cursor: Cursor, blocks: list[Block], judge: Judge) -> None:
         """All errors at a start: what stands already as it is now stays, under its number."""
         cursor.execute('select rule, class, subject, other_class, other, id, mark, extent, listing from topo.found')
         stood = {tuple(row[:5]): row[5:] for row in cursor}
@@ -161,7 +162,7 @@ class Tables:
         self.delete(cursor, [row[0] for row in stood.values() if row[0] not in kept])
         self.insert(cursor, come, judge)
 
-    def write_rows_anew(self, cursor, outcome: Outcome, handles: dict[Place, int]) -> None:
+    def write_rows_anew(self, cursor: Cursor, outcome: Outcome, handles: dict[Place, int]) -> None:
         """All rows at a start: only what differs from what stands is written."""
         cursor.execute('select class, key from topo.feature')
         known = set(cursor.fetchall())

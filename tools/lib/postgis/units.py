@@ -65,7 +65,7 @@ def wkb_of(wkt: str) -> Optional[bytes]:
 class Units:
     """The way from the text of a table to the text of a line."""
 
-    def __init__(self, grid: Grid):
+    def __init__(self, grid: Grid) -> None:
         self.grid = grid
         self.converter = Converter(grid)
         self.converter.may_cut = False

@@ -143,7 +143,8 @@ class ToGis(Algorithm):
 
     def do(self, parameters: dict, context: QgsProcessingContext, feedback: QgsProcessingFeedback) -> dict[str, Any]:
         out = self.parameterAsFileOutput(parameters, 'OUTPUT', context)
-        self.to_gis(parameters, context, feedback, *[self.parameterAsFile(parameters, name, context) for name in ('SCRIPT', 'REPLIES')], out)
+        script, replies = (self.parameterAsFile(parameters, name, context) for name in ('SCRIPT', 'REPLIES'))
+        self.to_gis(parameters, context, feedback, script, replies, out)
         return {'OUTPUT': out}
 
 

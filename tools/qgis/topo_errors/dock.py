@@ -24,7 +24,7 @@ def counted(number: int, what: str) -> str:
 
 
 class ErrorDock(QDockWidget):
-    def __init__(self, canvas: QgsMapCanvas, parent: Optional[QWidget] = None):
+    def __init__(self, canvas: QgsMapCanvas, parent: Optional[QWidget] = None) -> None:
         super().__init__('topo errors', parent)
         self.setObjectName('topo_errors_dock')             # so that QGIS keeps its place
         self.canvas = canvas

@@ -4,6 +4,7 @@ from __future__ import annotations
 from typing import Optional
 
 from qgis.core import QgsApplication
+from qgis.gui import QgisInterface
 from qgis.PyQt.QtCore import Qt
 
 from .dock import ErrorDock
@@ -11,7 +12,7 @@ from .provider import Provider
 
 
 class Plugin:
-    def __init__(self, iface):
+    def __init__(self, iface: QgisInterface) -> None:
         self.iface = iface
         self.dock: Optional[ErrorDock] = None
         self.provider: Optional[Provider] = None

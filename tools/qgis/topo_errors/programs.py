@@ -5,7 +5,10 @@ import os
 import shutil
 import subprocess
 import tempfile
-from typing import Optional
+from typing import TYPE_CHECKING, Optional
+
+if TYPE_CHECKING:
+    from qgis.core import QgsFeedback
 
 HERE = os.path.dirname(os.path.realpath(__file__))
 # Where the tools are beside this folder: in the repository, and where `make install` puts them.
@@ -39,7 +42,7 @@ def tool(folder: str, name: str) -> str:
     return found
 
 
-def run(words: list[str], feedback, fine: tuple[int, ...] = (0,), source: str = os.devnull, target: str = os.devnull) -> int:
+def run(words: list[str], feedback: QgsFeedback, fine: tuple[int, ...] = (0,), source: str = os.devnull, target: str = os.devnull) -> int:
     """Runs a program from a file into a file until it ends or somebody cancels it; its words go to the feedback. The status, which has to
     be a fine one."""
     with open(source, 'rb') as given, open(target, 'wb') as out, tempfile.TemporaryFile() as told:

@@ -29,7 +29,7 @@ class Row(NamedTuple):
 class Rows(QAbstractTableModel):
     """Rows under a head; many of them take no time until they are seen."""
 
-    def __init__(self, head: list[str]):
+    def __init__(self, head: list[str]) -> None:
         super().__init__()
         self.head = head
         self.rows: list[Row] = []

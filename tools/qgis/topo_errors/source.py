@@ -2,9 +2,9 @@
 from __future__ import annotations
 
 import os
-from typing import Iterable, Optional
+from typing import Any, Iterable, Optional
 
-from qgis.core import (QgsAbstractDatabaseProviderConnection, QgsDataSourceUri, QgsFeatureRequest, QgsProject, QgsProviderRegistry, QgsRectangle,
+from qgis.core import (QgsAbstractDatabaseProviderConnection, QgsDataSourceUri, QgsFeature, QgsFeatureRequest, QgsProject, QgsProviderRegistry, QgsRectangle,
                        QgsVectorLayer, QgsWkbTypes)
 
 from .rows import Row, Spot
@@ -22,7 +22,7 @@ class SourceError(Exception):
     """What cannot be shown; the text says why."""
 
 
-def text_of(value) -> str:
+def text_of(value: object) -> str:
     """A value of an attribute; nothing for NULL."""
     return '' if value is None or str(value) == 'NULL' else str(value)
 
@@ -48,11 +48,11 @@ class Source:
             if name in self.others:
                 style_area(self.others[name], colour, style)
 
-    def name_of(self, feature):
+    def name_of(self, feature: QgsFeature) -> Any:
         """By what an error is known, whichever layer it is in."""
         raise NotImplementedError
 
-    def error_texts(self, feature) -> tuple[str, ...]:
+    def error_texts(self, feature: QgsFeature) -> tuple[str, ...]:
         raise NotImplementedError
 
     def error_rows(self) -> list[Row]:
@@ -90,7 +90,7 @@ class Source:
 class Tables(Source):
     """The tables of topo-postgis, by a connection of QGIS."""
 
-    def __init__(self, connection: QgsAbstractDatabaseProviderConnection):
+    def __init__(self, connection: QgsAbstractDatabaseProviderConnection) -> None:
         super().__init__()
         self.connection = connection
         self.sql('select 1 from topo.setting')
@@ -120,10 +120,10 @@ class Tables(Source):
             raise SourceError('the table topo.%s cannot be shown: %s' % (table, layer.dataProvider().error().message() if layer.dataProvider() else 'no provider'))
         return layer
 
-    def name_of(self, feature) -> int:
+    def name_of(self, feature: QgsFeature) -> int:
         return feature['id']
 
-    def error_texts(self, feature) -> tuple[str, ...]:
+    def error_texts(self, feature: QgsFeature) -> tuple[str, ...]:
         return (feature['word'], whole(feature['class'], feature['subject_id']), whole(feature['other_class'], feature['other_id']) if feature['other_id'] else '',
                 feature['mark'], text_of(feature['note']))
 
@@ -156,10 +156,10 @@ class Written(Source):
             raise SourceError('the project has no layer error_polygons, error_lines or error_points')
         self.style()
 
-    def name_of(self, feature) -> tuple[int, int, int]:
+    def name_of(self, feature: QgsFeature) -> tuple[int, int, int]:
         return int(feature['rule']), int(feature['subject']), int(feature['other'])
 
-    def error_texts(self, feature) -> tuple[str, ...]:
+    def error_texts(self, feature: QgsFeature) -> tuple[str, ...]:
         key = lambda of: text_of(feature[of + '_id']) or text_of(feature[of])
         return feature['word'], whole(feature['class'], key('subject')), whole(feature['other_class'], key('other')) if feature['other'] else '', feature['mark'], ''
 
