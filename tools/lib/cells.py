@@ -2,7 +2,7 @@
 from __future__ import annotations
 
 from fractions import Fraction
-from math import ceil, floor, gcd, hypot
+from math import ceil, floor, gcd, hypot, lcm
 from typing import NamedTuple, Optional
 
 from .outlines import Outline, Point, doubled_area, line_key, outlines_of, turn
@@ -11,6 +11,8 @@ from .spans import Segment, beside, bounds_of, ends_of, equation_of, parts_on_li
 
 # A box that meets more squares is compared with all.
 MOST_SQUARES = 1024
+# Whole numbers of more bits are no faster than fractions.
+MOST_BITS = 2048
 
 Triple = tuple[int, int, int]
 Span = tuple[Fraction, Fraction]
@@ -26,7 +28,7 @@ class Cover(NamedTuple):
     @property
     def area(self) -> Fraction:
         """In square units, exactly."""
-        return sum((doubled_area(ring) for outline in self.polygons for ring in [outline.shell] + outline.holes), Fraction(0)) / 2
+        return Fraction(sum(doubled_area(ring) for outline in self.polygons for ring in [outline.shell] + outline.holes)) / 2
 
     @property
     def length(self) -> float:
@@ -97,7 +99,7 @@ def span_in(segment: Segment, polygon: list[Point]) -> Span:
         if u < 0 and v < 0:
             return Fraction(1), Fraction(0)
         if u < 0 or v < 0:
-            t = Fraction(u) / (u - v)
+            t = Fraction(u, u - v)
             low, high = (max(low, t), high) if u < 0 else (low, min(high, t))
     return low, high
 
@@ -170,17 +172,38 @@ def joined(segments: list[Segment]) -> list[Segment]:
     return sorted(out)
 
 
+def multiple_of(closures: list[list[Point]]) -> int:
+    """The least number by which all coordinates become whole; 1 where it is too long to reckon with."""
+    by = 1
+    for number in {number.denominator for corners in closures for point in corners for number in point}:
+        by = lcm(by, number)
+        if by.bit_length() > MOST_BITS:
+            return 1
+    return by
+
+
+def scaled(corners: list[Point], by: int) -> list[Point]:
+    """Points in units of which one is so many, whole where they can be."""
+    if by == 1:
+        return [(x.numerator, y.numerator) for x, y in corners] if all(x.denominator == y.denominator == 1 for x, y in corners) else corners
+    return [(x.numerator * (by // x.denominator), y.numerator * (by // y.denominator)) for x, y in corners]
+
+
 def cover_of(closures: list[list[Point]]) -> Cover:
     """What the closures cover: cells that share sides are one polygon, and nothing is told twice."""
     if len(closures) == 1 and len(closures[0]) > 2:
         return Cover([Outline(closures[0], [])], [], [])
+    by = multiple_of(closures)
+    back = lambda points: [(Fraction(x, by), Fraction(y, by)) for x, y in points]
+    closures = [scaled(corners, by) for corners in closures]
     areas = [corners for corners in closures if len(corners) > 2]
     segments = dict.fromkeys((corners[0], corners[1]) for corners in closures if len(corners) == 2)
     near = Near(areas)
-    lines = joined([part for segment in segments for part in rest_of(segment, near)])
+    lines = joined([tuple(back(part)) for segment in segments for part in rest_of(segment, near)])
     inside = lambda point: any(all(turn(p, q, point) >= 0 for p, q in zip(area, area[1:] + area[:1])) for area in near.to([point]))
-    alone = [point for point in beside({corners[0] for corners in closures if len(corners) == 1}, lines) if not inside(point)]
-    return Cover(outlines_of(areas), lines, alone)
+    alone = {corners[0] for corners in closures if len(corners) == 1 and not inside(corners[0])}
+    outlines = [Outline(back(outline.shell), list(map(back, outline.holes))) for outline in outlines_of(areas)]
+    return Cover(outlines, lines, beside(set(back(alone)), lines))
 
 
 def cover_and_stops(error: Error) -> tuple[Cover, set[Point]]:

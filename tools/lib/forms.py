@@ -60,13 +60,26 @@ def fit_of(word: str) -> Fit:
     return Fit(pattern(line), pattern(DONE.get(word, 'ok')), pattern('refused (?:%s)' % '|'.join(codes)), pattern(LISTED.get(word, '')))
 
 
+HALF = pattern(PIECES['HALF'])
+# So many lines of cells are looked at together.
+PIECE = 1000
 FITS = {word: fit_of(word) for word in [*FORMS, *DEEDS] if word != 'by'}
+
+
+def are_cells(lines: list[str]) -> bool:
+    """Whether the lines of cells have nothing but half-planes, of which cells beside one another have most in common."""
+    pieces = (lines[at:at + PIECE] for at in range(0, len(lines), PIECE))
+    return all(map(HALF.fullmatch, {half for piece in pieces for half in set(', '.join(line[5:] for line in piece).split(', '))}))
 
 
 def is_listing(fit: Fit, reply: list[str]) -> bool:
     """Whether the reply is a listing, its total last, of lines that all fit."""
-    lines, total = reply[:-1], sum(not line.startswith('cell ') for line in reply[:-1])
-    return reply[-1] == 'total %d' % total and not reply[0].startswith('cell ') and all(map(fit.listed.fullmatch, lines))
+    lines = reply[:-1]
+    heads = [line for line in lines if not line.startswith('cell ')]
+    if reply[-1] != 'total %d' % len(heads) or reply[0].startswith('cell ') or not all(map(fit.listed.fullmatch, heads)):
+        return False
+    cells = [line for line in lines if line.startswith('cell ')] if len(heads) < len(lines) else []
+    return not cells or bool(fit.listed.fullmatch(cells[0])) and are_cells(cells)
 
 
 def can_answer(line: str, reply: list[str]) -> bool:

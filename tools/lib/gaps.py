@@ -11,7 +11,7 @@ from fractions import Fraction
 from typing import Iterable, NamedTuple
 
 from .outlines import Outline, Point, Ring, doubled_area, rings_of, turn, way_on
-from .spans import ROOM, Segment, may_be_straight, may_hold, near
+from .spans import ROOM, Near, Segment, may_be_straight, may_hold, near
 
 WORD = 'polygon_must_not_have_gaps'
 MOST_STRIPS = 4096
@@ -28,7 +28,7 @@ class Gap(NamedTuple):
 
     @property
     def area(self) -> Fraction:
-        return sum(map(doubled_area, [self.outline.shell] + self.outline.holes), Fraction(0)) / 2
+        return Fraction(sum(map(doubled_area, [self.outline.shell] + self.outline.holes))) / 2
 
 
 class Ground(NamedTuple):
@@ -62,41 +62,40 @@ def eased(point: Point) -> Point:
     return (x.numerator if x.denominator == 1 else Kept(x)), (y.numerator if y.denominator == 1 else Kept(y))
 
 
-def squares(low: Point, high: Point, size: float) -> Iterable[Square]:
-    """The squares of this size that a rectangle meets."""
-    xs = range(math.floor(float(low[0]) / size), math.floor(float(high[0]) / size) + 1)
-    ys = range(math.floor(float(low[1]) / size), math.floor(float(high[1]) / size) + 1)
-    return ((x, y) for x in xs for y in ys)
+class Sides:
+    """Segments by squares of the plane, to find those on which a point may lie. The side of a square is a power of two, and no shorter than the
+    segments that stand in it: so a segment meets four of them at most."""
 
+    def __init__(self, segments: Iterable[Segment]) -> None:
+        self.sizes: dict[float, dict[Square, list[tuple[Segment, Near, Near]]]] = {}
+        for segment in segments:
+            p, q = map(near, segment)
+            (x0, x1), (y0, y1) = map(sorted, zip(p, q))
+            size = math.ldexp(1.0, math.frexp(max(x1 - x0, y1 - y0, 1.0))[1])
+            of_size = self.sizes.setdefault(size, {})
+            for x in range(math.floor(x0 / size), math.floor(x1 / size) + 1):
+                for y in range(math.floor(y0 / size), math.floor(y1 / size) + 1):
+                    of_size.setdefault((x, y), []).append((segment, p, q))
 
-def box_of(segment: Segment) -> tuple[Point, Point]:
-    (x, y), (u, v) = segment
-    return (min(x, u), min(y, v)), (max(x, u), max(y, v))
-
-
-def size_for(segments: Iterable[Segment]) -> float:
-    """A size of squares in which few ends of these segments lie."""
-    boxes = list(map(box_of, segments))
-    wide = max(high[0] for _, high in boxes) - min(low[0] for low, _ in boxes)
-    tall = max(high[1] for _, high in boxes) - min(low[1] for low, _ in boxes)
-    return max(float(max(wide, tall)) / max(1.0, math.sqrt(len(boxes))), 1.0)
+    def to(self, point: Point) -> list[Segment]:
+        """Those on which a point may lie that is no end of them."""
+        x, y = at = near(point)
+        beside = (squares.get((math.floor(x / size), math.floor(y / size)), ()) for size, squares in self.sizes.items())
+        return [segment for found in beside for segment, p, q in found if may_hold(p, q, at) and point not in segment]
 
 
 def split(sides: dict[Segment, set[int]], points: set[Point]) -> dict[Segment, list[Segment]]:
-    """The pieces of each side, cut where another one ends, or where a point lies on it."""
-    size = size_for(sides)
-    places: dict[Square, set[Point]] = {}
-    known = {point: near(point) for point in points.union(*sides)}
-    for point in known:
-        for square in squares(point, point, size):
-            places.setdefault(square, set()).add(point)
-    out: dict[Segment, list[Segment]] = {}
-    for p, q in sides:
-        beside = set().union(*(places.get(square, ()) for square in squares(*box_of((p, q)), size)))
-        ends = near(p), near(q)
-        stops = [p, *sorted(point for point in beside if may_hold(*ends, known[point]) and p < point < q and turn(p, q, point) == 0), q]
-        out[p, q] = list(zip(stops, stops[1:]))
-    return out
+    """The pieces of each side, cut where another one ends, or where a point lies on both."""
+    known, ends = Sides(sides), set().union(*sides)
+    cuts: dict[Segment, list[Point]] = {side: [] for side in sides}
+    for point in points | ends:
+        found = known.to(point)
+        if len(found) + (point in ends) > 1:
+            for p, q in found:
+                if p < point < q and turn(p, q, point) == 0:
+                    cuts[p, q].append(point)
+    stops = {(p, q): [p, *sorted(between), q] for (p, q), between in cuts.items()}
+    return {side: list(zip(places, places[1:])) for side, places in stops.items()}
 
 
 def handles_of(pieces: dict[Segment, list[Segment]], sides: dict[Segment, set[int]]) -> dict[Segment, set[int]]:

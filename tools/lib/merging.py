@@ -3,10 +3,10 @@ from __future__ import annotations
 
 import glob
 import os
-from typing import Iterator, NamedTuple
+from functools import lru_cache
+from typing import Callable, Iterator, NamedTuple
 
-from .grid import Place
-from .replies import Ending, Error, Listing, Origin, ReplyError, Rule, ending_of, errors_of
+from .replies import Cells, Ending, Error, Listing, Origin, ReplyError, Rule, ending_of, errors_of, half_of
 
 TILE = '# grid tile '
 SCRIPT, REPLIES = '.topo', '.replies'
@@ -65,13 +65,24 @@ def is_of_tile(error: Error, listing: Listing, ending: Ending) -> bool:
     return rule is not None and all(own in ending.origins and ending.origins[own].of_class in rule.classes for own in handles)
 
 
-def moved_back(error: Error, ending: Ending, by: Place) -> Error:
-    """An error of a tile with handles and coordinates of the whole."""
+def mover(dx: int, dy: int) -> Callable[[str], str]:
+    """Moves the text of a half-plane by so many units."""
+    @lru_cache(1 << 14)
+    def moved(text: str) -> str:
+        a, b, c, op = half_of(text)
+        return '%d %d %d %s' % (a, b, c - a * dx - b * dy, op)
+    return moved
+
+
+def moved_back(errors: list[Error], ending: Ending) -> Iterator[Error]:
+    """Errors of a tile with handles and coordinates of the whole."""
     handle = lambda own: ending.origins[own].handle if own else 0
-    dx, dy = by
-    x0, y0, x1, y1 = error.frame
-    cells = [[(a, b, c - a * dx - b * dy, op) for a, b, c, op in cell] for cell in error.cells]
-    return error._replace(subject=handle(error.subject), other=handle(error.other), frame=(x0 + dx, y0 + dy, x1 + dx, y1 + dy), cells=cells)
+    dx, dy = ending.grid.whole_offset(ending.remarks)
+    moved = mover(dx, dy)
+    for error in errors:
+        x0, y0, x1, y1 = error.frame
+        cells = Cells([', '.join(map(moved, halves)) for halves in error.cells.split()])
+        yield error._replace(subject=handle(error.subject), other=handle(error.other), frame=(x0 + dx, y0 + dy, x1 + dx, y1 + dy), cells=cells)
 
 
 def listing_of(script: str, ending: Ending) -> Listing:
@@ -82,14 +93,13 @@ def listing_of(script: str, ending: Ending) -> Listing:
 
 
 def errors_of_tile(script: str, listing: Listing, ending: Ending) -> list[Error]:
-    """The errors of a tile's subjects."""
+    """The errors of a tile's subjects, as the tile has them."""
     errors = errors_of(listing.lines)
     stray = next((error for error in errors if not is_of_tile(error, listing, ending)), None)
     if stray:
         raise ReplyError('%s: the error %d %d %d cannot be one of this script: the replies are not those of this script' %
                          (script, *stray[1:4]))
-    by = ending.grid.whole_offset(ending.remarks)
-    return [moved_back(error, ending, by) for error in errors if ending.origins[error.subject].is_subject]
+    return [error for error in errors if ending.origins[error.subject].is_subject]
 
 
 def whole_remarks(ending: Ending) -> list[str]:
@@ -99,9 +109,9 @@ def whole_remarks(ending: Ending) -> list[str]:
 
 
 def origins_in(errors: list[Error], ending: Ending) -> dict[int, Origin]:
-    """Where the features of errors come from, by handles of the whole."""
-    asked = {handle for error in errors for handle in error[2:4]}
-    return {origin.handle: origin for origin in ending.origins.values() if origin.handle in asked}
+    """Where the features of a tile's errors come from, by handles of the whole."""
+    asked = {handle for error in errors for handle in error[2:4] if handle}
+    return {origin.handle: origin for origin in map(ending.origins.__getitem__, sorted(asked))}
 
 
 def merged(folder: str) -> Merged:
@@ -113,7 +123,7 @@ def merged(folder: str) -> Merged:
     for script, ending in endings_of(folder):
         listing = listing_of(script, ending)
         of_tile = errors_of_tile(script, listing, ending)
-        found += of_tile
+        found += moved_back(of_tile, ending)
         whole.remarks = whole.remarks or whole_remarks(ending)
         whole.origins.update(origins_in(of_tile, ending))
         refused.update({script: ending.refused} if ending.refused else {})

@@ -2,6 +2,7 @@
 from __future__ import annotations
 
 from fractions import Fraction
+from math import gcd
 from typing import Iterator, NamedTuple, Sequence, Union
 
 # Whole where it can be: such are computed with fastest.
@@ -22,16 +23,20 @@ def turn(p: Point, q: Point, r: Point) -> Number:
     return (q[0] - p[0]) * (r[1] - p[1]) - (q[1] - p[1]) * (r[0] - p[0])
 
 
-def doubled_area(ring: Sequence[Point]) -> Fraction:
+def doubled_area(ring: Sequence[Point]) -> Number:
     """Twice the area, under 0 where the ring goes clockwise."""
-    return sum((p[0] * q[1] - q[0] * p[1] for p, q in zip(ring, [*ring[1:], *ring[:1]])), Fraction(0))
+    return sum(p[0] * q[1] - q[0] * p[1] for p, q in zip(ring, [*ring[1:], *ring[:1]]))
 
 
 def line_key(p: Point, q: Point) -> tuple:
+    """A line by two points of it, all of whose points are in whole numbers, or none."""
     if p[0] == q[0]:
         return (p[0],)
-    slope = (q[1] - p[1]) / (q[0] - p[0])
-    return slope, p[1] - slope * p[0]
+    wide, high, rest = q[0] - p[0], q[1] - p[1], p[1] * q[0] - p[0] * q[1]
+    if type(wide) is type(high) is type(rest) is int:
+        by = gcd(wide, high, rest) if wide > 0 else -gcd(wide, high, rest)
+        return high // by, wide // by, rest // by
+    return Fraction(high) / wide, Fraction(rest) / wide
 
 
 def sides_by_line(polygons: list[Ring]) -> dict[tuple, list[tuple[Point, Point]]]:
@@ -143,7 +148,7 @@ def outlines_of(polygons: list[Ring]) -> list[Outline]:
     shells = sorted((area, ring) for area, ring in zip(areas, rings) if area > 0)
     found = [Outline(without_straight(ring, ways), []) for _, ring in shells]
     for ring in [ring for area, ring in zip(areas, rings) if area < 0]:
-        middle = (ring[0][0] + ring[1][0]) / 2, (ring[0][1] + ring[1][1]) / 2
+        middle = Fraction(ring[0][0] + ring[1][0]) / 2, Fraction(ring[0][1] + ring[1][1]) / 2
         around = next(outline for outline, (_, shell) in zip(found, shells) if is_inside(middle, shell))
         around.holes.append(without_straight(ring, ways))
     return found

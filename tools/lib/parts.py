@@ -72,7 +72,7 @@ def whole_of(ending: Ending, names: Names) -> Whole:
     whole = Whole({}, {}, {})
     firsts: dict[tuple[str, str, str, int], int] = {}
     times: Counter[tuple[str, str, str, int]] = Counter()
-    for handle in sorted({*ending.origins, *names.by_handle}):
+    for handle in sorted({*ending.origins.cut, *(handle for handle, name in names.by_handle.items() if name.part)}):
         origin = names.origin(handle, ending)
         part = part_in(origin.part)
         if part:

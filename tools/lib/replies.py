@@ -5,9 +5,11 @@ import json
 import re
 from dataclasses import dataclass, field
 from functools import lru_cache
-from typing import IO, BinaryIO, Iterable, Iterator, NamedTuple, Optional
+from itertools import chain
+from sys import intern
+from typing import BinaryIO, Iterable, Iterator, MutableMapping, NamedTuple, Optional, Sequence, Union
 
-from .forms import can_answer
+from .forms import SUBTYPE, can_answer
 from .grid import Grid, grid_of
 from .outlines import Point
 from .texts import KINDS
@@ -17,6 +19,7 @@ LISTINGS = ('errors', 'cells', 'dirty', 'features', 'rules')
 ENDS = ('ok', 'refused', 'total ')
 SOURCE = re.compile(r'# fid (\S+)(?: id ("(?:[^"\\]|\\["\\/bfnrt]|\\u[0-9a-fA-F]{4})*"))?')
 ROLE = re.compile('# (subject|neighbour) ([0-9]+)')
+OF_FEATURE = ('# fid ', '# subject ', '# neighbour ', '# part ')
 PART = re.compile('# (part [0-9]+ of [0-9]+(?: along [-0-9 ,]+)?)')
 
 Half = tuple[int, int, int, str]
@@ -27,12 +30,37 @@ class ReplyError(Exception):
     """Replies that are not those of the script; its text says where."""
 
 
+# A line that adds a feature, as nearly all lines of a long script do, with its class, and its reply.
+ADDED = re.compile(rb'by [A-Za-z][A-Za-z0-9_]* add ([A-Za-z][A-Za-z0-9_]*(?::%s)?) [A-Z].*\n' % SUBTYPE.encode())
+DONE = re.compile(rb'ok ([0-9]+)\n')
+
+
 class Answer(NamedTuple):
     """A line of a script, by its number from 1, with its reply; a skipped line has none."""
 
     number: int
     line: str
     reply: list[str]
+
+
+class Cells(Sequence[list[Half]]):
+    """Cells by their texts: there may be very many, so each is read when it is asked for."""
+
+    def __init__(self, texts: list[str]) -> None:
+        self.texts = texts
+
+    def __len__(self) -> int:
+        return len(self.texts)
+
+    def __getitem__(self, at: int) -> list[Half]:
+        return [half_of(half) for half in self.texts[at].split(', ')]
+
+    def __eq__(self, other: object) -> bool:
+        return list(self) == list(other) if isinstance(other, Sequence) else NotImplemented
+
+    def split(self) -> Iterator[list[str]]:
+        """Each cell as the texts of its half-planes."""
+        return (text.split(', ') for text in self.texts)
 
 
 class Error(NamedTuple):
@@ -45,7 +73,7 @@ class Error(NamedTuple):
     other: int
     extent: str
     frame: Frame
-    cells: list[list[Half]]
+    cells: Sequence[list[Half]]
     closures: Optional[list[list[Point]]] = None
 
 
@@ -92,7 +120,7 @@ def is_skipped(line: bytes) -> bool:
     return len(text) <= MOST_BYTES and (not fields or fields.startswith(b'#'))
 
 
-def reply_of(replies: IO[bytes]) -> list[str]:
+def reply_of(replies: Iterable[bytes]) -> list[str]:
     """The next reply: its one line, or a listing with its total; only a beginning of it where the replies end earlier."""
     lines = []
     for line in replies:
@@ -119,23 +147,31 @@ def misfit_text(answer: Answer) -> str:
     return 'line %d cannot have the reply `%s`: the replies are not those of this script' % (answer.number, answer.reply[0][:60])
 
 
-def answers_of(script: BinaryIO, replies: BinaryIO) -> Iterator[Answer]:
+def answer_to(number: int, line: bytes, replies: Iterable[bytes]) -> Answer:
+    """A line of a script with its reply; a ReplyError where that is missing, cut off, or none that the line can have."""
+    line = line[:-1] if line.endswith(b'\n') else line
+    text = line.decode('utf-8', 'replace').rstrip('\r')
+    if is_skipped(line):
+        return Answer(number, text, [])
+    reply = reply_of(replies)
+    check_whole(number, reply)
+    answer = Answer(number, text, reply)
+    if not can_answer(text, reply):
+        raise ReplyError(misfit_text(answer))
+    return answer
+
+
+def check_ended(replies: BinaryIO) -> None:
+    if replies.read(1):
+        raise ReplyError('there are more replies than lines')
+
+
+def answers_of(script: Iterable[bytes], replies: BinaryIO) -> Iterator[Answer]:
     """The lines of a script with their replies, one at a time; a ReplyError where a reply is missing, cut off, one too many, or none
     that its line can have."""
     for number, line in enumerate(script, 1):
-        line = line[:-1] if line.endswith(b'\n') else line
-        text = line.decode('utf-8', 'replace').rstrip('\r')
-        if is_skipped(line):
-            yield Answer(number, text, [])
-            continue
-        reply = reply_of(replies)
-        check_whole(number, reply)
-        answer = Answer(number, text, reply)
-        if not can_answer(text, reply):
-            raise ReplyError(misfit_text(answer))
-        yield answer
-    if replies.read(1):
-        raise ReplyError('there are more replies than lines')
+        yield answer_to(number, line, replies)
+    check_ended(replies)
 
 
 @lru_cache(1 << 14)
@@ -159,7 +195,7 @@ def frame_of(words: Iterable[str]) -> Frame:
 def error_of(line: str) -> Error:
     """The error of a line of a listing, without cells yet."""
     mark, rule, subject, other, extent, *frame = line.split()
-    return Error(mark, int(rule), int(subject), int(other), extent, frame_of(frame), [])
+    return Error(mark, int(rule), int(subject), int(other), extent, frame_of(frame), Cells([]))
 
 
 def each_error(lines: Iterable[str]) -> Iterator[Error]:
@@ -167,7 +203,7 @@ def each_error(lines: Iterable[str]) -> Iterator[Error]:
     error: Optional[Error] = None
     for line in lines:
         if error and line.startswith('cell '):
-            error.cells.append([half_of(half) for half in line[5:].split(', ')])
+            error.cells.texts.append(line[5:])
             continue
         if error:
             yield error
@@ -203,6 +239,57 @@ def source_of(remark: str) -> Optional[tuple[str, str]]:
     return (found[1], json.loads(found[2] or '""', strict=False)) if found else None
 
 
+def told_by(remark: str) -> dict:
+    """What a remark line says of the feature that the next line adds."""
+    if source := source_of(remark):
+        return {'fid': source[0], 'id': source[1]}
+    if role := ROLE.fullmatch(remark):
+        return {'handle': int(role[2]), 'is_subject': role[1] == 'subject'}
+    part = PART.fullmatch(remark)
+    return {'part': part[1]} if part else {}
+
+
+def origin_of(side: str, remarks: list[str]) -> Origin:
+    """Where a feature of a class or a subtype comes from, by the remark lines above it."""
+    name, subtype = named_by(side)
+    return Origin(name, subtype=subtype, **{what: value for remark in remarks for what, value in told_by(remark).items()})
+
+
+class Origins(MutableMapping[int, Origin]):
+    """Where features come from, by their handles. What their remarks say is read when it is asked for: of very many features few have errors."""
+
+    def __init__(self) -> None:
+        self.told: dict[int, Union[Origin, tuple[str, list[str]]]] = {}
+        # The handles of those whose remarks say which part they are of a feature that was cut.
+        self.cut: set[int] = set()
+
+    def tell(self, handle: int, side: str, remarks: list[str]) -> None:
+        self.told[handle] = side, remarks
+        if any(remark.startswith('# part ') for remark in remarks):
+            self.cut.add(handle)
+
+    def __getitem__(self, handle: int) -> Origin:
+        told = self.told[handle]
+        return told if isinstance(told, Origin) else origin_of(*told)
+
+    def __setitem__(self, handle: int, origin: Origin) -> None:
+        self.told[handle] = origin
+        if origin.part:
+            self.cut.add(handle)
+
+    def __delitem__(self, handle: int) -> None:
+        del self.told[handle]
+
+    def __contains__(self, handle: object) -> bool:
+        return handle in self.told
+
+    def __iter__(self) -> Iterator[int]:
+        return iter(self.told)
+
+    def __len__(self) -> int:
+        return len(self.told)
+
+
 @dataclass
 class Listing:
     """The lines of a listing, the number of its line, how many lines before it changed something, and the rules in force there."""
@@ -220,11 +307,11 @@ class Ending:
     remarks: list[str] = field(default_factory=list)
     classes: dict[str, str] = field(default_factory=dict)
     rules: dict[int, Rule] = field(default_factory=dict)
-    origins: dict[int, Origin] = field(default_factory=dict)
+    origins: Origins = field(default_factory=Origins)
     listings: dict[str, Listing] = field(default_factory=dict)
     changes: int = 0
     refused: int = 0
-    waiting: dict = field(default_factory=dict)
+    waiting: list[str] = field(default_factory=list)
 
     @property
     def grid(self) -> Optional[Grid]:
@@ -234,12 +321,8 @@ class Ending:
         """Takes a remark line: of the grid, or of the feature that the next line adds."""
         if line.startswith('# grid '):
             self.remarks.append(line)
-        elif source := source_of(line):
-            self.waiting.update(fid=source[0], id=source[1])
-        elif role := ROLE.fullmatch(line):
-            self.waiting.update(handle=int(role[2]), is_subject=role[1] == 'subject')
-        elif part := PART.fullmatch(line):
-            self.waiting.update(part=part[1])
+        elif line.startswith(OF_FEATURE):
+            self.waiting.append(line)
 
     def listed(self, lines: list[str]) -> None:
         """Takes the features of a listing: where the script began with a saved project, they tell of its classes."""
@@ -271,12 +354,15 @@ class Ending:
         elif words[0] == 'by':
             self.edited(words[2:], last)
 
+    def added(self, handle: int, side: str) -> None:
+        """Takes a feature of a class or a subtype."""
+        self.origins.tell(handle, side, self.waiting)
+        self.waiting = []
+
     def edited(self, words: list[str], last: list[str]) -> None:
         """Takes an edit that was done: what it says of a feature beside its shape."""
         if words[0] == 'add':
-            name, subtype = named_by(words[1])
-            self.origins[int(last[1])] = Origin(name, subtype=subtype, **self.waiting)
-            self.waiting = {}
+            self.added(int(last[1]), words[1])
         elif words[0] == 'retype' and int(words[1]) in self.origins:
             self.origins[int(words[1])] = self.origins[int(words[1])]._replace(subtype=int(words[2]))
 
@@ -285,9 +371,23 @@ class Ending:
             self.remark(answer.line.strip())
         elif answer.reply[-1].startswith('refused'):
             self.refused += 1
-            self.waiting = {}
+            self.waiting = []
         else:
             self.done(answer.line.split(None, 4), answer)
+
+    def take_all(self, script: Iterable[bytes], replies: BinaryIO) -> None:
+        """Takes all lines of a script with their replies. Features that were added, which nearly all lines are, are taken by their bytes; any
+        other line, and what does not fit, as an answer."""
+        for number, line in enumerate(script, 1):
+            added = ADDED.fullmatch(line)
+            said = [next(replies, b'')] if added else []
+            done = added and DONE.fullmatch(said[0])
+            if done:
+                self.changes += 1
+                self.added(int(done[1]), intern(added[1].decode()))
+            else:
+                self.take(answer_to(number, line, chain(said, replies)))
+        check_ended(replies)
 
     def errors(self) -> Optional[Listing]:
         """The last listing of errors: with cells, where nothing changed since."""
@@ -299,6 +399,5 @@ def ending_of(script: str, replies: str) -> Ending:
     """What stands at the end of a script, by the files of its lines and of its replies; `-` is standard input."""
     ending = Ending()
     with open(script, 'rb') as lines, open(0 if replies == '-' else replies, 'rb') as said:
-        for answer in answers_of(lines, said):
-            ending.take(answer)
+        ending.take_all(lines, said)
     return ending

@@ -4,19 +4,22 @@ from __future__ import annotations
 from fractions import Fraction
 from functools import lru_cache
 from math import gcd
-from typing import Iterable, NamedTuple, Optional
+from typing import Callable, Iterable, NamedTuple, Optional, Sequence, Union
 
 from .outlines import Number, Point, turn
-from .replies import Error, Frame, Half
+from .replies import Cells, Error, Frame, Half, half_of
 
 Segment = tuple[Point, Point]
-# Two bounds along a line, each as a whole number and what divides it, which is over 0.
-Bounds = tuple[int, int, int, int]
-Span = tuple[Number, Number]
+# A half-plane by its numbers, or by its text.
+Told = Union[Half, str]
+# Two places along a line, each by its whole number of a table.
+Span = tuple[int, int]
 # A point as it is nearest in double precision.
 Near = tuple[float, float]
 # What is lost of a number in double precision is less than this part of it, many times.
 ROOM = 1e-14
+# So many bits have what divides a bound along a line, if coordinates are those of a grid.
+BITS = 64
 
 
 class Line(NamedTuple):
@@ -46,77 +49,132 @@ def line_of(half: Half) -> Line:
     return Line(is_upright, a // by, b // by, c // by)
 
 
-def equation_of(cell: list[Half]) -> Optional[Half]:
+def numbers_of(half: Told) -> Half:
+    return half_of(half) if isinstance(half, str) else half
+
+
+def is_equation(half: Told) -> bool:
+    """Whether a half-plane says on which line its cell lies."""
+    if isinstance(half, str) and not half.endswith(' ='):
+        return False
+    a, b, _, op = numbers_of(half)
+    return op == '=' and bool(a or b)
+
+
+def equation_of(cell: Sequence[Told]) -> Optional[Told]:
     """The first half-plane of a cell that says on which line it lies; none where the cell may have an area."""
-    return next((half for half in cell if half[3] == '=' and (half[0] or half[1])), None)
+    return next(filter(is_equation, cell), None)
 
 
-def terms_on(line: Line, frame: Frame, cell: list[Half]) -> list[tuple[int, int, str]]:
-    """The half-planes of a cell along a line, and the sides of a frame that is a unit larger: of each a p and a q, where p * u + q is at
-    least 0, or is 0 where the operator says so."""
-    is_upright, a, b, c = line
-    x0, y0, x1, y1 = frame
-    if is_upright:
-        terms = [(at_y * b - at_x * a, by * b - at_x * c, op) for at_x, at_y, by, op in cell]
-        u0, v0, u1, v1 = y0, x0, y1, x1
-    else:
-        terms = [(at_x * b - at_y * a, by * b - at_y * c, op) for at_x, at_y, by, op in cell]
-        u0, v0, u1, v1 = frame
-    terms += (1, 1 - u0, '>='), (-1, u1 + 1, '>='), (-a, (1 - v0) * b - c, '>='), (a, (v1 + 1) * b + c, '>=')
-    return terms
+class Known(dict[Told, int]):
+    """What is known of half-planes; another one is asked for first."""
+
+    def __init__(self, ask: Callable[[Told], None]) -> None:
+        super().__init__()
+        self.ask = ask
+
+    def __missing__(self, half: Told) -> int:
+        self.ask(half)
+        return self[half]
 
 
-def bounds_on(line: Line, frame: Frame, cell: list[Half]) -> Optional[Bounds]:
-    """The bounds of a cell's closure along the line on which it lies, within a frame that is a unit larger; none where it is empty."""
-    u0, u1 = (frame[1], frame[3]) if line.is_upright else (frame[0], frame[2])
-    low, low_by, high, high_by = u0 - 1, 1, u1 + 1, 1
-    for p, q, op in terms_on(line, frame, cell):
+class Table:
+    """The bounds of half-planes along a line, within a frame that is a unit larger, and the spans of cells that lie on it.
+
+    A bound has a whole number: it is multiplied by four to the power of `bits`, and rounded down. What divides a bound has no more bits than that,
+    so two bounds that differ do so by more than a unit of these numbers, which thus have the order of the bounds."""
+
+    def __init__(self, line: Line, frame: Frame, bits: int) -> None:
+        self.line, self.bits = line, bits
+        self.places: dict[int, tuple[int, int]] = {}
+        self.lows, self.highs = Known(self.ask), Known(self.ask)
+        self.spans: set[Span] = set()
+        x0, y0, x1, y1 = frame
+        along, across = ((y0, y1), (x0, x1)) if line.is_upright else ((x0, x1), (y0, y1))
+        self.low, self.high = self.number(along[0] - 1, 1), self.number(along[1] + 1, 1)
+        sides = [(0, 1, 1 - across[0], '>='), (0, -1, across[1] + 1, '>=')]
+        self.low, self.high = self.span([(b, a, c, op) if line.is_upright else (a, b, c, op) for a, b, c, op in sides])
+
+    def number(self, whole: int, by: int) -> int:
+        """The number of a bound; an OverflowError where what divides it has more bits."""
+        if by >> self.bits:
+            raise OverflowError
+        number = (whole << 2 * self.bits) // by
+        self.places[number] = whole, by
+        return number
+
+    def ask(self, half: Told) -> None:
+        """Says of a half-plane from where and up to where it may be met: along the line it is where p * u + q is at least 0."""
+        p, across, q, op = half_of(half) if isinstance(half, str) else half
+        is_upright, a, b, c = self.line
+        if is_upright:
+            p, across = across, p
+        if across:
+            p, q = p * b - across * a, q * b - across * c
+        low, high = self.low, self.high
         if p == 0:
-            if q < 0 or q and op == '=':
-                return None
-            continue
-        is_low, is_high = p > 0 or op == '=', p < 0 or op == '='
-        by, at = (p, -q) if p > 0 else (-p, q)
-        if is_low and at * low_by > low * by:
-            low, low_by = at, by
-        if is_high and at * high_by < high * by:
-            high, high_by = at, by
-    return None if low * high_by > high * low_by else (low, low_by, high, high_by)
+            low = high + 1 if q < 0 or q and op == '=' else low
+        else:
+            number = self.number(-q, p) if p > 0 else self.number(q, -p)
+            if number > low and (p > 0 or op == '='):
+                low = number
+            if number < high and (p < 0 or op == '='):
+                high = number
+        self.lows[half], self.highs[half] = low, high
+
+    def span(self, cell: Sequence[Told]) -> Span:
+        """Where a cell's closure lies along the line; an empty one ends before it begins."""
+        return max(map(self.lows.__getitem__, cell)), min(map(self.highs.__getitem__, cell))
+
+    def add(self, cell: Sequence[Told]) -> None:
+        low, high = self.span(cell)
+        if low <= high:
+            self.spans.add((low, high))
+
+    def point(self, number: int) -> Point:
+        whole, by = self.places[number]
+        return self.line.point(Fraction(whole, by) if whole % by else whole // by)
 
 
-def number_of(whole: int, by: int) -> Number:
-    return whole // by if whole % by == 0 else Fraction(whole, by)
-
-
-def span_of(bounds: Bounds) -> Span:
-    return number_of(*bounds[:2]), number_of(*bounds[2:])
+def most_bits(cells: Iterable[list[Half]]) -> int:
+    """How many bits what divides a bound along a line may have, where these half-planes meet."""
+    return 1 + 2 * max(abs(number).bit_length() for cell in cells for half in cell for number in half[:2])
 
 
 def ends_of(frame: Frame, cell: list[Half], equation: Half) -> list[Point]:
     """The closure of a cell that lies on a line: its two ends in their order, one point, or nothing."""
-    line = line_of(equation)
-    bounds = bounds_on(line, frame, cell)
-    ends = {line.point(end) for end in span_of(bounds)} if bounds else set()
+    table = Table(line_of(equation), frame, most_bits([cell]))
+    table.add(cell)
+    ends = {table.point(end) for span in table.spans for end in span}
     return [(Fraction(x), Fraction(y)) for x, y in sorted(ends)]
 
 
-def bounds_of(error: Error) -> Optional[dict[Line, set[Bounds]]]:
-    """The bounds of an error's cells by the lines on which they lie; none where one may have an area."""
-    found: dict[Line, set[Bounds]] = {}
-    for cell in error.cells:
-        equation = equation_of(cell)
+def tables_of(error: Error, bits: int) -> Optional[dict[Line, Table]]:
+    """The same as `bounds_of` says; an OverflowError where what divides a bound has more bits."""
+    found: dict[Line, Table] = {}
+    known: dict[Told, Table] = {}
+    for cell in error.cells.split() if isinstance(error.cells, Cells) else error.cells:
+        equation = cell[0] if cell[0] in known else equation_of(cell)
         if equation is None:
             return None
-        line = line_of(equation)
-        bounds = bounds_on(line, error.frame, cell)
-        if bounds:
-            found.setdefault(line, set()).add(bounds)
+        if equation not in known:
+            line = line_of(numbers_of(equation))
+            known[equation] = found[line] = found.get(line) or Table(line, error.frame, bits)
+        known[equation].add(cell)
     return found
 
 
-def stops_in(found: dict[Line, set[Bounds]]) -> set[Point]:
+def bounds_of(error: Error) -> Optional[dict[Line, Table]]:
+    """The spans of an error's cells by the lines on which they lie; none where one may have an area."""
+    try:
+        return tables_of(error, BITS)
+    except OverflowError:
+        return tables_of(error, most_bits(error.cells))
+
+
+def stops_in(found: dict[Line, Table]) -> set[Point]:
     """The ends of all cells that lie on lines, also where two of them on one line meet."""
-    return {line.point(end) for line, bounds in found.items() for each in bounds for end in span_of(each)}
+    return {table.point(end) for table in found.values() for end in set().union(*table.spans)}
 
 
 def merged(spans: Iterable[Span]) -> list[Span]:
@@ -163,9 +221,8 @@ def beside(points: set[Point], segments: list[Segment]) -> list[Point]:
     return sorted(point for point in points - at_ends if not is_held(point, near(point)))
 
 
-def parts_on_lines(found: dict[Line, set[Bounds]]) -> tuple[list[Segment], list[Point]]:
+def parts_on_lines(found: dict[Line, Table]) -> tuple[list[Segment], list[Point]]:
     """What such cells cover: as few segments as there can be, and the points beside them."""
-    spans = [(line, span) for line, bounds in found.items() for span in merged(list(map(span_of, bounds)))]
-    ends = [(line.point(low), line.point(high)) for line, (low, high) in spans]
+    ends = [(table.point(low), table.point(high)) for table in found.values() for low, high in merged(table.spans)]
     segments = sorted((min(pair), max(pair)) for pair in ends if pair[0] != pair[1])
     return segments, beside({p for p, q in ends if p == q}, segments)
