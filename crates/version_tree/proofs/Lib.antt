@@ -9,3 +9,4 @@ mod Becoming
 mod Merges
 mod Least
 mod Posts
+mod Current

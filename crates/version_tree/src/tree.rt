@@ -27,7 +27,7 @@ const VERSION_LIMIT: usize = 8;
 #[derive(Drop)]
 pub struct Tree<R> {
     alloc: Global,
-    current: Version<R>,
+    pub(crate) current: Version<R>,
     others: Vec<Version<R>>,
 }
 
