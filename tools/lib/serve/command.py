@@ -46,21 +46,21 @@ def program_words(given: str) -> list[str]:
 
 def parser() -> argparse.ArgumentParser:
     found = argparse.ArgumentParser(prog='topo-serve', description='Serves one project to several desks.',
-                                    epilog='Statuses: 0 stopped when asked to; 1 something failed; 2 wrong words; 3 what was kept is damaged, '
+                                    epilog='Statuses: 0 stopped when asked to; 1 something failed; 2 wrong arguments; 3 what was kept is damaged, '
                                            'or the program replies otherwise than before.')
     found.add_argument('folder', metavar='FOLDER', help='where the service keeps its project, its journal and its archive')
     found.add_argument('--from', dest='first', metavar='PROJECT', default='-', help='the saved project to begin with, the first time; else the empty one')
-    found.add_argument('--rights', metavar='FILE', help='who may what; read again on SIGHUP')
+    found.add_argument('--rights', metavar='FILE', help='the file of rights: who may do what; read again on SIGHUP')
     found.add_argument('--socket', metavar='PATH', help='listen at a unix socket')
     found.add_argument('--mode', type=lambda text: int(text, 8), default=0o660, help='the mode of that socket (660)')
     found.add_argument('--listen', metavar='HOST:PORT', help='listen by TLS')
     found.add_argument('--certificate', metavar='FILE', help='what this service shows, as PEM')
-    found.add_argument('--key', metavar='FILE', help='the key to that, as PEM without a word')
+    found.add_argument('--key', metavar='FILE', help='its key, as PEM without a password')
     found.add_argument('--authority', metavar='FILE', help='whose certificates clients must show, as PEM')
     found.add_argument('--program', metavar='WORDS', default='', help='the program; else the one that belongs to these tools')
-    found.add_argument('--save-each', type=int, metavar='N', default=Settings().save_each, help='save the project anew each N lines (%(default)s)')
+    found.add_argument('--save-each', type=int, metavar='N', default=Settings().save_each, help='save the project every N lines (%(default)s)')
     found.add_argument('--run-bytes', type=int, metavar='N', default=Settings().run_bytes, help='begin the run anew after N bytes (%(default)s)')
-    found.add_argument('--idle', type=float, metavar='SECONDS', default=0.0, help='end a session without a line for so long (never)')
+    found.add_argument('--idle', type=float, metavar='SECONDS', default=0.0, help='end a session in which no line came for this long (never)')
     found.add_argument('--line-seconds', type=float, metavar='SECONDS', default=Bounds().line_seconds, help='time for a line or a batch (%(default)s)')
     found.add_argument('--buffer', type=int, metavar='BYTES', default=Bounds().buffer, help='replies that may wait for a client (%(default)s)')
     found.add_argument('--clients', type=int, metavar='N', default=256, help='at most N clients at each door (%(default)s)')
