@@ -29,7 +29,7 @@ usage: $called replay < SCRIPT                    replays a script on the empty 
        $called town SEED N                        makes a town of N rows, 1 to 60, and writes a summary of it
        $called --version | --help$more
 
-Status: 0 all was done; 1 so too, but for the lines that were refused; else standard error says what happened.
+Status: 0 all was done; 1 all except the lines that were refused; otherwise standard error says what happened.
 Documents: $pages
 END
 }
