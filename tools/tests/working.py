@@ -7,7 +7,10 @@ import shutil
 import subprocess
 import tempfile
 import unittest
-from typing import NamedTuple, Sequence
+from importlib.machinery import SourceFileLoader
+from importlib.util import module_from_spec, spec_from_loader
+from types import ModuleType
+from typing import Iterator, NamedTuple, Sequence
 
 TOOLS = os.path.dirname(os.path.dirname(os.path.abspath(__file__)))
 PROGRAM = os.environ.get('TOPO', os.path.join(os.path.dirname(TOOLS), '.build', 'topo')).split('\n')
@@ -21,12 +24,10 @@ class Done(NamedTuple):
     told: str
 
 
-class Case(unittest.TestCase):
-    """A test in a folder of its own."""
+class Place:
+    """A folder of a test's own, and what is done in it."""
 
-    def setUp(self) -> None:
-        self.folder = tempfile.mkdtemp()
-        self.addCleanup(shutil.rmtree, self.folder)
+    folder: str
 
     def path(self, name: str) -> str:
         return os.path.join(self.folder, name)
@@ -54,14 +55,42 @@ class Case(unittest.TestCase):
         with open(self.path('made.geojson'), 'w', encoding='utf-8') as out:
             json.dump({'type': 'FeatureCollection', 'name': layer, 'features': features}, out)
         done = self.run_words(['ogr2ogr', '-a_srs', 'EPSG:31467', '-nln', layer, *more, name, 'made.geojson'])
-        self.assertEqual((done.status, done.told), (0, ''))
+        assert (done.status, done.told) == (0, ''), done
         return self.path(name)
 
     def rows(self, source: str, asked: str) -> list[dict]:
         """The rows that a query by SQLite finds in a source."""
         done = self.run_words(['ogr2ogr', '-f', 'GeoJSONSeq', '/vsistdout/', source, '-dialect', 'SQLite', '-sql', asked])
-        self.assertEqual(done.status, 0, done.told)
+        assert done.status == 0, done.told
         return [json.loads(line)['properties'] for line in done.out.splitlines()]
+
+
+class Case(Place, unittest.TestCase):
+    """A test in a folder of its own."""
+
+    def setUp(self) -> None:
+        self.folder = tempfile.mkdtemp()
+        self.addCleanup(shutil.rmtree, self.folder)
+
+
+def place() -> Iterator[Place]:
+    """The place of a test that is a plain function, and names it as its parameter."""
+    with tempfile.TemporaryDirectory() as folder:
+        made = Place()
+        made.folder = folder
+        yield made
+
+
+# What a plain function may name as a parameter: pytest gives it by conftest.py, unittest by plain.py.
+GIVEN = {'place': place}
+
+
+def tool_as_module(name: str) -> ModuleType:
+    """A tool whose functions a test calls."""
+    loader = SourceFileLoader(name.replace('-', '_'), os.path.join(TOOLS, name))
+    module = module_from_spec(spec_from_loader(loader.name, loader))
+    loader.exec_module(module)
+    return module
 
 
 def polygon(*rings: Sequence[tuple[float, float]]) -> dict:
