@@ -1,11 +1,20 @@
 #!/usr/bin/python3
-"""Finds overlaps and gaps of parcels by Shapely: by_shapely.py IN.gpkg OUT.gpkg. What bench/pipeline.py measures beside topo."""
+"""Finds overlaps and gaps of parcels by Shapely. What bench/pipeline.py measures beside topo.
+
+usage: bench/by_shapely.py IN.gpkg OUT.gpkg
+"""
 from __future__ import annotations
 
-import sys
+import argparse
 import warnings
 from typing import Any, Iterable
 
+parser = argparse.ArgumentParser(description=__doc__, formatter_class=argparse.RawDescriptionHelpFormatter, usage=argparse.SUPPRESS)
+parser.add_argument('source', help=argparse.SUPPRESS)
+parser.add_argument('out', help=argparse.SUPPRESS)
+GIVEN = parser.parse_args()
+
+# After the words, so that `--help` needs none of these.
 import numpy
 import shapely
 from osgeo import gdal, ogr
@@ -64,7 +73,7 @@ def put(layer: Any, shape: Any, texts: Iterable[str] = ()) -> None:
 
 
 def main() -> None:
-    source, out = sys.argv[1:]
+    source, out = GIVEN.source, GIVEN.out
     names, shapes = read(source)
     opened, target = ogr.Open(source), ogr.GetDriverByName('GPKG').CreateDataSource(out)
     crs = opened.GetLayer(0).GetSpatialRef()

@@ -1,7 +1,7 @@
 #!/usr/bin/env python3
 """How long `Cell::is_empty` takes, in nanoseconds a call, beside the same elimination in C without proofs.
 
-    bench/cells.py [--times N]
+usage: bench/cells.py [--times N]
 
 Random cells have half-planes of every direction round the origin, of which a few exclude each other; nearly empty ones are polygons
 whose sides all pass within two units of the origin, so that no two sides alone exclude each other.
@@ -53,7 +53,7 @@ def seconds(command: list[str], times: int, text: str) -> tuple[float, str]:
 
 
 def main() -> None:
-    parser = argparse.ArgumentParser()
+    parser = argparse.ArgumentParser(description=__doc__, formatter_class=argparse.RawDescriptionHelpFormatter, usage=argparse.SUPPRESS)
     parser.add_argument('--times', type=int, default=400)
     times = parser.parse_args().times
     mine = timing_program('bench_cells')

@@ -1,7 +1,7 @@
 #!/usr/bin/env python3
 """How long the cells inside a polygon take, and those outside, how much memory, and how many there are.
 
-    bench/columns.py [--sizes N,..] [--baseline WORDS]
+usage: bench/columns.py [--sizes N,..] [--baseline WORDS]
 
 A ring lies between two parabolas; a comb has slanted teeth that lie above one another; a spiral goes out and comes back beside itself;
 a zigzag goes from side to side and comes back beside itself. Build `crates/bench_columns` first: `rt run -- 1 < stdin` in its folder.
@@ -84,7 +84,7 @@ def row(meter: Meter, baseline: list[str], name: str, vertices: Ring) -> None:
 
 
 def main() -> None:
-    parser = argparse.ArgumentParser()
+    parser = argparse.ArgumentParser(description=__doc__, formatter_class=argparse.RawDescriptionHelpFormatter, usage=argparse.SUPPRESS)
     parser.add_argument('--sizes', default='100,500,2000')
     parser.add_argument('--baseline', type=program_of)
     options = parser.parse_args()

@@ -31,7 +31,10 @@ from dataclasses import dataclass, field
 ROOT = os.path.dirname(os.path.dirname(os.path.abspath(__file__)))
 sys.path[:0] = [os.path.join(ROOT, 'tools', 'tests'), os.path.join(ROOT, 'tools')]
 
-import psycopg2
+try:
+    import psycopg2
+except ImportError:
+    psycopg2 = None
 
 from postgres import BOUND, Server
 
@@ -189,6 +192,8 @@ def words_of() -> argparse.Namespace:
 
 def main() -> int:
     words = words_of()
+    if psycopg2 is None:
+        sys.exit('postgis: psycopg2 is missing: install the package python3-psycopg2')
     print('| | First start, next start | Commit to errors, middle | 99th of a hundred | A client waits in COMMIT, middle and 99th | Memory |\n|---|---|---|---|---|---|')
     server = Server(is_durable=True)
     try:

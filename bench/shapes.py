@@ -1,7 +1,7 @@
 #!/usr/bin/env python3
 """How long `Shape::polygon` takes to accept a polygon or to refuse it, and what comes of it.
 
-    bench/shapes.py [--sizes N,..] [--baseline WORDS]
+usage: bench/shapes.py [--sizes N,..] [--baseline WORDS]
 
 A ring lies between two parabolas; a comb has slanted teeth that lie above one another; a spiral goes out and comes back beside itself;
 a star has spikes, and its last pair of segments crosses, and that alone; in a rosette nearly all pairs cross. Build
@@ -72,7 +72,7 @@ def baseline_time(folder: str, words: list[str], vertices: Ring, times: int) -> 
 
 
 def main() -> None:
-    parser = argparse.ArgumentParser()
+    parser = argparse.ArgumentParser(description=__doc__, formatter_class=argparse.RawDescriptionHelpFormatter, usage=argparse.SUPPRESS)
     parser.add_argument('--sizes', default='100,500,2000')
     parser.add_argument('--times', type=int, default=50)
     parser.add_argument('--baseline', type=program_of)

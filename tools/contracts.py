@@ -23,6 +23,7 @@ import sys
 from typing import Callable, Iterator, NamedTuple, Optional
 
 from lib.crates import dependencies
+from lib.frame import Words, framed
 
 ROOT = os.path.dirname(os.path.dirname(os.path.abspath(__file__)))
 CRATES = os.path.join(ROOT, 'crates')
@@ -244,15 +245,18 @@ def lines_by_crate(functions: dict[str, list[str]]) -> list[str]:
 
 
 def main() -> int:
-    if sys.argv[1:] == ['--without']:
+    parser = Words('contracts.py', __doc__)
+    parser.add_argument('--without', action='store_true')
+    parser.add_argument('crates', nargs='*')
+    given = parser.parse_args()
+    if given.without:
         print_without()
         return 0
-    chosen = set(sys.argv[1:])
     for function, clause, count in counts():
-        if not chosen or function.crate in chosen:
+        if not given.crates or function.crate in given.crates:
             print('%3d %s, %s' % (count, shown(function), clause))
     return 0
 
 
 if __name__ == '__main__':
-    sys.exit(main())
+    sys.exit(framed('contracts.py', main))

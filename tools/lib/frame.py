@@ -1,10 +1,11 @@
 """The frame round every tool: what it tells on standard error, and its status where it could not do what was asked."""
 from __future__ import annotations
 
+import argparse
 import os
 import re
 import sys
-from typing import Callable
+from typing import Callable, NoReturn, Optional
 
 from . import outputs
 
@@ -39,6 +40,21 @@ def reason_of(fault: BaseException) -> str:
     if isinstance(fault, (ValueError, ArithmeticError, RecursionError)):
         return 'what it was given is nothing that it can read: %s' % fault
     return 'a fault of the tool itself, which you may report: %s: %s' % (type(fault).__name__, fault)
+
+
+class Words(argparse.ArgumentParser):
+    """The words of a tool, which its own text describes: `--help` prints that."""
+
+    def __init__(self, name: str, text: Optional[str]) -> None:
+        super().__init__(prog=name, allow_abbrev=False)
+        self.text = (text or '').strip() + '\n'
+
+    def format_help(self) -> str:
+        return self.text
+
+    def error(self, message: str) -> NoReturn:
+        say('%s: %s; --help says more' % (self.prog, message))
+        sys.exit(COULD_NOT)
 
 
 def framed(name: str, tool: Callable[[], int], *expected: type[Exception]) -> int:

@@ -5,16 +5,21 @@ usage: qgis_desktop.py FOLDER [PICTURE]      FOLDER is empty; PICTURE takes what
 
 It starts a server and topo-postgis, and QGIS with a profile of its own; `qgis_inside.py` then works in that QGIS. Needs Xvfb and xauth.
 """
+from __future__ import annotations
+
 import os
 import subprocess
 import sys
+from typing import TYPE_CHECKING
 
 HERE = os.path.dirname(os.path.abspath(__file__))
 TOOLS = os.path.dirname(HERE)
 sys.path[:0] = [HERE, TOOLS]
 
-from beside import PARCELS, SETUP, Client, Service
-from postgres import Server
+from lib.frame import Words
+
+if TYPE_CHECKING:
+    from postgres import Server
 
 LONG = 240
 SCREEN = '-screen 0 1440x860x24'
@@ -59,8 +64,13 @@ def run_qgis(home: str, server: Server, picture: str) -> str:
 
 
 def main() -> int:
-    folder = os.path.abspath(sys.argv[1])
-    picture = os.path.abspath(sys.argv[2]) if len(sys.argv) > 2 else os.path.join(folder, 'picture.png')
+    parser = Words('qgis_desktop.py', __doc__)
+    parser.add_argument('folder', type=os.path.abspath)
+    parser.add_argument('picture', type=os.path.abspath, nargs='?')
+    given = parser.parse_args()
+    from beside import PARCELS, SETUP, Client, Service
+    from postgres import Server
+    folder, picture = given.folder, given.picture or os.path.join(given.folder, 'picture.png')
     server = Server()
     try:
         server.sql(PARCELS)
