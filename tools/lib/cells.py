@@ -7,7 +7,7 @@ from typing import NamedTuple, Optional
 
 from .outlines import Outline, Point, doubled_area, line_key, outlines_of, turn
 from .replies import Error, Frame, Half
-from .spans import Segment, beside, bounds_of, ends_of, equation_of, parts_on_lines, stops_in
+from .spans import Segment, beside, bounds_of, ends_of, equation_of, numbers_of, parts_on_lines, stops_in
 
 # A box that meets more squares is compared with all.
 MOST_SQUARES = 1024
@@ -62,7 +62,7 @@ def corners_of(frame: Frame, cell: list[Half]) -> list[Point]:
     """The corners of a cell's closure: of a polygon counter-clockwise, of a segment its two ends, or one point; of none nothing."""
     equation = equation_of(cell)
     if equation:
-        return ends_of(frame, cell, equation)
+        return ends_of(frame, cell, numbers_of(equation))
     x0, y0, x1, y1 = frame
     triples = [(x0 - 1, y0 - 1, 1), (x1 + 1, y0 - 1, 1), (x1 + 1, y1 + 1, 1), (x0 - 1, y1 + 1, 1)]
     for a, b, c, op in dict.fromkeys(cell):
@@ -194,16 +194,19 @@ def cover_of(closures: list[list[Point]]) -> Cover:
     if len(closures) == 1 and len(closures[0]) > 2:
         return Cover([Outline(closures[0], [])], [], [])
     by = multiple_of(closures)
-    back = lambda points: [(Fraction(x, by), Fraction(y, by)) for x, y in points]
+
+    def back(point: Point) -> Point:
+        return Fraction(point[0], by), Fraction(point[1], by)
+
     closures = [scaled(corners, by) for corners in closures]
     areas = [corners for corners in closures if len(corners) > 2]
     segments = dict.fromkeys((corners[0], corners[1]) for corners in closures if len(corners) == 2)
     near = Near(areas)
-    lines = joined([tuple(back(part)) for segment in segments for part in rest_of(segment, near)])
+    lines = joined([(back(p), back(q)) for segment in segments for p, q in rest_of(segment, near)])
     inside = lambda point: any(all(turn(p, q, point) >= 0 for p, q in zip(area, area[1:] + area[:1])) for area in near.to([point]))
     alone = {corners[0] for corners in closures if len(corners) == 1 and not inside(corners[0])}
-    outlines = [Outline(back(outline.shell), list(map(back, outline.holes))) for outline in outlines_of(areas)]
-    return Cover(outlines, lines, beside(set(back(alone)), lines))
+    outlines = [Outline([back(p) for p in outline.shell], [[back(p) for p in hole] for hole in outline.holes]) for outline in outlines_of(areas)]
+    return Cover(outlines, lines, beside({back(p) for p in alone}, lines))
 
 
 def cover_and_stops(error: Error) -> tuple[Cover, set[Point]]:

@@ -4,7 +4,7 @@ from __future__ import annotations
 import glob
 import os
 from functools import lru_cache
-from typing import Callable, Iterator, NamedTuple
+from typing import Callable, Iterator, NamedTuple, cast
 
 from .replies import Cells, Ending, Error, Listing, Origin, ReplyError, Rule, ending_of, errors_of, half_of
 
@@ -81,7 +81,7 @@ def moved_back(errors: list[Error], ending: Ending) -> Iterator[Error]:
     moved = mover(dx, dy)
     for error in errors:
         x0, y0, x1, y1 = error.frame
-        cells = Cells([', '.join(map(moved, halves)) for halves in error.cells.split()])
+        cells = Cells([', '.join(map(moved, halves)) for halves in cast(Cells, error.cells).split()])
         yield error._replace(subject=handle(error.subject), other=handle(error.other), frame=(x0 + dx, y0 + dy, x1 + dx, y1 + dy), cells=cells)
 
 

@@ -52,11 +52,13 @@ class Cells(Sequence[list[Half]]):
     def __len__(self) -> int:
         return len(self.texts)
 
-    def __getitem__(self, at: int) -> list[Half]:
+    def __getitem__(self, at: int) -> list[Half]:  # type: ignore[override]  # nobody asks for a slice
         return [half_of(half) for half in self.texts[at].split(', ')]
 
     def __eq__(self, other: object) -> bool:
-        return list(self) == list(other) if isinstance(other, Sequence) else NotImplemented
+        if not isinstance(other, Sequence):
+            return NotImplemented
+        return list(self) == list(other)
 
     def split(self) -> Iterator[list[str]]:
         """Each cell as the texts of its half-planes."""
@@ -192,22 +194,24 @@ def frame_of(words: Iterable[str]) -> Frame:
     return x0, y0, x1, y1
 
 
-def error_of(line: str) -> Error:
-    """The error of a line of a listing, without cells yet."""
+def error_of(line: str, cells: list[str]) -> Error:
+    """The error of a line of a listing, with the texts of its cells, which may come later."""
     mark, rule, subject, other, extent, *frame = line.split()
-    return Error(mark, int(rule), int(subject), int(other), extent, frame_of(frame), Cells([]))
+    return Error(mark, int(rule), int(subject), int(other), extent, frame_of(frame), Cells(cells))
 
 
 def each_error(lines: Iterable[str]) -> Iterator[Error]:
     """The errors of a listing, without its total, one at a time."""
     error: Optional[Error] = None
+    cells: list[str] = []
     for line in lines:
         if error and line.startswith('cell '):
-            error.cells.texts.append(line[5:])
+            cells.append(line[5:])
             continue
         if error:
             yield error
-        error = error_of(line)
+        cells = []
+        error = error_of(line, cells)
     if error:
         yield error
 

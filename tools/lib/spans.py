@@ -153,7 +153,10 @@ def tables_of(error: Error, bits: int) -> Optional[dict[Line, Table]]:
     """The same as `bounds_of` says; an OverflowError where what divides a bound has more bits."""
     found: dict[Line, Table] = {}
     known: dict[Told, Table] = {}
-    for cell in error.cells.split() if isinstance(error.cells, Cells) else error.cells:
+    cells: Iterable[Sequence[Told]] = error.cells
+    if isinstance(error.cells, Cells):
+        cells = error.cells.split()
+    for cell in cells:
         equation = cell[0] if cell[0] in known else equation_of(cell)
         if equation is None:
             return None

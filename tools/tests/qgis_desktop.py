@@ -65,12 +65,13 @@ def run_qgis(home: str, server: Server, picture: str) -> str:
 
 def main() -> int:
     parser = Words('qgis_desktop.py', __doc__)
-    parser.add_argument('folder', type=os.path.abspath)
-    parser.add_argument('picture', type=os.path.abspath, nargs='?')
+    parser.add_argument('folder')
+    parser.add_argument('picture', nargs='?')
     given = parser.parse_args()
     from beside import PARCELS, SETUP, Client, Service
     from postgres import Server
-    folder, picture = given.folder, given.picture or os.path.join(given.folder, 'picture.png')
+    folder = os.path.abspath(given.folder)
+    picture = os.path.abspath(given.picture or os.path.join(folder, 'picture.png'))
     server = Server()
     try:
         server.sql(PARCELS)

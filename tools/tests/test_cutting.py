@@ -40,7 +40,7 @@ def rings_in(shape: Shape) -> list:
 
 
 def area(shape: Shape) -> Fraction:
-    areas = [-abs(doubled_area(ring)) if number else abs(doubled_area(ring)) for part in shape.parts for number, ring in enumerate(part)]
+    areas = [abs(Fraction(doubled_area(ring))) * (-1 if number else 1) for part in shape.parts for number, ring in enumerate(part)]
     return sum(areas, Fraction(0))
 
 
