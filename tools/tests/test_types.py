@@ -22,7 +22,8 @@ def pieces(folder: str) -> list[str]:
 
 def scripts() -> list[str]:
     """The programs in Python that are no modules."""
-    return [path for path in programs() if not path.endswith('.py') and begins_with(path, b'#!/usr/bin/env python3') or begins_with(path, b'#!/usr/bin/python3')]
+    python = b'#!/usr/bin/env python3', b'#!/usr/bin/python3'
+    return [path for path in programs() if not path.endswith('.py') and any(begins_with(path, line) for line in python)]
 
 
 def read_by_mypy(place: Place, files: list[str]) -> str:
