@@ -12,17 +12,21 @@ FORMS = {'class': 'class NAME KIND', 'rule': 'rule WORD ORIGIN', 'droprule': 'dr
          'dirty': 'dirty', 'errors': 'errors', 'cells': 'cells', 'features': 'features', 'rules': 'rules',
          'mark': 'mark R SUBJECT OTHER', 'unmark': 'unmark R SUBJECT OTHER', 'corners': 'corners R SUBJECT OTHER'}
 DEEDS = {'add': 'by EDITOR add CLASS WKT', 'change': 'by EDITOR change H WKT', 'delete': 'by EDITOR delete H',
-         'retype': 'by EDITOR retype H S', 'undo': 'by EDITOR undo', 'redo': 'by EDITOR redo'}
+         'retype': 'by EDITOR retype H S', 'undo': 'by EDITOR undo', 'redo': 'by EDITOR redo', 'explode': 'by EDITOR explode H',
+         'snap': 'by EDITOR snap R H END X Y', 'create': 'by EDITOR create R H X Y', 'move': 'by EDITOR move X Y X2 Y2'}
 
 # The codes of refusals by the word of the line, beside E01 and E02, which any line can have; and what stands behind a code.
 OF_SHAPES = 'E14 E15 E16 E17 E18 '
 CODES = {'class': 'E03 E04', 'rule': 'E05 E06 E07 E08', 'droprule': 'E09', 'begin': 'E10 E11', 'end': 'E12', 'discard': 'E12',
          'add': OF_SHAPES + 'E12 E05 E13 E21', 'change': OF_SHAPES + 'E12 E19 E20 E13', 'delete': 'E12 E19 E20', 'retype': 'E12 E19 E20',
-         'undo': 'E12 E22', 'redo': 'E12 E23', 'validate': 'E15 E24', 'mark': 'E25 E26', 'unmark': 'E25 E26', 'corners': 'E25'}
+         'undo': 'E12 E22', 'redo': 'E12 E23', 'explode': 'E12 E19 E20 E34 E21', 'snap': 'E15 E12 E09 E19 E20 E34 E18',
+         'create': 'E15 E12 E09 E19 E34 E21', 'move': 'E15 E12 E34 E20 E18', 'validate': 'E15 E24',
+         'mark': 'E25 E26', 'unmark': 'E25 E26', 'corners': 'E25'}
 DETAILS = {'E14': 'N', 'E15': 'N', 'E16': 'N', 'E17': 'N', 'E18': '(?:few N|many N|cross N N|along N N)', 'E20': 'NAME'}
 
 # The replies by the word of the line: where it has none here, `ok`. The lines of a listing, without its total.
-DONE = {'class': 'ok N', 'rule': 'ok N', 'add': 'ok N', 'validate': 'ok judged N errors N dirty N'}
+DONE = {'class': 'ok N', 'rule': 'ok N', 'add': 'ok N', 'validate': 'ok judged N errors N dirty N', 'explode': 'ok parts N', 'create': 'ok N',
+        'move': 'ok moved N'}
 ERROR = '(?:error|exception) N N N (?:cells|whole) I I I I'
 LISTED = {'dirty': 'dirty I I I I', 'errors': ERROR, 'cells': ERROR + '|cell HALF(?:, HALF)*', 'features': 'feature N CLASS SHAPE .+',
           'rules': 'rule N WORD ORIGIN(?: DEST)?', 'corners': 'corner N FRACTION FRACTION'}
@@ -30,9 +34,10 @@ LISTED = {'dirty': 'dirty I I I I', 'errors': ERROR, 'cells': ERROR + '|cell HAL
 NUMBER, INTEGER, NAME = '[0-9]+', '-?[0-9]+', '[A-Za-z][A-Za-z0-9_]*'
 SUBTYPE = '0*(?:25[0-5]|2[0-4][0-9]|1[0-9][0-9]|[0-9][0-9]?)'
 SIDE = '%s(?::%s)?' % (NAME, SUBTYPE)
-PIECES = {'N': NUMBER, 'R': NUMBER, 'H': NUMBER, 'SUBJECT': NUMBER, 'OTHER': NUMBER, 'S': SUBTYPE, 'CLASS': SIDE, 'ORIGIN': SIDE, 'DEST': SIDE, 'I': INTEGER, 'X0': INTEGER, 'Y0': INTEGER,
-          'X1': INTEGER, 'Y1': INTEGER, 'KIND': '(?:point|line|polygon)', 'WORD': '(?:%s)' % '|'.join(KINDS_OF), 'WKT': '.+',
-          'SHAPE': '(?:%s)' % '|'.join(KINDS), 'HALF': ' '.join([INTEGER] * 3) + ' (?:>=|>|=)', 'FRACTION': INTEGER + '(?:/[0-9]+)?'}
+PIECES = {'N': NUMBER, 'R': NUMBER, 'H': NUMBER, 'END': NUMBER, 'SUBJECT': NUMBER, 'OTHER': NUMBER, 'S': SUBTYPE, 'CLASS': SIDE, 'ORIGIN': SIDE, 'DEST': SIDE,
+          'I': INTEGER, 'X': INTEGER, 'Y': INTEGER, 'X0': INTEGER, 'Y0': INTEGER, 'X1': INTEGER, 'Y1': INTEGER, 'X2': INTEGER, 'Y2': INTEGER,
+          'KIND': '(?:point|line|polygon)', 'WORD': '(?:%s)' % '|'.join(KINDS_OF), 'WKT': '.+', 'SHAPE': '(?:%s)' % '|'.join(KINDS),
+          'HALF': ' '.join([INTEGER] * 3) + ' (?:>=|>|=)', 'FRACTION': INTEGER + '(?:/[0-9]+)?'}
 
 
 class Fit(NamedTuple):
@@ -50,7 +55,7 @@ def piece(word: re.Match[str]) -> str:
 
 def pattern(form: str) -> re.Pattern[str]:
     """The texts of a form, in which each word in capitals stands for its piece: for a name, where PIECES has none."""
-    return re.compile(re.sub(r'\b[A-Z]+[01]?\b', piece, form))
+    return re.compile(re.sub(r'\b[A-Z]+[012]?\b', piece, form))
 
 
 def fit_of(word: str) -> Fit:

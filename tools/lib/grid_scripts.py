@@ -147,9 +147,29 @@ def session_line(rng: random.Random, editors: Sequence[str]) -> str:
     return rng.choice(['begin %s', 'by %s undo', 'by %s undo', 'by %s undo', 'by %s redo', 'by %s redo', 'end %s', 'discard %s']) % rng.choice(editors)
 
 
-def line(rng: random.Random, count: int, editors: Sequence[str]) -> str:
-    """One line of a script in which about so many features were added."""
-    if len(editors) > 1 and rng.random() < 0.5:
+FIXES = ('explode', 'snap', 'create', 'move')
+
+
+def fix_line(rng: random.Random, count: int, editors: Sequence[str]) -> str:
+    """A line that fixes an error or moves shared vertices, or undoes or redoes a step; its handle mostly is one of the first."""
+    editor, handle, rule = rng.choice(editors), rng.randint(1, count // 4 + 12), rng.randint(1, len(FIXABLE))
+    kind = rng.random()
+    if kind < 0.3:
+        return 'by %s %s' % (editor, rng.choice(['undo', 'undo', 'redo']))
+    if kind < 0.45:
+        return 'by %s explode %d' % (editor, handle)
+    if kind < 0.68:
+        return 'by %s snap %d %d %d %d %d' % (editor, rng.choice([1, 1, 1, rule]), handle, rng.choice([0, 1, 1, 2]), *place(rng))
+    if kind < 0.85:
+        return 'by %s create %d %d %d %d' % (editor, rng.choice([2, 3, rule]), handle, *place(rng))
+    return 'by %s move %d %d %d %d' % (editor, *place(rng), *place(rng))
+
+
+def line(rng: random.Random, count: int, editors: Sequence[str], fixes: bool = False) -> str:
+    """One line of a script in which about so many features were added; with fixes every other one is a fix, or undoes or redoes."""
+    if fixes and rng.random() < 0.5:
+        return fix_line(rng, count, editors)
+    if len(editors) > 1 and rng.random() < (0.1 if fixes else 0.5):
         return session_line(rng, editors)
     return edit(rng, count).replace('by ann', 'by ' + rng.choice(editors))
 
@@ -202,13 +222,28 @@ def rules() -> Iterator[str]:
 
 RULES = list(rules())
 FIRST, SECOND = RULES[::2], RULES[1::2]
+# The rules that a line fixes the errors of, by a snap, two points and parts
+FIXABLE = ['line_must_not_have_dangles roads', 'polygon_contains_point lots wells', 'line_endpoint_must_be_covered_by roads wells',
+           'line_must_be_single_part roads']
 
 
-def script(seed: int, editors: Sequence[str]) -> str:
+def ground(rng: random.Random, editors: Sequence[str]) -> Iterator[str]:
+    """Lines that add features, which no undo takes back: every session ends behind them and begins anew."""
+    for _ in range(rng.randint(8, 20)):
+        name, shape = rng.choice([('roads', course), ('roads', course), ('roads', course), ('lots', area), ('wells', spot)])
+        yield 'by %s add %s %s' % (rng.choice(editors), name, shape(rng))
+    for name in editors:
+        yield 'end ' + name
+        yield 'begin ' + name
+
+
+def script(seed: int, editors: Sequence[str], fixes: bool = False) -> str:
     rng = random.Random(seed)
     lines = ['class %s %s' % (name, kind) for kind, names in CLASSES.items() for name in names]
     lines += ['begin ' + name for name in editors]
+    lines += ['rule ' + rule for rule in FIXABLE if fixes]
     lines += ['rule ' + rule for rule in rng.sample(FIRST, rng.randint(3, 9)) + rng.sample(SECOND, rng.randint(0, 3))]
+    lines += ground(rng, editors) if fixes else []
     for n in range(rng.randint(15, 55 * min(2, len(editors)))):
-        lines.append(line(rng, n, editors))
+        lines.append(line(rng, n, editors, fixes))
     return '\n'.join(lines + ['cells', 'dirty', 'validate all', 'cells', 'features']) + '\n'

@@ -23,7 +23,7 @@ List = list[Position]
 Field = Union[str, int, float, None]
 
 TYPES = {'error_polygons': 'MultiPolygon', 'error_lines': 'MultiLineString', 'error_points': 'MultiPoint', 'gaps': 'MultiPolygon',
-         'perimeter': 'MultiLineString', 'dirty': 'Unknown'}
+         'perimeter': 'MultiLineString', 'dirty': 'Unknown', 'fixes': 'Unknown'}
 
 
 class Geometry(NamedTuple):

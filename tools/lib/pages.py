@@ -16,12 +16,13 @@ from .mapping import GREY, OF_CLASS, OF_RULE, colour, rule_text
 from .outlines import Point
 from .replies import Frame
 from .rules import title_of
-from .scenes import Drawn, Marked, Scene, box_of
+from .scenes import Drawn, Marked, Scene, ShownFix, box_of
 from .spans import Segment
 
 TEMPLATE = os.path.join(os.path.dirname(os.path.abspath(__file__)), 'page.html')
 DIGITS = 3
 QUIET = '#7d8794'
+OF_FIX = ['#1b7f3b', '#0f6f7f', '#5f7f0f', '#2f9f6f', '#7f5f1b']
 UNIT = Grid(Fraction(1), Fraction(0), Fraction(0))
 NO_TITLE = re.compile('[\x00-\x1f\x7f-\x9f\ud800-\udfff\ufffe\uffff]')
 MOST_BESIDE = 4
@@ -119,6 +120,10 @@ class Pages:
                 self.number[rule, kind] = len(self.groups)
                 self.groups.append(self.group(rule, {'gap': 'Gaps', 'perimeter': 'Outer Perimeter'}[kind], of, kind))
 
+        self.hows = sorted({fix.how for fix in scene.fixes})
+        for how in self.hows:
+            self.groups.append(Group('Fixes: ' + how, '', 'tried by tools/fixes', colour(self.hows, how, OF_FIX), 'fix'))
+
     def group(self, rule: int, title: str, of: str, kind: str) -> Group:
         known = self.scene.ending.rules.get(rule)
         sides = ', '.join(side for side in known[1:] if side) if known else ''
@@ -152,11 +157,18 @@ class Pages:
         return [self.number[rule, 'gap'], [*map(rounded, (min(xs), min(ys), max(xs), max(ys)))], 0, 'beside ' + ', '.join(beside), 0,
                 self.size(gap.area, 0), [flat(ring) for ring in [gap.outline.shell] + gap.outline.holes], [], [], []]
 
+    def fix(self, fix: ShownFix) -> list:
+        """A fix as an error, with its lines and what it leaves in place of subject and other; its size is how far a vertex goes."""
+        at = len(self.groups) - len(self.hows) + self.hows.index(fix.how)
+        return [at, list(fix.frame), 0, '[%d] %s: %s' % (fix.number, fix.lines, fix.leaves), 0, [fix.distance, 1] if fix.distance else [0, 0], [],
+                [way for way in fix.ways if len(way) == 4], [], [number for way in fix.ways if len(way) == 2 for number in way]]
+
     def items(self) -> Iterator[list]:
-        """All errors in their order, and behind them the gaps."""
+        """All errors in their order, behind them the gaps, and then the fixes."""
         yield from map(self.error, self.scene.errors)
         for rule, ground in self.grounds.items():
             yield from (self.gap(rule, gap) for gap in ground.gaps)
+        yield from map(self.fix, self.scene.fixes)
 
     def data(self) -> dict:
         """All that the page draws."""

@@ -9,8 +9,10 @@ from .replies import Answer, Ending, ReplyError, misfit_text, named_by
 from .rules import KINDS_OF, nearest, of_kind
 from .texts import KINDS, lists_of, misfit_of, sides_of, tokens_of
 
-NUMBERS = {'H': 4294967295, 'SUBJECT': 4294967295, 'OTHER': 4294967295, 'R': 65535, 'S': 255}
-FROM_NONE = 'OTHER', 'S'
+NUMBERS = {'H': 4294967295, 'SUBJECT': 4294967295, 'OTHER': 4294967295, 'END': 4294967295, 'R': 65535, 'S': 255}
+FROM_NONE = 'OTHER', 'END', 'S'
+# The fixes, by the number of fields before their first coordinate.
+FIXES = {'explode': 4, 'snap': 6, 'create': 5, 'move': 3}
 SIDES = 'CLASS', 'ORIGIN', 'DEST'
 REACH = 4194304
 
@@ -26,6 +28,16 @@ class Refused(NamedTuple):
     @property
     def shape(self) -> str:
         return behind(self.line, 4).strip(' \t')
+
+    @property
+    def deed(self) -> str:
+        """What an editor's line does; nothing of another line."""
+        return self.words[2] if self.words[0] == 'by' else ''
+
+    @property
+    def handle(self) -> str:
+        """The handle of the feature that an editor's line names; the number of a rule stands before it in some."""
+        return self.words[4 if self.deed in ('snap', 'create') else 3]
 
 
 def behind(line: str, fields: int) -> str:
@@ -58,8 +70,8 @@ def side_fault(text: str) -> str:
     return name_fault(name) or (number_fault(subtype, NUMBERS['S'], 0) if colon else '')
 
 
-def window_fault(text: str) -> str:
-    return '' if re.fullmatch(r'-?[0-9]+', text) else '`%s` is no number of a window: one is digits, with or without `-` before them' % text
+def integer_fault(text: str) -> str:
+    return '' if re.fullmatch(r'-?[0-9]+', text) else '`%s` is no whole number: one is digits, with or without `-` before them' % text
 
 
 def choice_fault(word: str, words: list[str], what: str) -> str:
@@ -89,7 +101,7 @@ def piece_fault(piece: str, text: str) -> str:
     if piece in NUMBERS:
         return number_fault(text, NUMBERS[piece], piece not in FROM_NONE)
     if piece[0] in 'XY':
-        return window_fault(text)
+        return integer_fault(text)
     if piece == 'WKT':
         return text_fault(text)
     if piece in SIDES:
@@ -155,7 +167,8 @@ def off_grid(of: Refused) -> str:
 
 
 def beyond_reach(of: Refused) -> str:
-    number = of.words[1 + int(of.details[0])] if of.words[0] == 'validate' else token_at(of)
+    first = FIXES.get(of.deed, 1 if of.words[0] == 'validate' else 0)
+    number = of.words[first + int(of.details[0])] if first else token_at(of)
     return '`%s` is beyond the reach, which goes from -4,194,304 to 4,194,304' % number
 
 
@@ -173,6 +186,8 @@ def not_closed(of: Refused) -> str:
 
 def not_valid(of: Refused) -> str:
     word, *numbers = of.details
+    if of.deed in FIXES:
+        return not_valid_then(of, word, numbers)
     if word == 'few':
         return 'part or ring %s has too few vertices: a line has 2, a ring 3 that differ' % numbers[0]
     if word == 'many':
@@ -180,6 +195,29 @@ def not_valid(of: Refused) -> str:
     sides = sides_of(of.shape)
     told = ['%s from (%s) to (%s)' % (number, *sides[int(number)]) for number in numbers]
     return 'its segments %s and %s %s' % (*told, 'cross' if word == 'cross' else 'run along each other')
+
+
+def not_valid_then(of: Refused, word: str, numbers: list[str]) -> str:
+    """What would be wrong with the shape of a feature that a fix moves."""
+    whose = 'a shape that has the vertex' if of.deed == 'move' else 'the line'
+    if word == 'few':
+        return '%s would have too few vertices in its part or ring %s' % (whose, numbers[0])
+    if word == 'many':
+        return '%s would have %s vertices, and a shape has 2,000 at most' % (whose, format(int(numbers[0]), ','))
+    return 'the segments %s and %s of %s would %s' % (*numbers, whose, 'cross' if word == 'cross' else 'run along each other')
+
+
+def holder_text(of: Refused) -> str:
+    what = 'a feature that has the vertex' if of.deed == 'move' else 'the feature %s' % of.handle
+    return '%s is held by %s' % (what, ' '.join(of.details))
+
+
+def nothing_to_fix(of: Refused) -> str:
+    """What a fix asks for that is not so."""
+    return {'explode': lambda: 'feature %s is no line of two or more parts' % of.handle,
+            'snap': lambda: 'by rule %s end %s of feature %s is no dangle, or no other line of its class holds (%s %s)' % (of.words[3], of.words[5], of.handle, *of.words[6:8]),
+            'create': lambda: 'rule %s asks for no point of feature %s at (%s %s)' % (of.words[3], of.handle, *of.words[5:7]),
+            'move': lambda: 'no feature has a vertex at (%s %s), or it is to go where it is' % tuple(of.words[3:5])}[of.deed]()
 
 
 def no_class(of: Refused) -> str:
@@ -221,7 +259,7 @@ SENTENCES: dict[str, Callable[[Refused], str]] = {
     'E06': unfit_rule,
     'E07': lambda of: 'this rule is in force for these classes already',
     'E08': lambda of: '256 rules are in force, and no more can be',
-    'E09': lambda of: 'no rule in force has the number %s' % of.words[1],
+    'E09': lambda of: 'no rule in force has the number %s' % of.words[3 if of.deed else 1],
     'E10': lambda of: 'the session of `%s` is open already' % of.words[1],
     'E11': lambda of: '16 sessions are open, and no more can be',
     'E12': lambda of: 'no session of `%s` is open; a line `begin %s` opens it' % (of.words[1], of.words[1]),
@@ -231,14 +269,15 @@ SENTENCES: dict[str, Callable[[Refused], str]] = {
     'E16': not_supported,
     'E17': not_closed,
     'E18': not_valid,
-    'E19': lambda of: 'there is no feature %s' % of.words[3],
-    'E20': lambda of: 'the feature %s is held by %s' % (of.words[3], ' '.join(of.details)),
+    'E19': lambda of: 'there is no feature %s' % of.handle,
+    'E20': holder_text,
     'E21': lambda of: 'all handles are used up',
     'E22': lambda of: 'the session has nothing to undo',
     'E23': lambda of: 'the session has nothing to redo',
     'E24': lambda of: 'the window is reversed: its lower left corner comes first',
     'E25': lambda of: 'no error is listed of rule %s with subject %s and partner %s; `errors` lists them all' % tuple(of.words[1:4]),
     'E26': lambda of: 'the error is an exception already' if of.words[0] == 'mark' else 'the error is no exception',
+    'E34': nothing_to_fix,
 }
 
 

@@ -17,6 +17,8 @@ from .texts import KINDS
 MOST_BYTES = 1048576
 LISTINGS = ('errors', 'cells', 'dirty', 'features', 'rules')
 ENDS = ('ok', 'refused', 'total ')
+SESSION_LINES = ('begin', 'end', 'discard')
+FIX_LINES = ('explode', 'snap', 'create', 'move')
 SOURCE = re.compile(r'# fid (\S+)(?: id ("(?:[^"\\]|\\["\\/bfnrt]|\\u[0-9a-fA-F]{4})*"))?')
 ROLE = re.compile('# (subject|neighbour) ([0-9]+)')
 OF_FEATURE = ('# fid ', '# subject ', '# neighbour ', '# part ')
@@ -316,6 +318,8 @@ class Ending:
     changes: int = 0
     refused: int = 0
     waiting: list[str] = field(default_factory=list)
+    sessions: dict[str, None] = field(default_factory=dict)
+    next_handle: int = 0
 
     @property
     def grid(self) -> Optional[Grid]:
@@ -355,13 +359,15 @@ class Ending:
             self.rules[int(last[1])] = rule_of(words[1:])
         elif words[0] == 'droprule':
             self.rules.pop(int(words[1]), None)
+        elif words[0] in SESSION_LINES:
+            self.in_session(words)
         elif words[0] == 'by':
             self.edited(words[2:], last)
 
     def added(self, handle: int, side: str) -> None:
         """Takes a feature of a class or a subtype."""
         self.origins.tell(handle, side, self.waiting)
-        self.waiting = []
+        self.waiting, self.next_handle = [], handle + 1
 
     def edited(self, words: list[str], last: list[str]) -> None:
         """Takes an edit that was done: what it says of a feature beside its shape."""
@@ -369,6 +375,28 @@ class Ending:
             self.added(int(last[1]), words[1])
         elif words[0] == 'retype' and int(words[1]) in self.origins:
             self.origins[int(words[1])] = self.origins[int(words[1])]._replace(subtype=int(words[2]))
+        elif words[0] in FIX_LINES:
+            self.fixed(words, last)
+
+    def fixed(self, words: list[str], last: list[str]) -> None:
+        """Takes a fix that was done: the parts of a line come from where the line comes from; a point that was made is of the rule's class."""
+        if words[0] == 'explode':
+            origin, first = self.origins.get(int(words[1])), self.next_handle
+            if origin and first:
+                self.next_handle += int(last[2]) - 1
+                self.origins.update(dict.fromkeys(range(first, self.next_handle), origin))
+        elif words[0] == 'create':
+            rule = self.rules.get(int(words[1]))
+            name, subtype = named_by(rule.dest) if rule else ('', 0)
+            self.origins[int(last[1])] = Origin(name, subtype=subtype)
+            self.next_handle = int(last[1]) + 1
+
+    def in_session(self, words: list[str]) -> None:
+        """Takes a session that was opened or ended."""
+        if words[0] == 'begin':
+            self.sessions[words[1]] = None
+        else:
+            self.sessions.pop(words[1], None)
 
     def take(self, answer: Answer) -> None:
         if not answer.reply:

@@ -61,12 +61,26 @@ class Marked(NamedTuple):
         return [ring for outline in self.cover.polygons for ring in [outline.shell] + outline.holes]
 
 
+class ShownFix(NamedTuple):
+    """A fix of tools/fixes: its number, what it does, its lines, how far it moves a vertex in units of the source, what it leaves, its frame and the
+    numbers of its ways."""
+
+    number: int
+    how: str
+    lines: str
+    distance: float
+    leaves: str
+    frame: Frame
+    ways: list[list[int]]
+
+
 class Scene(NamedTuple):
     features: list[Drawn]
     errors: list[Marked]
     dirt: list[Frame]
     ending: Ending
     names: Names = NO_NAMES
+    fixes: tuple[ShownFix, ...] = ()
 
     def name_of(self, handle: int) -> str:
         """The id of a feature in its source, or its handle."""

@@ -257,14 +257,14 @@ class Frames(HostileCase):
     def test_what_is_not_there(self) -> None:
         """Status 2 and one sentence, whichever tool; 1 means something else."""
         for words in (['answers', 'no', 'no'], ['report', 'no', 'no'], ['to-gis', 'no', 'no', 'out'], ['changes', 'no', 'no', 'no', 'new'], ['lapsed', 'no', 'no'],
-                      ['marks', 'no', 'no', 'no'], ['draw', 'true', 'no', 'out'], ['draw', '--map', 'true', 'no', 'out'], ['tiles', 'merge', 'no'],
-                      ['towns', 'no', '--', 'no']):
+                      ['fixes', '--program', 'true', 'no', 'no'], ['marks', 'no', 'no', 'no'], ['draw', 'true', 'no', 'out'],
+                      ['draw', '--map', 'true', 'no', 'out'], ['tiles', 'merge', 'no'], ['towns', 'no', '--', 'no']):
             self.could_not(self.tool(*words), words[0] + ': ')
         self.assertEqual(self.tool('towns').status, 2)
 
     def test_help(self) -> None:
-        for words in (['from-ogr'], ['tiles'], ['tiles', 'split'], ['tiles', 'merge'], ['changes'], ['lapsed'], ['marks'], ['night'], ['report'], ['to-gis'],
-                      ['draw'], ['answers'], ['towns']):
+        for words in (['from-ogr'], ['tiles'], ['tiles', 'split'], ['tiles', 'merge'], ['changes'], ['lapsed'], ['fixes'], ['marks'], ['night'], ['report'],
+                      ['to-gis'], ['draw'], ['answers'], ['towns']):
             done = self.tool(*words, '--help')
             self.assertEqual((done.status, done.told), (0, ''))
             self.assertGreater(len(done.out), 60)

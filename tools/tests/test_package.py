@@ -10,7 +10,7 @@ from working import PROGRAM, TOOLS, Case, Done
 ROOT = os.path.dirname(TOOLS)
 
 
-TOOLS_INSTALLED = ('from-ogr', 'to-gis', 'answers', 'draw', 'report', 'changes', 'lapsed', 'marks', 'night', 'tiles', 'towns', 'serve', 'postgis')
+TOOLS_INSTALLED = ('from-ogr', 'to-gis', 'answers', 'draw', 'report', 'changes', 'lapsed', 'fixes', 'marks', 'night', 'tiles', 'towns', 'serve', 'postgis')
 
 
 def built() -> str:
@@ -44,6 +44,7 @@ class Installed(Case):
         self.assertEqual(self.run_words([words['tiles'], 'merge', 'tiles']).out, 'total 0\n')
         self.assertIn('changes PROJECT TABLE SCRIPT NEW_TABLE', self.run_words([words['changes'], '--help']).out)
         self.assertIn('lapsed EARLIER LATER', self.run_words([words['lapsed'], '--help']).out)
+        self.assertIn('fixes PROJECT', self.run_words([words['fixes'], '--help']).out)
         self.assertIn('class parcels polygon', self.run_words([words['towns'], '--script', '7', '3']).out)
         self.served(root, words['serve'])
         for name in words:

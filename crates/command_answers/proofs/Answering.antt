@@ -58,14 +58,14 @@ add_refusal s editor own shape n opened named =
     rw (opened, named) (only (changes (add_cause s.project.classes s.project.next n shape.kind)))
 
 -- an edit is refused as a deletion is, and then for its own cause
-edit_passed : (a b c d : Option Refusal) → first_of (a ∷ b ∷ c ∷ []) ≡ None → first_of (a ∷ b ∷ c ∷ d ∷ []) ≡ d
+pub edit_passed : (a b c d : Option Refusal) → first_of (a ∷ b ∷ c ∷ []) ≡ None → first_of (a ∷ b ∷ c ∷ d ∷ []) ≡ d
 edit_passed (Some x) b c d e = cc
 edit_passed None (Some x) c d e = cc
 edit_passed None None (Some x) d e = cc
 edit_passed None None None None e = refl
 edit_passed None None None (Some x) e = refl
 
-edit_stopped : (a b c d : Option Refusal) (r : Refusal) → first_of (a ∷ b ∷ c ∷ []) ≡ Some r → first_of (a ∷ b ∷ c ∷ d ∷ []) ≡ Some r
+pub edit_stopped : (a b c d : Option Refusal) (r : Refusal) → first_of (a ∷ b ∷ c ∷ []) ≡ Some r → first_of (a ∷ b ∷ c ∷ d ∷ []) ≡ Some r
 edit_stopped (Some x) b c d r e = e
 edit_stopped None (Some x) c d r e = e
 edit_stopped None None (Some x) d r e = e

@@ -3,6 +3,8 @@ pub mod ErrorCorners
 pub mod KeptLists
 pub mod Sessions
 pub mod Noting
+pub mod Planning
+pub mod Fixing
 pub mod Answering
 pub mod SessionLines
 pub mod FromScratch

@@ -54,7 +54,7 @@ room_noted name t old mid new r n =
     }
 
 -- ---- the step that is noted may stand
-noted_may : (may can : ℕ → Option Feature → Type 0) (s : KeptSession) (t : KeptStep) (u : KeptSession)
+pub noted_may : (may can : ℕ → Option Feature → Type 0) (s : KeptSession) (t : KeptStep) (u : KeptSession)
     → ((k : ℕ) (x : Option Feature) → may k x → can k x) → IsKeptNoted s t u → MayAll may s → can t.handle t.kept → MayAll can u
 noted_may may can s t u still k m c = record {
   done = subst (Every (λ (x : KeptStep). can x.handle x.kept)) (sym k.done) (each_end can s.done t (each_still may can s.done still m.done)
@@ -72,7 +72,7 @@ live_has P (g ∷ F) h f a e = by (eqb g.handle h) refl e (λ r. live_has P F h 
     by true k e r = let same : g ≡ f = cc in (subst P same a.0, ap (λ (x : Feature). x.handle) (sym same) ∙ eqb-true g.handle h k)
     by false k e r = r e
 
-live_may : (p : Project) (h : ℕ) (f : Feature) → IsStore p.classes p.features p.next → feature_at p.features h ≡ Some f
+pub live_may : (p : Project) (h : ℕ) (f : Feature) → IsStore p.classes p.features p.next → feature_at p.features h ≡ Some f
     → May p h (feature_at p.features h)
 live_may p h f s e =
     let g = live_has (IsGiven p.next) p.features h f s.given e in

@@ -23,14 +23,26 @@ use Rattle.sound_laws.proofs.Lists.{unmark, unmark_option, same_entries, entry_k
 use Rattle.sound_laws.proofs.Edits.{same_or_not}
 use Rattle.sound_laws.proofs.RuleLists.{same_rules}
 use Rattle.sound_laws.proofs.Settling.{alike_same}
-use Rattle.line_terms.specs.Commands.{Command, Blank, Class, Rule, DropRule, Begin, End, Discard, Add, Change, Delete, Retype, Undo, Redo, Validate, Mark, Unmark, Dirty, Errors, Cells, Features, Rules, Corners}
-use Rattle.script_terms.specs.Refusal.{Refusal}
-use Rattle.script_terms.specs.Reply.{Reply, Number, Judged, CornerList}
+use Rattle.line_terms.specs.Commands.{Command, Blank, Class, Rule, DropRule, Begin, End, Discard, Add, Change, Delete, Retype, Undo, Redo, Explode, Snap, Create, Move, Validate, Mark, Unmark, Dirty, Errors, Cells, Features, Rules, Corners}
+use Rattle.script_terms.specs.Refusal.{Refusal, BadShape}
+use Rattle.plane_terms.specs.Lists.{Every}
+use Rattle.plane_terms.specs.Shape.{Shape}
+use Rattle.plane_terms.specs.ShapeFaults.{IsFlawless}
+use Rattle.plane_terms.specs.declared.shape_fault.ShapeFault.{ShapeFault}
+use Rattle.plane_terms.specs.declared.shape_fault.ShapeFault.TheVariants.{NoMemory}
+use Rattle.wkt_text.proofs.OneShapeFault.{one_shape_fault}
+use Rattle.fix_terms.specs.Plans.{Edit, shapes_of, IsFirstFault}
+use Rattle.fix_terms.specs.declared.edit.Edit.TheVariants.{Put, Add as AddTo}
+use Rattle.fix_terms.specs.Explode.{exploded}
+use Rattle.fix_terms.specs.Snap.{snapped, HasSnapped}
+use Rattle.fix_terms.specs.Create.{created}
+use Rattle.fix_terms.specs.Move.{moves}
+use Rattle.script_terms.specs.Reply.{Reply, Done, Number, Parts, Moved, Judged, Refused, CornerList}
 use Rattle.script_terms.specs.State.{State}
 use Rattle.script_terms.proofs.Restoring.{taken_at}
 use Rattle.script_terms.proofs.Runs.{answers_by}
 use Rattle.script_terms.specs.Refusing.{refusal_of}
-use Rattle.script_terms.specs.Answer.{Answers, IsDone, LeavesNoted, IsUndone, IsRedone, IsDiscarded, AreTakenBack, added_step, IsCornerList}
+use Rattle.script_terms.specs.Answer.{Answers, IsDone, LeavesNoted, AreNoted, IsFixed, IsUndone, IsRedone, IsDiscarded, AreTakenBack, added_step, IsCornerList}
 use Rattle.plane_terms.proofs.Truths.{same_by_truth, there_or_not}
 use Rattle.session_terms.proofs.Chains.{end_same, head_same}
 use Rattle.plane_terms.proofs.ListLemmas.{those_one}
@@ -391,6 +403,40 @@ one_corner_list p r a b reply said (e, ks, at, are, is) (f, ls, here, have, says
     let same : e ≡ f = some_same (entry_at p.entries r a b) e f at here in
     is ∙ (ap CornerList (one_list 1 f.cells ks ls (subst (λ (x : Entry). AreOfCells 1 x.cells ks) same are) have) ∙ sym says)
 
+-- ---- plans
+noted_plan : (editor : List ℕ) (es : List Edit) (s t u : State) → AreNoted editor es s t → AreNoted editor es s u → t ≡ u
+noted_plan editor [] s t u i j = i ∙ sym j
+noted_plan editor (Put h x ∷ es) s t u (m, v, l, r) (n, w, k, q) =
+    let same : m ≡ n = noted_same editor s m n _ _ l k refl (edit_same h _ s.project m.project n.project v w l.1.project.edit
+    k.1.project.edit (l.1.project.next ∙ sym k.1.project.next)) in
+    noted_plan editor es n t u (subst (λ (d : State). AreNoted editor es d t) same r) q
+noted_plan editor (AddTo c b x ∷ es) s t u (m, v, l, r) (n, w, k, q) =
+    let same : m ≡ n = noted_same editor s m n _ _ l k refl (edit_same _ _ s.project m.project n.project v w l.1.project.edit
+    k.1.project.edit (l.1.project.next ∙ sym k.1.project.next)) in
+    noted_plan editor es n t u (subst (λ (d : State). AreNoted editor es d t) same r) q
+
+-- no shape of a plan has a fault, or the first that has one has just that
+none_bad : (ss : List Shape) (e : ShapeFault) → Every IsFlawless ss → IsFirstFault ss e → (e ≡ NoMemory → ⊥) → ⊥
+none_bad [] e h k n = k
+none_bad (s ∷ ss) e h (inl f) n = n (h.0 e f)
+none_bad (s ∷ ss) e h (inr r) n = none_bad ss e h.1 r.1 n
+
+one_bad : (ss : List Shape) (e f : ShapeFault) → (e ≡ NoMemory → ⊥) → (f ≡ NoMemory → ⊥) → IsFirstFault ss e → IsFirstFault ss f → e ≡ f
+one_bad [] e f m n h k = absurd h
+one_bad (s ∷ ss) e f m n (inl h) (inl k) = one_shape_fault s e f m n h k
+one_bad (s ∷ ss) e f m n (inl h) (inr k) = absurd (m (k.0 e h))
+one_bad (s ∷ ss) e f m n (inr h) (inl k) = absurd (n (h.0 f k))
+one_bad (s ∷ ss) e f m n (inr h) (inr k) = one_bad ss e f m n h.1 k.1
+
+fixed_same : {P Q : List Feature → Type 0} (editor : List ℕ) (es : List Edit) (says : Reply) (s t u : State) (reply said : Reply)
+    → IsFixed editor es P says s reply t → IsFixed editor es Q says s said u → Same reply t said u
+fixed_same editor es says s t u reply said (inl x) (inl y) = (x.1 ∙ sym y.1, noted_plan editor es s t u x.2.noted y.2.noted)
+fixed_same editor es says s t u reply said (inl x) (inr y) = absurd (none_bad (shapes_of es) y.0 x.0 y.1.first y.1.other)
+fixed_same editor es says s t u reply said (inr x) (inl y) = absurd (none_bad (shapes_of es) x.0 y.0 x.1.first x.1.other)
+fixed_same editor es says s t u reply said (inr x) (inr y) =
+    let same : x.0 ≡ y.0 = one_bad (shapes_of es) x.0 y.0 x.1.other y.1.other x.1.first y.1.first in
+    (x.2 ∙ (ap (λ (f : ShapeFault). Refused (BadShape f)) same ∙ sym y.2), kept_same s t u x.3 y.3)
+
 judged_same : (a b c x y z : ℕ) → a ≡ x → b ≡ y → c ≡ z → Judged a b c ≡ Judged x y z
 judged_same a b c x y z i j k = rw (i, j, k) refl
 
@@ -446,6 +492,23 @@ one_done C s t u (Retype editor h n) reply said v w d e = (
 )
 one_done C s t u (Undo editor) reply said v w d e = (d.0 ∙ sym e.0, undo_same editor s t u v w d.1 e.1)
 one_done C s t u (Redo editor) reply said v w d e = (d.0 ∙ sym e.0, redo_same editor s t u v w d.1 e.1)
+one_done C s t u (Explode editor h) reply said v w (f, a, d, i) (g, b, e, j) =
+    let same : f ≡ g = some_same (feature_at s.project.features h) f g a b in (
+      d ∙ (ap (λ (x : Feature). Parts (length x.shape.parts)) same ∙ sym e),
+      noted_plan editor (exploded g) s t u (subst (λ (x : Feature). AreNoted editor (exploded x) s t) same i.noted) j.noted,
+    )
+one_done C s t u (Snap editor r h n to) reply said v w (row, f, a, b, i) (rule, g, c, d, j) =
+    let rows : row ≡ rule = some_same (rule_at s.project.rules r) row rule a c in
+    let same : f ≡ g = some_same (feature_at s.project.features h) f g b d in
+    let k = subst (λ (x : Row). IsFixed editor (snapped n to f) (HasSnapped x f n to s.project.features) Done s reply t) rows i in
+    let l = subst (λ (x : Feature). IsFixed editor (snapped n to x) (HasSnapped rule x n to s.project.features) Done s reply t) same k in
+    fixed_same editor (snapped n to g) Done s t u reply said l j
+one_done C s t u (Create editor r h at) reply said v w (row, f, a, b, d, i) (rule, g, c, k, e, j) =
+    let rows : row ≡ rule = some_same (rule_at s.project.rules r) row rule a c in
+    (d ∙ sym e, noted_plan editor (created rule at) s t u (subst (λ (x : Row). AreNoted editor (created x at) s t) rows i.noted) j.noted)
+one_done C s t u (Move editor from to) reply said v w d e =
+    let F = s.project.features in
+    fixed_same editor (moves from to F) (Moved (length (moves from to F))) s t u reply said d e
 one_done C s t u (Validate win) reply said v w (j1, p, l1, is1) (j2, q, l2, is2) =
     let parts = validated_same C win s.project t.project u.project v w l1.project l2.project in
     let chosen = those_one _ s.project.features p.0 q.0 p.1 q.1 in

@@ -3,10 +3,10 @@
 -- state_of p ss     the project p with the sessions ss, as they are seen
 -- AllMay p ss       each kept step may stand at its handle
 -- IsRoomAlone name old new     the sessions are as they were, or but for room in the one of this name
--- is_discard c      the command c takes back the steps of a session
+-- may_stop c        the command c takes several steps, and memory may end between two of them: a discard or a fix
 -- IsWorld p ss      no handle has steps in two sessions, and the steps fit one another and what stands
 use Rattle.std.specs.Prelude.{◌≡◌, ◌⊎◌, ℕ, Bool, true, false, List}
-use Rattle.line_terms.specs.Commands.{Command, Discard}
+use Rattle.line_terms.specs.Commands.{Command, Discard, Explode, Snap, Create, Move}
 use Rattle.plane_terms.specs.Lists.{Every}
 use Rattle.topology_terms.specs.Feature.{feature_at}
 use Rattle.topology_terms.specs.Project.{Project}
@@ -30,6 +30,10 @@ pub record IsWorld (p : Project) (ss : List KeptSession) : Type 0 where
 abbrev pub IsRoomAlone : List ℕ → List KeptSession → List KeptSession → Type 0
 IsRoomAlone name old new = (new ≡ old) ⊎ IsRoomMade name old new
 
-abbrev pub is_discard : Command → Bool
-is_discard (Discard _) = true
-is_discard _ = false
+abbrev pub may_stop : Command → Bool
+may_stop (Discard _) = true
+may_stop (Explode _ _) = true
+may_stop (Snap _ _ _ _ _) = true
+may_stop (Create _ _ _ _) = true
+may_stop (Move _ _ _) = true
+may_stop _ = false

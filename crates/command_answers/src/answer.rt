@@ -4,7 +4,7 @@ ghost use Rattle.topology_terms.specs.Settled.{IsSettled};
 ghost use Rattle.topology_terms.specs.Sound.{IsSound};
 ghost use Rattle.line_terms.specs.Commands as commands;
 ghost use Rattle.script_text.specs.Seen.{command_of};
-ghost use Rattle.command_answers.specs.Worlds.{is_discard};
+ghost use Rattle.command_answers.specs.Worlds.{may_stop};
 ghost use Rattle.script_terms.specs.Answer.{Answers};
 ghost use Rattle.script_terms.specs.Reply as replies;
 ghost use Rattle.script_terms.specs.State.{State};
@@ -34,7 +34,7 @@ impl World {
         ensures answers { IfOk result (λ r. Answers self.old (command_of command) (said_of self.new.project r) self.new) }
         ensures sound { IsSound self.old.project → IsSound self.new.project }
         ensures settled { IsSettled self.old.project → IsSettled self.new.project }
-        ensures kept { OnErr result (is_discard (command_of command) ≡ false → self.new ≡ self.old) }
+        ensures kept { OnErr result (may_stop (command_of command) ≡ false → self.new ≡ self.old) }
     {
         match command {
             Command::Blank => Ok(Reply::Nothing),
@@ -52,6 +52,14 @@ impl World {
             ),
             Command::Undo(editor) => self.answer_undo(&editor),
             Command::Redo(editor) => self.answer_redo(&editor),
+            Command::Explode(editor, handle) => self.answer_explode(&editor, handle),
+            Command::Snap(editor, rule, handle, end, to) => self.answer_snap(
+                &editor, rule, handle, end, to,
+            ),
+            Command::Create(editor, rule, handle, at) => self.answer_create(
+                &editor, rule, handle, at,
+            ),
+            Command::Move(editor, from, to) => self.answer_move(&editor, from, to),
             Command::Validate(window) => self.answer_validate(window),
             Command::Mark(rule, subject, other) => {
                 Ok(self.answer_mark(Key {

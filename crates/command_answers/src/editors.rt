@@ -25,7 +25,7 @@ fn copy_of(name: &Name) -> Name
 
 // The editor of another session, where one holds the handle.
 #[tactic(auto, using(crate::proofs::SessionLines::held_none, crate::proofs::SessionLines::held_own, crate::proofs::SessionLines::held_other))]
-fn other_holder(sessions: &Sessions, editor: &Name, handle: u32) -> Option<Name>
+pub(crate) fn other_holder(sessions: &Sessions, editor: &Name, handle: u32) -> Option<Name>
     ensures { MatchOption result (held_by (kept_holder sessions.now handle) editor.now ≡ None)
         (λ n. held_by (kept_holder sessions.now handle) editor.now ≡ Some (refusals.HeldBy n)) }
 {

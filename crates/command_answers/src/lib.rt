@@ -6,6 +6,8 @@ mod classes;
 mod corners;
 mod editors;
 mod edits;
+mod fixes;
+mod planned;
 mod marks;
 mod noted;
 mod refused;

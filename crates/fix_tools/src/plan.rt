@@ -1,4 +1,4 @@
-ghost use Rattle.std.specs.Prelude.{◌≡◌, ◌++◌, [], ◌∷◌, length};
+ghost use Rattle.std.specs.Prelude.{◌≡◌, ◌++◌, [], ◌∷◌, length, None};
 ghost use Rattle.std.specs.Option.{option_to_list};
 
 use fix_terms::Edit;
@@ -31,7 +31,8 @@ impl Plan {
 
     /// Takes the first edit out; `None` where there is none. Takes no memory.
     pub fn take_first(&mut self) -> Option<Edit<Shape>>
-        ensures { self.old ≡ option_to_list result ++ self.new }
+        ensures first { self.old ≡ option_to_list result ++ self.new }
+        ensures empty { result ≡ None → self.old ≡ [] }
     {
         self.edits.pop_front()
     }

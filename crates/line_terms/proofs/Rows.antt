@@ -4,8 +4,9 @@ use Rattle.std.specs.Prelude.{codes}
 use Rattle.plane_terms.specs.declared.kind.Kind.TheVariants as shapes
 use Rattle.text_terms.specs.Numbers.{IsNumeral, IsSigned, IsWithinText}
 use Rattle.rule_words.specs.declared.rule_kind.RuleKind.TheVariants as rule
+use Rattle.plane_terms.specs.Point.{Place}
 use Rattle.plane_terms.specs.Rectangle.{rect_of}
-use Rattle.line_terms.specs.Commands.{Sided, Blank, Class, Rule, Add, Delete, Retype, Validate, All, Numbers, Rules, Corners}
+use Rattle.line_terms.specs.Commands.{Sided, Blank, Class, Rule, Add, Delete, Retype, Explode, Snap, Create, Move, Validate, All, Numbers, Rules, Corners}
 use Rattle.line_terms.specs.Forms.{HasForm}
 
 skipped : HasForm (codes " # class wells point") Blank
@@ -84,6 +85,25 @@ one = record { numeral = record { some = λ e. cc; digits = refl; value = refl }
 
 alone : IsWithinText 0 4294967295 (codes "0") 0
 alone = record { numeral = record { some = λ e. cc; digits = refl; value = refl }; at_least = omega arith; at_most = omega arith }
+
+-- fixes: an end is counted from 0, and a place may be beyond the reach
+abbrev at_0 : Place
+at_0 = record { x = pos 0; y = pos 0 }
+
+abbrev beyond : Place
+beyond = record { x = pos 4194305; y = pos 0 }
+
+explode_line : HasForm (codes "by ann explode 007") (Explode (codes "ann") 7)
+explode_line = (refl, ((refl, refl), (refl, (seven, refl))))
+
+snap_line : HasForm (codes "by ann snap 1 007 0 -0 -0") (Snap (codes "ann") 1 7 0 at_0)
+snap_line = (refl, ((refl, refl), (refl, (one, (seven, (alone, (zero_is, (zero_is, refl))))))))
+
+create_line : HasForm (codes "by ann create 1 007 -0 -0") (Create (codes "ann") 1 7 at_0)
+create_line = (refl, ((refl, refl), (refl, (one, (seven, (zero_is, (zero_is, refl)))))))
+
+move_line : HasForm (codes "by ann move 4194305 -0 -0 -0") (Move (codes "ann") beyond at_0)
+move_line = (refl, ((refl, refl), (refl, (far_is, (zero_is, (zero_is, (zero_is, refl)))))))
 
 corners_line : HasForm (codes "corners 1 007 0") (Corners 1 7 0)
 corners_line = (refl, (one, (seven, (alone, refl))))

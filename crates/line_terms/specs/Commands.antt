@@ -2,15 +2,16 @@
 --
 -- CommandOf S W  one constructor a command, with the values of its line's fields in their order; a name is its bytes; S stands for its
 --                shape,
---                and W for its window
+--                and W for its window; a place is two whole numbers
 -- Command        with the shape, and with the window's rectangle
 -- Sided          what a line speaks of by a name: a class, or one subtype of it
 -- Window         a window as it is written: as the word `all`, or as four whole numbers of any size, in the order of a rectangle's
 -- Form           what a line says: a command with the text of its shape, which is the rest of the line without the blanks at its ends, and
---                with its window as it is written
+--                with its window as it is written; its places may be beyond the reach
 --
 -- Blank is the command of a line that is skipped. Source: own.
 use Rattle.std.specs.Prelude.{ℕ, List, Option}
+use Rattle.plane_terms.specs.Point.{Place}
 use Rattle.plane_terms.specs.Rectangle.{Rectangle}
 use Rattle.plane_terms.specs.Shape.{Shape}
 use Rattle.plane_terms.specs.declared.kind.Kind.{Kind}
@@ -34,6 +35,10 @@ pub data CommandOf (S W : Type 0) : Type 0 where
   Retype : List ℕ → ℕ → ℕ → CommandOf S W
   Undo : List ℕ → CommandOf S W
   Redo : List ℕ → CommandOf S W
+  Explode : List ℕ → ℕ → CommandOf S W
+  Snap : List ℕ → ℕ → ℕ → ℕ → Place → CommandOf S W
+  Create : List ℕ → ℕ → ℕ → Place → CommandOf S W
+  Move : List ℕ → Place → Place → CommandOf S W
   Validate : W → CommandOf S W
   Mark : ℕ → ℕ → ℕ → CommandOf S W
   Unmark : ℕ → ℕ → ℕ → CommandOf S W

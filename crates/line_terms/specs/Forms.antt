@@ -9,16 +9,17 @@
 -- HasForm line f     the line has the form; at most one form has a given line
 --
 -- A handle is from 1, a partner from 0, both to 4,294,967,295; a rule's number is from 1 to 65,535, a subtype from 0 to 255; zeros in
--- front are free. A number outside these bounds is no such piece. Of a window's number any size is a piece. No name has a colon in it, so
+-- front are free. A number outside these bounds is no such piece. Of a number of a window or a place any size is a piece. No name has a colon in it, so
 -- the first colon of a field ends its name. Words are in lower case, and case counts.
 -- The form says nothing of a line's length, and nothing of what its shape's text is. Source: own.
 use Rattle.std.specs.Prelude.{◌≡◌, ℕ, ℤ, Bool, true, false, List, [], ◌∷◌, ◌++◌, Option, Some, None, is_some, codes, IsTrue}
+use Rattle.plane_terms.specs.Point.{Place}
 use Rattle.plane_terms.specs.declared.kind.Kind.{Kind}
 use Rattle.plane_terms.specs.declared.kind.Kind.TheVariants as shapes
 use Rattle.text_terms.specs.Fields.{is_name, skip_blanks, front_field, behind_field, skip_end_blanks, is_skipped}
 use Rattle.text_terms.specs.Numbers.{IsSigned, IsWithinText}
 use Rattle.rule_words.specs.Table.{word_of, dest_of}
-use Rattle.line_terms.specs.Commands.{Sided, CommandOf, Blank, Class, Rule, DropRule, Begin, End, Discard, Add, Change, Delete, Retype, Undo, Redo, Validate, Mark, Unmark, Dirty, Errors, Cells, Features, Rules, Corners, Window, All, Numbers, Form}
+use Rattle.line_terms.specs.Commands.{Sided, CommandOf, Blank, Class, Rule, DropRule, Begin, End, Discard, Add, Change, Delete, Retype, Undo, Redo, Explode, Snap, Create, Move, Validate, Mark, Unmark, Dirty, Errors, Cells, Features, Rules, Corners, Window, All, Numbers, Form}
 
 -- ---- what stands in a field
 pub data Piece : Type 0 where
@@ -77,6 +78,13 @@ subtype t = Number 0 255 t
 abbrev pub partner : ℕ → Piece
 partner h = Number 0 4294967295 h
 
+-- an end of a line, from 0
+abbrev pub end_number : ℕ → Piece
+end_number i = Number 0 4294967295 i
+
+abbrev pub place : Place → List Piece → List Piece
+place q ps = Whole q.x ∷ Whole q.y ∷ ps
+
 abbrev pub written : Window → List Piece
 written All = Word (codes "all") ∷ []
 written (Numbers r) = Whole r.x0 ∷ Whole r.y0 ∷ Whole r.x1 ∷ Whole r.y1 ∷ []
@@ -95,6 +103,10 @@ pieces s w (Delete e h) = Word (codes "by") ∷ Name e ∷ Word (codes "delete")
 pieces s w (Retype e h t) = Word (codes "by") ∷ Name e ∷ Word (codes "retype") ∷ handle h ∷ subtype t ∷ []
 pieces s w (Undo e) = Word (codes "by") ∷ Name e ∷ Word (codes "undo") ∷ []
 pieces s w (Redo e) = Word (codes "by") ∷ Name e ∷ Word (codes "redo") ∷ []
+pieces s w (Explode e h) = Word (codes "by") ∷ Name e ∷ Word (codes "explode") ∷ handle h ∷ []
+pieces s w (Snap e r h i to) = Word (codes "by") ∷ Name e ∷ Word (codes "snap") ∷ rule_number r ∷ handle h ∷ end_number i ∷ place to []
+pieces s w (Create e r h at) = Word (codes "by") ∷ Name e ∷ Word (codes "create") ∷ rule_number r ∷ handle h ∷ place at []
+pieces s w (Move e from to) = Word (codes "by") ∷ Name e ∷ Word (codes "move") ∷ place from (place to [])
 pieces s w (Validate window) = Word (codes "validate") ∷ w window
 pieces s w (Mark r a b) = Word (codes "mark") ∷ rule_number r ∷ handle a ∷ partner b ∷ []
 pieces s w (Unmark r a b) = Word (codes "unmark") ∷ rule_number r ∷ handle a ∷ partner b ∷ []

@@ -9,7 +9,7 @@ pub enum LineRefusal {
     TooLong,
     /// A number of its shape is not whole.
     OffGrid { at: u32 },
-    /// A number of its shape is beyond the reach; or of its window, and then `at` is the number's position, from 0.
+    /// A number of its shape is beyond the reach; or of its window or its places, and then `at` is the number's position, from 0.
     OutOfReach { at: u32 },
     /// Its shape is of a kind that is not read.
     Unsupported { at: u32 },

@@ -18,12 +18,16 @@ refusal_of refusal.NoSession = refusals.NoSession
 refusal_of (refusal.HeldBy name) = refusals.HeldBy name
 refusal_of refusal.NothingToUndo = refusals.NothingToUndo
 refusal_of refusal.NothingToRedo = refusals.NothingToRedo
+refusal_of refusal.NothingToFix = refusals.NothingToFix
+refusal_of (refusal.BadShape fault) = refusals.BadShape fault
 refusal_of (refusal.Change c) = refusals.Change c
 
 abbrev pub said_of : Project → Reply → replies.Reply
 said_of p reply.Nothing = replies.Nothing
 said_of p reply.Done = replies.Done
 said_of p (reply.Number n) = replies.Number n
+said_of p (reply.Parts n) = replies.Parts n
+said_of p (reply.Moved n) = replies.Moved n
 said_of p (reply.Judged s) = replies.Judged s.judged s.errors s.dirty
 said_of p (reply.Refused r) = replies.Refused (refusal_of r)
 said_of p reply.DirtyList = replies.DirtyList p

@@ -26,6 +26,10 @@ pub enum Refusal {
     NothingToUndo,
     /// No step of the editor's session is undone.
     NothingToRedo,
+    /// There is nothing to fix so.
+    NothingToFix,
+    /// A shape that the fix would make has this fault.
+    BadShape(ShapeFault),
     /// The topology is not changed, for this cause.
     Change(Cause),
 }
@@ -118,6 +122,8 @@ pub fn push_refusal(out: &mut Vec<u8>, refusal: &Refusal) -> Result<(), NoMemory
         Refusal::HeldBy(name) => push_held_by(out, name),
         Refusal::NothingToUndo => push_text(out, b"E22"),
         Refusal::NothingToRedo => push_text(out, b"E23"),
+        Refusal::NothingToFix => push_text(out, b"E34"),
+        Refusal::BadShape(fault) => push_invalid(out, *fault),
         Refusal::Change(cause) => push_cause(out, *cause),
     }
 }

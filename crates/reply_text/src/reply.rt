@@ -1,5 +1,5 @@
 ghost use Rattle.std.specs.Prelude.{◌≡◌, ◌++◌, OnOk};
-ghost use Rattle.script_terms.specs.Reply.{Number, Judged, Refused, reply_text};
+ghost use Rattle.script_terms.specs.Reply.{Number, Parts, Moved, Judged, Refused, reply_text};
 ghost use Rattle.reply_text.specs.Replies.{refusal_of, said_of};
 
 use crate::corners::push_corner_list;
@@ -21,6 +21,10 @@ pub enum Reply {
     Done,
     /// The command is done, and this is the number or the handle that it gave.
     Number(u32),
+    /// A line is taken apart into so many parts.
+    Parts(usize),
+    /// So many features are moved.
+    Moved(usize),
     /// A validation is done.
     Judged(Summary),
     /// The line is refused.
@@ -44,6 +48,22 @@ pub fn push_given(out: &mut Vec<u8>, number: u32) -> Result<(), NoMemory>
 {
     push_text(out, b"ok ")?;
     push_digits(out, number)?;
+    push_end(out)
+}
+
+pub fn push_parts(out: &mut Vec<u8>, count: usize) -> Result<(), NoMemory>
+    ensures { OnOk result (out.new.items ≡ out.old.items ++ reply_text (Parts count)) }
+{
+    push_text(out, b"ok parts ")?;
+    push_digits(out, count)?;
+    push_end(out)
+}
+
+pub fn push_moved(out: &mut Vec<u8>, count: usize) -> Result<(), NoMemory>
+    ensures { OnOk result (out.new.items ≡ out.old.items ++ reply_text (Moved count)) }
+{
+    push_text(out, b"ok moved ")?;
+    push_digits(out, count)?;
     push_end(out)
 }
 
@@ -80,6 +100,8 @@ pub fn push_reply<R: KindRules>(
         Reply::Nothing => Ok(()),
         Reply::Done => push_text(out, b"ok\n"),
         Reply::Number(number) => push_given(out, *number),
+        Reply::Parts(count) => push_parts(out, *count),
+        Reply::Moved(count) => push_moved(out, *count),
         Reply::Judged(summary) => push_judged(out, *summary),
         Reply::Refused(refusal) => push_refused(out, refusal),
         Reply::DirtyList => push_dirty_list(out, topology.dirt()),

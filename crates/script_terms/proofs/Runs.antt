@@ -1,24 +1,32 @@
 -- Each line of a run, and so each run, keeps sessions apart and chained.
-use Rattle.std.proofs.Common.{ℕ, ◌≡◌, ◌<◌, Bool, true, false, List, [], ◌∷◌, Option, Some, None, refl, ◌∙◌, ap, subst, eqb}
+use Rattle.std.proofs.Common.{ℕ, ◌≡◌, ◌<◌, Bool, true, false, List, [], ◌∷◌, length, Option, Some, None, refl, sym, ◌∙◌, ap, subst, eqb, inl, inr}
 use Rattle.std.proofs.lemmas.Slice.Eq.{bytes_eq-Decides}
 use Rattle.std.specs.Prelude.{if◌then◌else◌, bytes_eq, not, is_some, is_none, unwrap_or, MatchOption}
 use Rattle.plane_terms.specs.Lists.{Every}
 use Rattle.topology_terms.specs.Feature.{Feature, feature_at}
-use Rattle.topology_terms.specs.Project.{IsOrdered}
+use Rattle.topology_terms.specs.Project.{IsOrdered, rule_at}
 use Rattle.topology_terms.specs.Session.{Session, holder}
 use Rattle.session_terms.specs.Steps.{AreAllApart, IsAlone}
 use Rattle.session_terms.proofs.Apart.{free_alone, held_alone}
-use Rattle.line_terms.specs.Commands.{Command, Blank, Class, Rule, DropRule, Begin, End, Discard, Add, Change, Delete, Retype, Undo, Redo, Validate, Mark, Unmark, Dirty, Errors, Cells, Features, Rules, Corners}
-use Rattle.topology_terms.specs.Causes.{when, first_of, delete_cause}
+use Rattle.line_terms.specs.Commands.{Command, Blank, Class, Rule, DropRule, Begin, End, Discard, Add, Change, Delete, Retype, Undo, Redo, Explode, Snap, Create, Move, Validate, Mark, Unmark, Dirty, Errors, Cells, Features, Rules, Corners}
+use Rattle.topology_terms.specs.Causes.{when, first_of, delete_cause, drop_cause}
 use Rattle.topology_terms.specs.Changes.{reshaped, retyped}
 use Rattle.topology_terms.specs.Lookups.{class_number}
 use Rattle.topology_terms.specs.declared.cause.Cause.{Cause}
 use Rattle.topology_terms.specs.declared.cause.Cause.TheVariants.{NoFeature}
-use Rattle.script_terms.specs.Refusal.{Refusal, HeldBy, NoSession, SessionOpen}
-use Rattle.script_terms.specs.Reply.{Reply, Refused}
+use Rattle.script_terms.specs.Refusal.{Refusal, HeldBy, NoSession, SessionOpen, NothingToFix}
+use Rattle.script_terms.specs.Reply.{Reply, Refused, Done, Moved}
 use Rattle.script_terms.specs.State.{State, empty_state, is_open}
-use Rattle.script_terms.specs.Refusing.{refusal_of, held_by, changes}
-use Rattle.script_terms.specs.Answer.{IsDone}
+use Rattle.script_terms.specs.Refusing.{refusal_of, held_by, changes, first_held, not_snapped}
+use Rattle.script_terms.specs.Answer.{IsDone, IsFixed}
+use Rattle.plane_terms.specs.Point.{Place}
+use Rattle.fix_terms.specs.Plans.{Edit}
+use Rattle.fix_terms.specs.declared.edit.Edit.TheVariants.{Put}
+use Rattle.fix_terms.specs.Explode.{exploded}
+use Rattle.fix_terms.specs.Snap.{snapped}
+use Rattle.fix_terms.specs.Create.{created}
+use Rattle.fix_terms.specs.Move.{moves, may_move, touching, has_vertex, moved_shape}
+use Rattle.script_terms.proofs.Fixing.{AreFree, noted_keeps, exploded_free, own_handle}
 use Rattle.script_terms.specs.Run.{Outcome, Reading, Reads, Faulty, Run, ComesOf, EachKeeping, last_state}
 use Rattle.script_terms.specs.Keeping.{IsKeeping}
 use Rattle.script_terms.proofs.Keeping.{undo_keeps, redo_keeps, altered_keeps}
@@ -73,6 +81,48 @@ may_edit s editor h rest k ord n =
       live_below s.project.next s.project.features h ord.next (is_there (feature_at s.project.features h) absent),
     )
 
+-- a plan that is not refused puts what no other session holds
+own_free : (editor : List ℕ) (h : ℕ) (f : Feature) (s : State) → feature_at s.project.features h ≡ Some f
+    → IsAlone s.sessions editor h × (h < s.project.next) → IsAlone s.sessions editor f.handle × (f.handle < s.project.next)
+own_free editor h f s e m =
+    subst (λ k. IsAlone s.sessions editor k × (k < s.project.next)) (sym (own_handle s.project.features h f e)) m
+
+-- an edit that is asked after a rule, too
+behind_rule : (a b : Option Refusal) (rs : List (Option Refusal)) → first_of (a ∷ b ∷ rs) ≡ None → first_of (a ∷ rs) ≡ None
+behind_rule None b rs e = (first_none b rs e).1
+behind_rule (Some r) b rs e = cc
+
+moves_free : (from to : Place) (editor : List ℕ) (ss : List Session) (n : ℕ) (fs : List Feature) → AreAllApart ss
+    → Every (λ (f : Feature). f.handle < n) fs → first_held ss (touching from fs) editor ≡ None → AreFree editor (moves from to fs) ss n
+moves_free from to editor ss n [] a l e = tt
+moves_free from to editor ss n (f ∷ fs) a l e = by (has_vertex from f.shape) e (λ r. moves_free from to editor ss n fs a l.1 r)
+  where
+    by : (b : Bool) → first_held ss (if b then f ∷ touching from fs else touching from fs) editor ≡ None
+        → (first_held ss (touching from fs) editor ≡ None → AreFree editor (moves from to fs) ss n)
+        → AreFree editor (if b then Put f.handle (moved_shape from to f.shape) ∷ moves from to fs else moves from to fs) ss n
+    by true e r =
+        let k = first_none (held_by (holder ss f.handle) editor) (first_held ss (touching from fs) editor ∷ []) e in
+        let m = first_none (first_held ss (touching from fs) editor) [] k.1 in
+        (by_none ss (holder ss f.handle) editor f.handle a refl k.0, l.0, r m.0)
+    by false e r = r e
+
+pub move_free : (from to : Place) (editor : List ℕ) (s : State) → IsKeeping s → IsOrdered s.project
+    → refusal_of s (Move editor from to) ≡ None → AreFree editor (moves from to s.project.features) s.sessions s.project.next
+move_free from to editor s k ord n =
+    let held = first_held s.sessions (touching from s.project.features) editor in
+    let a = first_none (when (not (is_open s editor)) NoSession)
+    (when (not (may_move from to s.project.features)) NothingToFix ∷ held ∷ []) n in
+    let b = first_none (when (not (may_move from to s.project.features)) NothingToFix) (held ∷ []) a.1 in
+    let c = first_none held [] b.1 in
+    moves_free from to editor s.sessions s.project.next s.project.features k.apart ord.next c.0
+
+fixed_keeps : {P : List Feature → Type 0} (editor : List ℕ) (es : List Edit) (said : Reply) (old : State) (reply : Reply) (new : State)
+    → IsKeeping old → AreFree editor es old.sessions old.project.next → IsFixed editor es P said old reply new → IsKeeping new
+fixed_keeps editor es said old reply new k f d = elim d [
+  | inl x ↦ noted_keeps editor es old new k f x.2.noted
+  | inr y ↦ equal_keeps old new k y.3
+]
+
 pub done_keeps : (old : State) (c : Command) (reply : Reply) (new : State) → IsKeeping old → IsOrdered old.project → refusal_of old c ≡ None
     → IsDone old c reply new → IsKeeping new
 done_keeps old Blank reply new k ord n d = equal_keeps old new k d.1
@@ -93,6 +143,21 @@ done_keeps old (Retype editor h t) reply new k ord n d = let m = may_edit old ed
     in altered_keeps editor h (retyped (feature_at old.project.features h) t) old new k m.0 m.1 d.1
 done_keeps old (Undo editor) reply new k ord n d = undo_keeps editor old new k d.1
 done_keeps old (Redo editor) reply new k ord n d = redo_keeps editor old new k d.1
+done_keeps old (Explode editor h) reply new k ord n d =
+    let m = own_free editor h d.0 old d.1 (may_edit old editor h _ k ord n) in
+    noted_keeps editor (exploded d.0) old new k
+    (exploded_free editor d.0 d.0.shape.parts old.sessions old.project.next m.0 m.1) d.3.noted
+done_keeps old (Snap editor r h i to) reply new k ord n d =
+    let held = held_by (holder old.sessions h) editor in
+    let rest = not_snapped old.project.features (rule_at old.project.rules r) (feature_at old.project.features h) i to ∷ [] in
+    let asked = behind_rule (when (not (is_open old editor)) NoSession) (changes (drop_cause old.project.rules r))
+    (changes (delete_cause old.project.features h) ∷ held ∷ rest) n in
+    let m = own_free editor h d.1 old d.3 (may_edit old editor h rest k ord asked) in
+    fixed_keeps editor (snapped i to d.1) Done old reply new k (m.0, m.1, tt) d.4
+done_keeps old (Create editor r h at) reply new k ord n d = noted_keeps editor (created d.0 at) old new k tt d.5.noted
+done_keeps old (Move editor from to) reply new k ord n d =
+    let F = old.project.features in
+    fixed_keeps editor (moves from to F) (Moved (length (moves from to F))) old reply new k (move_free from to editor old k ord n) d
 done_keeps old (Validate w) reply new k ord n d = same_keeps old new k d.2.sessions d.2.project.features d.2.project.next
 done_keeps old (Mark r h g) reply new k ord n d = same_keeps old new k d.1.sessions d.1.project.marking.features d.1.project.marking.next
 done_keeps old (Unmark r h g) reply new k ord n d = same_keeps old new k d.1.sessions d.1.project.marking.features d.1.project.marking.next

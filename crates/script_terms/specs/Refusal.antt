@@ -1,8 +1,7 @@
 -- Why a line is refused, and the words of each refusal.
 --
 -- Refusal            a fault of the line's own; what is wrong with the editor's session; the handle is held by the session of this name;
---                    or why the project
---                    is not changed
+--                    there is nothing to fix so; a shape that the fix would make is none; or why the project is not changed
 -- shape_fault_text f     what is wrong with a shape, and the numbers that say where
 -- cause_code c       the code of a cause
 -- refusal_text r     the code, and what stands behind it
@@ -25,6 +24,8 @@ pub data Refusal : Type 0 where
   HeldBy : List ℕ → Refusal
   NothingToUndo : Refusal
   NothingToRedo : Refusal
+  NothingToFix : Refusal
+  BadShape : ShapeFault → Refusal
   Change : Cause → Refusal
 
 abbrev pub with_number : List ℕ → ℕ → List ℕ
@@ -73,4 +74,6 @@ refusal_text NoSession = codes "E12"
 refusal_text (HeldBy name) = codes "E20 " ⧺ name
 refusal_text NothingToUndo = codes "E22"
 refusal_text NothingToRedo = codes "E23"
+refusal_text NothingToFix = codes "E34"
+refusal_text (BadShape fault) = codes "E18 " ⧺ shape_fault_text fault
 refusal_text (Change c) = cause_code c

@@ -6,26 +6,36 @@
 -- changes c               the refusal of a change that has this cause
 -- held_by name editor     the refusal of an edit of a handle that the session of this name holds, where the editor is another
 -- no_error es r a b       the refusal of what asks for the error of this key, where there is none
+-- not_exploded n f, not_snapped, not_created     of the live feature f: why it is not taken apart, where n is the next handle; why its end
+--                         is not snapped; why no point is made for it. What is asked of before, a rule or a feature that is not there, has
+--                         no such cause
+-- first_held ss fs editor the refusal of the first of these features that another session holds
 -- steps_of done s editor  those steps of the editor's session; none where it has no session
 -- refusal_of s c          the first cause, in the order of the list, for which the command is refused; None where it is done. A line that
 --                         is skipped, a validation and a listing of the project are never refused
 --
--- A feature that is added has a handle that no session holds.
+-- A feature that is added has a handle that no session holds. A point that a rule asks for is made beside its subject, which does not change
+-- and may be held. Where a shape that a fix would make is none, the plan is refused last of all (`IsFixed`).
 -- Source: editing and validation of a geodatabase topology (Esri); causes and their order own.
-use Rattle.std.specs.Prelude.{ℕ, ◌==◌, Bool, true, false, not, ◌&&◌, List, [], ◌∷◌, length, Option, Some, None, is_some, is_none, unwrap_or, option_and_then, bytes_eq}
+use Rattle.std.specs.Prelude.{ℕ, ◌==◌, ◌+◌, nat_lt, Bool, true, false, not, ◌&&◌, List, [], ◌∷◌, length, Option, Some, None, is_some, is_none, unwrap_or, option_and_then, bytes_eq}
 use Rattle.std.specs.Option.{option_map, option_map_or}
+use Rattle.plane_terms.specs.Point.{Place}
 use Rattle.rule_words.specs.declared.rule_kind.RuleKind.{RuleKind}
 use Rattle.topology_terms.specs.Broken.{Row}
-use Rattle.topology_terms.specs.Feature.{Side}
-use Rattle.topology_terms.specs.Project.{Project}
+use Rattle.topology_terms.specs.Feature.{Side, Feature, feature_at}
+use Rattle.topology_terms.specs.Project.{Project, rule_at}
 use Rattle.topology_terms.specs.Session.{EditStep, Session, session_of, holder}
 use Rattle.topology_terms.specs.Lookups.{class_number}
 use Rattle.topology_terms.specs.Entry.{Entry, entry_at}
 use Rattle.topology_terms.specs.Causes.{when, first_of, class_cause, add_cause, change_cause, delete_cause, rule_cause, drop_cause, mark_cause}
 use Rattle.topology_terms.specs.declared.cause.Cause.{Cause}
 use Rattle.topology_terms.specs.declared.cause.Cause.TheVariants as cause
-use Rattle.line_terms.specs.Commands.{Sided, Command, Class as AClass, Rule, DropRule, Begin, End, Discard, Add, Change as AChange, Delete, Retype, Undo, Redo, Mark, Unmark, Corners}
-use Rattle.script_terms.specs.Refusal.{Refusal, SessionOpen, SessionsFull, NoSession, HeldBy, NothingToUndo, NothingToRedo, Change}
+use Rattle.fix_terms.specs.Explode.{may_explode}
+use Rattle.fix_terms.specs.Snap.{may_snap}
+use Rattle.fix_terms.specs.Create.{may_create}
+use Rattle.fix_terms.specs.Move.{may_move, touching}
+use Rattle.line_terms.specs.Commands.{Sided, Command, Class as AClass, Rule, DropRule, Begin, End, Discard, Add, Change as AChange, Delete, Retype, Undo, Redo, Explode, Snap, Create, Move, Mark, Unmark, Corners}
+use Rattle.script_terms.specs.Refusal.{Refusal, SessionOpen, SessionsFull, NoSession, HeldBy, NothingToUndo, NothingToRedo, NothingToFix, Change}
 use Rattle.script_terms.specs.State.{State, is_open}
 
 -- the number of the class that a line names
@@ -55,6 +65,26 @@ steps_of steps s editor = option_map_or steps (session_of s.sessions editor) []
 abbrev pub no_error : List Entry → ℕ → ℕ → ℕ → Option Refusal
 no_error es r a b = when (is_none (entry_at es r a b)) (Change cause.NoError)
 
+abbrev pub not_exploded : ℕ → Option Feature → Option Refusal
+not_exploded n None = None
+not_exploded n (Some f) = first_of (
+    when (not (may_explode f)) NothingToFix
+    ∷ when (nat_lt 4294967296 (n + length f.shape.parts)) (Change cause.HandlesSpent) ∷ [])
+
+abbrev pub not_snapped : List Feature → Option Row → Option Feature → ℕ → Place → Option Refusal
+not_snapped F (Some row) (Some f) i to = when (not (may_snap row F f i to)) NothingToFix
+not_snapped F row f i to = None
+
+abbrev pub not_created : Project → Option Row → Option Feature → Place → Option Refusal
+not_created p (Some row) (Some f) at = first_of (
+    when (not (may_create row p.features f at)) NothingToFix
+    ∷ when (p.next == 4294967295) (Change cause.HandlesSpent) ∷ [])
+not_created p row f at = None
+
+abbrev pub first_held : List Session → List Feature → List ℕ → Option Refusal
+first_held ss [] editor = None
+first_held ss (f ∷ fs) editor = first_of (held_by (holder ss f.handle) editor ∷ first_held ss fs editor ∷ [])
+
 abbrev pub refusal_of : State → Command → Option Refusal
 refusal_of s (AClass name k) = changes (class_cause s.project.classes name)
 refusal_of s (Rule k origin dest) = first_of (
@@ -80,6 +110,26 @@ refusal_of s (Undo editor) = first_of (
     when (not (is_open s editor)) NoSession ∷ when (length (steps_of (λ (x : Session). x.done) s editor) == 0) NothingToUndo ∷ [])
 refusal_of s (Redo editor) = first_of (
     when (not (is_open s editor)) NoSession ∷ when (length (steps_of (λ (x : Session). x.undone) s editor) == 0) NothingToRedo ∷ [])
+refusal_of s (Explode editor h) = first_of (
+    when (not (is_open s editor)) NoSession
+    ∷ changes (delete_cause s.project.features h)
+    ∷ held_by (holder s.sessions h) editor
+    ∷ not_exploded s.project.next (feature_at s.project.features h) ∷ [])
+refusal_of s (Snap editor r h i to) = first_of (
+    when (not (is_open s editor)) NoSession
+    ∷ changes (drop_cause s.project.rules r)
+    ∷ changes (delete_cause s.project.features h)
+    ∷ held_by (holder s.sessions h) editor
+    ∷ not_snapped s.project.features (rule_at s.project.rules r) (feature_at s.project.features h) i to ∷ [])
+refusal_of s (Create editor r h at) = first_of (
+    when (not (is_open s editor)) NoSession
+    ∷ changes (drop_cause s.project.rules r)
+    ∷ changes (delete_cause s.project.features h)
+    ∷ not_created s.project (rule_at s.project.rules r) (feature_at s.project.features h) at ∷ [])
+refusal_of s (Move editor from to) = first_of (
+    when (not (is_open s editor)) NoSession
+    ∷ when (not (may_move from to s.project.features)) NothingToFix
+    ∷ first_held s.sessions (touching from s.project.features) editor ∷ [])
 refusal_of s (Mark r a b) = changes (mark_cause s.project.entries r a b true)
 refusal_of s (Unmark r a b) = changes (mark_cause s.project.entries r a b false)
 refusal_of s (Corners r a b) = no_error s.project.entries r a b

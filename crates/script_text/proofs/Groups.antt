@@ -1,6 +1,7 @@
 -- Where no reader of a group finds a form there is none of the group.
 use Rattle.std.proofs.Common.{ℕ, ◌≡◌, ◌≢◌, true, false, List, [], ◌∷◌, Option, Some, None, refl}
 use Rattle.std.specs.Prelude.{codes}
+use Rattle.plane_terms.specs.Point.{IsInReach}
 use Rattle.plane_terms.specs.declared.kind.Kind.{Kind}
 use Rattle.plane_terms.specs.declared.kind.Kind.TheVariants as shapes
 use Rattle.text_terms.specs.Fields.{is_skipped}
@@ -12,7 +13,7 @@ use Rattle.line_terms.specs.Lines.{Holds, IsSpelling}
 use Rattle.line_terms.specs.Windows.{IsWindow}
 use Rattle.wkt_terms.specs.Shapes.{IsShapeText}
 use Rattle.script_text.specs.Edits.{behind_editor}
-use Rattle.script_text.specs.Groups.{Group, group_of, NoneOf, IsPlain, IsBare, Skipped, Classes, Sessions, Edits, Validations, Marks, Listings}
+use Rattle.script_text.specs.Groups.{Group, group_of, NoneOf, IsPlain, IsBare, Skipped, Classes, Sessions, Edits, Fixes, Validations, Marks, Listings}
 
 pub no_kind : (text : List ℕ) → (IsLine text (Word (codes "point") ∷ []) → ⊥) → (IsLine text (Word (codes "line") ∷ []) → ⊥)
     → (IsLine text (Word (codes "polygon") ∷ []) → ⊥)
@@ -88,16 +89,17 @@ no_listing line dirty errors cells features rules corners form.Rules g p = rules
 no_listing line dirty errors cells features rules corners (form.Corners r a b) g p = corners r a b p
 no_listing line dirty errors cells features rules corners f g p = absurd cc
 
-pub no_words : (line : List ℕ) → NoneOf Edits line → NoneOf Validations line
+pub no_words : (line : List ℕ) → NoneOf Edits line → NoneOf Fixes line → NoneOf Validations line
     → NoneOf Listings line × NoneOf Classes line × NoneOf Sessions line × NoneOf Marks line
     → (f : Form) → group_of f ≢ Skipped → HasForm line f → ⊥
-no_words line edits validations plain f other p = by (group_of f) refl
+no_words line edits fixes validations plain f other p = by (group_of f) refl
   where
     by : (g : Group) → group_of f ≡ g → ⊥
     by Skipped e = other e
     by Classes e = plain.1 f e p
     by Sessions e = plain.2 f e p
     by Edits e = edits f e p
+    by Fixes e = fixes f e p
     by Validations e = validations f e p
     by Marks e = plain.3 f e p
     by Listings e = plain.0 f e p
@@ -107,10 +109,13 @@ pub no_form : (line : List ℕ) → is_skipped line ≡ false → ((f : Form) �
 no_form line plain none form.Blank p = cc
 no_form line plain none f p = none f (λ e. cc) p
 
--- a command that has no shape and no window
-meant : (c : Command) → IsPlain c → Holds (IsShapeText []) (IsWindow All) c
+-- a command that has no shape, no window and no place
+meant : (c : Command) → IsPlain c → Holds (IsShapeText []) (IsWindow All) IsInReach c
 meant (form.Add e c shape) p = absurd p
 meant (form.Change e h shape) p = absurd p
+meant (form.Snap e r h i to) p = absurd p
+meant (form.Create e r h at) p = absurd p
+meant (form.Move e from to) p = absurd p
 meant (form.Validate window) p = absurd p
 meant other p = tt
 

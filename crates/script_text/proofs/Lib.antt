@@ -6,4 +6,5 @@ pub mod OneForm
 pub mod OneCommand
 pub mod TextWithin
 pub mod Spelled
+pub mod FixLines
 pub mod OneFault

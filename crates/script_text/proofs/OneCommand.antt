@@ -1,8 +1,9 @@
 -- A line has one command, and a line that has one has no fault.
-use Rattle.std.proofs.Common.{ℕ, zero, suc, ◌≡◌, List, [], ◌∷◌, sym, ◌∙◌, subst, arith, inl, inr, refl}
+use Rattle.std.proofs.Common.{ℕ, ℤ, zero, suc, ◌≡◌, List, [], ◌∷◌, ◌++◌, sym, ◌∙◌, subst, arith, inl, inr, refl}
 use Rattle.std.proofs.lemmas.Int.{ints}
 use Rattle.plane_terms.specs.Rectangle.{Rectangle, IsRectangle, IsFirstOut, numbers_of}
-use Rattle.plane_terms.specs.Point.{InReach}
+use Rattle.plane_terms.specs.Lists.{Every}
+use Rattle.plane_terms.specs.Point.{InReach, IsInReach}
 use Rattle.plane_terms.specs.Shape.{Shape}
 use Rattle.wkt_terms.specs.Shapes.{IsShapeText}
 use Rattle.wkt_terms.specs.declared.wkt_fault.WktFault.TheVariants as text
@@ -10,7 +11,7 @@ use Rattle.wkt_text.proofs.Results.{one_shape, no_text_fault}
 use Rattle.line_terms.specs.Commands.{Command, Form, Window, All, Numbers}
 use Rattle.line_terms.specs.Commands as form
 use Rattle.line_terms.specs.Forms.{HasForm, IsLine, pieces, Rest, written}
-use Rattle.line_terms.specs.Lines.{Holds, IsSpelling, IsCommandLine, IsTextRefusal, IsFaultOf, HasFaultyForm, IsLineFault}
+use Rattle.line_terms.specs.Lines.{Holds, IsSpelling, IsCommandLine, IsTextRefusal, IsPlaceFault, coordinates, IsFaultOf, HasFaultyForm, IsLineFault}
 use Rattle.line_terms.specs.Windows.{IsWindow, IsWindowFault}
 use Rattle.line_terms.specs.declared.line_refusal.LineRefusal.{LineRefusal}
 use Rattle.line_terms.specs.declared.line_refusal.LineRefusal.TheVariants as refusal
@@ -30,7 +31,7 @@ same_text text t u p q = sym p.0 ∙ q.0
 pub one_spelled : (line : List ℕ) (c d : Command) → IsSpelling line c → IsSpelling line d → c ≡ d
 one_spelled line c d p q =
     one_of (λ _. Rest p.text) (λ _. Rest q.text) (λ _. written p.window) (λ _. written q.window)
-    (IsShapeText p.text) (IsShapeText q.text) (IsWindow p.window) (IsWindow q.window)
+    (IsShapeText p.text) (IsShapeText q.text) (IsWindow p.window) (IsWindow q.window) IsInReach IsInReach
     (λ text x y a b m n. one_shape q.text x y (subst (λ t. IsShapeText t x) (same_text text p.text q.text a b) m) n)
     (λ text x y a b m n. one_rectangle q.window x y (subst (λ v. IsWindow v x) (one_window text p.window q.window a b) m) n)
     line c d p.spelled q.spelled p.meant q.meant
@@ -56,6 +57,10 @@ said t v (form.Delete e h) = form.Delete e h
 said t v (form.Retype e h s) = form.Retype e h s
 said t v (form.Undo e) = form.Undo e
 said t v (form.Redo e) = form.Redo e
+said t v (form.Explode e h) = form.Explode e h
+said t v (form.Snap e r h i to) = form.Snap e r h i to
+said t v (form.Create e r h at) = form.Create e r h at
+said t v (form.Move e from to) = form.Move e from to
 said t v (form.Validate w) = form.Validate v
 said t v (form.Mark r a b) = form.Mark r a b
 said t v (form.Unmark r a b) = form.Unmark r a b
@@ -105,9 +110,23 @@ no_window_refusal (Numbers q) w (refusal.OutOfReach at) m f = none_out at q m.1 
 no_window_refusal (Numbers q) w refusal.Reversed m f = f.1 m.1.proper
 no_window_refusal (Numbers q) w other m f = f
 
-no_refusal : (t : List ℕ) (v : Window) (c : Command) (r : LineRefusal) → Holds (IsShapeText t) (IsWindow v) c → IsFaultOf (said t v c) r → ⊥
+none_beyond : (at : ℕ) (ns : List ℤ) → Every InReach ns → IsFirstOut at ns → ⊥
+none_beyond at [] h f = f
+none_beyond zero (n ∷ ns) h f = f h.0
+none_beyond (suc at) (n ∷ ns) h f = none_beyond at ns h.1 f.1
+
+no_place_refusal : (ns : List ℤ) (r : LineRefusal) → Every InReach ns → IsPlaceFault ns r → ⊥
+no_place_refusal ns (refusal.OutOfReach at) h f = none_beyond at ns h f
+no_place_refusal ns other h f = f
+
+no_refusal : (t : List ℕ) (v : Window) (c : Command) (r : LineRefusal) → Holds (IsShapeText t) (IsWindow v) IsInReach c
+    → IsFaultOf (said t v c) r → ⊥
 no_refusal t v (form.Add e k s) r m f = no_text_refusal t s r m f
 no_refusal t v (form.Change e h s) r m f = no_text_refusal t s r m f
+no_refusal t v (form.Snap e n h i to) r m f = no_place_refusal (coordinates to) r (m.x, (m.y, tt)) f
+no_refusal t v (form.Create e n h at) r m f = no_place_refusal (coordinates at) r (m.x, (m.y, tt)) f
+no_refusal t v (form.Move e from to) r m f =
+    no_place_refusal (coordinates from ++ coordinates to) r (m.0.x, (m.0.y, (m.1.x, (m.1.y, tt)))) f
 no_refusal t v (form.Validate w) r m f = no_window_refusal v w r m f
 no_refusal t v other r m f = f
 

@@ -1,5 +1,5 @@
 -- A line has one fault at most.
-use Rattle.std.proofs.Common.{ℕ, ℤ, zero, suc, ◌≡◌, ◌<◌, ◌≤◌, length, List, [], ◌∷◌, refl, sym, ap, ◌∙◌, subst, arith, ◌⊎◌, inl, inr}
+use Rattle.std.proofs.Common.{ℕ, ℤ, zero, suc, ◌≡◌, ◌<◌, ◌≤◌, length, List, [], ◌∷◌, ◌++◌, refl, sym, ap, ◌∙◌, subst, arith, ◌⊎◌, inl, inr}
 use Rattle.plane_terms.specs.Lists.{Every}
 use Rattle.plane_terms.specs.Point.{InReach}
 use Rattle.plane_terms.specs.Rectangle.{IsFirstOut, numbers_of}
@@ -10,7 +10,7 @@ use Rattle.wkt_text.proofs.OneFault.{one_fault}
 use Rattle.line_terms.specs.Commands.{Form, Window, All, Numbers}
 use Rattle.line_terms.specs.Commands as form
 use Rattle.line_terms.specs.Forms.{HasForm}
-use Rattle.line_terms.specs.Lines.{IsTextRefusal, IsFaultOf, HasFaultyForm, IsLineFault}
+use Rattle.line_terms.specs.Lines.{IsTextRefusal, IsPlaceFault, coordinates, IsFaultOf, HasFaultyForm, IsLineFault}
 use Rattle.line_terms.specs.Windows.{IsWindowFault}
 use Rattle.line_terms.specs.declared.line_refusal.LineRefusal.{LineRefusal}
 use Rattle.line_terms.specs.declared.line_refusal.LineRefusal.TheVariants.{NotALine, OffGrid, OutOfReach, Unsupported, NotClosed, Invalid, Reversed}
@@ -63,10 +63,19 @@ of_window (Numbers w) (OutOfReach m) q h k = absurd k
 of_window (Numbers w) Reversed q h k = absurd k
 of_window (Numbers w) r q h k = absurd h
 
+-- ---- of places
+of_places : (ns : List ℤ) (r q : LineRefusal) → IsPlaceFault ns r → IsPlaceFault ns q → r ≡ q
+of_places ns (OutOfReach m) (OutOfReach n) h k = ap OutOfReach (first_out ns m n h k)
+of_places ns (OutOfReach m) q h k = absurd k
+of_places ns r q h k = absurd h
+
 -- ---- of a line
 of_form : (f : Form) (r q : LineRefusal) → IsFaultOf f r → IsFaultOf f q → r ≡ q
 of_form (form.Add e c t) r q h k = of_text t r q h k
 of_form (form.Change e n t) r q h k = of_text t r q h k
+of_form (form.Snap e n a i to) r q h k = of_places (coordinates to) r q h k
+of_form (form.Create e n a at) r q h k = of_places (coordinates at) r q h k
+of_form (form.Move e from to) r q h k = of_places (coordinates from ++ coordinates to) r q h k
 of_form (form.Validate v) r q h k = of_window v r q h k
 of_form other r q h k = absurd h
 

@@ -1,6 +1,7 @@
 -- A line has one form.
 use Rattle.std.proofs.Common.{ℕ, ◌≡◌, Bool, true, false, List, [], ◌∷◌, refl, sym, ap, ◌∙◌, subst, arith, Option, Some, None, eqb-true}
 use Rattle.std.specs.Prelude.{codes, bytes_eq, is_some, if◌then◌else◌}
+use Rattle.plane_terms.specs.Point.{Place}
 use Rattle.plane_terms.specs.declared.kind.Kind.{Kind}
 use Rattle.plane_terms.specs.declared.kind.Kind.TheVariants as shapes
 use Rattle.text_terms.specs.Fields.{is_remark, skip_blanks, front_field, behind_field}
@@ -11,7 +12,7 @@ use Rattle.line_terms.specs.Commands.{Sided, CommandOf, Form, Window, All, Numbe
 use Rattle.line_terms.specs.Commands as form
 use Rattle.text_terms.specs.Numbers.{IsSigned}
 use Rattle.line_terms.specs.Lines.{Holds}
-use Rattle.line_terms.specs.Forms.{Piece, Rest, HasForm, IsLine, pieces, written, kind_word, second_class}
+use Rattle.line_terms.specs.Forms.{Piece, Rest, HasForm, IsLine, pieces, written, kind_word, second_class, place}
 use Rattle.script_text.proofs.Numbers.{one_number}
 use Rattle.script_text.proofs.Sides.{one_sided}
 use Rattle.script_text.proofs.Wholes.{one_signed, all_is_none}
@@ -50,6 +51,10 @@ tag (form.Retype e h t) = 13
 tag (form.Undo e) = 10
 tag (form.Redo e) = 11
 tag (form.Validate window) = 12
+tag (form.Explode e h) = 31
+tag (form.Snap e r h i to) = 32
+tag (form.Create e r h at) = 33
+tag (form.Move e from to) = 34
 tag (form.Mark r a b) = 14
 tag (form.Unmark r a b) = 15
 tag form.Dirty = 16
@@ -65,7 +70,11 @@ edit_tag word =
     (if bytes_eq word (codes "change") then 8 else
     (if bytes_eq word (codes "delete") then 9 else
     (if bytes_eq word (codes "retype") then 13 else
-    (if bytes_eq word (codes "undo") then 10 else 11))))
+    (if bytes_eq word (codes "undo") then 10 else
+    (if bytes_eq word (codes "redo") then 11 else
+    (if bytes_eq word (codes "explode") then 31 else
+    (if bytes_eq word (codes "snap") then 32 else
+    (if bytes_eq word (codes "create") then 33 else 34))))))))
 
 abbrev listing_tag : List ℕ → ℕ
 listing_tag word =
@@ -118,6 +127,10 @@ tagged s w line (form.Delete e h) p = by_edit line (codes "delete") p.0 p.1.1.0
 tagged s w line (form.Retype e h t) p = by_edit line (codes "retype") p.0 p.1.1.0
 tagged s w line (form.Undo e) p = by_edit line (codes "undo") p.0 p.1.1.0
 tagged s w line (form.Redo e) p = by_edit line (codes "redo") p.0 p.1.1.0
+tagged s w line (form.Explode e h) p = by_edit line (codes "explode") p.0 p.1.1.0
+tagged s w line (form.Snap e r h i to) p = by_edit line (codes "snap") p.0 p.1.1.0
+tagged s w line (form.Create e r h at) p = by_edit line (codes "create") p.0 p.1.1.0
+tagged s w line (form.Move e from to) p = by_edit line (codes "move") p.0 p.1.1.0
 tagged s w line (form.Validate x) p = by_word line (codes "validate") p.0
 tagged s w line (form.Mark r a b) p = by_word line (codes "mark") p.0
 tagged s w line (form.Unmark r a b) p = by_word line (codes "unmark") p.0
@@ -151,65 +164,91 @@ Shapes {S = S} s t M N = (text : List ℕ) (x y : S) → IsLine text (s x ∷ []
 abbrev Windows : {W : Type 0} → (W → List Piece) → (W → List Piece) → (W → Type 0) → (W → Type 0) → Type 0
 Windows {W = W} v w M N = (text : List ℕ) (x y : W) → IsLine text (v x) → IsLine text (w y) → M x → N y → x ≡ y
 
-pub one_of : {S W : Type 0} (s t : S → Piece) (v w : W → List Piece) (M N : S → Type 0) (O P : W → Type 0) → Shapes s t M N
+-- a place, from the two fields that write it
+one_place : (text : List ℕ) (ps qs : List Piece) (q p : Place) → IsLine text (place q ps) → IsLine text (place p qs) → q ≡ p
+one_place text ps qs q p g h =
+    let e0 = one_signed (first text) q.x p.x g.0 h.0 in
+    let e1 = one_signed (second text) q.y p.y g.1.0 h.1.0 in
+    λ i. record { x = e0 i; y = e1 i }
+
+pub one_of : {S W : Type 0} (s t : S → Piece) (v w : W → List Piece) (M N : S → Type 0) (O P : W → Type 0) (Q R : Place → Type 0) → Shapes s t M N
     → Windows v w O P
-    → (line : List ℕ) (c d : CommandOf S W) → IsLine line (pieces s v c) → IsLine line (pieces t w d) → Holds M O c → Holds N P d
+    → (line : List ℕ) (c d : CommandOf S W) → IsLine line (pieces s v c) → IsLine line (pieces t w d) → Holds M O Q c → Holds N P R d
     → tag c ≡ tag d → c ≡ d
-one_of s t v w M N O P shapes windows line form.Blank form.Blank p q m n e = refl
-one_of s t v w M N O P shapes windows line (form.Class x k) (form.Class y j) p q m n e = let same = one_kind k j (sym p.1.1.0 ∙ q.1.1.0) in
+one_of s t v w M N O P Q R shapes windows line form.Blank form.Blank p q m n e = refl
+one_of s t v w M N O P Q R shapes windows line (form.Class x k) (form.Class y j) p q m n e = let same = one_kind k j (sym p.1.1.0 ∙ q.1.1.0) in
     cc
-one_of s t v w M N O P shapes windows line (form.Rule j x d) (form.Rule k y c) p q m n e =
+one_of s t v w M N O P Q R shapes windows line (form.Rule j x d) (form.Rule k y c) p q m n e =
     let same = one_word j k (sym p.1.0 ∙ q.1.0) in
     let text = behind_first (behind_first (behind_first line)) in
     let takes = subst (λ i. IsLine text (second_class (is_some (dest_of i)) d)) same p.1.1.1 in
     let origin = one_sided (third line) x y p.1.1.0 q.1.1.0 in
     let dest = one_second (is_some (dest_of k)) text d c takes q.1.1.1 in
     cc
-one_of s t v w M N O P shapes windows line (form.DropRule x) (form.DropRule y) p q m n e =
+one_of s t v w M N O P Q R shapes windows line (form.DropRule x) (form.DropRule y) p q m n e =
     ap form.DropRule (one_number (second line) 1 65535 x y p.1.0 q.1.0)
-one_of s t v w M N O P shapes windows line (form.Begin x) (form.Begin y) p q m n e = cc
-one_of s t v w M N O P shapes windows line (form.End x) (form.End y) p q m n e = cc
-one_of s t v w M N O P shapes windows line (form.Discard x) (form.Discard y) p q m n e = cc
-one_of s t v w M N O P shapes windows line (form.Add x a g) (form.Add y b h) p q m n e =
+one_of s t v w M N O P Q R shapes windows line (form.Begin x) (form.Begin y) p q m n e = cc
+one_of s t v w M N O P Q R shapes windows line (form.End x) (form.End y) p q m n e = cc
+one_of s t v w M N O P Q R shapes windows line (form.Discard x) (form.Discard y) p q m n e = cc
+one_of s t v w M N O P Q R shapes windows line (form.Add x a g) (form.Add y b h) p q m n e =
     let own = one_sided (fourth line) a b p.1.1.1.0 q.1.1.1.0 in
     let same = shapes (behind_fourth line) g h p.1.1.1.1 q.1.1.1.1 m n in
     cc
-one_of s t v w M N O P shapes windows line (form.Change x a g) (form.Change y b h) p q m n e =
+one_of s t v w M N O P Q R shapes windows line (form.Change x a g) (form.Change y b h) p q m n e =
     let number = one_number (fourth line) 1 4294967295 a b p.1.1.1.0 q.1.1.1.0 in
     let same = shapes (behind_fourth line) g h p.1.1.1.1 q.1.1.1.1 m n in
     cc
-one_of s t v w M N O P shapes windows line (form.Delete x a) (form.Delete y b) p q m n e =
+one_of s t v w M N O P Q R shapes windows line (form.Delete x a) (form.Delete y b) p q m n e =
     let number = one_number (fourth line) 1 4294967295 a b p.1.1.1.0 q.1.1.1.0 in
     cc
-one_of s t v w M N O P shapes windows line (form.Retype x a r) (form.Retype y b o) p q m n e =
+one_of s t v w M N O P Q R shapes windows line (form.Retype x a r) (form.Retype y b o) p q m n e =
     let number = one_number (fourth line) 1 4294967295 a b p.1.1.1.0 q.1.1.1.0 in
     let subtype = one_number (first (behind_fourth line)) 0 255 r o p.1.1.1.1.0 q.1.1.1.1.0 in
     cc
-one_of s t v w M N O P shapes windows line (form.Undo x) (form.Undo y) p q m n e = cc
-one_of s t v w M N O P shapes windows line (form.Redo x) (form.Redo y) p q m n e = cc
-one_of s t v w M N O P shapes windows line (form.Validate g) (form.Validate h) p q m n e =
+one_of s t v w M N O P Q R shapes windows line (form.Undo x) (form.Undo y) p q m n e = cc
+one_of s t v w M N O P Q R shapes windows line (form.Redo x) (form.Redo y) p q m n e = cc
+one_of s t v w M N O P Q R shapes windows line (form.Explode x a) (form.Explode y b) p q m n e =
+    let number = one_number (fourth line) 1 4294967295 a b p.1.1.1.0 q.1.1.1.0 in
+    cc
+one_of s t v w M N O P Q R shapes windows line (form.Snap x r a j g) (form.Snap y o b k h) p q m n e =
+    let rule = one_number (fourth line) 1 65535 r o p.1.1.1.0 q.1.1.1.0 in
+    let number = one_number (first (behind_fourth line)) 1 4294967295 a b p.1.1.1.1.0 q.1.1.1.1.0 in
+    let end = one_number (second (behind_fourth line)) 0 4294967295 j k p.1.1.1.1.1.0 q.1.1.1.1.1.0 in
+    let at = one_place (behind_first (behind_first (behind_fourth line))) [] [] g h p.1.1.1.1.1.1 q.1.1.1.1.1.1 in
+    cc
+one_of s t v w M N O P Q R shapes windows line (form.Create x r a g) (form.Create y o b h) p q m n e =
+    let rule = one_number (fourth line) 1 65535 r o p.1.1.1.0 q.1.1.1.0 in
+    let number = one_number (first (behind_fourth line)) 1 4294967295 a b p.1.1.1.1.0 q.1.1.1.1.0 in
+    let at = one_place (behind_first (behind_fourth line)) [] [] g h p.1.1.1.1.1 q.1.1.1.1.1 in
+    cc
+one_of s t v w M N O P Q R shapes windows line (form.Move x f g) (form.Move y d h) p q m n e =
+    let text = behind_first (behind_first (behind_first line)) in
+    let from = one_place text (place g []) (place h []) f d p.1.1.1 q.1.1.1 in
+    let to = one_place (behind_first (behind_first text)) [] [] g h p.1.1.1.1.1 q.1.1.1.1.1 in
+    cc
+one_of s t v w M N O P Q R shapes windows line (form.Validate g) (form.Validate h) p q m n e =
     ap form.Validate (windows (behind_first line) g h p.1 q.1 m n)
-one_of s t v w M N O P shapes windows line (form.Mark r a b) (form.Mark x y z) p q m n e =
+one_of s t v w M N O P Q R shapes windows line (form.Mark r a b) (form.Mark x y z) p q m n e =
     let rule = one_number (second line) 1 65535 r x p.1.0 q.1.0 in
     let subject = one_number (third line) 1 4294967295 a y p.1.1.0 q.1.1.0 in
     let other = one_number (fourth line) 0 4294967295 b z p.1.1.1.0 q.1.1.1.0 in
     cc
-one_of s t v w M N O P shapes windows line (form.Unmark r a b) (form.Unmark x y z) p q m n e =
+one_of s t v w M N O P Q R shapes windows line (form.Unmark r a b) (form.Unmark x y z) p q m n e =
     let rule = one_number (second line) 1 65535 r x p.1.0 q.1.0 in
     let subject = one_number (third line) 1 4294967295 a y p.1.1.0 q.1.1.0 in
     let other = one_number (fourth line) 0 4294967295 b z p.1.1.1.0 q.1.1.1.0 in
     cc
-one_of s t v w M N O P shapes windows line form.Dirty form.Dirty p q m n e = refl
-one_of s t v w M N O P shapes windows line form.Errors form.Errors p q m n e = refl
-one_of s t v w M N O P shapes windows line form.Cells form.Cells p q m n e = refl
-one_of s t v w M N O P shapes windows line form.Features form.Features p q m n e = refl
-one_of s t v w M N O P shapes windows line form.Rules form.Rules p q m n e = refl
-one_of s t v w M N O P shapes windows line (form.Corners r a b) (form.Corners x y z) p q m n e =
+one_of s t v w M N O P Q R shapes windows line form.Dirty form.Dirty p q m n e = refl
+one_of s t v w M N O P Q R shapes windows line form.Errors form.Errors p q m n e = refl
+one_of s t v w M N O P Q R shapes windows line form.Cells form.Cells p q m n e = refl
+one_of s t v w M N O P Q R shapes windows line form.Features form.Features p q m n e = refl
+one_of s t v w M N O P Q R shapes windows line form.Rules form.Rules p q m n e = refl
+one_of s t v w M N O P Q R shapes windows line (form.Corners r a b) (form.Corners x y z) p q m n e =
     let rule = one_number (second line) 1 65535 r x p.1.0 q.1.0 in
     let subject = one_number (third line) 1 4294967295 a y p.1.1.0 q.1.1.0 in
     let other = one_number (fourth line) 0 4294967295 b z p.1.1.1.0 q.1.1.1.0 in
     cc
-one_of s t v w M N O P shapes windows line c d p q m n e = absurd (omega (arith, e))
+one_of s t v w M N O P Q R shapes windows line c d p q m n e = absurd (omega (arith, e))
 
 one_rect : (text : List ℕ) (q r : Rectangle) → IsLine text (written (Numbers q)) → IsLine text (written (Numbers r)) → q ≡ r
 one_rect text q r g h =
@@ -231,14 +270,17 @@ one_window text (Numbers r) All g h = absurd (no_all text r h.0 g)
 one_rest : Shapes Rest Rest (λ _. Unit {0}) (λ _. Unit {0})
 one_rest text x y p q m n = sym p.0 ∙ q.0
 
-trivial : (f : Form) → Holds (λ _. Unit {0}) (λ _. Unit {0}) f
+trivial : (f : Form) → Holds (λ _. Unit {0}) (λ _. Unit {0}) (λ _. Unit {0}) f
 trivial (form.Add e c x) = tt
 trivial (form.Change e h x) = tt
+trivial (form.Snap e r h i to) = tt
+trivial (form.Create e r h at) = tt
+trivial (form.Move e from to) = (tt, tt)
 trivial (form.Validate w) = tt
 trivial other = tt
 
 pub one_form : (line : List ℕ) (f g : Form) → HasForm line f → HasForm line g → f ≡ g
 one_form line f g p q =
-    one_of Rest Rest written written (λ _. Unit {0}) (λ _. Unit {0}) (λ _. Unit {0}) (λ _. Unit {0}) one_rest
+    one_of Rest Rest written written (λ _. Unit {0}) (λ _. Unit {0}) (λ _. Unit {0}) (λ _. Unit {0}) (λ _. Unit {0}) (λ _. Unit {0}) one_rest
     (λ text v w a b m n. one_window text v w a b)
     line f g p q (trivial f) (trivial g) (sym (tagged Rest written line f p) ∙ tagged Rest written line g q)

@@ -2,7 +2,7 @@
 --
 -- group_of f         the group of the form
 -- NoneOf g line      the line has no form of the group
--- IsPlain c          the command has no shape and no window
+-- IsPlain c          the command has no shape, no window and no place
 -- IsBare line c      so, and the line is the pieces of the command
 use Rattle.std.specs.Prelude.{◌≡◌, ℕ, List, []}
 use Rattle.line_terms.specs.Commands.{Command, Form, All}
@@ -14,6 +14,7 @@ pub data Group : Type 0 where
   Classes : Group
   Sessions : Group
   Edits : Group
+  Fixes : Group
   Validations : Group
   Marks : Group
   Listings : Group
@@ -32,6 +33,10 @@ group_of (command.Delete e h) = Edits
 group_of (command.Retype e h t) = Edits
 group_of (command.Undo e) = Edits
 group_of (command.Redo e) = Edits
+group_of (command.Explode e h) = Fixes
+group_of (command.Snap e r h i to) = Fixes
+group_of (command.Create e r h at) = Fixes
+group_of (command.Move e from to) = Fixes
 group_of (command.Validate window) = Validations
 group_of (command.Mark r a b) = Marks
 group_of (command.Unmark r a b) = Marks
@@ -48,6 +53,9 @@ NoneOf g line = (f : Form) → group_of f ≡ g → HasForm line f → ⊥
 abbrev pub IsPlain : Command → Type 0
 IsPlain (command.Add e c shape) = ⊥
 IsPlain (command.Change e h shape) = ⊥
+IsPlain (command.Snap e r h i to) = ⊥
+IsPlain (command.Create e r h at) = ⊥
+IsPlain (command.Move e from to) = ⊥
 IsPlain (command.Validate window) = ⊥
 IsPlain other = Unit {0}
 

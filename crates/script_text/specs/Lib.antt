@@ -3,4 +3,5 @@ pub mod Groups
 pub mod Seen
 pub mod Faults
 pub mod Edits
+pub mod Fixes
 pub mod Windows

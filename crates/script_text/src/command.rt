@@ -1,4 +1,4 @@
-use grid_plane::{Name, Rect};
+use grid_plane::{GridPoint, Name, Rect};
 use rule_words::{Kind, RuleKind};
 use shape::Shape;
 use std::marker::Model;
@@ -48,6 +48,14 @@ pub enum Command {
     Undo(Name),
     /// `by EDITOR redo`
     Redo(Name),
+    /// `by EDITOR explode H`
+    Explode(Name, u32),
+    /// `by EDITOR snap R H END X Y`; ends are counted from 0.
+    Snap(Name, u16, u32, u32, GridPoint),
+    /// `by EDITOR create R H X Y`
+    Create(Name, u16, u32, GridPoint),
+    /// `by EDITOR move X Y X2 Y2`
+    Move(Name, GridPoint, GridPoint),
     /// `validate X0 Y0 X1 Y1`, or `validate all`, which is the whole grid.
     Validate(Rect),
     /// `mark R H H2`; where H2 is 0, there is no partner.

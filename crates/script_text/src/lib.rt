@@ -6,6 +6,7 @@ mod command;
 mod edits;
 mod fault;
 mod fields;
+mod fixes;
 mod listings;
 mod marks;
 mod number;

@@ -15,6 +15,7 @@ use crate::command::Command;
 use crate::edits::read_edits;
 use crate::fault::LineFault;
 use crate::fields::is_skipped;
+use crate::fixes::read_fixes;
 use crate::listings::read_listings;
 use crate::marks::read_marks;
 use crate::sessions::read_sessions;
@@ -49,6 +50,9 @@ fn read_words(alloc: Global, line: &[u8]) -> Option<Result<Command, LineFault>>
     ensures { MatchOption result ((f : Form) → group_of f ≢ Skipped → HasForm line.now f → ⊥) (λ r. IsRead line.now r) }
 {
     if let Some(found) = read_edits(alloc, line) {
+        return Some(found);
+    }
+    if let Some(found) = read_fixes(line) {
         return Some(found);
     }
     if let Some(found) = read_validations(line) {

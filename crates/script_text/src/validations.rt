@@ -18,8 +18,8 @@ use grid_plane::Rect;
 use line_terms::LineRefusal;
 use text_fields::{Coordinate, behind_word, is_only, is_over, next_field};
 
-// The four numbers that are all that is left.
-fn read_numbers(text: &[u8]) -> Option<(Whole, Whole, Whole, Whole)>
+/// The four numbers that are all that is left.
+pub(crate) fn read_numbers(text: &[u8]) -> Option<(Whole, Whole, Whole, Whole)>
     ensures { MatchOption result ((r : Rectangle) → IsLine text.now (written (Numbers r)) → ⊥)
         (λ x. (r : Rectangle) × IsLine text.now (written (Numbers r)) × AreFor x.0 x.1 x.2 x.3 r) }
 {
@@ -37,8 +37,8 @@ fn read_numbers(text: &[u8]) -> Option<(Whole, Whole, Whole, Whole)>
     Some((x0, y0, x1, y1))
 }
 
-// The number at this place of the four, from 0, if it lies within the reach: the one place that tests it.
-fn coordinate(at: u32, whole: Whole) -> Result<Coordinate, LineFault>
+/// The number at this place of those of a line, from 0, if it lies within the reach: the one place that tests it.
+pub(crate) fn coordinate(at: u32, whole: Whole) -> Result<Coordinate, LineFault>
     ensures { MatchResult result (λ n. whole ≡ Within n) (λ e. (whole ≡ Beyond) × (e ≡ Refused (OutOfReach at))) }
 {
     match whole {

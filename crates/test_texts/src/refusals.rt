@@ -7,7 +7,7 @@ use shape::ShapeFault;
 use std::test::Fail;
 use topo_core::Topology;
 
-const REFUSALS: [Refusal; 28] = [
+const REFUSALS: [Refusal; 30] = [
     Refusal::Line(LineRefusal::NotALine),
     Refusal::Line(LineRefusal::TooLong),
     Refusal::Change(Cause::ClassTaken),
@@ -36,6 +36,8 @@ const REFUSALS: [Refusal; 28] = [
     Refusal::Line(LineRefusal::Reversed),
     Refusal::Change(Cause::NoError),
     Refusal::Change(Cause::AlreadySo),
+    Refusal::NothingToFix,
+    Refusal::BadShape(ShapeFault::Cross { i: 1, j: 3 }),
 ];
 
 const TEXT: &[u8] = b"refused E01
@@ -66,6 +68,8 @@ refused E23
 refused E24
 refused E25
 refused E26
+refused E34
+refused E18 cross 1 3
 ";
 
 #[test]

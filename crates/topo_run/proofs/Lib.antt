@@ -9,6 +9,7 @@ pub mod Texts
 pub mod Spelling
 pub mod OneRun
 pub mod Restores
+pub mod Fixed
 pub mod Towns
 pub mod Saying
 pub mod Opened

@@ -16,32 +16,32 @@ use Rattle.script_terms.proofs.Runs.{answers_by, run_keeps, last_keeps, empty_ke
 use Rattle.topo_run.proofs.Runs.{empty_ordered}
 
 -- what a command leaves that is read, answered and not refused
-command_done : (s : State) (line : List ℕ) (c : Command) (o : Outcome) → Step s line o → IsCommandLine line c → o.refused ≡ false
-    → (reply : Reply) × IsDone s c reply o.after
+pub command_done : (s : State) (line : List ℕ) (c : Command) (o : Outcome) → Step s line o → IsCommandLine line c → o.refused ≡ false
+    → (reply : Reply) × (is_refusal reply ≡ false) × IsDone s c reply o.after
 command_done s line c o step is free = by step.reading step.reads step.comes
   where
     done : (x : Option Refusal) (reply : Reply) → answers_by x s c reply o.after → is_refusal reply ≡ false → IsDone s c reply o.after
     done None reply a f = a
     done (Some r) reply a f = let no : true ≡ false = sym (ap is_refusal a.0) ∙ f in absurd cc
 
-    by : (r : Reading) → ReadsAs line r → ComesOf s r o → (reply : Reply) × IsDone s c reply o.after
+    by : (r : Reading) → ReadsAs line r → ComesOf s r o → (reply : Reply) × (is_refusal reply ≡ false) × IsDone s c reply o.after
     by (Faulty r) reads comes = absurd (reads.0 c is)
     by (Reads d) reads comes =
         let same : d ≡ c = one_command line d c reads is in
         let k = subst (λ (e : Command). ComesOf s (Reads e) o) same comes in
-        (k.0, done (refusal_of s c) k.0 k.1 (sym k.3 ∙ free))
+        (k.0, sym k.3 ∙ free, done (refusal_of s c) k.0 k.1 (sym k.3 ∙ free))
 
 pub undo_there : (s : State) (line editor : List ℕ) (o : Outcome) → IsKeeping s → Step s line o → IsCommandLine line (Undo editor)
     → o.refused ≡ false → IsRestored editor s o.after
 undo_there s line editor o keeps step is free =
     let d = command_done s line (Undo editor) o step is free in
-    undo_restores editor s o.after keeps d.1.1
+    undo_restores editor s o.after keeps d.2.1
 
 pub discard_there : (s : State) (line editor : List ℕ) (o : Outcome) → Step s line o → IsCommandLine line (Discard editor)
     → o.refused ≡ false → IsAllRestored editor s o.after
 discard_there s line editor o step is free =
     let d = command_done s line (Discard editor) o step is free in
-    discard_restores editor s o.after d.1.1
+    discard_restores editor s o.after d.2.1
 
 pub undo_over : (lines : List (List ℕ)) (os : List Outcome) (line editor : List ℕ) (o : Outcome) → Run empty_state lines os
     → Step (last_state empty_state os) line o → IsCommandLine line (Undo editor) → o.refused ≡ false

@@ -1,9 +1,9 @@
 -- A line that is read and answered is a step, and tries the pairs of which its reply tells.
-use Rattle.std.proofs.Common.{◌≡◌, ℕ, Bool, List, ◌++◌, refl, ◌∙◌, ap, Option, Some, None}
+use Rattle.std.proofs.Common.{◌≡◌, ℕ, Bool, List, ◌++◌, refl, ◌∙◌, ap, Option, Some, None, inl, inr}
 use Rattle.topology_terms.specs.Project.{Project, IsOrdered}
 use Rattle.topology_terms.specs.Settled.{IsSettled}
 use Rattle.topology_terms.specs.Sound.{IsSound}
-use Rattle.line_terms.specs.Commands.{Command, Blank, Class, Rule, DropRule, Begin, End, Discard, Add, Change, Retype, Delete, Undo, Redo, Validate, Mark, Unmark, Dirty, Errors, Cells, Features, Rules, Corners}
+use Rattle.line_terms.specs.Commands.{Command, Blank, Class, Rule, DropRule, Begin, End, Discard, Add, Change, Retype, Delete, Undo, Redo, Explode, Snap, Create, Move, Validate, Mark, Unmark, Dirty, Errors, Cells, Features, Rules, Corners}
 use Rattle.line_terms.specs.Lines.{IsCommandLine, IsLineFault}
 use Rattle.script_text.specs.Faults.{IsFault}
 use Rattle.script_text.specs.declared.fault.LineFault.{LineFault}
@@ -14,7 +14,9 @@ use Rattle.script_terms.specs.Refusing.{refusal_of}
 use Rattle.script_terms.specs.Reply.{Judged, reply_text}
 use Rattle.script_terms.specs.Reply as replies
 use Rattle.script_terms.specs.State.{State}
-use Rattle.script_terms.specs.Answer.{Answers, IsDone}
+use Rattle.script_terms.specs.Answer.{Answers, IsDone, IsFixed}
+use Rattle.fix_terms.specs.Plans.{Edit}
+use Rattle.topology_terms.specs.Feature.{Feature}
 use Rattle.script_terms.specs.Headline.{SoundHeadline, Invariant}
 use Rattle.script_terms.proofs.Runs.{answers_by}
 use Rattle.script_terms.specs.Run.{Reads, Faulty, Step, is_refusal}
@@ -39,6 +41,8 @@ said_judged : (p : Project) (r : Reply) → judged_said (said_of p r) ≡ judged
 said_judged p reply.Nothing = refl
 said_judged p reply.Done = refl
 said_judged p (reply.Number n) = refl
+said_judged p (reply.Parts n) = refl
+said_judged p (reply.Moved n) = refl
 said_judged p (reply.Judged s) = refl
 said_judged p (reply.Refused r) = refl
 said_judged p reply.DirtyList = refl
@@ -52,6 +56,12 @@ none_tried : (o : Option Refusal) (s t : State) (c : Command) (r : replies.Reply
     → judged_said r ≡ 0
 none_tried (Some x) s t c r done h = ap judged_said h.0
 none_tried None s t c r done h = done h
+
+-- a fix says none, whether it is done or refused for a shape
+fix_tried : {P : List Feature → Type 0} {editor : List ℕ} {es : List Edit} {s t : State} {r says : replies.Reply}
+    → IsFixed editor es P says s r t → judged_said says ≡ 0 → judged_said r ≡ 0
+fix_tried (inl x) e = ap judged_said x.1 ∙ e
+fix_tried (inr y) e = ap judged_said y.2
 
 tried : (s t : State) (c : Command) (r : replies.Reply) → Answers s c r t → Judges s c (judged_said r)
 tried s t (Validate w) r h =
@@ -69,6 +79,10 @@ tried s t (Retype e a b) r h = none_tried (refusal_of s (Retype e a b)) s t (Ret
 tried s t (Delete e a) r h = none_tried (refusal_of s (Delete e a)) s t (Delete e a) r (λ d. ap judged_said d.0) h
 tried s t (Undo e) r h = none_tried (refusal_of s (Undo e)) s t (Undo e) r (λ d. ap judged_said d.0) h
 tried s t (Redo e) r h = none_tried (refusal_of s (Redo e)) s t (Redo e) r (λ d. ap judged_said d.0) h
+tried s t (Explode e a) r h = none_tried (refusal_of s (Explode e a)) s t (Explode e a) r (λ d. ap judged_said d.2) h
+tried s t (Snap e n a b q) r h = none_tried (refusal_of s (Snap e n a b q)) s t (Snap e n a b q) r (λ d. fix_tried d.4 refl) h
+tried s t (Create e n a q) r h = none_tried (refusal_of s (Create e n a q)) s t (Create e n a q) r (λ d. ap judged_said d.4) h
+tried s t (Move e q p) r h = none_tried (refusal_of s (Move e q p)) s t (Move e q p) r (λ d. fix_tried d refl) h
 tried s t (Mark n a b) r h = none_tried (refusal_of s (Mark n a b)) s t (Mark n a b) r (λ d. ap judged_said d.0) h
 tried s t (Unmark n a b) r h = none_tried (refusal_of s (Unmark n a b)) s t (Unmark n a b) r (λ d. ap judged_said d.0) h
 tried s t Dirty r h = none_tried (refusal_of s Dirty) s t Dirty r (λ d. ap judged_said d.0) h

@@ -1,5 +1,14 @@
-ghost use Rattle.std.specs.Prelude.{◌≡◌, ℕ, List, false};
-ghost use Rattle.line_terms.specs.Commands.{Undo, Discard};
+ghost use Rattle.std.specs.Prelude.{◌≡◌, ℕ, List, Some, false};
+ghost use Rattle.plane_terms.specs.Point.{Place, Point};
+ghost use Rattle.topology_terms.specs.Broken.{Row, BrokenAt, BrokenWhole};
+ghost use Rattle.topology_terms.specs.Feature as terms;
+ghost use Rattle.topology_terms.specs.Feature.{feature_at};
+ghost use Rattle.topology_terms.specs.Project.{rule_at};
+ghost use Rattle.fix_terms.specs.Explode.{exploded, HasExploded};
+ghost use Rattle.fix_terms.specs.Snap.{HasSnapped};
+ghost use Rattle.fix_terms.specs.Create.{HasCreated};
+ghost use Rattle.fix_terms.specs.Move.{HasMoved};
+ghost use Rattle.line_terms.specs.Commands.{Undo, Discard, Explode, Snap, Create, Move, Delete};
 ghost use Rattle.line_terms.specs.Lines.{IsCommandLine};
 ghost use Rattle.script_terms.specs.Keeping.{IsKeeping};
 ghost use Rattle.script_terms.specs.Restored.{IsRestored, IsAllRestored};
@@ -31,4 +40,25 @@ pub fn exact_undo_law()
         → o.refused ≡ false → IsRestored editor s o.after }
     ensures discard_there { (s : State) (line editor : List ℕ) (o : Outcome) → Step s line o → IsCommandLine line (Discard editor)
         → o.refused ≡ false → IsAllRestored editor s o.after }
+{}
+
+/// The law of fixes: a line that is not refused does what it is for, whatever the state. After `explode` no feature of the plan has
+/// several parts, and their segments in order are the old ones. After `snap` the rule is broken neither at the end's old place nor where
+/// the end is now. After `create` the feature that asked for a point has it. After `move` no live feature has a vertex at the place. In
+/// each case no other feature changes. After `delete` no rule is broken by the feature, at a point or as a whole.
+pub fn fix_law()
+    ensures explode { (s : State) (line editor : List ℕ) (h : ℕ) (o : Outcome) → Step s line o → IsCommandLine line (Explode editor h) → o.refused ≡ false
+        → (f : terms.Feature) × (feature_at s.project.features h ≡ Some f) × HasExploded s.project.features s.project.next h (exploded f) o.after.project.features }
+    ensures snap { (s : State) (line editor : List ℕ) (r h i : ℕ) (to : Place) (o : Outcome) → Step s line o → IsCommandLine line (Snap editor r h i to) → o.refused ≡ false
+        → (row : Row) × (f : terms.Feature) × (rule_at s.project.rules r ≡ Some row) × (feature_at s.project.features h ≡ Some f)
+        × HasSnapped row f i to s.project.features o.after.project.features }
+    ensures create { (s : State) (line editor : List ℕ) (r h : ℕ) (at : Place) (o : Outcome) → Step s line o → IsCommandLine line (Create editor r h at) → o.refused ≡ false
+        → (row : Row) × (f : terms.Feature) × (rule_at s.project.rules r ≡ Some row) × (feature_at s.project.features h ≡ Some f)
+        × HasCreated row f at s.project.features s.project.next o.after.project.features }
+    ensures moved { (s : State) (line editor : List ℕ) (from to : Place) (o : Outcome) → Step s line o → IsCommandLine line (Move editor from to) → o.refused ≡ false
+        → HasMoved from to s.project.features o.after.project.features }
+    ensures delete_at { (s : State) (line editor : List ℕ) (h : ℕ) (o : Outcome) → Step s line o → IsCommandLine line (Delete editor h) → o.refused ≡ false
+        → (row : Row) (b : ℕ) (p : Point) → BrokenAt row o.after.project.features h b p → ⊥ }
+    ensures delete_whole { (s : State) (line editor : List ℕ) (h : ℕ) (o : Outcome) → Step s line o → IsCommandLine line (Delete editor h) → o.refused ≡ false
+        → (row : Row) → BrokenWhole row o.after.project.features h → ⊥ }
 {}

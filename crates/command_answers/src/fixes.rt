@@ -1,0 +1,240 @@
+ghost use Rattle.std.specs.Prelude.{◌≡◌, None, Some, true, false, is_some, MatchOption, IfOk, OnOk};
+ghost use Rattle.plane_terms.specs.Point.{same_place};
+ghost use Rattle.topology_terms.specs.Project.{Project, IsOrdered, AreAscending, rule_at};
+ghost use Rattle.topology_terms.specs.Settled.{IsSettled};
+ghost use Rattle.topology_terms.specs.Sound.{IsSound};
+ghost use Rattle.line_terms.specs.Commands as commands;
+ghost use Rattle.script_terms.specs.Answer.{Answers};
+ghost use Rattle.script_terms.specs.Refusal as refusals;
+ghost use Rattle.reply_text.specs.Replies.{said_of};
+ghost use Rattle.command_answers.specs.Refusals.{SaysRefusal};
+ghost use Rattle.command_answers.specs.Worlds.{IsWorld};
+ghost use Rattle.command_answers.specs.Planned.{AreReady, IsToldSo, IsMoveRefusal, made_reply, fix_refusal, first_other};
+
+use crate::editors::other_holder;
+use crate::planned::do_plan;
+use crate::world::World;
+use edit_session::Sessions;
+use fix_tools::{FixFault, Plan, create, explode, move_all, snap, touched};
+use grid_plane::{GridPoint, Name, NoMemory};
+use reply_text::{Refusal, Reply};
+use rule_core::InForce;
+use rules::PosterRules;
+use topo_core::Topology;
+use topology_terms::Cause;
+
+/// What a fix is answered that is done.
+#[derive(Clone, Copy)]
+pub enum Made {
+    /// How many parts there are.
+    Parts,
+    /// Nothing more.
+    Done,
+    /// The handle of the new feature.
+    Handle,
+    /// How many features are moved.
+    Moved,
+}
+
+// The reply to a plan of so many edits, before which this was the next handle.
+fn reply_of(made: Made, count: usize, next: u32) -> Reply
+    ensures { (p : Project) → said_of p result ≡ made_reply made count next }
+{
+    match made {
+        Made::Parts => Reply::Parts(count),
+        Made::Done => Reply::Done,
+        Made::Handle => Reply::Number(next),
+        Made::Moved => Reply::Moved(count),
+    }
+}
+
+// What is answered where no plan was made.
+fn refused_fix(fault: FixFault) -> Result<Reply, NoMemory>
+    ensures { IfOk result (SaysRefusal (fix_refusal fault)) }
+{
+    match fault {
+        FixFault::NoRule => Ok(Reply::Refused(Refusal::Change(Cause::NoRule))),
+        FixFault::NoFeature => Ok(Reply::Refused(Refusal::Change(Cause::NoFeature))),
+        FixFault::Nothing => Ok(Reply::Refused(Refusal::NothingToFix)),
+        FixFault::Bad(fault) => Ok(Reply::Refused(Refusal::BadShape(fault))),
+        FixFault::Spent => Ok(Reply::Refused(Refusal::Change(Cause::HandlesSpent))),
+        FixFault::NoMemory => Err(NoMemory),
+    }
+}
+
+// Whether a rule in force has this number.
+#[tactic(auto, unfolding(topology_terms::specs::Project::rule_at))]
+fn is_in_force(rules: &[InForce], number: u16) -> bool
+    requires { AreAscending rules.now }
+    ensures { result ≡ is_some (rule_at rules.now number) }
+{
+    for rule in rules {
+        if rule.number == number {
+            return true;
+        }
+    }
+    false
+}
+
+fn is_same_place(a: GridPoint, b: GridPoint) -> bool
+    ensures { result ≡ same_place a b }
+{
+    a.x() == b.x() && a.y() == b.y()
+}
+
+// The editor of another session that holds the least of these handles of which another one holds any.
+fn first_holder(sessions: &Sessions, editor: &Name, handles: &[u32]) -> Option<Name>
+    ensures { MatchOption result (first_other sessions.now handles.now editor.now ≡ None)
+        (λ n. first_other sessions.now handles.now editor.now ≡ Some (refusals.HeldBy n)) }
+{
+    for handle in handles {
+        if let Some(holder) = other_holder(sessions, editor, *handle) {
+            return Some(holder);
+        }
+    }
+    None
+}
+
+// Does a plan, if there is one, and answers what was made; or why there is none. If memory runs out, the first edits may be done.
+fn do_planned(
+    topology: &mut Topology<PosterRules>,
+    sessions: &mut Sessions,
+    editor: &Name,
+    planned: Result<Plan, FixFault>,
+    made: Made,
+) -> Result<Reply, NoMemory>
+    requires world { IsWorld topology.old sessions.old }
+    requires ready { AreReady editor.now planned topology.old sessions.old }
+    ensures told { IfOk result (IsToldSo editor.now made planned topology.old topology.new sessions.old sessions.new) }
+    ensures world { IsWorld topology.new sessions.new }
+    ensures ordered { OnOk result (IsOrdered topology.new) }
+    ensures sound { IsSound topology.old → IsSound topology.new }
+    ensures settled { IsSettled topology.old → IsSettled topology.new }
+{
+    topology.topology_law();
+    topology.order_law();
+    match planned {
+        Ok(plan) => {
+            let mut plan = plan;
+            let count = plan.len();
+            let next = topology.store().next_handle();
+            do_plan(topology, sessions, editor, &mut plan)?;
+            Ok(reply_of(made, count, next))
+        }
+        Err(fault) => refused_fix(fault),
+    }
+}
+
+impl World {
+    /// `by EDITOR explode H`. If memory runs out, some of the parts may be features already.
+    #[tactic(auto, using(crate::proofs::Fixing::explode_stopped))]
+    pub(crate) fn answer_explode(&mut self, editor: &Name, handle: u32) -> Result<Reply, NoMemory>
+        ensures answers { IfOk result (λ r. Answers self.old (commands.Explode editor.now handle) (said_of self.new.project r) self.new) }
+        ensures sound { IsSound self.old.project → IsSound self.new.project }
+        ensures settled { IsSettled self.old.project → IsSettled self.new.project }
+    {
+        if let Some(refusal) = self.edit_refusal(editor, handle) {
+            return Ok(Reply::Refused(refusal));
+        }
+        self.topology.topology_law();
+        self.topology.order_law();
+        let planned = explode(self.alloc, &self.topology, handle);
+        do_planned(&mut self.topology, &mut self.sessions, editor, planned, Made::Parts)
+    }
+
+    /// `by EDITOR snap R H END X Y`
+    #[tactic(auto, using(crate::proofs::Fixing::snap_closed, crate::proofs::Fixing::snap_no_rule, crate::proofs::Fixing::snap_stopped))]
+    pub(crate) fn answer_snap(
+        &mut self,
+        editor: &Name,
+        rule: u16,
+        handle: u32,
+        end: u32,
+        to: GridPoint,
+    ) -> Result<Reply, NoMemory>
+        ensures answers { IfOk result (λ r. Answers self.old (commands.Snap editor.now rule handle end to) (said_of self.new.project r) self.new) }
+        ensures sound { IsSound self.old.project → IsSound self.new.project }
+        ensures settled { IsSettled self.old.project → IsSettled self.new.project }
+    {
+        if !self.is_open(editor) {
+            return Ok(Reply::Refused(Refusal::NoSession));
+        }
+        self.topology.topology_law();
+        self.topology.order_law();
+        if !is_in_force(self.topology.rules(), rule) {
+            return Ok(Reply::Refused(Refusal::Change(Cause::NoRule)));
+        }
+        if let Some(refusal) = self.edit_refusal(editor, handle) {
+            return Ok(Reply::Refused(refusal));
+        }
+        let planned = snap(self.alloc, &self.topology, rule, handle, end, to);
+        do_planned(&mut self.topology, &mut self.sessions, editor, planned, Made::Done)
+    }
+
+    /// `by EDITOR create R H X Y`
+    #[tactic(auto, using(crate::proofs::Fixing::create_closed))]
+    pub(crate) fn answer_create(
+        &mut self,
+        editor: &Name,
+        rule: u16,
+        handle: u32,
+        at: GridPoint,
+    ) -> Result<Reply, NoMemory>
+        ensures answers { IfOk result (λ r. Answers self.old (commands.Create editor.now rule handle at) (said_of self.new.project r) self.new) }
+        ensures sound { IsSound self.old.project → IsSound self.new.project }
+        ensures settled { IsSettled self.old.project → IsSettled self.new.project }
+    {
+        if !self.is_open(editor) {
+            return Ok(Reply::Refused(Refusal::NoSession));
+        }
+        self.topology.topology_law();
+        self.topology.order_law();
+        self.topology.store().next_handle();
+        let planned = create(self.alloc, &self.topology, rule, handle, at);
+        do_planned(&mut self.topology, &mut self.sessions, editor, planned, Made::Handle)
+    }
+
+    // Why this editor does not move the vertices at a place: no session, nothing to move, or another session holds a feature there.
+    fn move_refusal(
+        &self,
+        editor: &Name,
+        from: GridPoint,
+        to: GridPoint,
+    ) -> Result<Option<Refusal>, NoMemory>
+        ensures { IfOk result (IsMoveRefusal self.now editor.now from to) }
+    {
+        if !self.is_open(editor) {
+            return Ok(Some(Refusal::NoSession));
+        }
+        let handles = touched(self.alloc, &self.topology, from)?;
+        if is_same_place(to, from) || handles.len() == 0 {
+            return Ok(Some(Refusal::NothingToFix));
+        }
+        match first_holder(&self.sessions, editor, handles.items()) {
+            Some(holder) => Ok(Some(Refusal::HeldBy(holder))),
+            None => Ok(None),
+        }
+    }
+
+    /// `by EDITOR move X Y X2 Y2`. If memory runs out, some of the features may be moved already.
+    #[tactic(auto, using(crate::proofs::Fixing::move_stopped))]
+    pub(crate) fn answer_move(
+        &mut self,
+        editor: &Name,
+        from: GridPoint,
+        to: GridPoint,
+    ) -> Result<Reply, NoMemory>
+        ensures answers { IfOk result (λ r. Answers self.old (commands.Move editor.now from to) (said_of self.new.project r) self.new) }
+        ensures sound { IsSound self.old.project → IsSound self.new.project }
+        ensures settled { IsSettled self.old.project → IsSettled self.new.project }
+    {
+        let told = self.move_refusal(editor, from, to)?;
+        if let Some(refusal) = told {
+            return Ok(Reply::Refused(refusal));
+        }
+        self.topology.topology_law();
+        self.topology.order_law();
+        let planned = move_all(self.alloc, &self.topology, from, to);
+        do_planned(&mut self.topology, &mut self.sessions, editor, planned, Made::Moved)
+    }
+}
