@@ -10,14 +10,16 @@ import math
 from fractions import Fraction
 from typing import Iterable, NamedTuple
 
-from .outlines import Outline, Point, Ring, doubled_area, rings_of, turn, way_on
-from .spans import ROOM, Near, Segment, may_be_straight, may_hold, near
+from .outlines import Number, Outline, Point, Ring, doubled_area, rings_of, turn, way_on
+from .spans import ROOM, Near, Segment, may_be_straight, near
 
 WORD = 'polygon_must_not_have_gaps'
 MOST_STRIPS = 4096
 
 Way = tuple[Point, Point]
-Square = tuple[int, int]
+Square = tuple[float, float]
+# A segment, its ends as they are nearest in double precision, and their box.
+Boxed = tuple[Segment, Near, Near, float, float, float, float]
 
 
 class Gap(NamedTuple):
@@ -47,6 +49,7 @@ class Kept(Fraction):
     """A fraction that keeps its hash, which takes longer than all else that is done with it."""
 
     __slots__ = ('_known',)
+    _known: int
 
     def __hash__(self) -> int:
         try:
@@ -67,21 +70,22 @@ class Sides:
     segments that stand in it: so a segment meets four of them at most."""
 
     def __init__(self, segments: Iterable[Segment]) -> None:
-        self.sizes: dict[float, dict[Square, list[tuple[Segment, Near, Near]]]] = {}
+        self.sizes: dict[float, dict[Square, list[Boxed]]] = {}
         for segment in segments:
-            p, q = map(near, segment)
-            (x0, x1), (y0, y1) = map(sorted, zip(p, q))
+            p, q = near(segment[0]), near(segment[1])
+            x0, y0, x1, y1 = box = min(p[0], q[0]), min(p[1], q[1]), max(p[0], q[0]), max(p[1], q[1])
             size = math.ldexp(1.0, math.frexp(max(x1 - x0, y1 - y0, 1.0))[1])
             of_size = self.sizes.setdefault(size, {})
             for x in range(math.floor(x0 / size), math.floor(x1 / size) + 1):
                 for y in range(math.floor(y0 / size), math.floor(y1 / size) + 1):
-                    of_size.setdefault((x, y), []).append((segment, p, q))
+                    of_size.setdefault((x, y), []).append((segment, p, q, *box))
 
     def to(self, point: Point) -> list[Segment]:
-        """Those on which a point may lie that is no end of them."""
+        """Those on which a point may lie that is no end of them. What is nearest to it lies in the box of their ends, too: rounding keeps order."""
         x, y = at = near(point)
-        beside = (squares.get((math.floor(x / size), math.floor(y / size)), ()) for size, squares in self.sizes.items())
-        return [segment for found in beside for segment, p, q in found if may_hold(p, q, at) and point not in segment]
+        beside = [squares.get((x // size, y // size), ()) for size, squares in self.sizes.items()]
+        return [segment for found in beside for segment, p, q, x0, y0, x1, y1 in found
+                if x0 <= x <= x1 and y0 <= y <= y1 and may_be_straight(p, q, at) and point not in segment]
 
 
 def split(sides: dict[Segment, set[int]], points: set[Point]) -> dict[Segment, list[Segment]]:
@@ -184,7 +188,7 @@ class Strips:
                 for strip in range(self.strip(p[0]), self.strip(q[0]) + 1):
                     self.sides.setdefault(strip, []).append((p, q))
 
-    def strip(self, x: Fraction) -> int:
+    def strip(self, x: Number) -> int:
         return math.floor((float(x) - self.low) / self.wide)
 
     def below(self, point: Point) -> list[Way]:
@@ -284,5 +288,5 @@ def ground_of(borders: dict[Segment, set[int]], points: set[Point]) -> Ground:
     beside = [set().union(*(sides[side_of(way)] for way in of.faces.ways_of(walk))) for walk in walks]
     rings = [straightened(of.faces.walks[walk], kept)[::-1] for walk in walks]
     passed = {side_of(way) for walk in walks for way in of.faces.ways_of(walk)}
-    outer = {side for side, pieces in cut.items() if passed.issuperset(pieces)}
-    return Ground(sorted(gaps, key=lambda gap: min(gap.outline.shell)), list(zip(rings, beside)), outer, len(pieces) - len(closed))
+    on_outside = {side for side, parts in cut.items() if passed.issuperset(parts)}
+    return Ground(sorted(gaps, key=lambda gap: min(gap.outline.shell)), list(zip(rings, beside)), on_outside, len(pieces) - len(closed))

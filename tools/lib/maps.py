@@ -7,16 +7,16 @@ import math
 import os
 import re
 import shutil
-from typing import NamedTuple, Optional, TextIO, Union
+from typing import NamedTuple, Optional, Sequence, TextIO, Union
 from xml.sax.saxutils import escape, quoteattr
 
 from .cells import Cover, closures_of, cover_of_error
 from .grid import Grid, Place
 from .ogr import run
-from .outlines import Point, doubled_area
+from .outlines import Point, doubled_area, turn
 from .outputs import binary_output
 from .replies import Error
-from .shapes import first_clash, near_pairs, turn
+from .shapes import first_clash, near_pairs
 
 Position = tuple[float, float]
 List = list[Position]
@@ -43,7 +43,7 @@ class Rounding:
         x, y = self.grid.source_of(*point)
         return float(x), float(y)
 
-    def line(self, points: list[Point]) -> List:
+    def line(self, points: Sequence[Point]) -> List:
         out = [self.position(point) for point in points]
         return [p for i, p in enumerate(out) if i == 0 or p != out[i - 1]]
 
@@ -88,7 +88,7 @@ def are_valid(polygons: list[list[List]]) -> bool:
 
 def meets_itself(ring: list[tuple[Place, Place]]) -> bool:
     """Whether a vertex of a ring lies on another side of it than the two that it ends."""
-    between = lambda p, side: p not in side and turn(*side, p) == 0 and min(side) < p < max(side)
+    between = lambda p, side: p not in side and turn(side[0], side[1], p) == 0 and min(side) < p < max(side)
     return any(between(p, ring[j]) or between(q, ring[i]) for i, j in near_pairs(ring) for p, q in [(ring[i][0], ring[j][0])])
 
 

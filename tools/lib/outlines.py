@@ -3,12 +3,14 @@ from __future__ import annotations
 
 from fractions import Fraction
 from math import gcd
-from typing import Iterator, NamedTuple, Sequence, Union
+from typing import Iterator, NamedTuple, Sequence, TypeVar, Union
 
 # Whole where it can be: such are computed with fastest.
 Number = Union[int, Fraction]
 Point = tuple[Number, Number]
 Ring = list[Point]
+# Points of one kind, as places of the grid.
+P = TypeVar('P', bound=Point)
 
 
 class Outline(NamedTuple):
@@ -66,7 +68,7 @@ def outer_sides(sides: list[tuple[Point, Point]], corners: set[Point]) -> list[t
 
 def border_of(polygons: list[Ring]) -> dict[Point, list[Point]]:
     """The border of what the polygons cover, as the ways that lead on from each point, with the inside at their left."""
-    upright: dict[Fraction, set[Point]] = {}
+    upright: dict[Number, set[Point]] = {}
     for ring in polygons:
         for point in ring:
             upright.setdefault(point[0], set()).add(point)
@@ -85,7 +87,7 @@ def is_before(back: Point, d: Point, e: Point) -> bool:
     return (half(d), 0) < (half(e), 0) if half(d) != half(e) else cross(d, e) < 0
 
 
-def way_on(before: Point, at: Point, ways: list[Point]) -> Point:
+def way_on(before: P, at: P, ways: list[P]) -> P:
     """Of the ways that lead on from a point the one that bounds the same part of the inside: the leftmost."""
     towards = lambda point: (point[0] - at[0], point[1] - at[1])
     best = ways[0]
@@ -95,12 +97,12 @@ def way_on(before: Point, at: Point, ways: list[Point]) -> Point:
     return best
 
 
-def walks_of(ways: dict[Point, list[Point]]) -> Iterator[Ring]:
+def walks_of(ways: dict[P, list[P]]) -> Iterator[list[P]]:
     """The border as closed walks, each round one part of the inside or of what it leaves out; a walk may meet a point again."""
     unseen = dict.fromkeys((p, q) for p in sorted(ways) for q in ways[p])
     while unseen:
         side = first = next(iter(unseen))
-        walk = []
+        walk: list[P] = []
         while not walk or side != first:
             del unseen[side]
             walk.append(side[0])
@@ -108,10 +110,10 @@ def walks_of(ways: dict[Point, list[Point]]) -> Iterator[Ring]:
         yield walk
 
 
-def rings_of(walk: Ring) -> Iterator[Ring]:
+def rings_of(walk: list[P]) -> Iterator[list[P]]:
     """A closed walk as rings that meet no point twice."""
-    path: Ring = []
-    places: dict[Point, int] = {}
+    path: list[P] = []
+    places: dict[P, int] = {}
     for point in walk:
         if point in places:
             at = places[point]

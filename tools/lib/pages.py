@@ -13,7 +13,7 @@ from typing import Iterable, Iterator, NamedTuple, Optional
 from .gaps import Gap
 from .grid import Grid
 from .mapping import GREY, OF_CLASS, OF_RULE, colour, rule_text
-from .outlines import Point
+from .outlines import Number, Point
 from .replies import Frame
 from .rules import title_of
 from .scenes import Drawn, Marked, Scene, ShownFix, box_of
@@ -38,7 +38,7 @@ class Group(NamedTuple):
     kind: str
 
 
-def rounded(number: Fraction) -> float:
+def rounded(number: Number) -> float:
     """A coordinate for the screen, to a thousandth of a unit; whole where it can be."""
     near = round(float(number), DIGITS)
     return int(near) if near == int(near) else near

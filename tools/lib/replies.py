@@ -7,7 +7,7 @@ from dataclasses import dataclass, field
 from functools import lru_cache
 from itertools import chain
 from sys import intern
-from typing import BinaryIO, Iterable, Iterator, MutableMapping, NamedTuple, Optional, Sequence, Union
+from typing import IO, Iterable, Iterator, MutableMapping, NamedTuple, Optional, Sequence, Union
 
 from .forms import SUBTYPE, can_answer
 from .grid import Grid, grid_of
@@ -165,12 +165,12 @@ def answer_to(number: int, line: bytes, replies: Iterable[bytes]) -> Answer:
     return answer
 
 
-def check_ended(replies: BinaryIO) -> None:
+def check_ended(replies: IO[bytes]) -> None:
     if replies.read(1):
         raise ReplyError('there are more replies than lines')
 
 
-def answers_of(script: Iterable[bytes], replies: BinaryIO) -> Iterator[Answer]:
+def answers_of(script: Iterable[bytes], replies: IO[bytes]) -> Iterator[Answer]:
     """The lines of a script with their replies, one at a time; a ReplyError where a reply is missing, cut off, one too many, or none
     that its line can have."""
     for number, line in enumerate(script, 1):
@@ -407,9 +407,10 @@ class Ending:
         else:
             self.done(answer.line.split(None, 4), answer)
 
-    def take_all(self, script: Iterable[bytes], replies: BinaryIO) -> None:
-        """Takes all lines of a script with their replies. Features that were added, which nearly all lines are, are taken by their bytes; any
-        other line, and what does not fit, as an answer."""
+    def take_all(self, script: Iterable[bytes], replies: IO[bytes]) -> int:
+        """Takes all lines of a script with their replies, and says how many have one. Features that were added, which nearly all lines are, are
+        taken by their bytes; any other line, and what does not fit, as an answer."""
+        replied = 0
         for number, line in enumerate(script, 1):
             added = ADDED.fullmatch(line)
             said = [next(replies, b'')] if added else []
@@ -417,9 +418,13 @@ class Ending:
             if done:
                 self.changes += 1
                 self.added(int(done[1]), intern(added[1].decode()))
+                replied += 1
             else:
-                self.take(answer_to(number, line, chain(said, replies)))
+                answer = answer_to(number, line, chain(said, replies))
+                self.take(answer)
+                replied += bool(answer.reply)
         check_ended(replies)
+        return replied
 
     def errors(self) -> Optional[Listing]:
         """The last listing of errors: with cells, where nothing changed since."""

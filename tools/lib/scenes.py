@@ -5,7 +5,7 @@ import contextlib
 import re
 import subprocess
 import threading
-from typing import BinaryIO, Iterator, NamedTuple, Optional
+from typing import IO, Iterator, NamedTuple, Optional
 
 from .asked import with_closures
 from .cells import Cover, cover_and_stops
@@ -13,7 +13,7 @@ from .gaps import WORD, Ground, ground_of
 from .grid import REACH, Place
 from .names import NO_NAMES, Names
 from .outlines import Point
-from .replies import Ending, Error, Frame, ReplyError, answers_of, each_error, named_by
+from .replies import Ending, Error, Frame, ReplyError, each_error, frame_of, named_by
 from .spans import Segment
 
 LISTS = re.compile(r'\(([-0-9 ,]+)\)')
@@ -124,14 +124,14 @@ def asked_of(script: str) -> Iterator[bytes]:
     yield from [b'\n'] * (not last.endswith(b'\n')) + [b'features\n', b'cells\n', b'dirty\n']
 
 
-def feed(script: str, pipe: BinaryIO) -> None:
+def feed(script: str, pipe: IO[bytes]) -> None:
     """Hands all that is asked to the program. It may end before; then its replies say so."""
     with contextlib.suppress(BrokenPipeError), pipe:
         pipe.writelines(asked_of(script))
 
 
 @contextlib.contextmanager
-def replies_to(program: list[str], script: str) -> Iterator[BinaryIO]:
+def replies_to(program: list[str], script: str) -> Iterator[IO[bytes]]:
     """The replies to a script and behind its lines the three listings, as they come. A ReplyError where it is no script."""
     with open(script, 'rb') as pieces:
         for piece in iter(lambda: pieces.read(1 << 20), b''):
@@ -147,14 +147,11 @@ def replies_to(program: list[str], script: str) -> Iterator[BinaryIO]:
             feeder.join()
 
 
-def ending_after(script: str, replies: BinaryIO) -> Ending:
+def ending_after(script: str, replies: IO[bytes]) -> Ending:
     """What stands at the end. A ReplyError where no line could be done, or where there is none: a drawing of nothing would look as if all
     were well."""
-    ending, last = Ending(), 0
-    for answer in answers_of(asked_of(script), replies):
-        ending.take(answer)
-        last += bool(answer.reply)
-    if last == LISTED:
+    ending = Ending()
+    if ending.take_all(asked_of(script), replies) == LISTED:
         raise ReplyError('the script has no lines')
     if ending.refused and not ending.changes:
         raise ReplyError('this is no script: none of its lines could be done')
@@ -185,7 +182,7 @@ def scene_of(program: list[str], script: str, names: Names = NO_NAMES, asks: boo
     features = list(map(drawn_of, drained(ending.listings['features'].lines)))
     listed = each_error(drained(ending.listings['cells'].lines))
     errors = [Marked(error, *cover_and_stops(error)) for error in errors_of(program, script, listed, asks)]
-    dirt = [tuple(map(int, line.split()[1:])) for line in ending.listings['dirty'].lines]
+    dirt = [frame_of(line.split()[1:]) for line in ending.listings['dirty'].lines]
     return Scene(features, errors, dirt, ending, names)
 
 
@@ -199,7 +196,7 @@ def box_of(scene: Scene, of_features: Optional[list[Frame]] = None) -> Frame:
     """The least rectangle that holds the features and the errors, and the dirt that does not reach the border of the grid. The frames of the
     features may be known already, or one round them."""
     frames = [feature.frame for feature in scene.features] if of_features is None else list(of_features)
-    frames += [marked.error.frame for marked in scene.errors] + [frame for frame in scene.dirt if max(map(abs, frame)) < REACH]
+    frames += [marked.error.frame for marked in scene.errors] + [frame for frame in scene.dirt if -REACH < min(frame) and max(frame) < REACH]
     return around(frames) if frames else (-REACH, -REACH, REACH, REACH)
 
 
