@@ -15,7 +15,7 @@ from .outlines import Point
 from .texts import KINDS
 
 MOST_BYTES = 1048576
-LISTINGS = ('errors', 'cells', 'dirty', 'features', 'rules')
+LISTINGS = ('errors', 'cells', 'dirty', 'features', 'rules', 'corners')
 ENDS = ('ok', 'refused', 'total ')
 SESSION_LINES = ('begin', 'end', 'discard')
 FIX_LINES = ('explode', 'snap', 'create', 'move')
@@ -349,8 +349,6 @@ class Ending:
             self.listed(answer.reply[:-1])
         if words[0] in LISTINGS:
             self.listings[words[0]] = Listing(answer.reply[:-1], answer.number, self.changes, dict(self.rules))
-            return
-        if words[0] == 'corners':
             return
         self.changes += 1
         if words[0] == 'class':
