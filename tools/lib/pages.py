@@ -61,15 +61,19 @@ def bytes_of(number: int) -> bytes:
     return bytes(out)
 
 
-# The bytes of the numbers from -NEAR up to NEAR, each at its own place: a list has its last ones at -1, -2 and so on.
+class Known(dict[int, bytes]):
+    """The bytes of numbers that are near 0, and of others when they are asked for."""
+
+    def __missing__(self, number: int) -> bytes:
+        return bytes_of(number)
+
+
 NEAR = 1 << 14
-BYTES = [bytes_of(number) for number in [*range(NEAR), *range(-NEAR, 0)]]
+BYTES = Known((number, bytes_of(number)) for number in range(-NEAR, NEAR))
 
 
-def bytes_of_all(numbers: list[int]) -> bytes:
-    if not numbers or -NEAR <= min(numbers) and max(numbers) < NEAR:
-        return b''.join(map(BYTES.__getitem__, numbers))
-    return b''.join([BYTES[number] if -NEAR <= number < NEAR else bytes_of(number) for number in numbers])
+def bytes_of_all(numbers: Iterable[int]) -> bytes:
+    return b''.join(map(BYTES.__getitem__, numbers))
 
 
 def packed(features: list[Drawn], names: list[str]) -> tuple[str, Optional[Frame]]:
@@ -85,10 +89,11 @@ def packed(features: list[Drawn], names: list[str]) -> tuple[str, Optional[Frame
         for numbers in lists:
             if feature.kind == 'polygon':
                 del numbers[-2:]
-            out += bytes_of_all([len(numbers) // 2]) + bytes_of_all(list(map(sub, numbers, last + numbers)))
+            out += BYTES[len(numbers) // 2] + bytes_of_all(map(sub, numbers, last + numbers))
             last = numbers[-2:]
-            xs += min(numbers[::2]), max(numbers[::2])
-            ys += min(numbers[1::2]), max(numbers[1::2])
+            across, up = numbers[::2], numbers[1::2]
+            xs += min(across), max(across)
+            ys += min(up), max(up)
     return b64encode(out).decode(), (min(xs), min(ys), max(xs), max(ys)) if xs else None
 
 

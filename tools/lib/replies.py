@@ -274,6 +274,14 @@ class Origins(MutableMapping[int, Origin]):
         if any(remark.startswith('# part ') for remark in remarks):
             self.cut.add(handle)
 
+    def see(self, handle: int, side: str) -> None:
+        """Takes of which class and subtype a listing says that a feature is; where it comes from stays as it was told."""
+        told = self.told.get(handle, (side, []))
+        if isinstance(told, Origin):
+            self.told[handle] = told._replace(subtype=named_by(side)[1])
+        elif told[0] != side or handle not in self.told:
+            self.told[handle] = side, told[1]
+
     def __getitem__(self, handle: int) -> Origin:
         told = self.told[handle]
         return told if isinstance(told, Origin) else origin_of(*told)
@@ -336,9 +344,10 @@ class Ending:
         """Takes the features of a listing: where the script began with a saved project, they tell of its classes."""
         for line in lines:
             _, handle, side, wkt = line.split(' ', 3)
-            name, subtype = named_by(side)
-            self.classes.setdefault(name, KINDS[wkt.split(' ', 1)[0]])
-            self.origins[int(handle)] = self.origins.get(int(handle), Origin(name))._replace(subtype=subtype)
+            name, _ = named_by(side)
+            if name not in self.classes:
+                self.classes[name] = KINDS[wkt.split(' ', 1)[0]]
+            self.origins.see(int(handle), side)
 
     def done(self, words: list[str], answer: Answer) -> None:
         """Takes a line that was done."""
