@@ -490,8 +490,9 @@ class WhoMay(Served):
 
     def test_who_only_looks(self) -> None:
         serving = self.serve(rights=rights_text(eve='user=%s' % own_user()))
-        self.assertEqual(self.ask(self.desk(serving), 'begin eve', 'by eve undo', 'features', 'validate all'),
-                         ['refused forbidden', 'refused forbidden', 'total 0', 'ok judged 0 errors 0 dirty 0'])
+        self.assertEqual(self.ask(self.desk(serving), 'begin eve', 'by eve undo', 'features', 'validate all', 'corners 1 1 0'),
+                         ['refused forbidden', 'refused forbidden', 'total 0', 'ok judged 0 errors 0 dirty 0', 'refused E25'])
+        self.assertEqual(serving.script(), ['validate all'])
 
     @unittest.skipUnless(IS_ROOT, 'only root can be another user')
     def test_the_socket_of_another_user(self) -> None:
