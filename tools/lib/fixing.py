@@ -193,10 +193,27 @@ class Fixer:
                 line = 'snap %d %d %d %d %d' % (error.rule, body.handle, body.ends.index(place), *spot.place)
                 yield Fix('snap', (line,), (body.handle,), ((place, spot.place),), place=place, frame=frame_of((place, spot.place)))
 
+    def meet(self, error: Error, rule: Rule) -> Iterator[Fix]:
+        """Each loose end to the nearest vertex of another line within the distance, with all that has a vertex at the end; where a snap puts it there,
+        that is enough."""
+        body = self.map.body(error.subject)
+        for place in places_in(error) if self.within is not None else []:
+            spot = self.near(self.map.nearest('vertices', rule.origin).to(place, body.handle))
+            snapped = self.map.nearest('segments', rule.origin).to(place, body.handle)
+            if spot and snapped and spot.place != snapped.place:
+                yield self.moved([(place, spot.place)], place)
+
     def create_inside(self, error: Error, rule: Rule) -> Iterator[Fix]:
         place = place_inside(self.map.body(error.subject))
         if place:
             yield Fix('create', ('create %d %d %d %d' % (error.rule, error.subject, *place),), made=place, frame=frame_of([place]))
+
+    def move_to_ends(self, error: Error, rule: Rule) -> Iterator[Fix]:
+        """To each end without a point the nearest point within the distance, with all that has a vertex where that is."""
+        for place in places_in(error) if self.within is not None else []:
+            spot = self.near(self.map.nearest('points', rule.dest).to(place, error.subject))
+            if spot:
+                yield self.moved([(spot.place, place)], place)
 
     def create_at_ends(self, error: Error, rule: Rule) -> Iterator[Fix]:
         for place in places_in(error):
@@ -209,21 +226,47 @@ class Fixer:
         if spot:
             yield self.moved([(place, spot.place)])
 
-    def moved(self, ways: list[Way]) -> Fix:
-        handles = sorted({handle for p, _ in ways for handle in self.map.at(p)})
-        return Fix('move', tuple('move %d %d %d %d' % (*p, *q) for p, q in ways), tuple(handles), tuple(ways), frame=frame_of([p for way in ways for p in way]))
+    def move_inside(self, error: Error, rule: Rule) -> Iterator[Fix]:
+        """A point into the nearest polygon of the second side: just over its border, or where no place there is inside, to its middle."""
+        place = self.map.body(error.subject).place
+        spot = self.map.nearest('segments', rule.dest).to(place, error.subject)
+        if spot:
+            polygon, (x, y) = self.map.body(spot.handle), spot.place
+            round_it = ((x + dx, y + dy) for dx in (-1, 0, 1) for dy in (-1, 0, 1))
+            inside = min((p for p in round_it if polygon.is_inside(p)), key=lambda p: squared(p, place), default=None) or place_inside(polygon)
+            if inside and self.near(Spot(squared(inside, place), inside, spot.handle)):
+                yield self.moved([(place, inside)])
 
-    def move_vertices(self, error: Error, targets: Nearest, sides: Nearest) -> Iterator[Fix]:
-        """The vertices of the subject near the error, each to the nearest vertex within the distance, or else to the nearest side."""
+    def moved(self, ways: list[Way], mended: Optional[Place] = None) -> Fix:
+        """The moves of vertices from place to place; they mend one place of an error where that is given."""
+        handles = sorted({handle for p, _ in ways for handle in self.map.at(p)})
+        lines = tuple('move %d %d %d %d' % (*p, *q) for p, q in ways)
+        return Fix('move', lines, tuple(handles), tuple(ways), place=mended, frame=frame_of([p for way in ways for p in way]))
+
+    def near_error(self, error: Error) -> list[Place]:
+        """The vertices of the subject that are as near to the error's frame as a vertex may go."""
+        grown = int(self.within or 0) + 1
+        x0, y0, x1, y1 = error.frame
+        return [(x, y) for x, y in vertices_of(self.map.body(error.subject)) if x0 - grown <= x <= x1 + grown and y0 - grown <= y <= y1 + grown]
+
+    def ways_of(self, vertices: list[Place], subject: int, targets: Nearest, sides: Nearest) -> Iterator[Way]:
+        """The ways of vertices of a feature, each to the nearest vertex within the distance that the feature has not yet, or else to the nearest
+        side. A vertex that another feature has too stays."""
+        own = set(vertices_of(self.map.body(subject)))
+        for p in vertices:
+            shared = targets.to(p, subject)
+            if shared is None or shared.square:
+                spot = self.near(targets.to(p, subject, taken=own)) or self.near(sides.to(p, subject))
+                if spot and spot.square:
+                    yield p, spot.place
+
+    def move_vertices(self, error: Error, targets: Nearest, sides: Nearest, over: Optional[Body] = None) -> Iterator[Fix]:
+        """The vertices of the subject near the error; where it lies over another polygon, first only those in that one."""
         if self.within is None:
             return
-        grown = int(self.within) + 1
-        x0, y0, x1, y1 = error.frame
-        ways = []
-        for p in vertices_of(self.map.body(error.subject)):
-            if x0 - grown <= p[0] <= x1 + grown and y0 - grown <= p[1] <= y1 + grown:
-                spot = self.near(targets.to(p, error.subject)) or self.near(sides.to(p, error.subject))
-                ways += [(p, spot.place)] if spot and spot.square else []
+        vertices = self.near_error(error)
+        inside = [p for p in vertices if over.is_closed_in(p)] if over is not None and over.kind == 'polygon' else []
+        ways = list(self.ways_of(inside, error.subject, targets, sides)) or list(self.ways_of(vertices, error.subject, targets, sides))
         if 0 < len(ways) <= MOST_MOVES:
             yield self.moved(ways)
 
@@ -245,7 +288,7 @@ def moves_onto(whose: str) -> Finder:
     def find(fixer: Fixer, error: Error, rule: Rule) -> Iterator[Fix]:
         if whose == 'partner' and error.other in fixer.map.drawn:
             body = fixer.map.body(error.other)
-            yield from fixer.move_vertices(error, Nearest(places(body)), Nearest(segments(body)))
+            yield from fixer.move_vertices(error, Nearest(places(body)), Nearest(segments(body)), body)
         elif whose in ('origin', 'dest') and getattr(rule, whose):
             side = getattr(rule, whose)
             yield from fixer.move_vertices(error, fixer.map.nearest('vertices', side), fixer.map.nearest('segments', side))
@@ -263,11 +306,12 @@ OF_RULE: dict[str, Finder] = {
     'polygon_area_boundary_must_be_covered_by_boundary_of': moves_onto('dest'),
     'polygon_must_be_covered_by': moves_onto('dest'),
     'polygon_contains_point': Fixer.create_inside,
-    'line_must_not_have_dangles': Fixer.snap,
+    'line_must_not_have_dangles': both(Fixer.snap, Fixer.meet),
     'line_must_be_covered_by_feature_class_of': moves_onto('dest'),
     'line_must_be_covered_by_boundary_of': moves_onto('dest'),
-    'line_endpoint_must_be_covered_by': Fixer.create_at_ends,
+    'line_endpoint_must_be_covered_by': both(Fixer.move_to_ends, Fixer.create_at_ends),
     'line_must_be_single_part': Fixer.explode,
+    'point_must_be_properly_inside': Fixer.move_inside,
     'point_must_coincide_with': point_to('points'),
     'point_must_be_covered_by_boundary_of': point_to('segments'),
     'point_must_be_covered_by_line': point_to('segments'),

@@ -2,7 +2,7 @@
 from __future__ import annotations
 
 from math import gcd, isqrt
-from typing import Iterable, Iterator, NamedTuple, Optional
+from typing import Container, Iterable, Iterator, NamedTuple, Optional
 
 from .grid import Place
 
@@ -82,25 +82,26 @@ class Nearest:
             for square in ((x + step, y - radius), (x + radius, y + step), (x - step, y + radius), (x - radius, y - step)):
                 yield from self.squares.get(square, ())
 
-    def to(self, p: Place, but: int = 0, is_other: bool = False) -> Optional[Spot]:
-        """The nearest place of another feature than `but`, and where `is_other` is said none at p itself; none where there is none at all."""
+    def to(self, p: Place, but: int = 0, is_other: bool = False, taken: Container[Place] = ()) -> Optional[Spot]:
+        """The nearest place of another feature than `but`, which is not taken, and where `is_other` is said not p itself; none where there is none
+        at all."""
         middle = p[0] // self.side, p[1] // self.side
         x0, y0, x1, y1 = self.bounds
         furthest = max(abs(x0 - middle[0]), abs(y0 - middle[1]), abs(x1 - middle[0]), abs(y1 - middle[1]))
-        best = self.best(None, self.large, p, but, is_other)
+        best = self.best(None, self.large, p, but, is_other, taken)
         # What stands in a ring is at least so far away, in sides: its radius and one less.
         for radius in range(max(x0 - middle[0], middle[0] - x1, y0 - middle[1], middle[1] - y1, 0), furthest + 1):
             if best and best.square < ((radius - 1) * self.side) ** 2 and radius > 0:
                 break
-            best = self.best(best, self.ring(middle, radius), p, but, is_other)
+            best = self.best(best, self.ring(middle, radius), p, but, is_other, taken)
         return best
 
-    def best(self, best: Optional[Spot], stretches: Iterable[Stretch], p: Place, but: int, is_other: bool) -> Optional[Spot]:
+    def best(self, best: Optional[Spot], stretches: Iterable[Stretch], p: Place, but: int, is_other: bool, taken: Container[Place]) -> Optional[Spot]:
         for stretch in stretches:
             if stretch.handle == but:
                 continue
             place = nearest_on(stretch, p)
             spot = Spot(squared(place, p), place, stretch.handle)
-            if (spot.square or not is_other) and (best is None or spot < best):
+            if (spot.square or not is_other) and (best is None or spot < best) and place not in taken:
                 best = spot
         return best

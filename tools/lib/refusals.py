@@ -8,6 +8,7 @@ from .forms import DEEDS, FORMS
 from .replies import Answer, Ending, ReplyError, misfit_text, named_by
 from .rules import KINDS_OF, nearest, of_kind
 from .texts import KINDS, lists_of, misfit_of, sides_of, tokens_of
+from .versions import DEFAULT
 
 NUMBERS = {'H': 4294967295, 'SUBJECT': 4294967295, 'OTHER': 4294967295, 'END': 4294967295, 'R': 65535, 'S': 255}
 FROM_NONE = 'OTHER', 'END', 'S'
@@ -250,6 +251,18 @@ def unfit_shape(of: Refused) -> str:
     return 'the shape is a %s, and the class `%s` is of %s' % (kind, name, kind_in(of, name))
 
 
+def no_version(of: Refused) -> str:
+    name, others = of.words[1], [each for each in of.before.versions.by_name if each != DEFAULT or of.words[0] == 'in']
+    if name == DEFAULT:
+        return '`default` itself is not reconciled and not posted: the other versions are'
+    return 'there is no version `%s`%s' % (name, nearest(name, others))
+
+
+def open_in(before: Ending) -> str:
+    """The editors whose sessions are open, as far as the script tells."""
+    return ', of ' + ', '.join('`%s`' % name for name in before.sessions) if before.sessions else ''
+
+
 SENTENCES: dict[str, Callable[[Refused], str]] = {
     'E01': no_form,
     'E02': lambda of: 'the line has more than 1,048,576 bytes',
@@ -277,6 +290,12 @@ SENTENCES: dict[str, Callable[[Refused], str]] = {
     'E24': lambda of: 'the window is reversed: its lower left corner comes first',
     'E25': lambda of: 'no error is listed of rule %s with subject %s and partner %s; `errors` lists them all' % tuple(of.words[1:4]),
     'E26': lambda of: 'the error is an exception already' if of.words[0] == 'mark' else 'the error is no exception',
+    'E27': lambda of: 'there is a version `%s` already' % of.words[1],
+    'E28': lambda of: '8 versions stand beside `default`, and no more can be',
+    'E29': no_version,
+    'E30': lambda of: 'a session is open%s, and the line wants that none is: `end` or `discard` it first' % open_in(of.before),
+    'E31': lambda of: '`default` has feature %s otherwise than `%s` took it over: a line `reconcile %s` first' % (of.details[0], of.words[1], of.words[1]),
+    'E32': lambda of: 'versions stand beside `default`, and while they do classes and rules stay as they are',
     'E34': nothing_to_fix,
 }
 

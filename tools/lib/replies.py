@@ -13,12 +13,14 @@ from .forms import SUBTYPE, can_answer
 from .grid import Grid, grid_of
 from .outlines import Point
 from .texts import KINDS
+from .versions import DEFAULT, Versions
 
 MOST_BYTES = 1048576
 LISTINGS = ('errors', 'cells', 'dirty', 'features', 'rules', 'corners')
 ENDS = ('ok', 'refused', 'total ')
 SESSION_LINES = ('begin', 'end', 'discard')
 FIX_LINES = ('explode', 'snap', 'create', 'move')
+VERSION_LINES = ('version', 'in', 'reconcile', 'post')
 SOURCE = re.compile(r'# fid (\S+)(?: id ("(?:[^"\\]|\\["\\/bfnrt]|\\u[0-9a-fA-F]{4})*"))?')
 ROLE = re.compile('# (subject|neighbour) ([0-9]+)')
 OF_FEATURE = ('# fid ', '# subject ', '# neighbour ', '# part ')
@@ -306,12 +308,14 @@ class Origins(MutableMapping[int, Origin]):
 
 @dataclass
 class Listing:
-    """The lines of a listing, the number of its line, how many lines before it changed something, and the rules in force there."""
+    """The lines of a listing, the number of its line, how many lines before it changed something, the rules in force there, and of which
+    version it is."""
 
     lines: list[str]
     number: int
     changes: int
     rules: dict[int, Rule]
+    version: str = DEFAULT
 
 
 @dataclass
@@ -328,6 +332,7 @@ class Ending:
     waiting: list[str] = field(default_factory=list)
     sessions: dict[str, None] = field(default_factory=dict)
     next_handle: int = 0
+    versions: Versions = field(default_factory=Versions)
 
     @property
     def grid(self) -> Optional[Grid]:
@@ -344,10 +349,12 @@ class Ending:
         """Takes the features of a listing: where the script began with a saved project, they tell of its classes."""
         for line in lines:
             _, handle, side, wkt = line.split(' ', 3)
-            name, _ = named_by(side)
+            name, subtype = named_by(side)
             if name not in self.classes:
                 self.classes[name] = KINDS[wkt.split(' ', 1)[0]]
             self.origins.see(int(handle), side)
+            if subtype or int(handle) in self.versions.now.subtypes:
+                self.versions.now.subtypes[int(handle)] = subtype
 
     def done(self, words: list[str], answer: Answer) -> None:
         """Takes a line that was done."""
@@ -357,7 +364,10 @@ class Ending:
         if words[0] == 'features':
             self.listed(answer.reply[:-1])
         if words[0] in LISTINGS:
-            self.listings[words[0]] = Listing(answer.reply[:-1], answer.number, self.changes, dict(self.rules))
+            self.listings[words[0]] = Listing(answer.reply[:-1], answer.number, self.changes, dict(self.rules), self.versions.current)
+            return
+        if words[0] in VERSION_LINES:
+            self.changes += self.versioned(words, answer.reply)
             return
         self.changes += 1
         if words[0] == 'class':
@@ -375,28 +385,47 @@ class Ending:
         """Takes a feature of a class or a subtype."""
         self.origins.tell(handle, side, self.waiting)
         self.waiting, self.next_handle = [], handle + 1
+        if ':' in side or self.versions.current != DEFAULT:
+            self.versions.edit(handle, named_by(side)[1])
 
     def edited(self, words: list[str], last: list[str]) -> None:
         """Takes an edit that was done: what it says of a feature beside its shape."""
         if words[0] == 'add':
             self.added(int(last[1]), words[1])
-        elif words[0] == 'retype' and int(words[1]) in self.origins:
-            self.origins[int(words[1])] = self.origins[int(words[1])]._replace(subtype=int(words[2]))
+        elif words[0] == 'retype':
+            self.versions.edit(int(words[1]), int(words[2]))
+            self.set_subtype(int(words[1]), int(words[2]))
+        elif words[0] in ('change', 'delete'):
+            self.versions.edit(int(words[1]))
         elif words[0] in FIX_LINES:
             self.fixed(words, last)
+
+    def set_subtype(self, handle: int, subtype: int) -> None:
+        if handle in self.origins:
+            self.origins[handle] = self.origins[handle]._replace(subtype=subtype)
 
     def fixed(self, words: list[str], last: list[str]) -> None:
         """Takes a fix that was done: the parts of a line come from where the line comes from; a point that was made is of the rule's class."""
         if words[0] == 'explode':
-            origin, first = self.origins.get(int(words[1])), self.next_handle
-            if origin and first:
-                self.next_handle += int(last[2]) - 1
-                self.origins.update(dict.fromkeys(range(first, self.next_handle), origin))
+            self.exploded(int(words[1]), int(last[2]))
+        elif words[0] == 'snap':
+            self.versions.edit(int(words[2].split()[0]))
         elif words[0] == 'create':
             rule = self.rules.get(int(words[1]))
             name, subtype = named_by(rule.dest) if rule else ('', 0)
             self.origins[int(last[1])] = Origin(name, subtype=subtype)
+            self.versions.edit(int(last[1]), subtype)
             self.next_handle = int(last[1]) + 1
+
+    def exploded(self, handle: int, count: int) -> None:
+        """Takes a line of so many parts, of which each is a feature now."""
+        origin, first = self.origins.get(handle), self.next_handle
+        self.versions.edit(handle)
+        if origin and first:
+            self.next_handle += count - 1
+            for part in range(first, self.next_handle):
+                self.origins[part] = origin
+                self.versions.edit(part, origin.subtype)
 
     def in_session(self, words: list[str]) -> None:
         """Takes a session that was opened or ended."""
@@ -405,11 +434,25 @@ class Ending:
         else:
             self.sessions.pop(words[1], None)
 
+    def versioned(self, words: list[str], reply: list[str]) -> bool:
+        """Takes a line of versions that was done; whether what the listings show may be another since."""
+        before = dict(self.versions.now.subtypes)
+        if words[0] == 'version':
+            self.versions.create(words[1])
+            return False
+        is_other = {'in': lambda: self.versions.go(words[1]), 'reconcile': lambda: self.versions.reconcile(words[1], reply),
+                    'post': lambda: self.versions.post(words[1], reply)}[words[0]]()
+        after = self.versions.now.subtypes
+        for handle in {**before, **after}:
+            self.set_subtype(handle, after.get(handle, 0))
+        return is_other
+
     def take(self, answer: Answer) -> None:
         if not answer.reply:
             self.remark(answer.line.strip())
         elif answer.reply[-1].startswith('refused'):
             self.refused += 1
+            self.versions.refused(answer.line.split(None, 2), answer.reply)
             self.waiting = []
         else:
             self.done(answer.line.split(None, 4), answer)

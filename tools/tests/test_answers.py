@@ -95,6 +95,7 @@ class Mutations(Case):
         """Of mutated lines: what keeps one from having a form is found exactly where the program says E01."""
         lot, lines = random.Random(5), []
         seeds = [line for line in SAID if 'MULTIPOINT' not in line] + ['validate all', 'dirty', 'by ann change 1 POINT (3 4)', 'droprule 3']
+        seeds += ['version plan', 'in plan', 'reconcile plan', 'post plan']
         for _ in range(4000):
             line = self.mutated(lot, lot.choice(seeds))
             lines.append(self.mutated(lot, line) if lot.random() < .4 else line)

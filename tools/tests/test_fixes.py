@@ -158,6 +158,41 @@ class Fixes(Case):
         self.assertEqual(self.written('--rule', '2', '--kind', 'delete'), ['by fixes delete 3'])
         self.assertEqual(self.written('--within', '2', '--pick', '6,3'), [MOVE, MADE])
         self.assertEqual(self.written('--within', '2', '--pick', '4,7'), ['by fixes delete 3'])
+        self.assertEqual(self.fixes('--quiet', '--within', '2', '--csv', 'f.csv').status, 0)
+        head, *rows = self.text('f.csv').splitlines()
+        with open(self.path('f.csv'), 'w', encoding='utf-8') as table:
+            table.write(by_lines(head + ',why', *(row + ',' for row in rows if ',move 10 0 9 0,' in row or ',create 3 3 5 5,' in row)))
+        self.assertEqual(self.written('--within', '2', '--pick', self.path('f.csv')), [MOVE, MADE])
+
+    def listed(self, *words: str) -> list[str]:
+        return [line[9:].strip() for line in self.fixes('--kind', 'snap,move,create', *words).out.splitlines() if ' by fixes ' in line]
+
+    def test_a_corner_that_reaches_over(self) -> None:
+        """Of a lot that another one reaches into, the vertex in that one goes to the vertex that it lacks; one near by, which a third lot shares, stays."""
+        self.write(*HEAD[:2], 'rule polygon_must_not_overlap lots', 'begin ann', 'by ann add lots POLYGON ((0 0, 20 0, 20 20, 12 20, 8 20, 3 20, 1 18, 0 0))',
+                   'by ann add lots POLYGON ((3 20, 8 17, 12 20, 20 20, 20 40, 3 40, 3 20))', 'by ann add lots POLYGON ((0 0, 1 18, 3 20, -9 20, 0 0))')
+        self.assertEqual(self.listed('--within', '7'), ['by fixes move 8 20 8 17'])
+
+    def test_points_that_move_inside(self) -> None:
+        """A point goes just over the border that is nearest to it, as far as may be; what has a vertex there goes too, so that one stays outside."""
+        self.write('class lots polygon', 'class wells point', 'rule point_must_be_properly_inside wells lots', 'begin ann',
+                   'by ann add lots ' + LOT, *('by ann add wells POINT ' + place for place in ('(5 10)', '(13 4)', '(10 10)', '(2 2)')))
+        self.assertEqual(self.listed(), ['by fixes move 5 10 5 9', 'by fixes move 13 4 9 4'])
+        self.assertEqual(self.listed('--within', '2'), ['by fixes move 5 10 5 9'])
+
+    def test_points_that_move_to_ends(self) -> None:
+        self.write('class roads line', 'class signs point', 'rule line_endpoint_must_be_covered_by roads signs', 'begin ann',
+                   'by ann add roads LINESTRING (0 0, 20 0)', 'by ann add signs POINT (1 1)', 'by ann add signs POINT (20 9)')
+        made = ['by fixes create 1 1 0 0', 'by fixes create 1 1 20 0']
+        self.assertEqual(self.listed(), made)
+        self.assertEqual(self.listed('--within', '2'), ['by fixes move 1 1 0 0', *made])
+
+    def test_dangles_that_meet_a_vertex(self) -> None:
+        """The end of a line goes to a vertex of another one where that is not what the snap does already."""
+        self.write('class roads line', HEAD[3], 'begin ann', 'by ann add roads LINESTRING (0 0, 10 0, 10 10, 0 10, 0 0)', 'by ann add roads LINESTRING (10 0, 30 0)',
+                   'by ann add roads LINESTRING (30 0, 12 2)', 'by ann add roads LINESTRING (5 12, 5 15, -1 10)')
+        snaps = self.listed('--kind', 'snap')
+        self.assertEqual([line for line in self.listed('--within', '3') if line not in snaps], ['by fixes move 12 2 10 0'])
 
     def test_what_is_refused(self) -> None:
         self.write(*TOWN)

@@ -1,8 +1,8 @@
 -- What every topology of the rules keeps is the invariant of a run's states; and with no dirt it is told exactly everywhere.
-use Rattle.std.proofs.Common.{◌≡◌, List, [], sym, subst, ap, ◌∙◌}
+use Rattle.std.proofs.Common.{◌≡◌, List, [], None, sym, subst, ap, ◌∙◌}
 use Rattle.topology_terms.specs.Meaning.{Laws}
 use Rattle.topology_terms.specs.Poster.{poster}
-use Rattle.topology_terms.specs.Project.{Project, empty_project}
+use Rattle.topology_terms.specs.Project.{Project}
 use Rattle.topology_terms.specs.Settled.{IsSettled}
 use Rattle.topology_terms.specs.Sound.{IsSound}
 use Rattle.sound_laws.proofs.Settling.{clean_points, clean_live, clean_whole}
@@ -11,7 +11,8 @@ use Rattle.script_terms.specs.Headline.{Headline, Invariant, IsExact, SoundHeadl
 use Rattle.command_answers.proofs.FromScratch.{scratch}
 use Rattle.session_terms.specs.Kept.{KeptSession}
 use Rattle.command_answers.specs.Worlds.{state_of, IsWorld}
-use Rattle.script_terms.specs.State.{empty_state}
+use Rattle.script_terms.specs.State.{started}
+use Rattle.version_terms.specs.Versions.{Tree, default_name}
 
 headline : (p : Project) → IsTopology p → IsSound p → Headline p
 headline p t s = record {
@@ -43,8 +44,6 @@ invariant p L t s k = record { base = sound_headline p L t s; settled = k; scrat
 pub begun : (p : Project) (ss : List KeptSession) → ss ≡ [] → IsWorld p ss
 begun p ss e = subst (IsWorld p) (sym e) (record { keeping = record { apart = tt; chained = tt; given = tt }; may = tt })
 
-pub begun_seen : (p : Project) (ss : List KeptSession) → ss ≡ [] → state_of p ss ≡ record { project = p; sessions = [] }
-begun_seen p ss e = ap (state_of p) e
-
-pub empty_seen : (p : Project) (ss : List KeptSession) → p ≡ empty_project → ss ≡ [] → state_of p ss ≡ empty_state
-empty_seen p ss e f = ap (λ (q : Project). state_of q ss) e ∙ ap (state_of empty_project) f
+pub begun_seen : (p : Project) (t : Tree) (ss : List KeptSession)
+    → t ≡ record { current = record { name = default_name; project = p; base = None }; others = [] } → ss ≡ [] → state_of t ss ≡ started p
+begun_seen p t ss e f = ap (state_of t) f ∙ ap (λ (u : Tree). state_of u []) e

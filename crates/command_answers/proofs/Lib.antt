@@ -12,4 +12,8 @@ pub mod Headlines
 pub mod OneAnswer
 pub mod Replying
 pub mod Marking
+pub mod Trees
+pub mod AllVersions
+pub mod Barring
 mod SessionRows
+pub mod VersionLines

@@ -23,7 +23,7 @@ use Rattle.script_terms.proofs.Bridges.{IsNoted, note_bridge, room_bridge}
 use Rattle.script_terms.proofs.Commands.{same_keeps, added_keeps, fresh_alone}
 use Rattle.script_terms.proofs.Keeping.{altered_keeps}
 use Rattle.script_terms.proofs.Runs.{may_edit}
-use Rattle.command_answers.specs.Worlds.{state_of, IsWorld}
+use Rattle.command_answers.specs.Worlds.{seen_desk, IsWorld}
 use Rattle.command_answers.proofs.KeptLists.{named_has, name_of, now_named, with_twice}
 use Rattle.command_answers.proofs.Sessions.{May, may_changed, all_still}
 use Rattle.std.proofs.lemmas.Bool.{eqb-true}
@@ -88,13 +88,13 @@ live_may p h f s e =
 
 -- ---- a feature is set, or taken away
 pub set_done : (p q : Project) (name : List ℕ) (ss ts : List KeptSession) (h : ℕ) (after : Option Feature) → IsWorld p ss → IsOrdered p
-    → refusal_of (state_of p ss) (Delete name h) ≡ None
+    → refusal_of (seen_desk p ss) (Delete name h) ≡ None
     → IsFeatureSet h after p q → calls.IsNoted name (record { handle = h; kept = feature_at p.features h }) ss ts
-    → LeavesNoted name (set_step p h after) (IsFeatureSet h after) (state_of p ss) (state_of q ts)
+    → LeavesNoted name (set_step p h after) (IsFeatureSet h after) (seen_desk p ss) (seen_desk q ts)
 set_done p q name ss ts h after w ord may e d =
     let at = feature_at p.features in
     let bt = feature_at q.features in
-    let a = may_edit (state_of p ss) name h [] w.keeping ord may in
+    let a = may_edit (seen_desk p ss) name h [] w.keeping ord may in
     let b = note_bridge at bt name d.was d.is ss ts h after d.change d.noted (record {
       here = e.edit.features.here;
       others = e.edit.features.others;
@@ -103,14 +103,14 @@ set_done p q name ss ts h after w ord may e d =
 
 pub set_world : (p q : Project) (name : List ℕ) (ss ts : List KeptSession) (h : ℕ) (f : Feature) (after : Option Feature)
     → IsStore p.classes p.features p.next → IsWorld p ss → IsOrdered p
-    → refusal_of (state_of p ss) (Delete name h) ≡ None → feature_at p.features h ≡ Some f → IsFeatureSet h after p q
+    → refusal_of (seen_desk p ss) (Delete name h) ≡ None → feature_at p.features h ≡ Some f → IsFeatureSet h after p q
     → calls.IsNoted name (record { handle = h; kept = feature_at p.features h }) ss ts → IsWorld q ts
 set_world p q name ss ts h f after store w ord may live e d =
     let still : (k : ℕ) (x : Option Feature) → May p k x → May q k x = λ k x. may_in p.classes q.classes p.next q.next k x e.edit.classes
     e.next in
-    let a = may_edit (state_of p ss) name h [] w.keeping ord may in
+    let a = may_edit (seen_desk p ss) name h [] w.keeping ord may in
     record {
-      keeping = altered_keeps name h after (state_of p ss) (state_of q ts) w.keeping a.0 a.1
+      keeping = altered_keeps name h after (seen_desk p ss) (seen_desk q ts) w.keeping a.0 a.1
           (set_done p q name ss ts h after w ord may e d);
       may = may_changed p q name d.was d.is ss ts d.change still
           (noted_may (May p) (May q) d.was (record { handle = h; kept = feature_at p.features h }) d.is still d.noted
@@ -131,7 +131,7 @@ may_more p q k x c n m = record {
 pub add_done : (p q : Project) (name : List ℕ) (ss ts : List KeptSession) (class subtype : ℕ) (shape : Shape) (h : ℕ) → IsWorld p ss
     → IsFeatureAdded class subtype shape h p q
     → calls.IsNoted name (record { handle = h; kept = None }) ss ts → LeavesNoted name (added_step h class subtype shape)
-    (IsFeatureAdded class subtype shape h) (state_of p ss) (state_of q ts)
+    (IsFeatureAdded class subtype shape h) (seen_desk p ss) (seen_desk q ts)
 add_done p q name ss ts class subtype shape h w e d =
     let at = feature_at p.features in
     let bt = feature_at q.features in
@@ -155,7 +155,7 @@ add_world p q name ss ts class subtype shape h store w e d =
     let below : h < q.next = (let n = e.number in let m = e.next in omega (arith, n, m)) in
     let step : May q h None = record { from_1 = one; given = below; own = tt; fits = tt } in
     record {
-      keeping = added_keeps name class subtype shape h (state_of p ss) (state_of q ts) w.keeping (add_done p q name ss ts class subtype shape h w e d);
+      keeping = added_keeps name class subtype shape h (seen_desk p ss) (seen_desk q ts) w.keeping (add_done p q name ss ts class subtype shape h w e d);
       may = may_changed p q name d.was d.is ss ts d.change still (noted_may (May p) (May q) d.was (record { handle = h; kept = None }) d.is
           still d.noted (named_has (MayAll (May p)) ss name d.was d.change.there w.may) step) w.may;
     }
@@ -168,7 +168,7 @@ seen_same p q ss f = ap (λ F. seen (feature_at F) ss) f
 other_world : (p q : Project) (ss : List KeptSession) → q.features ≡ p.features → q.next ≡ p.next
     → ((k : ℕ) (x : Option Feature) → May p k x → May q k x) → IsWorld p ss → IsWorld q ss
 other_world p q ss f n still w = record {
-  keeping = same_keeps (state_of p ss) (state_of q ss) w.keeping (seen_same p q ss f) f n;
+  keeping = same_keeps (seen_desk p ss) (seen_desk q ss) w.keeping (seen_same p q ss f) f n;
   may = all_still (May p) (May q) ss still w.may;
 }
 
@@ -194,7 +194,7 @@ pub class_world : (p q : Project) (ss : List KeptSession) (d : Class) → q.clas
 class_world p q ss d c f n w = other_world p q ss f n (λ k x. may_class p q d k x c n) w
 
 -- ---- room alone
-pub room_done : (p : Project) (name : List ℕ) (ss ts : List KeptSession) → calls.IsRoomMade name ss ts → state_of p ts ≡ state_of p ss
+pub room_done : (p : Project) (name : List ℕ) (ss ts : List KeptSession) → calls.IsRoomMade name ss ts → seen_desk p ts ≡ seen_desk p ss
 room_done p name ss ts r = ap (λ xs. record { project = p; sessions = xs }) (room_bridge (feature_at p.features) name r.was r.is ss ts
     r.change r.same)
 

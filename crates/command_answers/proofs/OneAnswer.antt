@@ -23,7 +23,7 @@ use Rattle.sound_laws.proofs.Lists.{unmark, unmark_option, same_entries, entry_k
 use Rattle.sound_laws.proofs.Edits.{same_or_not}
 use Rattle.sound_laws.proofs.RuleLists.{same_rules}
 use Rattle.sound_laws.proofs.Settling.{alike_same}
-use Rattle.line_terms.specs.Commands.{Command, Blank, Class, Rule, DropRule, Begin, End, Discard, Add, Change, Delete, Retype, Undo, Redo, Explode, Snap, Create, Move, Validate, Mark, Unmark, Dirty, Errors, Cells, Features, Rules, Corners}
+use Rattle.line_terms.specs.Commands.{Command, Blank, Class, Rule, DropRule, Begin, End, Discard, Add, Change, Delete, Retype, Undo, Redo, Explode, Snap, Create, Move, Validate, Mark, Unmark, Dirty, Errors, Cells, Features, Rules, Corners, Version, In, Reconcile, Post}
 use Rattle.script_terms.specs.Refusal.{Refusal, BadShape}
 use Rattle.plane_terms.specs.Lists.{Every}
 use Rattle.plane_terms.specs.Shape.{Shape}
@@ -38,7 +38,7 @@ use Rattle.fix_terms.specs.Snap.{snapped, HasSnapped}
 use Rattle.fix_terms.specs.Create.{created}
 use Rattle.fix_terms.specs.Move.{moves}
 use Rattle.script_terms.specs.Reply.{Reply, Done, Number, Parts, Moved, Judged, Refused, CornerList}
-use Rattle.script_terms.specs.State.{State}
+use Rattle.script_terms.specs.State.{Desk}
 use Rattle.script_terms.proofs.Restoring.{taken_at}
 use Rattle.script_terms.proofs.Runs.{answers_by}
 use Rattle.script_terms.specs.Refusing.{refusal_of}
@@ -48,7 +48,7 @@ use Rattle.session_terms.proofs.Chains.{end_same, head_same}
 use Rattle.plane_terms.proofs.ListLemmas.{those_one}
 
 -- the same reply, and the same state
-abbrev pub Same : Reply → State → Reply → State → Type 0
+abbrev pub Same : Reply → Desk → Reply → Desk → Type 0
 Same reply t said u = (reply ≡ said) × (t ≡ u)
 
 -- ---- equal by their parts
@@ -110,7 +110,7 @@ by_parts p q h =
           x;
     }) h.entries))))
 
-same_state : (t u : State) → t.project ≡ u.project → t.sessions ≡ u.sessions → t ≡ u
+same_state : (t u : Desk) → t.project ≡ u.project → t.sessions ≡ u.sessions → t ≡ u
 same_state t u p e = ap (λ (q : Project). record { project = q; sessions = t.sessions }) p
     ∙ ap (λ (ss : List Session). record { project = u.project; sessions = ss }) e
 
@@ -292,17 +292,17 @@ validated_same C w s p q u v i j = record {
 
 -- the elements that are chosen are one list
 -- ---- each command
-kept_same : (s t u : State) → t ≡ s → u ≡ s → t ≡ u
+kept_same : (s t u : Desk) → t ≡ s → u ≡ s → t ≡ u
 kept_same s t u i j = i ∙ sym j
 
-left_same : (s t u : State) → t.sessions ≡ s.sessions → u.sessions ≡ s.sessions → AreSame t.project u.project → t ≡ u
+left_same : (s t u : Desk) → t.sessions ≡ s.sessions → u.sessions ≡ s.sessions → AreSame t.project u.project → t ≡ u
 left_same s t u e f h = same_state t u (by_parts t.project u.project h) (e ∙ sym f)
 
 -- ---- the sessions
 some_same : {A : Type 0} (o : Option A) (x y : A) → o ≡ Some x → o ≡ Some y → x ≡ y
 some_same o x y i j = let e : Some x ≡ Some y = sym i ∙ j in cc
 
-noted_same : {P Q : Project → Project → Type 0} (editor : List ℕ) (s t u : State) (x y : EditStep) → LeavesNoted editor x P s t
+noted_same : {P Q : Project → Project → Type 0} (editor : List ℕ) (s t u : Desk) (x y : EditStep) → LeavesNoted editor x P s t
     → LeavesNoted editor y Q s u → x ≡ y → AreSame t.project u.project → t ≡ u
 noted_same {P} {Q} editor s t u x y i j step h =
     let was : i.0 ≡ j.0 = some_same (session_of s.sessions editor) i.0 j.0 i.1.session.there j.1.session.there in
@@ -319,7 +319,7 @@ set_project : (h : ℕ) (after : Option Feature) (s p q : Project) → IsOrdered
     → IsFeatureSet h after s q → p ≡ q
 set_project h after s p q v w i j = by_parts p q (edit_same h after s p q v w i.edit j.edit (i.next ∙ sym j.next))
 
-undo_same : (editor : List ℕ) (s t u : State) → IsOrdered t.project → IsOrdered u.project → IsUndone editor s t → IsUndone editor s u
+undo_same : (editor : List ℕ) (s t u : Desk) → IsOrdered t.project → IsOrdered u.project → IsUndone editor s t → IsUndone editor s u
     → t ≡ u
 undo_same editor s t u v w i j =
     let was : i.1 ≡ j.1 = some_same (session_of s.sessions editor) i.1 j.1 i.4.session.there j.4.session.there in
@@ -331,7 +331,7 @@ undo_same editor s t u v w i j =
     same_state t u (set_project j.0.handle j.0.before s.project t.project u.project v w set j.4.project) (i.4.session.sessions
     ∙ (ap (with_session s.sessions) is ∙ sym j.4.session.sessions))
 
-redo_same : (editor : List ℕ) (s t u : State) → IsOrdered t.project → IsOrdered u.project → IsRedone editor s t → IsRedone editor s u
+redo_same : (editor : List ℕ) (s t u : Desk) → IsOrdered t.project → IsOrdered u.project → IsRedone editor s t → IsRedone editor s u
     → t ≡ u
 redo_same editor s t u v w i j =
     let was : i.1 ≡ j.1 = some_same (session_of s.sessions editor) i.1 j.1 i.4.session.there j.4.session.there in
@@ -379,7 +379,7 @@ taken_dirt (x ∷ ts) s p q i j =
     i.2.edit.dirt ∙ (ap (λ d. add_envelope (add_envelope d (feature_at m.features x.handle)) x.before) (taken_dirt ts s m n i.1 j.1)
     ∙ (ap (λ o. add_envelope (add_envelope n.dirt o) x.before) look ∙ sym j.2.edit.dirt))
 
-discard_same : (editor : List ℕ) (s t u : State) → IsOrdered t.project → IsOrdered u.project → IsDiscarded editor s t
+discard_same : (editor : List ℕ) (s t u : Desk) → IsOrdered t.project → IsOrdered u.project → IsDiscarded editor s t
     → IsDiscarded editor s u → t ≡ u
 discard_same editor s t u v w i j =
     let ts = i.session.done in
@@ -404,16 +404,16 @@ one_corner_list p r a b reply said (e, ks, at, are, is) (f, ls, here, have, says
     is ∙ (ap CornerList (one_list 1 f.cells ks ls (subst (λ (x : Entry). AreOfCells 1 x.cells ks) same are) have) ∙ sym says)
 
 -- ---- plans
-noted_plan : (editor : List ℕ) (es : List Edit) (s t u : State) → AreNoted editor es s t → AreNoted editor es s u → t ≡ u
+noted_plan : (editor : List ℕ) (es : List Edit) (s t u : Desk) → AreNoted editor es s t → AreNoted editor es s u → t ≡ u
 noted_plan editor [] s t u i j = i ∙ sym j
 noted_plan editor (Put h x ∷ es) s t u (m, v, l, r) (n, w, k, q) =
     let same : m ≡ n = noted_same editor s m n _ _ l k refl (edit_same h _ s.project m.project n.project v w l.1.project.edit
     k.1.project.edit (l.1.project.next ∙ sym k.1.project.next)) in
-    noted_plan editor es n t u (subst (λ (d : State). AreNoted editor es d t) same r) q
+    noted_plan editor es n t u (subst (λ (d : Desk). AreNoted editor es d t) same r) q
 noted_plan editor (AddTo c b x ∷ es) s t u (m, v, l, r) (n, w, k, q) =
     let same : m ≡ n = noted_same editor s m n _ _ l k refl (edit_same _ _ s.project m.project n.project v w l.1.project.edit
     k.1.project.edit (l.1.project.next ∙ sym k.1.project.next)) in
-    noted_plan editor es n t u (subst (λ (d : State). AreNoted editor es d t) same r) q
+    noted_plan editor es n t u (subst (λ (d : Desk). AreNoted editor es d t) same r) q
 
 -- no shape of a plan has a fault, or the first that has one has just that
 none_bad : (ss : List Shape) (e : ShapeFault) → Every IsFlawless ss → IsFirstFault ss e → (e ≡ NoMemory → ⊥) → ⊥
@@ -428,7 +428,7 @@ one_bad (s ∷ ss) e f m n (inl h) (inr k) = absurd (m (k.0 e h))
 one_bad (s ∷ ss) e f m n (inr h) (inl k) = absurd (n (h.0 f k))
 one_bad (s ∷ ss) e f m n (inr h) (inr k) = one_bad ss e f m n h.1 k.1
 
-fixed_same : {P Q : List Feature → Type 0} (editor : List ℕ) (es : List Edit) (says : Reply) (s t u : State) (reply said : Reply)
+fixed_same : {P Q : List Feature → Type 0} (editor : List ℕ) (es : List Edit) (says : Reply) (s t u : Desk) (reply said : Reply)
     → IsFixed editor es P says s reply t → IsFixed editor es Q says s said u → Same reply t said u
 fixed_same editor es says s t u reply said (inl x) (inl y) = (x.1 ∙ sym y.1, noted_plan editor es s t u x.2.noted y.2.noted)
 fixed_same editor es says s t u reply said (inl x) (inr y) = absurd (none_bad (shapes_of es) y.0 x.0 y.1.first y.1.other)
@@ -440,7 +440,7 @@ fixed_same editor es says s t u reply said (inr x) (inr y) =
 judged_same : (a b c x y z : ℕ) → a ≡ x → b ≡ y → c ≡ z → Judged a b c ≡ Judged x y z
 judged_same a b c x y z i j k = rw (i, j, k) refl
 
-pub one_done : CutsRight poster → (s t u : State) (c : Command) (reply said : Reply) → IsOrdered t.project → IsOrdered u.project
+pub one_done : CutsRight poster → (s t u : Desk) (c : Command) (reply said : Reply) → IsOrdered t.project → IsOrdered u.project
     → IsDone s c reply t → IsDone s c said u → Same reply t said u
 one_done C s t u Blank reply said v w d e = (d.0 ∙ sym e.0, kept_same s t u d.1 e.1)
 one_done C s t u (Class name k) reply said v w d e = (
@@ -531,9 +531,13 @@ one_done C s t u Errors reply said v w d e = (d.0 ∙ sym e.0, kept_same s t u d
 one_done C s t u Cells reply said v w d e = (d.0 ∙ sym e.0, kept_same s t u d.1 e.1)
 one_done C s t u Features reply said v w d e = (d.0 ∙ sym e.0, kept_same s t u d.1 e.1)
 one_done C s t u Rules reply said v w d e = (d.0 ∙ sym e.0, kept_same s t u d.1 e.1)
+one_done C s t u (Version n) reply said v w d e = absurd d
+one_done C s t u (In n) reply said v w d e = absurd d
+one_done C s t u (Reconcile n) reply said v w d e = absurd d
+one_done C s t u (Post n) reply said v w d e = absurd d
 one_done C s t u (Corners r a b) reply said v w d e = (one_corner_list s.project r a b reply said d.0 e.0, kept_same s t u d.1 e.1)
 
-pub one_answer : CutsRight poster → (s t u : State) (c : Command) (reply said : Reply) → IsOrdered t.project → IsOrdered u.project
+pub one_answer : CutsRight poster → (s t u : Desk) (c : Command) (reply said : Reply) → IsOrdered t.project → IsOrdered u.project
     → Answers s c reply t → Answers s c said u → Same reply t said u
 one_answer C s t u c reply said v w d e = by (refusal_of s c) d e
   where

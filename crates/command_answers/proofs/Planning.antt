@@ -16,12 +16,15 @@ use Rattle.edit_session.specs.SessionsCalls as calls
 use Rattle.fix_terms.specs.Plans.{Edit}
 use Rattle.fix_terms.specs.declared.edit.Edit.TheVariants.{Put, Add}
 use Rattle.script_terms.specs.Answer.{AreNoted, LeavesNoted, added_step}
-use Rattle.script_terms.specs.State.{State}
+use Rattle.script_terms.specs.State.{Desk}
 use Rattle.script_terms.proofs.Bridges.{note_bridge}
 use Rattle.script_terms.proofs.Fixing.{put_free, add_free}
 use Rattle.script_terms.proofs.Keeping.{altered_keeps}
-use Rattle.command_answers.specs.Worlds.{state_of, IsWorld, IsRoomAlone}
+use Rattle.command_answers.specs.Worlds.{seen_desk, IsWorld, IsRoomAlone}
 use Rattle.command_answers.specs.Planned.{IsEditNoted, IsReady, IsStepped}
+use Rattle.version_terms.specs.Versions.{Tree}
+use Rattle.version_terms.specs.VersionChanges.{IsAside}
+use Rattle.command_answers.proofs.Trees.{aside_more, aside_self}
 use Rattle.command_answers.proofs.KeptLists.{named_has}
 use Rattle.command_answers.proofs.Noting.{add_done, add_world, room_world, noted_may, live_may}
 use Rattle.command_answers.proofs.Sessions.{May, may_changed}
@@ -35,7 +38,7 @@ no_cause (Some x) there t e = cc
 pub put_done : (editor : List ℕ) (h : ℕ) (s : Shape) (p q : Project) (ss ts : List KeptSession) → IsReady editor (Put h s ∷ []) p ss
     → IsFeatureSet h (reshaped (feature_at p.features h) s) p q
     → calls.IsNoted editor (record { handle = h; kept = feature_at p.features h }) ss ts
-    → IsEditNoted editor (Put h s) (state_of p ss) (state_of q ts)
+    → IsEditNoted editor (Put h s) (seen_desk p ss) (seen_desk q ts)
 put_done editor h s p q ss ts r e d =
     let at = feature_at p.features in
     let bt = feature_at q.features in
@@ -54,7 +57,7 @@ put_world editor h s f p q ss ts store r live e d =
     let still : (k : ℕ) (x : Option Feature) → May p k x → May q k x = λ k x. may_in p.classes q.classes p.next q.next k x e.edit.classes
     e.next in
     record {
-      keeping = altered_keeps editor h after (state_of p ss) (state_of q ts) r.world.keeping r.free.0 r.free.1
+      keeping = altered_keeps editor h after (seen_desk p ss) (seen_desk q ts) r.world.keeping r.free.0 r.free.1
           (put_done editor h s p q ss ts r e d);
       may = may_changed p q editor d.was d.is ss ts d.change still
           (noted_may (May p) (May q) d.was (record { handle = h; kept = feature_at p.features h }) d.is still d.noted
@@ -65,9 +68,9 @@ put_world editor h s f p q ss ts store r live e d =
 -- ---- a feature comes
 pub new_done : (editor : List ℕ) (c t : ℕ) (s : Shape) (h : ℕ) (p q : Project) (ss ts : List KeptSession)
     → IsReady editor (Add c t s ∷ []) p ss → IsFeatureAdded c t s h p q → calls.IsNoted editor (record { handle = h; kept = None }) ss ts
-    → IsEditNoted editor (Add c t s) (state_of p ss) (state_of q ts)
+    → IsEditNoted editor (Add c t s) (seen_desk p ss) (seen_desk q ts)
 new_done editor c t s h p q ss ts r e d =
-    subst (λ k. LeavesNoted editor (added_step k c t s) (IsFeatureAdded c t s k) (state_of p ss) (state_of q ts)) e.number
+    subst (λ k. LeavesNoted editor (added_step k c t s) (IsFeatureAdded c t s k) (seen_desk p ss) (seen_desk q ts)) e.number
     (add_done p q editor ss ts c t s h r.world e d)
 
 pub new_world : (editor : List ℕ) (c t : ℕ) (s : Shape) (h : ℕ) (p q : Project) (ss ts : List KeptSession)
@@ -95,72 +98,77 @@ first_ready editor e es fs p ss same r = by e (subst (λ (xs : List Edit). IsRea
     by (Put h s) k = record { world = k.world; free = (k.free.0, k.free.1, tt); possible = (k.possible.0, λ q d. tt) }
     by (Add c t s) k = record { world = k.world; free = tt; possible = (k.possible.0, λ q d. tt) }
 
-pub stepped : (editor : List ℕ) (e : Edit) (es fs : List Edit) (d g : State) → es ≡ e ∷ fs → IsEditNoted editor e d g
+pub stepped : (editor : List ℕ) (e : Edit) (es fs : List Edit) (d g : Desk) → es ≡ e ∷ fs → IsEditNoted editor e d g
     → IsStepped editor es fs d g
 stepped editor e es fs d g same n = (e, same, n)
 
 pub rest_ready : (editor : List ℕ) (es fs : List Edit) (p q : Project) (ss ts : List KeptSession) → IsReady editor es p ss
-    → IsStepped editor es fs (state_of p ss) (state_of q ts) → IsWorld q ts → IsReady editor fs q ts
+    → IsStepped editor es fs (seen_desk p ss) (seen_desk q ts) → IsWorld q ts → IsReady editor fs q ts
 rest_ready editor es fs p q ss ts r step w = by step.0 (subst (λ (xs : List Edit). IsReady editor xs p ss) step.1 r) step.2
   where
-    by : (e : Edit) → IsReady editor (e ∷ fs) p ss → IsEditNoted editor e (state_of p ss) (state_of q ts) → IsReady editor fs q ts
+    by : (e : Edit) → IsReady editor (e ∷ fs) p ss → IsEditNoted editor e (seen_desk p ss) (seen_desk q ts) → IsReady editor fs q ts
     by (Put h s) k n = record {
       world = w;
-      free = put_free editor h s fs _ _ (state_of p ss) (state_of q ts) k.world.keeping.apart n k.free;
+      free = put_free editor h s fs _ _ (seen_desk p ss) (seen_desk q ts) k.world.keeping.apart n k.free;
       possible = k.possible.1 q n.1.project;
     }
     by (Add c t s) k n = record {
       world = w;
-      free = add_free editor c t s fs _ _ (state_of p ss) (state_of q ts) k.world.keeping.apart n k.free;
+      free = add_free editor c t s fs _ _ (seen_desk p ss) (seen_desk q ts) k.world.keeping.apart n k.free;
       possible = k.possible.1 q n.1.project;
     }
 
 -- ---- the whole plan
-pub record SoFar (editor : List ℕ) (es fs : List Edit) (t u : Project) (ss ts : List KeptSession) : Type 0 where
-  pub ready : IsReady editor fs u ts
-  pub ordered : IsOrdered u
-  pub noted : (g : State) → AreNoted editor fs (state_of u ts) g → AreNoted editor es (state_of t ss) g
-  pub sound : IsSound t → IsSound u
-  pub settled : IsSettled t → IsSettled u
+pub record SoFar (editor : List ℕ) (es fs : List Edit) (t u : Tree) (ss ts : List KeptSession) : Type 0 where
+  pub ready : IsReady editor fs u.current.project ts
+  pub ordered : IsOrdered u.current.project
+  pub noted : (g : Desk) → AreNoted editor fs (seen_desk u.current.project ts) g → AreNoted editor es (seen_desk t.current.project ss) g
+  pub sound : IsSound t.current.project → IsSound u.current.project
+  pub settled : IsSettled t.current.project → IsSettled u.current.project
+  pub aside : IsAside t u
 
-pub begins : (editor : List ℕ) (es : List Edit) (t : Project) (ss : List KeptSession) → IsReady editor es t ss
-    → IsOrdered t → SoFar editor es es t t ss ss
+pub begins : (editor : List ℕ) (es : List Edit) (t : Tree) (ss : List KeptSession) → IsReady editor es t.current.project ss
+    → IsOrdered t.current.project → SoFar editor es es t t ss ss
 begins editor es t ss r o = record {
   ready = r;
   ordered = o;
   noted = λ g n. n;
   sound = λ s. s;
   settled = λ s. s;
+  aside = aside_self t;
 }
 
-step_noted : (editor : List ℕ) (e : Edit) (fs : List Edit) (d m g : State) → IsOrdered m.project → IsEditNoted editor e d m
+step_noted : (editor : List ℕ) (e : Edit) (fs : List Edit) (d m g : Desk) → IsOrdered m.project → IsEditNoted editor e d m
     → AreNoted editor fs m g → AreNoted editor (e ∷ fs) d g
 step_noted editor (Put h s) fs d m g o n k = (m, o, n, k)
 step_noted editor (Add c t s) fs d m g o n k = (m, o, n, k)
 
-pub goes_on : (editor : List ℕ) (es fs gs : List Edit) (t u v : Project) (ss ts us : List KeptSession) → SoFar editor es fs t u ss ts
-    → IsStepped editor fs gs (state_of u ts) (state_of v us) → IsWorld v us
-    → IsOrdered v
-    → (IsSound u → IsSound v) → (IsSettled u → IsSettled v)
-    → SoFar editor es gs t v ss us
-goes_on editor es fs gs t u v ss ts us k step w o sound settled = record {
-  ready = rest_ready editor fs gs u v ts us k.ready step w;
-  ordered = o;
-  noted = λ g n. k.noted g (subst (λ (xs : List Edit). AreNoted editor xs (state_of u ts) g) (sym step.1)
-      (step_noted editor step.0 gs (state_of u ts) (state_of v us) g o step.2 n));
-  sound = λ s. sound (k.sound s);
-  settled = λ s. settled (k.settled s);
-}
+pub goes_on : (editor : List ℕ) (es fs gs : List Edit) (t u v : Tree) (ss ts us : List KeptSession) → SoFar editor es fs t u ss ts
+    → IsStepped editor fs gs (seen_desk u.current.project ts) (seen_desk v.current.project us) → IsWorld v.current.project us
+    → IsOrdered v.current.project → (IsSound u.current.project → IsSound v.current.project)
+    → (IsSettled u.current.project → IsSettled v.current.project) → IsAside u v → SoFar editor es gs t v ss us
+goes_on editor es fs gs t u v ss ts us k step w o sound settled aside =
+    let d : Desk = seen_desk u.current.project ts in
+    let m : Desk = seen_desk v.current.project us in
+    record {
+      ready = rest_ready editor fs gs u.current.project v.current.project ts us k.ready step w;
+      ordered = o;
+      noted = λ g n. k.noted g (subst (λ (xs : List Edit). AreNoted editor xs d g) (sym step.1)
+          (step_noted editor step.0 gs d m g o step.2 n));
+      sound = λ s. sound (k.sound s);
+      settled = λ s. settled (k.settled s);
+      aside = aside_more t u v k.aside aside;
+    }
 
-pub shorter : (editor : List ℕ) (fs gs : List Edit) (d g : State) → IsStepped editor fs gs d g → length gs < length fs
+pub shorter : (editor : List ℕ) (fs gs : List Edit) (d g : Desk) → IsStepped editor fs gs d g → length gs < length fs
 shorter editor fs gs d g step = let n = ap (λ (xs : List Edit). length xs) step.1 in omega (arith, n)
 
-pub ends : (editor : List ℕ) (es fs : List Edit) (t u : Project) (ss ts : List KeptSession) → SoFar editor es fs t u ss ts → length fs ≡ 0
-    → AreNoted editor es (state_of t ss) (state_of u ts)
+pub ends : (editor : List ℕ) (es fs : List Edit) (t u : Tree) (ss ts : List KeptSession) → SoFar editor es fs t u ss ts → length fs ≡ 0
+    → AreNoted editor es (seen_desk t.current.project ss) (seen_desk u.current.project ts)
 ends editor es fs t u ss ts k e = by fs e k.noted
   where
     by : (xs : List Edit) → length xs ≡ 0
-        → ((g : State) → AreNoted editor xs (state_of u ts) g → AreNoted editor es (state_of t ss) g)
-        → AreNoted editor es (state_of t ss) (state_of u ts)
-    by [] n h = h (state_of u ts) refl
+        → ((g : Desk) → AreNoted editor xs (seen_desk u.current.project ts) g → AreNoted editor es (seen_desk t.current.project ss) g)
+        → AreNoted editor es (seen_desk t.current.project ss) (seen_desk u.current.project ts)
+    by [] n h = h (seen_desk u.current.project ts) refl
     by (x ∷ xs) n h = absurd (omega (arith, n))

@@ -25,7 +25,7 @@ use Rattle.script_terms.specs.Reply.{Done, Number, Refused}
 use Rattle.script_terms.specs.State.{is_open}
 use Rattle.session_terms.specs.Kept.{KeptSession}
 use Rattle.edit_session.specs.SessionsCalls as calls
-use Rattle.command_answers.specs.Worlds.{state_of, IsWorld, IsRoomAlone}
+use Rattle.command_answers.specs.Worlds.{seen_desk, IsWorld, IsRoomAlone}
 use Rattle.reply_text.specs.Replies.{said_of}
 use Rattle.reply_text.specs.declared.reply.Reply.{Reply}
 use Rattle.command_answers.specs.Refusals.{SaysCause}
@@ -47,23 +47,13 @@ kept_by P (Ok x) (Err e) spent kept = let no = spent.1 in absurd cc
 kept_by P (Err f) (Err e) spent kept = kept
 
 -- the project is the old one, so the state is
-pub same_state : (p q : Project) (ss : List KeptSession) → q ≡ p → state_of q ss ≡ state_of p ss
-same_state p q ss e = ap (λ (r : Project). state_of r ss) e
+pub same_state : (p q : Project) (ss : List KeptSession) → q ≡ p → seen_desk q ss ≡ seen_desk p ss
+same_state p q ss e = ap (λ (r : Project). seen_desk r ss) e
 
 -- and the sessions are the old ones, but for room
-pub room_state : (p q : Project) (name : List ℕ) (ss ts : List KeptSession) → q ≡ p → IsRoomAlone name ss ts → state_of q ts ≡ state_of p ss
-room_state p q name ss ts e (inl s) = same_state p q ts e ∙ ap (state_of p) s
+pub room_state : (p q : Project) (name : List ℕ) (ss ts : List KeptSession) → q ≡ p → IsRoomAlone name ss ts → seen_desk q ts ≡ seen_desk p ss
+room_state p q name ss ts e (inl s) = same_state p q ts e ∙ ap (seen_desk p) s
 room_state p q name ss ts e (inr r) = same_state p q ts e ∙ room_done p name ss ts r
-
-pub same_after : {T F : Type 0} (p q : Project) (ss : List KeptSession) (called : Result T F) → OnErr called (q ≡ p)
-    → OnErr called (state_of q ss ≡ state_of p ss)
-same_after p q ss (Ok x) kept = tt
-same_after p q ss (Err e) kept = same_state p q ss kept
-
-pub room_after : {T F : Type 0} (p q : Project) (name : List ℕ) (ss ts : List KeptSession) (called : Result T F) → OnErr called (q ≡ p)
-    → OnErr called (IsRoomAlone name ss ts) → OnErr called (state_of q ts ≡ state_of p ss)
-room_after p q name ss ts (Ok x) kept room = tt
-room_after p q name ss ts (Err e) kept room = room_state p q name ss ts kept room
 
 room_kept : (p q : Project) (name : List ℕ) (ss ts : List KeptSession) → q ≡ p → IsRoomAlone name ss ts → IsWorld p ss → IsWorld q ts
 room_kept p q name ss ts e (inl s) w = subst (λ (r : Project). IsWorld r ts) (sym e) (subst (IsWorld p) (sym s) w)
@@ -72,20 +62,20 @@ room_kept p q name ss ts e (inr r) w = subst (λ (r : Project). IsWorld r ts) (s
 -- ---- a feature is added
 pub add_replied : {E : Type 0} (p q : Project) (ss ts : List KeptSession) (editor : List ℕ) (own : Sided) (shape : Shape) (n u : ℕ)
     (added : Result ℕ ChangeFault) (reply : Result Reply E)
-    → u ≡ unwrap_or own.subtype 0 → IsWorld p ss → is_open (state_of p ss) editor ≡ true → class_number p own.name ≡ Some n
+    → u ≡ unwrap_or own.subtype 0 → IsWorld p ss → is_open (seen_desk p ss) editor ≡ true → class_number p own.name ≡ Some n
     → IfOk added (λ h. IsFeatureAdded n u shape h p q) → IfOk added (λ h. calls.IsNoted editor (record { handle = h; kept = None }) ss ts)
     → OnOk added (add_cause p.classes p.next n shape.kind ≡ None)
     → IfErr added (λ e. Tells (edit_cause e) (add_cause p.classes p.next n shape.kind)) → OnErr added (q ≡ p)
     → OnErr added (IsRoomAlone editor ss ts)
     → IfOk reply (Says edit_cause added (λ h r. (p : Project) → said_of p r ≡ Number h))
-    → IfOk reply (λ r. Answers (state_of p ss) (Add editor own shape) (said_of q r) (state_of q ts))
+    → IfOk reply (λ r. Answers (seen_desk p ss) (Add editor own shape) (said_of q r) (seen_desk q ts))
 add_replied p q ss ts editor own shape n u added (Err e) bound w opened named ok noted may err kept room said = tt
 add_replied p q ss ts editor own shape n u (Ok h) (Ok r) bound w opened named ok noted may err kept room said =
-    rw (said q) (feature_added (state_of p ss) (state_of q ts) editor own shape n h opened named may
-    (subst (λ x. LeavesNoted editor (added_step h n x shape) (IsFeatureAdded n x shape h) (state_of p ss) (state_of q ts)) bound
+    rw (said q) (feature_added (seen_desk p ss) (seen_desk q ts) editor own shape n h opened named may
+    (subst (λ x. LeavesNoted editor (added_step h n x shape) (IsFeatureAdded n x shape h) (seen_desk p ss) (seen_desk q ts)) bound
     (add_done p q editor ss ts n u shape h w ok noted)))
 add_replied p q ss ts editor own shape n u (Err e) (Ok r) bound w opened named ok noted may err kept room said =
-    add_refused (state_of p ss) (state_of q ts) editor own shape n (edit_cause e) (said_of q r) opened named err
+    add_refused (seen_desk p ss) (seen_desk q ts) editor own shape n (edit_cause e) (said_of q r) opened named err
     (said_at (edit_cause e) q r said) (room_state p q editor ss ts kept room)
 
 pub add_kept : (p q : Project) (ss ts : List KeptSession) (editor : List ℕ) (shape : Shape) (n u : ℕ) (added : Result ℕ ChangeFault)
@@ -98,58 +88,58 @@ add_kept p q ss ts editor shape n u (Err e) store w ok noted kept room = room_ke
 -- ---- a feature is changed, or deleted
 pub change_replied : {E T : Type 0} (p q : Project) (ss ts : List KeptSession) (editor : List ℕ) (h : ℕ) (shape : Shape)
     (changed : Result T ChangeFault) (reply : Result Reply E)
-    → IsWorld p ss → IsOrdered p → refusal_of (state_of p ss) (Delete editor h) ≡ None
+    → IsWorld p ss → IsOrdered p → refusal_of (seen_desk p ss) (Delete editor h) ≡ None
     → OnOk changed (IsFeatureSet h (reshaped (feature_at p.features h) shape) p q)
     → OnOk changed (calls.IsNoted editor (record { handle = h; kept = feature_at p.features h }) ss ts)
     → OnOk changed (change_cause p.features h shape.kind ≡ None)
     → IfErr changed (λ e. Tells (edit_cause e) (change_cause p.features h shape.kind)) → OnErr changed (q ≡ p)
     → OnErr changed (IsRoomAlone editor ss ts)
     → IfOk reply (Says edit_cause changed (λ f r. (p : Project) → said_of p r ≡ Done))
-    → IfOk reply (λ r. Answers (state_of p ss) (AChange editor h shape) (said_of q r) (state_of q ts))
+    → IfOk reply (λ r. Answers (seen_desk p ss) (AChange editor h shape) (said_of q r) (seen_desk q ts))
 change_replied p q ss ts editor h shape changed (Err e) w ord free ok noted may err kept room said = tt
 change_replied p q ss ts editor h shape (Ok f) (Ok r) w ord free ok noted may err kept room said =
-    rw (said q) (feature_changed (state_of p ss) (state_of q ts) editor h shape free may
+    rw (said q) (feature_changed (seen_desk p ss) (seen_desk q ts) editor h shape free may
     (set_done p q editor ss ts h (reshaped (feature_at p.features h) shape) w ord free ok noted))
 change_replied p q ss ts editor h shape (Err e) (Ok r) w ord free ok noted may err kept room said =
-    change_refused (state_of p ss) (state_of q ts) editor h shape (edit_cause e) (said_of q r) free err (said_at (edit_cause e) q r said)
+    change_refused (seen_desk p ss) (seen_desk q ts) editor h shape (edit_cause e) (said_of q r) free err (said_at (edit_cause e) q r said)
     (room_state p q editor ss ts kept room)
 
 pub delete_replied : {E T : Type 0} (p q : Project) (ss ts : List KeptSession) (editor : List ℕ) (h : ℕ) (deleted : Result T ChangeFault)
     (reply : Result Reply E)
-    → IsWorld p ss → IsOrdered p → refusal_of (state_of p ss) (Delete editor h) ≡ None
+    → IsWorld p ss → IsOrdered p → refusal_of (seen_desk p ss) (Delete editor h) ≡ None
     → OnOk deleted (IsFeatureSet h None p q)
     → OnOk deleted (calls.IsNoted editor (record { handle = h; kept = feature_at p.features h }) ss ts)
     → IfErr deleted (λ e. Tells (edit_cause e) (delete_cause p.features h)) → OnErr deleted (q ≡ p)
     → OnErr deleted (IsRoomAlone editor ss ts)
     → IfOk reply (Says edit_cause deleted (λ f r. (p : Project) → said_of p r ≡ Done))
-    → IfOk reply (λ r. Answers (state_of p ss) (Delete editor h) (said_of q r) (state_of q ts))
+    → IfOk reply (λ r. Answers (seen_desk p ss) (Delete editor h) (said_of q r) (seen_desk q ts))
 delete_replied p q ss ts editor h deleted (Err e) w ord free ok noted err kept room said = tt
 delete_replied p q ss ts editor h (Ok f) (Ok r) w ord free ok noted err kept room said =
-    rw (said q) (feature_deleted (state_of p ss) (state_of q ts) editor h free (set_done p q editor ss ts h None w ord free ok noted))
+    rw (said q) (feature_deleted (seen_desk p ss) (seen_desk q ts) editor h free (set_done p q editor ss ts h None w ord free ok noted))
 delete_replied p q ss ts editor h (Err e) (Ok r) w ord free ok noted err kept room said =
-    delete_refused (state_of p ss) (state_of q ts) editor h (edit_cause e) (said_of q r) free err (said_at (edit_cause e) q r said)
+    delete_refused (seen_desk p ss) (seen_desk q ts) editor h (edit_cause e) (said_of q r) free err (said_at (edit_cause e) q r said)
     (room_state p q editor ss ts kept room)
 
 pub retype_replied : {E T : Type 0} (p q : Project) (ss ts : List KeptSession) (editor : List ℕ) (h u : ℕ) (deleted : Result T ChangeFault)
     (reply : Result Reply E)
-    → IsWorld p ss → IsOrdered p → refusal_of (state_of p ss) (Delete editor h) ≡ None
+    → IsWorld p ss → IsOrdered p → refusal_of (seen_desk p ss) (Delete editor h) ≡ None
     → OnOk deleted (IsFeatureSet h (retyped (feature_at p.features h) u) p q)
     → OnOk deleted (calls.IsNoted editor (record { handle = h; kept = feature_at p.features h }) ss ts)
     → IfErr deleted (λ e. Tells (edit_cause e) (delete_cause p.features h)) → OnErr deleted (q ≡ p)
     → OnErr deleted (IsRoomAlone editor ss ts)
     → IfOk reply (Says edit_cause deleted (λ f r. (p : Project) → said_of p r ≡ Done))
-    → IfOk reply (λ r. Answers (state_of p ss) (Retype editor h u) (said_of q r) (state_of q ts))
+    → IfOk reply (λ r. Answers (seen_desk p ss) (Retype editor h u) (said_of q r) (seen_desk q ts))
 retype_replied p q ss ts editor h u deleted (Err e) w ord free ok noted err kept room said = tt
 retype_replied p q ss ts editor h u (Ok f) (Ok r) w ord free ok noted err kept room said =
-    rw (said q) (feature_retyped (state_of p ss) (state_of q ts) editor h u free
+    rw (said q) (feature_retyped (seen_desk p ss) (seen_desk q ts) editor h u free
     (set_done p q editor ss ts h (retyped (feature_at p.features h) u) w ord free ok noted))
 retype_replied p q ss ts editor h u (Err e) (Ok r) w ord free ok noted err kept room said =
-    retype_refused (state_of p ss) (state_of q ts) editor h u (edit_cause e) (said_of q r) free err (said_at (edit_cause e) q r said)
+    retype_refused (seen_desk p ss) (seen_desk q ts) editor h u (edit_cause e) (said_of q r) free err (said_at (edit_cause e) q r said)
     (room_state p q editor ss ts kept room)
 
 pub set_kept : {T : Type 0} (p q : Project) (ss ts : List KeptSession) (editor : List ℕ) (h : ℕ) (after : Option Feature)
     (changed : Result T ChangeFault) → IsStore p.classes p.features p.next → IsWorld p ss → IsOrdered p
-    → refusal_of (state_of p ss) (Delete editor h) ≡ None → OnOk changed (IsFeatureSet h after p q)
+    → refusal_of (seen_desk p ss) (Delete editor h) ≡ None → OnOk changed (IsFeatureSet h after p q)
     → OnOk changed (calls.IsNoted editor (record { handle = h; kept = feature_at p.features h }) ss ts)
     → OnOk changed ((f : Feature) × (feature_at p.features h ≡ Some f)) → OnErr changed (q ≡ p) → OnErr changed (IsRoomAlone editor ss ts)
     → IsWorld q ts
@@ -163,12 +153,12 @@ pub class_replied : {E : Type 0} (p q : Project) (ss : List KeptSession) (name :
     → OnOk added (IsClassAdded name k p q) → IfOk added (λ n. n ≡ length p.classes + 1) → OnOk added (class_cause p.classes name ≡ None)
     → IfErr added (λ e. Tells (store_cause e) (class_cause p.classes name)) → OnErr added (q ≡ p)
     → IfOk reply (Says store_cause added (λ n r. (p : Project) → said_of p r ≡ Number n))
-    → IfOk reply (λ r. Answers (state_of p ss) (Class name k) (said_of q r) (state_of q ss))
+    → IfOk reply (λ r. Answers (seen_desk p ss) (Class name k) (said_of q r) (seen_desk q ss))
 class_replied p q ss name k added (Err e) ok number may err kept said = tt
 class_replied p q ss name k (Ok n) (Ok r) ok number may err kept said = rw (said q)
-    (class_added (state_of p ss) (state_of q ss) name k n may number ok (seen_same p q ss ok.features))
+    (class_added (seen_desk p ss) (seen_desk q ss) name k n may number ok (seen_same p q ss ok.features))
 class_replied p q ss name k (Err e) (Ok r) ok number may err kept said =
-    class_refused (state_of p ss) (state_of q ss) name k (store_cause e) (said_of q r) err (said_at (store_cause e) q r said)
+    class_refused (seen_desk p ss) (seen_desk q ss) name k (store_cause e) (said_of q r) err (said_at (store_cause e) q r said)
     (same_state p q ss kept)
 
 pub class_kept : (p q : Project) (ss : List KeptSession) (name : List ℕ) (k : Kind) (added : Result ℕ StoreFault) → IsWorld p ss
@@ -182,13 +172,13 @@ pub rule_replied : {E : Type 0} (p q : Project) (ss : List KeptSession) (k : Rul
     → IfOk added (λ n. IsRuleAdded n row p q) → OnOk added (rule_cause p row ≡ None)
     → IfErr added (λ e. Tells (row_cause e) (rule_cause p row)) → OnErr added (q ≡ p)
     → IfOk reply (Says row_cause added (λ n r. (p : Project) → said_of p r ≡ Number n))
-    → IfOk reply (λ r. Answers (state_of p ss) (Rule k origin dest) (said_of q r) (state_of q ss))
+    → IfOk reply (λ r. Answers (seen_desk p ss) (Rule k origin dest) (said_of q r) (seen_desk q ss))
 rule_replied p q ss k origin dest row added (Err e) there is ok may err kept said = tt
 rule_replied p q ss k origin dest row (Ok n) (Ok r) there is ok may err kept said =
-    rw (said q) (rule_added (state_of p ss) (state_of q ss) k origin dest n there (rw is at may) (rw is at ok)
+    rw (said q) (rule_added (seen_desk p ss) (seen_desk q ss) k origin dest n there (rw is at may) (rw is at ok)
     (seen_same p q ss ok.features))
 rule_replied p q ss k origin dest row (Err e) (Ok r) there is ok may err kept said =
-    rule_refused (state_of p ss) (state_of q ss) k origin dest (row_cause e) (said_of q r) there (rw is at err)
+    rule_refused (seen_desk p ss) (seen_desk q ss) k origin dest (row_cause e) (said_of q r) there (rw is at err)
     (said_at (row_cause e) q r said) (same_state p q ss kept)
 
 pub rule_kept : (p q : Project) (ss : List KeptSession) (row : Row) (added : Result ℕ RuleFault) → IsWorld p ss

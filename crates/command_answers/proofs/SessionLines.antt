@@ -25,25 +25,25 @@ use Rattle.script_terms.specs.Answer.{Answers}
 use Rattle.script_terms.specs.Refusal.{Refusal, Change, NoSession, HeldBy}
 use Rattle.script_terms.specs.Refusing.{refusal_of, steps_of, held_by}
 use Rattle.script_terms.specs.Reply.{Done}
-use Rattle.script_terms.specs.State.{State, is_open}
+use Rattle.script_terms.specs.State.{Desk, is_open}
 use Rattle.reply_text.specs.Replies.{said_of}
 use Rattle.reply_text.specs.declared.reply.Reply.{Reply}
 use Rattle.command_answers.specs.Refusals.{SaysRefusal, session_refusal}
-use Rattle.command_answers.specs.Worlds.{state_of, IsWorld}
+use Rattle.command_answers.specs.Worlds.{seen_desk, IsWorld}
 use Rattle.command_answers.proofs.Answering.{refused, done}
 use Rattle.command_answers.proofs.KeptLists.{open_seen, length_seen, holder_seen}
 use Rattle.command_answers.proofs.Sessions.{Chain, begin_done, begin_world, end_done, end_world, undo_done, undo_world, redo_done, redo_world, discard_done, discard_world, part_world}
 
 -- ---- why a line is refused
 opened : (p : Project) (ss : List KeptSession) (name : List ℕ) (s : KeptSession) → kept_named ss name ≡ Some s
-    → is_open (state_of p ss) name ≡ true
+    → is_open (seen_desk p ss) name ≡ true
 opened p ss name s e = open_seen (feature_at p.features) ss name ∙ ap is_some e
 
-closed : (p : Project) (ss : List KeptSession) (name : List ℕ) → kept_named ss name ≡ None → is_open (state_of p ss) name ≡ false
+closed : (p : Project) (ss : List KeptSession) (name : List ℕ) → kept_named ss name ≡ None → is_open (seen_desk p ss) name ≡ false
 closed p ss name e = open_seen (feature_at p.features) ss name ∙ ap is_some e
 
 begin_refusal : (p : Project) (ss : List KeptSession) (name : List ℕ) (e : SessionFault) (x : Refusal) → IsBeginFault ss name e
-    → session_refusal e ≡ Some x → refusal_of (state_of p ss) (Begin name) ≡ Some x
+    → session_refusal e ≡ Some x → refusal_of (seen_desk p ss) (Begin name) ≡ Some x
 begin_refusal p ss name fault.OpenAlready x b r = rw (opened p ss name b.session b.there) r
 begin_refusal p ss name fault.SessionsFull x b r =
     let full : eqb (length (seen (feature_at p.features) ss)) 16 ≡ true = ap (λ n. eqb n 16) (length_seen (feature_at p.features) ss
@@ -55,14 +55,14 @@ begin_refusal p ss name fault.NothingToRedo x b r = absurd b
 begin_refusal p ss name fault.NoMemory x b r = cc
 
 begin_free : (p : Project) (ss : List KeptSession) (name : List ℕ) → kept_named ss name ≡ None → length ss < 16
-    → refusal_of (state_of p ss) (Begin name) ≡ None
+    → refusal_of (seen_desk p ss) (Begin name) ≡ None
 begin_free p ss name e few =
     let l : length (seen (feature_at p.features) ss) ≡ length ss = length_seen (feature_at p.features) ss in
     let left : eqb (length (seen (feature_at p.features) ss)) 16 ≡ false = grind (arith, nat_tests, few, l) in
     rw (closed p ss name e, left) refl
 
 end_refusal : (p : Project) (ss : List KeptSession) (name : List ℕ) (e : SessionFault) (x : Refusal) → IsEndFault ss name e
-    → session_refusal e ≡ Some x → refusal_of (state_of p ss) (End name) ≡ Some x
+    → session_refusal e ≡ Some x → refusal_of (seen_desk p ss) (End name) ≡ Some x
 end_refusal p ss name fault.NoSession x b r = rw (closed p ss name b) r
 end_refusal p ss name fault.OpenAlready x b r = absurd b
 end_refusal p ss name fault.SessionsFull x b r = absurd b
@@ -70,17 +70,17 @@ end_refusal p ss name fault.NothingToUndo x b r = absurd b
 end_refusal p ss name fault.NothingToRedo x b r = absurd b
 end_refusal p ss name fault.NoMemory x b r = absurd b
 
-end_free : (p : Project) (ss : List KeptSession) (name : List ℕ) → kept_named ss name ≢ None → refusal_of (state_of p ss) (End name) ≡ None
+end_free : (p : Project) (ss : List KeptSession) (name : List ℕ) → kept_named ss name ≢ None → refusal_of (seen_desk p ss) (End name) ≡ None
 end_free p ss name there = by (kept_named ss name) refl
   where
-    by : (o : Option KeptSession) → kept_named ss name ≡ o → refusal_of (state_of p ss) (End name) ≡ None
+    by : (o : Option KeptSession) → kept_named ss name ≡ o → refusal_of (seen_desk p ss) (End name) ≡ None
     by None e = absurd (there e)
     by (Some s) e = rw (opened p ss name s e) refl
 
 -- the steps of the editor's session
 steps_seen : (p : Project) (ss : List KeptSession) (name : List ℕ) (s : KeptSession) (steps : Session → List EditStep)
     → kept_named ss name ≡ Some s
-    → steps_of steps (state_of p ss) name ≡ steps (seen_session (feature_at p.features) s)
+    → steps_of steps (seen_desk p ss) name ≡ steps (seen_session (feature_at p.features) s)
 steps_seen p ss name s steps e = ap (λ (o : Option Session). option_map_or steps o []) (there_seen (feature_at p.features) ss name s e)
 
 no_steps : (s : KeptSession) (at : ℕ → Option Feature) → s.done ≡ [] → (seen_session at s).done ≡ []
@@ -90,7 +90,7 @@ none_undone : (s : KeptSession) (at : ℕ → Option Feature) → s.undone ≡ [
 none_undone s at e = rw e refl
 
 undo_refusal : (p : Project) (ss : List KeptSession) (name : List ℕ) (e : SessionFault) (x : Refusal) → IsUndoFault ss name e
-    → session_refusal e ≡ Some x → refusal_of (state_of p ss) (Undo name) ≡ Some x
+    → session_refusal e ≡ Some x → refusal_of (seen_desk p ss) (Undo name) ≡ Some x
 undo_refusal p ss name fault.NoSession x b r = rw (closed p ss name b) r
 undo_refusal p ss name fault.NothingToUndo x b r =
     let none = steps_seen p ss name b.session (λ (y : Session). y.done) b.there ∙ no_steps b.session (feature_at p.features) b.none in
@@ -101,7 +101,7 @@ undo_refusal p ss name fault.NothingToRedo x b r = absurd b
 undo_refusal p ss name fault.NoMemory x b r = cc
 
 redo_refusal : (p : Project) (ss : List KeptSession) (name : List ℕ) (e : SessionFault) (x : Refusal) → IsRedoFault ss name e
-    → session_refusal e ≡ Some x → refusal_of (state_of p ss) (Redo name) ≡ Some x
+    → session_refusal e ≡ Some x → refusal_of (seen_desk p ss) (Redo name) ≡ Some x
 redo_refusal p ss name fault.NoSession x b r = rw (closed p ss name b) r
 redo_refusal p ss name fault.NothingToRedo x b r =
     let none = steps_seen p ss name b.session (λ (y : Session). y.undone) b.there ∙ none_undone b.session (feature_at p.features) b.none in
@@ -119,19 +119,19 @@ some_undone : (xs ys : List EditStep) (t : EditStep) → xs ≡ t ∷ ys → eqb
 some_undone xs ys t e = let l : length (t ∷ ys) ≡ length xs = ap length (sym e) in grind (arith, nat_tests, l)
 
 undo_free : (p q : Project) (ss ts : List KeptSession) (name : List ℕ) → IsWorld p ss → calls.IsUndone (IsGroundSwap poster) name ss ts p q
-    → refusal_of (state_of p ss) (Undo name) ≡ None
+    → refusal_of (seen_desk p ss) (Undo name) ≡ None
 undo_free p q ss ts name w d =
     let u = undo_done p q name ss ts w.keeping d in
-    let some : eqb (length (steps_of (λ (y : Session). y.done) (state_of p ss) name)) 0 ≡ false =
+    let some : eqb (length (steps_of (λ (y : Session). y.done) (seen_desk p ss) name)) 0 ≡ false =
     ap (λ (o : Option Session). eqb (length (option_map_or (λ (y : Session). y.done) o [])) 0) u.4.session.there
     ∙ some_done u.1.done u.2.done u.0 u.3.done in
     rw (opened p ss name d.was d.change.there, some) refl
 
 redo_free : (p q : Project) (ss ts : List KeptSession) (name : List ℕ) → IsWorld p ss → calls.IsRedone (IsGroundSwap poster) name ss ts p q
-    → refusal_of (state_of p ss) (Redo name) ≡ None
+    → refusal_of (seen_desk p ss) (Redo name) ≡ None
 redo_free p q ss ts name w d =
     let u = redo_done p q name ss ts w.keeping d in
-    let some : eqb (length (steps_of (λ (y : Session). y.undone) (state_of p ss) name)) 0 ≡ false =
+    let some : eqb (length (steps_of (λ (y : Session). y.undone) (seen_desk p ss) name)) 0 ≡ false =
     ap (λ (o : Option Session). eqb (length (option_map_or (λ (y : Session). y.undone) o [])) 0) u.4.session.there
     ∙ some_undone u.1.undone u.2.undone u.0 u.3.undone in
     rw (opened p ss name d.was d.change.there, some) refl
@@ -141,7 +141,7 @@ abbrev pub Says : {T : Type 0} → Result T SessionFault → Reply → Type 0
 Says called r = MatchResult called (λ x. (p : Project) → said_of p r ≡ Done) (λ e. SaysRefusal (session_refusal e) r)
 
 -- refused for the fault that the call told
-told : (s t : State) (c : Command) (q : Project) (o : Option Refusal) (r : Reply) → ((x : Refusal) → o ≡ Some x → refusal_of s c ≡ Some x)
+told : (s t : Desk) (c : Command) (q : Project) (o : Option Refusal) (r : Reply) → ((x : Refusal) → o ≡ Some x → refusal_of s c ≡ Some x)
     → SaysRefusal o r → t ≡ s → Answers s c (said_of q r) t
 told s t c q None r why said same = absurd said
 told s t c q (Some x) r why said same = refused s t c (said_of q r) x (why x refl) (said q) same
@@ -149,12 +149,12 @@ told s t c q (Some x) r why said same = refused s t c (said_of q r) x (why x ref
 pub begin_replied : {T E : Type 0} (p : Project) (ss ts : List KeptSession) (name : List ℕ) (begun : Result T SessionFault)
     (reply : Result Reply E)
     → OnOk begun (calls.IsBegun name ss ts) → IfErr begun (IsBeginFault ss name) → OnErr begun (ts ≡ ss) → IfOk reply (Says begun)
-    → IfOk reply (λ r. Answers (state_of p ss) (Begin name) (said_of p r) (state_of p ts))
+    → IfOk reply (λ r. Answers (seen_desk p ss) (Begin name) (said_of p r) (seen_desk p ts))
 begin_replied p ss ts name begun (Err e) ok err kept said = tt
-begin_replied p ss ts name (Ok u) (Ok r) ok err kept said = rw (said p) (done (state_of p ss) (state_of p ts) (Begin name) Done
+begin_replied p ss ts name (Ok u) (Ok r) ok err kept said = rw (said p) (done (seen_desk p ss) (seen_desk p ts) (Begin name) Done
     (begin_free p ss name ok.free ok.few) (refl, begin_done p name ss ts ok))
-begin_replied p ss ts name (Err e) (Ok r) ok err kept said = told (state_of p ss) (state_of p ts) (Begin name) p (session_refusal e) r
-    (λ x k. begin_refusal p ss name e x err k) said (ap (state_of p) kept)
+begin_replied p ss ts name (Err e) (Ok r) ok err kept said = told (seen_desk p ss) (seen_desk p ts) (Begin name) p (session_refusal e) r
+    (λ x k. begin_refusal p ss name e x err k) said (ap (seen_desk p) kept)
 
 pub begin_kept : {T : Type 0} (p : Project) (ss ts : List KeptSession) (name : List ℕ) (begun : Result T SessionFault) → IsWorld p ss
     → OnOk begun (calls.IsBegun name ss ts) → OnErr begun (ts ≡ ss) → IsWorld p ts
@@ -165,12 +165,12 @@ pub end_replied : {T E : Type 0} (p : Project) (ss ts : List KeptSession) (name 
     (reply : Result Reply E)
     → OnOk ended (ts ≡ without_kept ss name) → OnOk ended (kept_named ss name ≢ None) → IfErr ended (IsEndFault ss name)
     → OnErr ended (ts ≡ ss) → IfOk reply (Says ended)
-    → IfOk reply (λ r. Answers (state_of p ss) (End name) (said_of p r) (state_of p ts))
+    → IfOk reply (λ r. Answers (seen_desk p ss) (End name) (said_of p r) (seen_desk p ts))
 end_replied p ss ts name ended (Err e) ok there err kept said = tt
-end_replied p ss ts name (Ok u) (Ok r) ok there err kept said = rw (said p) (done (state_of p ss) (state_of p ts) (End name) Done
+end_replied p ss ts name (Ok u) (Ok r) ok there err kept said = rw (said p) (done (seen_desk p ss) (seen_desk p ts) (End name) Done
     (end_free p ss name there) (refl, end_done p name ss ts ok))
-end_replied p ss ts name (Err e) (Ok r) ok there err kept said = told (state_of p ss) (state_of p ts) (End name) p (session_refusal e) r
-    (λ x k. end_refusal p ss name e x err k) said (ap (state_of p) kept)
+end_replied p ss ts name (Err e) (Ok r) ok there err kept said = told (seen_desk p ss) (seen_desk p ts) (End name) p (session_refusal e) r
+    (λ x k. end_refusal p ss name e x err k) said (ap (seen_desk p) kept)
 
 pub end_kept : {T : Type 0} (p : Project) (ss ts : List KeptSession) (name : List ℕ) (ended : Result T SessionFault) → IsWorld p ss
     → OnOk ended (ts ≡ without_kept ss name) → OnErr ended (ts ≡ ss) → IsWorld p ts
@@ -185,26 +185,21 @@ pub still : (p q : Project) → Still p q → q ≡ p
 still p q (inl e) = e
 still p q (inr e) = e
 
-pub still_state : (p q : Project) (ss ts : List KeptSession) → ts ≡ ss → Still p q → state_of q ts ≡ state_of p ss
-still_state p q ss ts e s = ap (λ (r : Project). state_of r ts) (still p q s) ∙ ap (state_of p) e
+pub still_state : (p q : Project) (ss ts : List KeptSession) → ts ≡ ss → Still p q → seen_desk q ts ≡ seen_desk p ss
+still_state p q ss ts e s = ap (λ (r : Project). seen_desk r ts) (still p q s) ∙ ap (seen_desk p) e
 
 still_world : (p q : Project) (ss ts : List KeptSession) → ts ≡ ss → Still p q → IsWorld p ss → IsWorld q ts
 still_world p q ss ts e s w = subst (λ (r : Project). IsWorld r ts) (sym (still p q s)) (subst (IsWorld p) (sym e) w)
-
-pub still_after : {T : Type 0} (p q : Project) (ss ts : List KeptSession) (called : Result T SessionFault) → OnErr called (ts ≡ ss)
-    → OnErr called (Still p q) → OnErr called (state_of q ts ≡ state_of p ss)
-still_after p q ss ts (Ok u) kept same = tt
-still_after p q ss ts (Err e) kept same = still_state p q ss ts kept same
 
 pub undo_replied : {T E : Type 0} (p q : Project) (ss ts : List KeptSession) (name : List ℕ) (called : Result T SessionFault)
     (reply : Result Reply E) → IsWorld p ss
     → OnOk called (calls.IsUndone (IsGroundSwap poster) name ss ts p q) → IfErr called (IsUndoFault ss name) → OnErr called (ts ≡ ss)
     → OnErr called (Still p q) → IfOk reply (Says called)
-    → IfOk reply (λ r. Answers (state_of p ss) (Undo name) (said_of q r) (state_of q ts))
+    → IfOk reply (λ r. Answers (seen_desk p ss) (Undo name) (said_of q r) (seen_desk q ts))
 undo_replied p q ss ts name called (Err e) w ok err kept same said = tt
-undo_replied p q ss ts name (Ok u) (Ok r) w ok err kept same said = rw (said q) (done (state_of p ss) (state_of q ts) (Undo name) Done
+undo_replied p q ss ts name (Ok u) (Ok r) w ok err kept same said = rw (said q) (done (seen_desk p ss) (seen_desk q ts) (Undo name) Done
     (undo_free p q ss ts name w ok) (refl, undo_done p q name ss ts w.keeping ok))
-undo_replied p q ss ts name (Err e) (Ok r) w ok err kept same said = told (state_of p ss) (state_of q ts) (Undo name) q (session_refusal e)
+undo_replied p q ss ts name (Err e) (Ok r) w ok err kept same said = told (seen_desk p ss) (seen_desk q ts) (Undo name) q (session_refusal e)
     r (λ x k. undo_refusal p ss name e x err k) said (still_state p q ss ts kept same)
 
 pub undo_kept : {T : Type 0} (p q : Project) (ss ts : List KeptSession) (name : List ℕ) (called : Result T SessionFault) → IsWorld p ss
@@ -216,11 +211,11 @@ pub redo_replied : {T E : Type 0} (p q : Project) (ss ts : List KeptSession) (na
     (reply : Result Reply E) → IsWorld p ss
     → OnOk called (calls.IsRedone (IsGroundSwap poster) name ss ts p q) → IfErr called (IsRedoFault ss name) → OnErr called (ts ≡ ss)
     → OnErr called (Still p q) → IfOk reply (Says called)
-    → IfOk reply (λ r. Answers (state_of p ss) (Redo name) (said_of q r) (state_of q ts))
+    → IfOk reply (λ r. Answers (seen_desk p ss) (Redo name) (said_of q r) (seen_desk q ts))
 redo_replied p q ss ts name called (Err e) w ok err kept same said = tt
-redo_replied p q ss ts name (Ok u) (Ok r) w ok err kept same said = rw (said q) (done (state_of p ss) (state_of q ts) (Redo name) Done
+redo_replied p q ss ts name (Ok u) (Ok r) w ok err kept same said = rw (said q) (done (seen_desk p ss) (seen_desk q ts) (Redo name) Done
     (redo_free p q ss ts name w ok) (refl, redo_done p q name ss ts w.keeping ok))
-redo_replied p q ss ts name (Err e) (Ok r) w ok err kept same said = told (state_of p ss) (state_of q ts) (Redo name) q (session_refusal e)
+redo_replied p q ss ts name (Err e) (Ok r) w ok err kept same said = told (seen_desk p ss) (seen_desk q ts) (Redo name) q (session_refusal e)
     r (λ x k. redo_refusal p ss name e x err k) said (still_state p q ss ts kept same)
 
 pub redo_kept : {T : Type 0} (p q : Project) (ss ts : List KeptSession) (name : List ℕ) (called : Result T SessionFault) → IsWorld p ss
@@ -233,15 +228,15 @@ abbrev pub DiscardFault : List ℕ → List KeptSession → List KeptSession →
 DiscardFault name ss ts p q e = calls.IsDiscardFault (IsGroundSwap poster) (λ (g h : Project). h ≡ g) name ss ts p q e
 
 discard_free : (p q : Project) (ss ts : List KeptSession) (name : List ℕ) → calls.IsDiscarded (IsGroundSwap poster) name ss ts p q
-    → refusal_of (state_of p ss) (Discard name) ≡ None
+    → refusal_of (seen_desk p ss) (Discard name) ≡ None
 discard_free p q ss ts name d = rw (opened p ss name d.was d.there) refl
 
 discard_told : (p q : Project) (ss ts : List KeptSession) (name : List ℕ) (e : SessionFault) (r : Reply) → DiscardFault name ss ts p q e
     → SaysRefusal (session_refusal e) r
-    → Answers (state_of p ss) (Discard name) (said_of q r) (state_of q ts)
+    → Answers (seen_desk p ss) (Discard name) (said_of q r) (seen_desk q ts)
 discard_told p q ss ts name fault.NoSession r d said =
-    refused (state_of p ss) (state_of q ts) (Discard name) (said_of q r) NoSession (rw (closed p ss name d.absent) refl) (said q)
-    (ap (λ (x : Project). state_of x ts) d.features ∙ ap (state_of p) d.sessions)
+    refused (seen_desk p ss) (seen_desk q ts) (Discard name) (said_of q r) NoSession (rw (closed p ss name d.absent) refl) (said q)
+    (ap (λ (x : Project). seen_desk x ts) d.features ∙ ap (seen_desk p) d.sessions)
 discard_told p q ss ts name fault.NoMemory r d said = absurd said
 discard_told p q ss ts name fault.OpenAlready r d said = absurd d
 discard_told p q ss ts name fault.SessionsFull r d said = absurd d
@@ -252,9 +247,9 @@ pub discard_replied : {T E : Type 0} (p q : Project) (ss ts : List KeptSession) 
     (reply : Result Reply E) → IsWorld p ss
     → OnOk called (calls.IsDiscarded (IsGroundSwap poster) name ss ts p q) → IfErr called (DiscardFault name ss ts p q)
     → IfOk reply (Says called)
-    → IfOk reply (λ r. Answers (state_of p ss) (Discard name) (said_of q r) (state_of q ts))
+    → IfOk reply (λ r. Answers (seen_desk p ss) (Discard name) (said_of q r) (seen_desk q ts))
 discard_replied p q ss ts name called (Err e) w ok err said = tt
-discard_replied p q ss ts name (Ok u) (Ok r) w ok err said = rw (said q) (done (state_of p ss) (state_of q ts) (Discard name) Done
+discard_replied p q ss ts name (Ok u) (Ok r) w ok err said = rw (said q) (done (seen_desk p ss) (seen_desk q ts) (Discard name) Done
     (discard_free p q ss ts name ok) (refl, discard_done p q name ss ts w.keeping ok))
 discard_replied p q ss ts name (Err e) (Ok r) w ok err said = discard_told p q ss ts name e r err said
 
@@ -301,21 +296,6 @@ discard_stays p q ss ts name (Err fault.SessionsFull) ok err = absurd err
 discard_stays p q ss ts name (Err fault.NothingToUndo) ok err = absurd err
 discard_stays p q ss ts name (Err fault.NothingToRedo) ok err = absurd err
 
--- what the topology keeps, the state keeps, as it is seen
-pub sound_seen : (p q : Project) (ss : List KeptSession) (z : State) → state_of p ss ≡ z → (IsSound p → IsSound q) → IsSound z.project
-    → IsSound q
-sound_seen p q ss z is keeps s = keeps (subst (λ (x : State). IsSound x.project) (sym is) s)
-
-pub settled_seen : (p q : Project) (ss : List KeptSession) (z : State) → state_of p ss ≡ z → (IsSettled p → IsSettled q)
-    → IsSettled z.project → IsSettled q
-settled_seen p q ss z is keeps s = keeps (subst (λ (x : State). IsSettled x.project) (sym is) s)
-
--- the sessions are the old ones, so the state is
-pub left_after : {T : Type 0} (p : Project) (ss ts : List KeptSession) (called : Result T SessionFault) → OnErr called (ts ≡ ss)
-    → OnErr called (state_of p ts ≡ state_of p ss)
-left_after p ss ts (Ok u) kept = tt
-left_after p ss ts (Err e) kept = ap (state_of p) kept
-
 -- ---- who holds a handle
 pub held_none : (o : Option (List ℕ)) (editor : List ℕ) → o ≡ None → held_by o editor ≡ None
 held_none o editor e = rw e refl
@@ -327,21 +307,21 @@ pub held_other : (o : Option (List ℕ)) (name editor : List ℕ) → o ≡ Some
     → held_by o editor ≡ Some (HeldBy name)
 held_other o name editor e t = rw (e, t) refl
 
-pub edit_absent : (p : Project) (ss : List KeptSession) (name : List ℕ) (h : ℕ) → is_open (state_of p ss) name ≡ true
-    → feature_at p.features h ≡ None → refusal_of (state_of p ss) (Delete name h) ≡ Some (Change NoFeature)
+pub edit_absent : (p : Project) (ss : List KeptSession) (name : List ℕ) (h : ℕ) → is_open (seen_desk p ss) name ≡ true
+    → feature_at p.features h ≡ None → refusal_of (seen_desk p ss) (Delete name h) ≡ Some (Change NoFeature)
 edit_absent p ss name h there none = rw (there, none) refl
 
-edit_by : (p : Project) (ss : List KeptSession) (name : List ℕ) (h : ℕ) (f : Feature) → is_open (state_of p ss) name ≡ true
+edit_by : (p : Project) (ss : List KeptSession) (name : List ℕ) (h : ℕ) (f : Feature) → is_open (seen_desk p ss) name ≡ true
     → feature_at p.features h ≡ Some f
-    → refusal_of (state_of p ss) (Delete name h) ≡ first_of (held_by (kept_holder ss h) name ∷ [])
+    → refusal_of (seen_desk p ss) (Delete name h) ≡ first_of (held_by (kept_holder ss h) name ∷ [])
 edit_by p ss name h f there live = rw (there, live, holder_seen (feature_at p.features) ss h) refl
 
-pub edit_free : (p : Project) (ss : List KeptSession) (name : List ℕ) (h : ℕ) (f : Feature) → is_open (state_of p ss) name ≡ true
+pub edit_free : (p : Project) (ss : List KeptSession) (name : List ℕ) (h : ℕ) (f : Feature) → is_open (seen_desk p ss) name ≡ true
     → feature_at p.features h ≡ Some f → held_by (kept_holder ss h) name ≡ None
-    → refusal_of (state_of p ss) (Delete name h) ≡ None
+    → refusal_of (seen_desk p ss) (Delete name h) ≡ None
 edit_free p ss name h f there live none = edit_by p ss name h f there live ∙ ap (λ o. first_of (o ∷ [])) none
 
 pub edit_held : (p : Project) (ss : List KeptSession) (name : List ℕ) (h : ℕ) (f : Feature) (n : List ℕ)
-    → is_open (state_of p ss) name ≡ true → feature_at p.features h ≡ Some f
-    → held_by (kept_holder ss h) name ≡ Some (HeldBy n) → refusal_of (state_of p ss) (Delete name h) ≡ Some (HeldBy n)
+    → is_open (seen_desk p ss) name ≡ true → feature_at p.features h ≡ Some f
+    → held_by (kept_holder ss h) name ≡ Some (HeldBy n) → refusal_of (seen_desk p ss) (Delete name h) ≡ Some (HeldBy n)
 edit_held p ss name h f n there live held = edit_by p ss name h f there live ∙ ap (λ o. first_of (o ∷ [])) held

@@ -16,7 +16,7 @@ use Rattle.sound_laws.proofs.FeatureLists.{handles}
 use Rattle.sound_laws.proofs.Keyed as keyed
 use Rattle.script_terms.specs.Refusal.{HeldBy, SessionOpen, SessionsFull, NoSession, NothingToUndo, NothingToRedo}
 use Rattle.script_terms.specs.Reply.{Done, Number, Refused, FeatureList, DirtyList, reply_text}
-use Rattle.script_terms.specs.State.{State}
+use Rattle.script_terms.specs.State.{Desk}
 use Rattle.script_terms.specs.Refusing.{refusal_of}
 use Rattle.script_terms.specs.Answer.{IsDone}
 
@@ -60,10 +60,10 @@ step h before after = record { handle = h; before = before; after = after }
 abbrev d2 : List Rectangle
 d2 = spot (pos 0) (pos 0) ∷ spot (pos 1) (pos 1) ∷ []
 
-abbrev begun : State
+abbrev begun : Desk
 begun = record { project = wells (well 1 (pos 0) (pos 0) ∷ well 2 (pos 1) (pos 1) ∷ []) 3 d2; sessions = session bob [] [] ∷ [] }
 
-abbrev both : State
+abbrev both : Desk
 both = record {
   project = wells (well 1 (pos 0) (pos 0) ∷ well 2 (pos 1) (pos 1) ∷ []) 3 d2;
   sessions =
@@ -87,7 +87,7 @@ moved_step = step 2 (Some (well 2 (pos 1) (pos 1))) (Some (well 2 (pos 2) (pos 2
 abbrev d3 : List Rectangle
 d3 = spot (pos 0) (pos 0) ∷ spot (pos 1) (pos 1) ∷ spot (pos 2) (pos 2) ∷ []
 
-abbrev moved : State
+abbrev moved : Desk
 moved = record {
   project = wells (well 1 (pos 0) (pos 0) ∷ well 2 (pos 2) (pos 2) ∷ []) 3 d3;
   sessions =
@@ -155,7 +155,7 @@ third = step 3 None (Some (well 3 (pos 4) (pos 4)))
 abbrev d4 : List Rectangle
 d4 = spot (pos 0) (pos 0) ∷ spot (pos 1) (pos 1) ∷ spot (pos 2) (pos 2) ∷ spot (pos 4) (pos 4) ∷ []
 
-abbrev three : State
+abbrev three : Desk
 three = record {
   project = wells (well 1 (pos 0) (pos 0) ∷ well 2 (pos 2) (pos 2) ∷ well 3 (pos 4) (pos 4) ∷ []) 4 d4;
   sessions =
@@ -194,7 +194,7 @@ bob_adds = (
 )
 
 -- ---- by ann undo: bob's well stays. What ann held stays held until ann edits again, or ends
-abbrev ann_back : State
+abbrev ann_back : Desk
 ann_back = record {
   project = wells (well 1 (pos 0) (pos 0) ∷ well 2 (pos 1) (pos 1) ∷ well 3 (pos 4) (pos 4) ∷ []) 4
       (spot (pos 0) (pos 0) ∷ spot (pos 1) (pos 1) ∷ spot (pos 2) (pos 2) ∷ spot (pos 4) (pos 4) ∷ []);
@@ -238,7 +238,7 @@ unfolding feature_at
 still_held = refl
 
 -- ---- by bob undo, once more, and by bob redo
-abbrev bob_back : State
+abbrev bob_back : Desk
 bob_back = record {
   project = wells (well 1 (pos 0) (pos 0) ∷ well 2 (pos 1) (pos 1) ∷ []) 4 (spot (pos 0) (pos 0) ∷ spot (pos 1) (pos 1) ∷ spot (pos 2)
       (pos 2) ∷ spot (pos 4) (pos 4) ∷ []);
@@ -323,7 +323,7 @@ nothing_to_redo = refl
 abbrev named : List ℕ → Session
 named name = session name [] []
 
-abbrev sixteen : State
+abbrev sixteen : Desk
 sixteen = record {
   project = wells [] 1 [];
   sessions = named (codes "a") ∷ named (codes "b") ∷ named (codes "c") ∷ named (codes "d") ∷ named
@@ -346,10 +346,10 @@ capital = (refl, refl)
 abbrev typed : Feature
 typed = feature_of 1 1 3 (point (pos 0) (pos 0))
 
-abbrev before_retype : State
+abbrev before_retype : Desk
 before_retype = record { project = wells (well 1 (pos 0) (pos 0) ∷ []) 2 []; sessions = session ann [] [] ∷ [] }
 
-abbrev after_retype : State
+abbrev after_retype : Desk
 after_retype = record {
   project = wells (typed ∷ []) 2 (spot (pos 0) (pos 0) ∷ []);
   sessions = session ann (step 1 (Some (well 1 (pos 0) (pos 0))) (Some typed) ∷ []) [] ∷ [];
@@ -407,10 +407,10 @@ lots F d = record {
 abbrev gone : EditStep
 gone = step 1 (Some (lot 1 (pos 0) (pos 10))) None
 
-abbrev deleted : State
+abbrev deleted : Desk
 deleted = record { project = lots (lot 2 (pos 5) (pos 15) ∷ []) []; sessions = session ann (gone ∷ []) [] ∷ [] }
 
-abbrev returned : State
+abbrev returned : Desk
 returned = record {
   project = lots (lot 1 (pos 0) (pos 10) ∷ lot 2 (pos 5) (pos 15) ∷ []) (rect_of (pos 0) (pos 0) (pos 10) (pos 10) ∷ []);
   sessions = session ann [] (gone ∷ []) ∷ [];

@@ -19,11 +19,11 @@ use Rattle.edit_session.specs.OverTopologies.{IsGroundSwap}
 use Rattle.edit_session.specs.OverTopologies as grounds
 use Rattle.script_terms.specs.Answer.{IsUndone, IsRedone, IsDiscarded, AreTakenBack}
 use Rattle.script_terms.specs.Keeping.{IsKeeping}
-use Rattle.script_terms.specs.State.{State}
+use Rattle.script_terms.specs.State.{Desk}
 use Rattle.script_terms.proofs.Bridges.{there_seen, undo_bridge, redo_bridge}
 use Rattle.script_terms.proofs.Commands.{begun_keeps, ended_keeps, discard_keeps, others_have, none_each}
 use Rattle.script_terms.proofs.Keeping.{undo_keeps, redo_keeps}
-use Rattle.command_answers.specs.Worlds.{state_of, AllMay, IsWorld}
+use Rattle.command_answers.specs.Worlds.{seen_desk, AllMay, IsWorld}
 use Rattle.command_answers.proofs.KeptLists.{named_has, with_has, without_has, opened_has, name_of, now_named, with_twice, with_same, open_seen}
 
 abbrev pub May : Project → ℕ → Option Feature → Type 0
@@ -39,11 +39,11 @@ pub all_same : (p q : Project) (ss : List KeptSession) → q.classes ≡ p.class
 all_same p q ss c n h = all_still (May p) (May q) ss (λ k x. may_in p.classes q.classes p.next q.next k x c n) h
 
 -- ---- a session begins, and ends
-abbrev with_sessions : Project → List Session → State
+abbrev with_sessions : Project → List Session → Desk
 with_sessions p ss = record { project = p; sessions = ss }
 
 pub begin_done : (p : Project) (name : List ℕ) (ss ts : List KeptSession) → calls.IsBegun name ss ts
-    → state_of p ts ≡ record (state_of p ss) { sessions = with_opened (state_of p ss).sessions name }
+    → seen_desk p ts ≡ record (seen_desk p ss) { sessions = with_opened (seen_desk p ss).sessions name }
 begin_done p name ss ts b =
     let at = feature_at p.features in
     ap (with_sessions p) (ap (seen at) b.sessions ∙ (seen_opened at ss b.session b.done b.undone
@@ -51,7 +51,7 @@ begin_done p name ss ts b =
 
 pub begin_world : (p : Project) (name : List ℕ) (ss ts : List KeptSession) → calls.IsBegun name ss ts → IsWorld p ss → IsWorld p ts
 begin_world p name ss ts b w = record {
-  keeping = begun_keeps name (state_of p ss) (state_of p ts) w.keeping (open_seen (feature_at p.features) ss name ∙ ap is_some b.free)
+  keeping = begun_keeps name (seen_desk p ss) (seen_desk p ts) w.keeping (open_seen (feature_at p.features) ss name ∙ ap is_some b.free)
       (begin_done p name ss ts b);
   may = subst (AllMay p) (sym b.sessions) (opened_has (MayAll (May p)) ss b.session
       (record {
@@ -62,19 +62,19 @@ begin_world p name ss ts b w = record {
 }
 
 pub end_done : (p : Project) (name : List ℕ) (ss ts : List KeptSession) → ts ≡ without_kept ss name
-    → state_of p ts ≡ record (state_of p ss) { sessions = without (state_of p ss).sessions name }
+    → seen_desk p ts ≡ record (seen_desk p ss) { sessions = without (seen_desk p ss).sessions name }
 end_done p name ss ts e = ap (with_sessions p) (ap (seen (feature_at p.features)) e ∙ seen_without (feature_at p.features) ss name)
 
 pub end_world : (p : Project) (name : List ℕ) (ss ts : List KeptSession) → ts ≡ without_kept ss name → IsWorld p ss → IsWorld p ts
 end_world p name ss ts e w = record {
-  keeping = ended_keeps name (state_of p ss) (state_of p ts) w.keeping (end_done p name ss ts e);
+  keeping = ended_keeps name (seen_desk p ss) (seen_desk p ts) w.keeping (end_done p name ss ts e);
   may = subst (AllMay p) (sym e) (without_has (MayAll (May p)) ss name w.may);
 }
 
 -- ---- a step is undone, or done again
 step_done : (p q : Project) (name : List ℕ) (s u : KeptSession) (ss ts : List KeptSession) (t : KeptStep)
     → AreAllApart (seen (feature_at p.features) ss) → IsKeptChange name s u ss ts
-    → IsStepUndone (IsGroundSwap poster) t s u p q → IsUndone name (state_of p ss) (state_of q ts)
+    → IsStepUndone (IsGroundSwap poster) t s u p q → IsUndone name (seen_desk p ss) (seen_desk q ts)
 step_done p q name s u ss ts t apart c d =
     let at = feature_at p.features in
     let bt = feature_at q.features in
@@ -88,12 +88,12 @@ step_done p q name s u ss ts t apart c d =
       record { session = b.0; project = d.swap.set },
     )
 
-pub undo_done : (p q : Project) (name : List ℕ) (ss ts : List KeptSession) → IsKeeping (state_of p ss)
-    → calls.IsUndone (IsGroundSwap poster) name ss ts p q → IsUndone name (state_of p ss) (state_of q ts)
+pub undo_done : (p q : Project) (name : List ℕ) (ss ts : List KeptSession) → IsKeeping (seen_desk p ss)
+    → calls.IsUndone (IsGroundSwap poster) name ss ts p q → IsUndone name (seen_desk p ss) (seen_desk q ts)
 undo_done p q name ss ts k d = step_done p q name d.was d.is ss ts d.undone.step k.apart d.change d.undone.undone
 
-pub redo_done : (p q : Project) (name : List ℕ) (ss ts : List KeptSession) → IsKeeping (state_of p ss)
-    → calls.IsRedone (IsGroundSwap poster) name ss ts p q → IsRedone name (state_of p ss) (state_of q ts)
+pub redo_done : (p q : Project) (name : List ℕ) (ss ts : List KeptSession) → IsKeeping (seen_desk p ss)
+    → calls.IsRedone (IsGroundSwap poster) name ss ts p q → IsRedone name (seen_desk p ss) (seen_desk q ts)
 redo_done p q name ss ts k d =
     let at = feature_at p.features in
     let bt = feature_at q.features in
@@ -121,7 +121,7 @@ undo_world p q name ss ts d w =
     let t = d.undone.step in
     let u = d.undone.undone in
     record {
-      keeping = undo_keeps name (state_of p ss) (state_of q ts) w.keeping (undo_done p q name ss ts w.keeping d);
+      keeping = undo_keeps name (seen_desk p ss) (seen_desk q ts) w.keeping (undo_done p q name ss ts w.keeping d);
       may = may_changed p q name d.was d.is ss ts d.change (λ k x. grounds.may_still poster t.handle u.stood t.kept p q k x u.swap)
           (may_undone (May p) (May q) d.was d.is t u.stood (λ k x. grounds.may_still poster t.handle u.stood t.kept p q k x u.swap)
           (λ m. grounds.may_again poster t.handle u.stood t.kept p q m u.swap) u.session
@@ -134,7 +134,7 @@ redo_world p q name ss ts d w =
     let t = d.redone.step in
     let u = d.redone.redone in
     record {
-      keeping = redo_keeps name (state_of p ss) (state_of q ts) w.keeping (redo_done p q name ss ts w.keeping d);
+      keeping = redo_keeps name (seen_desk p ss) (seen_desk q ts) w.keeping (redo_done p q name ss ts w.keeping d);
       may = may_changed p q name d.was d.is ss ts d.change (λ k x. grounds.may_still poster t.handle u.stood t.kept p q k x u.swap)
           (may_redone (May p) (May q) d.was d.is t u.stood (λ k x. grounds.may_still poster t.handle u.stood t.kept p q k x u.swap)
           (λ m. grounds.may_again poster t.handle u.stood t.kept p q m u.swap) u.session
@@ -183,8 +183,8 @@ chain_seen at (t ∷ ts) s u p q ss c h =
     let none = subst (λ xs. Every (λ (o : Session). HoldsNone o t.handle) xs) (sym r) f.0 in
     all_seen (feature_at c.1.features) (feature_at q.features) t.handle ss c.3.swap.set.edit.features.others none ∙ r
 
-pub discard_done : (p q : Project) (name : List ℕ) (ss ts : List KeptSession) → IsKeeping (state_of p ss)
-    → calls.IsDiscarded (IsGroundSwap poster) name ss ts p q → IsDiscarded name (state_of p ss) (state_of q ts)
+pub discard_done : (p q : Project) (name : List ℕ) (ss ts : List KeptSession) → IsKeeping (seen_desk p ss)
+    → calls.IsDiscarded (IsGroundSwap poster) name ss ts p q → IsDiscarded name (seen_desk p ss) (seen_desk q ts)
 discard_done p q name ss ts k d =
     let at = feature_at p.features in
     let s = seen_session at d.was in
@@ -203,18 +203,18 @@ discard_done p q name ss ts k d =
 pub discard_world : (p q : Project) (name : List ℕ) (ss ts : List KeptSession) → calls.IsDiscarded (IsGroundSwap poster) name ss ts p q
     → IsWorld p ss → IsWorld q ts
 discard_world p q name ss ts d w = record {
-  keeping = discard_keeps name (state_of p ss) (state_of q ts) w.keeping (discard_done p q name ss ts w.keeping d);
+  keeping = discard_keeps name (seen_desk p ss) (seen_desk q ts) w.keeping (discard_done p q name ss ts w.keeping d);
   may = subst (AllMay q) (sym d.sessions) (without_has (MayAll (May q)) ss name (all_same p q ss
       (chain_classes d.was.done d.was d.last p q d.undone) (chain_next d.was.done d.was d.last p q d.undone) w.may));
 }
 
 -- a discard that is cut short undoes the last steps
 part_keeps : (name : List ℕ) (ss : List KeptSession) (s : KeptSession) (p : Project) → kept_named ss name ≡ Some s
-    → IsKeeping (state_of p ss) → (ts : List KeptStep) (u : KeptSession) (q : Project) → Chain ts s u p q
-    → IsKeeping (state_of q (with_kept ss u)) × (u.name ≡ s.name)
+    → IsKeeping (seen_desk p ss) → (ts : List KeptStep) (u : KeptSession) (q : Project) → Chain ts s u p q
+    → IsKeeping (seen_desk q (with_kept ss u)) × (u.name ≡ s.name)
 part_keeps name ss s p there k [] u q c =
     let same : with_kept ss u ≡ ss = ap (with_kept ss) c.0 ∙ with_same ss name s there in (
-      subst (λ (r : Project). IsKeeping (state_of r (with_kept ss u))) (sym c.1) (subst (λ xs. IsKeeping (state_of p xs)) (sym same) k),
+      subst (λ (r : Project). IsKeeping (seen_desk r (with_kept ss u))) (sym c.1) (subst (λ xs. IsKeeping (seen_desk p xs)) (sym same) k),
       ap
           (λ (x : KeptSession). x.name) c.0,
     )
@@ -228,7 +228,7 @@ part_keeps name ss s p there k (t ∷ ts) u q c =
           c.3.session.name;
       sessions = sym (with_twice ss m u c.3.session.name);
     } in (
-      undo_keeps name (state_of c.1 (with_kept ss m)) (state_of q (with_kept ss u)) r.0
+      undo_keeps name (seen_desk c.1 (with_kept ss m)) (seen_desk q (with_kept ss u)) r.0
           (step_done c.1 q name m u (with_kept ss m) (with_kept ss u) t r.0.apart change c.3),
       c.3.session.name ∙ r.1,
     )
@@ -239,7 +239,7 @@ part_world p q name ss ts d w =
     let c = d.cut_short in
     let chain : Chain c.undone d.was d.is p q = subst (Chain c.undone d.was d.is p) (sym c.then) c.chain in
     record {
-      keeping = subst (λ xs. IsKeeping (state_of q xs)) (sym d.change.sessions) (part_keeps name ss d.was p d.change.there w.keeping
+      keeping = subst (λ xs. IsKeeping (seen_desk q xs)) (sym d.change.sessions) (part_keeps name ss d.was p d.change.there w.keeping
           c.undone d.is q chain).0;
       may = may_changed p q name d.was d.is ss ts d.change
           (λ k x. may_in p.classes q.classes p.next q.next k x (chain_classes c.undone d.was d.is p q chain)

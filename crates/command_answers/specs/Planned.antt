@@ -23,7 +23,7 @@ use Rattle.fix_tools.specs.declared.fault.FixFault.{FixFault}
 use Rattle.fix_tools.specs.declared.fault.FixFault.TheVariants as fault
 use Rattle.script_terms.specs.Answer.{LeavesNoted, set_step, added_step}
 use Rattle.script_terms.specs.Refusal.{Refusal, Change, NothingToFix, BadShape}
-use Rattle.script_terms.specs.State.{State}
+use Rattle.script_terms.specs.State.{Desk}
 use Rattle.script_terms.specs.Answer.{AreNoted}
 use Rattle.script_terms.specs.Refusing.{refusal_of, held_by}
 use Rattle.script_terms.specs.Reply as replies
@@ -39,9 +39,9 @@ use Rattle.command_answers.specs.Refusals.{SaysRefusal}
 use Rattle.command_answers.specs.declared.fixes.Made.{Made}
 use Rattle.command_answers.specs.declared.fixes.Made.TheVariants as what
 use Rattle.script_terms.proofs.Fixing.{AreFree}
-use Rattle.command_answers.specs.Worlds.{IsWorld, state_of}
+use Rattle.command_answers.specs.Worlds.{IsWorld, seen_desk}
 
-abbrev pub IsEditNoted : List ℕ → Edit → State → State → Type 0
+abbrev pub IsEditNoted : List ℕ → Edit → Desk → Desk → Type 0
 IsEditNoted editor (Put h s) d g =
     let after = reshaped (feature_at d.project.features h) s in
     LeavesNoted editor (set_step d.project h after) (IsFeatureSet h after) d g
@@ -54,7 +54,7 @@ pub record IsReady (editor : List ℕ) (es : List Edit) (p : Project) (ss : List
   pub free : AreFree editor es (seen (feature_at p.features) ss) p.next
   pub possible : IsPossible es p
 
-abbrev pub IsStepped : List ℕ → List Edit → List Edit → State → State → Type 0
+abbrev pub IsStepped : List ℕ → List Edit → List Edit → Desk → Desk → Type 0
 IsStepped editor es fs d g = (e : Edit) × (es ≡ e ∷ fs) × IsEditNoted editor e d g
 
 abbrev pub fix_refusal : FixFault → Option Refusal
@@ -76,13 +76,13 @@ AreReady editor x p ss = MatchResult x (λ es. IsReady editor es p ss) (λ e. Un
 
 abbrev pub IsToldSo : List ℕ → Made → Result (List Edit) FixFault → Project → Project → List KeptSession → List KeptSession → Reply → Type 0
 IsToldSo editor made x p q ss ts r = MatchResult x
-    (λ es. ((p2 : Project) → said_of p2 r ≡ made_reply made (length es) p.next) × AreNoted editor es (state_of p ss) (state_of q ts))
+    (λ es. ((p2 : Project) → said_of p2 r ≡ made_reply made (length es) p.next) × AreNoted editor es (seen_desk p ss) (seen_desk q ts))
     (λ e. SaysRefusal (fix_refusal e) r × (q ≡ p) × (ts ≡ ss))
 
 abbrev pub first_other : List KeptSession → List ℕ → List ℕ → Option Refusal
 first_other ss [] editor = None
 first_other ss (h ∷ hs) editor = first_of (held_by (kept_holder ss h) editor ∷ first_other ss hs editor ∷ [])
 
-abbrev pub IsMoveRefusal : State → List ℕ → Place → Place → Option reply_refusal.Refusal → Type 0
+abbrev pub IsMoveRefusal : Desk → List ℕ → Place → Place → Option reply_refusal.Refusal → Type 0
 IsMoveRefusal d editor from to o = MatchOption o (refusal_of d (Move editor from to) ≡ None)
     (λ r. refusal_of d (Move editor from to) ≡ Some (seen_replies.refusal_of r))

@@ -1,9 +1,10 @@
-ghost use Rattle.std.specs.Prelude.{◌≡◌, ◌⊎◌, ◌<◌, None, true, false, Some, MatchOption, IfOk, IfSome, OnErr, unwrap_or};
+ghost use Rattle.std.specs.Prelude.{◌≡◌, ◌⊎◌, ◌<◌, None, true, false, Some, length, MatchOption, IfOk, IfSome, OnErr, unwrap_or};
 ghost use Rattle.topology_terms.specs.Lookups.{class_number};
 ghost use Rattle.topology_terms.specs.Settled.{IsSettled};
 ghost use Rattle.topology_terms.specs.Sound.{IsSound};
 ghost use Rattle.line_terms.specs.Commands.{Class, Rule, DropRule};
 ghost use Rattle.script_terms.specs.Answer.{Answers};
+ghost use Rattle.script_terms.specs.State.{desk_of};
 ghost use Rattle.topology_terms.specs.Feature.{no_side};
 ghost use Rattle.script_terms.specs.Refusing.{class_of, side_of, row_of, is_nowhere};
 ghost use Rattle.reply_text.specs.Replies.{said_of};
@@ -20,12 +21,14 @@ use topology_terms::Cause;
 impl World {
     /// `class NAME KIND`
     pub(crate) fn answer_class(&mut self, name: Name, kind: Kind) -> Result<Reply, NoMemory>
-        ensures answers { IfOk result (λ r. Answers self.old (Class name kind) (said_of self.new.project r) self.new) }
+        requires alone { length self.old.aside.others ≡ 0 }
+        ensures answers { IfOk result (λ r. Answers (desk_of self.old) (Class name kind) (said_of self.new.project r) (desk_of self.new)) }
         ensures sound { IsSound self.old.project → IsSound self.new.project }
         ensures settled { IsSettled self.old.project → IsSettled self.new.project }
+        ensures aside { self.new.aside ≡ self.old.aside }
         ensures err { OnErr result (self.new ≡ self.old) }
     {
-        reply_to_class(self.topology.add_class(name, kind))
+        reply_to_class(self.tree.add_class(name, kind))
     }
 
     // The side that a line names, where the class is there.
@@ -35,7 +38,7 @@ impl World {
         ensures there { IfSome result (λ s. class_number self.now.project named.now.name ≡ Some s.class) }
         ensures from_1 { IfSome result (λ s. 0 < s.class) }
     {
-        let class = self.topology.store().class_by_name(&named.name)?;
+        let class = self.tree.current().store().class_by_name(&named.name)?;
         Some(Side {
             class,
             subtype: named.subtype,
@@ -75,25 +78,29 @@ impl World {
         origin: &Sided,
         dest: &Option<Sided>,
     ) -> Result<Reply, NoMemory>
-        ensures answers { IfOk result (λ r. Answers self.old (Rule kind origin.now dest.now) (said_of self.new.project r) self.new) }
+        requires alone { length self.old.aside.others ≡ 0 }
+        ensures answers { IfOk result (λ r. Answers (desk_of self.old) (Rule kind origin.now dest.now) (said_of self.new.project r) (desk_of self.new)) }
         ensures sound { IsSound self.old.project → IsSound self.new.project }
         ensures settled { IsSettled self.old.project → IsSettled self.new.project }
+        ensures aside { self.new.aside ≡ self.old.aside }
         ensures err { OnErr result (self.new ≡ self.old) }
     {
         let Some(row) = self.row_of(kind, origin, dest) else {
             return Ok(Reply::Refused(Refusal::Change(Cause::NoClass)));
         };
-        reply_to_rule(self.topology.add_rule(row))
+        reply_to_rule(self.tree.add_rule(row))
     }
 
     /// `droprule R`
     #[tactic(auto, using(crate::proofs::Answering::rule_dropped, crate::proofs::Answering::no_rule))]
     pub(crate) fn answer_drop_rule(&mut self, number: u16) -> Reply
-        ensures answers { Answers self.old (DropRule number) (said_of self.new.project result) self.new }
+        requires alone { length self.old.aside.others ≡ 0 }
+        ensures answers { Answers (desk_of self.old) (DropRule number) (said_of self.new.project result) (desk_of self.new) }
         ensures sound { IsSound self.old.project → IsSound self.new.project }
         ensures settled { IsSettled self.old.project → IsSettled self.new.project }
+        ensures aside { self.new.aside ≡ self.old.aside }
     {
-        match self.topology.drop_rule(number) {
+        match self.tree.drop_rule(number) {
             Ok(()) => Reply::Done,
             Err(_) => Reply::Refused(Refusal::Change(Cause::NoRule)),
         }

@@ -6,7 +6,7 @@ ghost use Rattle.session_terms.specs.KeptChanges.{kept_holder};
 ghost use Rattle.script_terms.specs.Answer.{Answers};
 ghost use Rattle.script_terms.specs.Refusal as refusals;
 ghost use Rattle.script_terms.specs.Refusing.{held_by, refusal_of};
-ghost use Rattle.script_terms.specs.State.{is_open};
+ghost use Rattle.script_terms.specs.State.{desk_of, is_open};
 ghost use Rattle.reply_text.specs.Replies.{said_of};
 ghost use Rattle.reply_text.specs.Replies as seen;
 
@@ -40,7 +40,7 @@ impl World {
     /// Whether the session of this editor is open.
     #[tactic(auto, using(crate::proofs::KeptLists::open_seen))]
     pub(crate) fn is_open(&self, editor: &Name) -> bool
-        ensures { result ≡ is_open self.now editor.now }
+        ensures { result ≡ is_open (desk_of self.now) editor.now }
     {
         self.sessions.is_open(editor)
     }
@@ -48,13 +48,13 @@ impl World {
     // Why this editor does not change the feature, whatever the change: no session, no feature, or another session holds it.
     #[tactic(auto, using(crate::proofs::SessionLines::edit_free, crate::proofs::SessionLines::edit_held, crate::proofs::SessionLines::edit_absent))]
     pub(crate) fn edit_refusal(&self, editor: &Name, handle: u32) -> Option<Refusal>
-        ensures { MatchOption result (refusal_of self.now (Delete editor.now handle) ≡ None)
-            (λ r. refusal_of self.now (Delete editor.now handle) ≡ Some (seen.refusal_of r)) }
+        ensures { MatchOption result (refusal_of (desk_of self.now) (Delete editor.now handle) ≡ None)
+            (λ r. refusal_of (desk_of self.now) (Delete editor.now handle) ≡ Some (seen.refusal_of r)) }
     {
         if !self.is_open(editor) {
             return Some(Refusal::NoSession);
         }
-        let Some(_) = self.topology.store().get(handle) else {
+        let Some(_) = self.tree.current().store().get(handle) else {
             return Some(Refusal::Change(Cause::NoFeature));
         };
         let holder = other_holder(&self.sessions, editor, handle)?;
@@ -63,9 +63,10 @@ impl World {
 
     /// `begin EDITOR`
     pub(crate) fn answer_begin(&mut self, editor: Name) -> Result<Reply, NoMemory>
-        ensures answers { IfOk result (λ r. Answers self.old (Begin editor) (said_of self.new.project r) self.new) }
+        ensures answers { IfOk result (λ r. Answers (desk_of self.old) (Begin editor) (said_of self.new.project r) (desk_of self.new)) }
         ensures sound { IsSound self.old.project → IsSound self.new.project }
         ensures settled { IsSettled self.old.project → IsSettled self.new.project }
+        ensures aside { self.new.aside ≡ self.old.aside }
         ensures err { OnErr result (self.new ≡ self.old) }
     {
         reply_to_session(self.sessions.begin(editor))
@@ -73,9 +74,10 @@ impl World {
 
     /// `end EDITOR`
     pub(crate) fn answer_end(&mut self, editor: &Name) -> Result<Reply, NoMemory>
-        ensures answers { IfOk result (λ r. Answers self.old (End editor.now) (said_of self.new.project r) self.new) }
+        ensures answers { IfOk result (λ r. Answers (desk_of self.old) (End editor.now) (said_of self.new.project r) (desk_of self.new)) }
         ensures sound { IsSound self.old.project → IsSound self.new.project }
         ensures settled { IsSettled self.old.project → IsSettled self.new.project }
+        ensures aside { self.new.aside ≡ self.old.aside }
         ensures err { OnErr result (self.new ≡ self.old) }
     {
         reply_to_session(self.sessions.end(editor))
@@ -83,30 +85,33 @@ impl World {
 
     /// `discard EDITOR`. If memory runs out, the session's last steps may be undone, and it stays open.
     pub(crate) fn answer_discard(&mut self, editor: &Name) -> Result<Reply, NoMemory>
-        ensures answers { IfOk result (λ r. Answers self.old (Discard editor.now) (said_of self.new.project r) self.new) }
+        ensures answers { IfOk result (λ r. Answers (desk_of self.old) (Discard editor.now) (said_of self.new.project r) (desk_of self.new)) }
         ensures sound { IsSound self.old.project → IsSound self.new.project }
         ensures settled { IsSettled self.old.project → IsSettled self.new.project }
+        ensures aside { self.new.aside ≡ self.old.aside }
     {
-        reply_to_session(self.sessions.discard(editor, &mut self.topology))
+        reply_to_session(self.sessions.discard(editor, &mut self.tree))
     }
 
     /// `by EDITOR undo`
     pub(crate) fn answer_undo(&mut self, editor: &Name) -> Result<Reply, NoMemory>
-        ensures answers { IfOk result (λ r. Answers self.old (Undo editor.now) (said_of self.new.project r) self.new) }
+        ensures answers { IfOk result (λ r. Answers (desk_of self.old) (Undo editor.now) (said_of self.new.project r) (desk_of self.new)) }
         ensures sound { IsSound self.old.project → IsSound self.new.project }
         ensures settled { IsSettled self.old.project → IsSettled self.new.project }
+        ensures aside { self.new.aside ≡ self.old.aside }
         ensures err { OnErr result (self.new ≡ self.old) }
     {
-        reply_to_session(self.sessions.undo(editor, &mut self.topology))
+        reply_to_session(self.sessions.undo(editor, &mut self.tree))
     }
 
     /// `by EDITOR redo`
     pub(crate) fn answer_redo(&mut self, editor: &Name) -> Result<Reply, NoMemory>
-        ensures answers { IfOk result (λ r. Answers self.old (Redo editor.now) (said_of self.new.project r) self.new) }
+        ensures answers { IfOk result (λ r. Answers (desk_of self.old) (Redo editor.now) (said_of self.new.project r) (desk_of self.new)) }
         ensures sound { IsSound self.old.project → IsSound self.new.project }
         ensures settled { IsSettled self.old.project → IsSettled self.new.project }
+        ensures aside { self.new.aside ≡ self.old.aside }
         ensures err { OnErr result (self.new ≡ self.old) }
     {
-        reply_to_session(self.sessions.redo(editor, &mut self.topology))
+        reply_to_session(self.sessions.redo(editor, &mut self.tree))
     }
 }

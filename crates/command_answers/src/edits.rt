@@ -3,6 +3,7 @@ ghost use Rattle.topology_terms.specs.Settled.{IsSettled};
 ghost use Rattle.topology_terms.specs.Sound.{IsSound};
 ghost use Rattle.line_terms.specs.Commands.{Add, Change, Delete, Retype, Validate};
 ghost use Rattle.script_terms.specs.Answer.{Answers};
+ghost use Rattle.script_terms.specs.State.{desk_of};
 ghost use Rattle.reply_text.specs.Replies.{said_of};
 
 use crate::noted::{add_noted, change_noted, delete_noted, retype_noted};
@@ -43,21 +44,22 @@ impl World {
         own: &Sided,
         shape: Shape,
     ) -> Result<Reply, NoMemory>
-        ensures answers { IfOk result (λ r. Answers self.old (Add editor.now own.now shape) (said_of self.new.project r) self.new) }
+        ensures answers { IfOk result (λ r. Answers (desk_of self.old) (Add editor.now own.now shape) (said_of self.new.project r) (desk_of self.new)) }
         ensures sound { IsSound self.old.project → IsSound self.new.project }
         ensures settled { IsSettled self.old.project → IsSettled self.new.project }
+        ensures aside { self.new.aside ≡ self.old.aside }
         ensures err { OnErr result (self.new ≡ self.old) }
     {
         if !self.is_open(editor) {
             return Ok(Reply::Refused(Refusal::NoSession));
         }
-        let Some(class) = self.topology.store().class_by_name(&own.name) else {
+        let Some(class) = self.tree.current().store().class_by_name(&own.name) else {
             return Ok(Reply::Refused(Refusal::Change(Cause::NoClass)));
         };
-        self.topology.topology_law();
+        self.tree.current_law();
         let subtype = subtype_of(own);
         reply_to_add(add_noted(
-            &mut self.topology,
+            &mut self.tree,
             &mut self.sessions,
             editor,
             class,
@@ -74,39 +76,33 @@ impl World {
         handle: u32,
         shape: Shape,
     ) -> Result<Reply, NoMemory>
-        ensures answers { IfOk result (λ r. Answers self.old (Change editor.now handle shape) (said_of self.new.project r) self.new) }
+        ensures answers { IfOk result (λ r. Answers (desk_of self.old) (Change editor.now handle shape) (said_of self.new.project r) (desk_of self.new)) }
         ensures sound { IsSound self.old.project → IsSound self.new.project }
         ensures settled { IsSettled self.old.project → IsSettled self.new.project }
+        ensures aside { self.new.aside ≡ self.old.aside }
         ensures err { OnErr result (self.new ≡ self.old) }
     {
         if let Some(refusal) = self.edit_refusal(editor, handle) {
             return Ok(Reply::Refused(refusal));
         }
-        self.topology.topology_law();
-        self.topology.order_law();
-        reply_to_change(change_noted(
-            &mut self.topology,
-            &mut self.sessions,
-            editor,
-            handle,
-            shape,
-        ))
+        self.tree.current_law();
+        reply_to_change(change_noted(&mut self.tree, &mut self.sessions, editor, handle, shape))
     }
 
     /// `by EDITOR delete H`
     #[tactic(auto, using(crate::proofs::Answering::delete_stopped))]
     pub(crate) fn answer_delete(&mut self, editor: &Name, handle: u32) -> Result<Reply, NoMemory>
-        ensures answers { IfOk result (λ r. Answers self.old (Delete editor.now handle) (said_of self.new.project r) self.new) }
+        ensures answers { IfOk result (λ r. Answers (desk_of self.old) (Delete editor.now handle) (said_of self.new.project r) (desk_of self.new)) }
         ensures sound { IsSound self.old.project → IsSound self.new.project }
         ensures settled { IsSettled self.old.project → IsSettled self.new.project }
+        ensures aside { self.new.aside ≡ self.old.aside }
         ensures err { OnErr result (self.new ≡ self.old) }
     {
         if let Some(refusal) = self.edit_refusal(editor, handle) {
             return Ok(Reply::Refused(refusal));
         }
-        self.topology.topology_law();
-        self.topology.order_law();
-        reply_to_change(delete_noted(&mut self.topology, &mut self.sessions, editor, handle))
+        self.tree.current_law();
+        reply_to_change(delete_noted(&mut self.tree, &mut self.sessions, editor, handle))
     }
 
     /// `by EDITOR retype H SUBTYPE`
@@ -117,36 +113,31 @@ impl World {
         handle: u32,
         subtype: u8,
     ) -> Result<Reply, NoMemory>
-        ensures answers { IfOk result (λ r. Answers self.old (Retype editor.now handle subtype) (said_of self.new.project r) self.new) }
+        ensures answers { IfOk result (λ r. Answers (desk_of self.old) (Retype editor.now handle subtype) (said_of self.new.project r) (desk_of self.new)) }
         ensures sound { IsSound self.old.project → IsSound self.new.project }
         ensures settled { IsSettled self.old.project → IsSettled self.new.project }
+        ensures aside { self.new.aside ≡ self.old.aside }
         ensures err { OnErr result (self.new ≡ self.old) }
     {
         if let Some(refusal) = self.edit_refusal(editor, handle) {
             return Ok(Reply::Refused(refusal));
         }
-        self.topology.topology_law();
-        self.topology.order_law();
-        reply_to_change(retype_noted(
-            &mut self.topology,
-            &mut self.sessions,
-            editor,
-            handle,
-            subtype,
-        ))
+        self.tree.current_law();
+        reply_to_change(retype_noted(&mut self.tree, &mut self.sessions, editor, handle, subtype))
     }
 
     /// `validate X0 Y0 X1 Y1`, and `validate all`
     #[tactic(auto, using(crate::proofs::Answering::validated))]
     pub(crate) fn answer_validate(&mut self, window: Rect) -> Result<Reply, NoMemory>
-        ensures answers { IfOk result (λ r. Answers self.old (Validate window) (said_of self.new.project r) self.new) }
+        ensures answers { IfOk result (λ r. Answers (desk_of self.old) (Validate window) (said_of self.new.project r) (desk_of self.new)) }
         ensures sound { IsSound self.old.project → IsSound self.new.project }
         ensures settled { IsSettled self.old.project → IsSettled self.new.project }
+        ensures aside { self.new.aside ≡ self.old.aside }
         ensures err { OnErr result (self.new ≡ self.old) }
     {
-        self.topology.topology_law();
-        self.topology.store().next_handle();
+        self.tree.current_law();
+        self.tree.current().store().next_handle();
         begin_count(&mut self.work);
-        Ok(Reply::Judged(self.topology.validate(window, &mut self.work)?))
+        Ok(Reply::Judged(self.tree.validate(window, &mut self.work)?))
     }
 }

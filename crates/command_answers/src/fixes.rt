@@ -6,6 +6,8 @@ ghost use Rattle.topology_terms.specs.Sound.{IsSound};
 ghost use Rattle.line_terms.specs.Commands as commands;
 ghost use Rattle.script_terms.specs.Answer.{Answers};
 ghost use Rattle.script_terms.specs.Refusal as refusals;
+ghost use Rattle.script_terms.specs.State.{desk_of};
+ghost use Rattle.version_terms.specs.VersionChanges.{IsAside};
 ghost use Rattle.reply_text.specs.Replies.{said_of};
 ghost use Rattle.command_answers.specs.Refusals.{SaysRefusal};
 ghost use Rattle.command_answers.specs.Worlds.{IsWorld};
@@ -20,8 +22,8 @@ use grid_plane::{GridPoint, Name, NoMemory};
 use reply_text::{Refusal, Reply};
 use rule_core::InForce;
 use rules::PosterRules;
-use topo_core::Topology;
 use topology_terms::Cause;
+use version_tree::Tree;
 
 /// What a fix is answered that is done.
 #[derive(Clone, Copy)]
@@ -96,29 +98,30 @@ fn first_holder(sessions: &Sessions, editor: &Name, handles: &[u32]) -> Option<N
 }
 
 // Does a plan, if there is one, and answers what was made; or why there is none. If memory runs out, the first edits may be done.
+#[tactic(auto, using(crate::proofs::Trees::aside_self))]
 fn do_planned(
-    topology: &mut Topology<PosterRules>,
+    tree: &mut Tree<PosterRules>,
     sessions: &mut Sessions,
     editor: &Name,
     planned: Result<Plan, FixFault>,
     made: Made,
 ) -> Result<Reply, NoMemory>
-    requires world { IsWorld topology.old sessions.old }
-    requires ready { AreReady editor.now planned topology.old sessions.old }
-    ensures told { IfOk result (IsToldSo editor.now made planned topology.old topology.new sessions.old sessions.new) }
-    ensures world { IsWorld topology.new sessions.new }
-    ensures ordered { OnOk result (IsOrdered topology.new) }
-    ensures sound { IsSound topology.old → IsSound topology.new }
-    ensures settled { IsSettled topology.old → IsSettled topology.new }
+    requires world { IsWorld tree.old.current.project sessions.old }
+    requires ready { AreReady editor.now planned tree.old.current.project sessions.old }
+    ensures told { IfOk result (IsToldSo editor.now made planned tree.old.current.project tree.new.current.project sessions.old sessions.new) }
+    ensures world { IsWorld tree.new.current.project sessions.new }
+    ensures ordered { OnOk result (IsOrdered tree.new.current.project) }
+    ensures sound { IsSound tree.old.current.project → IsSound tree.new.current.project }
+    ensures settled { IsSettled tree.old.current.project → IsSettled tree.new.current.project }
+    ensures aside { IsAside tree.old tree.new }
 {
-    topology.topology_law();
-    topology.order_law();
+    tree.current_law();
     match planned {
         Ok(plan) => {
             let mut plan = plan;
             let count = plan.len();
-            let next = topology.store().next_handle();
-            do_plan(topology, sessions, editor, &mut plan)?;
+            let next = tree.current().store().next_handle();
+            do_plan(tree, sessions, editor, &mut plan)?;
             Ok(reply_of(made, count, next))
         }
         Err(fault) => refused_fix(fault),
@@ -129,17 +132,23 @@ impl World {
     /// `by EDITOR explode H`. If memory runs out, some of the parts may be features already.
     #[tactic(auto, using(crate::proofs::Fixing::explode_stopped))]
     pub(crate) fn answer_explode(&mut self, editor: &Name, handle: u32) -> Result<Reply, NoMemory>
-        ensures answers { IfOk result (λ r. Answers self.old (commands.Explode editor.now handle) (said_of self.new.project r) self.new) }
+        ensures answers { IfOk result (λ r. Answers (desk_of self.old) (commands.Explode editor.now handle) (said_of self.new.project r) (desk_of self.new)) }
         ensures sound { IsSound self.old.project → IsSound self.new.project }
         ensures settled { IsSettled self.old.project → IsSettled self.new.project }
+        ensures aside { self.new.aside ≡ self.old.aside }
     {
         if let Some(refusal) = self.edit_refusal(editor, handle) {
             return Ok(Reply::Refused(refusal));
         }
-        self.topology.topology_law();
-        self.topology.order_law();
-        let planned = explode(self.alloc, &self.topology, handle);
-        do_planned(&mut self.topology, &mut self.sessions, editor, planned, Made::Parts)
+        self.tree.current_law();
+        let planned = explode(self.alloc, self.tree.current(), handle);
+        do_planned(
+            &mut self.tree,
+            &mut self.sessions,
+            editor,
+            planned,
+            Made::Parts,
+        )
     }
 
     /// `by EDITOR snap R H END X Y`
@@ -152,23 +161,29 @@ impl World {
         end: u32,
         to: GridPoint,
     ) -> Result<Reply, NoMemory>
-        ensures answers { IfOk result (λ r. Answers self.old (commands.Snap editor.now rule handle end to) (said_of self.new.project r) self.new) }
+        ensures answers { IfOk result (λ r. Answers (desk_of self.old) (commands.Snap editor.now rule handle end to) (said_of self.new.project r) (desk_of self.new)) }
         ensures sound { IsSound self.old.project → IsSound self.new.project }
         ensures settled { IsSettled self.old.project → IsSettled self.new.project }
+        ensures aside { self.new.aside ≡ self.old.aside }
     {
         if !self.is_open(editor) {
             return Ok(Reply::Refused(Refusal::NoSession));
         }
-        self.topology.topology_law();
-        self.topology.order_law();
-        if !is_in_force(self.topology.rules(), rule) {
+        self.tree.current_law();
+        if !is_in_force(self.tree.current().rules(), rule) {
             return Ok(Reply::Refused(Refusal::Change(Cause::NoRule)));
         }
         if let Some(refusal) = self.edit_refusal(editor, handle) {
             return Ok(Reply::Refused(refusal));
         }
-        let planned = snap(self.alloc, &self.topology, rule, handle, end, to);
-        do_planned(&mut self.topology, &mut self.sessions, editor, planned, Made::Done)
+        let planned = snap(self.alloc, self.tree.current(), rule, handle, end, to);
+        do_planned(
+            &mut self.tree,
+            &mut self.sessions,
+            editor,
+            planned,
+            Made::Done,
+        )
     }
 
     /// `by EDITOR create R H X Y`
@@ -180,18 +195,24 @@ impl World {
         handle: u32,
         at: GridPoint,
     ) -> Result<Reply, NoMemory>
-        ensures answers { IfOk result (λ r. Answers self.old (commands.Create editor.now rule handle at) (said_of self.new.project r) self.new) }
+        ensures answers { IfOk result (λ r. Answers (desk_of self.old) (commands.Create editor.now rule handle at) (said_of self.new.project r) (desk_of self.new)) }
         ensures sound { IsSound self.old.project → IsSound self.new.project }
         ensures settled { IsSettled self.old.project → IsSettled self.new.project }
+        ensures aside { self.new.aside ≡ self.old.aside }
     {
         if !self.is_open(editor) {
             return Ok(Reply::Refused(Refusal::NoSession));
         }
-        self.topology.topology_law();
-        self.topology.order_law();
-        self.topology.store().next_handle();
-        let planned = create(self.alloc, &self.topology, rule, handle, at);
-        do_planned(&mut self.topology, &mut self.sessions, editor, planned, Made::Handle)
+        self.tree.current_law();
+        self.tree.current().store().next_handle();
+        let planned = create(self.alloc, self.tree.current(), rule, handle, at);
+        do_planned(
+            &mut self.tree,
+            &mut self.sessions,
+            editor,
+            planned,
+            Made::Handle,
+        )
     }
 
     // Why this editor does not move the vertices at a place: no session, nothing to move, or another session holds a feature there.
@@ -201,12 +222,12 @@ impl World {
         from: GridPoint,
         to: GridPoint,
     ) -> Result<Option<Refusal>, NoMemory>
-        ensures { IfOk result (IsMoveRefusal self.now editor.now from to) }
+        ensures { IfOk result (IsMoveRefusal (desk_of self.now) editor.now from to) }
     {
         if !self.is_open(editor) {
             return Ok(Some(Refusal::NoSession));
         }
-        let handles = touched(self.alloc, &self.topology, from)?;
+        let handles = touched(self.alloc, self.tree.current(), from)?;
         if is_same_place(to, from) || handles.len() == 0 {
             return Ok(Some(Refusal::NothingToFix));
         }
@@ -224,17 +245,23 @@ impl World {
         from: GridPoint,
         to: GridPoint,
     ) -> Result<Reply, NoMemory>
-        ensures answers { IfOk result (λ r. Answers self.old (commands.Move editor.now from to) (said_of self.new.project r) self.new) }
+        ensures answers { IfOk result (λ r. Answers (desk_of self.old) (commands.Move editor.now from to) (said_of self.new.project r) (desk_of self.new)) }
         ensures sound { IsSound self.old.project → IsSound self.new.project }
         ensures settled { IsSettled self.old.project → IsSettled self.new.project }
+        ensures aside { self.new.aside ≡ self.old.aside }
     {
         let told = self.move_refusal(editor, from, to)?;
         if let Some(refusal) = told {
             return Ok(Reply::Refused(refusal));
         }
-        self.topology.topology_law();
-        self.topology.order_law();
-        let planned = move_all(self.alloc, &self.topology, from, to);
-        do_planned(&mut self.topology, &mut self.sessions, editor, planned, Made::Moved)
+        self.tree.current_law();
+        let planned = move_all(self.alloc, self.tree.current(), from, to);
+        do_planned(
+            &mut self.tree,
+            &mut self.sessions,
+            editor,
+            planned,
+            Made::Moved,
+        )
     }
 }

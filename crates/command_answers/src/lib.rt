@@ -7,10 +7,11 @@ mod corners;
 mod editors;
 mod edits;
 mod fixes;
-mod planned;
 mod marks;
 mod noted;
+mod planned;
 mod refused;
+mod versions;
 mod world;
 
 pub use answer::one_answer_law;

@@ -8,13 +8,15 @@ ghost use Rattle.topology_terms.specs.Sound.{IsSound};
 ghost use Rattle.topo_core.specs.Faults.{edit_cause};
 ghost use Rattle.edit_session.specs.Faults.{HasRoom};
 ghost use Rattle.edit_session.specs.SessionsCalls.{IsRoomMade, IsNoted};
+ghost use Rattle.version_terms.specs.VersionChanges.{IsAside};
 ghost use Rattle.command_answers.specs.Worlds.{IsRoomAlone};
 
 use edit_session::{Sessions, Step};
 use grid_plane::{Name, NoMemory};
 use rules::PosterRules;
 use shape::Shape;
-use topo_core::{ChangeFault, Topology};
+use topo_core::ChangeFault;
+use version_tree::Tree;
 
 // Makes room for a step of the open session of this editor.
 fn make_room(sessions: &mut Sessions, editor: &Name) -> Result<(), NoMemory>
@@ -31,24 +33,25 @@ fn make_room(sessions: &mut Sessions, editor: &Name) -> Result<(), NoMemory>
 /// Changes a feature, and notes the step. There is room for the step before the change.
 #[tactic(auto, using(crate::proofs::Noting::room_noted))]
 pub fn change_noted(
-    topology: &mut Topology<PosterRules>,
+    tree: &mut Tree<PosterRules>,
     sessions: &mut Sessions,
     editor: &Name,
     handle: u32,
     shape: Shape,
 ) -> Result<(), ChangeFault>
-    ensures ok { OnOk result (IsFeatureSet handle (reshaped (feature_at topology.old.features handle) shape) topology.old topology.new) }
-    ensures noted { OnOk result (IsNoted editor.now (record { handle = handle; kept = feature_at topology.old.features handle }) sessions.old sessions.new) }
-    ensures live { OnOk result ((f : terms.Feature) × (feature_at topology.old.features handle ≡ Some f)) }
-    ensures may { OnOk result (change_cause topology.old.features handle shape.kind ≡ None) }
-    ensures refused { IfErr result (λ e. Tells (edit_cause e) (change_cause topology.old.features handle shape.kind)) }
-    ensures sound { IsSound topology.old → IsSound topology.new }
-    ensures settled { IsSettled topology.old → IsSettled topology.new }
-    ensures err { OnErr result (topology.new ≡ topology.old) }
+    ensures ok { OnOk result (IsFeatureSet handle (reshaped (feature_at tree.old.current.project.features handle) shape) tree.old.current.project tree.new.current.project) }
+    ensures noted { OnOk result (IsNoted editor.now (record { handle = handle; kept = feature_at tree.old.current.project.features handle }) sessions.old sessions.new) }
+    ensures live { OnOk result ((f : terms.Feature) × (feature_at tree.old.current.project.features handle ≡ Some f)) }
+    ensures may { OnOk result (change_cause tree.old.current.project.features handle shape.kind ≡ None) }
+    ensures refused { IfErr result (λ e. Tells (edit_cause e) (change_cause tree.old.current.project.features handle shape.kind)) }
+    ensures sound { IsSound tree.old.current.project → IsSound tree.new.current.project }
+    ensures settled { IsSettled tree.old.current.project → IsSettled tree.new.current.project }
+    ensures aside { IsAside tree.old tree.new }
+    ensures err { OnErr result (tree.new ≡ tree.old) }
     ensures room { OnErr result (IsRoomAlone editor.now sessions.old sessions.new) }
 {
     make_room(sessions, editor)?;
-    let was = topology.change(handle, shape)?;
+    let was = tree.change(handle, shape)?;
     sessions.note_in(editor, Step::new(handle, Some(was)));
     Ok(())
 }
@@ -56,23 +59,24 @@ pub fn change_noted(
 /// Sets the subtype of a feature, and notes the step. There is room for the step before the change.
 #[tactic(auto, using(crate::proofs::Noting::room_noted))]
 pub fn retype_noted(
-    topology: &mut Topology<PosterRules>,
+    tree: &mut Tree<PosterRules>,
     sessions: &mut Sessions,
     editor: &Name,
     handle: u32,
     subtype: u8,
 ) -> Result<(), ChangeFault>
-    ensures ok { OnOk result (IsFeatureSet handle (retyped (feature_at topology.old.features handle) subtype) topology.old topology.new) }
-    ensures noted { OnOk result (IsNoted editor.now (record { handle = handle; kept = feature_at topology.old.features handle }) sessions.old sessions.new) }
-    ensures live { OnOk result ((f : terms.Feature) × (feature_at topology.old.features handle ≡ Some f)) }
-    ensures refused { IfErr result (λ e. Tells (edit_cause e) (delete_cause topology.old.features handle)) }
-    ensures sound { IsSound topology.old → IsSound topology.new }
-    ensures settled { IsSettled topology.old → IsSettled topology.new }
-    ensures err { OnErr result (topology.new ≡ topology.old) }
+    ensures ok { OnOk result (IsFeatureSet handle (retyped (feature_at tree.old.current.project.features handle) subtype) tree.old.current.project tree.new.current.project) }
+    ensures noted { OnOk result (IsNoted editor.now (record { handle = handle; kept = feature_at tree.old.current.project.features handle }) sessions.old sessions.new) }
+    ensures live { OnOk result ((f : terms.Feature) × (feature_at tree.old.current.project.features handle ≡ Some f)) }
+    ensures refused { IfErr result (λ e. Tells (edit_cause e) (delete_cause tree.old.current.project.features handle)) }
+    ensures sound { IsSound tree.old.current.project → IsSound tree.new.current.project }
+    ensures settled { IsSettled tree.old.current.project → IsSettled tree.new.current.project }
+    ensures aside { IsAside tree.old tree.new }
+    ensures err { OnErr result (tree.new ≡ tree.old) }
     ensures room { OnErr result (IsRoomAlone editor.now sessions.old sessions.new) }
 {
     make_room(sessions, editor)?;
-    let was = topology.retype(handle, subtype)?;
+    let was = tree.retype(handle, subtype)?;
     sessions.note_in(editor, Step::new(handle, Some(was)));
     Ok(())
 }
@@ -80,22 +84,23 @@ pub fn retype_noted(
 /// Takes a feature away, and notes the step. There is room for the step before the change.
 #[tactic(auto, using(crate::proofs::Noting::room_noted))]
 pub fn delete_noted(
-    topology: &mut Topology<PosterRules>,
+    tree: &mut Tree<PosterRules>,
     sessions: &mut Sessions,
     editor: &Name,
     handle: u32,
 ) -> Result<(), ChangeFault>
-    ensures ok { OnOk result (IsFeatureSet handle None topology.old topology.new) }
-    ensures noted { OnOk result (IsNoted editor.now (record { handle = handle; kept = feature_at topology.old.features handle }) sessions.old sessions.new) }
-    ensures live { OnOk result ((f : terms.Feature) × (feature_at topology.old.features handle ≡ Some f)) }
-    ensures refused { IfErr result (λ e. Tells (edit_cause e) (delete_cause topology.old.features handle)) }
-    ensures sound { IsSound topology.old → IsSound topology.new }
-    ensures settled { IsSettled topology.old → IsSettled topology.new }
-    ensures err { OnErr result (topology.new ≡ topology.old) }
+    ensures ok { OnOk result (IsFeatureSet handle None tree.old.current.project tree.new.current.project) }
+    ensures noted { OnOk result (IsNoted editor.now (record { handle = handle; kept = feature_at tree.old.current.project.features handle }) sessions.old sessions.new) }
+    ensures live { OnOk result ((f : terms.Feature) × (feature_at tree.old.current.project.features handle ≡ Some f)) }
+    ensures refused { IfErr result (λ e. Tells (edit_cause e) (delete_cause tree.old.current.project.features handle)) }
+    ensures sound { IsSound tree.old.current.project → IsSound tree.new.current.project }
+    ensures settled { IsSettled tree.old.current.project → IsSettled tree.new.current.project }
+    ensures aside { IsAside tree.old tree.new }
+    ensures err { OnErr result (tree.new ≡ tree.old) }
     ensures room { OnErr result (IsRoomAlone editor.now sessions.old sessions.new) }
 {
     make_room(sessions, editor)?;
-    let was = topology.delete(handle)?;
+    let was = tree.delete(handle)?;
     sessions.note_in(editor, Step::new(handle, Some(was)));
     Ok(())
 }
@@ -103,24 +108,25 @@ pub fn delete_noted(
 /// Adds a feature, and notes the step. There is room for the step before the change.
 #[tactic(auto, using(crate::proofs::Noting::room_noted))]
 pub fn add_noted(
-    topology: &mut Topology<PosterRules>,
+    tree: &mut Tree<PosterRules>,
     sessions: &mut Sessions,
     editor: &Name,
     class: u16,
     subtype: u8,
     shape: Shape,
 ) -> Result<u32, ChangeFault>
-    ensures ok { IfOk result (λ h. IsFeatureAdded class subtype shape h topology.old topology.new) }
+    ensures ok { IfOk result (λ h. IsFeatureAdded class subtype shape h tree.old.current.project tree.new.current.project) }
     ensures noted { IfOk result (λ h. IsNoted editor.now (record { handle = h; kept = None }) sessions.old sessions.new) }
-    ensures may { OnOk result (add_cause topology.old.classes topology.old.next class shape.kind ≡ None) }
-    ensures refused { IfErr result (λ e. Tells (edit_cause e) (add_cause topology.old.classes topology.old.next class shape.kind)) }
-    ensures sound { IsSound topology.old → IsSound topology.new }
-    ensures settled { IsSettled topology.old → IsSettled topology.new }
-    ensures err { OnErr result (topology.new ≡ topology.old) }
+    ensures may { OnOk result (add_cause tree.old.current.project.classes tree.old.current.project.next class shape.kind ≡ None) }
+    ensures refused { IfErr result (λ e. Tells (edit_cause e) (add_cause tree.old.current.project.classes tree.old.current.project.next class shape.kind)) }
+    ensures sound { IsSound tree.old.current.project → IsSound tree.new.current.project }
+    ensures settled { IsSettled tree.old.current.project → IsSettled tree.new.current.project }
+    ensures aside { IsAside tree.old tree.new }
+    ensures err { OnErr result (tree.new ≡ tree.old) }
     ensures room { OnErr result (IsRoomAlone editor.now sessions.old sessions.new) }
 {
     make_room(sessions, editor)?;
-    let handle = topology.add_typed(class, subtype, shape)?;
+    let handle = tree.add_typed(class, subtype, shape)?;
     sessions.note_in(editor, Step::new(handle, None));
     Ok(handle)
 }

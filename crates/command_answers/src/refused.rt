@@ -1,14 +1,16 @@
 ghost use Rattle.std.specs.Prelude.{◌≡◌, None, Err, IfOk, OnErr, MatchResult};
 ghost use Rattle.topology_terms.specs.Project.{Project};
 ghost use Rattle.script_terms.specs.Refusal.{Change};
-ghost use Rattle.script_terms.specs.Reply.{Done, Number, Refused};
+ghost use Rattle.script_terms.specs.Reply as replies;
+ghost use Rattle.script_terms.specs.Reply.{Done, Number, Posted, Refused};
+ghost use Rattle.version_tree.specs.declared.fault.TreeFault.{TreeFault};
 ghost use Rattle.error_store.specs.Marking.{fault_cause};
 ghost use Rattle.feature_store.specs.Faults.{store_cause};
 ghost use Rattle.topo_core.specs.Faults.{edit_cause, row_cause};
 ghost use Rattle.topo_core.specs.declared.fault.ChangeFault.{ChangeFault};
 ghost use Rattle.reply_text.specs.Replies.{said_of};
 ghost use Rattle.edit_session.specs.declared.fault.SessionFault.{SessionFault};
-ghost use Rattle.command_answers.specs.Refusals.{SaysCause, SaysRefusal, session_refusal};
+ghost use Rattle.command_answers.specs.Refusals.{SaysCause, SaysRefusal, session_refusal, tree_refusal};
 
 use edit_session::SessionFault;
 use feature_store::StoreFault;
@@ -16,6 +18,7 @@ use grid_plane::NoMemory;
 use reply_text::{Refusal, Reply};
 use topo_core::{ChangeFault, MarkFault, RuleFault};
 use topology_terms::Cause;
+use version_tree::{Merged, TreeFault};
 
 // What is answered where the topology was not changed: its cause; and out of memory where a call told none.
 fn refused(cause: Option<Cause>) -> Result<Reply, NoMemory>
@@ -124,5 +127,49 @@ fn refused_session(fault: SessionFault) -> Result<Reply, NoMemory>
         SessionFault::NothingToUndo => Ok(Reply::Refused(Refusal::NothingToUndo)),
         SessionFault::NothingToRedo => Ok(Reply::Refused(Refusal::NothingToRedo)),
         SessionFault::NoMemory => Err(NoMemory),
+    }
+}
+
+// What is answered where no version was made, chosen, reconciled or posted.
+fn refused_version(fault: TreeFault) -> Result<Reply, NoMemory>
+    ensures { IfOk result (SaysRefusal (tree_refusal fault)) }
+{
+    match fault {
+        TreeFault::Taken => Ok(Reply::Refused(Refusal::VersionTaken)),
+        TreeFault::Full => Ok(Reply::Refused(Refusal::VersionsFull)),
+        TreeFault::NoVersion => Ok(Reply::Refused(Refusal::NoVersion)),
+        TreeFault::Stale { handle } => Ok(Reply::Refused(Refusal::Stale(handle))),
+        TreeFault::NoMemory => Err(NoMemory),
+    }
+}
+
+/// What is answered where a version was made or gone into, or why not.
+pub fn reply_to_version(done: Result<(), TreeFault>) -> Result<Reply, NoMemory>
+    ensures spent { OnErr result ((e : TreeFault) × (done ≡ Err e)) }
+    ensures said { IfOk result (λ r. MatchResult done (λ u. (p : Project) → said_of p r ≡ Done) (λ e. SaysRefusal (tree_refusal e) r)) }
+{
+    match done {
+        Ok(()) => Ok(Reply::Done),
+        Err(fault) => refused_version(fault),
+    }
+}
+
+/// What is answered where a version was reconciled, or why not.
+pub fn reply_to_merge(done: Result<Merged, TreeFault>) -> Result<Reply, NoMemory>
+    ensures { IfOk result (λ r. MatchResult done (λ m. (p : Project) → said_of p r ≡ replies.Merged m.conflicts m.taken) (λ e. SaysRefusal (tree_refusal e) r)) }
+{
+    match done {
+        Ok(merged) => Ok(Reply::Merged(merged.conflicts, merged.taken)),
+        Err(fault) => refused_version(fault),
+    }
+}
+
+/// What is answered where a version was posted, or why not.
+pub fn reply_to_post(done: Result<usize, TreeFault>) -> Result<Reply, NoMemory>
+    ensures { IfOk result (λ r. MatchResult done (λ n. (p : Project) → said_of p r ≡ Posted n) (λ e. SaysRefusal (tree_refusal e) r)) }
+{
+    match done {
+        Ok(number) => Ok(Reply::Posted(number)),
+        Err(fault) => refused_version(fault),
     }
 }

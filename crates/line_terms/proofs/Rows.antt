@@ -6,7 +6,7 @@ use Rattle.text_terms.specs.Numbers.{IsNumeral, IsSigned, IsWithinText}
 use Rattle.rule_words.specs.declared.rule_kind.RuleKind.TheVariants as rule
 use Rattle.plane_terms.specs.Point.{Place}
 use Rattle.plane_terms.specs.Rectangle.{rect_of}
-use Rattle.line_terms.specs.Commands.{Sided, Blank, Class, Rule, Add, Delete, Retype, Explode, Snap, Create, Move, Validate, All, Numbers, Rules, Corners}
+use Rattle.line_terms.specs.Commands.{Sided, Blank, Class, Rule, Add, Delete, Retype, Explode, Snap, Create, Move, Validate, All, Numbers, Rules, Corners, Version, In, Reconcile, Post}
 use Rattle.line_terms.specs.Forms.{HasForm}
 
 skipped : HasForm (codes " # class wells point") Blank
@@ -107,3 +107,20 @@ move_line = (refl, ((refl, refl), (refl, (far_is, (zero_is, (zero_is, (zero_is, 
 
 corners_line : HasForm (codes "corners 1 007 0") (Corners 1 7 0)
 corners_line = (refl, (one, (seven, (alone, refl))))
+
+-- versions: a name, and blanks wherever they may stand; `default` is a name as any other, and a name may be a command's word
+version_line : HasForm (codes " version  plan ") (Version (codes "plan"))
+version_line = (refl, ((refl, refl), refl))
+
+in_line : HasForm (codes "in default") (In (codes "default"))
+in_line = (refl, ((refl, refl), refl))
+
+reconcile_line : HasForm (codes "reconcile post") (Reconcile (codes "post"))
+reconcile_line = (refl, ((refl, refl), refl))
+
+post_line : HasForm (codes "post plan") (Post (codes "plan"))
+post_line = (refl, ((refl, refl), refl))
+
+-- a class may have a subtype behind a colon, a version none
+no_colon : HasForm (codes "version plan:2") (Version (codes "plan:2")) → ⊥
+no_colon h = cc

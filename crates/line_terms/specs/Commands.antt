@@ -48,6 +48,10 @@ pub data CommandOf (S W : Type 0) : Type 0 where
   Features : CommandOf S W
   Rules : CommandOf S W
   Corners : ℕ → ℕ → ℕ → CommandOf S W
+  Version : List ℕ → CommandOf S W
+  In : List ℕ → CommandOf S W
+  Reconcile : List ℕ → CommandOf S W
+  Post : List ℕ → CommandOf S W
 
 abbrev pub Command : Type 0
 Command = CommandOf Shape Rectangle

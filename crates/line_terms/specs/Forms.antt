@@ -19,7 +19,7 @@ use Rattle.plane_terms.specs.declared.kind.Kind.TheVariants as shapes
 use Rattle.text_terms.specs.Fields.{is_name, skip_blanks, front_field, behind_field, skip_end_blanks, is_skipped}
 use Rattle.text_terms.specs.Numbers.{IsSigned, IsWithinText}
 use Rattle.rule_words.specs.Table.{word_of, dest_of}
-use Rattle.line_terms.specs.Commands.{Sided, CommandOf, Blank, Class, Rule, DropRule, Begin, End, Discard, Add, Change, Delete, Retype, Undo, Redo, Explode, Snap, Create, Move, Validate, Mark, Unmark, Dirty, Errors, Cells, Features, Rules, Corners, Window, All, Numbers, Form}
+use Rattle.line_terms.specs.Commands.{Sided, CommandOf, Blank, Class, Rule, DropRule, Begin, End, Discard, Add, Change, Delete, Retype, Undo, Redo, Explode, Snap, Create, Move, Validate, Mark, Unmark, Dirty, Errors, Cells, Features, Rules, Corners, Version, In, Reconcile, Post, Window, All, Numbers, Form}
 
 -- ---- what stands in a field
 pub data Piece : Type 0 where
@@ -116,6 +116,10 @@ pieces s w Cells = Word (codes "cells") ∷ []
 pieces s w Features = Word (codes "features") ∷ []
 pieces s w Rules = Word (codes "rules") ∷ []
 pieces s w (Corners r a b) = Word (codes "corners") ∷ rule_number r ∷ handle a ∷ partner b ∷ []
+pieces s w (Version n) = Word (codes "version") ∷ Name n ∷ []
+pieces s w (In n) = Word (codes "in") ∷ Name n ∷ []
+pieces s w (Reconcile n) = Word (codes "reconcile") ∷ Name n ∷ []
+pieces s w (Post n) = Word (codes "post") ∷ Name n ∷ []
 
 abbrev pub HasForm : List ℕ → Form → Type 0
 HasForm line f = IsLine line (pieces Rest written f)

@@ -2,8 +2,8 @@
 --
 -- Saves h target p             the text of the project p, in format 2, was put on the shelf h under this name, and the other names have what
 --                              they had
--- SavesRun start target s h k kept refused     this, all of the source s, was replayed from the start, and the project of the last state was
---                              saved. It is sound where the start was, and settled where the start was that too
+-- SavesRun start target s h k kept refused     this, all of the source s, was replayed from the start, and the project of `default` in the last state
+--                              was saved. It is sound where the start was, and settled where the start was that too
 -- FailsToSave start target s h k     all of the source was replayed; the shelf's count of faults rose in this call, and the other
 --                              names have what they had
 -- EndsSaving start target s h k status     a replay from this start, with a target, ends with this status
@@ -19,7 +19,7 @@
 --                        it is 5
 --
 -- Source: own.
-use Rattle.std.specs.Prelude.{ℕ, ◌≡◌, ◌≢◌, ◌≤◌, ◌<◌, ◌⊎◌, Bool, true, false, List, codes, length, take, Option, Some}
+use Rattle.std.specs.Prelude.{ℕ, ◌≡◌, ◌≢◌, ◌≤◌, ◌<◌, ◌⊎◌, Bool, true, false, List, codes, length, take, Some}
 use Rattle.topology_terms.specs.Project.{Project}
 use Rattle.topology_terms.specs.Sound.{IsSound}
 use Rattle.topology_terms.specs.Settled.{IsSettled}
@@ -31,9 +31,10 @@ use Rattle.outside_terms.specs.Shelves.{KeepsHeld, KeepsOthers, SetsHeld, Visit}
 use Rattle.outside_terms.specs.declared.end.End.TheVariants.{AtEnd, TooLong}
 use Rattle.outside_terms.specs.declared.status.Status.{Status}
 use Rattle.outside_terms.specs.declared.status.Status.TheVariants as status
-use Rattle.script_terms.specs.State.{State}
+use Rattle.script_terms.specs.State.{State, OfAll, tree_of}
 use Rattle.script_terms.specs.Ends.{Replays, EndsFrom}
 use Rattle.script_terms.specs.Run.{last_state}
+use Rattle.version_terms.specs.Versions.{root_of}
 use Rattle.opening_terms.specs.Opening.{EndsUnopened}
 use Rattle.opening_terms.specs.Replaying.{IsStart, IsToldStart, start_of}
 
@@ -46,9 +47,9 @@ pub record Saves (h : Visit) (target : List ℕ) (p : Project) : Type 0 where
 
 pub record SavesRun (start : State) (target : List ℕ) (s : Passage) (h : Visit) (k : Passage) (kept : List ℕ) (refused : Bool) : Type 0 where
   pub all : Replays start s k kept AtEnd refused
-  pub saved : Saves h target (last_state start all.run.outcomes).project
-  pub sound : IsSound start.project → IsSound (last_state start all.run.outcomes).project
-  pub settled : IsSound start.project → IsSettled start.project → IsSettled (last_state start all.run.outcomes).project
+  pub saved : Saves h target (root_of (tree_of (last_state start all.run.outcomes)))
+  pub sound : OfAll IsSound start → IsSound (root_of (tree_of (last_state start all.run.outcomes)))
+  pub settled : OfAll IsSound start → OfAll IsSettled start → IsSettled (root_of (tree_of (last_state start all.run.outcomes)))
 
 pub record FailsToSave (start : State) (target : List ℕ) (s : Passage) (h : Visit) (k : Passage) : Type 0 where
   pub kept : List ℕ

@@ -20,6 +20,12 @@ refusal_of refusal.NothingToUndo = refusals.NothingToUndo
 refusal_of refusal.NothingToRedo = refusals.NothingToRedo
 refusal_of refusal.NothingToFix = refusals.NothingToFix
 refusal_of (refusal.BadShape fault) = refusals.BadShape fault
+refusal_of refusal.SessionsOpen = refusals.SessionsOpen
+refusal_of refusal.VersionTaken = refusals.VersionTaken
+refusal_of refusal.VersionsFull = refusals.VersionsFull
+refusal_of refusal.NoVersion = refusals.NoVersion
+refusal_of (refusal.Stale h) = refusals.Stale h
+refusal_of refusal.VersionsThere = refusals.VersionsThere
 refusal_of (refusal.Change c) = refusals.Change c
 
 abbrev pub said_of : Project → Reply → replies.Reply
@@ -36,3 +42,5 @@ said_of p reply.CellList = replies.CellList p
 said_of p reply.FeatureList = replies.FeatureList p
 said_of p reply.RuleList = replies.RuleList p
 said_of p (reply.CornerList ks) = replies.CornerList ks.items
+said_of p (reply.Merged hs n) = replies.Merged hs n
+said_of p (reply.Posted n) = replies.Posted n

@@ -7,6 +7,7 @@ mod listings;
 mod numbers;
 mod refusal;
 mod reply;
+mod versions;
 
 pub use refusal::Refusal;
 pub use reply::{Reply, push_reply};

@@ -30,6 +30,18 @@ pub enum Refusal {
     NothingToFix,
     /// A shape that the fix would make has this fault.
     BadShape(ShapeFault),
+    /// A session is open, and the line is one of versions.
+    SessionsOpen,
+    /// There is a version of this name.
+    VersionTaken,
+    /// There are 8 versions beside `default`.
+    VersionsFull,
+    /// There is no such version, or it is `default`, which is neither reconciled nor posted.
+    NoVersion,
+    /// `default` has changed since the version was made, reconciled or posted last, at this handle first.
+    Stale(u32),
+    /// The line changes all versions, and there are some beside `default`.
+    VersionsThere,
     /// The topology is not changed, for this cause.
     Change(Cause),
 }
@@ -122,6 +134,12 @@ pub fn push_refusal(out: &mut Vec<u8>, refusal: &Refusal) -> Result<(), NoMemory
         Refusal::HeldBy(name) => push_held_by(out, name),
         Refusal::NothingToUndo => push_text(out, b"E22"),
         Refusal::NothingToRedo => push_text(out, b"E23"),
+        Refusal::VersionTaken => push_text(out, b"E27"),
+        Refusal::VersionsFull => push_text(out, b"E28"),
+        Refusal::NoVersion => push_text(out, b"E29"),
+        Refusal::SessionsOpen => push_text(out, b"E30"),
+        Refusal::Stale(handle) => push_with_number(out, b"E31", *handle),
+        Refusal::VersionsThere => push_text(out, b"E32"),
         Refusal::NothingToFix => push_text(out, b"E34"),
         Refusal::BadShape(fault) => push_invalid(out, *fault),
         Refusal::Change(cause) => push_cause(out, *cause),

@@ -7,8 +7,9 @@ use crate::listings::{
     push_cell_list, push_dirty_list, push_error_list, push_feature_list, push_rule_list,
 };
 use crate::refusal::{Refusal, push_refusal};
+use crate::versions::{push_merged, push_posted};
 use corner_terms::CellCorner;
-use grid_plane::NoMemory;
+use grid_plane::{Handles, NoMemory};
 use text_out::{push_digits, push_end, push_text};
 use topo_core::{KindRules, Summary, Topology};
 
@@ -41,6 +42,10 @@ pub enum Reply {
     RuleList,
     /// These corners of the cells of an error.
     CornerList(Vec<CellCorner>),
+    /// A version is reconciled: the handles at which there are conflicts, and at how many it changed.
+    Merged(Handles, usize),
+    /// A version is posted: at how many handles `default` changed.
+    Posted(usize),
 }
 
 pub fn push_given(out: &mut Vec<u8>, number: u32) -> Result<(), NoMemory>
@@ -110,5 +115,7 @@ pub fn push_reply<R: KindRules>(
         Reply::FeatureList => push_feature_list(out, topology.store()),
         Reply::RuleList => push_rule_list(out, topology.store(), topology.rules()),
         Reply::CornerList(corners) => push_corner_list(out, corners),
+        Reply::Merged(conflicts, taken) => push_merged(out, conflicts, *taken),
+        Reply::Posted(number) => push_posted(out, *number),
     }
 }

@@ -13,7 +13,7 @@ use Rattle.session_terms.specs.Chains.{IsChained, IsBelow}
 use Rattle.session_terms.proofs.Seen.{same_name, other_name}
 use Rattle.session_terms.proofs.Apart.{IsApartFromOthers, IsUnnamed, every_without, without_apart, opened_apart}
 use Rattle.session_terms.proofs.Chains.{HoldsNoneOf, apart_none, other_chained, note_chained, note_apart, named_apart}
-use Rattle.script_terms.specs.State.{State, is_open}
+use Rattle.script_terms.specs.State.{Desk, is_open}
 use Rattle.plane_terms.specs.Shape.{Shape}
 use Rattle.topology_terms.specs.Changes.{IsFeatureAdded}
 use Rattle.script_terms.specs.Answer.{IsDiscarded, AreTakenBack, LeavesNoted, added_step}
@@ -21,7 +21,7 @@ use Rattle.script_terms.specs.Keeping.{IsKeeping}
 use Rattle.script_terms.proofs.Keeping.{set_to, named_has, changed_keeps, end_below}
 
 -- ---- nothing of it changes
-pub same_keeps : (old new : State) → IsKeeping old → new.sessions ≡ old.sessions → new.project.features ≡ old.project.features
+pub same_keeps : (old new : Desk) → IsKeeping old → new.sessions ≡ old.sessions → new.project.features ≡ old.project.features
     → new.project.next ≡ old.project.next → IsKeeping new
 same_keeps old new k s f n = record {
   apart = subst AreAllApart (sym s) k.apart;
@@ -30,7 +30,7 @@ same_keeps old new k s f n = record {
   given = subst (λ m. Every (IsBelow m) new.sessions) (sym n) (subst (Every (IsBelow old.project.next)) (sym s) k.given);
 }
 
-pub equal_keeps : (old new : State) → IsKeeping old → new ≡ old → IsKeeping new
+pub equal_keeps : (old new : Desk) → IsKeeping old → new ≡ old → IsKeeping new
 equal_keeps old new k e = subst IsKeeping (sym e) k
 
 -- ---- a session comes
@@ -51,10 +51,10 @@ each_opened P (o ∷ ss) name p h = by (is_below name o.name) (each_opened P ss 
     by true r = (p, h)
     by false r = (h.0, r)
 
-pub begun_keeps : (editor : List ℕ) (old new : State) → IsKeeping old → is_open old editor ≡ false
+pub begun_keeps : (editor : List ℕ) (old new : Desk) → IsKeeping old → is_open old editor ≡ false
     → new ≡ record old { sessions = with_opened old.sessions editor } → IsKeeping new
 begun_keeps editor old new k free d =
-    let m : State = record { project = old.project; sessions = with_opened old.sessions editor } in
+    let m : Desk = record { project = old.project; sessions = with_opened old.sessions editor } in
     let here : IsKeeping m = record {
       apart = opened_apart old.sessions editor k.apart (unnamed old.sessions editor free);
       chained = each_opened (IsChained (feature_at old.project.features)) old.sessions editor refl k.chained;
@@ -62,10 +62,10 @@ begun_keeps editor old new k free d =
     } in
     equal_keeps m new here d
 
-pub ended_keeps : (editor : List ℕ) (old new : State) → IsKeeping old → new ≡ record old { sessions = without old.sessions editor }
+pub ended_keeps : (editor : List ℕ) (old new : Desk) → IsKeeping old → new ≡ record old { sessions = without old.sessions editor }
     → IsKeeping new
 ended_keeps editor old new k d =
-    let m : State = record { project = old.project; sessions = without old.sessions editor } in
+    let m : Desk = record { project = old.project; sessions = without old.sessions editor } in
     let here : IsKeeping m = record {
       apart = without_apart old.sessions editor k.apart;
       chained = every_without (IsChained (feature_at old.project.features)) old.sessions editor k.chained;
@@ -108,7 +108,7 @@ pub none_each : (s : Session) (name : List ℕ) (ss : List Session) → s.name �
 none_each s name [] e a = tt
 none_each s name (o ∷ ss) e a = ((λ n. apart_none o s (a.0 (λ d. n (d ∙ e)))), none_each s name ss e a.1)
 
-pub discard_keeps : (editor : List ℕ) (old new : State) → IsKeeping old → IsDiscarded editor old new → IsKeeping new
+pub discard_keeps : (editor : List ℕ) (old new : Desk) → IsKeeping old → IsDiscarded editor old new → IsKeeping new
 discard_keeps editor old new k d =
     let a = named_apart old.sessions editor d.session d.there k.apart in
     let rest = without old.sessions editor in
@@ -146,7 +146,7 @@ each_below n m (o ∷ ss) l h = (
       n m ss l h.1,
 )
 
-pub added_keeps : (editor : List ℕ) (class subtype : ℕ) (shape : Shape) (h : ℕ) (old new : State) → IsKeeping old
+pub added_keeps : (editor : List ℕ) (class subtype : ℕ) (shape : Shape) (h : ℕ) (old new : Desk) → IsKeeping old
     → LeavesNoted editor (added_step h class subtype shape) (IsFeatureAdded class subtype shape h) old new → IsKeeping new
 added_keeps editor class subtype shape h old new k d =
     let f = feature_at old.project.features in

@@ -15,7 +15,7 @@ use Rattle.fix_terms.specs.declared.edit.Edit.TheVariants.{Put, Add}
 use Rattle.fix_terms.specs.Explode.{line_of, exploded_by}
 use Rattle.script_terms.specs.Answer.{AreNoted, LeavesNoted}
 use Rattle.script_terms.specs.Keeping.{IsKeeping}
-use Rattle.script_terms.specs.State.{State}
+use Rattle.script_terms.specs.State.{Desk}
 use Rattle.script_terms.proofs.Commands.{equal_keeps, added_keeps}
 use Rattle.script_terms.proofs.Keeping.{altered_keeps}
 
@@ -35,7 +35,7 @@ alone_with (o ∷ ss) u editor h e a = by (bytes_eq o.name u.name) (alone_with s
     by true r = ((λ n. absurd (n e)), a.1)
     by false r = (a.0, r)
 
-alone_noted : {P : Project → Project → Type 0} (editor : List ℕ) (t : EditStep) (old new : State) (h : ℕ) → AreAllApart old.sessions
+alone_noted : {P : Project → Project → Type 0} (editor : List ℕ) (t : EditStep) (old new : Desk) (h : ℕ) → AreAllApart old.sessions
     → LeavesNoted editor t P old new → IsAlone old.sessions editor h → IsAlone new.sessions editor h
 alone_noted editor t old new h apart d a =
     let s = d.0 in
@@ -51,7 +51,7 @@ still_free editor (Put h s ∷ es) ss ts n m l a f =
     (a h f.0, omega (arith, b, l), still_free editor es ss ts n m l a f.2)
 still_free editor (Add c t s ∷ es) ss ts n m l a f = still_free editor es ss ts n m l a f
 
-pub put_free : (editor : List ℕ) (h : ℕ) (s : Shape) (es : List Edit) (t : EditStep) (after : Option Feature) (old new : State)
+pub put_free : (editor : List ℕ) (h : ℕ) (s : Shape) (es : List Edit) (t : EditStep) (after : Option Feature) (old new : Desk)
     → AreAllApart old.sessions → LeavesNoted editor t (IsFeatureSet h after) old new
     → AreFree editor (Put h s ∷ es) old.sessions old.project.next → AreFree editor es new.sessions new.project.next
 put_free editor h s es t after old new apart d f =
@@ -59,7 +59,7 @@ put_free editor h s es t after old new apart d f =
     still_free editor es old.sessions new.sessions old.project.next new.project.next (omega (arith, e))
     (λ k a. alone_noted editor t old new k apart d a) f.2
 
-pub add_free : (editor : List ℕ) (c u : ℕ) (s : Shape) (es : List Edit) (t : EditStep) (n : ℕ) (old new : State)
+pub add_free : (editor : List ℕ) (c u : ℕ) (s : Shape) (es : List Edit) (t : EditStep) (n : ℕ) (old new : Desk)
     → AreAllApart old.sessions → LeavesNoted editor t (IsFeatureAdded c u s n) old new
     → AreFree editor (Add c u s ∷ es) old.sessions old.project.next → AreFree editor es new.sessions new.project.next
 add_free editor c u s es t n old new apart d f =
@@ -67,7 +67,7 @@ add_free editor c u s es t n old new apart d f =
     still_free editor es old.sessions new.sessions old.project.next new.project.next (omega (arith, e))
     (λ k a. alone_noted editor t old new k apart d a) f
 
-pub noted_keeps : (editor : List ℕ) (es : List Edit) (old new : State) → IsKeeping old
+pub noted_keeps : (editor : List ℕ) (es : List Edit) (old new : Desk) → IsKeeping old
     → AreFree editor es old.sessions old.project.next → AreNoted editor es old new → IsKeeping new
 noted_keeps editor [] old new k f d = equal_keeps old new k d
 noted_keeps editor (Put h s ∷ es) old new k f d =

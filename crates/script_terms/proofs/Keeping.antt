@@ -10,7 +10,7 @@ use Rattle.session_terms.specs.Steps.{IsUndoneTo, with_session, HoldsNone, AreAl
 use Rattle.session_terms.specs.Chains.{IsChained, IsBelow}
 use Rattle.session_terms.proofs.Apart.{IsApartFromOthers, with_apart}
 use Rattle.session_terms.proofs.Chains.{with_chained, note_chained, undo_chained, redo_chained, undo_apart, redo_apart, note_apart, named_apart, step_there}
-use Rattle.script_terms.specs.State.{State}
+use Rattle.script_terms.specs.State.{Desk}
 use Rattle.topology_terms.specs.Changes.{IsFeatureSet}
 use Rattle.script_terms.specs.Answer.{IsSessionChanged, IsUndone, IsRedone, LeavesNoted, set_step}
 use Rattle.script_terms.specs.Keeping.{IsKeeping}
@@ -56,7 +56,7 @@ first_there s u t k =
     (step_there s.done u.undone t)
 
 -- ---- one session changes with one handle
-pub changed_keeps : (old new : State) (name : List ℕ) (s u : Session) (h : ℕ) (x : Option Feature) → IsKeeping old
+pub changed_keeps : (old new : Desk) (name : List ℕ) (s u : Session) (h : ℕ) (x : Option Feature) → IsKeeping old
     → IsSessionChanged name s u old.sessions new.sessions
     → IsSetAt h x old.project.features new.project.features → Every (IsBelow new.project.next) old.sessions
     → IsAlone old.sessions s.name h → IsApartFromOthers old.sessions u → IsChained (feature_at new.project.features) u
@@ -95,7 +95,7 @@ each_same : (n m : ℕ) (ss : List Session) → m ≡ n → Every (IsBelow n) ss
 each_same n m ss e h = rw e h
 
 -- ---- the commands
-pub undo_keeps : (editor : List ℕ) (old new : State) → IsKeeping old → IsUndone editor old new → IsKeeping new
+pub undo_keeps : (editor : List ℕ) (old new : Desk) → IsKeeping old → IsUndone editor old new → IsKeeping new
 undo_keeps editor old new k d =
     let f = feature_at old.project.features in
     let e = feature_at new.project.features in
@@ -110,7 +110,7 @@ undo_keeps editor old new k d =
     (undo_chained f e s u t d.3 (set_to t.handle t.before old.project.features new.project.features set) c)
     (undone_below new.project.next s u t d.3 (rw d.4.project.next b))
 
-pub redo_keeps : (editor : List ℕ) (old new : State) → IsKeeping old → IsRedone editor old new → IsKeeping new
+pub redo_keeps : (editor : List ℕ) (old new : Desk) → IsKeeping old → IsRedone editor old new → IsKeeping new
 redo_keeps editor old new k d =
     let f = feature_at old.project.features in
     let e = feature_at new.project.features in
@@ -126,7 +126,7 @@ redo_keeps editor old new k d =
     (redone_below new.project.next s u t d.3 (rw d.4.project.next b))
 
 -- an edit of a handle that no other session holds
-pub altered_keeps : (editor : List ℕ) (h : ℕ) (x : Option Feature) (old new : State) → IsKeeping old → IsAlone old.sessions editor h
+pub altered_keeps : (editor : List ℕ) (h : ℕ) (x : Option Feature) (old new : Desk) → IsKeeping old → IsAlone old.sessions editor h
     → h < old.project.next
     → LeavesNoted editor (set_step old.project h x) (IsFeatureSet h x) old new → IsKeeping new
 altered_keeps editor h x old new k alone given d =

@@ -6,7 +6,7 @@ use Rattle.topology_terms.specs.Project.{Project}
 use Rattle.topology_terms.specs.Session.{EditStep}
 use Rattle.session_terms.specs.Chains.{IsChained}
 use Rattle.session_terms.proofs.Chains.{last_left}
-use Rattle.script_terms.specs.State.{State}
+use Rattle.script_terms.specs.State.{Desk}
 use Rattle.script_terms.specs.Answer.{IsUndone, IsDiscarded, AreTakenBack}
 use Rattle.script_terms.specs.Keeping.{IsKeeping}
 use Rattle.script_terms.specs.Restored.{first_before, IsRestored, IsAllRestored}
@@ -14,7 +14,7 @@ use Rattle.script_terms.proofs.Keeping.{named_has}
 use Rattle.std.proofs.lemmas.Bool.{eqb-true}
 use Rattle.session_terms.proofs.Relation.{differ}
 
-pub undo_restores : (editor : List ℕ) (old new : State) → IsKeeping old → IsUndone editor old new → IsRestored editor old new
+pub undo_restores : (editor : List ℕ) (old new : Desk) → IsKeeping old → IsUndone editor old new → IsRestored editor old new
 undo_restores editor old new k d = record {
   session = d.1;
   there = d.4.session.there;
@@ -37,7 +37,7 @@ taken_at (x ∷ ts) old new k t = by (eqb x.handle k) refl (taken_at ts old t.0 
     by true e r = ap (feature_at new.features) (sym (eqb-true x.handle k e)) ∙ t.2.edit.features.here
     by false e r = t.2.edit.features.others k (differ x.handle k e) ∙ r
 
-pub discard_restores : (editor : List ℕ) (old new : State) → IsDiscarded editor old new → IsAllRestored editor old new
+pub discard_restores : (editor : List ℕ) (old new : Desk) → IsDiscarded editor old new → IsAllRestored editor old new
 discard_restores editor old new d = record {
   session = d.session;
   there = d.there;

@@ -20,7 +20,7 @@ use Rattle.line_terms.specs.declared.line_refusal.LineRefusal.TheVariants as lin
 use Rattle.line_terms.specs.Commands.{Sided, Class, Rule, DropRule, Begin, Add, Change as AChange, Delete, Retype, Undo, Mark, Unmark, Rules, Corners}
 use Rattle.script_terms.specs.Refusal.{Line, SessionOpen, NoSession, NothingToUndo, Change}
 use Rattle.script_terms.specs.Reply.{Judged, Refused, CellList, DirtyList, ErrorList, FeatureList, RuleList, CornerList, reply_text}
-use Rattle.script_terms.specs.State.{State}
+use Rattle.script_terms.specs.State.{Desk}
 use Rattle.script_terms.specs.Refusing.{refusal_of}
 use Rattle.script_terms.specs.Report.{report_of}
 
@@ -63,7 +63,7 @@ wells = record {
   } ∷ [];
 }
 
-abbrev open_ann : State
+abbrev open_ann : Desk
 open_ann = record { project = wells; sessions = record { name = codes "ann"; done = []; undone = [] } ∷ [] }
 
 -- ---- the replies of the row

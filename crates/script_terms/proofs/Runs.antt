@@ -8,7 +8,7 @@ use Rattle.topology_terms.specs.Project.{IsOrdered, rule_at}
 use Rattle.topology_terms.specs.Session.{Session, holder}
 use Rattle.session_terms.specs.Steps.{AreAllApart, IsAlone}
 use Rattle.session_terms.proofs.Apart.{free_alone, held_alone}
-use Rattle.line_terms.specs.Commands.{Command, Blank, Class, Rule, DropRule, Begin, End, Discard, Add, Change, Delete, Retype, Undo, Redo, Explode, Snap, Create, Move, Validate, Mark, Unmark, Dirty, Errors, Cells, Features, Rules, Corners}
+use Rattle.line_terms.specs.Commands.{Command, Blank, Class, Rule, DropRule, Begin, End, Discard, Add, Change, Delete, Retype, Undo, Redo, Explode, Snap, Create, Move, Validate, Mark, Unmark, Dirty, Errors, Cells, Features, Rules, Corners, Version, In, Reconcile, Post}
 use Rattle.topology_terms.specs.Causes.{when, first_of, delete_cause, drop_cause}
 use Rattle.topology_terms.specs.Changes.{reshaped, retyped}
 use Rattle.topology_terms.specs.Lookups.{class_number}
@@ -16,7 +16,7 @@ use Rattle.topology_terms.specs.declared.cause.Cause.{Cause}
 use Rattle.topology_terms.specs.declared.cause.Cause.TheVariants.{NoFeature}
 use Rattle.script_terms.specs.Refusal.{Refusal, HeldBy, NoSession, SessionOpen, NothingToFix}
 use Rattle.script_terms.specs.Reply.{Reply, Refused, Done, Moved}
-use Rattle.script_terms.specs.State.{State, empty_state, is_open}
+use Rattle.script_terms.specs.State.{State, empty_state, is_open, Desk, OfAll, desk_of}
 use Rattle.script_terms.specs.Refusing.{refusal_of, held_by, changes, first_held, not_snapped}
 use Rattle.script_terms.specs.Answer.{IsDone, IsFixed}
 use Rattle.plane_terms.specs.Point.{Place}
@@ -28,6 +28,8 @@ use Rattle.fix_terms.specs.Create.{created}
 use Rattle.fix_terms.specs.Move.{moves, may_move, touching, has_vertex, moved_shape}
 use Rattle.script_terms.proofs.Fixing.{AreFree, noted_keeps, exploded_free, own_handle}
 use Rattle.script_terms.specs.Run.{Outcome, Reading, Reads, Faulty, Run, ComesOf, EachKeeping, last_state}
+use Rattle.script_terms.specs.Versions.{IsMade, barred, is_of_one}
+use Rattle.script_terms.proofs.Desks.{desk_made, made_keep}
 use Rattle.script_terms.specs.Keeping.{IsKeeping}
 use Rattle.script_terms.proofs.Keeping.{undo_keeps, redo_keeps, altered_keeps}
 use Rattle.script_terms.proofs.Commands.{same_keeps, equal_keeps, begun_keeps, ended_keeps, discard_keeps, added_keeps}
@@ -69,7 +71,7 @@ live_below n (f ∷ F) h a e = by (eqb f.handle h) refl e (λ r. live_below n F 
     by false k e r = r e
 
 -- an edit of a live handle that is not refused
-pub may_edit : (s : State) (editor : List ℕ) (h : ℕ) (rest : List (Option Refusal)) → IsKeeping s → IsOrdered s.project
+pub may_edit : (s : Desk) (editor : List ℕ) (h : ℕ) (rest : List (Option Refusal)) → IsKeeping s → IsOrdered s.project
     → first_of (when (not (is_open s editor)) NoSession ∷ changes (delete_cause s.project.features h) ∷ held_by (holder s.sessions h) editor ∷ rest) ≡ None
     → IsAlone s.sessions editor h × (h < s.project.next)
 may_edit s editor h rest k ord n =
@@ -82,7 +84,7 @@ may_edit s editor h rest k ord n =
     )
 
 -- a plan that is not refused puts what no other session holds
-own_free : (editor : List ℕ) (h : ℕ) (f : Feature) (s : State) → feature_at s.project.features h ≡ Some f
+own_free : (editor : List ℕ) (h : ℕ) (f : Feature) (s : Desk) → feature_at s.project.features h ≡ Some f
     → IsAlone s.sessions editor h × (h < s.project.next) → IsAlone s.sessions editor f.handle × (f.handle < s.project.next)
 own_free editor h f s e m =
     subst (λ k. IsAlone s.sessions editor k × (k < s.project.next)) (sym (own_handle s.project.features h f e)) m
@@ -106,7 +108,7 @@ moves_free from to editor ss n (f ∷ fs) a l e = by (has_vertex from f.shape) e
         (by_none ss (holder ss f.handle) editor f.handle a refl k.0, l.0, r m.0)
     by false e r = r e
 
-pub move_free : (from to : Place) (editor : List ℕ) (s : State) → IsKeeping s → IsOrdered s.project
+pub move_free : (from to : Place) (editor : List ℕ) (s : Desk) → IsKeeping s → IsOrdered s.project
     → refusal_of s (Move editor from to) ≡ None → AreFree editor (moves from to s.project.features) s.sessions s.project.next
 move_free from to editor s k ord n =
     let held = first_held s.sessions (touching from s.project.features) editor in
@@ -116,14 +118,14 @@ move_free from to editor s k ord n =
     let c = first_none held [] b.1 in
     moves_free from to editor s.sessions s.project.next s.project.features k.apart ord.next c.0
 
-fixed_keeps : {P : List Feature → Type 0} (editor : List ℕ) (es : List Edit) (said : Reply) (old : State) (reply : Reply) (new : State)
+fixed_keeps : {P : List Feature → Type 0} (editor : List ℕ) (es : List Edit) (said : Reply) (old : Desk) (reply : Reply) (new : Desk)
     → IsKeeping old → AreFree editor es old.sessions old.project.next → IsFixed editor es P said old reply new → IsKeeping new
 fixed_keeps editor es said old reply new k f d = elim d [
   | inl x ↦ noted_keeps editor es old new k f x.2.noted
   | inr y ↦ equal_keeps old new k y.3
 ]
 
-pub done_keeps : (old : State) (c : Command) (reply : Reply) (new : State) → IsKeeping old → IsOrdered old.project → refusal_of old c ≡ None
+pub done_keeps : (old : Desk) (c : Command) (reply : Reply) (new : Desk) → IsKeeping old → IsOrdered old.project → refusal_of old c ≡ None
     → IsDone old c reply new → IsKeeping new
 done_keeps old Blank reply new k ord n d = equal_keeps old new k d.1
 done_keeps old (Class name kd) reply new k ord n d = same_keeps old new k d.1.sessions d.1.project.features d.1.project.next
@@ -167,31 +169,49 @@ done_keeps old Cells reply new k ord n d = equal_keeps old new k d.1
 done_keeps old Features reply new k ord n d = equal_keeps old new k d.1
 done_keeps old Rules reply new k ord n d = equal_keeps old new k d.1
 done_keeps old (Corners r h g) reply new k ord n d = equal_keeps old new k d.1
+done_keeps old (Version v) reply new k ord n d = absurd d
+done_keeps old (In v) reply new k ord n d = absurd d
+done_keeps old (Reconcile v) reply new k ord n d = absurd d
+done_keeps old (Post v) reply new k ord n d = absurd d
 
 -- a command that is answered
-abbrev pub answers_by : Option Refusal → State → Command → Reply → State → Type 0
+abbrev pub answers_by : Option Refusal → Desk → Command → Reply → Desk → Type 0
 answers_by o old c reply new = MatchOption o (IsDone old c reply new) (λ r. (reply ≡ Refused r) × (new ≡ old))
 
-pub answers_keep : (old : State) (c : Command) (reply : Reply) (new : State) (o : Option Refusal) → refusal_of old c ≡ o → IsKeeping old
+pub answers_keep : (old : Desk) (c : Command) (reply : Reply) (new : Desk) (o : Option Refusal) → refusal_of old c ≡ o → IsKeeping old
     → IsOrdered old.project → answers_by o old c reply new → IsKeeping new
 answers_keep old c reply new None e k ord a = done_keeps old c reply new k ord e a
 answers_keep old c reply new (Some r) e k ord a = equal_keeps old new k a.1
 
-comes_keep : (s : State) (r : Reading) (o : Outcome) → IsKeeping s → IsOrdered s.project → ComesOf s r o → IsKeeping o.after
-comes_keep s (Reads c) o k ord a = answers_keep s c a.0 o.after (refusal_of s c) refl k ord a.1
-comes_keep s (Faulty r) o k ord a = equal_keeps s o.after k a.0
+keeps_state : (s t : State) → IsKeeping (desk_of s) → t ≡ s → IsKeeping (desk_of t)
+keeps_state s t k e = subst (λ (x : State). IsKeeping (desk_of x)) (sym e) k
 
-pub run_keeps : (s : State) (lines : List (List ℕ)) (os : List Outcome) → IsKeeping s → IsOrdered s.project → Run s lines os
+-- a line that is answered, with all versions
+answered_keep : (s : State) (c : Command) (reply : Reply) (t : State) (o : Option Refusal) → barred s c ≡ o → IsKeeping (desk_of s)
+    → IsOrdered s.project → MatchOption o (IsMade s c reply t) (λ r. (reply ≡ Refused r) × (t ≡ s)) → IsKeeping (desk_of t)
+answered_keep s c reply t None e k ord a = by (is_of_one c) refl
+  where
+    by : (b : Bool) → is_of_one c ≡ b → IsKeeping (desk_of t)
+    by true o = answers_keep (desk_of s) c reply (desk_of t) (refusal_of (desk_of s) c) refl k ord (desk_made s t c reply o a).0
+    by false o = made_keep s c reply t o e k a
+answered_keep s c reply t (Some r) e k ord a = keeps_state s t k a.1
+
+comes_keep : (s : State) (r : Reading) (o : Outcome) → IsKeeping (desk_of s) → IsOrdered s.project → ComesOf s r o → IsKeeping (desk_of o.after)
+comes_keep s (Reads c) o k ord a = answered_keep s c a.0 o.after (barred s c) refl k ord a.1
+comes_keep s (Faulty r) o k ord a = keeps_state s o.after k a.0
+
+pub run_keeps : (s : State) (lines : List (List ℕ)) (os : List Outcome) → IsKeeping (desk_of s) → OfAll IsOrdered s → Run s lines os
     → EachKeeping s os
 run_keeps s [] [] k ord r = k
 run_keeps s [] (o ∷ os) k ord r = absurd r
 run_keeps s (line ∷ lines) [] k ord r = absurd r
-run_keeps s (line ∷ lines) (o ∷ os) k ord r = (k, run_keeps o.after lines os (comes_keep s r.0.reading o k ord r.0.comes) r.0.ordered r.1)
+run_keeps s (line ∷ lines) (o ∷ os) k ord r =
+    (k, run_keeps o.after lines os (comes_keep s r.0.reading o k ord.0 r.0.comes) r.0.ordered r.1)
 
 -- in the state that a run comes to, too
-pub last_keeps : (s : State) (os : List Outcome) → EachKeeping s os → IsKeeping (last_state s os)
+pub last_keeps : (s : State) (os : List Outcome) → EachKeeping s os → IsKeeping (desk_of (last_state s os))
 last_keeps s [] k = k
 last_keeps s (o ∷ os) k = last_keeps o.after os k.1
 
-pub empty_keeps : IsKeeping empty_state
+pub empty_keeps : IsKeeping (desk_of empty_state)
 empty_keeps = record { apart = tt; chained = tt; given = tt }

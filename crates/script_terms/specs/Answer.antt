@@ -1,6 +1,6 @@
 -- What each command does when it is not refused.
 --
--- IsDone old c reply new  the command is done: this is the reply, and this is what it leaves
+-- IsDone old c reply new  the command is done: this is the reply, and this is what it leaves; of a line of versions see there
 -- Answers old c reply new     refused with the state as it was, or done
 -- Leaves P old new        the project becomes what P says, and the sessions stay
 -- Moves editor s u P old new     the project becomes what P says, and the session of the editor was s and is u
@@ -50,10 +50,10 @@ use Rattle.fix_terms.specs.declared.edit.Edit.TheVariants as edit
 use Rattle.script_terms.specs.Refusal.{BadShape}
 use Rattle.line_terms.specs.Commands.{Command, Blank, Class as AClass, Rule, DropRule, Begin, End, Discard, Add, Change, Delete, Retype, Undo, Redo, Explode, Snap, Create, Move, Validate, Mark, Unmark, Dirty, Errors, Cells, Features, Rules, Corners}
 use Rattle.script_terms.specs.Reply.{Reply, Nothing, Done, Number, Parts, Moved, Judged, Refused, DirtyList, ErrorList, CellList, FeatureList, RuleList, CornerList}
-use Rattle.script_terms.specs.State.{State}
+use Rattle.script_terms.specs.State.{Desk}
 use Rattle.script_terms.specs.Refusing.{row_of, refusal_of}
 
-pub record Leaves (P : Project → Project → Type 0) (old new : State) : Type 0 where
+pub record Leaves (P : Project → Project → Type 0) (old new : Desk) : Type 0 where
   pub project : P old.project new.project
   pub sessions : new.sessions ≡ old.sessions
 
@@ -63,11 +63,11 @@ pub record IsSessionChanged (editor : List ℕ) (s u : Session) (old new : List 
   pub name : u.name ≡ s.name
   pub sessions : new ≡ with_session old u
 
-pub record Moves (editor : List ℕ) (s u : Session) (P : Project → Project → Type 0) (old new : State) : Type 0 where
+pub record Moves (editor : List ℕ) (s u : Session) (P : Project → Project → Type 0) (old new : Desk) : Type 0 where
   pub project : P old.project new.project
   pub session : IsSessionChanged editor s u old.sessions new.sessions
 
-abbrev pub LeavesNoted : List ℕ → EditStep → (Project → Project → Type 0) → State → State → Type 0
+abbrev pub LeavesNoted : List ℕ → EditStep → (Project → Project → Type 0) → Desk → Desk → Type 0
 LeavesNoted editor t P old new = (s : Session) × Moves editor s (with_step s t) P old new
 
 -- the step of a feature that comes, and that of one that is set or taken away
@@ -77,36 +77,36 @@ added_step h class subtype shape = record { handle = h; before = None; after = S
 abbrev pub set_step : Project → ℕ → Option Feature → EditStep
 set_step p h after = record { handle = h; before = feature_at p.features h; after = after }
 
-abbrev pub AreNoted : List ℕ → List Edit → State → State → Type 0
+abbrev pub AreNoted : List ℕ → List Edit → Desk → Desk → Type 0
 AreNoted editor [] old new = new ≡ old
 AreNoted editor (edit.Put h s ∷ es) old new =
     let after = reshaped (feature_at old.project.features h) s in
-    (m : State) × IsOrdered m.project × LeavesNoted editor (set_step old.project h after) (IsFeatureSet h after) old m × AreNoted editor es m new
+    (m : Desk) × IsOrdered m.project × LeavesNoted editor (set_step old.project h after) (IsFeatureSet h after) old m × AreNoted editor es m new
 AreNoted editor (edit.Add c t s ∷ es) old new =
     let h = old.project.next in
-    (m : State) × IsOrdered m.project × LeavesNoted editor (added_step h c t s) (IsFeatureAdded c t s h) old m × AreNoted editor es m new
+    (m : Desk) × IsOrdered m.project × LeavesNoted editor (added_step h c t s) (IsFeatureAdded c t s h) old m × AreNoted editor es m new
 
-pub record AreAllDone (editor : List ℕ) (es : List Edit) (promise : List Feature → Type 0) (old new : State) : Type 0 where
+pub record AreAllDone (editor : List ℕ) (es : List Edit) (promise : List Feature → Type 0) (old new : Desk) : Type 0 where
   pub noted : AreNoted editor es old new
   pub kept : promise new.project.features
 
-abbrev pub IsFixed : List ℕ → List Edit → (List Feature → Type 0) → Reply → State → Reply → State → Type 0
+abbrev pub IsFixed : List ℕ → List Edit → (List Feature → Type 0) → Reply → Desk → Reply → Desk → Type 0
 IsFixed editor es promise said old reply new =
     (Every IsFlawless (shapes_of es) × (reply ≡ said) × AreAllDone editor es promise old new)
     ⊎ ((fault : ShapeFault) × IsBadPlan es fault × (reply ≡ Refused (BadShape fault)) × (new ≡ old))
 
-abbrev pub IsUndone : List ℕ → State → State → Type 0
+abbrev pub IsUndone : List ℕ → Desk → Desk → Type 0
 IsUndone editor old new = (t : EditStep) × (s u : Session) × IsUndoneTo s t u × Moves editor s u (IsFeatureSet t.handle t.before) old new
 
 -- a redo is an undo backwards
-abbrev pub IsRedone : List ℕ → State → State → Type 0
+abbrev pub IsRedone : List ℕ → Desk → Desk → Type 0
 IsRedone editor old new = (t : EditStep) × (s u : Session) × IsUndoneTo u t s × Moves editor s u (IsFeatureSet t.handle t.after) old new
 
 abbrev pub AreTakenBack : List EditStep → Project → Project → Type 0
 AreTakenBack [] old new = new ≡ old
 AreTakenBack (t ∷ ts) old new = (middle : Project) × AreTakenBack ts old middle × IsFeatureSet t.handle t.before middle new
 
-pub record IsDiscarded (editor : List ℕ) (old new : State) : Type 0 where
+pub record IsDiscarded (editor : List ℕ) (old new : Desk) : Type 0 where
   pub session : Session
   pub there : session_of old.sessions editor ≡ Some session
   pub taken_back : AreTakenBack session.done old.project new.project
@@ -120,7 +120,7 @@ abbrev pub IsCornerList : Project → ℕ → ℕ → ℕ → Reply → Type 0
 IsCornerList p r a b reply = (e : Entry) × (ks : List CellCorner) × (entry_at p.entries r a b ≡ Some e) × AreOfCells 1 e.cells ks
     × (reply ≡ CornerList ks)
 
-abbrev pub IsDone : State → Command → Reply → State → Type 0
+abbrev pub IsDone : Desk → Command → Reply → Desk → Type 0
 IsDone old Blank reply new = (reply ≡ Nothing) × (new ≡ old)
 IsDone old (AClass name k) reply new = (reply ≡ Number (length old.project.classes + 1)) × Leaves (IsClassAdded name k) old new
 IsDone old (Rule k origin dest) reply new = (n : ℕ) × (reply ≡ Number n) × Leaves (IsRuleAdded n (row_of old.project k origin dest)) old new
@@ -166,7 +166,8 @@ IsDone old Cells reply new = (reply ≡ CellList old.project) × (new ≡ old)
 IsDone old Features reply new = (reply ≡ FeatureList old.project) × (new ≡ old)
 IsDone old Rules reply new = (reply ≡ RuleList old.project) × (new ≡ old)
 IsDone old (Corners r a b) reply new = IsCornerList old.project r a b reply × (new ≡ old)
+IsDone old other reply new = ⊥
 
 -- done, or refused with the state as it was
-abbrev pub Answers : State → Command → Reply → State → Type 0
+abbrev pub Answers : Desk → Command → Reply → Desk → Type 0
 Answers old c reply new = MatchOption (refusal_of old c) (IsDone old c reply new) (λ r. (reply ≡ Refused r) × (new ≡ old))

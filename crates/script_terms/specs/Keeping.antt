@@ -6,9 +6,9 @@ use Rattle.plane_terms.specs.Lists.{Every}
 use Rattle.topology_terms.specs.Feature.{feature_at}
 use Rattle.session_terms.specs.Steps.{AreAllApart}
 use Rattle.session_terms.specs.Chains.{IsChained, IsBelow}
-use Rattle.script_terms.specs.State.{State}
+use Rattle.script_terms.specs.State.{Desk}
 
-pub record IsKeeping (s : State) : Type 0 where
+pub record IsKeeping (s : Desk) : Type 0 where
   pub apart : AreAllApart s.sessions
   pub chained : Every (IsChained (feature_at s.project.features)) s.sessions
   pub given : Every (IsBelow s.project.next) s.sessions

@@ -10,3 +10,4 @@ pub mod Keeping
 pub mod Restored
 pub mod Run
 pub mod Ends
+pub mod Versions

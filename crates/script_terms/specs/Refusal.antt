@@ -1,7 +1,9 @@
 -- Why a line is refused, and the words of each refusal.
 --
 -- Refusal            a fault of the line's own; what is wrong with the editor's session; the handle is held by the session of this name;
---                    there is nothing to fix so; a shape that the fix would make is none; or why the project is not changed
+--                    there is nothing to fix so; a shape that the fix would make is none; that a session is open; that the version's name
+--                    is taken, the versions are full, there is none of the name; that it is stale, at this handle first; that there are
+--                    versions beside `default`; or why the project is not changed
 -- shape_fault_text f     what is wrong with a shape, and the numbers that say where
 -- cause_code c       the code of a cause
 -- refusal_text r     the code, and what stands behind it
@@ -26,6 +28,12 @@ pub data Refusal : Type 0 where
   NothingToRedo : Refusal
   NothingToFix : Refusal
   BadShape : ShapeFault → Refusal
+  SessionsOpen : Refusal
+  VersionTaken : Refusal
+  VersionsFull : Refusal
+  NoVersion : Refusal
+  Stale : ℕ → Refusal
+  VersionsThere : Refusal
   Change : Cause → Refusal
 
 abbrev pub with_number : List ℕ → ℕ → List ℕ
@@ -74,6 +82,12 @@ refusal_text NoSession = codes "E12"
 refusal_text (HeldBy name) = codes "E20 " ⧺ name
 refusal_text NothingToUndo = codes "E22"
 refusal_text NothingToRedo = codes "E23"
+refusal_text VersionTaken = codes "E27"
+refusal_text VersionsFull = codes "E28"
+refusal_text NoVersion = codes "E29"
+refusal_text SessionsOpen = codes "E30"
+refusal_text (Stale h) = with_number (codes "E31") h
+refusal_text VersionsThere = codes "E32"
 refusal_text NothingToFix = codes "E34"
 refusal_text (BadShape fault) = codes "E18 " ⧺ shape_fault_text fault
 refusal_text (Change c) = cause_code c

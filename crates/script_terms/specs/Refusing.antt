@@ -36,7 +36,7 @@ use Rattle.fix_terms.specs.Create.{may_create}
 use Rattle.fix_terms.specs.Move.{may_move, touching}
 use Rattle.line_terms.specs.Commands.{Sided, Command, Class as AClass, Rule, DropRule, Begin, End, Discard, Add, Change as AChange, Delete, Retype, Undo, Redo, Explode, Snap, Create, Move, Mark, Unmark, Corners}
 use Rattle.script_terms.specs.Refusal.{Refusal, SessionOpen, SessionsFull, NoSession, HeldBy, NothingToUndo, NothingToRedo, NothingToFix, Change}
-use Rattle.script_terms.specs.State.{State, is_open}
+use Rattle.script_terms.specs.State.{is_open, Desk}
 
 -- the number of the class that a line names
 abbrev pub class_of : Project → Option Sided → Option ℕ
@@ -59,7 +59,7 @@ abbrev pub held_by : Option (List ℕ) → List ℕ → Option Refusal
 held_by name editor = option_and_then (λ (n : List ℕ). when (not (bytes_eq n editor)) (HeldBy n)) name
 
 -- the steps of the editor's session, those that are done or those undone
-abbrev pub steps_of : (Session → List EditStep) → State → List ℕ → List EditStep
+abbrev pub steps_of : (Session → List EditStep) → Desk → List ℕ → List EditStep
 steps_of steps s editor = option_map_or steps (session_of s.sessions editor) []
 
 abbrev pub no_error : List Entry → ℕ → ℕ → ℕ → Option Refusal
@@ -85,7 +85,7 @@ abbrev pub first_held : List Session → List Feature → List ℕ → Option Re
 first_held ss [] editor = None
 first_held ss (f ∷ fs) editor = first_of (held_by (holder ss f.handle) editor ∷ first_held ss fs editor ∷ [])
 
-abbrev pub refusal_of : State → Command → Option Refusal
+abbrev pub refusal_of : Desk → Command → Option Refusal
 refusal_of s (AClass name k) = changes (class_cause s.project.classes name)
 refusal_of s (Rule k origin dest) = first_of (
     when (is_nowhere s.project dest) (Change cause.NoClass)

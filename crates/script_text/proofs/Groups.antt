@@ -13,7 +13,7 @@ use Rattle.line_terms.specs.Lines.{Holds, IsSpelling}
 use Rattle.line_terms.specs.Windows.{IsWindow}
 use Rattle.wkt_terms.specs.Shapes.{IsShapeText}
 use Rattle.script_text.specs.Edits.{behind_editor}
-use Rattle.script_text.specs.Groups.{Group, group_of, NoneOf, IsPlain, IsBare, Skipped, Classes, Sessions, Edits, Fixes, Validations, Marks, Listings}
+use Rattle.script_text.specs.Groups.{Group, group_of, NoneOf, IsPlain, IsBare, Skipped, Classes, Sessions, Edits, Fixes, Validations, Marks, Listings, Versions}
 
 pub no_kind : (text : List ℕ) → (IsLine text (Word (codes "point") ∷ []) → ⊥) → (IsLine text (Word (codes "line") ∷ []) → ⊥)
     → (IsLine text (Word (codes "polygon") ∷ []) → ⊥)
@@ -50,6 +50,18 @@ no_session line begin end discard (form.Begin e) g p = begin e p
 no_session line begin end discard (form.End e) g p = end e p
 no_session line begin end discard (form.Discard e) g p = discard e p
 no_session line begin end discard f g p = absurd cc
+
+pub no_version : (line : List ℕ)
+    → ((n : List ℕ) → IsLine line (Word (codes "version") ∷ Name n ∷ []) → ⊥)
+    → ((n : List ℕ) → IsLine line (Word (codes "in") ∷ Name n ∷ []) → ⊥)
+    → ((n : List ℕ) → IsLine line (Word (codes "reconcile") ∷ Name n ∷ []) → ⊥)
+    → ((n : List ℕ) → IsLine line (Word (codes "post") ∷ Name n ∷ []) → ⊥)
+    → NoneOf Versions line
+no_version line made gone merged posted (form.Version n) g p = made n p
+no_version line made gone merged posted (form.In n) g p = gone n p
+no_version line made gone merged posted (form.Reconcile n) g p = merged n p
+no_version line made gone merged posted (form.Post n) g p = posted n p
+no_version line made gone merged posted f g p = absurd cc
 
 -- behind the editor
 pub no_edit : (text : List ℕ)
@@ -90,7 +102,7 @@ no_listing line dirty errors cells features rules corners (form.Corners r a b) g
 no_listing line dirty errors cells features rules corners f g p = absurd cc
 
 pub no_words : (line : List ℕ) → NoneOf Edits line → NoneOf Fixes line → NoneOf Validations line
-    → NoneOf Listings line × NoneOf Classes line × NoneOf Sessions line × NoneOf Marks line
+    → NoneOf Listings line × NoneOf Classes line × NoneOf Sessions line × NoneOf Versions line × NoneOf Marks line
     → (f : Form) → group_of f ≢ Skipped → HasForm line f → ⊥
 no_words line edits fixes validations plain f other p = by (group_of f) refl
   where
@@ -101,7 +113,8 @@ no_words line edits fixes validations plain f other p = by (group_of f) refl
     by Edits e = edits f e p
     by Fixes e = fixes f e p
     by Validations e = validations f e p
-    by Marks e = plain.3 f e p
+    by Versions e = plain.3 f e p
+    by Marks e = plain.4 f e p
     by Listings e = plain.0 f e p
 
 pub no_form : (line : List ℕ) → is_skipped line ≡ false → ((f : Form) → group_of f ≢ Skipped → HasForm line f → ⊥) → (f : Form)

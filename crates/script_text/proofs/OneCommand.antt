@@ -70,6 +70,10 @@ said t v form.Cells = form.Cells
 said t v form.Features = form.Features
 said t v form.Rules = form.Rules
 said t v (form.Corners r a b) = form.Corners r a b
+said t v (form.Version n) = form.Version n
+said t v (form.In n) = form.In n
+said t v (form.Reconcile n) = form.Reconcile n
+said t v (form.Post n) = form.Post n
 
 said_there : (line t : List ℕ) (v : Window) (c : Command) → IsLine line (pieces (λ _. Rest t) (λ _. written v) c)
     → HasForm line (said t v c)

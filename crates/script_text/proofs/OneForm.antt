@@ -63,6 +63,10 @@ tag form.Cells = 18
 tag form.Features = 19
 tag form.Rules = 20
 tag (form.Corners r a b) = 21
+tag (form.Version n) = 22
+tag (form.In n) = 23
+tag (form.Reconcile n) = 24
+tag (form.Post n) = 25
 
 abbrev edit_tag : List ℕ → ℕ
 edit_tag word =
@@ -76,13 +80,20 @@ edit_tag word =
     (if bytes_eq word (codes "snap") then 32 else
     (if bytes_eq word (codes "create") then 33 else 34))))))))
 
+abbrev version_tag : List ℕ → ℕ
+version_tag word =
+    if bytes_eq word (codes "version") then 22 else
+    (if bytes_eq word (codes "in") then 23 else
+    (if bytes_eq word (codes "reconcile") then 24 else 25))
+
 abbrev listing_tag : List ℕ → ℕ
 listing_tag word =
     if bytes_eq word (codes "dirty") then 16 else
     (if bytes_eq word (codes "errors") then 17 else
     (if bytes_eq word (codes "cells") then 18 else
     (if bytes_eq word (codes "features") then 19 else
-    (if bytes_eq word (codes "rules") then 20 else 21))))
+    (if bytes_eq word (codes "rules") then 20 else
+    (if bytes_eq word (codes "corners") then 21 else version_tag word)))))
 
 abbrev tag_of : List ℕ → List ℕ → ℕ
 tag_of word third =
@@ -140,6 +151,10 @@ tagged s w line form.Cells p = by_word line (codes "cells") p.0
 tagged s w line form.Features p = by_word line (codes "features") p.0
 tagged s w line form.Rules p = by_word line (codes "rules") p.0
 tagged s w line (form.Corners r a b) p = by_word line (codes "corners") p.0
+tagged s w line (form.Version n) p = by_word line (codes "version") p.0
+tagged s w line (form.In n) p = by_word line (codes "in") p.0
+tagged s w line (form.Reconcile n) p = by_word line (codes "reconcile") p.0
+tagged s w line (form.Post n) p = by_word line (codes "post") p.0
 
 -- ---- and each form has its values from the line
 one_second : (takes : Bool) (text : List ℕ) (d e : Option Sided) → IsLine text (second_class takes d)
@@ -248,6 +263,10 @@ one_of s t v w M N O P Q R shapes windows line (form.Corners r a b) (form.Corner
     let subject = one_number (third line) 1 4294967295 a y p.1.1.0 q.1.1.0 in
     let other = one_number (fourth line) 0 4294967295 b z p.1.1.1.0 q.1.1.1.0 in
     cc
+one_of s t v w M N O P Q R shapes windows line (form.Version x) (form.Version y) p q m n e = cc
+one_of s t v w M N O P Q R shapes windows line (form.In x) (form.In y) p q m n e = cc
+one_of s t v w M N O P Q R shapes windows line (form.Reconcile x) (form.Reconcile y) p q m n e = cc
+one_of s t v w M N O P Q R shapes windows line (form.Post x) (form.Post y) p q m n e = cc
 one_of s t v w M N O P Q R shapes windows line c d p q m n e = absurd (omega (arith, e))
 
 one_rect : (text : List ℕ) (q r : Rectangle) → IsLine text (written (Numbers q)) → IsLine text (written (Numbers r)) → q ≡ r

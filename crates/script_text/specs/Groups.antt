@@ -18,6 +18,7 @@ pub data Group : Type 0 where
   Validations : Group
   Marks : Group
   Listings : Group
+  Versions : Group
 
 abbrev pub group_of : Form → Group
 group_of command.Blank = Skipped
@@ -46,6 +47,10 @@ group_of command.Cells = Listings
 group_of command.Features = Listings
 group_of command.Rules = Listings
 group_of (command.Corners r a b) = Listings
+group_of (command.Version n) = Versions
+group_of (command.In n) = Versions
+group_of (command.Reconcile n) = Versions
+group_of (command.Post n) = Versions
 
 abbrev pub NoneOf : Group → List ℕ → Type 0
 NoneOf g line = (f : Form) → group_of f ≡ g → HasForm line f → ⊥

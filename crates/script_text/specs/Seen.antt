@@ -40,3 +40,7 @@ command_of command.Cells = commands.Cells
 command_of command.Features = commands.Features
 command_of command.Rules = commands.Rules
 command_of (command.Corners rule subject other) = commands.Corners rule subject (number_of other)
+command_of (command.Version name) = commands.Version name
+command_of (command.In name) = commands.In name
+command_of (command.Reconcile name) = commands.Reconcile name
+command_of (command.Post name) = commands.Post name

@@ -74,4 +74,12 @@ pub enum Command {
     Rules,
     /// `corners R H H2`; where H2 is 0, there is no partner.
     Corners(u16, u32, Option<NonZeroU32>),
+    /// `version NAME`
+    Version(Name),
+    /// `in NAME`
+    In(Name),
+    /// `reconcile NAME`
+    Reconcile(Name),
+    /// `post NAME`
+    Post(Name),
 }

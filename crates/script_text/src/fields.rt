@@ -23,13 +23,13 @@ pub fn next_name(text: &[u8]) -> Option<(Name, &[u8])>
 fn sided_of(field: &[u8]) -> Option<Sided>
     ensures { MatchOption result ((a : commands.Sided) → IsSided field.now a → ⊥) (λ a. IsSided field.now a) }
 {
-    let Some((front, digits)) = split_colon(field) else {
-        let name = Name::of(field)?;
+    if let Some(name) = Name::of(field) {
         return Some(Sided {
             name,
             subtype: None,
         });
-    };
+    }
+    let (front, digits) = split_colon(field)?;
     let name = Name::of(front)?;
     let subtype = number_within(digits, 0, 255)? as u8;
     Some(Sided {

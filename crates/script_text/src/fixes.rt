@@ -96,13 +96,7 @@ fn snap_of(
 }
 
 #[tactic(auto, using(crate::proofs::FixLines::out_fault))]
-fn create_of(
-    editor: Name,
-    rule: u16,
-    handle: u32,
-    x: Whole,
-    y: Whole,
-) -> Result<Command, LineFault>
+fn create_of(editor: Name, rule: u16, handle: u32, x: Whole, y: Whole) -> Result<Command, LineFault>
     ensures { (q : Place) → AreOf x y q → MatchResult result (λ c. (command_of c ≡ command.Create editor rule handle q) × IsInReach q) (IsNoPlace (coordinates q)) }
 {
     let at = place_of(0, x, y)?;
@@ -110,13 +104,7 @@ fn create_of(
 }
 
 #[tactic(auto, using(crate::proofs::FixLines::first_fault, crate::proofs::FixLines::second_fault))]
-fn move_of(
-    editor: Name,
-    x: Whole,
-    y: Whole,
-    x2: Whole,
-    y2: Whole,
-) -> Result<Command, LineFault>
+fn move_of(editor: Name, x: Whole, y: Whole, x2: Whole, y2: Whole) -> Result<Command, LineFault>
     ensures { (q p : Place) → AreOf x y q → AreOf x2 y2 p
         → MatchResult result (λ c. (command_of c ≡ command.Move editor q p) × IsInReach q × IsInReach p) (IsNoPlace (coordinates q ++ coordinates p)) }
 {

@@ -13,6 +13,7 @@ mod number;
 mod read;
 mod sessions;
 mod validations;
+mod versions;
 mod whole;
 
 pub use command::{Command, Sided};

@@ -6,7 +6,7 @@ ghost use Rattle.line_terms.specs.Forms.{HasForm};
 ghost use Rattle.line_terms.specs.Lines.{IsCommandLine, IsLineFault};
 ghost use Rattle.line_terms.specs.declared.line_refusal.LineRefusal as line_refusal;
 ghost use Rattle.script_text.specs.Faults.{IsFault, IsRead};
-ghost use Rattle.script_text.specs.Groups.{group_of, IsBare, NoneOf, Skipped, Classes, Sessions, Marks, Listings};
+ghost use Rattle.script_text.specs.Groups.{group_of, IsBare, NoneOf, Skipped, Classes, Sessions, Marks, Listings, Versions};
 ghost use Rattle.script_text.specs.Seen.{command_of};
 ghost use Rattle.script_text.specs.declared.fault.LineFault.TheVariants as line_fault;
 
@@ -20,6 +20,7 @@ use crate::listings::read_listings;
 use crate::marks::read_marks;
 use crate::sessions::read_sessions;
 use crate::validations::read_validations;
+use crate::versions::read_versions;
 use line_terms::LineRefusal;
 use std::alloc::Global;
 
@@ -28,7 +29,7 @@ pub const LINE_LIMIT: usize = 1_048_576;
 
 // The command of a line that has no shape and no window.
 fn read_plain(line: &[u8]) -> Option<Command>
-    ensures none { MatchOption result (NoneOf Listings line.now × NoneOf Classes line.now × NoneOf Sessions line.now × NoneOf Marks line.now)
+    ensures none { MatchOption result (NoneOf Listings line.now × NoneOf Classes line.now × NoneOf Sessions line.now × NoneOf Versions line.now × NoneOf Marks line.now)
         (λ c. IsBare line.now (command_of c)) }
 {
     if let Some(command) = read_listings(line) {
@@ -38,6 +39,9 @@ fn read_plain(line: &[u8]) -> Option<Command>
         return Some(command);
     }
     if let Some(command) = read_sessions(line) {
+        return Some(command);
+    }
+    if let Some(command) = read_versions(line) {
         return Some(command);
     }
     read_marks(line)

@@ -9,8 +9,8 @@ use crate::fields::next_name;
 use grid_plane::Name;
 use text_fields::{behind_word, is_over};
 
-// The name behind this word, of a line that has just these.
-fn name_behind(line: &[u8], word: &[u8]) -> Option<Name>
+/// The name behind this word, of a line that has just these.
+pub fn name_behind(line: &[u8], word: &[u8]) -> Option<Name>
     ensures { MatchOption result ((n : List ℕ) → IsLine line.now (form.Word word.now ∷ form.Name n ∷ []) → ⊥)
         (λ n. IsLine line.now (form.Word word.now ∷ form.Name n ∷ [])) }
 {

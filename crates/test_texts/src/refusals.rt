@@ -7,7 +7,7 @@ use shape::ShapeFault;
 use std::test::Fail;
 use topo_core::Topology;
 
-const REFUSALS: [Refusal; 30] = [
+const REFUSALS: [Refusal; 36] = [
     Refusal::Line(LineRefusal::NotALine),
     Refusal::Line(LineRefusal::TooLong),
     Refusal::Change(Cause::ClassTaken),
@@ -36,6 +36,12 @@ const REFUSALS: [Refusal; 30] = [
     Refusal::Line(LineRefusal::Reversed),
     Refusal::Change(Cause::NoError),
     Refusal::Change(Cause::AlreadySo),
+    Refusal::VersionTaken,
+    Refusal::VersionsFull,
+    Refusal::NoVersion,
+    Refusal::SessionsOpen,
+    Refusal::Stale(7),
+    Refusal::VersionsThere,
     Refusal::NothingToFix,
     Refusal::BadShape(ShapeFault::Cross { i: 1, j: 3 }),
 ];
@@ -68,6 +74,12 @@ refused E23
 refused E24
 refused E25
 refused E26
+refused E27
+refused E28
+refused E29
+refused E30
+refused E31 7
+refused E32
 refused E34
 refused E18 cross 1 3
 ";

@@ -7,7 +7,7 @@ use Rattle.topology_terms.specs.Project.{IsOrdered}
 use Rattle.script_terms.specs.Ends.{StopsInLast}
 use Rattle.script_terms.specs.Headline.{SoundHeadline, Invariant}
 use Rattle.script_terms.specs.Keeping.{IsKeeping}
-use Rattle.script_terms.specs.State.{State}
+use Rattle.script_terms.specs.State.{State, OfAll, desk_of}
 use Rattle.script_terms.specs.Run.{Outcome, Run, text_of, any_refused, last_state, EachSound, EachInvariant, EachKeeping, WritesRun, WritesPrefix}
 use Rattle.script_terms.proofs.Runs.{run_keeps}
 use Rattle.script_terms.proofs.Starts.{last_sound, last_settled}
@@ -95,7 +95,7 @@ find s (line ∷ lines) (o ∷ os) text missing run is some = elim (cases_lt (le
 ]
 
 -- ---- what holds in each state of a run does in each state of its first part
-sound_head : (s : State) (os : List Outcome) → EachSound s os → SoundHeadline s.project
+sound_head : (s : State) (os : List Outcome) → EachSound s os → OfAll SoundHeadline s
 sound_head s [] h = h
 sound_head s (o ∷ os) h = h.0
 
@@ -103,7 +103,7 @@ sound_front : (s : State) (os ps : List Outcome) → EachSound s (os ++ ps) → 
 sound_front s [] ps h = sound_head s ps h
 sound_front s (o ∷ os) ps h = (h.0, sound_front o.after os ps h.1)
 
-invariant_head : (s : State) (os : List Outcome) → EachInvariant s os → Invariant s.project
+invariant_head : (s : State) (os : List Outcome) → EachInvariant s os → OfAll Invariant s
 invariant_head s [] h = h
 invariant_head s (o ∷ os) h = h.0
 
@@ -113,7 +113,7 @@ invariant_front s (o ∷ os) ps h = (h.0, invariant_front o.after os ps h.1)
 
 -- of what is pending a part was written, and the writing failed
 pub breaks : {start now : State} {all rest : List (List ℕ)} {before written mid : Option (List ℕ)} {pending : List ℕ} {refused : Bool}
-    (part left : List ℕ) → SoFar start all rest now before written pending refused → IsKeeping start → IsOrdered start.project
+    (part left : List ℕ) → SoFar start all rest now before written pending refused → IsKeeping (desk_of start) → OfAll IsOrdered start
     → pending ≡ part ++ left → length part < length pending → Appends written mid part → BreaksIn start all before mid
 breaks {start} {now} {all} {rest} {before} {written} {mid} {pending} {refused} part left far keeping ordered split short more =
     let text_is : text_of far.course.outcomes ≡ (far.front ++ part) ++ left =

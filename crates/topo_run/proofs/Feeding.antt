@@ -11,7 +11,7 @@ use Rattle.std.proofs.KnownBytes.{Appends-nil}
 use Rattle.topology_terms.specs.Project.{IsOrdered}
 use Rattle.text_terms.specs.Lines.{without_cr, lines_from, lines_of}
 use Rattle.script_terms.specs.Keeping.{IsKeeping}
-use Rattle.script_terms.specs.State.{State}
+use Rattle.script_terms.specs.State.{State, OfAll, desk_of}
 use Rattle.script_terms.specs.Run.{Outcome, Step, WritesPrefix}
 use Rattle.topo_run.specs.Told.{Keeps}
 use Rattle.topo_run.specs.Replayers.{rest_limit, HasNoLf, Holds, Replaying, EndsLine, Answers, BreaksIn, tail_from, tail_of}
@@ -83,8 +83,8 @@ piece_flushed {old} {now} {all} {end} {left} {before} {written} {mid} {pending} 
 }
 
 pub piece_ends : {old now next : Replaying} {all : List (List ℕ)} {end left : List ℕ} {before written after : Option (List ℕ)}
-    {pending bytes : List ℕ} → InPiece old all end now left before written pending → HasNoLf left → IsKeeping old.state
-    → IsOrdered old.state.project → next ≡ record { state = now.state; rest = take rest_limit (now.rest ++ left); refused = now.refused }
+    {pending bytes : List ℕ} → InPiece old all end now left before written pending → HasNoLf left → IsKeeping (desk_of old.state)
+    → OfAll IsOrdered old.state → next ≡ record { state = now.state; rest = take rest_limit (now.rest ++ left); refused = now.refused }
     → bytes ≡ pending → Appends written after bytes → Answers old all end before after next
 piece_ends {old} {now} {next} {all} {end} {left} {before} {written} {after} {pending} {bytes} p plain keeping ordered is same more =
     subst (λ (r : Replaying). Answers old all end before after r) (sym is) (record {
@@ -96,21 +96,21 @@ piece_ends {old} {now} {next} {all} {end} {left} {before} {written} {after} {pen
     })
 
 pub piece_stops : {old now : Replaying} {all : List (List ℕ)} {end left : List ℕ} {before written : Option (List ℕ)} {pending : List ℕ}
-    → InPiece old all end now left before written pending → IsKeeping old.state → IsOrdered old.state.project
+    → InPiece old all end now left before written pending → IsKeeping (desk_of old.state) → OfAll IsOrdered old.state
     → WritesPrefix old.state all before written
 piece_stops p keeping ordered = stops p.far keeping ordered
 
 pub piece_breaks : {old now : Replaying} {all : List (List ℕ)} {end left : List ℕ} {before written mid : Option (List ℕ)}
-    {pending : List ℕ} (part rest : List ℕ) → InPiece old all end now left before written pending → IsKeeping old.state
-    → IsOrdered old.state.project → pending ≡ part ++ rest → length part < length pending → Appends written mid part
+    {pending : List ℕ} (part rest : List ℕ) → InPiece old all end now left before written pending → IsKeeping (desk_of old.state)
+    → OfAll IsOrdered old.state → pending ≡ part ++ rest → length part < length pending → Appends written mid part
     → BreaksIn old.state all before mid
 piece_breaks part rest p keeping ordered split short more = breaks part rest p.far keeping ordered split short more
 
 -- ---- the last line, which no LF ends
 
 -- nothing is held
-pub nothing_ends : (old : Replaying) (tail : List ℕ) (before : Option (List ℕ)) → Keeps old.state old.state → IsKeeping old.state
-    → IsOrdered old.state.project → old.rest ≡ [] → Holds tail old.rest → Answers old (lines_of true tail) [] before before old
+pub nothing_ends : (old : Replaying) (tail : List ℕ) (before : Option (List ℕ)) → Keeps old.state old.state → IsKeeping (desk_of old.state)
+    → OfAll IsOrdered old.state → old.rest ≡ [] → Holds tail old.rest → Answers old (lines_of true tail) [] before before old
 nothing_ends old tail before keeps keeping ordered none holds =
     let empty : tail ≡ [] = none_held tail old.rest holds none in
     record {
@@ -133,7 +133,7 @@ last_far {old} {next} {pending} tail before keeps some holds e =
     (begins old.state (lines_of true tail) before keeps)) e.step e.keeps e.grown
 
 pub last_ends : {old next : Replaying} {pending bytes : List ℕ} {before after : Option (List ℕ)} (tail : List ℕ) → Keeps old.state old.state
-    → IsKeeping old.state → IsOrdered old.state.project → old.rest ≢ [] → Holds tail old.rest
+    → IsKeeping (desk_of old.state) → OfAll IsOrdered old.state → old.rest ≢ [] → Holds tail old.rest
     → ((t : List ℕ) → Holds t old.rest → EndsLine old (t ++ []) [] pending next) → bytes ≡ pending → Appends before after bytes
     → Answers old (lines_of true tail) [] before after next
 last_ends {old} {next} {pending} {bytes} {before} {after} tail keeps keeping ordered some holds ended same more =
@@ -146,15 +146,15 @@ last_ends {old} {next} {pending} {bytes} {before} {after} tail keeps keeping ord
     }
 
 pub last_breaks : {old next : Replaying} {pending : List ℕ} {before mid : Option (List ℕ)} (tail part rest : List ℕ) → Keeps old.state old.state
-    → IsKeeping old.state → IsOrdered old.state.project → old.rest ≢ [] → Holds tail old.rest
+    → IsKeeping (desk_of old.state) → OfAll IsOrdered old.state → old.rest ≢ [] → Holds tail old.rest
     → ((t : List ℕ) → Holds t old.rest → EndsLine old (t ++ []) [] pending next) → pending ≡ part ++ rest → length part < length pending
     → Appends before mid part → BreaksIn old.state (lines_of true tail) before mid
 last_breaks {old} {next} {pending} {before} {mid} tail part rest keeps keeping ordered some holds ended split short more =
     breaks part rest (last_far tail before keeps some holds (ended tail holds)) keeping ordered split short more
 
 -- nothing was written
-pub none_written : (start : State) (lines : List (List ℕ)) (before : Option (List ℕ)) → Keeps start start → IsKeeping start
-    → IsOrdered start.project → WritesPrefix start lines before before
+pub none_written : (start : State) (lines : List (List ℕ)) (before : Option (List ℕ)) → Keeps start start → IsKeeping (desk_of start)
+    → OfAll IsOrdered start → WritesPrefix start lines before before
 none_written start lines before keeps keeping ordered = stops (begins start lines before keeps) keeping ordered
 
 -- ---- the answer to a line that ends

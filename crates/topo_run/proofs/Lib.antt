@@ -10,6 +10,7 @@ pub mod Spelling
 pub mod OneRun
 pub mod Restores
 pub mod Fixed
+pub mod Versions
 pub mod Towns
 pub mod Saying
 pub mod Opened

@@ -9,7 +9,7 @@ use Rattle.script_terms.specs.Refusal.{Line}
 use Rattle.script_terms.specs.Reply.{Reply, Refused, reply_text}
 use Rattle.script_terms.specs.State.{State}
 use Rattle.script_terms.specs.Run.{Reading, Reads, Faulty, Outcome, Step, Run, ComesOf, ReadsAs, is_refusal}
-use Rattle.command_answers.proofs.OneAnswer.{one_answer}
+use Rattle.command_answers.proofs.AllVersions.{one_reply}
 
 same_outcome : (o p : Outcome) → o.text ≡ p.text → o.after ≡ p.after → o.refused ≡ p.refused → o ≡ p
 same_outcome o p t a r =
@@ -34,7 +34,7 @@ one_step C s line o p a b = by a.reading b.reading a.reads b.reads a.comes b.com
     by (Reads c) (Reads d) i j k l =
         let same : c ≡ d = one_command line c d i j in
         let l' = subst (λ (e : Command). ComesOf s (Reads e) p) (sym same) l in
-        let answer = one_answer C s o.after p.after c k.0 l'.0 a.ordered b.ordered k.1 l'.1 in
+        let answer = one_reply C s o.after p.after c k.0 l'.0 a.ordered b.ordered k.1 l'.1 in
         replies o p k.0 l'.0 k.2 k.3 l'.2 l'.3 answer.0 answer.1
 
 pub one_run : CutsRight poster → (s : State) (lines : List (List ℕ)) (os ps : List Outcome) → Run s lines os

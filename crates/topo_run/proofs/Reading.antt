@@ -20,7 +20,7 @@ use Rattle.outside_terms.specs.declared.end.End.TheVariants.{AtEnd, Failed, TooL
 use Rattle.script_terms.specs.Ends.{ReplaysSome, BreaksOff}
 use Rattle.script_terms.specs.Keeping.{IsKeeping}
 use Rattle.script_terms.specs.Run.{WritesPrefix}
-use Rattle.script_terms.specs.State.{State}
+use Rattle.script_terms.specs.State.{State, OfAll, desk_of}
 use Rattle.topo_run.specs.Told as told
 use Rattle.topo_run.specs.Told.{WritesTo}
 use Rattle.topo_run.specs.Replayers.{Holds, Replaying, Answers, AnswersAll, BreaksIn, tail_of}
@@ -76,8 +76,8 @@ pub record Taking (old now : Replaying) (source left before written : Option (Li
   pub fits : length given + room ≡ script_limit
   pub answered : HasAnswered old now given before written
 
-pub taking_begins : (old : Replaying) (source before : Option (List ℕ)) → told.Keeps old.state old.state → IsKeeping old.state
-    → IsOrdered old.state.project → old.rest ≡ [] → Taking old old source source before before script_limit
+pub taking_begins : (old : Replaying) (source before : Option (List ℕ)) → told.Keeps old.state old.state → IsKeeping (desk_of old.state)
+    → OfAll IsOrdered old.state → old.rest ≡ [] → Taking old old source source before before script_limit
 taking_begins old source before keeps keeping ordered none = record {
   given = [];
   consumed = Consumes-nil source;
@@ -186,7 +186,7 @@ clash : false ≡ true → ⊥
 clash e = cc
 
 -- nothing was read
-pub none_taken : (s k : Passage) (start : State) → told.Keeps start start → IsKeeping start → IsOrdered start.project → s.old ≡ s.new → k.old ≡ k.new
+pub none_taken : (s k : Passage) (start : State) → told.Keeps start start → IsKeeping (desk_of start) → OfAll IsOrdered start → s.old ≡ s.new → k.old ≡ k.new
     → ReplaysSome start s k
 none_taken s k start keeps keeping ordered unread unwritten = record {
   given = [];

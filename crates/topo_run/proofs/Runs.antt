@@ -7,12 +7,12 @@ use Rattle.std.proofs.lemmas.List.{take-append-drop, take_all, length-drop}
 use Rattle.std.specs.Prelude.{Result, Ok, Err, OnErr}
 use Rattle.std.specs.Io.KnownBytes.{Appends}
 use Rattle.std.proofs.KnownBytes.{Appends-nil, Appends-trans}
-use Rattle.script_terms.specs.State.{State}
+use Rattle.script_terms.specs.State.{State, empty_state, OfAll, desk_of}
 use Rattle.script_terms.specs.Run.{Outcome, Step, Run, text_of, any_refused, last_state, EachSound, EachInvariant, WritesPrefix}
 use Rattle.script_terms.specs.Headline.{SoundHeadline, Invariant}
 use Rattle.script_terms.proofs.Runs.{run_keeps}
 use Rattle.script_terms.proofs.Starts.{last_sound, last_settled}
-use Rattle.topology_terms.specs.Project.{IsOrdered, empty_project}
+use Rattle.topology_terms.specs.Project.{IsOrdered}
 use Rattle.topology_terms.specs.Settled.{IsSettled}
 use Rattle.topology_terms.specs.Sound.{IsSound}
 use Rattle.script_terms.specs.Keeping.{IsKeeping}
@@ -45,11 +45,11 @@ pub any_snoc : (os : List Outcome) (o : Outcome) → any_refused (os ++ o ∷ []
 any_snoc [] o = search rules
 any_snoc (p ∷ os) o = grind (arith, any_snoc os o)
 
-pub sound_snoc : (s : State) (os : List Outcome) (o : Outcome) → EachSound s os → SoundHeadline o.after.project → EachSound s (os ++ o ∷ [])
+pub sound_snoc : (s : State) (os : List Outcome) (o : Outcome) → EachSound s os → OfAll SoundHeadline o.after → EachSound s (os ++ o ∷ [])
 sound_snoc s [] o h k = (h, k)
 sound_snoc s (p ∷ os) o h k = (h.0, sound_snoc p.after os o h.1 k)
 
-pub invariant_snoc : (s : State) (os : List Outcome) (o : Outcome) → EachInvariant s os → Invariant o.after.project
+pub invariant_snoc : (s : State) (os : List Outcome) (o : Outcome) → EachInvariant s os → OfAll Invariant o.after
     → EachInvariant s (os ++ o ∷ [])
 invariant_snoc s [] o h k = (h, k)
 invariant_snoc s (p ∷ os) o h k = (h.0, invariant_snoc p.after os o h.1 k)
@@ -68,15 +68,15 @@ course_begins start all keeps = record {
 }
 
 -- the state that it has come to
-pub now_sound : {start now : State} {all rest : List (List ℕ)} {refused : Bool} → Course start all rest now refused → IsSound start.project
-    → IsSound now.project
+pub now_sound : {start now : State} {all rest : List (List ℕ)} {refused : Bool} → Course start all rest now refused → OfAll IsSound start
+    → OfAll IsSound now
 now_sound {start} {now} {all} {rest} {refused} far k =
-    subst (λ (s : State). IsSound s.project) far.last (last_sound start far.outcomes (far.sound k))
+    subst (λ (s : State). OfAll IsSound s) far.last (last_sound start far.outcomes (far.sound k))
 
 pub now_settled : {start now : State} {all rest : List (List ℕ)} {refused : Bool} → Course start all rest now refused
-    → IsSound start.project → IsSettled start.project → IsSettled now.project
+    → OfAll IsSound start → OfAll IsSettled start → OfAll IsSettled now
 now_settled {start} {now} {all} {rest} {refused} far k l =
-    subst (λ (s : State). IsSettled s.project) far.last (last_settled start far.outcomes (far.invariant k l))
+    subst (λ (s : State). OfAll IsSettled s) far.last (last_settled start far.outcomes (far.invariant k l))
 
 -- one line more was answered
 abbrev pub course_goes_on : {start now : State} {all : List (List ℕ)} {line : List ℕ} {rest : List (List ℕ)} {refused : Bool} {o : Outcome}
@@ -138,12 +138,12 @@ takes {start} {now} {next} {all} {lines} {line} {rest} {before} {written} {pendi
     goes_on {o = record { text = taken.0; after = next; refused = bad }} (subst (λ (ls : List (List ℕ)). SoFar start all ls now before
     written pending refused) is far) taken.2 taken.3 taken.1
 
-pub empty_ordered : IsOrdered empty_project
-empty_ordered = record { rules = tt; features = tt; next = tt; entries = tt }
+pub empty_ordered : OfAll IsOrdered empty_state
+empty_ordered = (record { rules = tt; features = tt; next = tt; entries = tt }, tt)
 
 -- all lines were answered, and what was pending is written
 pub ends : {start now : State} {all lines : List (List ℕ)} {before written after : Option (List ℕ)} {pending bytes : List ℕ} {refused : Bool}
-    → SoFar start all lines now before written pending refused → IsKeeping start → IsOrdered start.project → lines ≡ [] → bytes ≡ pending
+    → SoFar start all lines now before written pending refused → IsKeeping (desk_of start) → OfAll IsOrdered start → lines ≡ [] → bytes ≡ pending
     → Appends written after bytes → WritesTo start all before after refused now
 ends {start} {now} {all} {lines} {before} {written} {after} {pending} {bytes} {refused} far keeping ordered none same more =
     let run : Run start all far.course.outcomes = rw (course_ends far.course none) far.course.run in
@@ -163,7 +163,7 @@ ends {start} {now} {all} {lines} {before} {written} {after} {pending} {bytes} {r
 
 -- what was written so far is a prefix
 pub stops : {start now : State} {all rest : List (List ℕ)} {before written : Option (List ℕ)} {pending : List ℕ} {refused : Bool}
-    → SoFar start all rest now before written pending refused → IsKeeping start → IsOrdered start.project
+    → SoFar start all rest now before written pending refused → IsKeeping (desk_of start) → OfAll IsOrdered start
     → WritesPrefix start all before written
 stops {start} {now} {all} {rest} {before} {written} {pending} {refused} far keeping ordered = record {
   first = far.course.done;

@@ -13,8 +13,9 @@ use Rattle.outside_terms.specs.declared.status.Status.{Status}
 use Rattle.outside_terms.specs.declared.status.Status.TheVariants as status
 use Rattle.script_terms.specs.Ends.{Replays, EndsFrom, EndsAs}
 use Rattle.script_terms.specs.Run.{last_state}
-use Rattle.script_terms.specs.State.{State, empty_state}
-use Rattle.script_terms.proofs.Starts.{last_sound, last_settled}
+use Rattle.version_terms.specs.Versions.{root_of}
+use Rattle.script_terms.specs.State.{State, empty_state, tree_of}
+use Rattle.script_terms.proofs.Starts.{root_settled, root_sound, last_sound, last_settled}
 use Rattle.opening_terms.specs.Opening.{EndsUnopened, IsOpeningComplete}
 use Rattle.opening_terms.specs.Replaying.{IsStart, IsToldStart, start_of, EndsAsReplayOf, IsReplayOfComplete}
 use Rattle.opening_terms.specs.Saving.{Saves, SavesRun, EndsSaving, EndsAsReplayTo, IsReplayToComplete}
@@ -132,16 +133,16 @@ not_answered start last target s h k status.TooLong r test held = (r, held)
 not_answered start last target s h k status.NoProject r test held = (r, held)
 
 saves_run : (start last : State) (target : List ℕ) (s : Passage) (h : Visit) (k : Passage) (refused : Bool)
-    → (r : ReplaysTo start last s k refused) → Saves h target last.project → SavesRun start target s h k r.kept refused
+    → (r : ReplaysTo start last s k refused) → Saves h target (root_of (tree_of last)) → SavesRun start target s h k r.kept refused
 saves_run start last target s h k refused r saved = record {
   all = r.all;
-  saved = subst (λ (x : State). Saves h target x.project) (sym r.last) saved;
-  sound = λ i. last_sound start r.all.run.outcomes (r.all.run.sound i);
-  settled = λ i l. last_settled start r.all.run.outcomes (r.all.run.invariant i l);
+  saved = subst (λ (x : State). Saves h target (root_of (tree_of x))) (sym r.last) saved;
+  sound = λ i. root_sound (last_state start r.all.run.outcomes) (last_sound start r.all.run.outcomes (r.all.run.sound i));
+  settled = λ i l. root_settled (last_state start r.all.run.outcomes) (last_settled start r.all.run.outcomes (r.all.run.invariant i l));
 }
 
 pub answered_saved : (start last : State) (target : List ℕ) (s : Passage) (h : Visit) (k : Passage) (t : Status) → EndsAt start last s k t
-    → (t ≡ status.Done) ⊎ (t ≡ status.Refused) → Saves h target last.project → EndsSaving start target s h k t
+    → (t ≡ status.Done) ⊎ (t ≡ status.Refused) → Saves h target (root_of (tree_of last)) → EndsSaving start target s h k t
 answered_saved start last target s h k t ends (inl is) saved =
     subst (λ (x : Status). EndsSaving start target s h k x) (sym is) (
     let r : ReplaysTo start last s k false = subst (λ (x : Status). EndsAt start last s k x) is ends in
@@ -188,7 +189,7 @@ after_run : (start : State) (target : List ℕ) (s : Passage) (h : Visit) (k : P
     → SavesRun start target s (record { old = old; new = h.new; before = before; now = h.now }) k kept refused
 after_run start target s h k old before kept refused held r = record {
   all = r.all;
-  saved = after_saves target h old before (last_state start r.all.run.outcomes).project held r.saved;
+  saved = after_saves target h old before (root_of (tree_of (last_state start r.all.run.outcomes))) held r.saved;
   sound = r.sound;
   settled = r.settled;
 }

@@ -16,7 +16,7 @@ use Rattle.reply_text.specs.declared.reply.Reply.TheVariants as reply
 use Rattle.reply_text.specs.Replies.{said_of}
 use Rattle.topology_terms.specs.Settled.{IsSettled}
 use Rattle.topology_terms.specs.Sound.{IsSound}
-use Rattle.script_terms.specs.State.{State}
+use Rattle.script_terms.specs.State.{State, OfAll}
 use Rattle.script_terms.specs.Reply.{reply_text}
 use Rattle.script_terms.specs.Headline.{SoundHeadline, Invariant}
 use Rattle.script_terms.specs.Ends.{Replays, EndsFrom}
@@ -32,8 +32,8 @@ judged_in (reply.Judged summary) = summary.judged
 judged_in other = 0
 
 pub record Keeps (s t : State) : Type 0 where
-  pub sound : IsSound s.project → SoundHeadline t.project
-  pub invariant : IsSound s.project → IsSettled s.project → Invariant t.project
+  pub sound : OfAll IsSound s → OfAll SoundHeadline t
+  pub invariant : OfAll IsSound s → OfAll IsSettled s → OfAll Invariant t
 
 pub record IsReplyTo (s : State) (line : List ℕ) (r : Reply) (t : State) : Type 0 where
   pub step : Step s line (record { text = reply_text (said_of t.project r); after = t; refused = is_refusal (said_of t.project r) })
@@ -47,8 +47,8 @@ pub record Course (start : State) (all rest : List (List ℕ)) (now : State) (re
   pub run : Run start done outcomes
   pub last : last_state start outcomes ≡ now
   pub any : any_refused outcomes ≡ refused
-  pub sound : IsSound start.project → EachSound start outcomes
-  pub invariant : IsSound start.project → IsSettled start.project → EachInvariant start outcomes
+  pub sound : OfAll IsSound start → EachSound start outcomes
+  pub invariant : OfAll IsSound start → OfAll IsSettled start → EachInvariant start outcomes
 
 pub record IsTold (start : State) (all rest : List (List ℕ)) (now : State) (count : ℕ) (refused : Bool) : Type 0 where
   pub course : Course start all rest now refused

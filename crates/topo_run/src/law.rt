@@ -1,4 +1,4 @@
-ghost use Rattle.std.specs.Prelude.{◌≡◌, ℕ, List, Some, false};
+ghost use Rattle.std.specs.Prelude.{◌≡◌, ℕ, List, Some, true, false};
 ghost use Rattle.plane_terms.specs.Point.{Place, Point};
 ghost use Rattle.topology_terms.specs.Broken.{Row, BrokenAt, BrokenWhole};
 ghost use Rattle.topology_terms.specs.Feature as terms;
@@ -8,12 +8,16 @@ ghost use Rattle.fix_terms.specs.Explode.{exploded, HasExploded};
 ghost use Rattle.fix_terms.specs.Snap.{HasSnapped};
 ghost use Rattle.fix_terms.specs.Create.{HasCreated};
 ghost use Rattle.fix_terms.specs.Move.{HasMoved};
-ghost use Rattle.line_terms.specs.Commands.{Undo, Discard, Explode, Snap, Create, Move, Delete};
+ghost use Rattle.version_terms.specs.VersionChanges.{IsCreated, IsGone};
+ghost use Rattle.version_tree.specs.ByName.{IsMergedByName, IsPostedByName};
+ghost use Rattle.line_terms.specs.Commands.{Command, Undo, Discard, Explode, Snap, Create, Move, Delete, Version, In, Reconcile, Post};
 ghost use Rattle.line_terms.specs.Lines.{IsCommandLine};
 ghost use Rattle.script_terms.specs.Keeping.{IsKeeping};
 ghost use Rattle.script_terms.specs.Restored.{IsRestored, IsAllRestored};
 ghost use Rattle.script_terms.specs.Run.{Outcome, Run, Step, last_state};
-ghost use Rattle.script_terms.specs.State.{State, empty_state};
+ghost use Rattle.script_terms.specs.Reply.{Merged, Posted, reply_text};
+ghost use Rattle.script_terms.specs.State.{State, empty_state, desk_of, tree_of};
+ghost use Rattle.script_terms.specs.Versions.{is_of_one};
 
 use rules::poster_law;
 
@@ -33,13 +37,13 @@ pub fn one_run_law()
 /// empty state, the other two of any state in which sessions keep apart, as they do in each state of a run (`EachKeeping`).
 pub fn exact_undo_law()
     ensures undo { (lines : List (List ℕ)) (os : List Outcome) (line editor : List ℕ) (o : Outcome) → Run empty_state lines os → Step (last_state empty_state os) line o
-        → IsCommandLine line (Undo editor) → o.refused ≡ false → IsRestored editor (last_state empty_state os) o.after }
+        → IsCommandLine line (Undo editor) → o.refused ≡ false → IsRestored editor (desk_of (last_state empty_state os)) (desk_of o.after) }
     ensures discard { (lines : List (List ℕ)) (os : List Outcome) (line editor : List ℕ) (o : Outcome) → Run empty_state lines os → Step (last_state empty_state os) line o
-        → IsCommandLine line (Discard editor) → o.refused ≡ false → IsAllRestored editor (last_state empty_state os) o.after }
-    ensures undo_there { (s : State) (line editor : List ℕ) (o : Outcome) → IsKeeping s → Step s line o → IsCommandLine line (Undo editor)
-        → o.refused ≡ false → IsRestored editor s o.after }
+        → IsCommandLine line (Discard editor) → o.refused ≡ false → IsAllRestored editor (desk_of (last_state empty_state os)) (desk_of o.after) }
+    ensures undo_there { (s : State) (line editor : List ℕ) (o : Outcome) → IsKeeping (desk_of s) → Step s line o → IsCommandLine line (Undo editor)
+        → o.refused ≡ false → IsRestored editor (desk_of s) (desk_of o.after) }
     ensures discard_there { (s : State) (line editor : List ℕ) (o : Outcome) → Step s line o → IsCommandLine line (Discard editor)
-        → o.refused ≡ false → IsAllRestored editor s o.after }
+        → o.refused ≡ false → IsAllRestored editor (desk_of s) (desk_of o.after) }
 {}
 
 /// The law of fixes: a line that is not refused does what it is for, whatever the state. After `explode` no feature of the plan has
@@ -61,4 +65,22 @@ pub fn fix_law()
         → (row : Row) (b : ℕ) (p : Point) → BrokenAt row o.after.project.features h b p → ⊥ }
     ensures delete_whole { (s : State) (line editor : List ℕ) (h : ℕ) (o : Outcome) → Step s line o → IsCommandLine line (Delete editor h) → o.refused ≡ false
         → (row : Row) → BrokenWhole row o.after.project.features h → ⊥ }
+{}
+
+/// The law of versions: a line of versions that is not refused does what it is for, whatever the state, and each other line leaves what
+/// stands aside: the other versions, and the name and the base of the current one. After `reconcile` the features of the version are the
+/// merge of its own with those of `default` over its base, the printed handles are exactly those of the conflicts, and no other version
+/// has changed. After `post` the features of `default` are those of the version, whose base was what `default` had; no other version has
+/// changed. `version` makes a copy of `default`, and after `in` the version is current.
+pub fn versions_law()
+    ensures made { (s : State) (line name : List ℕ) (o : Outcome) → Step s line o → IsCommandLine line (Version name) → o.refused ≡ false
+        → IsCreated name (tree_of s) (tree_of o.after) }
+    ensures gone { (s : State) (line name : List ℕ) (o : Outcome) → Step s line o → IsCommandLine line (In name) → o.refused ≡ false
+        → IsGone name (tree_of s) (tree_of o.after) }
+    ensures merged { (s : State) (line name : List ℕ) (o : Outcome) → Step s line o → IsCommandLine line (Reconcile name) → o.refused ≡ false
+        → (n : ℕ) × (hs : List ℕ) × IsMergedByName name n hs (tree_of s) (tree_of o.after) × (o.text ≡ reply_text (Merged hs n)) }
+    ensures posted { (s : State) (line name : List ℕ) (o : Outcome) → Step s line o → IsCommandLine line (Post name) → o.refused ≡ false
+        → (n : ℕ) × IsPostedByName name n (tree_of s) (tree_of o.after) × (o.text ≡ reply_text (Posted n)) }
+    ensures others { (s : State) (line : List ℕ) (o : Outcome) → Step s line o → ((c : Command) → IsCommandLine line c → is_of_one c ≡ true)
+        → o.after.aside ≡ s.aside }
 {}

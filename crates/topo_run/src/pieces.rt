@@ -4,6 +4,8 @@ ghost use Rattle.text_terms.specs.Lines.{lines_of, without_cr};
 ghost use Rattle.topology_terms.specs.Project.{IsOrdered};
 ghost use Rattle.topology_terms.specs.Settled.{IsSettled};
 ghost use Rattle.topology_terms.specs.Sound.{IsSound};
+ghost use Rattle.version_terms.specs.Versions.{root_of};
+ghost use Rattle.script_terms.specs.State.{OfAll, started, tree_of, desk_of};
 ghost use Rattle.script_terms.specs.Headline.{Invariant, SoundHeadline};
 ghost use Rattle.script_terms.specs.Keeping.{IsKeeping};
 ghost use Rattle.script_terms.specs.Run.{Step, IsPrefix, WritesPrefix};
@@ -106,9 +108,9 @@ impl Model for Replayer {
 }
 
 impl Replayer {
-    /// Begins a run from this topology, with no session.
+    /// Begins a run from this topology as `default`, with no other version and no session.
     pub fn new(alloc: Global, start: Topology<PosterRules>) -> Result<Replayer, NoMemory>
-        ensures { IfOk result (λ r. r ≡ record { state = record { project = start; sessions = [] }; rest = []; refused = false }) }
+        ensures { IfOk result (λ r. r ≡ record { state = started start; rest = []; refused = false }) }
     {
         Ok(Replayer::of(alloc, World::of(alloc, start)))
     }
@@ -148,19 +150,19 @@ impl Replayer {
         self.refused
     }
 
-    /// The topology, without the sessions.
+    /// The topology of the version `default`, without the sessions.
     pub fn root(&self) -> &Topology<PosterRules>
-        ensures { result.now ≡ self.now.state.project }
+        ensures { result.now ≡ root_of (tree_of self.now.state) }
     {
-        self.world.topology()
+        self.world.root()
     }
 
     /// The laws of its state.
     pub(crate) fn state_law(&self)
-        ensures sound { IsSound self.now.state.project → SoundHeadline self.now.state.project }
-        ensures invariant { IsSound self.now.state.project → IsSettled self.now.state.project → Invariant self.now.state.project }
-        ensures ordered { IsOrdered self.now.state.project }
-        ensures keeping { IsKeeping self.now.state }
+        ensures sound { OfAll IsSound self.now.state → OfAll SoundHeadline self.now.state }
+        ensures invariant { OfAll IsSound self.now.state → OfAll IsSettled self.now.state → OfAll Invariant self.now.state }
+        ensures ordered { OfAll IsOrdered self.now.state }
+        ensures keeping { IsKeeping (desk_of self.now.state) }
     {
         self.world.headline_law();
     }

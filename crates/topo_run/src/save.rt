@@ -2,6 +2,8 @@ ghost use Rattle.std.specs.Prelude.{◌≡◌, ◌≤◌, OnOk, IsErrOf};
 ghost use Rattle.outside_terms.specs.Faults.{Rose};
 ghost use Rattle.outside_terms.specs.Shelves.{KeepsHeld, KeepsOthers};
 ghost use Rattle.opening_terms.specs.Saving.{Saves, EndsSaving, EndsAsReplayTo};
+ghost use Rattle.script_terms.specs.State.{tree_of};
+ghost use Rattle.version_terms.specs.Versions.{root_of};
 ghost use Rattle.topo_run.specs.Replayers.{IsNew};
 ghost use Rattle.topo_run.specs.Unopened.{IfUnopened, is_answered};
 
@@ -13,14 +15,14 @@ use std::alloc::Global;
 use std::mem;
 use topo_outside::{Shelf, ShelfFault, Sink, Source};
 
-// Puts the project of a state under this name.
+// Puts the project of `default` in a state under this name.
 fn save<H: Shelf>(
     alloc: Global,
     replayer: &Replayer,
     target: &str,
     shelf: &mut H,
 ) -> Result<(), ShelfFault>
-    ensures saved { OnOk result (Saves (record { old = H.held shelf.old; new = H.held shelf.new; before = H.faults shelf.old; now = H.faults shelf.new }) target.now replayer.now.state.project) }
+    ensures saved { OnOk result (Saves (record { old = H.held shelf.old; new = H.held shelf.new; before = H.faults shelf.old; now = H.faults shelf.new }) target.now (root_of (tree_of replayer.now.state))) }
     ensures others { KeepsOthers (H.held shelf.old) (H.held shelf.new) target.now }
     ensures failed { IsErrOf result ShelfFault.Failed → Rose (H.faults shelf.old) (H.faults shelf.new) }
     ensures no_memory { IsErrOf result ShelfFault.NoMemory → KeepsHeld (H.held shelf.old) (H.held shelf.new) }

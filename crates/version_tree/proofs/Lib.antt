@@ -5,8 +5,9 @@ mod Picked
 mod Live
 mod Setting
 mod Keeping
-mod Becoming
-mod Merges
+pub mod Becoming
+pub mod Merges
 mod Least
-mod Posts
+pub mod Posts
 mod Current
+pub mod ByName

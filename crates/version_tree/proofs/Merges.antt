@@ -111,7 +111,7 @@ get_here [] k v w g = cc
 get_here (x ∷ xs) zero v w g = refl
 get_here (x ∷ xs) (suc k) v w g = get_here xs k v w g
 
-get_off : {A : Type 0} (xs : List A) (k j : ℕ) (w : A) → j ≢ k → slice_get (slice_set xs k w) j ≡ slice_get xs j
+pub get_off : {A : Type 0} (xs : List A) (k j : ℕ) (w : A) → j ≢ k → slice_get (slice_set xs k w) j ≡ slice_get xs j
 get_off [] k j w d = refl
 get_off (x ∷ xs) zero zero w d = absurd (d refl)
 get_off (x ∷ xs) zero (suc j) w d = refl

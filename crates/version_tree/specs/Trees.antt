@@ -1,17 +1,23 @@
 -- What a tree of versions answers.
 --
+-- AreLawful vs    each of these versions is what a topology keeps, its lists in order
 -- AreSound M t, AreSettled M t     so is each version
 -- IsCreateFault, IsGoFault, IsReconcileFault, IsPostFault     why a call was refused
 -- IsInPart, IsPostedInPart  a reconcile, a post that ran out of memory: some handles were set, ascending, and the bases stay
 use Rattle.std.specs.Prelude.{◌≡◌, ◌≢◌, ℕ, List, length, false, Some, None}
 use Rattle.plane_terms.specs.Lists.{Every}
 use Rattle.topology_terms.specs.Meaning.{Meaning}
+use Rattle.topology_terms.specs.Project.{IsOrdered}
+use Rattle.topo_core.specs.Topologies.{IsTopology}
 use Rattle.topology_terms.specs.Settled.{IsSettledUnder}
 use Rattle.topology_terms.specs.Sound.{IsSoundUnder}
 use Rattle.version_terms.specs.Versions.{Version, Tree, has_base, default_name, all_of, place_of, version_of, root_of}
 use Rattle.version_terms.specs.VersionChanges.{Becomes, LeavesProject, IsPartOf, IsStale, raised_version, greatest_next}
 use Rattle.version_tree.specs.declared.fault.TreeFault.{TreeFault}
 use Rattle.version_tree.specs.declared.fault.TreeFault.TheVariants as fault
+
+abbrev pub AreLawful : List Version → Type 0
+AreLawful vs = Every (λ (v : Version). IsTopology v.project × IsOrdered v.project) vs
 
 abbrev pub AreSound : Meaning → Tree → Type 0
 AreSound M t = Every (λ (v : Version). IsSoundUnder M v.project) (all_of t)

@@ -4,6 +4,7 @@ ghost use Rattle.version_terms.specs.Versions as terms;
 ghost use Rattle.version_terms.specs.VersionChanges.{raised_version, based};
 ghost use Rattle.version_tree.specs.Merges.{Merging, Posting, Stopping};
 ghost use Rattle.version_tree.specs.Lists.{ChangesAt, GoesAt, Keeps};
+ghost use Rattle.version_tree.specs.Trees.{AreLawful};
 ghost use Rattle.version_terms.specs.Versions.{index_from, default_name};
 
 use crate::version::{Merged, Version};
@@ -23,6 +24,15 @@ pub fn index_in<R: KindRules>(versions: &[Version<R>], name: &Name) -> Option<us
         }
     }
     None
+}
+
+/// The law of what the topology of each version keeps.
+pub fn law_of_each<R: KindRules>(versions: &[Version<R>])
+    ensures { AreLawful versions.now }
+{
+    for version in versions {
+        version.topology_law();
+    }
 }
 
 /// Raises the next handle of the version at this index.

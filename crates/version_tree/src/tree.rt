@@ -1,17 +1,19 @@
 ghost use Rattle.std.specs.Prelude.{◌≡◌, [], ◌==◌, Some, None, length, ◌≤◌, IfSome, IfOk, IfErr, OnOk, OnErr, MatchResult};
 ghost use Rattle.version_terms.specs.declared.place.Place.{Place};
 ghost use Rattle.version_terms.specs.Versions as terms;
-ghost use Rattle.version_terms.specs.Versions.{default_name, place_of, version_at, IsAlike, IsAt, root_of};
+ghost use Rattle.version_terms.specs.Versions.{default_name, all_of, place_of, version_at, IsAlike, IsAt, root_of};
 ghost use Rattle.topology_terms.specs.Settled.{IsSettledUnder};
 ghost use Rattle.topology_terms.specs.Sound.{IsSoundUnder};
 ghost use Rattle.version_terms.specs.VersionChanges.{IsCreated, IsGone, IsReconciled, IsPosted, based, BecomesAt, raised_version};
 ghost use Rattle.version_tree.specs.Lists.{Keeps};
 ghost use Rattle.version_tree.specs.Merges.{Merging, Posting, Stopping, HasFreshBase, IsUnfit};
-ghost use Rattle.version_tree.specs.Trees.{AreSound, AreSettled, IsCreateFault, IsGoFault, IsReconcileFault, IsPostFault};
+ghost use Rattle.version_tree.specs.Trees.{AreLawful, AreSound, AreSettled, IsCreateFault, IsGoFault, IsReconcileFault, IsPostFault};
 
 use crate::apart::first_apart;
 use crate::fault::TreeFault;
-use crate::places::{become_in, go_in, index_in, raise_in, reconcile_in, root_name, set_base_in};
+use crate::places::{
+    become_in, go_in, index_in, law_of_each, raise_in, reconcile_in, root_name, set_base_in,
+};
 use crate::version::{Merged, Version};
 use feature_store::Store;
 use grid_plane::{Name, NoMemory};
@@ -97,6 +99,14 @@ impl<R: KindRules> Tree<R> {
         ensures { terms.IsTree self.now }
     {
         let _ = &self.alloc;
+    }
+
+    /// The law of what the topology of each version keeps.
+    pub fn topologies_law(&self)
+        ensures { AreLawful (all_of self.now) }
+    {
+        self.current.topology_law();
+        law_of_each(&self.others);
     }
 
     // The version at this place.

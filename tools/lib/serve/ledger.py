@@ -1,4 +1,4 @@
-"""What kept lines and their replies tell: the open sessions, and what was kept of each client last."""
+"""What kept lines and their replies tell: the open sessions, the versions beside `default`, and what was kept of each client last."""
 from __future__ import annotations
 
 import time
@@ -14,6 +14,7 @@ class Ledger:
         self.line = line
         self.names = dict(names)
         self.sessions: dict[bytes, float] = {}
+        self.drafts: list[bytes] = []
 
     def take(self, name: str, line: bytes, reply: bytes) -> None:
         """Takes the next kept line, of the client of this name."""
@@ -28,10 +29,12 @@ class Ledger:
             self.sessions[words[1]] = time.monotonic()
         elif words[0] in (b'end', b'discard') and said == b'ok':
             self.sessions.pop(words[1], None)
+        elif words[0] == b'version' and said == b'ok':
+            self.drafts.append(words[1])
 
     def is_quiet(self) -> bool:
-        """Whether no session is open."""
-        return not self.sessions
+        """Whether no session is open and no version stands beside `default`: a saved project would keep neither."""
+        return not self.sessions and not self.drafts
 
     def idle_since(self, moment: float) -> list[bytes]:
         """The editors whose sessions are open and had no line since then."""

@@ -6,7 +6,7 @@ The file has a section for each client. All its keys are optional:
     user = ann               the user, by name or number, that comes by the unix socket
     certificate = ann        the common name in the certificate that comes by TLS
     editor = ann             the one editor whose lines it may say; without it, it may only look and validate
-    steward = yes            may also say `class`, `rule`, `droprule`, and words that this service does not know
+    steward = yes            may also say `class`, `rule`, `droprule`, `version`, `in`, `reconcile`, `post`, and words that this service does not know
     mark = yes               may also say `mark`, `unmark`
 """
 from __future__ import annotations

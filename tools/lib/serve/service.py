@@ -366,7 +366,7 @@ class Service:
             editors: list[bytes] = []
             if self.settings.idle:
                 editors = self.ledger.idle_since(time.monotonic() - self.settings.idle)
-            if self.is_too_long():
+            if self.is_too_long() and not self.ledger.drafts:
                 editors = list(self.ledger.sessions)
             if editors:
                 self.tell('ends the sessions of %s' % b', '.join(editors).decode())
@@ -386,5 +386,6 @@ class Service:
             'longest_listing_ms %d' % (1000 * self.longest['listing']), 'longest_sync_ms %d' % (1000 * self.longest['sync']),
         ]
         told += ['session %s' % editor.decode() for editor in self.ledger.sessions]
+        told += ['version %s' % name.decode() for name in self.ledger.drafts]
         told += ['trouble %s' % text for text in self.troubles.values()]
         return ''.join(line + '\n' for line in told).encode() + b'total %d\n' % len(told)

@@ -7,7 +7,7 @@ use Rattle.command_answers.proofs.noted.change_noted.Goals as goal
 
 pub returns-clause-noted : goal.returns-clause-noted
 returns-clause-noted c =
-    let kept : KeptStep = record { handle = c.args.handle; kept = feature_at c.args.topology.now.features c.args.handle } in
+    let kept : KeptStep = record { handle = c.args.handle; kept = feature_at c.args.tree.now.current.project.features c.args.handle } in
     let same : c.new.result ≡ kept = c.new.ensures ∙ ap (λ (o : Option Feature). record { handle = c.args.handle; kept = o })
     (sym c.in_ok-was.ensures.was) in
     room_noted c.args.editor.now kept c.args.sessions.now c.make_room.new.sessions c.note_in.new.self c.in_ok-make_room.ensures.made

@@ -2,8 +2,8 @@ use Rattle.std.specs.Prelude.{length}
 use Rattle.command_answers.proofs.Planning.{SoFar}
 use Rattle.command_answers.proofs.planned.do_plan.Given as goal
 
-abbrev pub invariant-loop-topology : goal.invariant-loop-topology
-invariant-loop-topology l = SoFar l.editor l.initial.plan l.plan l.initial.topology l.topology l.initial.sessions l.sessions
+abbrev pub invariant-loop-tree : goal.invariant-loop-tree
+invariant-loop-tree l = SoFar l.editor l.initial.plan l.plan l.initial.tree l.tree l.initial.sessions l.sessions
 
-abbrev pub decreases-loop-topology : goal.decreases-loop-topology
-decreases-loop-topology l = length l.plan
+abbrev pub decreases-loop-tree : goal.decreases-loop-tree
+decreases-loop-tree l = length l.plan

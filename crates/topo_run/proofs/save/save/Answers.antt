@@ -10,6 +10,6 @@ returns-clause-saved g c =
       before = g.H.Shelf.faults c.args.shelf.now;
       now = g.H.Shelf.faults c.put.new.self;
     } in
-    puts h c.args.target.now c.in-Ok.text.items c.deref.result.now c.args.replayer.now.state.project c.root-topology.result.now c.put.result
+    puts h c.args.target.now c.in-Ok.text.items c.deref.result.now _ c.root-topology.result.now c.put.result
     c.put.ensures.stored c.put.ensures.others c.deref.ensures.value c.in-Ok.ensures
     c.root-topology.ensures c.record_law.ensures

@@ -1,0 +1,2 @@
+// Lemmas alone: what each line of versions makes of them is one thing.
+#![tactic(auto)]
