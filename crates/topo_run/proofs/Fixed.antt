@@ -1,5 +1,5 @@
 -- In a run a fix does what it is for.
-use Rattle.std.proofs.Common.{◌≡◌, ℕ, true, false, List, Some, sym, ◌∙◌, ap, inl, inr}
+use Rattle.std.proofs.Common.{◌≡◌, ℕ, true, false, List, Some, refl, sym, ◌∙◌, ap, inl, inr}
 use Rattle.plane_terms.specs.Point.{Place, Point}
 use Rattle.topology_terms.specs.Broken.{Row, BrokenAt, BrokenWhole}
 use Rattle.topology_terms.specs.Feature.{Feature, feature_at}
