@@ -30,7 +30,7 @@ cells = the point
 broken = the point is on no line
 ''' % MADE_UP
 
-# Files of the rule before it alone, worked rows and cases are none of these.
+# Files of the rule before it alone, worked rows, cases and the fixes, which a rule may be without, are none of these.
 SHARED = ('crates/*/src/*.rt', 'crates/*/specs/*.antt', 'crates/*/proofs/*.antt', 'crates/test_cases/args', 'tools/lib/*.py')
 
 
@@ -40,7 +40,7 @@ def camel(word: str) -> str:
 
 def shared_files(root: str) -> list[str]:
     found = [path for pattern in SHARED for path in glob.glob(os.path.join(root, pattern))]
-    return [path for path in found if os.path.basename(path) != BEFORE + '.rt']
+    return [path for path in found if os.path.basename(path) not in (BEFORE + '.rt', 'fixing.py')]
 
 
 def naming(root: str, word: str) -> dict[str, int]:
