@@ -16,3 +16,8 @@ pub loop-line-preserved : goal.loop-line-preserved
 loop-line-preserved c =
     told_more c.in_ok-reply.reply c.loop-line.invariant c.in-Some.ensures.0 c.in_ok-reply.ensures c.with-told.ensures.judged
     (c.with-told.ensures.refused c.reply_to.new.world.project)
+
+pub loop-line-preserved-in_ok-reply-2 : goal.loop-line-preserved-in_ok-reply-2
+loop-line-preserved-in_ok-reply-2 c =
+    told_more c.in_ok-reply.reply c.loop-line.invariant c.in-Some.ensures.0 c.in_ok-reply.ensures c.with-told.ensures.judged
+    (c.with-told.ensures.refused c.reply_to.new.world.project)
