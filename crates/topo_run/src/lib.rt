@@ -18,7 +18,7 @@ mod town;
 mod words;
 mod write;
 
-pub use law::{exact_undo_law, one_run_law};
+pub use law::{exact_undo_law, fix_law, one_run_law, versions_law};
 pub use pieces::Replayer;
 pub use program::{USAGE, run};
 pub use stops::Stop;
