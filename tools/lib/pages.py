@@ -53,6 +53,8 @@ def flat(points: Iterable[Point]) -> list[float]:
 def bytes_of(number: int) -> bytes:
     """A whole number as bytes of seven bits each, the lowest first; its sign is the lowest bit of all."""
     rest = number * 2 if number >= 0 else -number * 2 - 1
+    if 1 << 14 <= rest < 1 << 21:
+        return bytes((rest & 127 | 128, rest >> 7 & 127 | 128, rest >> 14))
     out = bytearray()
     while rest > 127:
         out.append(rest & 127 | 128)
@@ -79,22 +81,25 @@ def bytes_of_all(numbers: Iterable[int]) -> bytes:
 def packed(features: list[Drawn], names: list[str]) -> tuple[str, Optional[Frame]]:
     """The features in base64: of each the class, the number of its lists, and of each list the number of its places and the way from place to
     place; and the least rectangle that holds them all."""
-    out, last = bytearray(), [0, 0]
+    out: list[bytes] = []
+    last = [0, 0]
     xs: list[int] = []
     ys: list[int] = []
     index = {name: number for number, name in enumerate(names)}
     for feature in features:
         lists = feature.numbers
-        out += bytes_of_all([index[feature.of_class], len(lists)])
+        told = [index[feature.of_class], len(lists)]
         for numbers in lists:
             if feature.kind == 'polygon':
                 del numbers[-2:]
-            out += BYTES[len(numbers) // 2] + bytes_of_all(map(sub, numbers, last + numbers))
+            told.append(len(numbers) // 2)
+            told += map(sub, numbers, last + numbers)
             last = numbers[-2:]
             across, up = numbers[::2], numbers[1::2]
             xs += min(across), max(across)
             ys += min(up), max(up)
-    return b64encode(out).decode(), (min(xs), min(ys), max(xs), max(ys)) if xs else None
+        out.append(bytes_of_all(told))
+    return b64encode(b''.join(out)).decode(), (min(xs), min(ys), max(xs), max(ys)) if xs else None
 
 
 def runs_of(numbers: Iterable[int]) -> list[int]:

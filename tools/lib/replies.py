@@ -263,6 +263,11 @@ def origin_of(side: str, remarks: list[str]) -> Origin:
     return Origin(name, subtype=subtype, **{what: value for remark in remarks for what, value in told_by(remark).items()})
 
 
+# Where a feature comes from of which nothing is told; a remark that says a number and an id as it stands.
+NOWHERE = Origin('')
+PLAIN_ID = re.compile(r'# fid \S+ id "([^"\\]*)"')
+
+
 class Origins(MutableMapping[int, Origin]):
     """Where features come from, by their handles. What their remarks say is read when it is asked for: of very many features few have errors."""
 
@@ -287,6 +292,13 @@ class Origins(MutableMapping[int, Origin]):
     def __getitem__(self, handle: int) -> Origin:
         told = self.told[handle]
         return told if isinstance(told, Origin) else origin_of(*told)
+
+    def id_of(self, handle: int) -> str:
+        """The id of a feature in its source; nothing where it is not told. One without a quotation mark in it, as nearly all are, is read as it
+        stands."""
+        told = self.told.get(handle)
+        plain = PLAIN_ID.fullmatch(told[1][0]) if type(told) is tuple and len(told[1]) == 1 else None
+        return plain[1] if plain else self.get(handle, NOWHERE).id
 
     def __setitem__(self, handle: int, origin: Origin) -> None:
         self.told[handle] = origin
@@ -462,6 +474,9 @@ class Ending:
         taken by their bytes; any other line, and what does not fit, as an answer."""
         replied = 0
         for number, line in enumerate(script, 1):
+            if line.startswith(b'# ') and len(line) <= MOST_BYTES:
+                self.remark(line.decode('utf-8', 'replace').strip())
+                continue
             added = ADDED.fullmatch(line)
             said = [next(replies, b'')] if added else []
             done = added and DONE.fullmatch(said[0])

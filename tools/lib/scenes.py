@@ -2,10 +2,11 @@
 from __future__ import annotations
 
 import contextlib
+import os
 import re
 import subprocess
 import threading
-from typing import IO, Iterator, NamedTuple, Optional
+from typing import IO, Iterator, NamedTuple, Optional, Sequence
 
 from .asked import with_closures
 from .cells import Cover, cover_and_stops
@@ -13,15 +14,16 @@ from .gaps import WORD, Ground, ground_of
 from .grid import REACH, Place
 from .names import NO_NAMES, Names
 from .outlines import Point
-from .replies import Ending, Error, Frame, ReplyError, each_error, frame_of, named_by
+from .replies import Ending, Error, Frame, ReplyError, each_error, frame_of, is_skipped, named_by
 from .spans import Segment
 
 LISTS = re.compile(r'\(([-0-9 ,]+)\)')
 KINDS = {'POINT': 'point', 'LINESTRING': 'line', 'MULTILINESTRING': 'line', 'POLYGON': 'polygon', 'MULTIPOLYGON': 'polygon'}
 
-
-# How many listings are asked for behind the lines of a script.
-LISTED = 3
+# The listings that are asked for behind the lines of a script.
+LISTED = 'features', 'cells', 'dirty'
+# So many bytes at the end of a script are looked at for listings of its own.
+TAIL = 4096
 
 
 class Drawn(NamedTuple):
@@ -84,6 +86,8 @@ class Scene(NamedTuple):
 
     def name_of(self, handle: int) -> str:
         """The id of a feature in its source, or its handle."""
+        if not self.names.by_handle:
+            return self.ending.origins.id_of(handle) or str(handle)
         return self.names.origin(handle, self.ending).id or str(handle)
 
     def grounds(self) -> dict[int, Ground]:
@@ -115,29 +119,45 @@ def checked(script: bytes) -> bytes:
     return script
 
 
-def asked_of(script: str) -> Iterator[bytes]:
-    """What is asked: the lines of a script, and behind them the three listings."""
+def listed_last(script: str) -> list[str]:
+    """The listings behind the last line of a script that is none: they say what stands at its end, and are not asked for again."""
+    with open(script, 'rb') as file:
+        start = max(0, file.seek(0, os.SEEK_END) - TAIL)
+        file.seek(start)
+        lines = file.read().split(b'\n')[1 if start else 0:]
+    found: list[str] = []
+    for line in reversed(lines):
+        word = line.removesuffix(b'\r').strip(b' \t').decode('ascii', 'replace')
+        if word in LISTED:
+            found.append(word)
+        elif not is_skipped(line):
+            break
+    return found
+
+
+def asked_of(script: str, listed: Sequence[str] = LISTED) -> Iterator[bytes]:
+    """What is asked: the lines of a script, and behind them these listings."""
     last = b'\n'
     with open(script, 'rb') as lines:
         for line in lines:
             yield (last := line)
-    yield from [b'\n'] * (not last.endswith(b'\n')) + [b'features\n', b'cells\n', b'dirty\n']
+    yield from [b'\n'] * (not last.endswith(b'\n')) + [b'%s\n' % word.encode() for word in listed]
 
 
-def feed(script: str, pipe: IO[bytes]) -> None:
+def feed(script: str, pipe: IO[bytes], listed: Sequence[str]) -> None:
     """Hands all that is asked to the program. It may end before; then its replies say so."""
     with contextlib.suppress(BrokenPipeError), pipe:
-        pipe.writelines(asked_of(script))
+        pipe.writelines(asked_of(script, listed))
 
 
 @contextlib.contextmanager
-def replies_to(program: list[str], script: str) -> Iterator[IO[bytes]]:
-    """The replies to a script and behind its lines the three listings, as they come. A ReplyError where it is no script."""
+def replies_to(program: list[str], script: str, listed: Sequence[str] = LISTED) -> Iterator[IO[bytes]]:
+    """The replies to a script and behind its lines to these listings, as they come. A ReplyError where it is no script."""
     with open(script, 'rb') as pieces:
         for piece in iter(lambda: pieces.read(1 << 20), b''):
             checked(piece)
     with subprocess.Popen(program + ['replay'], stdin=subprocess.PIPE, stdout=subprocess.PIPE) as process:
-        feeder = threading.Thread(target=feed, args=(script, process.stdin), daemon=True)
+        feeder = threading.Thread(target=feed, args=(script, process.stdin, listed), daemon=True)
         feeder.start()
         try:
             yield process.stdout
@@ -147,11 +167,11 @@ def replies_to(program: list[str], script: str) -> Iterator[IO[bytes]]:
             feeder.join()
 
 
-def ending_after(script: str, replies: IO[bytes]) -> Ending:
+def ending_after(script: str, replies: IO[bytes], listed: Sequence[str] = LISTED) -> Ending:
     """What stands at the end. A ReplyError where no line could be done, or where there is none: a drawing of nothing would look as if all
     were well."""
     ending = Ending()
-    if ending.take_all(asked_of(script), replies) == LISTED:
+    if ending.take_all(asked_of(script, listed), replies) == len(listed):
         raise ReplyError('the script has no lines')
     if ending.refused and not ending.changes:
         raise ReplyError('this is no script: none of its lines could be done')
@@ -177,8 +197,10 @@ def errors_of(program: list[str], script: str, listed: Iterator[Error], asks: bo
 
 def scene_of(program: list[str], script: str, names: Names = NO_NAMES, asks: bool = False) -> Scene:
     """What the script leaves behind; the program is asked for the corners of cells, too, where they are not to be computed."""
-    with replies_to(program, script) as replies:
-        ending = ending_after(script, replies)
+    own = listed_last(script)
+    asked = [word for word in LISTED if word not in own]
+    with replies_to(program, script, asked) as replies:
+        ending = ending_after(script, replies, asked)
     features = list(map(drawn_of, drained(ending.listings['features'].lines)))
     listed = each_error(drained(ending.listings['cells'].lines))
     errors = [Marked(error, *cover_and_stops(error)) for error in errors_of(program, script, listed, asks)]

@@ -4,7 +4,7 @@ from __future__ import annotations
 from fractions import Fraction
 from functools import lru_cache
 from math import gcd
-from typing import Callable, Iterable, NamedTuple, Optional, Sequence, Union
+from typing import Iterable, NamedTuple, Optional, Sequence, Union
 
 from .outlines import Number, Point, turn
 from .replies import Cells, Error, Frame, Half, half_of
@@ -66,18 +66,6 @@ def equation_of(cell: Sequence[Told]) -> Optional[Told]:
     return next(filter(is_equation, cell), None)
 
 
-class Known(dict[Told, int]):
-    """What is known of half-planes; another one is asked for first."""
-
-    def __init__(self, ask: Callable[[Told], None]) -> None:
-        super().__init__()
-        self.ask = ask
-
-    def __missing__(self, half: Told) -> int:
-        self.ask(half)
-        return self[half]
-
-
 class Table:
     """The bounds of half-planes along a line, within a frame that is a unit larger, and the spans of cells that lie on it.
 
@@ -87,7 +75,9 @@ class Table:
     def __init__(self, line: Line, frame: Frame, bits: int) -> None:
         self.line, self.bits = line, bits
         self.places: dict[int, tuple[int, int]] = {}
-        self.lows, self.highs = Known(self.ask), Known(self.ask)
+        # Of each half-plane that is known from where and up to where it may be met.
+        self.lows: dict[Told, int] = {}
+        self.highs: dict[Told, int] = {}
         self.spans: set[Span] = set()
         x0, y0, x1, y1 = frame
         along, across = ((y0, y1), (x0, x1)) if line.is_upright else ((x0, x1), (y0, y1))
@@ -103,28 +93,33 @@ class Table:
         self.places[number] = whole, by
         return number
 
-    def ask(self, half: Told) -> None:
-        """Says of a half-plane from where and up to where it may be met: along the line it is where p * u + q is at least 0."""
-        p, across, q, op = half_of(half) if isinstance(half, str) else half
+    def ask(self, halves: Iterable[Told]) -> None:
+        """Says of half-planes from where and up to where each may be met: along the line it is where p * u + q is at least 0."""
         is_upright, a, b, c = self.line
-        if is_upright:
-            p, across = across, p
-        if across:
-            p, q = p * b - across * a, q * b - across * c
-        low, high = self.low, self.high
-        if p == 0:
-            low = high + 1 if q < 0 or q and op == '=' else low
-        else:
-            number = self.number(-q, p) if p > 0 else self.number(q, -p)
-            if number > low and (p > 0 or op == '='):
-                low = number
-            if number < high and (p < 0 or op == '='):
-                high = number
-        self.lows[half], self.highs[half] = low, high
+        for half in halves:
+            p, across, q, op = half_of(half) if isinstance(half, str) else half
+            if is_upright:
+                p, across = across, p
+            if across:
+                p, q = p * b - across * a, q * b - across * c
+            low, high = self.low, self.high
+            if p > 0:
+                number = self.number(-q, p)
+                low = max(low, number)
+                high = min(high, number) if op == '=' else high
+            elif p < 0:
+                number = self.number(q, -p)
+                high = min(high, number)
+                low = max(low, number) if op == '=' else low
+            elif q < 0 or q and op == '=':
+                low = high + 1
+            self.lows[half], self.highs[half] = low, high
 
     def span(self, cell: Sequence[Told]) -> Span:
         """Where a cell's closure lies along the line; an empty one ends before it begins."""
-        return max(map(self.lows.__getitem__, cell)), min(map(self.highs.__getitem__, cell))
+        lows = self.lows
+        self.ask([half for half in cell if half not in lows])
+        return max(map(lows.__getitem__, cell)), min(map(self.highs.__getitem__, cell))
 
     def add(self, cell: Sequence[Told]) -> None:
         low, high = self.span(cell)

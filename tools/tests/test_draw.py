@@ -8,6 +8,8 @@ import subprocess
 import unittest
 import xml.etree.ElementTree as tree
 
+from lib.replies import Origin, Origins
+from lib.scenes import listed_last
 from working import PROGRAM, Case, by_lines
 
 BROWSER = next((path for path in map(shutil.which, ('chromium', 'chromium-browser', 'google-chrome')) if path), None)
@@ -146,6 +148,31 @@ class Refused(Case):
             out.write(script)
         done = self.tool('draw', *words, shlex.join(PROGRAM), 's.topo', 'out')
         return done.status, done.told
+
+    def test_listings_at_the_end_are_not_asked_for_again(self) -> None:
+        """The page is the same whatever listings the script ends with, and a listing with a change behind it is asked for again."""
+        text, change = by_lines(*town(30)), by_lines('by a change 3 POLYGON ((20 0, 45 0, 45 20, 20 20, 20 0))')
+        pages = {}
+        for number, (script, own) in enumerate(((text, []), (text + 'cells\n', ['cells']), (text + 'errors\r\n cells\r\n# so far\n\ndirty\t', ['dirty', 'cells']),
+                                                (text + by_lines('features', 'cells', 'dirty'), ['dirty', 'cells', 'features']),
+                                                (text + by_lines('cells', 'rules', 'dirty'), ['dirty']), (text + 'cells\rdirty\n', []),
+                                                (text + by_lines('cells') + change, []), (text + change, []))):
+            with open(self.path('s.topo'), 'w', encoding='utf-8', newline='') as out:
+                out.write(script)
+            self.assertEqual(listed_last(self.path('s.topo')), own)
+            self.assertEqual(self.tool('draw', '--html', shlex.join(PROGRAM), 's.topo', 'out.html').status, 0)
+            with open(self.path('out.html'), encoding='utf-8') as page:
+                pages[number] = page.read().replace('"refused":1', '"refused":0')
+        self.assertEqual([number for number in pages if pages[number] != pages[0]], [6, 7])
+        self.assertTrue(pages[6] == pages[7])
+
+    def test_ids_that_are_read_as_they_stand(self) -> None:
+        origins = Origins()
+        remarks: list[list[str]] = [['# fid 7 id "A 1"'], ['# fid 7 id "A\\"1\\u00e9"'], ['# fid 7'], ['# fid 7 id ""'], ['# part 1 of 2', '# fid 7 id "B"'], ['# fid 7 id A'], []]
+        for handle, told in enumerate(remarks, 1):
+            origins.tell(handle, 'lots', told)
+        origins[9] = Origin('lots', id='C')
+        self.assertEqual([origins.id_of(handle) for handle in range(1, 11)], ['A 1', 'A"1\u00e9', '', '', 'B', '', '', '', 'C', ''])
 
     def test_what_is_no_script(self) -> None:
         with open(self.path('out'), 'w', encoding='utf-8') as out:
